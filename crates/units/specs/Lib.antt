@@ -1,0 +1,15 @@
+pub mod Positions
+pub mod OptionalPositions
+pub mod Classes
+pub mod Paragraphs
+pub mod Isolates
+pub mod Explicit
+pub mod Runs
+pub mod Weak
+pub mod Brackets
+pub mod Neutral
+pub mod Implicit
+pub mod Reordering
+pub mod Layout
+pub mod Text
+pub mod Rows
