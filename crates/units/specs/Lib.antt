@@ -1,6 +1,7 @@
 pub mod Positions
 pub mod OptionalPositions
 pub mod Classes
+pub mod ClassNames
 pub mod Paragraphs
 pub mod Isolates
 pub mod Explicit
@@ -11,5 +12,12 @@ pub mod Neutral
 pub mod Implicit
 pub mod Reordering
 pub mod Layout
-pub mod Text
 pub mod Rows
+pub mod Text
+pub mod Cuts
+pub mod Lines
+pub mod LineCutting
+pub mod LineAnswers
+pub mod Joined
+pub mod HandsOut
+pub mod CutSources

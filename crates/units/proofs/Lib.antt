@@ -1,0 +1,9 @@
+pub mod CodePoints
+pub mod Cuts
+pub mod FirstItem
+pub mod LineAppending
+pub mod LineReading
+pub mod LineRunning
+pub mod LineStanding
+pub mod Numbers
+pub mod Ranges

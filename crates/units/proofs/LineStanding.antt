@@ -1,0 +1,176 @@
+-- What a cutter stands for, step by step.
+use Rattle.std.proofs.Common.{◌≡◌, ◌≢◌, ℕ, ◌+◌, ◌<◌, ◌≤◌, List, [], ◌∷◌, ◌++◌, length, flat_map, take, refl, sym, ap, ◌∙◌, subst, arith, append_assoc, length-append, append-nil, eq-eqb, get_or, None, Some}
+use Rattle.std.proofs.lemmas.Bool.{eqb-true}
+use Rattle.std.proofs.lemmas.List.{length-take, get_or-take, take_more, take_all}
+use Rattle.memchr.specs.Find.{IsFirstByte, is_byte}
+use Rattle.std.proofs.lemmas.List.Elements.{All-append, All-push, All-nil, All-from_get_or}
+use Rattle.std.proofs.lemmas.Grind.{flat_map-append}
+use Rattle.units.specs.Lines.{HasNoFeed, EndsAtFeed, ended, IsLine, CutsInto, IsTooLongAfter, saturated, ended_lines}
+use Rattle.units.specs.LineCutting.{Cutting, Holds, StandsFor, Reaches}
+use Rattle.units.specs.LineAnswers.{Answers}
+use Rattle.units.proofs.LineReading.{never_both}
+use Rattle.units.proofs.LineAppending.{ended_lines-free, ended_lines-line}
+use Rattle.std.specs.Borrow.{Bor}
+use Rattle.units.specs.declared.line_cut.Step.TheVariants.{More, Line, TooLong}
+use Rattle.units.specs.declared.line_cut.Phase.{Phase}
+use Rattle.units.specs.declared.line_cut.Phase.TheVariants.{Within, Ended, Failed}
+
+abbrev at : Phase → ℕ → List ℕ → Cutting
+at phase done held = record { phase = phase; done = done; held = held }
+
+saturated-suc : (d n : ℕ) → d ≡ saturated n → saturated (d + 1) ≡ saturated (n + 1)
+saturated-suc d n e = omega arith
+
+empty_line : IsLine []
+empty_line = record { feeds = All-nil (λ x. x ≢ 10); short = omega arith }
+
+cuts_more : (b : List ℕ) (lines : List (List ℕ)) (rest text : List ℕ) → HasNoFeed text → length rest + length text ≤ 65536
+    → CutsInto b lines rest → CutsInto (b ++ text) lines (rest ++ text)
+cuts_more b lines rest text free fits cut = record {
+  whole = ap (λ v. v ++ text) cut.whole ∙ append_assoc (flat_map ended lines) rest text;
+  each = cut.each;
+  partial = record { feeds = All-append (λ x. x ≢ 10) rest text cut.partial.feeds free; short = omega (arith, length-append rest text) };
+}
+
+cuts_line_whole : (b : List ℕ) (lines : List (List ℕ)) (rest : List ℕ) → b ≡ flat_map ended lines ++ rest
+    → b ++ 10 ∷ [] ≡ flat_map ended (lines ++ rest ∷ []) ++ []
+cuts_line_whole b lines rest e = rw (e, flat_map-append) (simp (append_assoc, append-nil))
+
+cuts_line : (b : List ℕ) (lines : List (List ℕ)) (rest : List ℕ) → CutsInto b lines rest → CutsInto (b ++ 10 ∷ []) (lines ++ rest ∷ []) []
+cuts_line b lines rest cut = record {
+  whole = cuts_line_whole b lines rest cut.whole;
+  each = All-push IsLine lines rest cut.each cut.partial;
+  partial = empty_line;
+}
+
+cuts_over_whole : (b : List ℕ) (lines : List (List ℕ)) (rest text : List ℕ) → b ≡ flat_map ended lines ++ rest
+    → b ++ text ≡ (flat_map ended lines ++ (rest ++ text)) ++ []
+cuts_over_whole b lines rest text e = rw e (simp (append_assoc, append-nil))
+
+cuts_over : (b : List ℕ) (lines : List (List ℕ)) (rest text : List ℕ) → HasNoFeed text → 65536 < length rest + length text
+    → CutsInto b lines rest → IsTooLongAfter (b ++ text) lines
+cuts_over b lines rest text free over cut = record {
+  long = rest ++ text;
+  more = [];
+  whole = cuts_over_whole b lines rest text cut.whole;
+  each = cut.each;
+  feeds = All-append (λ x. x ≢ 10) rest text cut.partial.feeds free;
+  above = omega (arith, length-append rest text);
+}
+
+over_more : (b xs : List ℕ) (lines : List (List ℕ)) → IsTooLongAfter b lines → IsTooLongAfter (b ++ xs) lines
+over_more b xs lines over = record {
+  long = over.long;
+  more = over.more ++ xs;
+  whole = ap (λ v. v ++ xs) over.whole ∙ append_assoc (flat_map ended lines ++ over.long) over.more xs;
+  each = over.each;
+  feeds = over.feeds;
+  above = over.above;
+}
+
+pub starts : StandsFor (at Within 0 []) []
+starts = record { lines = []; holds = (record { whole = refl; each = All-nil IsLine; partial = empty_line }, omega arith) }
+
+pub begins : (c : Cutting) (b : List ℕ) → c.phase ≡ Ended → StandsFor c b → StandsFor (at Within c.done []) b
+begins c b e s =
+    let P : Phase → Type 0 = λ p. Holds p c.done c.held b s.lines in
+    let h = subst P e s.holds in
+    record { lines = s.lines ++ c.held ∷ []; holds = (h.0, h.1 ∙ ap saturated (sym (length-append s.lines (c.held ∷ [])))) }
+
+pub holds_more : (c : Cutting) (b text : List ℕ) → c.phase ≡ Within → HasNoFeed text → length c.held + length text ≤ 65536
+    → StandsFor c b → StandsFor (at Within c.done (c.held ++ text)) (b ++ text)
+holds_more c b text e free fits s =
+    let P : Phase → Type 0 = λ p. Holds p c.done c.held b s.lines in
+    let h = subst P e s.holds in
+    record { lines = s.lines; holds = (cuts_more b s.lines c.held text free fits h.0, h.1) }
+
+pub holds_over : (c : Cutting) (b text held : List ℕ) → c.phase ≡ Within → HasNoFeed text → 65536 < length c.held + length text
+    → StandsFor c b → StandsFor (at Failed c.done held) (b ++ text)
+holds_over c b text held e free over s =
+    let P : Phase → Type 0 = λ p. Holds p c.done c.held b s.lines in
+    let h = subst P e s.holds in
+    record { lines = s.lines; holds = (cuts_over b s.lines c.held text free over h.0, h.1) }
+
+pub ends : (c : Cutting) (b : List ℕ) → c.phase ≡ Within → StandsFor c b → StandsFor (at Ended (saturated (c.done + 1)) c.held) (b ++ 10 ∷ [])
+ends c b e s =
+    let P : Phase → Type 0 = λ p. Holds p c.done c.held b s.lines in
+    let h = subst P e s.holds in
+    record { lines = s.lines; holds = (cuts_line b s.lines c.held h.0, saturated-suc c.done (length s.lines) h.1) }
+
+pub fails_on : (c : Cutting) (b xs : List ℕ) → c.phase ≡ Failed → StandsFor c b → StandsFor c (b ++ xs)
+fails_on c b xs e s =
+    let P : Phase → Type 0 = λ p. Holds p c.done c.held b s.lines in
+    let Q : Phase → Type 0 = λ p. Holds p c.done c.held (b ++ xs) s.lines in
+    let h = subst P e s.holds in
+    record { lines = s.lines; holds = subst Q (sym e) (over_more b xs s.lines h.0, h.1) }
+
+pub never_failed : (c : Cutting) (b : List ℕ) (lines : List (List ℕ)) (rest : List ℕ) → c.phase ≡ Failed → StandsFor c b → CutsInto b lines rest → ⊥
+never_failed c b lines rest e s cut =
+    let P : Phase → Type 0 = λ p. Holds p c.done c.held b s.lines in
+    let h = subst P e s.holds in
+    never_both b s.lines lines rest h.0 cut
+
+pub within : (p : Phase) → p ≢ Ended → p ≢ Failed → p ≡ Within
+within Within e f = refl
+within Ended e f = absurd (e refl)
+within Failed e f = absurd (f refl)
+
+pub fails_or_ends : (p : Phase) → p ≢ Ended → p ≢ Within → p ≡ Failed
+fails_or_ends Within e f = absurd (f refl)
+fails_or_ends Ended e f = absurd (e refl)
+fails_or_ends Failed e f = refl
+
+-- what `memchr` tells of a piece
+pub feeds_none : (piece : List ℕ) → IsFirstByte (is_byte 10) piece None → HasNoFeed piece
+feeds_none piece h = All-from_get_or (λ x. x ≢ 10) piece 0 (λ i lt e. h i (omega arith) lt (eq-eqb _ _ e))
+
+pub feeds_before : (piece : List ℕ) (n : ℕ) → IsFirstByte (is_byte 10) piece (Some n) → HasNoFeed (take n piece)
+feeds_before piece n h = All-from_get_or (λ x. x ≢ 10) (take n piece) 0 (λ i lt e.
+    let high : n < length piece = h.0.high in
+    let below : i < n = omega (arith, lt, length-take n piece) in
+    h.0.before i (omega arith) below (eq-eqb _ _ (sym (get_or-take n piece i 0 below) ∙ e)))
+
+pub through_feed : (piece : List ℕ) (n : ℕ) → IsFirstByte (is_byte 10) piece (Some n) → take (n + 1) piece ≡ take n piece ++ 10 ∷ []
+through_feed piece n h = take_more piece n 0 h.0.high ∙ ap (λ x. take n piece ++ x ∷ []) (eqb-true (get_or piece n 0) 10 h.1)
+
+pub feed_within : (piece : List ℕ) (n : ℕ) → IsFirstByte (is_byte 10) piece (Some n) → n + 1 ≤ length piece
+feed_within piece n h = omega (arith, h.0.high)
+
+pub feed_at : (piece : List ℕ) (n : ℕ) → IsFirstByte (is_byte 10) piece (Some n) → EndsAtFeed (n + 1) piece
+feed_at piece n h = record { at = n; is = refl; before = feeds_before piece n h; feed = eqb-true (get_or piece n 0) 10 h.1; inside = h.0.high }
+
+pub reaches_feed : (p : Phase) (used : ℕ) (piece : List ℕ) → p ≢ Within → EndsAtFeed used piece → Reaches p used piece
+reaches_feed Within used piece f e = absurd (f refl)
+reaches_feed Ended used piece f e = e
+reaches_feed Failed used piece f e = tt
+
+pub reaches_end : (p : Phase) (piece : List ℕ) → p ≢ Ended → HasNoFeed piece → Reaches p (length piece) piece
+reaches_end Within piece f free = (free, refl)
+reaches_end Ended piece f free = absurd (f refl)
+reaches_end Failed piece f free = tt
+
+module _ (v : Cutting) (b piece : List ℕ) (used : ℕ) (s : StandsFor v (b ++ take used piece)) (r : Reaches v.phase used piece) where
+  pub answers_more : v.phase ≡ Within → Answers b piece used More
+  answers_more e =
+      let P : Phase → Type 0 = λ p. Holds p v.done v.held (b ++ take used piece) s.lines in
+      let R : Phase → Type 0 = λ p. Reaches p used piece in
+      let h = subst P e s.holds in
+      let reached = subst R e r in
+      let C : List ℕ → Type 0 = λ xs. CutsInto (b ++ xs) s.lines v.held in
+      let all : take used piece ≡ piece = take_all used piece (omega (arith, reached.1)) in
+      (reached.0, reached.1, (ap (λ t. ended_lines (b ++ t)) all ∙ ended_lines-free b piece reached.0), (s.lines, v.held, subst C (take_all used piece (omega (arith, reached.1))) h.0))
+
+  pub answers_line : (number : ℕ) (text : Bor (List ℕ)) → v.phase ≡ Ended → number ≡ v.done → text.now ≡ v.held → Answers b piece used (Line number text)
+  answers_line number text e n t =
+      let P : Phase → Type 0 = λ p. Holds p v.done v.held (b ++ take used piece) s.lines in
+      let R : Phase → Type 0 = λ p. Reaches p used piece in
+      let h = subst P e s.holds in
+      let C : List ℕ → Type 0 = λ xs. CutsInto (b ++ take used piece) (s.lines ++ xs ∷ []) [] in
+      let cut = subst C (sym t) h.0 in
+      (subst R e r, ended_lines-line b piece used s.lines text.now (subst R e r) cut, (s.lines, cut, n ∙ h.1))
+
+  pub answers_long : (number : ℕ) → v.phase ≡ Failed → number ≡ saturated (v.done + 1) → Answers b piece used (TooLong number)
+  answers_long number e n =
+      let P : Phase → Type 0 = λ p. Holds p v.done v.held (b ++ take used piece) s.lines in
+      let h = subst P e s.holds in
+      (s.lines, h.0, n ∙ saturated-suc v.done (length s.lines) h.1)

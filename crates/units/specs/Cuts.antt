@@ -1,0 +1,14 @@
+-- What a cut of bytes hands out.
+use Rattle.std.specs.Prelude.{Option, ℕ, List, [], Some, None}
+use Rattle.std.specs.Borrow.{Bor}
+use Rattle.units.specs.Text.{cut_at, fields_of}
+
+-- the pieces of what stands behind a separator
+abbrev pub pieces_behind : ℕ → Option (Bor (List ℕ)) → List (List ℕ)
+pieces_behind separator None = []
+pieces_behind separator (Some rest) = cut_at separator rest.now
+
+-- the fields of what stands behind a `;`
+abbrev pub fields_behind : Option (Bor (List ℕ)) → List (List ℕ)
+fields_behind None = []
+fields_behind (Some rest) = fields_of rest.now

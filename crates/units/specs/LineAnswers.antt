@@ -1,0 +1,31 @@
+-- What a cutter that stands for a byte list answers.
+use Rattle.std.specs.Prelude.{◌≡◌, ℕ, ◌+◌, ◌<◌, ◌≤◌, List, [], ◌∷◌, ◌++◌, length, take, Option, None, Some, ◌⊎◌}
+use Rattle.std.specs.Borrow.{Bor}
+use Rattle.units.specs.Lines.{HasNoFeed, EndsAtFeed, CutsInto, IsTooLongAfter, saturated, ended_lines}
+use Rattle.units.specs.declared.line_cut.Step.{Step}
+use Rattle.units.specs.declared.line_cut.Step.TheVariants.{More, Line, TooLong}
+
+-- the answer to a piece of which so many bytes were used, after these bytes
+abbrev pub Answers : List ℕ → List ℕ → ℕ → Step → Type 0
+Answers bytes piece used More =
+    HasNoFeed piece × (used ≡ length piece) × (ended_lines (bytes ++ take used piece) ≡ ended_lines bytes)
+    × ((lines : List (List ℕ)) × (rest : List ℕ) × CutsInto (bytes ++ piece) lines rest)
+Answers bytes piece used (Line number text) =
+    EndsAtFeed used piece × (ended_lines (bytes ++ take used piece) ≡ ended_lines bytes ++ text.now ∷ [])
+    × ((lines : List (List ℕ)) × CutsInto (bytes ++ take used piece) (lines ++ text.now ∷ []) [] × (number ≡ saturated (length lines + 1)))
+Answers bytes piece used (TooLong number) =
+    (lines : List (List ℕ)) × IsTooLongAfter (bytes ++ take used piece) lines × (number ≡ saturated (length lines + 1))
+
+-- the last line, if it has a byte and no line feed, and no line is over-long
+abbrev pub Finishes : List ℕ → Option (ℕ × Bor (List ℕ)) → Type 0
+Finishes bytes None =
+    ((lines : List (List ℕ)) × CutsInto bytes lines []) ⊎ ((lines : List (List ℕ)) × IsTooLongAfter bytes lines)
+Finishes bytes (Some last) =
+    (0 < length last.1.now)
+    × ((lines : List (List ℕ)) × CutsInto bytes lines last.1.now × (last.0 ≡ saturated (length lines + 1)))
+
+-- the line that a step ends is not over-long
+abbrev pub StepIsShort : Step → Type 0
+StepIsShort More = Unit {0}
+StepIsShort (Line number text) = length text.now ≤ 65536
+StepIsShort (TooLong number) = Unit {0}

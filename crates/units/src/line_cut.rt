@@ -1,0 +1,195 @@
+// Cuts pieces of a stream into lines, in a buffer of its own.
+ghost use Rattle.std.specs.Prelude.{◌≡◌, ◌≢◌, ℕ, ◌+◌, ◌<◌, ◌≤◌, List, [], ◌∷◌, ◌++◌, length, take, drop, IfSome};
+ghost use Rattle.units.specs.Lines.{HasNoFeed, EndsByFeed, CutsInto, IsTooLongAfter, cut_lines};
+
+use memchr::memchr;
+use std::marker::Model;
+
+/// The bytes that a line may have before its line feed.
+pub const ROOM: usize = 65_536;
+
+/// Where a cutter stands in its line.
+#[derive(Debug, Clone, Copy, PartialEq, Eq)]
+pub enum Phase {
+    Within,
+    Ended,
+    Failed,
+}
+
+/// What a piece brought.
+#[derive(Debug, Clone, Copy, PartialEq, Eq)]
+pub enum Step<'c> {
+    /// The piece is used up, and the line has not ended.
+    More,
+    Line { number: u64, text: &'c [u8] },
+    TooLong { number: u64 },
+}
+
+#[derive(Drop)]
+pub struct LineCut {
+    buffer: [u8; 65536],
+    len: usize,
+    done: u64,
+    phase: Phase,
+}
+
+impl Model for LineCut {
+    ghost use Rattle.std.specs.Prelude.{◌≤◌, take};
+    ghost use Rattle.units.specs.LineCutting.{Cutting};
+
+    ghost Value = { Cutting };
+
+    ghost view = { λ s. record { phase = s.phase; done = s.done; held = take s.len s.buffer } };
+
+    ghost invariant = { λ s. s.len ≤ 65536 };
+}
+
+// Writes the bytes from a place on.
+fn put(buffer: &mut [u8], at: usize, bytes: &[u8])
+    requires { at + length bytes.now ≤ length buffer.old }
+    ensures { take (at + length bytes.now) buffer.new ≡ take at buffer.old ++ bytes.now }
+{
+    buffer[at..at + bytes.len()].copy_from_slice(bytes);
+}
+
+impl LineCut {
+    ghost use Rattle.units.specs.LineCutting.{Cutting, StandsFor, Reaches};
+    ghost use Rattle.units.specs.LineAnswers.{Answers, Finishes, StepIsShort};
+    ghost use Rattle.units.specs.Lines.{saturated};
+    ghost use Rattle.units.specs.contracts.line_cut.LineCut.{the_row};
+    ghost use Rattle.std.specs.Borrow.{sem};
+    ghost use Rattle.std.specs.Io.BufRead.{Rests};
+
+    pub fn new() -> Self
+        ensures { StandsFor result [] }
+    {
+        LineCut {
+            buffer: [0; 65536],
+            len: 0,
+            done: 0,
+            phase: Phase::Within,
+        }
+    }
+
+    // A line that has ended makes room for the next.
+    fn begin(&mut self)
+        ensures stands { (b : List ℕ) → StandsFor self.old b → StandsFor self.new b }
+        ensures open { self.new.phase ≢ Phase.Ended }
+    {
+        if let Phase::Ended = self.phase {
+            self.phase = Phase::Within;
+            self.len = 0;
+        }
+    }
+
+    // More of a line.
+    fn hold(&mut self, text: &[u8])
+        requires within { self.old.phase ≡ Phase.Within }
+        requires feeds { HasNoFeed text.now }
+        ensures stands { (b : List ℕ) → StandsFor self.old b → StandsFor self.new (b ++ text.now) }
+        ensures open { self.new.phase ≢ Phase.Ended }
+    {
+        if text.len() > ROOM - self.len {
+            self.phase = Phase::Failed;
+        } else {
+            put(&mut self.buffer, self.len, text);
+            self.len += text.len();
+        }
+    }
+
+    // The line feed of a line.
+    fn end(&mut self)
+        requires { self.old.phase ≢ Phase.Ended }
+        ensures stands { (b : List ℕ) → StandsFor self.old b → StandsFor self.new (b ++ 10 ∷ []) }
+        ensures ended { self.new.phase ≢ Phase.Within }
+    {
+        if let Phase::Within = self.phase {
+            self.phase = Phase::Ended;
+            self.done = self.done.saturating_add(1);
+        }
+    }
+
+    // Takes the piece through its first line feed, or whole.
+    fn advance(&mut self, piece: &[u8]) -> usize
+        ensures used { result ≤ length piece.now }
+        ensures stands { (b : List ℕ) → StandsFor self.old b → StandsFor self.new (b ++ take result piece.now) }
+        ensures some { 0 < length piece.now → 0 < result }
+        ensures reaches { Reaches self.new.phase result piece.now }
+        ensures through { (b : List ℕ) (lines : List (List ℕ)) (rest : List ℕ) → StandsFor self.old b → CutsInto b lines rest → EndsByFeed result piece.now }
+    {
+        self.begin();
+        if let Phase::Failed = self.phase {
+            return piece.len();
+        }
+        match memchr(b'\n', piece) {
+            None => {
+                self.hold(piece);
+                piece.len()
+            }
+            Some(n) => {
+                self.hold(&piece[..n]);
+                self.end();
+                n + 1
+            }
+        }
+    }
+
+    fn text(&self) -> &[u8]
+        ensures held { result.now ≡ self.now.held }
+        ensures short { length result.now ≤ 65536 }
+    {
+        &self.buffer[..self.len]
+    }
+
+    /// Takes the piece through its first line feed, or whole.
+    pub fn take(&mut self, piece: &[u8]) -> (usize, Step<'_>)
+        ensures used { result.0 ≤ length piece.now }
+        ensures some { 0 < length piece.now → 0 < result.0 }
+        ensures through { (b : List ℕ) (lines : List (List ℕ)) (rest : List ℕ) → StandsFor self.old b → CutsInto b lines rest → EndsByFeed result.0 piece.now }
+        ensures short { StepIsShort result.1 }
+        ensures answer { (b : List ℕ) → StandsFor self.old b → Answers b piece.now result.0 result.1 }
+        ensures* after { sem 𝓛 (Rests the_row self.entry (λ new. (b : List ℕ) → StandsFor self.old b → StandsFor new (b ++ take result.0 piece.now))) }
+    {
+        let used = self.advance(piece);
+        let done = self.done;
+        match self.phase {
+            Phase::Within => (used, Step::More),
+            Phase::Ended => {
+                let text = self.text();
+                (used, Step::Line { number: done, text })
+            }
+            Phase::Failed => {
+                let number = done.saturating_add(1);
+                (used, Step::TooLong { number })
+            }
+        }
+    }
+
+    /// The line that has begun and not ended.
+    pub fn finish(&self) -> Option<(u64, &[u8])>
+        ensures last { (b : List ℕ) → StandsFor self.now b → Finishes b result }
+        ensures short { IfSome result (λ last. length last.1.now ≤ 65536) }
+    {
+        match self.phase {
+            Phase::Within => {
+                let text = self.text();
+                if text.is_empty() {
+                    return None;
+                }
+                Some((self.done.saturating_add(1), text))
+            }
+            Phase::Ended => None,
+            Phase::Failed => None,
+        }
+    }
+}
+
+/// A cutting into lines is the one that the bytes have, whatever the pieces were.
+pub fn reads_as_its_lines()
+    ensures { (bytes : List ℕ) (lines : List (List ℕ)) (rest : List ℕ) → CutsInto bytes lines rest → cut_lines bytes ≡ lines ++ rest ∷ [] }
+{}
+
+/// A byte list with an over-long line has no cutting into lines.
+pub fn reads_one_way()
+    ensures { (bytes : List ℕ) (lines others : List (List ℕ)) (rest : List ℕ) → IsTooLongAfter bytes lines → ¬ CutsInto bytes others rest }
+{}

@@ -1,0 +1,86 @@
+// A source over any reader.
+ghost use Rattle.std.specs.Prelude.{◌≡◌, ℕ, ◌++◌, List, [], length};
+ghost use Rattle.units.specs.HandsOut.{HandsOut, is_ended, failures_of, HandsOut-nothing, HandsOut-joined};
+
+use crate::source::{ByteSource, SourceFault};
+use std::io::Read;
+
+#[derive(Debug, Clone, Copy, PartialEq, Eq)]
+pub enum State {
+    Open,
+    Ended,
+    Failed,
+}
+
+/// Hands out what a reader gives, at most so many bytes of it. A byte past them is a failure.
+#[derive(Drop)]
+pub struct ReaderSource<R: Read + Drop> {
+    reader: R,
+    left: u64,
+    state: State,
+}
+
+impl<R: Read + Drop> ReaderSource<R> {
+    pub fn new(reader: R, most: u64) -> Self
+        ensures reader { result.reader ≡ reader }
+        ensures left { result.left ≡ most }
+        ensures state { result.state ≡ State.Open }
+    {
+        ReaderSource {
+            reader,
+            left: most,
+            state: State::Open,
+        }
+    }
+}
+
+impl<R: Read + Drop> ByteSource for ReaderSource<R> {
+    ghost gives = { λ s xs t. HandsOut (R.remaining s.reader) (R.remaining t.reader) s.left t.left s.state t.state xs };
+
+    ghost ended = { λ s. is_ended s.state };
+
+    ghost failures = { λ s. failures_of s.state };
+
+    ghost room = { λ s. s.left };
+
+    ghost gives_nothing = { λ s. HandsOut-nothing (R.remaining s.reader) s.left s.state };
+
+    ghost gives_joined = { λ s t u xs ys f g. HandsOut-joined (R.remaining s.reader) (R.remaining t.reader) (R.remaining u.reader) s.left t.left u.left s.state t.state u.state xs ys f g };
+
+    fn read(&mut self, buf: &mut [u8]) -> Result<usize, SourceFault> {
+        match self.state {
+            State::Ended => return Ok(0),
+            State::Failed => return Err(SourceFault),
+            State::Open => {}
+        }
+        match self.reader.read(buf) {
+            Err(_) => {
+                self.state = State::Failed;
+                Err(SourceFault)
+            }
+            Ok(0) => {
+                self.state = State::Ended;
+                Ok(0)
+            }
+            Ok(n) => {
+                if n as u64 > self.left {
+                    self.state = State::Failed;
+                    return Err(SourceFault);
+                }
+                self.left -= n as u64;
+                Ok(n)
+            }
+        }
+    }
+
+    fn failures(&self) -> u32 {
+        match self.state {
+            State::Failed => 1,
+            _ => 0,
+        }
+    }
+
+    fn room(&self) -> u64 {
+        self.left
+    }
+}

@@ -1,0 +1,57 @@
+// A source over a slice, which never fails.
+ghost use Rattle.std.specs.Prelude.{◌≡◌, ℕ, ◌++◌, List, [], length, refl};
+ghost use Rattle.units.specs.Joined.{splits_joined};
+
+use crate::source::{ByteSource, SourceFault};
+use std::marker::Model;
+
+/// Hands out a slice, and never fails. Contracts see it as the bytes that are left.
+#[derive(Drop)]
+pub struct SliceSource<'a> {
+    left: &'a [u8],
+}
+
+impl<'a> Model for SliceSource<'a> {
+    ghost Value = { List ℕ };
+
+    ghost view = { λ s. s.left.now };
+}
+
+impl<'a> SliceSource<'a> {
+    pub fn new(bytes: &'a [u8]) -> Self
+        ensures { result ≡ bytes.now }
+    {
+        SliceSource { left: bytes }
+    }
+}
+
+impl ByteSource for SliceSource<'_> {
+    ghost gives = { λ s xs t. s ≡ xs ++ t };
+
+    ghost ended = { λ s. s ≡ [] };
+
+    ghost failures = { λ _. 0 };
+
+    ghost room = { length };
+
+    ghost gives_nothing = { λ s. refl };
+
+    ghost gives_joined = { splits_joined };
+
+    fn read(&mut self, buf: &mut [u8]) -> Result<usize, SourceFault> {
+        let left = self.left;
+        let n = left.len().min(buf.len());
+        let (now, later) = left.split_at(n);
+        buf[..n].copy_from_slice(now);
+        self.left = later;
+        Ok(n)
+    }
+
+    fn failures(&self) -> u32 {
+        0
+    }
+
+    fn room(&self) -> u64 {
+        self.left.len() as u64
+    }
+}
