@@ -110,6 +110,13 @@ never_failed c b lines rest e s cut =
     let h = subst P e s.holds in
     never_both b s.lines lines rest h.0 cut
 
+-- a cutter that has not failed stands for no bytes with an over-long line
+pub never_long : (c : Cutting) (b : List ℕ) (lines : List (List ℕ)) → c.phase ≡ Within → StandsFor c b → IsTooLongAfter b lines → ⊥
+never_long c b lines e s over =
+    let P : Phase → Type 0 = λ p. Holds p c.done c.held b s.lines in
+    let h = subst P e s.holds in
+    never_both b lines s.lines c.held over h.0
+
 pub within : (p : Phase) → p ≢ Ended → p ≢ Failed → p ≡ Within
 within Within e f = refl
 within Ended e f = absurd (e refl)

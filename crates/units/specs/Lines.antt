@@ -1,5 +1,5 @@
 -- The lines of a byte list: its cuttings at LF, as a relation, and as a function.
-use Rattle.std.specs.Prelude.{◌≡◌, ◌≢◌, ℕ, ◌-◌, ◌+◌, ◌^◌, ◌<◌, ◌≤◌, min, List, [], ◌∷◌, ◌++◌, length, take, flat_map, slice_index, All}
+use Rattle.std.specs.Prelude.{◌≡◌, ◌≢◌, ℕ, ◌-◌, ◌+◌, ◌^◌, ◌<◌, ◌≤◌, min, List, [], ◌∷◌, ◌++◌, length, take, flat_map, slice_index, All, ◌⊎◌}
 use Rattle.units.specs.Text.{cut_at}
 
 -- no byte is a line feed
@@ -17,6 +17,10 @@ pub record EndsAtFeed (used : ℕ) (piece : List ℕ) : Type 0 where
 -- the bytes used end no later than the piece's first line feed
 abbrev pub EndsByFeed : ℕ → List ℕ → Type 0
 EndsByFeed used piece = HasNoFeed (take (used - 1) piece)
+
+-- the bytes used of a piece are those through its first line feed, or all where it has none
+abbrev pub UsesOneLine : ℕ → List ℕ → Type 0
+UsesOneLine used piece = EndsAtFeed used piece ⊎ (HasNoFeed piece × (used ≡ length piece))
 
 -- a line and its line feed
 abbrev pub ended : List ℕ → List ℕ

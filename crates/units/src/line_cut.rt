@@ -1,6 +1,6 @@
 // Cuts pieces of a stream into lines, in a buffer of its own.
 ghost use Rattle.std.specs.Prelude.{◌≡◌, ◌≢◌, ℕ, ◌+◌, ◌<◌, ◌≤◌, List, [], ◌∷◌, ◌++◌, length, take, drop, IfSome};
-ghost use Rattle.units.specs.Lines.{HasNoFeed, EndsByFeed, CutsInto, IsTooLongAfter, cut_lines};
+ghost use Rattle.units.specs.Lines.{HasNoFeed, EndsByFeed, UsesOneLine, CutsInto, IsTooLongAfter, cut_lines};
 
 use memchr::memchr;
 use std::marker::Model;
@@ -11,8 +11,11 @@ pub const ROOM: usize = 65_536;
 /// Where a cutter stands in its line.
 #[derive(Debug, Clone, Copy, PartialEq, Eq)]
 pub enum Phase {
+    /// The line has not ended.
     Within,
+    /// The line has ended, and was handed out.
     Ended,
+    /// A line was over-long.
     Failed,
 }
 
@@ -21,10 +24,14 @@ pub enum Phase {
 pub enum Step<'c> {
     /// The piece is used up, and the line has not ended.
     More,
+    /// A line has ended: its number, from 1 and at most 2^64 - 1, and its bytes without the LF.
     Line { number: u64, text: &'c [u8] },
+    /// The line of this number has more than 65,536 bytes before its LF.
     TooLong { number: u64 },
 }
 
+/// Cuts a stream of bytes, in whatever pieces it comes, into lines that LF ends. Takes no memory: the line that has begun
+/// is held in a buffer of its own. Contracts see the byte lists that it stands for: those that were handed over, joined.
 #[derive(Drop)]
 pub struct LineCut {
     buffer: [u8; 65536],
@@ -60,6 +67,7 @@ impl LineCut {
     ghost use Rattle.std.specs.Borrow.{sem};
     ghost use Rattle.std.specs.Io.BufRead.{Rests};
 
+    /// A cutter before the first byte.
     pub fn new() -> Self
         ensures { StandsFor result [] }
     {
@@ -109,13 +117,15 @@ impl LineCut {
         }
     }
 
-    // Takes the piece through its first line feed, or whole.
+    // Takes the piece through its first LF, or whole, and answers how many bytes were used.
     fn advance(&mut self, piece: &[u8]) -> usize
         ensures used { result ≤ length piece.now }
         ensures stands { (b : List ℕ) → StandsFor self.old b → StandsFor self.new (b ++ take result piece.now) }
         ensures some { 0 < length piece.now → 0 < result }
         ensures reaches { Reaches self.new.phase result piece.now }
         ensures through { (b : List ℕ) (lines : List (List ℕ)) (rest : List ℕ) → StandsFor self.old b → CutsInto b lines rest → EndsByFeed result piece.now }
+        ensures line { (b : List ℕ) (lines : List (List ℕ)) (rest : List ℕ) → StandsFor self.old b → CutsInto b lines rest → UsesOneLine result piece.now }
+        ensures whole { (b : List ℕ) (lines : List (List ℕ)) → StandsFor self.old b → IsTooLongAfter b lines → result ≡ length piece.now }
     {
         self.begin();
         if let Phase::Failed = self.phase {
@@ -141,11 +151,14 @@ impl LineCut {
         &self.buffer[..self.len]
     }
 
-    /// Takes the piece through its first line feed, or whole.
+    /// Takes the piece through its first LF, or whole where it has none, and answers how many of its bytes were used and
+    /// what they brought. Once a line has been over-long, each piece is used whole and the same `TooLong` is answered.
     pub fn take(&mut self, piece: &[u8]) -> (usize, Step<'_>)
         ensures used { result.0 ≤ length piece.now }
         ensures some { 0 < length piece.now → 0 < result.0 }
         ensures through { (b : List ℕ) (lines : List (List ℕ)) (rest : List ℕ) → StandsFor self.old b → CutsInto b lines rest → EndsByFeed result.0 piece.now }
+        ensures line { (b : List ℕ) (lines : List (List ℕ)) (rest : List ℕ) → StandsFor self.old b → CutsInto b lines rest → UsesOneLine result.0 piece.now }
+        ensures whole { (b : List ℕ) (lines : List (List ℕ)) → StandsFor self.old b → IsTooLongAfter b lines → result.0 ≡ length piece.now }
         ensures short { StepIsShort result.1 }
         ensures answer { (b : List ℕ) → StandsFor self.old b → Answers b piece.now result.0 result.1 }
         ensures* after { sem 𝓛 (Rests the_row self.entry (λ new. (b : List ℕ) → StandsFor self.old b → StandsFor new (b ++ take result.0 piece.now))) }
@@ -165,7 +178,7 @@ impl LineCut {
         }
     }
 
-    /// The line that has begun and not ended.
+    /// The number and the bytes of the line that has begun and not ended, if it has a byte. None after an over-long line.
     pub fn finish(&self) -> Option<(u64, &[u8])>
         ensures last { (b : List ℕ) → StandsFor self.now b → Finishes b result }
         ensures short { IfSome result (λ last. length last.1.now ≤ 65536) }

@@ -5,14 +5,19 @@ ghost use Rattle.units.specs.HandsOut.{HandsOut, is_ended, failures_of, HandsOut
 use crate::source::{ByteSource, SourceFault};
 use std::io::Read;
 
+/// Where a source over a reader stands.
 #[derive(Debug, Clone, Copy, PartialEq, Eq)]
 pub enum State {
+    /// The next read asks the reader.
     Open,
+    /// The reader has ended; it is asked no more.
     Ended,
+    /// The reader has failed, or passed the limit; it is asked no more.
     Failed,
 }
 
-/// Hands out what a reader gives, at most so many bytes of it. A byte past them is a failure.
+/// Hands out what a reader gives, at most so many bytes of it. Each error of the reader is a failure, `Interrupted` too,
+/// and so is a byte past the limit.
 #[derive(Drop)]
 pub struct ReaderSource<R: Read + Drop> {
     reader: R,
@@ -21,6 +26,7 @@ pub struct ReaderSource<R: Read + Drop> {
 }
 
 impl<R: Read + Drop> ReaderSource<R> {
+    /// A source over this reader that hands out at most so many bytes.
     pub fn new(reader: R, most: u64) -> Self
         ensures reader { result.reader ≡ reader }
         ensures left { result.left ≡ most }

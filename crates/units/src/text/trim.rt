@@ -24,6 +24,7 @@ fn blanks_behind(bytes: &[u8]) -> usize
     bytes.iter().rev().take_while(|b| is_blank(**b)).count()
 }
 
+/// The bytes without the blanks in front.
 pub fn trim_start(bytes: &[u8]) -> &[u8]
     ensures rest { result.now ≡ without_blanks_before bytes.now }
     ensures short { length result.now ≤ length bytes.now }
@@ -31,6 +32,7 @@ pub fn trim_start(bytes: &[u8]) -> &[u8]
     &bytes[blanks_before(bytes)..]
 }
 
+/// The bytes without the blanks at the end.
 pub fn trim_end(bytes: &[u8]) -> &[u8]
     ensures rest { result.now ≡ without_blanks_behind bytes.now }
     ensures short { length result.now ≤ length bytes.now }
@@ -38,6 +40,7 @@ pub fn trim_end(bytes: &[u8]) -> &[u8]
     &bytes[..bytes.len() - blanks_behind(bytes)]
 }
 
+/// The bytes without the blanks at both ends.
 pub fn trim(bytes: &[u8]) -> &[u8]
     ensures rest { result.now ≡ trimmed bytes.now }
     ensures short { length result.now ≤ length bytes.now }

@@ -11,6 +11,8 @@ returns-in-Within c = (
     used = c.advance-used.ensures.used;
     some = c.advance-used.ensures.some;
     through = c.advance-used.ensures.through;
+    line = c.advance-used.ensures.line;
+    whole = c.advance-used.ensures.whole;
     short = tt;
     answer = λ b s. answers_more c.advance-used.new.self b _ _ (c.advance-used.ensures.stands b s) c.advance-used.ensures.reaches
         (sym (ap (λ (v : Cutting). v.phase) c.self.view_is) ∙ c.in-Within.is);
@@ -25,6 +27,8 @@ returns-in-Ended c = (
     used = c.advance-used.ensures.used;
     some = c.advance-used.ensures.some;
     through = c.advance-used.ensures.through;
+    line = c.advance-used.ensures.line;
+    whole = c.advance-used.ensures.whole;
     short = c.text-text.ensures.short;
     answer = λ b s. answers_line c.advance-used.new.self b _ _ (c.advance-used.ensures.stands b s) c.advance-used.ensures.reaches
         _ c.text-text.result (sym (ap (λ (v : Cutting). v.phase) c.self.view_is) ∙ c.in-Ended.is) (ap (λ (v : Cutting). v.done) c.self.view_is) c.text-text.ensures.held;
@@ -39,6 +43,8 @@ returns-in-Failed c = (
     used = c.advance-used.ensures.used;
     some = c.advance-used.ensures.some;
     through = c.advance-used.ensures.through;
+    line = c.advance-used.ensures.line;
+    whole = c.advance-used.ensures.whole;
     short = tt;
     answer = λ b s. answers_long c.advance-used.new.self b _ _ (c.advance-used.ensures.stands b s) c.advance-used.ensures.reaches
         _ (sym (ap (λ (v : Cutting). v.phase) c.self.view_is) ∙ c.in-Failed.is) (c.saturating_add-number.ensures ∙ ap (λ (v : Cutting). saturated (v.done + 1)) c.self.view_is);
