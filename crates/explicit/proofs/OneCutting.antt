@@ -1,0 +1,167 @@
+-- A text has one cutting into paragraphs.
+use Rattle.std.proofs.Common.{Some, None, ◌≡◌, ℕ, suc, ◌+◌, ◌<◌, ◌≤◌, true, false, List, [], ◌∷◌, ◌++◌, length, take, drop, inl, inr, refl, sym, ap, ◌∙◌, arith, ◌↔◌}
+use Rattle.std.proofs.lemmas.Bool.{cases_Bool, cases_lt, lt-ltb, le-ltb}
+use Rattle.std.proofs.lemmas.List.{length-append}
+use Rattle.std.proofs.lemmas.Option.{same_Some, none-some}
+use Rattle.std.specs.Prelude.{nat_lt}
+use Rattle.std.specs.List.{position_or_len, position}
+use Rattle.units.specs.Classes.{is_separator}
+use Rattle.units.specs.declared.bracket.Unit.{Unit as BidiUnit}
+use Rattle.explicit.specs.FirstParagraph.{first_length}
+use Rattle.units.specs.Paragraphs.{SeparatorOnlyLast, EndsWithSeparator, IsCut, begin_with, paragraphs_of, joined, IsCutting}
+
+-- the defined pieces, joined, are the text
+pub joined-begin_with : (unit : BidiUnit) (pieces : List (List BidiUnit)) → joined (begin_with unit pieces) ≡ unit ∷ joined pieces
+joined-begin_with unit [] = refl
+joined-begin_with unit (piece ∷ pieces) =
+    elim (cases_Bool (is_separator unit.class)) [
+      | inl separates ↦ rw separates refl
+      | inr plain ↦ rw plain refl
+    ]
+
+pub joined-paragraphs_of : (text : List BidiUnit) → joined (paragraphs_of text) ≡ text
+joined-paragraphs_of [] = refl
+joined-paragraphs_of (unit ∷ units) = joined-begin_with unit (paragraphs_of units) ∙ ap (λ us. unit ∷ us) (joined-paragraphs_of units)
+
+-- and they are a cutting
+pub ends_longer : (unit : BidiUnit) (piece : List BidiUnit) → EndsWithSeparator piece → EndsWithSeparator (unit ∷ piece)
+ends_longer unit [] h = absurd h
+ends_longer unit (second ∷ others) h = h
+
+pub only_last_longer : (unit : BidiUnit) (piece : List BidiUnit) → is_separator unit.class ≡ false → SeparatorOnlyLast piece → SeparatorOnlyLast (unit ∷ piece)
+only_last_longer unit [] plain h = tt
+only_last_longer unit (second ∷ others) plain h = (plain, h)
+
+pub IsCut-begin_with : (unit : BidiUnit) (pieces : List (List BidiUnit)) → IsCut pieces → IsCut (begin_with unit pieces)
+IsCut-begin_with unit [] h = (omega arith, tt, (λ lt. absurd (omega arith)), tt)
+IsCut-begin_with unit (piece ∷ pieces) h =
+    elim (cases_Bool (is_separator unit.class)) [
+      | inl separates ↦ rw separates (omega arith, tt, (λ lt. separates), h)
+      | inr plain ↦ rw plain (omega arith, only_last_longer unit piece plain h.1, (λ lt. ends_longer unit piece (h.2 lt)), h.3)
+    ]
+
+pub IsCut-paragraphs_of : (text : List BidiUnit) → IsCut (paragraphs_of text)
+IsCut-paragraphs_of [] = tt
+IsCut-paragraphs_of (unit ∷ units) = IsCut-begin_with unit (paragraphs_of units) (IsCut-paragraphs_of units)
+
+-- no other cutting joins to the text
+pub one_cutting : (text : List BidiUnit) (pieces : List (List BidiUnit)) → IsCut pieces → joined pieces ≡ text → pieces ≡ paragraphs_of text
+one_cutting [] [] h e = refl
+one_cutting [] ([] ∷ pieces) h e = absurd (omega (arith, h.0))
+one_cutting [] ((unit ∷ piece) ∷ pieces) h e = absurd (cc)
+one_cutting (unit ∷ units) [] h e = absurd (cc)
+one_cutting (unit ∷ units) ([] ∷ pieces) h e = absurd (omega (arith, h.0))
+one_cutting (unit ∷ units) ((first ∷ []) ∷ pieces) h e =
+    let same : first ≡ unit = cc in
+    let rest : joined pieces ≡ units = cc in
+    let ih = one_cutting units pieces h.3 rest in
+    rw (same, ← ih) (go pieces (λ lt. rw same at (h.2 lt)))
+  where
+    go : (ps : List (List BidiUnit)) → (0 < length ps → is_separator unit.class ≡ true) → (unit ∷ []) ∷ ps ≡ begin_with unit ps
+    go [] ends = refl
+    go (p ∷ ps) ends = let separates : is_separator unit.class ≡ true = ends (omega arith) in rw separates refl
+one_cutting (unit ∷ units) ((first ∷ second ∷ others) ∷ pieces) h e =
+    let same : first ≡ unit = cc in
+    let plain : is_separator unit.class ≡ false = rw same at h.1.0 in
+    let rest : joined ((second ∷ others) ∷ pieces) ≡ units = cc in
+    let ih : (second ∷ others) ∷ pieces ≡ paragraphs_of units = one_cutting units ((second ∷ others) ∷ pieces) (omega arith, h.1.1, h.2, h.3) rest in
+    rw (same, ← ih, plain) refl
+
+pub cutting_law : (text : List BidiUnit) (pieces : List (List BidiUnit)) → IsCutting text pieces ↔ (pieces ≡ paragraphs_of text)
+cutting_law text pieces = ((λ h. one_cutting text pieces h.1 h.0), (λ e. rw e (joined-paragraphs_of text, IsCut-paragraphs_of text)))
+
+-- the first paragraph, and those of what follows it
+pub begin_with_separator : (unit : BidiUnit) (pieces : List (List BidiUnit)) → is_separator unit.class ≡ true → begin_with unit pieces ≡ (unit ∷ []) ∷ pieces
+begin_with_separator unit [] separates = refl
+begin_with_separator unit (piece ∷ pieces) separates = rw separates refl
+
+pub begin_with_other : (unit : BidiUnit) (piece : List BidiUnit) (pieces : List (List BidiUnit)) → is_separator unit.class ≡ false → begin_with unit (piece ∷ pieces) ≡ (unit ∷ piece) ∷ pieces
+begin_with_other unit piece pieces plain = rw plain refl
+
+pub paragraphs_of-cons : (unit : BidiUnit) (units : List BidiUnit) → paragraphs_of (unit ∷ units) ≡ take (first_length (unit ∷ units)) (unit ∷ units) ∷ paragraphs_of (drop (first_length (unit ∷ units)) (unit ∷ units))
+paragraphs_of-cons unit [] =
+    elim (cases_Bool (is_separator unit.class)) [ inl separates ↦ rw separates refl | inr plain ↦ rw plain refl ]
+paragraphs_of-cons unit (second ∷ others) =
+    let ih = paragraphs_of-cons second others in
+    elim (cases_Bool (is_separator unit.class)) [
+      | inl separates ↦ rw separates (begin_with_separator unit (paragraphs_of (second ∷ others)) separates)
+      | inr plain ↦ rw plain (ap (begin_with unit) ih ∙ begin_with_other unit _ _ plain)
+    ]
+
+-- where the first separator stands
+abbrev pub separator_place : List BidiUnit → ℕ
+separator_place text = position_or_len (λ u. is_separator u.class) text
+
+pub first_length_found : (text : List BidiUnit) → separator_place text < length text → first_length text ≡ separator_place text + 1
+first_length_found [] h = absurd (omega arith)
+first_length_found (unit ∷ units) h =
+    elim (cases_Bool (is_separator unit.class)) [
+      | inl separates ↦ rw separates refl
+      | inr plain ↦
+          let h' : 1 + separator_place units < suc (length units) = rw plain at h in
+          let ih = first_length_found units (omega arith) in
+          rw plain (omega (arith, ih))
+    ]
+
+pub first_length_all : (text : List BidiUnit) → length text ≤ separator_place text → first_length text ≡ length text
+first_length_all [] h = refl
+first_length_all (unit ∷ units) h =
+    elim (cases_Bool (is_separator unit.class)) [
+      | inl separates ↦ let h' : suc (length units) ≤ 0 = rw separates at h in absurd (omega arith)
+      | inr plain ↦
+          let h' : suc (length units) ≤ 1 + separator_place units = rw plain at h in
+          rw plain (ap suc (first_length_all units (omega arith)))
+    ]
+
+pub first_length_within : (text : List BidiUnit) → first_length text ≤ length text
+first_length_within [] = omega arith
+first_length_within (unit ∷ units) =
+    let ih = first_length_within units in
+    elim (cases_Bool (is_separator unit.class)) [ inl separates ↦ rw separates (omega arith) | inr plain ↦ rw plain (omega arith) ]
+
+-- what the place that `position` answers says of the first paragraph's length
+pub first_length_at : (text : List BidiUnit) (k : ℕ) → position (λ u. is_separator u.class) text ≡ Some k → first_length text ≡ k + 1
+first_length_at text k e =
+    elim (cases_lt (separator_place text) (length text)) [
+      | inl found ↦
+          let t : nat_lt (separator_place text) (length text) ≡ true = lt-ltb _ _ found in
+          let e' : Some (separator_place text) ≡ Some k = rw t at e in
+          let same : separator_place text ≡ k = same_Some _ _ e' in
+          let l = first_length_found text found in
+          omega arith
+      | inr past ↦
+          let f : nat_lt (separator_place text) (length text) ≡ false = le-ltb _ _ past in
+          let e' : None ≡ Some k = rw f at e in
+          absurd (none-some k e')
+    ]
+
+pub first_length_nowhere : (text : List BidiUnit) → position (λ u. is_separator u.class) text ≡ None → first_length text ≡ length text
+first_length_nowhere text e =
+    elim (cases_lt (separator_place text) (length text)) [
+      | inl found ↦
+          let t : nat_lt (separator_place text) (length text) ≡ true = lt-ltb _ _ found in
+          let e' : Some (separator_place text) ≡ None = rw t at e in
+          absurd (none-some _ (sym e'))
+      | inr past ↦ first_length_all text past
+    ]
+
+pub paragraphs_of_split : (text : List BidiUnit) → 0 < length text → paragraphs_of text ≡ take (first_length text) text ∷ paragraphs_of (drop (first_length text) text)
+paragraphs_of_split [] h = absurd (omega arith)
+paragraphs_of_split (unit ∷ units) h = paragraphs_of-cons unit units
+
+-- a text has no more paragraphs than units
+pub length-begin_with : (unit : BidiUnit) (pieces : List (List BidiUnit)) → length (begin_with unit pieces) ≤ length pieces + 1
+length-begin_with unit [] = omega arith
+length-begin_with unit (piece ∷ pieces) =
+    elim (cases_Bool (is_separator unit.class)) [ inl separates ↦ rw separates (omega arith) | inr plain ↦ rw plain (omega arith) ]
+
+pub no_more_paragraphs : (text : List BidiUnit) → length (paragraphs_of text) ≤ length text
+no_more_paragraphs [] = omega arith
+no_more_paragraphs (unit ∷ units) = omega (arith, length-begin_with unit (paragraphs_of units), no_more_paragraphs units)
+
+-- the first paragraph and the text after it make up the text
+pub split_joined : (text para rest : List BidiUnit) → paragraphs_of text ≡ para ∷ paragraphs_of rest → text ≡ para ++ rest
+split_joined text para rest e = sym (joined-paragraphs_of text) ∙ ap joined e ∙ ap (λ us. para ++ us) (joined-paragraphs_of rest)
+
+pub split_length : (text para rest : List BidiUnit) → paragraphs_of text ≡ para ∷ paragraphs_of rest → length text ≡ length para + length rest
+split_length text para rest e = ap length (split_joined text para rest e) ∙ length-append para rest

@@ -1,0 +1,19 @@
+//! Paragraphs, isolates and explicit levels (P1 to P3 and X1 to X9).
+#![tactic(auto)]
+
+ghost use Rattle.std.specs.Prelude.{◌≡◌, ◌≤◌, length};
+ghost use Rattle.units.specs.Paragraphs.{paragraphs_of};
+
+pub mod paragraph;
+
+use paragraph::Paragraphs;
+use units::bracket::Unit;
+
+/// Cuts a text into its paragraphs (P1), in order: each is a piece of the text, has its only unit of class B in
+/// last place, and only the last may have none. Nothing is copied.
+pub fn paragraphs(text: &[Unit]) -> Paragraphs<'_>
+    ensures pieces { result ≡ paragraphs_of text.now }
+    ensures no_more { length result ≤ length text.now }
+{
+    Paragraphs::new(text)
+}

@@ -1,0 +1,78 @@
+//! The paragraphs of a text (P1).
+ghost use Rattle.std.specs.Prelude.{◌≡◌, ◌≤◌, ◌↔◌, List, length, position};
+ghost use Rattle.std.specs.Iterator.{YieldsFirstRef, item_count};
+ghost use Rattle.units.specs.Classes.{is_separator};
+ghost use Rattle.units.specs.Paragraphs.{IsCutting, paragraphs_of};
+ghost use Rattle.units.specs.declared.bracket.Unit.{Unit as BidiUnit};
+ghost use Rattle.explicit.specs.FirstParagraph.{first_length};
+
+use std::marker::Model;
+use units::bracket::Unit;
+
+/// The paragraphs of a text that are still to come, in order. Contracts see the list of them.
+#[derive(Drop)]
+pub struct Paragraphs<'a> {
+    rest: &'a [Unit],
+}
+
+impl<'a> Model for Paragraphs<'a> {
+    ghost use Rattle.std.specs.Prelude.{List};
+    ghost use Rattle.units.specs.declared.bracket.Unit.{Unit as BidiUnit};
+    ghost use Rattle.units.specs.Paragraphs.{paragraphs_of};
+
+    ghost Value = { List (List BidiUnit) };
+
+    ghost view = { λ s. paragraphs_of s.rest.now };
+}
+
+impl<'a> Paragraphs<'a> {
+    // The paragraphs of this text.
+    #[tactic(auto, using(crate::proofs::OneCutting::no_more_paragraphs))]
+    pub(crate) fn new(text: &'a [Unit]) -> Paragraphs<'a>
+        ensures pieces { result ≡ paragraphs_of text.now }
+        ensures no_more { length result ≤ length text.now }
+    {
+        Paragraphs { rest: text }
+    }
+}
+
+/// A text has one cutting into pieces that are not empty, have a unit of class B in last place alone, and end
+/// with one where another follows (P1).
+pub fn one_cutting()
+    ensures { (text : List BidiUnit) (pieces : List (List BidiUnit)) → IsCutting text pieces ↔ (pieces ≡ paragraphs_of text) }
+{}
+
+// Where the first separator stands.
+fn first_separator(text: &[Unit]) -> Option<usize>
+    ensures { result ≡ position (λ unit. is_separator unit.class) text.now }
+{
+    text.iter().position(|unit| unit.class.is_separator())
+}
+
+// The length of the first paragraph.
+fn first_length(text: &[Unit]) -> usize
+    ensures value { result ≡ first_length text.now }
+    ensures within { result ≤ length text.now }
+{
+    match first_separator(text) {
+        Some(last) => last + 1,
+        None => text.len(),
+    }
+}
+
+impl<'a> Iterator for Paragraphs<'a> {
+    type Item = &'a [Unit];
+
+    ghost next_gives = { YieldsFirstRef (λ pieces. pieces) };
+
+    ghost remaining = { item_count (λ pieces. pieces) };
+
+    fn next(&mut self) -> Option<&'a [Unit]> {
+        if self.rest.is_empty() {
+            return None;
+        }
+        let (first, others) = self.rest.split_at(first_length(self.rest));
+        self.rest = others;
+        Some(first)
+    }
+}
