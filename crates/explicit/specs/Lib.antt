@@ -1,1 +1,5 @@
 pub mod FirstParagraph
+pub mod IsolateMaps
+pub mod OpenInitiators
+pub mod StatusStacks
+pub mod Levels

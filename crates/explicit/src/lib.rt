@@ -4,7 +4,12 @@
 ghost use Rattle.std.specs.Prelude.{◌≡◌, ◌≤◌, length};
 ghost use Rattle.units.specs.Paragraphs.{paragraphs_of};
 
+pub mod isolates;
+pub mod laws;
+pub mod levels;
+pub mod para_level;
 pub mod paragraph;
+pub mod status;
 
 use paragraph::Paragraphs;
 use units::bracket::Unit;

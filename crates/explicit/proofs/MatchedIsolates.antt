@@ -1,0 +1,211 @@
+-- A matched isolate initiator and its PDI lie within the same initiators.
+use Rattle.std.proofs.Common.{◌≡◌, ℕ, zero, suc, ◌+◌, ◌-◌, ◌<◌, ◌≤◌, Bool, true, false, List, [], ◌∷◌, length, arith, refl, sym, ap, subst, ◌∙◌, inl, inr}
+use Rattle.std.specs.Prelude.{Option, Some, None, filter, ◌==◌}
+use Rattle.std.specs.List.{list_any}
+use Rattle.std.proofs.lemmas.Bool.{cases_Bool, cases_eq, false≢true, lt-ltb, le-ltb, ltb-true, eq-eqb, ne_eqb, eqb-true}
+use Rattle.units.specs.Positions.{first_from, first_after, is_before}
+use Rattle.units.specs.Classes.{class_at, is_isolate_initiator, is_initiator, is_pdi, is_removed, is_separator}
+use Rattle.units.specs.Isolates.{is_balanced, matching_pdi, isolate_holds}
+use Rattle.explicit.specs.Levels.{level_at}
+use Rattle.std.specs.Option.{option_map_or}
+use Rattle.units.specs.Explicit.{State}
+use Rattle.units.specs.declared.class.Class.{Class}
+use Rattle.units.specs.declared.class.Class.TheVariants.{LRI, RLI, FSI, PDI}
+use Rattle.explicit.proofs.Taken.{level-bound}
+use Rattle.explicit.specs.OpenInitiators.{is_isolate, opened, past_isolate, left_open}
+use Rattle.explicit.specs.StatusStacks.{state_within, placed}
+use Rattle.explicit.proofs.Scan.{first_after-past}
+use Rattle.explicit.proofs.Counting.{bit}
+use Rattle.explicit.proofs.Roles.{Has, Role, role, opens_isolate, opens_embedding, closes_isolate, closes_embedding, plain}
+use Rattle.explicit.proofs.Open.{below, holders, holds}
+use Rattle.explicit.proofs.OpenIsolates.{AllBelow, OpenIsolates, OpenIsolates-next, holds-open_isolate}
+use Rattle.explicit.proofs.IsolateStep.{left_open-keeps}
+use Rattle.explicit.proofs.HoldersStep.{holders-are_open, holders-step}
+use Rattle.explicit.proofs.Places.{explicit-placed}
+
+-- behind each stand the initiators that hold it
+abbrev Stacked : List Class → List ℕ → Type 0
+Stacked cs [] = Unit {0}
+Stacked cs (q ∷ qs) = (qs ≡ holders cs q) × Stacked cs qs
+
+opened-stacked : (cs : List Class) (y : ℕ) → Stacked cs (holders cs y) → Stacked cs (opened cs y (holders cs y))
+opened-stacked cs y h =
+    elim (cases_Bool (is_initiator (class_at cs y))) [
+      | inl u ↦ rw u (refl, h)
+      | inr u ↦ rw u h
+    ]
+
+holders-stacked : (cs : List Class) (y : ℕ) → y < length cs → Stacked cs (holders cs y)
+holders-stacked cs zero l = tt
+holders-stacked cs (suc y) l = rw (holders-step cs y l) (left_open-keeps cs (λ qs. Stacked cs qs) (λ q qs h. h.1) (class_at cs (suc y)) (opened cs y (holders cs y)) (opened-stacked cs y (holders-stacked cs y (omega arith))))
+
+abbrev is_among : ℕ → List ℕ → Bool
+is_among i qs = list_any (λ q. q == i) qs
+
+among-filtered : (t : ℕ → Bool) (i y : ℕ) → i < y → t i ≡ true → is_among i (filter t (below y)) ≡ true
+among-filtered t i zero l h = absurd (omega arith)
+among-filtered t i (suc y) l h =
+    elim (cases_eq i y) [
+      | inl e ↦ rw (sym (ap t e) ∙ h) (rw (eq-eqb y i (sym e)) refl)
+      | inr ne ↦ elim (cases_Bool (t y)) [
+        | inl u ↦ rw (u, ne_eqb y i (λ e. ne (sym e))) (among-filtered t i y (omega arith) h)
+        | inr u ↦ rw u (among-filtered t i y (omega arith) h)
+      ]
+    ]
+
+found-within : (t : ℕ → Bool) (s n j : ℕ) → first_from t s n ≡ Some j → j < s + n
+found-within t s zero j h = absurd (cc)
+found-within t s (suc n) j h =
+    elim (cases_Bool (t s)) [
+      | inl u ↦ let k : Some s ≡ Some j = rw u at h in let e : s ≡ j = cc in omega arith
+      | inr u ↦ let k : j < s + 1 + n = found-within t (s + 1) n j (rw u at h) in omega arith
+    ]
+
+-- where a PDI matches, and what
+record IsMatched (cs : List Class) (i j : ℕ) : Type 0 where
+  initiates : is_isolate cs i ≡ true
+  behind : i < j
+  within : j < length cs
+
+matched : (cs : List Class) (i j : ℕ) → matching_pdi cs i ≡ Some j → IsMatched cs i j
+unfolding matching_pdi
+matched cs i j h =
+    elim (cases_Bool (is_isolate cs i)) [
+      | inr u ↦ absurd (let k : None ≡ Some j = rw u at h in cc)
+      | inl u ↦
+          let k : first_after (is_balanced cs i) i (length cs) ≡ Some j = rw u at h in
+          let p : is_before i (Some j) ≡ true = ap (is_before i) (sym k) ∙ first_after-past (is_balanced cs i) i (length cs) in
+          let b : i < j = ltb-true i j p in
+          let w : j < i + 1 + (length cs - (i + 1)) = found-within (is_balanced cs i) (i + 1) (length cs - (i + 1)) j k in
+          record { initiates = u; behind = b; within = omega arith }
+    ]
+
+ends-there : (cs : List Class) (i j : ℕ) → matching_pdi cs i ≡ Some j → isolate_holds cs i j ≡ false
+unfolding isolate_holds
+ends-there cs i j h = rw (h, (matched cs i j h).initiates, lt-ltb i j (matched cs i j h).behind, le-ltb j j (omega arith)) refl
+
+holds-before : (cs : List Class) (i j y : ℕ) → matching_pdi cs i ≡ Some j → i < y → y < j → isolate_holds cs i y ≡ true
+unfolding isolate_holds
+holds-before cs i j y h a b = rw (h, (matched cs i j h).initiates, lt-ltb i y a, lt-ltb y j b) refl
+
+-- it is among the open ones before its PDI
+among-open : (cs : List Class) (i y : ℕ) → matching_pdi cs i ≡ Some (suc y) → is_among i (opened cs y (holders cs y)) ≡ true
+among-open cs i y h =
+    let m = matched cs i (suc y) h in
+    let b : i < suc y = m.behind in
+    elim (cases_eq i y) [
+      | inl e ↦ rw (rw e at m.initiates) (rw (eq-eqb y i (sym e)) refl)
+      | inr ne ↦
+          let a : is_among i (holders cs y) ≡ true = among-filtered (holds cs y) i y (omega arith) (rw (holds-before cs i (suc y) y h (omega arith) (omega arith)) refl) in
+          elim (cases_Bool (is_initiator (class_at cs y))) [
+            | inl u ↦ rw (u, ne_eqb y i (λ e. ne (sym e))) a
+            | inr u ↦ rw u a
+          ]
+    ]
+
+open-holds : (cs : List Class) (i y k : ℕ) (qs : List ℕ) → AllBelow y qs → OpenIsolates cs y k qs → is_isolate cs i ≡ true → is_among i qs ≡ true → isolate_holds cs i y ≡ true
+open-holds cs i y k [] a o u m = absurd (false≢true m)
+open-holds cs i y k (q ∷ qs) a o u m =
+    elim (cases_Bool (q == i)) [
+      | inl e ↦
+          let s : q ≡ i = eqb-true q i e in
+          let P : ℕ → Type 0 = λ x. isolate_holds cs x y ≡ true in
+          let v : is_isolate cs q ≡ true = ap (is_isolate cs) s ∙ u in
+          subst P s (holds-open_isolate cs y k q a.0 v (o.0 v))
+      | inr e ↦ open-holds cs i y (bit (is_isolate cs q) + k) qs a.1 o.1 u (rw e at m)
+    ]
+
+-- the isolate that the PDI closes is the innermost, and what is around it holds the PDI
+past-matched : (cs : List Class) (i y : ℕ) (qs : List ℕ) → AllBelow (suc y) qs → suc y < length cs → Has (class_at cs (suc y)) false false true false → OpenIsolates cs y 0 qs → Stacked cs qs → is_isolate cs i ≡ true → is_among i qs ≡ true → isolate_holds cs i (suc y) ≡ false → past_isolate cs qs ≡ holders cs i
+past-matched cs i y [] a l r o s u m h = absurd (false≢true m)
+past-matched cs i y (q ∷ qs) a l r o s u m h =
+    elim (cases_Bool (q == i)) [
+      | inl e ↦
+          let v : is_isolate cs q ≡ true = ap (is_isolate cs) (eqb-true q i e) ∙ u in
+          rw v (s.0 ∙ ap (holders cs) (eqb-true q i e))
+      | inr e ↦ elim (cases_Bool (is_isolate cs q)) [
+        | inl v ↦ absurd (false≢true (sym h ∙ open-holds cs i (suc y) 0 qs a.1 (OpenIsolates-next cs y 1 0 qs a.1 l (rw (r.isolate_is, r.pdi_is) refl) (rw v at o.1)) u (rw e at m)))
+        | inr v ↦ rw v (past-matched cs i y qs a.1 l r (rw v at o.1) s.1 u (rw e at m) h)
+      ]
+    ]
+
+isolate-among : (cs : List Class) (i : ℕ) (qs : List ℕ) → is_isolate cs i ≡ true → is_among i qs ≡ true → list_any (is_isolate cs) qs ≡ true
+isolate-among cs i [] u m = absurd (false≢true m)
+isolate-among cs i (q ∷ qs) u m =
+    elim (cases_Bool (q == i)) [
+      | inl e ↦ rw (ap (is_isolate cs) (eqb-true q i e) ∙ u) refl
+      | inr e ↦ elim (cases_Bool (is_isolate cs q)) [ inl v ↦ rw v refl | inr v ↦ rw v (isolate-among cs i qs u (rw e at m)) ]
+    ]
+
+record IsClosed (cs : List Class) (i y : ℕ) : Type 0 where
+  pdi : Has (class_at cs (suc y)) false false true false
+  around : holders cs (suc y) ≡ holders cs i
+
+-- no other class ends an isolate
+not_closed : (cs : List Class) (i y : ℕ) → matching_pdi cs i ≡ Some (suc y) → is_pdi (class_at cs (suc y)) ≡ false → ⊥
+not_closed cs i y h n =
+    let m = matched cs i (suc y) h in
+    let w : suc y < length cs = m.within in
+    let o = holders-are_open cs y (omega arith) in
+    let next = OpenIsolates-next cs y 0 (bit (is_isolate cs (suc y))) (opened cs y (holders cs y)) o.bound w (rw n (omega arith)) o.isolates in
+    false≢true (sym (ends-there cs i (suc y) h) ∙ open-holds cs i (suc y) (bit (is_isolate cs (suc y))) (opened cs y (holders cs y)) o.bound next m.initiates (among-open cs i y h))
+
+closed : (cs : List Class) (i y : ℕ) → matching_pdi cs i ≡ Some (suc y) → Role (class_at cs (suc y)) → IsClosed cs i y
+closed cs i y h (opens_isolate r) = absurd (not_closed cs i y h r.pdi_is)
+closed cs i y h (opens_embedding r) = absurd (not_closed cs i y h r.pdi_is)
+closed cs i y h (closes_embedding r) = absurd (not_closed cs i y h r.pdi_is)
+closed cs i y h (plain r) = absurd (not_closed cs i y h r.pdi_is)
+closed cs i y h (closes_isolate r) =
+    let m = matched cs i (suc y) h in
+    let w : suc y < length cs = m.within in
+    let qs : List ℕ = opened cs y (holders cs y) in
+    let o = holders-are_open cs y (omega arith) in
+    let v : list_any (is_isolate cs) qs ≡ true = isolate-among cs i qs m.initiates (among-open cs i y h) in
+    let s = opened-stacked cs y (holders-stacked cs y (omega arith)) in
+    let left : left_open cs (class_at cs (suc y)) qs ≡ past_isolate cs qs = rw (r.pdi_is, v) refl in
+    record {
+      pdi = r;
+      around = holders-step cs y w ∙ left ∙ past-matched cs i y qs o.bound w r o.isolates s m.initiates (among-open cs i y h) (ends-there cs i (suc y) h);
+    }
+
+-- they lie within the same initiators
+pub holders-matched : (cs : List Class) (i j : ℕ) → matching_pdi cs i ≡ Some j → holders cs j ≡ holders cs i
+holders-matched cs i zero h = absurd (let m = matched cs i 0 h in let b : i < 0 = m.behind in omega arith)
+holders-matched cs i (suc y) h = (closed cs i y h (role (class_at cs (suc y)))).around
+
+matched-pdi : (cs : List Class) (i j : ℕ) → matching_pdi cs i ≡ Some j → is_pdi (class_at cs j) ≡ true
+matched-pdi cs i zero h = absurd (let m = matched cs i 0 h in let b : i < 0 = m.behind in omega arith)
+matched-pdi cs i (suc y) h = (closed cs i y h (role (class_at cs (suc y)))).pdi.pdi_is
+
+level-placed : (cs : List Class) (para p : ℕ) → is_removed (class_at cs p) ≡ false → is_separator (class_at cs p) ≡ false → level_at cs para p ≡ (state_within cs para (holders cs p)).level
+level-placed cs para p r s = ap (λ o. option_map_or (λ x. x.0) o para) (sym (explicit-placed cs para p)) ∙ rw (r, s) refl
+
+isolate-remains : (c : Class) → is_isolate_initiator c ≡ true → (is_removed c ≡ false) × (is_separator c ≡ false)
+isolate-remains LRI h = (refl, refl)
+isolate-remains RLI h = (refl, refl)
+isolate-remains FSI h = (refl, refl)
+isolate-remains c h = absurd (cc)
+
+pdi-remains : (c : Class) → is_pdi c ≡ true → (is_removed c ≡ false) × (is_separator c ≡ false)
+pdi-remains PDI h = (refl, refl)
+pdi-remains c h = absurd (cc)
+
+-- so their levels are equal
+pub levels-matched : (cs : List Class) (para i j : ℕ) → matching_pdi cs i ≡ Some j → level_at cs para i ≡ level_at cs para j
+levels-matched cs para i j h =
+    let a = isolate-remains (class_at cs i) (matched cs i j h).initiates in
+    let b = pdi-remains (class_at cs j) (matched-pdi cs i j h) in
+    level-placed cs para i a.0 a.1 ∙ ap (λ qs. (state_within cs para qs).level) (sym (holders-matched cs i j h)) ∙ sym (level-placed cs para j b.0 b.1)
+
+placed-bounded : (s : State) (para : ℕ) (own : Class) → s.level ≤ 125 → para ≤ 125 → option_map_or (λ x. x.0) (placed s para own) para ≤ 125
+placed-bounded s para own a b =
+    elim (cases_Bool (is_removed own)) [
+      | inl u ↦ rw u b
+      | inr u ↦ elim (cases_Bool (is_separator own)) [ inl v ↦ rw (u, v) b | inr v ↦ rw (u, v) a ]
+    ]
+
+-- no level is above 125
+pub level-at_most : (cs : List Class) (para p : ℕ) → para ≤ 125 → level_at cs para p ≤ 125
+level-at_most cs para p b =
+    let P : Option (ℕ × Class) → Type 0 = λ o. option_map_or (λ x. x.0) o para ≤ 125 in
+    subst P (explicit-placed cs para p) (placed-bounded (state_within cs para (holders cs p)) para (class_at cs p) (level-bound cs para (holders cs p) b) b)

@@ -1,0 +1,105 @@
+-- Explicit levels from the initiators that are open.
+use Rattle.std.proofs.Common.{◌≡◌, ℕ, zero, suc, ◌+◌, ◌<◌, ◌≤◌, Bool, true, List, [], ◌∷◌, ◌++◌, length, arith, refl, sym, ap, subst, ◌∙◌, inl, inr, zero-add, append-nil, get_or, ◌^◌, reverse}
+use Rattle.std.proofs.lemmas.List.{reverse-append}
+use Rattle.std.specs.Prelude.{None, filter, fold}
+use Rattle.std.proofs.lemmas.Bool.{cases_Bool}
+use Rattle.std.proofs.lemmas.List.Elements.{filter-append}
+use Rattle.units.specs.Positions.{positions_from}
+use Rattle.units.specs.Classes.{class_at, classes_of, is_pdi, is_pdf}
+use Rattle.units.specs.declared.bracket.Unit.{Unit}
+use Rattle.units.specs.Explicit.{State, entered, state_of, chain, explicit_at}
+use Rattle.units.specs.declared.class.Class.{Class}
+use Rattle.explicit.specs.OpenInitiators.{opened, left_open}
+use Rattle.explicit.specs.StatusStacks.{state_within, placed, Represents, IsKept}
+use Rattle.explicit.specs.declared.status.StatusStack.{StatusStack}
+use Rattle.explicit.proofs.Counting.{positions_from-next}
+use Rattle.explicit.proofs.Open.{below, holders, holds}
+use Rattle.explicit.proofs.HoldersStep.{holders-step}
+
+-- the initiators that are open before p
+abbrev pub open_before : List Class → ℕ → List ℕ
+open_before cs zero = []
+open_before cs (suc p) = opened cs p (holders cs p)
+
+pub left_before : (cs : List Class) (p : ℕ) → p < length cs → left_open cs (class_at cs p) (open_before cs p) ≡ holders cs p
+left_before cs zero l =
+    elim (cases_Bool (is_pdi (class_at cs 0))) [
+      | inl u ↦ rw u refl
+      | inr u ↦ elim (cases_Bool (is_pdf (class_at cs 0))) [ inl v ↦ rw (u, v) refl | inr v ↦ rw (u, v) refl ]
+    ]
+left_before cs (suc p) l = sym (holders-step cs p l)
+
+pub open_before-next : (cs : List Class) (p : ℕ) → opened cs p (holders cs p) ≡ open_before cs (p + 1)
+open_before-next cs p = let e : p + 1 ≡ suc p = omega arith in rw e refl
+
+few-filtered : (t : ℕ → Bool) (p : ℕ) → length (filter t (below p)) ≤ p
+few-filtered t zero = omega arith
+few-filtered t (suc p) =
+    let ih = few-filtered t p in
+    elim (cases_Bool (t p)) [ inl u ↦ rw u (omega (arith, ih)) | inr u ↦ rw u (omega (arith, ih)) ]
+
+pub holders-few : (cs : List Class) (p : ℕ) → length (holders cs p) ≤ p
+holders-few cs p = few-filtered (holds cs p) p
+
+fold-snoc : (f : State → ℕ → State) (s : State) (xs : List ℕ) (x : ℕ) → fold f s (xs ++ x ∷ []) ≡ f (fold f s xs) x
+fold-snoc f s [] x = refl
+fold-snoc f s (y ∷ xs) x = fold-snoc f (f s y) xs x
+
+-- what holds inside a rising list of initiators, or the same list falling
+within-filtered : (cs : List Class) (para : ℕ) (t : ℕ → Bool) (p : ℕ) → state_of cs para (filter t (positions_from 0 p)) ≡ state_within cs para (filter t (below p))
+within-filtered cs para t zero = refl
+within-filtered cs para t (suc p) =
+    let ih = within-filtered cs para t p in
+    let start : State = record { level = para; override = None; sound = true } in
+    let more : positions_from 0 (suc p) ≡ positions_from 0 p ++ p ∷ [] = positions_from-next 0 p ∙ ap (λ k. positions_from 0 p ++ k ∷ []) (zero-add p) in
+    ap (λ xs. state_of cs para (filter t xs)) more
+    ∙ ap (state_of cs para) (filter-append t (positions_from 0 p) (p ∷ []))
+    ∙ elim (cases_Bool (t p)) [
+      | inl u ↦ rw u (fold-snoc (entered cs) start (filter t (positions_from 0 p)) p ∙ ap (λ s. entered cs s p) ih)
+      | inr u ↦ rw u (ap (state_of cs para) (append-nil (filter t (positions_from 0 p))) ∙ ih)
+    ]
+
+pub state-of_chain : (cs : List Class) (para p : ℕ) → state_of cs para (chain cs p) ≡ state_within cs para (holders cs p)
+unfolding chain
+state-of_chain cs para p = within-filtered cs para (holds cs p) p
+
+-- the level and the class at p by what holds inside the initiators that hold it
+pub explicit-placed : (cs : List Class) (para p : ℕ) → placed (state_within cs para (holders cs p)) para (class_at cs p) ≡ explicit_at cs para p
+unfolding explicit_at
+explicit-placed cs para p = ap (λ s. placed s para (class_at cs p)) (sym (state-of_chain cs para p))
+
+pub class-of : (para : List Unit) (p : ℕ) (d : Unit) → p < length para → (get_or para p d).class ≡ class_at (classes_of para) p
+class-of [] p d l = absurd (omega arith)
+class-of (u ∷ us) zero d l = refl
+class-of (u ∷ us) (suc p) d l = class-of us p d (omega arith)
+
+pub length-classes_of : (para : List Unit) → length (classes_of para) ≡ length para
+length-classes_of [] = refl
+length-classes_of (u ∷ us) = ap suc (length-classes_of us)
+
+-- what the pass keeps when it comes to p
+pub is-kept : (para : List Unit) (base p : ℕ) (n : StatusStack) → base ≤ 1 → p < 2 ^ 63 → Represents (classes_of para) base (holders (classes_of para) p) n → IsKept n
+is-kept para base p n b l r = record { classes = classes_of para; para = base; initiators = holders (classes_of para) p; represents = r; base = b; few = omega (arith, holders-few (classes_of para) p) }
+
+pub left-is : (cs : List Class) (base p : ℕ) (class : Class) (n : StatusStack) → p < length cs → class ≡ class_at cs p → Represents cs base (left_open cs class (open_before cs p)) n → Represents cs base (holders cs p) n
+left-is cs base p class n l e r = let P : List ℕ → Type 0 = λ qs. Represents cs base qs n in subst P (ap (λ k. left_open cs k (open_before cs p)) e ∙ left_before cs p l) r
+
+-- the chain is the same list the other way round
+chain-filtered : (t : ℕ → Bool) (p : ℕ) → filter t (positions_from 0 p) ≡ reverse (filter t (below p))
+chain-filtered t zero = refl
+chain-filtered t (suc p) =
+    let more : positions_from 0 (suc p) ≡ positions_from 0 p ++ p ∷ [] = positions_from-next 0 p ∙ ap (λ k. positions_from 0 p ++ k ∷ []) (zero-add p) in
+    ap (filter t) more
+    ∙ filter-append t (positions_from 0 p) (p ∷ [])
+    ∙ elim (cases_Bool (t p)) [
+      | inl u ↦ rw u (ap (λ xs. xs ++ p ∷ []) (chain-filtered t p) ∙ sym (reverse-append (p ∷ []) (filter t (below p))))
+      | inr u ↦ rw u (append-nil (filter t (positions_from 0 p)) ∙ chain-filtered t p)
+    ]
+
+pub chain-reversed : (cs : List Class) (p : ℕ) → chain cs p ≡ reverse (holders cs p)
+unfolding chain
+chain-reversed cs p = chain-filtered (holds cs p) p
+
+-- what the pass keeps at p, after what the class there closes
+pub kept-at : (para : List Unit) (base p : ℕ) (class : Class) (n : StatusStack) → base ≤ 1 → p < length para → p < 2 ^ 63 → class ≡ class_at (classes_of para) p → Represents (classes_of para) base (left_open (classes_of para) class (open_before (classes_of para) p)) n → IsKept n
+kept-at para base p class n b l s e r = is-kept para base p n b s (left-is (classes_of para) base p class n (omega (arith, length-classes_of para)) e r)
