@@ -27,4 +27,6 @@ pub mod Scan
 pub mod Sides
 pub mod Taken
 pub mod TheTail
-pub mod Walk
+pub mod StrongInside
+pub mod Leveled
+pub mod InsideIsolates

@@ -1,14 +1,13 @@
 -- A matched isolate initiator and its PDI lie within the same initiators.
 use Rattle.std.proofs.Common.{◌≡◌, ℕ, zero, suc, ◌+◌, ◌-◌, ◌<◌, ◌≤◌, Bool, true, false, List, [], ◌∷◌, length, arith, refl, sym, ap, subst, ◌∙◌, inl, inr}
-use Rattle.std.specs.Prelude.{Option, Some, None, filter, ◌==◌}
+use Rattle.std.specs.Prelude.{Option, Some, None, filter, ◌==◌, IfSome}
 use Rattle.std.specs.List.{list_any}
 use Rattle.std.proofs.lemmas.Bool.{cases_Bool, cases_eq, false≢true, lt-ltb, le-ltb, ltb-true, eq-eqb, ne_eqb, eqb-true}
 use Rattle.units.specs.Positions.{first_from, first_after, is_before}
 use Rattle.units.specs.Classes.{class_at, is_isolate_initiator, is_initiator, is_pdi, is_removed, is_separator}
 use Rattle.units.specs.Isolates.{is_balanced, matching_pdi, isolate_holds}
-use Rattle.explicit.specs.Levels.{level_at}
-use Rattle.std.specs.Option.{option_map_or}
-use Rattle.units.specs.Explicit.{State}
+use Rattle.std.specs.Option.{option_map}
+use Rattle.units.specs.Explicit.{State, explicit_at}
 use Rattle.units.specs.declared.class.Class.{Class}
 use Rattle.units.specs.declared.class.Class.TheVariants.{LRI, RLI, FSI, PDI}
 use Rattle.explicit.proofs.Taken.{level-bound}
@@ -24,7 +23,7 @@ use Rattle.explicit.proofs.HoldersStep.{holders-are_open, holders-step}
 use Rattle.explicit.proofs.Places.{explicit-placed}
 
 -- behind each stand the initiators that hold it
-abbrev Stacked : List Class → List ℕ → Type 0
+abbrev pub Stacked : List Class → List ℕ → Type 0
 Stacked cs [] = Unit {0}
 Stacked cs (q ∷ qs) = (qs ≡ holders cs q) × Stacked cs qs
 
@@ -35,14 +34,14 @@ opened-stacked cs y h =
       | inr u ↦ rw u h
     ]
 
-holders-stacked : (cs : List Class) (y : ℕ) → y < length cs → Stacked cs (holders cs y)
+pub holders-stacked : (cs : List Class) (y : ℕ) → y < length cs → Stacked cs (holders cs y)
 holders-stacked cs zero l = tt
 holders-stacked cs (suc y) l = rw (holders-step cs y l) (left_open-keeps cs (λ qs. Stacked cs qs) (λ q qs h. h.1) (class_at cs (suc y)) (opened cs y (holders cs y)) (opened-stacked cs y (holders-stacked cs y (omega arith))))
 
-abbrev is_among : ℕ → List ℕ → Bool
+abbrev pub is_among : ℕ → List ℕ → Bool
 is_among i qs = list_any (λ q. q == i) qs
 
-among-filtered : (t : ℕ → Bool) (i y : ℕ) → i < y → t i ≡ true → is_among i (filter t (below y)) ≡ true
+pub among-filtered : (t : ℕ → Bool) (i y : ℕ) → i < y → t i ≡ true → is_among i (filter t (below y)) ≡ true
 among-filtered t i zero l h = absurd (omega arith)
 among-filtered t i (suc y) l h =
     elim (cases_eq i y) [
@@ -62,12 +61,12 @@ found-within t s (suc n) j h =
     ]
 
 -- where a PDI matches, and what
-record IsMatched (cs : List Class) (i j : ℕ) : Type 0 where
-  initiates : is_isolate cs i ≡ true
-  behind : i < j
-  within : j < length cs
+pub record IsMatched (cs : List Class) (i j : ℕ) : Type 0 where
+  pub initiates : is_isolate cs i ≡ true
+  pub behind : i < j
+  pub within : j < length cs
 
-matched : (cs : List Class) (i j : ℕ) → matching_pdi cs i ≡ Some j → IsMatched cs i j
+pub matched : (cs : List Class) (i j : ℕ) → matching_pdi cs i ≡ Some j → IsMatched cs i j
 unfolding matching_pdi
 matched cs i j h =
     elim (cases_Bool (is_isolate cs i)) [
@@ -84,7 +83,7 @@ ends-there : (cs : List Class) (i j : ℕ) → matching_pdi cs i ≡ Some j → 
 unfolding isolate_holds
 ends-there cs i j h = rw (h, (matched cs i j h).initiates, lt-ltb i j (matched cs i j h).behind, le-ltb j j (omega arith)) refl
 
-holds-before : (cs : List Class) (i j y : ℕ) → matching_pdi cs i ≡ Some j → i < y → y < j → isolate_holds cs i y ≡ true
+pub holds-before : (cs : List Class) (i j y : ℕ) → matching_pdi cs i ≡ Some j → i < y → y < j → isolate_holds cs i y ≡ true
 unfolding isolate_holds
 holds-before cs i j y h a b = rw (h, (matched cs i j h).initiates, lt-ltb i y a, lt-ltb y j b) refl
 
@@ -173,12 +172,12 @@ pub holders-matched : (cs : List Class) (i j : ℕ) → matching_pdi cs i ≡ So
 holders-matched cs i zero h = absurd (let m = matched cs i 0 h in let b : i < 0 = m.behind in omega arith)
 holders-matched cs i (suc y) h = (closed cs i y h (role (class_at cs (suc y)))).around
 
-matched-pdi : (cs : List Class) (i j : ℕ) → matching_pdi cs i ≡ Some j → is_pdi (class_at cs j) ≡ true
+pub matched-pdi : (cs : List Class) (i j : ℕ) → matching_pdi cs i ≡ Some j → is_pdi (class_at cs j) ≡ true
 matched-pdi cs i zero h = absurd (let m = matched cs i 0 h in let b : i < 0 = m.behind in omega arith)
 matched-pdi cs i (suc y) h = (closed cs i y h (role (class_at cs (suc y)))).pdi.pdi_is
 
-level-placed : (cs : List Class) (para p : ℕ) → is_removed (class_at cs p) ≡ false → is_separator (class_at cs p) ≡ false → level_at cs para p ≡ (state_within cs para (holders cs p)).level
-level-placed cs para p r s = ap (λ o. option_map_or (λ x. x.0) o para) (sym (explicit-placed cs para p)) ∙ rw (r, s) refl
+pub level-placed : (cs : List Class) (para p : ℕ) → is_removed (class_at cs p) ≡ false → is_separator (class_at cs p) ≡ false → option_map (λ x. x.0) (explicit_at cs para p) ≡ Some (state_within cs para (holders cs p)).level
+level-placed cs para p r s = ap (option_map (λ x. x.0)) (sym (explicit-placed cs para p)) ∙ rw (r, s) refl
 
 isolate-remains : (c : Class) → is_isolate_initiator c ≡ true → (is_removed c ≡ false) × (is_separator c ≡ false)
 isolate-remains LRI h = (refl, refl)
@@ -190,22 +189,25 @@ pdi-remains : (c : Class) → is_pdi c ≡ true → (is_removed c ≡ false) × 
 pdi-remains PDI h = (refl, refl)
 pdi-remains c h = absurd (cc)
 
--- so their levels are equal
-pub levels-matched : (cs : List Class) (para i j : ℕ) → matching_pdi cs i ≡ Some j → level_at cs para i ≡ level_at cs para j
-levels-matched cs para i j h =
-    let a = isolate-remains (class_at cs i) (matched cs i j h).initiates in
-    let b = pdi-remains (class_at cs j) (matched-pdi cs i j h) in
-    level-placed cs para i a.0 a.1 ∙ ap (λ qs. (state_within cs para qs).level) (sym (holders-matched cs i j h)) ∙ sym (level-placed cs para j b.0 b.1)
+-- an isolate initiator has the level of what holds it
+pub level-of_isolate : (cs : List Class) (para i : ℕ) → is_isolate cs i ≡ true → option_map (λ x. x.0) (explicit_at cs para i) ≡ Some (state_within cs para (holders cs i)).level
+level-of_isolate cs para i h = let a = isolate-remains (class_at cs i) h in level-placed cs para i a.0 a.1
 
-placed-bounded : (s : State) (para : ℕ) (own : Class) → s.level ≤ 125 → para ≤ 125 → option_map_or (λ x. x.0) (placed s para own) para ≤ 125
+-- so their levels are equal
+pub levels-matched : (cs : List Class) (para i j : ℕ) → matching_pdi cs i ≡ Some j → option_map (λ x. x.0) (explicit_at cs para i) ≡ option_map (λ x. x.0) (explicit_at cs para j)
+levels-matched cs para i j h =
+    let b = pdi-remains (class_at cs j) (matched-pdi cs i j h) in
+    level-of_isolate cs para i (matched cs i j h).initiates ∙ ap (λ qs. Some (state_within cs para qs).level) (sym (holders-matched cs i j h)) ∙ sym (level-placed cs para j b.0 b.1)
+
+placed-bounded : (s : State) (para : ℕ) (own : Class) → s.level ≤ 125 → para ≤ 125 → IfSome (placed s para own) (λ place. place.0 ≤ 125)
 placed-bounded s para own a b =
     elim (cases_Bool (is_removed own)) [
-      | inl u ↦ rw u b
+      | inl u ↦ rw u tt
       | inr u ↦ elim (cases_Bool (is_separator own)) [ inl v ↦ rw (u, v) b | inr v ↦ rw (u, v) a ]
     ]
 
 -- no level is above 125
-pub level-at_most : (cs : List Class) (para p : ℕ) → para ≤ 125 → level_at cs para p ≤ 125
+pub level-at_most : (cs : List Class) (para p : ℕ) → para ≤ 125 → IfSome (explicit_at cs para p) (λ place. place.0 ≤ 125)
 level-at_most cs para p b =
-    let P : Option (ℕ × Class) → Type 0 = λ o. option_map_or (λ x. x.0) o para ≤ 125 in
+    let P : Option (ℕ × Class) → Type 0 = λ o. IfSome o (λ place. place.0 ≤ 125) in
     subst P (explicit-placed cs para p) (placed-bounded (state_within cs para (holders cs p)) para (class_at cs p) (level-bound cs para (holders cs p) b) b)

@@ -1,10 +1,11 @@
 -- Isolates nest or are apart.
-use Rattle.std.proofs.Common.{◌≡◌, ℕ, ◌<◌, ◌≤◌, true, List, length, Option, Some, None, inl, inr, refl, ◌∙◌, subst, arith}
-use Rattle.std.proofs.lemmas.Bool.{cases_order, and_parts, and_from, ltb-true, lt-ltb}
+use Rattle.std.proofs.Common.{◌≡◌, ℕ, ◌<◌, ◌≤◌, true, List, length, Option, Some, None, ◌⊎◌, inl, inr, refl, sym, ◌∙◌, subst, arith}
+use Rattle.std.proofs.lemmas.Bool.{cases_Bool, cases_order, false≢true, and_parts, and_from, ltb-true, lt-ltb}
 use Rattle.units.specs.Positions.{is_before}
 use Rattle.units.specs.Classes.{class_at, is_isolate_initiator, is_pdi}
 use Rattle.units.specs.Isolates.{matching_pdi, isolate_holds}
 use Rattle.units.specs.declared.class.Class.{Class}
+use Rattle.explicit.specs.IsolateNesting.{IsWithin, AreApart}
 use Rattle.explicit.proofs.Balance.{match_of_bounds, match_closes, match_inner, match_once}
 use Rattle.explicit.proofs.Matching.{opens_at, closes_at, isolates_exclude, matching_pdi_of, matching_pdi_opens, matching_pdi_before}
 
@@ -95,3 +96,11 @@ pair_together_up cs i p a e h =
           let same : a ≡ m.0 = grind (arith, m.1) in
           omega (arith, m.2);
     }
+
+-- of two isolates the one that begins later lies within the other, or they are apart
+pub nest_or_apart : (cs : List Class) (outer inner : ℕ) → outer < inner → IsWithin cs inner outer ⊎ AreApart cs inner outer
+nest_or_apart cs outer inner lt =
+    elim (cases_Bool (isolate_holds cs outer inner)) [
+      | inl t ↦ inl (λ p h. holds_from cs outer p (holds_through cs outer inner p (held cs outer inner t) (held cs inner p h)))
+      | inr f ↦ inr (λ p h h'. false≢true (sym f ∙ holds_from cs outer inner (holds_nested cs outer inner p (held cs outer p h') (held cs inner p h) lt)))
+    ]

@@ -13,8 +13,8 @@ use Rattle.explicit.proofs.Nesting.{match_bounds, match_is_pdi}
 use Rattle.explicit.proofs.Around.{around_holds, around_zero, around_pair, inside_after, IsUnmatched, around_more, unmatched_other, closes_innermost}
 use Rattle.std.proofs.lemmas.List.{length-set, get_or-set_same, get_or-set_other}
 use Rattle.explicit.proofs.PartnerOf.{partner_of_other, partner_forward, partner_back, partner_nobody}
-use Rattle.explicit.specs.IsolateMaps.{HasPartners, IsFilledFrom}
-use Rattle.explicit.proofs.Walk.{is_strong_in, elsewhere, nested_passed}
+use Rattle.explicit.specs.IsolateMaps.{HasPartners, HasSides}
+use Rattle.explicit.proofs.StrongInside.{is_strong_in, elsewhere, nested_passed}
 
 -- the isolate in which the place before p lies
 abbrev pub isolate_before : List Class → ℕ → Option ℕ
@@ -257,9 +257,8 @@ pub carrying_at : (cs : List Class) (p : ℕ) (partners : List (Option ℕ)) (si
 carrying_at cs p partners sides carried now h = let e : p - 1 + 1 ≡ p = omega arith in rw e now
 
 -- the pass is over
-pub carrying_all : (cs : List Class) (partners : List (Option ℕ)) (sides : List Bool) (carried : Bool) → IsCarrying cs 0 partners sides carried → IsFilledFrom (record { partners = partners; sides = sides; outside = carried }) cs
-carrying_all cs partners sides carried now = record {
-  matched = now.partner;
-  sides = λ p h opener. now.behind p (omega arith) h ∙ side_of_isolate cs p h opener;
-  outside = now.carried_is ∙ side_outside cs;
-}
+pub carried_outside : (cs : List Class) (partners : List (Option ℕ)) (sides : List Bool) (carried : Bool) → IsCarrying cs 0 partners sides carried → carried ≡ begins_right_to_left cs (first_strong cs None)
+carried_outside cs partners sides carried now = now.carried_is ∙ side_outside cs
+
+pub carried_sides : (cs : List Class) (partners : List (Option ℕ)) (sides : List Bool) (carried : Bool) → IsCarrying cs 0 partners sides carried → HasSides sides cs
+carried_sides cs partners sides carried now = λ p h opener. now.behind p (omega arith) h ∙ side_of_isolate cs p h opener

@@ -56,7 +56,7 @@ some_refused cs para (q ∷ qs) h =
       ]
     ]
 
-next-above : (cs : List Class) (level q : ℕ) → level < wanted_level cs level q
+pub next-above : (cs : List Class) (level q : ℕ) → level < wanted_level cs level q
 next-above cs level q = elim (cases_Bool (wants_odd cs q (class_at cs q))) [ inl u ↦ rw u (omega arith) | inr u ↦ rw u (omega arith) ]
 
 pub level-bound : (cs : List Class) (para : ℕ) (qs : List ℕ) → para ≤ 125 → (state_within cs para qs).level ≤ 125

@@ -4,7 +4,7 @@ use Rattle.units.specs.Classes.{class_at, is_isolate_initiator}
 use Rattle.units.specs.Isolates.{partner_of, first_strong, begins_right_to_left}
 use Rattle.units.specs.declared.class.Class.{Class}
 
--- the partner of each position; at an initiator the side of its isolate; the side outside of all isolates
+-- BD9, P2, P3: the partner of each position; at an initiator whether its isolate begins right to left; whether what lies outside does
 pub record Isolates : Type 0 where
   pub partners : List (Option ℕ)
   pub sides : List Bool
@@ -14,18 +14,24 @@ pub record Isolates : Type 0 where
 abbrev pub room : Isolates → ℕ
 room map = length map.partners
 
--- these are the partners in a paragraph with these classes
+-- the columns have one length, and positions of four bytes can count it
+pub record FitsTogether (partners openers sides : ℕ) : Type 0 where
+  pub openers_fit : openers ≡ partners
+  pub sides_fit : sides ≡ partners
+  pub few : partners ≤ 4294967295
+
+-- BD9: these are the partners in a paragraph with these classes
 pub record HasPartners (partners : List (Option ℕ)) (cs : List Class) : Type 0 where
   pub enough : length cs ≤ length partners
   pub at : (p : ℕ) → p < length cs → slice_index_or partners p None ≡ partner_of cs p
 
--- the map was filled from a paragraph with these classes
+-- P2, P3: at each initiator stands whether the first strong class directly inside its isolate is R or AL
+abbrev pub HasSides : List Bool → List Class → Type 0
+HasSides sides cs =
+    (p : ℕ) → p < length cs → is_isolate_initiator (class_at cs p) ≡ true → slice_index_or sides p false ≡ begins_right_to_left cs (first_strong cs (Some p))
+
+-- BD9, P2, P3: the map was filled from a paragraph with these classes
 pub record IsFilledFrom (map : Isolates) (cs : List Class) : Type 0 where
   pub matched : HasPartners map.partners cs
-  pub sides : (p : ℕ) → p < length cs → is_isolate_initiator (class_at cs p) ≡ true → slice_index_or map.sides p false ≡ begins_right_to_left cs (first_strong cs (Some p))
+  pub sides : HasSides map.sides cs
   pub outside : map.outside ≡ begins_right_to_left cs (first_strong cs None)
-
--- the position that is given, where one is, is an isolate initiator's
-abbrev pub IsOpener : List Class → Option ℕ → Type 0
-IsOpener cs None = Unit {0}
-IsOpener cs (Some i) = (i < length cs) × (is_isolate_initiator (class_at cs i) ≡ true)

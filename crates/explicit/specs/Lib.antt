@@ -2,4 +2,5 @@ pub mod FirstParagraph
 pub mod IsolateMaps
 pub mod OpenInitiators
 pub mod StatusStacks
-pub mod Levels
+pub mod ExplicitLevels
+pub mod IsolateNesting

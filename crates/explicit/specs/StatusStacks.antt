@@ -8,6 +8,10 @@ use Rattle.explicit.specs.OpenInitiators.{is_isolate}
 use Rattle.explicit.specs.declared.status.Status.{Status}
 use Rattle.explicit.specs.declared.status.StatusStack.{StatusStack}
 
+-- X1: how many entries the stack has
+abbrev pub size_of : StatusStack → ℕ
+size_of n = length n.entries.items
+
 -- what holds inside these initiators, the innermost first
 abbrev pub state_within : List Class → ℕ → List ℕ → State
 state_within cs para [] = record { level = para; override = None; sound = true }

@@ -1,39 +1,49 @@
-ghost use Rattle.std.specs.Prelude.{◌≡◌, ℕ, ◌<◌, ◌≤◌, length, List, Bool, true, false, Option, Some, None, IfOk, slice_index_or};
+//! The isolates of a paragraph (BD9), and which direction each begins with (P2, P3).
+ghost use Rattle.std.specs.Prelude.{◌≡◌, ℕ, ◌+◌, ◌*◌, ◌<◌, ◌≤◌, length, List, Bool, true, false, Option, Some, None, IfOk, slice_index_or};
 ghost use Rattle.units.specs.Classes.{class_at, classes_of, is_isolate_initiator};
 ghost use Rattle.units.specs.Isolates.{partner_of, first_strong, begins_right_to_left};
 ghost use Rattle.units.specs.declared.class.Class.{Class};
-ghost use Rattle.explicit.specs.IsolateMaps.{room, HasPartners, IsFilledFrom};
+ghost use Rattle.explicit.specs.IsolateMaps.{room, HasPartners, HasSides, IsFilledFrom};
 
-use std::alloc::{AllocError, Global};
+use std::alloc::Global;
 use std::marker::Model;
+use std::sync::ledger::Ledger;
 use units::bracket::Unit;
+use units::memory::Memory;
+use units::optional_position::OptionalPosition;
+use units::steps::Steps;
 
-/// The isolates of a paragraph: the partner of each isolate initiator and of each PDI, and the side of
-/// the first strong class directly inside each isolate, and outside of all.
+/// The isolates of a paragraph: the partner of each isolate initiator and of each PDI, and whether the first strong
+/// class directly inside each isolate, and outside of all, is R or AL. Its room is made once and filled in place.
 #[derive(Drop)]
 pub struct IsolateMap {
-    partners: Vec<Option<usize>>,
-    openers: Vec<usize>,
+    partners: Vec<OptionalPosition>,
+    openers: Vec<u32>,
     sides: Vec<bool>,
     outside: bool,
 }
 
 impl Model for IsolateMap {
-    ghost use Rattle.std.specs.Prelude.{◌≡◌, length};
-    ghost use Rattle.explicit.specs.IsolateMaps.{Isolates};
+    ghost use Rattle.std.specs.Prelude.{◌≡◌, ◌≤◌, length};
+    ghost use Rattle.explicit.specs.IsolateMaps.{Isolates, FitsTogether};
 
     ghost Value = { Isolates };
 
     ghost view = { λ map. record { partners = map.partners.items; sides = map.sides.items; outside = map.outside } };
 
-    ghost invariant = { λ map. (length map.openers.items ≡ length map.partners.items) × (length map.sides.items ≡ length map.partners.items) };
+    ghost invariant = { λ map. FitsTogether (length map.partners.items) (length map.openers.items) (length map.sides.items) };
 }
 
 impl IsolateMap {
-    pub fn with_room(alloc: Global, n: usize) -> Result<IsolateMap, AllocError>
+    /// Room for paragraphs of at most `n` units. `Memory` where the room is refused, and for more units than
+    /// positions of four bytes can count (4,294,967,295), whose room is not even asked for.
+    pub fn with_room(alloc: Global, n: usize) -> Result<IsolateMap, Memory>
         ensures { IfOk result (λ map. room map ≡ n) }
     {
-        let partners = vec![in alloc; None; n]?;
+        if n > u32::MAX as usize {
+            return Err(Memory);
+        }
+        let partners = vec![in alloc; OptionalPosition::none(); n]?;
         let openers = vec![in alloc; 0; n]?;
         let sides = vec![in alloc; false; n]?;
         Ok(IsolateMap {
@@ -44,83 +54,102 @@ impl IsolateMap {
         })
     }
 
-    /// Finds the isolates of a paragraph.
-    pub fn fill(&mut self, para: &[Unit])
+    /// Finds the isolates of a paragraph for which there is room. What was found of an earlier one is gone.
+    pub fn fill<L: Ledger>(&mut self, para: &[Unit], steps: &mut Steps<L>)
         requires { length para.now ≤ room self.old }
         ensures same_room { room self.new ≡ room self.old }
         ensures filled { IsFilledFrom self.new (classes_of para.now) }
+        ensures least_steps { steps.old + length para.now ≤ steps.new }
+        ensures most_steps { steps.new ≤ steps.old + 20 * (length para.now + 1) }
     {
-        self.match_partners(para);
-        self.carry_sides(para);
+        match_partners(para, &mut self.partners, &mut self.openers, steps);
+        self.outside = carry_sides(para, &self.partners, &mut self.sides, steps);
     }
 
-    /// Matches PDIs with the last open initiator.
-    fn match_partners(&mut self, para: &[Unit])
-        requires { length para.now ≤ room self.old }
-        ensures same_room { room self.new ≡ room self.old }
-        ensures matched { HasPartners self.new.partners (classes_of para.now) }
-    {
-        let mut depth = 0;
-        for (p, unit) in para.iter().enumerate() {
-            self.partners[p] = None;
-            if unit.class.is_isolate_initiator() {
-                self.openers[depth] = p;
-                depth += 1;
-            } else if unit.class.is_pdi() && depth > 0 {
-                depth -= 1;
-                let opener = self.openers[depth];
-                self.partners[opener] = Some(p);
-                self.partners[p] = Some(opener);
-            }
-        }
-    }
-
-    /// Carries the side of the next strong class from the paragraph's end back, over matched isolates.
-    fn carry_sides(&mut self, para: &[Unit])
-        requires { HasPartners self.old.partners (classes_of para.now) }
-        ensures same_room { room self.new ≡ room self.old }
-        ensures filled { IsFilledFrom self.new (classes_of para.now) }
-    {
-        let mut carried = false;
-        for p in (0..para.len()).rev() {
-            self.sides[p] = carried;
-            let class = para[p].class;
-            carried = if class.is_strong() {
-                class.is_right_to_left()
-            } else {
-                match self.partners[p] {
-                    Some(pdi) if p < pdi => self.sides[pdi],
-                    Some(_) => false,
-                    None if class.is_isolate_initiator() => false,
-                    None => carried,
-                }
-            };
-        }
-        self.outside = carried;
-    }
-
-    /// The PDI of a matched initiator, and the initiator of a matched PDI.
+    /// BD9: the PDI that matches the isolate initiator at the position `p`, the isolate initiator that the PDI at `p`
+    /// matches, and none for all else. `p` is a position of the paragraph that the map was filled from.
     pub fn partner(&self, p: usize) -> Option<usize>
         requires { p < room self.now }
         ensures kept { result ≡ slice_index_or self.now.partners p None }
         ensures matched { (cs : List Class) → IsFilledFrom self.now cs → p < length cs → result ≡ partner_of cs p }
     {
-        self.partners[p]
+        self.partners[p].get()
     }
 
-    /// Whether the first strong class directly inside the isolate that begins at p is R or AL.
-    pub fn is_right_to_left(&self, p: usize) -> bool
+    // P2, P3: whether the first strong class directly inside the isolate that begins at p is R or AL.
+    pub(crate) fn is_right_to_left(&self, p: usize) -> bool
         requires { p < room self.now }
-        ensures kept { result ≡ slice_index_or self.now.sides p false }
-        ensures side { (cs : List Class) → IsFilledFrom self.now cs → p < length cs → is_isolate_initiator (class_at cs p) ≡ true → result ≡ begins_right_to_left cs (first_strong cs (Some p)) }
+        ensures { (cs : List Class) → IsFilledFrom self.now cs → p < length cs → is_isolate_initiator (class_at cs p) ≡ true → result ≡ begins_right_to_left cs (first_strong cs (Some p)) }
     {
         self.sides[p]
     }
 
-    /// Whether the first strong class outside of all isolates is R or AL.
-    pub fn is_right_to_left_outside(&self) -> bool
+    // P2, P3: whether the first strong class outside of all isolates is R or AL.
+    pub(crate) fn is_right_to_left_outside(&self) -> bool
         ensures { result ≡ self.now.outside }
     {
         self.outside
     }
+}
+
+// BD9: matches each PDI with the last open initiator, and writes the partners of all positions.
+fn match_partners<L: Ledger>(
+    para: &[Unit],
+    partners: &mut [OptionalPosition],
+    openers: &mut [u32],
+    steps: &mut Steps<L>,
+)
+    requires inside { length para.now ≤ length partners.old }
+    requires fits { length openers.old ≡ length partners.old }
+    requires few { length partners.old ≤ u32.MAX }
+    ensures matched { HasPartners partners.new (classes_of para.now) }
+    ensures steps { steps.new ≡ steps.old + length para.now }
+{
+    let mut depth = 0;
+    for (p, unit) in para.iter().enumerate() {
+        steps.tick();
+        partners[p] = OptionalPosition::none();
+        if unit.class.is_isolate_initiator() {
+            openers[depth] = p as u32;
+            depth += 1;
+        } else if unit.class.is_pdi() && depth > 0 {
+            depth -= 1;
+            let opener = openers[depth] as usize;
+            partners[opener] = OptionalPosition::some(p);
+            partners[p] = OptionalPosition::some(opener);
+        }
+    }
+}
+
+// P2, P3: carries the side of the next strong class from the paragraph's end back, over matched isolates. At a position
+// stands the side of what follows it in its isolate, or in the isolate that it begins; the answer is that of the paragraph.
+fn carry_sides<L: Ledger>(
+    para: &[Unit],
+    partners: &[OptionalPosition],
+    sides: &mut [bool],
+    steps: &mut Steps<L>,
+) -> bool
+    requires matched { HasPartners partners.now (classes_of para.now) }
+    requires fits { length sides.old ≡ length partners.now }
+    ensures outside { result ≡ begins_right_to_left (classes_of para.now) (first_strong (classes_of para.now) None) }
+    ensures sides { HasSides sides.new (classes_of para.now) }
+    ensures steps { steps.new ≡ steps.old + length para.now }
+{
+    let mut carried = false;
+    for p in (0..para.len()).rev() {
+        steps.tick();
+        sides[p] = carried;
+        let class = para[p].class;
+        carried = if class.is_strong() {
+            class.is_right_to_left()
+        } else {
+            match partners[p].get() {
+                Some(pdi) if p < pdi => sides[pdi],
+                Some(_) => false,
+                None if class.is_isolate_initiator() => false,
+                None => carried,
+            }
+        };
+    }
+    carried
 }

@@ -1,22 +1,45 @@
-//! Laws of explicit levels, for the layers above.
-ghost use Rattle.std.specs.Prelude.{◌≡◌, ◌≤◌, ◌++◌, ℕ, List, Some, reverse};
-ghost use Rattle.units.specs.Explicit.{chain};
-ghost use Rattle.explicit.specs.StatusStacks.{IsCut};
+//! Laws of isolates and of explicit levels, for the layers above.
+ghost use Rattle.std.specs.Prelude.{◌≡◌, ◌<◌, ◌≤◌, ◌++◌, ◌⊎◌, ℕ, List, Some, IfSome, reverse};
+ghost use Rattle.std.specs.Option.{option_map};
+ghost use Rattle.units.specs.Classes.{classes_of};
+ghost use Rattle.units.specs.Explicit.{chain, explicit_at};
 ghost use Rattle.units.specs.Isolates.{matching_pdi};
-ghost use Rattle.explicit.specs.Levels.{level_at};
+ghost use Rattle.units.specs.Paragraphs.{SeparatorOnlyLast};
+ghost use Rattle.units.specs.Runs.{leveled_of, IsLeveled, IsNested};
+ghost use Rattle.units.specs.declared.bracket.Unit.{Unit as BidiUnit};
 ghost use Rattle.units.specs.declared.class.Class.{Class};
+ghost use Rattle.explicit.specs.IsolateNesting.{IsWithin, AreApart};
+ghost use Rattle.explicit.specs.StatusStacks.{IsCut};
 
-/// No position has a level above 125.
+/// Isolates nest or are apart (BD9): the one that begins later lies within the other, or no position lies in both.
+pub fn isolates_nest()
+    ensures { (cs : List Class) (outer inner : ℕ) → outer < inner → IsWithin cs inner outer ⊎ AreApart cs inner outer }
+{}
+
+/// No position has an explicit level above 125 (BD2).
 pub fn levels_are_bounded()
-    ensures { (cs : List Class) (para p : ℕ) → para ≤ 1 → level_at cs para p ≤ 125 }
+    ensures { (cs : List Class) (para p : ℕ) → para ≤ 1 → IfSome (explicit_at cs para p) (λ place. place.0 ≤ 125) }
 {}
 
-/// A matched isolate initiator and its PDI have equal levels.
+/// A matched isolate initiator and its PDI have one explicit level (X5a to X6a).
 pub fn matched_levels_are_equal()
-    ensures { (cs : List Class) (para i j : ℕ) → matching_pdi cs i ≡ Some j → level_at cs para i ≡ level_at cs para j }
+    ensures { (cs : List Class) (para i j : ℕ) → matching_pdi cs i ≡ Some j → option_map (λ place. place.0) (explicit_at cs para i) ≡ option_map (λ place. place.0) (explicit_at cs para j) }
 {}
 
-/// The initiators around a position that were refused are a tail of its chain.
+/// The initiators around a position that were refused are a tail of its chain, and the three counts of X1 are those of
+/// the isolates in that tail, of the embeddings in it before its first isolate, and of the isolates before it.
 pub fn refused_are_a_tail()
     ensures { (cs : List Class) (para p : ℕ) → (refused : List ℕ) × (taken : List ℕ) × (chain cs p ≡ reverse taken ++ reverse refused) × IsCut cs para refused taken }
+{}
+
+/// What isolating run sequences need of the levels and the matching PDIs of a list of classes: levels up to 125, and
+/// that a matching PDI comes later (X1 to X9, BD9).
+pub fn explicit_is_leveled()
+    ensures { (cs : List Class) (para : ℕ) → para ≤ 1 → IsLeveled (leveled_of cs para) }
+{}
+
+/// What isolating run sequences need of the isolates of a paragraph: a matched initiator and its PDI are at one level,
+/// no other initiator has that PDI, and what remains between them is all at that level or not at all (X1 to X9, BD9).
+pub fn explicit_is_nested()
+    ensures { (units : List BidiUnit) (para : ℕ) → SeparatorOnlyLast units → IsNested (leveled_of (classes_of units) para) }
 {}

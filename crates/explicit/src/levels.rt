@@ -1,25 +1,29 @@
-//! The explicit levels of a paragraph.
-ghost use Rattle.std.specs.Prelude.{◌≡◌, ◌<◌, ◌≤◌, ℕ, List, Bool, Option, Some, None, length, slice_index_or, IfOk};
+//! The explicit levels of a paragraph (X1 to X9).
+ghost use Rattle.std.specs.Prelude.{◌≡◌, ◌+◌, ◌*◌, ◌<◌, ◌≤◌, ℕ, List, Bool, Option, Some, None, length, slice_index_or, IfOk, IfSome};
 ghost use Rattle.units.specs.Classes.{class_at, classes_of};
-ghost use Rattle.units.specs.Isolates.{begins_right_to_left, first_strong};
+ghost use Rattle.units.specs.Isolates.{begins_right_to_left, first_strong, level_of_para};
 ghost use Rattle.units.specs.Explicit.{explicit_at, wants_odd};
 ghost use Rattle.units.specs.declared.class.Class.{Class};
 ghost use Rattle.units.specs.declared.class.Class.TheVariants.{FSI};
 ghost use Rattle.explicit.specs.IsolateMaps.{IsFilledFrom};
-ghost use Rattle.units.specs.Isolates.{level_of_para};
+ghost use Rattle.explicit.specs.ExplicitLevels.{HoldsLevels};
 
 use crate::isolates::IsolateMap;
 use crate::status::StatusStack;
-use std::alloc::{AllocError, Global};
+use std::alloc::Global;
 use std::marker::Model;
+use std::sync::ledger::Ledger;
 use units::bracket::Unit;
 use units::class::Class;
-use units::level::ParaLevel;
+use units::level::{Level, ParaLevel};
+use units::memory::Memory;
+use units::steps::Steps;
 
-/// The explicit level and the current class of each position, or none where it is removed.
+/// The explicit level and the current class of each position of a paragraph, or none where X9 removes it. Its room is
+/// made once and filled in place. Contracts see the list of all room.
 #[derive(Drop)]
 pub struct Explicit {
-    places: Vec<Option<(u8, Class)>>,
+    places: Vec<Option<(Level, Class)>>,
 }
 
 impl Model for Explicit {
@@ -32,24 +36,27 @@ impl Model for Explicit {
 }
 
 impl Explicit {
-    /// Room for a paragraph of at most so many units.
-    pub fn with_room(alloc: Global, n: usize) -> Result<Explicit, AllocError>
+    /// Room for paragraphs of at most `n` units. `Memory` where it is refused.
+    pub fn with_room(alloc: Global, n: usize) -> Result<Explicit, Memory>
         ensures { IfOk result (λ explicit. length explicit ≡ n) }
     {
         let places = vec![in alloc; None; n]?;
         Ok(Explicit { places })
     }
 
-    /// What was found of the position p.
-    pub fn at(&self, p: usize) -> Option<(u8, Class)>
+    /// X1 to X9: the explicit level, 0 to 125, and the current class of the position `p`, or none where it is removed.
+    /// `p` is a position of the paragraph that was filled from.
+    pub fn at(&self, p: usize) -> Option<(Level, Class)>
         requires { p < length self.now }
-        ensures { result ≡ slice_index_or self.now p None }
+        ensures kept { result ≡ slice_index_or self.now p None }
+        ensures found { (cs : List Class) (para : ℕ) → HoldsLevels self.now cs para → p < length cs → result ≡ explicit_at cs para p }
+        ensures within { (cs : List Class) (para : ℕ) → HoldsLevels self.now cs para → para ≤ 1 → p < length cs → IfSome result (λ place. place.0 ≤ 125) }
     {
         self.places[p]
     }
 }
 
-/// Whether an initiator asks for an odd level; an FSI does where what it holds begins right to left.
+// X2, X4, X5a, X5c: whether an initiator asks for an odd level; an FSI does where what it holds begins right to left.
 fn asks_odd(class: Class, right_to_left: bool) -> bool
     ensures { (cs : List Class) (q : ℕ) → class ≡ class_at cs q → (class ≡ FSI → right_to_left ≡ begins_right_to_left cs (first_strong cs (Some q))) → result ≡ wants_odd cs q class }
 {
@@ -60,38 +67,45 @@ fn asks_odd(class: Class, right_to_left: bool) -> bool
     }
 }
 
-/// The paragraph's level as a number.
-fn base_level(level: ParaLevel) -> u8
-    ensures value { result ≡ level_of_para level }
-    ensures low { result ≤ 1 }
-{
-    match level {
-        ParaLevel::Zero => 0,
-        ParaLevel::One => 1,
-    }
-}
-
-/// Finds the level and the current class of each position.
-fn find_places(para: &[Unit], map: &IsolateMap, base: u8, places: &mut [Option<(u8, Class)>])
+// X1 to X9: finds the level and the current class of each position.
+fn find_places<L: Ledger>(
+    para: &[Unit],
+    map: &IsolateMap,
+    base: Level,
+    places: &mut [Option<(Level, Class)>],
+    steps: &mut Steps<L>,
+)
     requires base { base ≤ 1 }
     requires room { length para.now ≤ length places.old }
     requires filled { IsFilledFrom map.now (classes_of para.now) }
-    ensures { (p : ℕ) → p < length para.now → slice_index_or places.new p None ≡ explicit_at (classes_of para.now) base p }
+    ensures found { HoldsLevels places.new (classes_of para.now) base }
+    ensures least_steps { steps.old + length para.now ≤ steps.new }
+    ensures most_steps { steps.new ≤ steps.old + 1 + 2 * length para.now }
 {
-    let mut nesting = StatusStack::new(base);
+    let mut open = StatusStack::new(base);
     for (p, unit) in para.iter().enumerate() {
-        nesting.close(unit.class);
-        places[p] = nesting.place(unit.class, base);
-        nesting.open(unit.class, asks_odd(unit.class, map.is_right_to_left(p)));
+        steps.tick();
+        open.close(unit.class, steps);
+        places[p] = open.place(unit.class, base);
+        open.open(unit.class, asks_odd(unit.class, map.is_right_to_left(p)));
     }
 }
 
-/// Finds the explicit levels of a paragraph of this level, whose isolates the map was filled from.
-pub fn explicit_levels(para: &[Unit], map: &IsolateMap, level: ParaLevel, out: &mut Explicit)
+/// X1 to X9: finds the explicit levels and current classes of a paragraph of this level, for which `out` has room and
+/// from which `map` was filled. What was found of an earlier one is gone.
+pub fn explicit_levels<L: Ledger>(
+    para: &[Unit],
+    map: &IsolateMap,
+    level: ParaLevel,
+    out: &mut Explicit,
+    steps: &mut Steps<L>,
+)
     requires room { length para.now ≤ length out.old }
     requires filled { IsFilledFrom map.now (classes_of para.now) }
     ensures same_room { length out.new ≡ length out.old }
-    ensures found { (p : ℕ) → p < length para.now → slice_index_or out.new p None ≡ explicit_at (classes_of para.now) (level_of_para level) p }
+    ensures found { HoldsLevels out.new (classes_of para.now) (level_of_para level) }
+    ensures least_steps { steps.old + length para.now ≤ steps.new }
+    ensures most_steps { steps.new ≤ steps.old + 20 * (length para.now + 1) }
 {
-    find_places(para, map, base_level(level), &mut out.places);
+    find_places(para, map, level.level(), &mut out.places, steps);
 }

@@ -9,7 +9,7 @@ pub mod laws;
 pub mod levels;
 pub mod para_level;
 pub mod paragraph;
-pub mod status;
+mod status;
 
 use paragraph::Paragraphs;
 use units::bracket::Unit;

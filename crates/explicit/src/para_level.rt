@@ -1,18 +1,27 @@
-ghost use Rattle.std.specs.Prelude.{◌≡◌, ℕ, ◌<◌, ◌≤◌, length, Option, IfSome};
-ghost use Rattle.units.specs.Classes.{class_at, classes_of, is_isolate_initiator};
-ghost use Rattle.units.specs.Isolates.{first_strong, begins_right_to_left, para_level_of};
+//! The level of a paragraph (P2, P3).
+ghost use Rattle.std.specs.Prelude.{◌≡◌};
+ghost use Rattle.units.specs.Classes.{classes_of};
+ghost use Rattle.units.specs.Isolates.{para_level_of, level_of_para};
 ghost use Rattle.explicit.specs.IsolateMaps.{IsFilledFrom};
-ghost use Rattle.units.specs.Isolates.{level_of_para};
 
 use crate::isolates::IsolateMap;
+use std::sync::ledger::Ledger;
 use units::bracket::Unit;
 use units::level::{Direction, ParaLevel};
+use units::steps::Steps;
 
+/// The level of a paragraph: 1 where the first strong class outside of all isolates is R or AL and 0 elsewhere (P2, P3),
+/// or the level that is asked for. `map` was filled from the paragraph, and knows the answer: no step is taken.
 #[tactic(auto, unfolding(units::specs::Isolates::para_level_of))]
-/// The same level, by what the map keeps.
-pub fn para_level(para: &[Unit], map: &IsolateMap, direction: Direction) -> ParaLevel
+pub fn para_level<L: Ledger>(
+    para: &[Unit],
+    map: &IsolateMap,
+    direction: Direction,
+    steps: &mut Steps<L>,
+) -> ParaLevel
     requires { IsFilledFrom map.now (classes_of para.now) }
-    ensures { level_of_para result ≡ para_level_of (classes_of para.now) direction }
+    ensures level { level_of_para result ≡ para_level_of (classes_of para.now) direction }
+    ensures no_steps { steps.new ≡ steps.old }
 {
     match direction {
         Direction::Auto => {

@@ -1,27 +1,42 @@
-//! The initiators that are open, as the pass over a paragraph keeps them.
-ghost use Rattle.std.specs.Prelude.{◌≡◌, ◌<◌, ◌≤◌, ◌+◌, ◌^◌, ◌-◌, ◌==◌, ◌&&◌, nat_le, true, false, ℕ, List, [], ◌∷◌, Bool, slice_index_or, length, if◌then◌else◌};
+//! The initiators that are open, as one pass over a paragraph keeps them (X1 to X8).
+ghost use Rattle.std.specs.Prelude.{◌≡◌, ◌<◌, ◌≤◌, ◌+◌, ◌-◌, ◌==◌, ◌&&◌, nat_le, true, false, ℕ, List, [], ◌∷◌, Bool, slice_index_or, if◌then◌else◌};
 ghost use Rattle.arrayvec.specs.ArrayVec.{array_vec_len};
 ghost use Rattle.units.specs.Classes.{class_at, is_isolate_initiator};
 ghost use Rattle.units.specs.Explicit.{next_odd, next_even, override_of, wants_odd};
 ghost use Rattle.units.specs.declared.class.Class.{Class};
 ghost use Rattle.explicit.specs.OpenInitiators.{after_pdi, after_pdf, left_open, opened};
-ghost use Rattle.explicit.specs.StatusStacks.{Represents, IsKept, before_isolate, is_taken, entry_at, state_within, placed};
+ghost use Rattle.explicit.specs.StatusStacks.{Represents, IsKept, before_isolate, is_taken, entry_at, state_within, placed, size_of};
 
 use arrayvec::ArrayVec;
+use std::sync::ledger::Ledger;
 use units::class::Class;
+use units::level::{Level, ParaLevel};
+use units::steps::Steps;
 
-/// The deepest level that an initiator may ask for.
+// BD2: the greatest explicit level.
 const MAX_DEPTH: u8 = 125;
 
-/// What holds inside an initiator that was taken.
-#[derive(Clone, Copy, Debug, Default, PartialEq, Eq)]
+/// X1: what holds inside an initiator that was taken (a directional status).
+#[derive(Clone, Copy, Debug, PartialEq, Eq)]
 pub struct Status {
-    pub level: u8,
+    pub level: Level,
     pub override_class: Option<Class>,
     pub is_isolate: bool,
 }
 
-/// The initiators that are open: an entry for each that was taken, and counts of the others.
+impl Default for Status {
+    fn default() -> Self {
+        Status {
+            level: ParaLevel::Zero.level(),
+            override_class: None,
+            is_isolate: false,
+        }
+    }
+}
+
+/// X1: the stack of directional statuses, one for the paragraph and one for each open initiator that was taken, and
+/// the counts of overflow isolates, of overflow embeddings and of the open isolates that were taken. A level rises
+/// with each entry from 0 or 1 to at most 125, so 126 entries are the most.
 #[derive(Drop)]
 pub struct StatusStack {
     entries: ArrayVec<Status, 127>,
@@ -30,19 +45,19 @@ pub struct StatusStack {
     valid_isolates: usize,
 }
 
-/// The least odd or the least even level above this one.
-fn level_above(level: u8, odd: bool) -> u8
-    requires { level ≤ 125 }
-    ensures { result ≡ (if odd then next_odd level else next_even level) }
+// X2 to X5c: how far the least odd or the least even level above this one is.
+fn rise(level: Level, odd: bool) -> u8
+    ensures value { level + result ≡ (if odd then next_odd level else next_even level) }
+    ensures small { result ≤ 2 }
 {
     if odd {
-        level + 1 + level % 2
+        1 + level.get() % 2
     } else {
-        level + 2 - level % 2
+        2 - level.get() % 2
     }
 }
 
-/// The class that an initiator forces on what it holds.
+// X4, X5: the class that an initiator gives to what it holds.
 fn overridden_by(class: Class) -> Option<Class>
     ensures { result ≡ override_of class }
 {
@@ -54,9 +69,10 @@ fn overridden_by(class: Class) -> Option<Class>
 }
 
 impl StatusStack {
-    /// No initiator is open in a paragraph of this level.
-    pub fn new(base: u8) -> Self
-        ensures { (cs : List Class) → Represents cs base [] result }
+    /// X1: no initiator is open in a paragraph of this level.
+    pub fn new(base: Level) -> Self
+        ensures represents { (cs : List Class) → Represents cs base [] result }
+        ensures size { size_of result ≡ 1 }
     {
         let mut entries = ArrayVec::new();
         entries.push(Status {
@@ -72,16 +88,16 @@ impl StatusStack {
         }
     }
 
-    /// What holds inside the innermost initiator that was taken.
-    pub fn current(&self) -> Status
-        requires { 0 < array_vec_len self.now.entries }
-        ensures { result ≡ slice_index_or self.now.entries.items (array_vec_len self.now.entries - 1) result }
+    // What holds inside the innermost initiator that was taken.
+    fn current(&self) -> Status
+        requires { 0 < size_of self.now }
+        ensures { result ≡ slice_index_or self.now.entries.items (size_of self.now - 1) result }
     {
         self.entries[self.entries.len() - 1]
     }
 
-    /// The level and the current class of a position of this class, or none where it is removed.
-    pub fn place(&self, class: Class, base: u8) -> Option<(u8, Class)>
+    /// X5a to X9: the level and the current class of a position of this class, or none where it is removed.
+    pub fn place(&self, class: Class, base: Level) -> Option<(Level, Class)>
         requires { IsKept self.now }
         ensures { (cs : List Class) (qs : List ℕ) → Represents cs base qs self.now → result ≡ placed (state_within cs base qs) base class }
     {
@@ -95,36 +111,42 @@ impl StatusStack {
         Some((current.level, current.override_class.unwrap_or(class)))
     }
 
-    /// Drops the entries from the last isolate's on.
-    fn pop_isolate(&mut self)
+    // X6a: drops the entries from the last isolate's on.
+    fn pop_isolate<L: Ledger>(&mut self, steps: &mut Steps<L>)
         ensures popped { self.new.entries.items ≡ before_isolate self.old.entries.items }
         ensures overflow_isolates { self.new.overflow_isolates ≡ self.old.overflow_isolates }
         ensures overflow_embeddings { self.new.overflow_embeddings ≡ self.old.overflow_embeddings }
         ensures valid_isolates { self.new.valid_isolates ≡ self.old.valid_isolates }
+        ensures least_steps { steps.old ≤ steps.new }
+        ensures all_steps { steps.new + size_of self.new ≡ steps.old + size_of self.old }
     {
         while let Some(entry) = self.entries.pop() {
+            steps.tick();
             if entry.is_isolate {
                 break;
             }
         }
     }
 
-    /// A PDI closes the innermost open isolate and all in it.
-    fn close_isolate(&mut self)
-        ensures { (cs : List Class) (para : ℕ) (qs : List ℕ) → Represents cs para qs self.old → Represents cs para (after_pdi cs qs) self.new }
+    // X6a: a PDI closes the innermost open isolate and all in it.
+    fn close_isolate<L: Ledger>(&mut self, steps: &mut Steps<L>)
+        ensures closed { (cs : List Class) (para : ℕ) (qs : List ℕ) → Represents cs para qs self.old → Represents cs para (after_pdi cs qs) self.new }
+        ensures least_steps { steps.old ≤ steps.new }
+        ensures all_steps { steps.new + size_of self.new ≡ steps.old + size_of self.old }
     {
         if self.overflow_isolates > 0 {
             self.overflow_isolates -= 1;
         } else if self.valid_isolates > 0 {
-            self.pop_isolate();
+            self.pop_isolate(steps);
             self.overflow_embeddings = 0;
             self.valid_isolates -= 1;
         }
     }
 
-    /// A PDF closes the innermost open initiator, where that is an embedding.
+    // X7: a PDF closes the innermost open initiator, where that is an embedding.
     fn close_embedding(&mut self)
-        ensures { (cs : List Class) (para : ℕ) (qs : List ℕ) → Represents cs para qs self.old → Represents cs para (after_pdf cs qs) self.new }
+        ensures closed { (cs : List Class) (para : ℕ) (qs : List ℕ) → Represents cs para qs self.old → Represents cs para (after_pdf cs qs) self.new }
+        ensures size { size_of self.new ≤ size_of self.old }
     {
         if self.overflow_isolates > 0 {
             return;
@@ -136,37 +158,41 @@ impl StatusStack {
         }
     }
 
-    /// Closes what this class closes.
-    pub fn close(&mut self, class: Class)
-        ensures { (cs : List Class) (para : ℕ) (qs : List ℕ) → Represents cs para qs self.old → Represents cs para (left_open cs class qs) self.new }
+    /// X6a, X7: closes what this class closes. Each entry that is dropped is a step.
+    pub fn close<L: Ledger>(&mut self, class: Class, steps: &mut Steps<L>)
+        ensures closed { (cs : List Class) (para : ℕ) (qs : List ℕ) → Represents cs para qs self.old → Represents cs para (left_open cs class qs) self.new }
+        ensures least_steps { steps.old ≤ steps.new }
+        ensures most_steps { steps.new + size_of self.new ≤ steps.old + size_of self.old }
     {
         match class {
-            Class::PDI => self.close_isolate(),
+            Class::PDI => self.close_isolate(steps),
             Class::PDF => self.close_embedding(),
             _ => {}
         }
     }
 
-    /// An initiator that asks for this level is taken.
+    // BD2, X2 to X5c: an initiator that asks for this level is taken.
     fn takes(&self, level: u8) -> bool
         ensures { result ≡ ((self.now.overflow_isolates == 0 && self.now.overflow_embeddings == 0) && nat_le level 125) }
     {
         self.overflow_isolates == 0 && self.overflow_embeddings == 0 && level <= MAX_DEPTH
     }
 
-    /// Opens an initiator that is taken.
+    // X2 to X5c: opens an initiator that is taken.
     fn take(&mut self, entry: Status)
         requires { IsKept self.old }
-        ensures { (cs : List Class) (para : ℕ) (qs : List ℕ) (p : ℕ) → is_taken cs para p qs ≡ true → entry ≡ entry_at cs para p qs → Represents cs para qs self.old → Represents cs para (p ∷ qs) self.new }
+        ensures opened { (cs : List Class) (para : ℕ) (qs : List ℕ) (p : ℕ) → is_taken cs para p qs ≡ true → entry ≡ entry_at cs para p qs → Represents cs para qs self.old → Represents cs para (p ∷ qs) self.new }
+        ensures size { size_of self.new ≡ size_of self.old + 1 }
     {
         self.valid_isolates += usize::from(entry.is_isolate);
         self.entries.push(entry);
     }
 
-    /// Counts an initiator that is not taken.
+    // X2 to X5c: counts an initiator that is not taken. An overflow embedding inside an overflow isolate is not counted.
     fn refuse(&mut self, is_isolate: bool)
         requires { IsKept self.old }
-        ensures { (cs : List Class) (para : ℕ) (qs : List ℕ) (p : ℕ) → is_taken cs para p qs ≡ false → is_isolate ≡ is_isolate_initiator (class_at cs p) → Represents cs para qs self.old → Represents cs para (p ∷ qs) self.new }
+        ensures opened { (cs : List Class) (para : ℕ) (qs : List ℕ) (p : ℕ) → is_taken cs para p qs ≡ false → is_isolate ≡ is_isolate_initiator (class_at cs p) → Represents cs para qs self.old → Represents cs para (p ∷ qs) self.new }
+        ensures size { size_of self.new ≡ size_of self.old }
     {
         if is_isolate {
             self.overflow_isolates += 1;
@@ -175,15 +201,17 @@ impl StatusStack {
         }
     }
 
-    /// Opens an initiator; `odd` says whether it asks for an odd level.
+    // X2 to X5c: opens an initiator; `odd` says whether it asks for an odd level.
     fn open_initiator(&mut self, class: Class, odd: bool)
         requires { IsKept self.old }
-        ensures { (cs : List Class) (para : ℕ) (qs : List ℕ) (p : ℕ) → class ≡ class_at cs p → odd ≡ wants_odd cs p class → Represents cs para qs self.old → Represents cs para (p ∷ qs) self.new }
+        ensures opened { (cs : List Class) (para : ℕ) (qs : List ℕ) (p : ℕ) → class ≡ class_at cs p → odd ≡ wants_odd cs p class → Represents cs para qs self.old → Represents cs para (p ∷ qs) self.new }
+        ensures size { size_of self.new ≤ size_of self.old + 1 }
     {
-        let level = level_above(self.current().level, odd);
-        if self.takes(level) {
+        let level = self.current().level;
+        let by = rise(level, odd);
+        if self.takes(level.get() + by) {
             self.take(Status {
-                level,
+                level: level.raised(by),
                 override_class: overridden_by(class),
                 is_isolate: class.is_isolate_initiator(),
             });
@@ -192,10 +220,11 @@ impl StatusStack {
         }
     }
 
-    /// Opens this class, where it is an initiator; `odd` says whether that asks for an odd level.
+    /// X2 to X5c: opens this class, where it is an initiator; `odd` says whether that asks for an odd level.
     pub fn open(&mut self, class: Class, odd: bool)
         requires { IsKept self.old }
-        ensures { (cs : List Class) (para : ℕ) (qs : List ℕ) (p : ℕ) → class ≡ class_at cs p → odd ≡ wants_odd cs p class → Represents cs para qs self.old → Represents cs para (opened cs p qs) self.new }
+        ensures opened { (cs : List Class) (para : ℕ) (qs : List ℕ) (p : ℕ) → class ≡ class_at cs p → odd ≡ wants_odd cs p class → Represents cs para qs self.old → Represents cs para (opened cs p qs) self.new }
+        ensures size { size_of self.new ≤ size_of self.old + 1 }
     {
         if class.is_initiator() {
             self.open_initiator(class, odd);

@@ -8,27 +8,32 @@ use Rattle.explicit.proofs.Places.{open_before, left-is, open_before-next, expli
 use Rattle.explicit.proofs.levels.find_places.Goals as goal
 
 pub loop-p-init : goal.loop-p-init
-loop-p-init c = record { keeps = c.new-nesting.ensures (classes_of c.args.para.now); filled = λ k l. absurd (omega arith) }
+loop-p-init g c = record {
+  keeps = c.new-open.ensures.represents (classes_of c.args.para.now);
+  filled = λ k l. absurd (omega arith);
+  least = omega arith;
+  most = omega (arith, c.new-open.ensures.size);
+}
 
 pub place-requires : goal.place-requires
-place-requires c = kept-at c.args.para.now c.args.base c.loop-p.p _ c.close.new.self c.requires.base c.loop-p-test.true (omega arith) (class-of c.args.para.now c.loop-p.p _ c.loop-p-test.true) (c.close.ensures (classes_of c.args.para.now) c.args.base (open_before (classes_of c.args.para.now) c.loop-p.p) c.loop-p.invariant.keeps)
+place-requires g c = kept-at c.args.para.now c.args.base c.loop-p.p _ c.close.new.self c.requires.base c.loop-p-test.true (omega arith) (class-of c.args.para.now c.loop-p.p _ c.loop-p-test.true) (c.close.ensures.closed (classes_of c.args.para.now) c.args.base (open_before (classes_of c.args.para.now) c.loop-p.p) c.loop-p.invariant.keeps)
 
 pub is_right_to_left-requires : goal.is_right_to_left-requires
-is_right_to_left-requires c = let l = length-classes_of c.args.para.now in omega (arith, l, c.requires.filled.matched.enough)
+is_right_to_left-requires g c = let l = length-classes_of c.args.para.now in omega (arith, l, c.requires.filled.matched.enough)
 
 pub open-requires : goal.open-requires
-open-requires c = kept-at c.args.para.now c.args.base c.loop-p.p _ c.close.new.self c.requires.base c.loop-p-test.true (omega arith) (class-of c.args.para.now c.loop-p.p _ c.loop-p-test.true) (c.close.ensures (classes_of c.args.para.now) c.args.base (open_before (classes_of c.args.para.now) c.loop-p.p) c.loop-p.invariant.keeps)
+open-requires g c = kept-at c.args.para.now c.args.base c.loop-p.p _ c.close.new.self c.requires.base c.loop-p-test.true (omega arith) (class-of c.args.para.now c.loop-p.p _ c.loop-p-test.true) (c.close.ensures.closed (classes_of c.args.para.now) c.args.base (open_before (classes_of c.args.para.now) c.loop-p.p) c.loop-p.invariant.keeps)
 
 pub loop-p-preserved : goal.loop-p-preserved
-loop-p-preserved c =
+loop-p-preserved g c =
     let cs : List Class = classes_of c.args.para.now in
     let p : ℕ = c.loop-p.p in
     let l : p < length cs = omega (arith, length-classes_of c.args.para.now) in
     let short : p < length c.loop-p.places = omega (arith, c.requires.room) in
     let e = class-of c.args.para.now p _ c.loop-p-test.true in
-    let r = left-is cs c.args.base p _ c.close.new.self l e (c.close.ensures cs c.args.base (open_before cs p) c.loop-p.invariant.keeps) in
-    let o = c.asks_odd.ensures cs p e (λ f. c.is_right_to_left.ensures.side cs c.requires.filled l (ap is_isolate_initiator (sym e ∙ f))) in
-    let k = c.open.ensures cs c.args.base (holders cs p) p e o r in
+    let r = left-is cs c.args.base p _ c.close.new.self l e (c.close.ensures.closed cs c.args.base (open_before cs p) c.loop-p.invariant.keeps) in
+    let o = c.asks_odd.ensures cs p e (λ f. c.is_right_to_left.ensures cs c.requires.filled l (ap is_isolate_initiator (sym e ∙ f))) in
+    let k = c.open.ensures.opened cs c.args.base (holders cs p) p e o r in
     let P : List ℕ → Type 0 = λ qs. Represents cs c.args.base qs c.open.new.self in
     record {
       keeps = subst P (open_before-next cs p) k;
@@ -36,4 +41,6 @@ loop-p-preserved c =
         | inl same ↦ rw same (rw get_or-set_same (c.place.ensures cs (holders cs p) r ∙ ap (λ x. placed (state_within cs c.args.base (holders cs p)) c.args.base x) e ∙ explicit-placed cs c.args.base p))
         | inr other ↦ rw get_or-set_other (c.loop-p.invariant.filled q (omega arith))
       ];
+      least = omega (arith, c.tick.ensures, c.close.ensures.least_steps, c.loop-p.invariant.least);
+      most = omega (arith, c.tick.ensures, c.close.ensures.most_steps, c.open.ensures.size, c.loop-p.invariant.most);
     }

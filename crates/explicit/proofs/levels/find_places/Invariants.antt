@@ -1,13 +1,15 @@
-use Rattle.std.proofs.Common.{◌≡◌, ℕ, ◌<◌, get_or}
+use Rattle.std.proofs.Common.{◌≡◌, ℕ, ◌+◌, ◌*◌, ◌<◌, ◌≤◌, get_or}
 use Rattle.std.specs.Prelude.{None}
 use Rattle.units.specs.Classes.{classes_of}
 use Rattle.units.specs.Explicit.{explicit_at}
-use Rattle.explicit.specs.StatusStacks.{Represents}
+use Rattle.explicit.specs.StatusStacks.{Represents, size_of}
 use Rattle.explicit.proofs.Places.{open_before}
 use Rattle.explicit.proofs.levels.find_places.Given as goal
 
 abbrev pub invariant-loop-p : goal.invariant-loop-p
-invariant-loop-p l = record {
-  keeps : Represents (classes_of l.para) l.base (open_before (classes_of l.para) l.p) l.nesting;
+invariant-loop-p g l = record {
+  keeps : Represents (classes_of l.para) l.base (open_before (classes_of l.para) l.p) l.open;
   filled : (k : ℕ) → k < l.p → get_or l.places k None ≡ explicit_at (classes_of l.para) l.base k;
+  least : l.fn.steps + l.p ≤ l.steps;
+  most : l.steps + size_of l.open ≤ l.fn.steps + 1 + 2 * l.p;
 }

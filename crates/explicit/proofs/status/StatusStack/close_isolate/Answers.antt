@@ -2,11 +2,11 @@ use Rattle.std.proofs.Common.{refl, arith}
 use Rattle.explicit.proofs.Represented.{pdi-overflow, pdi-ended, pdi-unmatched}
 use Rattle.explicit.proofs.status.StatusStack.close_isolate.Goals as goal
 
-pub returns-then-self-gt0 : goal.returns-then-self-gt0
-returns-then-self-gt0 c = λ cs para qs r. pdi-overflow cs para qs c.args.self.now r (omega arith)
+pub returns-then-self-gt0-clause-closed : goal.returns-then-self-gt0-clause-closed
+returns-then-self-gt0-clause-closed g c = λ cs para qs r. pdi-overflow cs para qs c.args.self.now r (omega arith)
 
-pub returns-then-self-gt0-2 : goal.returns-then-self-gt0-2
-returns-then-self-gt0-2 c = λ cs para qs r. pdi-ended cs para qs c.args.self.now _ r (omega arith) (omega arith) c.pop_isolate.ensures.popped c.pop_isolate.ensures.overflow_isolates refl (omega (arith, c.pop_isolate.ensures.valid_isolates))
+pub returns-then-self-gt0-2-clause-closed : goal.returns-then-self-gt0-2-clause-closed
+returns-then-self-gt0-2-clause-closed g c = λ cs para qs r. pdi-ended cs para qs c.args.self.now _ r (omega arith) (omega arith) c.pop_isolate.ensures.popped c.pop_isolate.ensures.overflow_isolates refl (omega (arith, c.pop_isolate.ensures.valid_isolates))
 
-pub returns-else-self-gt0-2 : goal.returns-else-self-gt0-2
-returns-else-self-gt0-2 c = λ cs para qs r. pdi-unmatched cs para qs c.args.self.now r (omega arith) (omega arith)
+pub returns-else-self-gt0-2-clause-closed : goal.returns-else-self-gt0-2-clause-closed
+returns-else-self-gt0-2-clause-closed g c = λ cs para qs r. pdi-unmatched cs para qs c.args.self.now r (omega arith) (omega arith)
