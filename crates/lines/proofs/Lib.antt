@@ -1,0 +1,9 @@
+pub mod Least
+pub mod Lists
+pub mod Turning
+pub mod Stretches
+pub mod Remaining
+pub mod LineOrder
+pub mod Levels
+pub mod Turns
+pub mod Law

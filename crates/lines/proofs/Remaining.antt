@@ -1,0 +1,91 @@
+-- The remaining positions of a line, rising.
+use Rattle.std.proofs.Common.{◌≡◌, ℕ, ◌+◌, ◌-◌, ◌<◌, ◌≤◌, Bool, true, false, cond, Option, None, Some, List, [], ◌∷◌, ◌++◌, length, zero, suc, refl, ap, ◌∙◌, inl, inr, arith}
+use Rattle.std.specs.Prelude.{filter, slice_index_or}
+use Rattle.std.specs.Option.{is_some}
+use Rattle.std.proofs.lemmas.Bool.{cases_lt}
+use Rattle.std.proofs.lemmas.List.Elements.{filter-append}
+use Rattle.units.specs.Positions.{positions_from}
+use Rattle.lines.specs.Turning.{Holds, Ordered, is_remaining, remaining}
+
+some_level : (o : Option ℕ) → is_some o ≡ true → (v : ℕ) × (o ≡ Some v)
+some_level None h = cc
+some_level (Some v) h = (v, refl)
+
+no_level : (o : Option ℕ) (v : ℕ) → is_some o ≡ false → o ≡ Some v → ⊥
+no_level None v h e = cc
+no_level (Some w) v h e = cc
+
+-- rising remaining positions of a line
+pub record Rising (levels : List (Option ℕ)) (start end : ℕ) (xs : List ℕ) : Type 0 where
+  pub holds : Holds levels start end xs
+  pub ordered : Ordered (λ a b. a < b) xs
+
+rising_more : (levels : List (Option ℕ)) (i end : ℕ) (xs : List ℕ) (b : Bool) → i < end → is_remaining levels i ≡ b → Rising levels (i + 1) end xs → Rising levels i end (cond b (i ∷ xs) xs)
+rising_more levels i end xs false lt e t =
+    record {
+      holds = record {
+        sound = λ p hp. let s = t.holds.sound p hp in (omega (arith, s.0), s.1, s.2);
+        complete = λ p v a b hv.
+            elim (cases_lt i p) [
+              | inl l ↦ t.holds.complete p v (omega arith) b hv
+              | inr l ↦ absurd (let q : i ≡ p = omega arith in no_level (slice_index_or levels i None) v e (ap (λ n. slice_index_or levels n None) q ∙ hv))
+            ];
+      };
+      ordered = t.ordered;
+    }
+rising_more levels i end xs true lt e t =
+    record {
+      holds = record {
+        sound = λ p hp. elim hp [
+          | inl q ↦ let v = some_level (slice_index_or levels i None) e in (omega (arith, q), omega (arith, q), (v.0, ap (λ n. slice_index_or levels n None) q ∙ v.1))
+          | inr r ↦ let s = t.holds.sound p r in (omega (arith, s.0), s.1, s.2)
+        ];
+        complete = λ p v a b hv.
+            elim (cases_lt i p) [
+              | inl l ↦ inr (t.holds.complete p v (omega arith) b hv)
+              | inr l ↦ let q : p ≡ i = omega arith in inl q
+            ];
+      };
+      ordered = (λ y hy. let s = t.holds.sound y hy in omega (arith, s.0), t.ordered);
+    }
+
+rising_from : (levels : List (Option ℕ)) (i count end : ℕ) → i + count ≡ end → Rising levels i end (filter (is_remaining levels) (positions_from i count))
+rising_from levels i zero end e =
+    record {
+      holds = record { sound = λ p h. absurd h; complete = λ p v a b hv. absurd (omega arith) };
+      ordered = tt;
+    }
+rising_from levels i (suc count) end e =
+    rising_more levels i end (filter (is_remaining levels) (positions_from (i + 1) count)) (is_remaining levels i) (omega arith) refl
+    (rising_from levels (i + 1) count end (omega arith))
+
+-- the remaining positions are such
+pub remaining-rising : (levels : List (Option ℕ)) (start end : ℕ) → start ≤ end → Rising levels start end (remaining levels start end)
+remaining-rising levels start end le = rising_from levels start (end - start) end (omega arith)
+
+pub positions-next : (start count : ℕ) → positions_from start (suc count) ≡ positions_from start count ++ (start + count) ∷ []
+positions-next start zero = let e : start ≡ start + 0 = omega arith in ap (λ n. n ∷ []) e
+positions-next start (suc count) =
+    let e : start + 1 + count ≡ start + suc count = omega arith in
+    ap (λ xs. start ∷ xs) (positions-next (start + 1) count ∙ ap (λ n. positions_from (start + 1) count ++ n ∷ []) e)
+
+-- those of one position more
+pub remaining-next : (levels : List (Option ℕ)) (start position : ℕ) → start ≤ position → remaining levels start (position + 1) ≡ remaining levels start position ++ cond (is_remaining levels position) (position ∷ []) []
+remaining-next levels start position le =
+    let e : position + 1 - start ≡ suc (position - start) = omega arith in
+    let f : start + (position - start) ≡ position = omega arith in
+    ap (λ n. filter (is_remaining levels) (positions_from start n)) e
+    ∙ ap (filter (is_remaining levels)) (positions-next start (position - start) ∙ ap (λ n. positions_from start (position - start) ++ n ∷ []) f)
+    ∙ filter-append (is_remaining levels) (positions_from start (position - start)) (position ∷ [])
+
+length_if : (b : Bool) (x : ℕ) (xs : List ℕ) (n : ℕ) → length xs ≤ n → length (cond b (x ∷ xs) xs) ≤ suc n
+length_if true x xs n h = omega arith
+length_if false x xs n h = omega arith
+
+length-filter_from : (test : ℕ → Bool) (start count : ℕ) → length (filter test (positions_from start count)) ≤ count
+length-filter_from test start zero = omega arith
+length-filter_from test start (suc count) = length_if (test start) start (filter test (positions_from (start + 1) count)) count (length-filter_from test (start + 1) count)
+
+-- they are no more than the positions
+pub length-remaining : (levels : List (Option ℕ)) (start end : ℕ) → length (remaining levels start end) ≤ end - start
+length-remaining levels start end = length-filter_from (is_remaining levels) start (end - start)
