@@ -6,4 +6,8 @@ pub mod Remaining
 pub mod LineOrder
 pub mod Levels
 pub mod Turns
+pub mod Separators
+pub mod BreakAt
+pub mod LineEnd
+pub mod TextEnd
 pub mod Law

@@ -1,0 +1,33 @@
+-- Whether a line is broken at a position, by rising breaks.
+use Rattle.std.proofs.Common.{◌≡◌, ◌≢◌, ℕ, ◌+◌, ◌-◌, ◌<◌, ◌≤◌, Bool, true, false, List, [], ◌∷◌, length, zero, suc, refl, ap, ◌∙◌, subst, arith, eq-eqb, ne_eqb}
+use Rattle.std.specs.Prelude.{◌||◌, ◌==◌, slice_index}
+use Rattle.lines.specs.LineBreaks.{AreBreaks}
+use Rattle.units.specs.Reordering.{is_break}
+
+pub or_true : (b : Bool) → (b || true) ≡ true
+or_true true = refl
+or_true false = refl
+
+pub or_false : (b : Bool) → (b || false) ≡ b
+or_false true = refl
+or_false false = refl
+
+pub is_break_at : (at : List ℕ) (k p : ℕ) → k < length at → slice_index at k ≡ p → is_break at p ≡ true
+is_break_at [] k p h e = absurd (omega arith)
+is_break_at (b ∷ at) zero p h e = ap (λ t. t || is_break at p) (eq-eqb b p e)
+is_break_at (b ∷ at) (suc k) p h e =
+    ap (λ t. (b == p) || t) (is_break_at at k p (omega arith) e) ∙ or_true (b == p)
+
+pub is_break_none : (at : List ℕ) (p : ℕ) → ((k : ℕ) → k < length at → slice_index at k ≢ p) → is_break at p ≡ false
+is_break_none [] p none = refl
+is_break_none (b ∷ at) p none =
+    ap (λ t. t || is_break at p) (ne_eqb b p (none 0 (omega arith))) ∙ is_break_none at p (λ k h. none (suc k) (omega arith))
+
+pub rising_le : (at : List ℕ) (len j d : ℕ) → AreBreaks at len → j + d < length at → slice_index at j ≤ slice_index at (j + d)
+rising_le at len j zero breaks h = let e : j ≡ j + 0 = omega arith in subst (λ n. slice_index at j ≤ slice_index at n) e (omega arith)
+rising_le at len j (suc d) breaks h =
+    let before : slice_index at j ≤ slice_index at (j + d) = rising_le at len j d breaks (omega arith) in
+    let r : slice_index at (j + suc d - 1) < slice_index at (j + suc d) = breaks.rising (j + suc d) h (omega arith) in
+    let e : j + suc d - 1 ≡ j + d = omega arith in
+    let s : slice_index at (j + d) < slice_index at (j + suc d) = subst (λ n. slice_index at n < slice_index at (j + suc d)) e r in
+    omega arith

@@ -1,0 +1,112 @@
+use Rattle.std.proofs.Common.{◌≡◌, ◌<◌, ◌+◌, ◌-◌, Bool, true, false, cond, length, take, count_by, get_or, set, None, arith, refl, sym, ap, ◌∙◌, subst}
+use Rattle.std.specs.Prelude.{◌||◌, ◌&&◌, slice_index_or, map}
+use Rattle.std.proofs.lemmas.List.{length-map, get_or-map, get_or_default}
+use mir.Val.{bool_byte}
+use Rattle.units.specs.declared.level.ParaLevel.TheVariants.{Zero}
+use Rattle.units.specs.Classes.{is_separator, class_at}
+use Rattle.lines.specs.LineBreaks.{AreBreaks}
+use Rattle.units.specs.Classes.{classes_of}
+use Rattle.units.specs.Isolates.{level_of_para}
+use Rattle.lines.specs.Spaces.{resets_before}
+use Rattle.units.specs.Reordering.{para_at, reset_to, after_resets}
+use Rattle.lines.proofs.Separators.{paragraph_at}
+use Rattle.lines.proofs.LineEnd.{class_read, may_reset}
+use Rattle.lines.proofs.TextEnd.{Resetting, resetting_start, resetting_more, resetting_end, counted_step}
+use Rattle.lines.proofs.resets.reset_text.Goals as goal
+
+byte_is : (b : Bool) → bool_byte b ≡ cond b 1 0
+byte_is true = refl
+byte_is false = refl
+
+pub loop-position-init : goal.loop-position-init
+loop-position-init g c =
+    let own = classes_of c.args.own.now in
+    let at = c.positions-at.result.now in
+    let len : length own ≡ length c.args.own.now = length-map c.args.own.now (λ u. u.class) in
+    let breaks : AreBreaks at (length own) = subst (AreBreaks at) (c.requires.len ∙ sym len) c.positions-at.ensures.breaks in
+    record {
+      text = resetting_start own at (map level_of_para c.args.paras.now) c.args.levels.now c.count_separators-paragraph.result (len ∙ sym c.requires.levels) breaks c.count_separators-paragraph.ensures;
+      steps = omega arith;
+    }
+
+pub overflow_sub-paragraph : goal.overflow_sub-paragraph
+overflow_sub-paragraph g c =
+    let l = c.loop-position in
+    let own = classes_of c.args.own.now in
+    let p = l.position - 1 in
+    let len : length own ≡ length c.args.own.now = length-map c.args.own.now (λ u. u.class) in
+    let there : p + 1 ≡ l.position = omega arith in
+    let in_text : p < length own = omega (arith, l.invariant.text.all) in
+    let e : c.is_separator-ends.result ≡ is_separator (class_at own p) = c.is_separator-ends.ensures ∙ ap is_separator (class_read c.args.own.now p _ (omega arith)) in
+    let n = counted_step own p c.is_separator-ends.result in_text e in
+    let k : l.paragraph ≡ count_by is_separator (take (p + 1) own) = l.invariant.text.counted ∙ ap (λ m. count_by is_separator (take m own)) (sym there) in
+    let b : c.from-paragraph.result ≡ cond c.is_separator-ends.result 1 0 = c.from-paragraph.ensures ∙ byte_is c.is_separator-ends.result in
+    omega arith
+
+pub bounds-paras-paragraph : goal.bounds-paras-paragraph
+bounds-paras-paragraph g c =
+    let l = c.loop-position in
+    let own = classes_of c.args.own.now in
+    let p = l.position - 1 in
+    let len : length own ≡ length c.args.own.now = length-map c.args.own.now (λ u. u.class) in
+    let there : p + 1 ≡ l.position = omega arith in
+    let in_text : p < length own = omega (arith, l.invariant.text.all) in
+    let e : c.is_separator-ends.result ≡ is_separator (class_at own p) = c.is_separator-ends.ensures ∙ ap is_separator (class_read c.args.own.now p _ (omega arith)) in
+    let n = counted_step own p c.is_separator-ends.result in_text e in
+    let k : l.paragraph ≡ count_by is_separator (take (p + 1) own) = l.invariant.text.counted ∙ ap (λ m. count_by is_separator (take m own)) (sym there) in
+    let b : c.from-paragraph.result ≡ cond c.is_separator-ends.result 1 0 = c.from-paragraph.ensures ∙ byte_is c.is_separator-ends.result in
+    let bound : count_by is_separator (take p own) < length c.args.paras.now = paragraph_at c.args.own.now (length c.args.paras.now) p c.requires.paras (omega arith) in
+    omega arith
+
+pub loop-position-preserved : goal.loop-position-preserved
+loop-position-preserved g c =
+    let l = c.loop-position in
+    let own = classes_of c.args.own.now in
+    let at = c.positions-at.result.now in
+    let old = c.args.levels.now in
+    let paras = map level_of_para c.args.paras.now in
+    let p = l.position - 1 in
+    let ends = c.is_separator-ends.result in
+    let broken = c.comes_last-broken.result in
+    let len : length own ≡ length c.args.own.now = length-map c.args.own.now (λ u. u.class) in
+    let breaks : AreBreaks at (length own) = subst (AreBreaks at) (c.requires.len ∙ sym len) c.positions-at.ensures.breaks in
+    let there : p + 1 ≡ l.position = omega arith in
+    let in_text : p < length own = omega (arith, l.invariant.text.all) in
+    let class = class_read c.args.own.now p _ (omega arith) in
+    let e : ends ≡ is_separator (class_at own p) = c.is_separator-ends.ensures ∙ ap is_separator class in
+    let before : Resetting own at paras old (p + 1) l.ahead l.paragraph l.resets l.levels =
+    subst (λ n. Resetting own at paras old n l.ahead l.paragraph l.resets l.levels) (sym there) l.invariant.text in
+    let n = counted_step own p ends in_text e in
+    let index : l.paragraph - c.from-paragraph.result ≡ count_by is_separator (take p own) =
+    let b : c.from-paragraph.result ≡ cond ends 1 0 = c.from-paragraph.ensures ∙ byte_is ends in
+    let k : l.paragraph ≡ count_by is_separator (take (p + 1) own) = before.counted in
+    omega arith in
+    let may : c.may_be_reset.result ≡ may_reset (class_at own p) = c.may_be_reset.ensures ∙ ap may_reset class in
+    let level = c.index-levels-position.is ∙ get_or_default l.levels p c.index-levels-position.result None (omega (arith, before.len, before.all)) in
+    let resets2 = c.resets_spaces_before-resets.result in
+    let para = level_of_para (slice_index_or c.args.paras.now (l.paragraph - c.from-paragraph.result) Zero) in
+    let value : para ≡ para_at own paras p =
+    ap (λ i. level_of_para (slice_index_or c.args.paras.now i Zero)) index ∙ sym (get_or-map level_of_para c.args.paras.now (count_by is_separator (take p own)) Zero 0 (paragraph_at c.args.own.now (length c.args.paras.now) p c.requires.paras (omega arith))) in
+    let written : set l.levels p c.reset_level.result ≡ set l.levels p (reset_to (resets2 && may_reset (class_at own p)) para (get_or l.levels p None)) =
+    ap (set l.levels p) (c.reset_level.ensures ∙ ap (λ m. reset_to (resets2 && m) para c.index-levels-position.result) may ∙ ap (reset_to (resets2 && may_reset (class_at own p)) para) level) in
+    let more : Resetting own at paras old p (l.ahead - cond broken 1 0) (l.paragraph - cond ends 1 0) resets2 (set l.levels p c.reset_level.result) =
+    resetting_more own at paras old p l.ahead l.paragraph para ends broken l.resets resets2 l.levels (set l.levels p c.reset_level.result) breaks in_text e c.comes_last-broken.ensures.0 c.comes_last-broken.ensures.1
+    (c.resets_spaces_before-resets.ensures ∙ ap (λ k. resets_before k (ends || broken || l.resets)) class)
+    value written before in
+    record {
+      text =
+          subst (λ a. Resetting own at paras old p (l.ahead - a) (l.paragraph - c.from-paragraph.result) resets2 (set l.levels p c.reset_level.result)) (sym (c.from-ahead.ensures ∙ byte_is broken))
+          (subst (λ a. Resetting own at paras old p (l.ahead - cond broken 1 0) (l.paragraph - a) resets2 (set l.levels p c.reset_level.result)) (sym (c.from-paragraph.ensures ∙ byte_is ends)) more);
+      steps = omega (arith, c.tick.ensures, l.invariant.steps);
+    }
+
+pub returns-clause-levels : goal.returns-clause-levels
+returns-clause-levels g c =
+    let l = c.loop-position in
+    let own = classes_of c.args.own.now in
+    let at = c.positions-at.result.now in
+    let there : l.position ≡ 0 = omega arith in
+    let done : Resetting own at (map level_of_para c.args.paras.now) c.args.levels.now 0 l.ahead l.paragraph l.resets l.levels =
+    subst (λ n. Resetting own at (map level_of_para c.args.paras.now) c.args.levels.now n l.ahead l.paragraph l.resets l.levels) there l.invariant.text in
+    resetting_end own at (map level_of_para c.args.paras.now) c.args.levels.now l.ahead l.paragraph l.resets l.levels done
+    ∙ ap (λ bs. after_resets own bs (map level_of_para c.args.paras.now) c.args.levels.now) c.positions-at.ensures.positions

@@ -1,0 +1,34 @@
+-- Breaks of a text into lines.
+use Rattle.std.specs.Prelude.{ℕ, ◌<◌, ◌≤◌, ◌-◌, ◌≡◌, ◌⊎◌, List, length, slice_index}
+use Rattle.lines.specs.declared.breaks.BreakFault.{BreakFault}
+use Rattle.lines.specs.declared.breaks.BreakFault.TheVariants.{OutOfRange, NotRising}
+
+-- breaks of a text of a length
+pub record BreaksView : Type 0 where
+  pub positions : List ℕ
+  pub len : ℕ
+
+-- the break at the index is inside the text
+pub record IsInside (at : List ℕ) (len index : ℕ) : Type 0 where
+  pub after_start : 0 < slice_index at index
+  pub before_end : slice_index at index < len
+
+-- the break at the index is above the one before, if there is one
+abbrev pub Rises : List ℕ → ℕ → Type 0
+Rises at index = 0 < index → slice_index at (index - 1) < slice_index at index
+
+-- all breaks below the index are as they should be
+pub record AreBreaksBelow (at : List ℕ) (len end : ℕ) : Type 0 where
+  pub inside : (index : ℕ) → index < end → IsInside at len index
+  pub rising : (index : ℕ) → index < end → Rises at index
+
+-- they rise, and are all inside the text
+abbrev pub AreBreaks : List ℕ → ℕ → Type 0
+AreBreaks at len = AreBreaksBelow at len (length at)
+
+-- the fault is the one of the least faulty index, and there being out of range comes first
+abbrev pub IsFirstFault : List ℕ → ℕ → BreakFault → Type 0
+IsFirstFault at len (OutOfRange index) =
+    (index < length at) × AreBreaksBelow at len index × ((slice_index at index ≡ 0) ⊎ (len ≤ slice_index at index))
+IsFirstFault at len (NotRising index) =
+    (index < length at) × AreBreaksBelow at len index × IsInside at len index × (0 < index) × (slice_index at index ≤ slice_index at (index - 1))

@@ -1,0 +1,99 @@
+ghost use Rattle.std.specs.Prelude.{◌≡◌, ◌<◌, ◌≤◌, ◌+◌, ◌-◌, ◌↔◌, ◌||◌, ℕ, IsTrue, length, slice_index, take, count_by, map};
+ghost use Rattle.units.specs.Classes.{classes_of, is_line_separator, is_separator};
+ghost use Rattle.units.specs.Isolates.{level_of_para};
+ghost use Rattle.units.specs.Paragraphs.{paragraphs_of};
+ghost use Rattle.units.specs.Reordering.{after_resets, is_trailing_space, reset_to};
+ghost use Rattle.lines.specs.Spaces.{resets_before};
+
+use crate::breaks::Breaks;
+use std::sync::ledger::Ledger;
+use units::bracket::Unit;
+use units::class::Class;
+use units::level::{Level, ParaLevel};
+use units::steps::Steps;
+
+/// Whether spaces before a position of the class are reset, if those after it are as `later` says.
+fn resets_spaces_before(class: Class, later: bool) -> bool
+    ensures { result ≡ resets_before class later }
+{
+    match class {
+        Class::S | Class::B => true,
+        Class::WS | Class::LRI | Class::RLI | Class::FSI | Class::PDI => later,
+        Class::LRE | Class::RLE | Class::LRO | Class::RLO | Class::PDF | Class::BN => later,
+        _ => false,
+    }
+}
+
+/// Whether positions of the class can be reset.
+fn may_be_reset(class: Class) -> bool
+    ensures { result ≡ (is_line_separator class || is_trailing_space class) }
+{
+    matches!(
+        class,
+        Class::S | Class::B | Class::WS | Class::LRI | Class::RLI | Class::FSI | Class::PDI
+    )
+}
+
+fn reset_level(reset: bool, para_level: ParaLevel, level: Option<Level>) -> Option<Level>
+    ensures { result ≡ reset_to reset (level_of_para para_level) level }
+{
+    match level {
+        Some(_) if reset => Some(para_level.level()),
+        other => other,
+    }
+}
+
+/// Whether the last of the first `ahead` breaks is at the position.
+fn comes_last(at: &[usize], ahead: usize, position: usize) -> bool
+    requires { ahead ≤ length at.now }
+    ensures { IsTrue result ↔ ((0 < ahead) × (slice_index at.now (ahead - 1) ≡ position)) }
+{
+    ahead > 0 && at[ahead - 1] == position
+}
+
+/// How many paragraph separators a text of so many paragraphs has: each but the last ends with one.
+fn count_separators(own: &[Unit], paragraphs: usize) -> usize
+    requires { paragraphs ≡ length (paragraphs_of own.now) }
+    ensures { result ≡ count_by is_separator (classes_of own.now) }
+{
+    if own.is_empty() {
+        return paragraphs;
+    }
+    let closed = own[own.len() - 1].class.is_separator();
+    paragraphs - usize::from(!closed)
+}
+
+/// Gives separators, and white space and isolate formatting characters before them or at a line's end, the level of their paragraph
+/// (L1), in one pass from the text's end.
+///
+/// `own` are the units of the text with their own classes, `paras` the levels of its paragraphs in order, and `levels` the resolved
+/// levels of its positions, none where a position was removed. It takes a step for each position.
+pub fn reset_text<L: Ledger>(
+    own: &[Unit],
+    breaks: &Breaks,
+    paras: &[ParaLevel],
+    levels: &mut [Option<Level>],
+    steps: &mut Steps<L>,
+)
+    requires len { breaks.now.len ≡ length own.now }
+    requires levels { length levels.old ≡ length own.now }
+    requires paras { length paras.now ≡ length (paragraphs_of own.now) }
+    ensures levels { levels.new ≡ after_resets (classes_of own.now) breaks.now.positions (map level_of_para paras.now) levels.old }
+    ensures steps { steps.new ≡ steps.old + length own.now }
+{
+    let at = breaks.positions();
+    let mut ahead = at.len();
+    let mut paragraph = count_separators(own, paras.len());
+    let mut resets = true;
+    for position in (0..levels.len()).rev() {
+        steps.tick();
+        let class = own[position].class;
+        let ends = class.is_separator();
+        paragraph -= usize::from(ends);
+        let broken = comes_last(at, ahead, position + 1);
+        ahead -= usize::from(broken);
+        resets = resets_spaces_before(class, ends | broken | resets);
+        let reset = resets & may_be_reset(class);
+        levels[position] = reset_level(reset, paras[paragraph], levels[position]);
+    }
+}
