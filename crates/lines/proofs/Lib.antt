@@ -10,4 +10,7 @@ pub mod Separators
 pub mod BreakAt
 pub mod LineEnd
 pub mod TextEnd
+pub mod Cuts
+pub mod NextLine
+pub mod LinesWritten
 pub mod Law

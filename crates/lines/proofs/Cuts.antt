@@ -1,0 +1,58 @@
+-- A text that is cut at the positions that pass a test, line by line.
+use Rattle.std.proofs.Common.{◌≡◌, ℕ, ◌+◌, ◌-◌, ◌<◌, ◌≤◌, Bool, true, false, cond, Option, List, [], ◌∷◌, length, zero, suc, refl, ap, ◌∙◌, arith}
+use Rattle.std.specs.Prelude.{filter}
+use Rattle.units.specs.Layout.{LineLayout, line_of, lines_from, lines_of}
+use Rattle.units.specs.Positions.{positions_from}
+
+-- the lines of the last count positions
+abbrev pub lines_left : List (Option ℕ) → (ℕ → Bool) → ℕ → ℕ → ℕ → List LineLayout
+lines_left levels test start end zero = []
+lines_left levels test start end (suc count) = lines_from levels start (filter test (positions_from (start + 1) count)) end
+
+-- the next line ends at the position
+pub record Cuts (test : ℕ → Bool) (start end stop : ℕ) : Type 0 where
+  pub above : start < end
+  pub within : end ≤ stop
+  pub none : (p : ℕ) → start < p → p < end → test p ≡ false
+  pub here : end < stop → test end ≡ true
+
+passes_none : (test : ℕ → Bool) (start count rest : ℕ) → ((p : ℕ) → start ≤ p → p < start + count → test p ≡ false) → filter test (positions_from start (count + rest)) ≡ filter test (positions_from (start + count) rest)
+passes_none test start zero rest none =
+    let e : 0 + rest ≡ rest = omega arith in
+    let f : start ≡ start + 0 = omega arith in
+    ap (λ n. filter test (positions_from start n)) e ∙ ap (λ n. filter test (positions_from n rest)) f
+passes_none test start (suc count) rest none =
+    let e : suc count + rest ≡ suc (count + rest) = omega arith in
+    let f : start + 1 + count ≡ start + suc count = omega arith in
+    let next = filter test (positions_from (start + 1) (count + rest)) in
+    ap (λ n. filter test (positions_from start n)) e
+    ∙ ap (λ b. cond b (start ∷ next) next) (none start (omega arith) (omega arith))
+    ∙ passes_none test (start + 1) count rest (λ p low high. none p (omega arith) (omega arith))
+    ∙ ap (λ n. filter test (positions_from n rest)) f
+
+cut_rest : (levels : List (Option ℕ)) (test : ℕ → Bool) (start end stop rest : ℕ) → end + rest ≡ stop → (end < stop → test end ≡ true) → lines_from levels start (filter test (positions_from end rest)) stop ≡ line_of levels start end ∷ lines_left levels test end stop rest
+cut_rest levels test start end stop zero e here =
+    let f : stop ≡ end = omega arith in
+    ap (λ n. line_of levels start n ∷ []) f
+cut_rest levels test start end stop (suc rest) e here =
+    let next = filter test (positions_from (end + 1) rest) in
+    ap (λ b. lines_from levels start (cond b (end ∷ next) next) stop) (here (omega arith))
+
+-- the next line, and what is left behind it
+pub lines_left-next : (levels : List (Option ℕ)) (test : ℕ → Bool) (start end stop : ℕ) → Cuts test start end stop → lines_left levels test start stop (stop - start) ≡ line_of levels start end ∷ lines_left levels test end stop (stop - end)
+lines_left-next levels test start end stop c =
+    let between = end - (start + 1) in
+    let rest = stop - end in
+    let e : stop - start ≡ suc (between + rest) = omega (arith, c.above, c.within) in
+    let f : start + 1 + between ≡ end = omega (arith, c.above) in
+    let none : filter test (positions_from (start + 1) (between + rest)) ≡ filter test (positions_from (start + 1 + between) rest) =
+    passes_none test (start + 1) between rest (λ p low high. c.none p (omega arith) (omega (arith, f))) in
+    ap (lines_left levels test start stop) e
+    ∙ ap (λ cuts. lines_from levels start cuts stop) (none ∙ ap (λ n. filter test (positions_from n rest)) f)
+    ∙ cut_rest levels test start end stop rest (omega (arith, c.within)) c.here
+
+pub lines_left-all : (levels : List (Option ℕ)) (test : ℕ → Bool) → lines_left levels test 0 (length levels) (length levels) ≡ lines_of levels (filter test (positions_from 1 (length levels - 1)))
+lines_left-all [] test = refl
+lines_left-all (l ∷ levels) test =
+    let e : length levels ≡ length (l ∷ levels) - 1 = omega arith in
+    ap (λ n. lines_from (l ∷ levels) 0 (filter test (positions_from 1 n)) (length (l ∷ levels))) e
