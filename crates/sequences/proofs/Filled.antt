@@ -1,0 +1,62 @@
+-- What the filled lists say of the successors.
+use Rattle.std.specs.Prelude.{Option, Some, None, ℕ, zero, suc, Bool, false, ◌<◌, ◌≤◌, ◌≡◌, List, [], ◌∷◌, ◌++◌, length, take, IfSome, is_some, refl}
+use Rattle.std.specs.List.{list_any}
+use Rattle.std.proofs.Common.{arith, ap, sym, ◌∙◌, subst, drop, inl, inr}
+use Rattle.std.proofs.lemmas.Bool.{cases_lt, cond-false}
+use Rattle.std.proofs.lemmas.List.{get_or_past, take_at}
+use Rattle.units.specs.Positions.{is_same, positions_from}
+use Rattle.units.specs.Runs.{followed, LeveledView, IsLeveled, size_of, level_of, remains, next_remaining, successor_by, successor}
+use Rattle.sequences.specs.Links.{link_at, linked, IsLinked, is_joined}
+use Rattle.sequences.specs.Heads.{IsMarked, AreSuccessors}
+use Rattle.sequences.proofs.Forward.{successor_later}
+
+-- a loan of a whole list, given back
+pub put_back : {X : Type 0} (n : ℕ) (new old : List X) → length new ≡ n → take n (new ++ drop (length new) old) ≡ new
+put_back n new old e = take_at new (drop (length new) old) n e
+
+removed_successor : (t : LeveledView) (p : ℕ) → level_of t p ≡ None → successor t p ≡ None
+removed_successor t p e =
+    let gone : remains t p ≡ false = ap is_some e in
+    cond-false (remains t p) (successor_by t p (next_remaining t p)) None gone
+
+same_walk : (f g : ℕ → Option ℕ) → ((p : ℕ) → f p ≡ g p) → (n : ℕ) (at : Option ℕ) → followed f n at ≡ followed g n at
+same_walk f g e zero at = refl
+same_walk f g e (suc n) None = refl
+same_walk f g e (suc n) (Some p) = ap (λ (ps : List ℕ). p ∷ ps) (same_walk f g e n (f p) ∙ ap (followed g n) (e p))
+
+same_any : (f g : ℕ → Bool) → ((p : ℕ) → f p ≡ g p) → (ps : List ℕ) → list_any f ps ≡ list_any g ps
+same_any f g e [] = refl
+same_any f g e (p ∷ ps) =
+    let here : f p ≡ g p = e p in
+    let rest : list_any f ps ≡ list_any g ps = same_any f g e ps in
+    cc
+
+module _ (t : LeveledView) (links : List (Option ℕ)) (fit : length links ≡ size_of t) (are : AreSuccessors t links) where
+  -- past the end no position has a link, and none a successor
+  pub links_are : (p : ℕ) → link_at links p ≡ successor t p
+  links_are p =
+      elim (cases_lt p (size_of t)) [
+        | inl l ↦ are p l
+        | inr g ↦ get_or_past links p None (omega (arith, fit)) ∙ sym (removed_successor t p (get_or_past t.levels p None g))
+      ]
+
+  pub links_lead_on : IsLeveled t → IsLinked links
+  links_lead_on h p =
+      let P : Option ℕ → Type 0 = λ o. IfSome o (λ q. (p < q) × (q < length links)) in
+      let Q : ℕ → Type 0 = λ n. IfSome (successor t p) (λ q. (p < q) × (q < n)) in
+      let later : P (successor t p) = subst Q (sym fit) (successor_later t h p) in
+      subst P (sym (links_are p)) later
+
+  -- a walk along the links is a walk along the successors
+  pub linked_is : (p : ℕ) → linked links (Some p) ≡ followed (successor t) (size_of t) (Some p)
+  linked_is p =
+      same_walk (link_at links) (successor t) links_are (length links) (Some p) ∙ ap (λ n. followed (successor t) n (Some p)) fit
+
+  -- the marks by the links are the marks by the successors
+  pub marks_are : (joined : List Bool) (size : ℕ) → size_of t ≤ size →
+      ((q : ℕ) → q < size → is_joined joined q ≡ list_any (λ p. is_same (link_at links p) (Some q)) (positions_from 0 (length links))) →
+      IsMarked t joined
+  marks_are joined size l h q k =
+      h q (omega arith)
+      ∙ same_any (λ p. is_same (link_at links p) (Some q)) (λ p. is_same (successor t p) (Some q)) (λ p. ap (λ (o : Option ℕ). is_same o (Some q)) (links_are p)) (positions_from 0 (length links))
+      ∙ ap (λ n. list_any (λ p. is_same (successor t p) (Some q)) (positions_from 0 n)) fit

@@ -1,0 +1,68 @@
+-- The heads and the column, filled from the first position on.
+use Rattle.std.specs.Prelude.{Option, Some, ℕ, suc, true, false, ◌+◌, ◌<◌, ◌≤◌, ◌≡◌, List, [], ◌∷◌, ◌++◌, length, IfSome, if◌then◌else◌}
+use Rattle.std.proofs.Common.{arith, ap, sym, ◌∙◌}
+use Rattle.std.proofs.lemmas.Bool.{cond-true, cond-false}
+use Rattle.std.proofs.lemmas.Option.{IfSome_then}
+use Rattle.std.proofs.lemmas.List.{length_push}
+use Rattle.units.specs.Runs.{LeveledView, IsLeveled, size_of, remains, last_remaining, begins_sequence, sequence_from}
+use Rattle.sequences.specs.declared.heads.Head.{Head}
+use Rattle.sequences.specs.Heads.{head_at, heads_from, firsts_before, column_before}
+use Rattle.sequences.specs.Once.{IsNested}
+use Rattle.sequences.proofs.Column.{heads_push, heads_same, column_push, column_same, column_room}
+
+-- the sequences that begin before k are stored
+pub record Stored (t : LeveledView) (k : ℕ) (heads : List Head) (column : List ℕ) : Type 0 where
+  pub heads_are : heads ≡ heads_from t 0 (firsts_before t k)
+  pub few : length heads ≤ k
+  pub column_is : column ≡ column_before t k
+
+-- besides, the pass knows the last remaining position before k
+pub record HeadWalk (t : LeveledView) (k : ℕ) (heads : List Head) (column : List ℕ) (last : Option ℕ) : Type 0 where
+  pub stored : Stored t k heads column
+  pub last_is : last ≡ last_remaining t k
+  pub last_within : IfSome last (λ q. q < k)
+
+module _ {t : LeveledView} {k : ℕ} {heads : List Head} {column : List ℕ} (w : Stored t k heads column) where
+  pub stored_room : IsLeveled t → IsNested t → k < size_of t → begins_sequence t k ≡ true → length column + length (sequence_from t k) ≤ size_of t
+  stored_room h n l b = omega (arith, ap length w.column_is, column_room t h n k l b)
+
+  pub stored_push : (new : List Head) (h : Head) (more : List ℕ) (start : ℕ) → begins_sequence t k ≡ true → h ≡ head_at t k start → start ≡ length column →
+      new ≡ heads ++ h ∷ [] → more ≡ column ++ sequence_from t k → Stored t (k + 1) new more
+  stored_push new h more start b e s n m =
+      record {
+        heads_are = n
+            ∙ ap (λ (x : Head). heads ++ x ∷ []) (e ∙ ap (head_at t k) (s ∙ ap length w.column_is))
+            ∙ ap (λ (hs : List Head). hs ++ head_at t k (length (column_before t k)) ∷ []) w.heads_are
+            ∙ sym (heads_push t k b);
+        few = omega (arith, ap length n, length_push heads h, w.few);
+        column_is = m ∙ ap (λ (ps : List ℕ). ps ++ sequence_from t k) w.column_is ∙ sym (column_push t k b);
+      }
+
+  pub stored_same : (new : List Head) (more : List ℕ) → begins_sequence t k ≡ false → new ≡ heads → more ≡ column → Stored t (k + 1) new more
+  stored_same new more b n m =
+      record {
+        heads_are = n ∙ w.heads_are ∙ sym (heads_same t k b);
+        few = omega (arith, ap length n, w.few);
+        column_is = m ∙ w.column_is ∙ sym (column_same t k b);
+      }
+
+module _ {t : LeveledView} {k : ℕ} {heads : List Head} {column : List ℕ} {last : Option ℕ} (w : HeadWalk t k heads column last)
+    {new : List Head} {more : List ℕ} (d : Stored t (k + 1) new more) where
+  last_more : last_remaining t (k + 1) ≡ (if remains t k then Some k else last_remaining t k)
+  last_more = let one : k + 1 ≡ suc k = omega arith in ap (last_remaining t) one
+
+  pub head_walk_here : remains t k ≡ true → HeadWalk t (k + 1) new more (Some k)
+  head_walk_here r =
+      record {
+        stored = d;
+        last_is = sym (last_more ∙ cond-true (remains t k) (Some k) (last_remaining t k) r);
+        last_within = omega arith;
+      }
+
+  pub head_walk_same : remains t k ≡ false → HeadWalk t (k + 1) new more last
+  head_walk_same r =
+      record {
+        stored = d;
+        last_is = w.last_is ∙ sym (last_more ∙ cond-false (remains t k) (Some k) (last_remaining t k) r);
+        last_within = IfSome_then last w.last_within (λ q l. omega arith);
+      }

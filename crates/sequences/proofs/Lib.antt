@@ -1,0 +1,11 @@
+pub mod Backward
+pub mod Column
+pub mod Filled
+pub mod Fits
+pub mod Forward
+pub mod HeadWalks
+pub mod Joined
+pub mod Links
+pub mod Marks
+pub mod Nearest
+pub mod Once

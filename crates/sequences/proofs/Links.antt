@@ -1,0 +1,124 @@
+-- What a walk along links passes: each position and then the rest, rising.
+use Rattle.std.specs.Prelude.{Option, ℕ, zero, suc, ◌+◌, ◌<◌, ◌≤◌, ◌≡◌, List, [], ◌∷◌, ◌++◌, length, Some, None, IfSome, slice_index, slice_get, refl}
+use Rattle.std.proofs.Common.{arith, ap, sym, ◌∙◌, subst, append_assoc}
+use Rattle.std.proofs.lemmas.List.{append-nil}
+use Rattle.std.proofs.lemmas.Option.{IfSome_then}
+use Rattle.units.specs.Runs.{followed}
+use Rattle.sequences.specs.Links.{link_at, linked, IsForward, IsLinked, ArePositions}
+
+-- each position is at least low and below high, and they rise
+abbrev pub IsRising : ℕ → ℕ → List ℕ → Type 0
+IsRising low high [] = Unit {0}
+IsRising low high (p ∷ ps) = (low ≤ p) × (p < high) × IsRising (p + 1) high ps
+
+rising_within : (low high : ℕ) (ps : List ℕ) → IsRising low high ps → (k : ℕ) → k < length ps → (low ≤ slice_index ps k) × (slice_index ps k < high)
+rising_within low high [] r k l = absurd (omega arith)
+rising_within low high (p ∷ ps) r zero l = (r.0, r.1)
+rising_within low high (p ∷ ps) r (suc k) l =
+    let w = rising_within (p + 1) high ps r.2 k (omega arith) in
+    (omega (arith, w.0, r.0), w.1)
+
+rising_order : (low high : ℕ) (ps : List ℕ) → IsRising low high ps → (j k : ℕ) → j < k → k < length ps → slice_index ps j < slice_index ps k
+rising_order low high [] r j k h l = absurd (omega arith)
+rising_order low high (p ∷ ps) r j zero h l = absurd (omega arith)
+rising_order low high (p ∷ ps) r zero (suc k) h l =
+    let w = rising_within (p + 1) high ps r.2 k (omega arith) in omega (arith, w.0)
+rising_order low high (p ∷ ps) r (suc j) (suc k) h l = rising_order (p + 1) high ps r.2 j k (omega arith) (omega arith)
+
+pub rising_positions : (high : ℕ) (ps : List ℕ) → IsRising 0 high ps → ArePositions ps high
+rising_positions high ps r = record {
+  within = λ k l. (rising_within 0 high ps r k l).1;
+  rising = rising_order 0 high ps r;
+}
+
+-- the walk has steps enough for what is left from here
+abbrev pub HasSteps : ℕ → ℕ → Option ℕ → Type 0
+HasSteps end steps at = IfSome at (λ p. (p < end) × (end ≤ p + steps))
+
+pub followed-none : (next : ℕ → Option ℕ) (n : ℕ) → followed next n None ≡ []
+followed-none next zero = refl
+followed-none next (suc n) = refl
+
+followed-first : (next : ℕ → Option ℕ) (end n : ℕ) (at : Option ℕ) → HasSteps end n at → slice_get (followed next n at) 0 ≡ at
+followed-first next end zero None h = refl
+followed-first next end (suc n) None h = refl
+followed-first next end zero (Some p) h = absurd (omega (arith, h.0, h.1))
+followed-first next end (suc n) (Some p) h = refl
+
+module _ (next : ℕ → Option ℕ) (end : ℕ) (h : IsForward next end) where
+  steps_on : (p steps : ℕ) → end ≤ p + suc steps → HasSteps end steps (next p)
+  steps_on p steps e = IfSome_then (next p) (h p) (λ q w. (w.1, omega (arith, w.0)))
+
+  -- more steps than are left change nothing
+  followed-steps : (a b : ℕ) (at : Option ℕ) → HasSteps end a at → HasSteps end b at → followed next a at ≡ followed next b at
+  followed-steps zero zero at ha hb = refl
+  followed-steps zero (suc b) None ha hb = refl
+  followed-steps (suc a) zero None ha hb = refl
+  followed-steps (suc a) (suc b) None ha hb = refl
+  followed-steps zero (suc b) (Some p) ha hb = absurd (omega (arith, ha.0, ha.1))
+  followed-steps (suc a) zero (Some p) ha hb = absurd (omega (arith, hb.0, hb.1))
+  followed-steps (suc a) (suc b) (Some p) ha hb =
+      ap (λ (ps : List ℕ). p ∷ ps) (followed-steps a b (next p) (steps_on p a ha.1) (steps_on p b hb.1))
+
+  followed-at : (n p : ℕ) → n ≡ end → p < n → followed next n (Some p) ≡ p ∷ followed next n (next p)
+  followed-at zero p e l = absurd (omega arith)
+  followed-at (suc n) p e l =
+      ap (λ (ps : List ℕ). p ∷ ps) (followed-steps n (suc n) (next p) (steps_on p n (omega arith)) (steps_on p (suc n) (omega arith)))
+
+  -- a walk from p is p and a walk from the next
+  pub followed-some : (p : ℕ) → p < end → followed next end (Some p) ≡ p ∷ followed next end (next p)
+  followed-some p l = followed-at end p refl l
+
+  followed-rises : (n low : ℕ) (at : Option ℕ) → IfSome at (λ p. (low ≤ p) × (p < end)) → IsRising low end (followed next n at)
+  followed-rises zero low at w = tt
+  followed-rises (suc n) low None w = tt
+  followed-rises (suc n) low (Some p) w =
+      (w.0, w.1, followed-rises n (p + 1) (next p) (IfSome_then (next p) (h p) (λ q v. (omega (arith, v.0), v.1))))
+
+  -- a walk rises
+  pub followed_rises : (p : ℕ) → p < end → IsRising 0 end (followed next end (Some p))
+  followed_rises p l = followed-rises end 0 (Some p) (omega arith, l)
+
+  chained : (n : ℕ) (at : Option ℕ) → HasSteps end n at → (k : ℕ) → k < length (followed next n at) →
+      next (slice_index (followed next n at) k) ≡ slice_get (followed next n at) (suc k)
+  chained zero at s k l = absurd (omega arith)
+  chained (suc n) None s k l = absurd (omega arith)
+  chained (suc n) (Some p) s zero l = sym (followed-first next end n (next p) (steps_on p n s.1))
+  chained (suc n) (Some p) s (suc k) l = chained n (next p) (steps_on p n s.1) k (omega arith)
+
+  -- each position of a walk leads to the next one of it
+  pub followed_chain : (p : ℕ) → p < end → (k : ℕ) → k < length (followed next end (Some p)) →
+      next (slice_index (followed next end (Some p)) k) ≡ slice_get (followed next end (Some p)) (k + 1)
+  followed_chain p w k l =
+      let one : suc k ≡ k + 1 = omega arith in
+      chained end (Some p) (w, omega arith) k l ∙ ap (slice_get (followed next end (Some p))) one
+
+-- a walk along links
+pub linked-some : (links : List (Option ℕ)) (p : ℕ) → IsLinked links → p < length links →
+    linked links (Some p) ≡ p ∷ linked links (link_at links p)
+linked-some links p h l = followed-some (link_at links) (length links) h p l
+
+pub linked-none : (links : List (Option ℕ)) → linked links None ≡ []
+linked-none links = followed-none (link_at links) (length links)
+
+-- what is pushed, and what the links still lead to, is the whole
+pub record IsPushed (links : List (Option ℕ)) (whole pushed : List ℕ) (at : Option ℕ) : Type 0 where
+  pub within : IfSome at (λ p. p < length links)
+  pub all : pushed ++ linked links at ≡ whole
+
+module _ {links : List (Option ℕ)} {whole pushed : List ℕ} {at : Option ℕ} (h : IsLinked links) (w : IsPushed links whole pushed at) where
+  pub pushed_within : (p : ℕ) → at ≡ Some p → p < length links
+  pushed_within p e = let P : Option ℕ → Type 0 = λ o. IfSome o (λ q. q < length links) in subst P e w.within
+
+  pub pushed_step : (p : ℕ) → at ≡ Some p → linked links at ≡ p ∷ linked links (link_at links p)
+  pushed_step p e = ap (linked links) e ∙ linked-some links p h (pushed_within p e)
+
+  pub pushed_more : (p : ℕ) → at ≡ Some p → (more : List ℕ) → more ≡ pushed ++ p ∷ [] → (next : Option ℕ) → next ≡ link_at links p → IsPushed links whole more next
+  pushed_more p e more m next n =
+      rw (m, n) (record {
+        within = IfSome_then (link_at links p) (h p) (λ q v. v.1);
+        all = append_assoc pushed (p ∷ []) (linked links (link_at links p)) ∙ ap (λ (ps : List ℕ). pushed ++ ps) (sym (pushed_step p e)) ∙ w.all;
+      })
+
+  pub pushed_whole : at ≡ None → pushed ≡ whole
+  pushed_whole e = sym (append-nil pushed) ∙ ap (λ (ps : List ℕ). pushed ++ ps) (sym (ap (linked links) e ∙ linked-none links)) ∙ w.all

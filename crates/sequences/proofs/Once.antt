@@ -1,0 +1,219 @@
+-- Each remaining position stands once in all sequences together.
+use Rattle.std.specs.Prelude.{Option, Some, None, ℕ, zero, suc, Bool, true, false, not, ◌==◌, ◌+◌, ◌<◌, ◌≤◌, ◌≡◌, List, [], ◌∷◌, ◌++◌, cond, map, filter, IfSome, is_some, refl}
+use Rattle.std.specs.List.{flat_map, list_any}
+use Rattle.std.proofs.Common.{arith, ap, sym, ◌∙◌, subst, inl, inr}
+use Rattle.std.proofs.lemmas.Bool.{cases_Bool, cases_eq, cases_lt, cond-true, cond-false, false≢true, eqb-true, eq-eqb, ne_eqb, and_parts, and_from, not-true, not_from_false}
+use Rattle.std.proofs.lemmas.List.{get_or_past}
+use Rattle.std.proofs.lemmas.List.Sums.{sum_by-cons, sum_by-append}
+use Rattle.units.specs.Positions.{is_same, positions_from}
+use Rattle.units.specs.Runs.{followed}
+use Rattle.units.specs.Runs.{LeveledView, IsLeveled, size_of, remains, successor, begins_sequence, sequence_at, sequence_from, sequences_of}
+use Rattle.sequences.specs.Once.{times, IsNested, HoldsOnce}
+use Rattle.units.specs.Runs.{SequenceView}
+use Rattle.sequences.proofs.Forward.{successor_later}
+use Rattle.sequences.proofs.Joined.{successor_remains, successor_once, successor_cases}
+use Rattle.sequences.proofs.Nearest.{any_from, any_none}
+
+-- 1 where the two are one
+abbrev pub one_if : ℕ → ℕ → ℕ
+one_if x p = cond (x == p) 1 0
+
+pub times-cons : (x : ℕ) (xs : List ℕ) (p : ℕ) → times (x ∷ xs) p ≡ one_if x p + times xs p
+times-cons x xs p = sum_by-cons (λ q. cond (q == p) 1 0) x xs
+
+times-append : (xs ys : List ℕ) (p : ℕ) → times (xs ++ ys) p ≡ times xs p + times ys p
+times-append xs ys p = sum_by-append (λ q. cond (q == p) 1 0) xs ys
+
+one_if-same : (x p : ℕ) → x ≡ p → one_if x p ≡ 1
+one_if-same x p e = cond-true (x == p) 1 0 (eq-eqb x p e)
+
+one_if-other : (x p : ℕ) → (x ≡ p → ⊥) → one_if x p ≡ 0
+one_if-other x p e = cond-false (x == p) 1 0 (ne_eqb x p e)
+
+same_from : (o : Option ℕ) (p : ℕ) → is_same o (Some p) ≡ true → o ≡ Some p
+same_from None p e = absurd (false≢true e)
+same_from (Some x) p e = ap Some (eqb-true x p e)
+
+same_to : (o : Option ℕ) (p : ℕ) → o ≡ Some p → is_same o (Some p) ≡ true
+same_to None p e = absurd cc
+same_to (Some x) p e = let s : x ≡ p = cc in eq-eqb x p s
+
+if_some : (P : ℕ → Type 0) (o : Option ℕ) → ((y : ℕ) → o ≡ Some y → P y) → IfSome o P
+if_some P None f = tt
+if_some P (Some y) f = f y refl
+
+remains_within : (t : LeveledView) (p : ℕ) → remains t p ≡ true → p < size_of t
+remains_within t p e =
+    elim (cases_lt p (size_of t)) [ inl l ↦ l | inr g ↦ absurd (false≢true (sym (ap is_some (get_or_past t.levels p None g)) ∙ e)) ]
+
+walk_none : (next : ℕ → Option ℕ) (steps p : ℕ) → times (followed next steps None) p ≡ 0
+walk_none next zero p = refl
+walk_none next (suc steps) p = refl
+
+times-before : (a n p : ℕ) → p < a → times (positions_from a n) p ≡ 0
+times-before a zero p l = refl
+times-before a (suc n) p l =
+    omega (arith, times-cons a (positions_from (a + 1) n) p, one_if-other a p (λ e. omega arith), times-before (a + 1) n p (omega arith))
+
+pub times-positions : (a n p : ℕ) → a ≤ p → p < a + n → times (positions_from a n) p ≡ 1
+times-positions a zero p g l = absurd (omega arith)
+times-positions a (suc n) p g l =
+    elim (cases_eq a p) [
+      | inl same ↦ omega (arith, times-cons a (positions_from (a + 1) n) p, one_if-same a p same, times-before (a + 1) n p (omega arith))
+      | inr other ↦ omega (arith, times-cons a (positions_from (a + 1) n) p, one_if-other a p other, times-positions (a + 1) n p (omega arith) (omega arith))
+    ]
+
+-- how often p stands in the sequences that begin at one of these
+abbrev held : LeveledView → ℕ → List ℕ → ℕ
+held t p xs = times (flat_map (sequence_from t) (filter (begins_sequence t) xs)) p
+
+held-begins : (t : LeveledView) (p x : ℕ) (xs : List ℕ) → begins_sequence t x ≡ true → held t p (x ∷ xs) ≡ times (sequence_from t x) p + held t p xs
+held-begins t p x xs b =
+    ap (λ (ys : List ℕ). times (flat_map (sequence_from t) ys) p) (cond-true (begins_sequence t x) (x ∷ filter (begins_sequence t) xs) (filter (begins_sequence t) xs) b)
+    ∙ times-append (sequence_from t x) (flat_map (sequence_from t) (filter (begins_sequence t) xs)) p
+
+held-other : (t : LeveledView) (p x : ℕ) (xs : List ℕ) → begins_sequence t x ≡ false → held t p (x ∷ xs) ≡ held t p xs
+held-other t p x xs b =
+    ap (λ (ys : List ℕ). times (flat_map (sequence_from t) ys) p) (cond-false (begins_sequence t x) (x ∷ filter (begins_sequence t) xs) (filter (begins_sequence t) xs) b)
+
+module _ (t : LeveledView) (h : IsLeveled t) (n : IsNested t) where
+  begins_remains : (p : ℕ) → begins_sequence t p ≡ true → remains t p ≡ true
+  begins_remains p b = (and_parts _ _ b).0
+
+  -- where a sequence begins, nothing leads to
+  begins_first : (p : ℕ) → begins_sequence t p ≡ true → (q : ℕ) → successor t q ≡ Some p → ⊥
+  begins_first p b q e =
+      let led : Bool = list_any (λ q. is_same (successor t q) (Some p)) (positions_from 0 (size_of t)) in
+      let none : led ≡ false = not-true led (and_parts (remains t p) (not led) b).1 in
+      let l : q < size_of t = remains_within t q (successor_remains t q p e) in
+      false≢true (sym (any_none (λ q. is_same (successor t q) (Some p)) 0 (size_of t) none q (omega arith) (omega arith)) ∙ same_to (successor t q) p e)
+
+  leads_to_remaining : (x : ℕ) → IfSome (successor t x) (λ y. remains t y ≡ true)
+  leads_to_remaining x =
+      if_some (λ y. remains t y ≡ true) (successor t x) (λ y e.
+      elim (successor_cases t x y e) [
+        | inl a ↦ a.next.remains_there
+        | inr m ↦ ap is_some (sym (n.same_level x y m.matches)) ∙ successor_remains t x y e
+      ])
+
+  -- a removed position stands in no walk
+  walk_removed : (p : ℕ) → remains t p ≡ false → (steps : ℕ) (from : Option ℕ) → IfSome from (λ x. remains t x ≡ true) →
+      times (followed (successor t) steps from) p ≡ 0
+  walk_removed p r zero from s = refl
+  walk_removed p r (suc steps) None s = refl
+  walk_removed p r (suc steps) (Some x) s =
+      omega (
+        arith,
+        times-cons x (followed (successor t) steps (successor t x)) p,
+        one_if-other x p (λ e. false≢true (sym r ∙ ap (remains t) (sym e) ∙ s)),
+        walk_removed p r steps (successor t x) (leads_to_remaining x),
+      )
+
+  -- a position to which nothing leads stands in a walk only as its first
+  walk_past : (p : ℕ) → ((q : ℕ) → successor t q ≡ Some p → ⊥) → (steps : ℕ) (from : Option ℕ) → (from ≡ Some p → ⊥) →
+      times (followed (successor t) steps from) p ≡ 0
+  walk_past p f zero from s = refl
+  walk_past p f (suc steps) None s = refl
+  walk_past p f (suc steps) (Some x) s =
+      omega (arith, times-cons x (followed (successor t) steps (successor t x)) p, one_if-other x p (λ e. s (ap Some e)), walk_past p f steps (successor t x) (f x))
+
+  walk_first : (p : ℕ) → ((q : ℕ) → successor t q ≡ Some p → ⊥) → (steps x : ℕ) → 0 < steps → times (followed (successor t) steps (Some x)) p ≡ one_if x p
+  walk_first p f zero x l = absurd (omega arith)
+  walk_first p f (suc steps) x l =
+      omega (arith, times-cons x (followed (successor t) steps (successor t x)) p, walk_past p f steps (successor t x) (f x))
+
+  -- a position stands in a walk as its first, or as often as the one that leads to it
+  walk_step : (p q : ℕ) → successor t q ≡ Some p → (steps x : ℕ) (next : Option ℕ) → successor t x ≡ next →
+      ((y : ℕ) → next ≡ Some y → times (followed (successor t) steps (Some y)) p ≡ one_if y p + times (followed (successor t) steps (Some y)) q) →
+      times (followed (successor t) steps next) p ≡ one_if x q + times (followed (successor t) steps next) q
+  walk_step p q e steps x None s ih =
+      omega (
+        arith,
+        walk_none (successor t) steps p,
+        walk_none (successor t) steps q,
+        one_if-other x q (λ same.
+            let no : ◌≡◌ {A = Option ℕ} None (Some p) = sym s ∙ ap (successor t) same ∙ e in cc),
+      )
+  walk_step p q e steps x (Some y) s ih =
+      let rest = ih y refl in
+      elim (cases_eq x q) [
+        | inl same ↦
+            let yp : y ≡ p = (let eq : ◌≡◌ {A = Option ℕ} (Some y) (Some p) = sym s ∙ ap (successor t) same ∙ e in cc) in
+            omega (arith, rest, one_if-same x q same, one_if-same y p yp)
+        | inr other ↦
+            omega (arith, rest, one_if-other x q other, one_if-other y p (λ yp. other (successor_once t h n x q p (s ∙ ap Some yp) e)))
+      ]
+
+  walk_led : (p q : ℕ) → successor t q ≡ Some p → (steps x : ℕ) → x < size_of t → size_of t ≤ x + steps →
+      times (followed (successor t) steps (Some x)) p ≡ one_if x p + times (followed (successor t) steps (Some x)) q
+  walk_led p q e zero x l g = absurd (omega arith)
+  walk_led p q e (suc steps) x l g =
+      let P : ℕ → Option ℕ → Type 0 = λ x o. IfSome o (λ y. (x < y) × (y < size_of t)) in
+      let more = walk_step p q e steps x (successor t x) refl (λ y s.
+      let later : (x < y) × (y < size_of t) = subst (P x) s (successor_later t h x) in
+      walk_led p q e steps y later.1 (omega (arith, later.0))) in
+      omega (arith, times-cons x (followed (successor t) steps (successor t x)) p, times-cons x (followed (successor t) steps (successor t x)) q, more)
+
+  held_removed : (p : ℕ) → remains t p ≡ false → (xs : List ℕ) → held t p xs ≡ 0
+  held_removed p r [] = refl
+  held_removed p r (x ∷ xs) =
+      elim (cases_Bool (begins_sequence t x)) [
+        | inl b ↦ omega (arith, held-begins t p x xs b, walk_removed p r (size_of t) (Some x) (begins_remains x b), held_removed p r xs)
+        | inr b ↦ held-other t p x xs b ∙ held_removed p r xs
+      ]
+
+  held_led : (p q : ℕ) → successor t q ≡ Some p → (xs : List ℕ) → held t p xs ≡ held t q xs
+  held_led p q e [] = refl
+  held_led p q e (x ∷ xs) =
+      elim (cases_Bool (begins_sequence t x)) [
+        | inl b ↦
+            let l : x < size_of t = remains_within t x (begins_remains x b) in
+            omega (
+              arith,
+              held-begins t p x xs b,
+              held-begins t q x xs b,
+              walk_led p q e (size_of t) x l (omega arith),
+              one_if-other x p (λ same. begins_first x b q (e ∙ ap Some (sym same))),
+              held_led p q e xs,
+            )
+        | inr b ↦ held-other t p x xs b ∙ held_led p q e xs ∙ sym (held-other t q x xs b)
+      ]
+
+  held_first : (p : ℕ) → begins_sequence t p ≡ true → (xs : List ℕ) → held t p xs ≡ times xs p
+  held_first p f [] = refl
+  held_first p f (x ∷ xs) =
+      elim (cases_Bool (begins_sequence t x)) [
+        | inl b ↦
+            let l : x < size_of t = remains_within t x (begins_remains x b) in
+            omega (arith, held-begins t p x xs b, walk_first p (begins_first p f) (size_of t) x (omega arith), times-cons x xs p, held_first p f xs)
+        | inr b ↦
+            omega (arith, held-other t p x xs b, times-cons x xs p, one_if-other x p (λ same. false≢true (sym b ∙ ap (begins_sequence t) same ∙ f)), held_first p f xs)
+      ]
+
+  held_once : (k p : ℕ) → p < k → remains t p ≡ true → held t p (positions_from 0 (size_of t)) ≡ 1
+  held_once zero p l r = absurd (omega arith)
+  held_once (suc k) p l r =
+      let within : p < size_of t = remains_within t p r in
+      elim (cases_Bool (list_any (λ q. is_same (successor t q) (Some p)) (positions_from 0 (size_of t)))) [
+        | inl led ↦
+            let found = any_from (λ q. is_same (successor t q) (Some p)) 0 (size_of t) led in
+            let e : successor t found.0 ≡ Some p = same_from (successor t found.0) p found.1 in
+            let P : Option ℕ → Type 0 = λ o. IfSome o (λ y. (found.0 < y) × (y < size_of t)) in
+            let later : (found.0 < p) × (p < size_of t) = subst P e (successor_later t h found.0) in
+            held_led p found.0 e (positions_from 0 (size_of t)) ∙ held_once k found.0 (omega (arith, later.0)) (successor_remains t found.0 p e)
+        | inr free ↦
+            held_first p (and_from _ _ r (not_from_false _ free)) (positions_from 0 (size_of t)) ∙ times-positions 0 (size_of t) p (omega arith) (omega arith)
+      ]
+
+pub flat_views : (t : LeveledView) (xs : List ℕ) → flat_map (λ (s : SequenceView). s.positions) (map (sequence_at t) xs) ≡ flat_map (sequence_from t) xs
+flat_views t [] = refl
+flat_views t (x ∷ xs) = ap (λ (ps : List ℕ). sequence_from t x ++ ps) (flat_views t xs)
+
+-- the sequences hold each remaining position exactly once
+pub sequences_hold_once : (t : LeveledView) → IsLeveled t → IsNested t → HoldsOnce t (sequences_of t)
+sequences_hold_once t h n p l =
+    ap (λ (ps : List ℕ). times ps p) (flat_views t (filter (begins_sequence t) (positions_from 0 (size_of t))))
+    ∙ elim (cases_Bool (remains t p)) [
+      | inl r ↦ held_once t h n (suc p) p (omega arith) r ∙ sym (cond-true (remains t p) 1 0 r)
+      | inr f ↦ held_removed t h n p f (positions_from 0 (size_of t)) ∙ sym (cond-false (remains t p) 1 0 f)
+    ]

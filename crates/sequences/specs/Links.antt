@@ -1,0 +1,32 @@
+-- Positions that are joined by links, each to the next.
+use Rattle.std.specs.Prelude.{Option, Bool, false, ℕ, ◌+◌, ◌<◌, ◌≡◌, List, length, None, IfSome, slice_index, slice_index_or, slice_get}
+use Rattle.units.specs.Runs.{followed}
+
+-- the link of a position, if it has one
+abbrev pub link_at : List (Option ℕ) → ℕ → Option ℕ
+link_at links p = slice_index_or links p None
+
+-- whether a position is marked as one that comes after another
+abbrev pub is_joined : List Bool → ℕ → Bool
+is_joined joined p = slice_index_or joined p false
+
+-- the position that is given, and what its links lead to
+abbrev pub linked : List (Option ℕ) → Option ℕ → List ℕ
+linked links at = followed (link_at links) (length links) at
+
+-- each step leads to a later position below the end
+abbrev pub IsForward : (ℕ → Option ℕ) → ℕ → Type 0
+IsForward next end = (p : ℕ) → IfSome (next p) (λ q. (p < q) × (q < end))
+
+-- each link leads to a later position
+abbrev pub IsLinked : List (Option ℕ) → Type 0
+IsLinked links = IsForward (link_at links) (length links)
+
+-- positions of a paragraph of so many, rising
+pub record ArePositions (ps : List ℕ) (extent : ℕ) : Type 0 where
+  pub within : (k : ℕ) → k < length ps → slice_index ps k < extent
+  pub rising : (j k : ℕ) → j < k → k < length ps → slice_index ps j < slice_index ps k
+
+-- each position of the list is linked to the next one of it, and the last to none
+abbrev pub IsChain : List ℕ → List (Option ℕ) → Type 0
+IsChain ps links = (k : ℕ) → k < length ps → link_at links (slice_index ps k) ≡ slice_get ps (k + 1)

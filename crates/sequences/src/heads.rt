@@ -1,0 +1,144 @@
+ghost use Rattle.std.specs.Prelude.{◌≡◌, ◌≤◌, ℕ, ◌+◌, ◌++◌, ◌<◌, IfSome, Some, length, vec_capacity};
+ghost use Rattle.std.specs.List.{list_any};
+ghost use Rattle.units.specs.Positions.{is_same, positions_from};
+ghost use Rattle.units.specs.Classes.{class_at};
+ghost use Rattle.units.specs.Runs.{size_of, remains, last_remaining, begins_sequence, successor, eos_at, last_in, sequence_from};
+ghost use Rattle.sequences.specs.Links.{link_at, linked, is_joined, IsLinked};
+ghost use Rattle.sequences.specs.Heads.{IsMarked, HasEnds, AreSuccessors, head_at, heads_of, column_of};
+
+use crate::leveled::Leveled;
+use crate::linking::level_or_base;
+use std::sync::ledger::Ledger;
+use units::class::Class;
+use units::level::Level;
+use units::optional_position::OptionalPosition;
+use units::steps::Steps;
+
+/// What is stored of a sequence beside its positions, which stand in their column from `start` up to `end`.
+#[derive(Clone, Copy)]
+pub struct Head {
+    pub start: u32,
+    pub end: u32,
+    pub level: Level,
+    pub sos: Class,
+    pub eos: Class,
+}
+
+/// Marks the positions that come after another in their sequence.
+pub fn mark<L: Ledger>(links: &[OptionalPosition], joined: &mut [bool], steps: &mut Steps<L>)
+    requires { (p : ℕ) → IfSome (link_at links.now p) (λ q. q < length joined.old) }
+    ensures joined { (q : ℕ) → q < length joined.old → is_joined joined.new q ≡ list_any (λ p. is_same (link_at links.now p) (Some q)) (positions_from 0 (length links.now)) }
+    ensures steps { steps.new ≡ steps.old + length joined.old + length links.now }
+{
+    steps.add(joined.len());
+    joined.fill(false);
+    for link in links {
+        steps.tick();
+        if let Some(q) = link.get() {
+            joined[q] = true;
+        }
+    }
+}
+
+/// Whether a sequence begins at `p` (BD13).
+fn begins(t: &Leveled, joined: &[bool], p: usize) -> bool
+    requires here { p < size_of t.now }
+    requires fits { size_of t.now ≤ length joined.now }
+    requires joined { IsMarked t.now joined.now }
+    ensures { result ≡ begins_sequence t.now p }
+{
+    t.level(p).is_some() && !joined[p]
+}
+
+/// Appends the position that is given, and what its links lead to.
+fn push_linked<L: Ledger>(
+    links: &[OptionalPosition],
+    first: usize,
+    column: &mut Vec<u32>,
+    steps: &mut Steps<L>,
+)
+    requires small { length links.now < u32.MAX }
+    requires linked { IsLinked links.now }
+    requires first { first < length links.now }
+    requires room { length column.old.items + length (linked links.now (Some first)) ≤ vec_capacity column.old }
+    ensures column { column.new.items ≡ column.old.items ++ linked links.now (Some first) }
+    ensures capacity { vec_capacity column.new ≡ vec_capacity column.old }
+    ensures steps { steps.new ≡ steps.old + length (linked links.now (Some first)) }
+{
+    let mut at = Some(first);
+    while let Some(p) = at {
+        steps.tick();
+        column.push_reserved(p as u32);
+        at = links[p].get();
+    }
+}
+
+/// What is stored of the sequence that begins at `p`, whose positions stand in the column from `start` up to `end`.
+fn make_head(
+    t: &Leveled,
+    ends: &[Class],
+    last: Option<usize>,
+    p: usize,
+    start: usize,
+    end: usize,
+) -> Head
+    requires here { p < size_of t.now }
+    requires fits { size_of t.now ≤ length ends.now }
+    requires ends { HasEnds t.now ends.now }
+    requires within { IfSome last (λ q. q < size_of t.now) }
+    requires last { last ≡ last_remaining t.now p }
+    requires small { end < u32.MAX }
+    requires rises { start ≤ end }
+    requires positions { end ≡ start + length (sequence_from t.now p) }
+    ensures { result ≡ head_at t.now p start }
+{
+    let level = level_or_base(t, Some(p));
+    Head {
+        start: start as u32,
+        end: end as u32,
+        level,
+        sos: level.direction_with(level_or_base(t, last)),
+        eos: ends[p],
+    }
+}
+
+/// Stores the heads of the sequences in the order of their first positions, and the positions of each in one column.
+pub fn fill_heads<L: Ledger>(
+    t: &Leveled,
+    links: &[OptionalPosition],
+    ends: &[Class],
+    joined: &[bool],
+    heads: &mut Vec<Head>,
+    column: &mut Vec<u32>,
+    steps: &mut Steps<L>,
+)
+    requires small { size_of t.now < u32.MAX }
+    requires links_fit { length links.now ≡ size_of t.now }
+    requires links { AreSuccessors t.now links.now }
+    requires ends_fit { size_of t.now ≤ length ends.now }
+    requires ends { HasEnds t.now ends.now }
+    requires joined_fit { size_of t.now ≤ length joined.now }
+    requires joined { IsMarked t.now joined.now }
+    requires heads_room { size_of t.now ≤ vec_capacity heads.old }
+    requires column_room { size_of t.now ≤ vec_capacity column.old }
+    ensures heads { heads.new.items ≡ heads_of t.now }
+    ensures column { column.new.items ≡ column_of t.now }
+    ensures heads_capacity { vec_capacity heads.new ≡ vec_capacity heads.old }
+    ensures column_capacity { vec_capacity column.new ≡ vec_capacity column.old }
+    ensures steps { steps.new ≡ steps.old + size_of t.now + length (column_of t.now) }
+{
+    heads.clear();
+    column.clear();
+    let mut last = None;
+    for p in 0..t.len() {
+        steps.tick();
+        if begins(t, joined, p) {
+            let start = column.len();
+            push_linked(links, p, column, steps);
+            heads.push_reserved(make_head(t, ends, last, p, start, column.len()));
+        }
+        if t.level(p).is_some() {
+            last = Some(p);
+        }
+    }
+}

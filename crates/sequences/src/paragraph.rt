@@ -1,0 +1,134 @@
+ghost use Rattle.std.specs.Prelude.{◌≡◌, ℕ, ◌+◌, ◌*◌, ◌<◌, ◌≤◌, [], Some, map, take, length, slice_get, vec_len, vec_capacity, IfOk, sum_by};
+ghost use Rattle.units.specs.Runs.{size_of, successor, sequences_of};
+ghost use Rattle.sequences.specs.Links.{link_at};
+ghost use Rattle.sequences.specs.View.{SequencesView};
+ghost use Rattle.sequences.specs.Heads.{view_of, heads_of, column_of, AreSuccessors};
+ghost use Rattle.sequences.specs.Once.{HoldsOnce};
+ghost use Rattle.sequences.specs.Room.{HasRoom};
+
+use crate::heads::{Head, fill_heads, mark};
+use crate::leveled::Leveled;
+use crate::linking::link;
+use crate::sequence::Sequence;
+use std::alloc::Global;
+use std::marker::Model;
+use std::sync::ledger::Ledger;
+use units::class::Class;
+use units::memory::Memory;
+use units::optional_position::OptionalPosition;
+use units::steps::Steps;
+
+/// The isolating run sequences of a paragraph (BD13), in the order of their first positions, in room that is made once:
+/// four bytes a position for links, four for the column of positions, twelve for heads, two more for ends and marks.
+#[derive(Drop)]
+pub struct Sequences {
+    links: Vec<OptionalPosition>,
+    ends: Vec<Class>,
+    joined: Vec<bool>,
+    heads: Vec<Head>,
+    column: Vec<u32>,
+    size: usize,
+}
+
+impl Model for Sequences {
+    ghost Value = { SequencesView };
+
+    ghost view = { λ s. record { all = map (view_of s.column.items s.size) s.heads.items; room = vec_len s.links } };
+
+    ghost invariant = { λ s. HasRoom s.links.items s.ends.items s.joined.items s.heads.items (vec_capacity s.heads) s.column.items (vec_capacity s.column) s.size };
+}
+
+/// Fills the columns, of which the paragraph takes the fronts.
+fn fill_columns<L: Ledger>(
+    t: &Leveled,
+    links: &mut [OptionalPosition],
+    ends: &mut [Class],
+    joined: &mut [bool],
+    heads: &mut Vec<Head>,
+    column: &mut Vec<u32>,
+    steps: &mut Steps<L>,
+)
+    requires small { size_of t.now < u32.MAX }
+    requires links { size_of t.now ≤ length links.old }
+    requires ends { size_of t.now ≤ length ends.old }
+    requires joined { size_of t.now ≤ length joined.old }
+    requires heads { size_of t.now ≤ vec_capacity heads.old }
+    requires column { size_of t.now ≤ vec_capacity column.old }
+    ensures links { AreSuccessors t.now (take (size_of t.now) links.new) }
+    ensures heads { heads.new.items ≡ heads_of t.now }
+    ensures column { column.new.items ≡ column_of t.now }
+    ensures heads_capacity { vec_capacity heads.new ≡ vec_capacity heads.old }
+    ensures column_capacity { vec_capacity column.new ≡ vec_capacity column.old }
+    ensures steps { steps.new ≡ steps.old + 4 * size_of t.now + length (column_of t.now) }
+{
+    let size = t.len();
+    let links = &mut links[..size];
+    let joined = &mut joined[..size];
+    link(t, links, ends, steps);
+    mark(links, joined, steps);
+    fill_heads(t, links, ends, joined, heads, column, steps);
+}
+
+impl Sequences {
+    /// No sequences, with room for a paragraph of `n` positions. Memory that is refused is answered as `Memory`, and so are
+    /// 2^32 - 1 positions and more, which links of 32 bits can't count.
+    pub fn with_room(alloc: Global, n: usize) -> Result<Sequences, Memory>
+        ensures { IfOk result (λ s. s ≡ record { all = []; room = n }) }
+    {
+        if n >= u32::MAX as usize {
+            return Err(Memory);
+        }
+        Ok(Sequences {
+            links: vec![in alloc; OptionalPosition::none(); n]?,
+            ends: vec![in alloc; Class::L; n]?,
+            joined: vec![in alloc; false; n]?,
+            heads: Vec::with_capacity(alloc, n)?,
+            column: Vec::with_capacity(alloc, n)?,
+            size: 0,
+        })
+    }
+
+    /// Finds the sequences of a paragraph, which has no more positions than there is room for.
+    pub fn fill<L: Ledger>(&mut self, t: &Leveled, steps: &mut Steps<L>)
+        requires { size_of t.now ≤ self.old.room }
+        ensures all { self.new.all ≡ sequences_of t.now }
+        ensures room { self.new.room ≡ self.old.room }
+        ensures once { HoldsOnce t.now self.new.all }
+        ensures fit { sum_by (λ s. length s.positions) self.new.all ≤ size_of t.now }
+        ensures at_least { steps.old + size_of t.now ≤ steps.new }
+        ensures at_most { steps.new ≤ steps.old + 20 * (size_of t.now + 1) }
+    {
+        fill_columns(
+            t,
+            &mut self.links,
+            &mut self.ends,
+            &mut self.joined,
+            &mut self.heads,
+            &mut self.column,
+            steps,
+        );
+        self.size = t.len();
+    }
+
+    /// How many sequences there are.
+    pub fn count(&self) -> usize
+        ensures { result ≡ length self.now.all }
+    {
+        self.heads.len()
+    }
+
+    /// The sequence with this number, counted from 0 in the order of first positions.
+    pub fn get(&self, k: usize) -> Sequence<'_>
+        requires { k < length self.now.all }
+        ensures { slice_get self.now.all k ≡ Some result }
+    {
+        let head = self.heads[k];
+        Sequence {
+            positions: &self.column[head.start as usize..head.end as usize],
+            links: &self.links[..self.size],
+            level: head.level,
+            sos: head.sos,
+            eos: head.eos,
+        }
+    }
+}

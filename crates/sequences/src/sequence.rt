@@ -1,0 +1,105 @@
+ghost use Rattle.std.specs.Prelude.{◌≡◌, ℕ, ◌+◌, ◌<◌, ◌≤◌, List, length, slice_index, slice_get, IfSome, Contains};
+ghost use Rattle.std.specs.Iterator.{YieldsFirst, item_count};
+ghost use Rattle.units.specs.Runs.{SequenceView};
+ghost use Rattle.sequences.specs.Links.{ArePositions, IsChain};
+
+use std::marker::Model;
+use units::class::Class;
+use units::level::Level;
+use units::optional_position::OptionalPosition;
+
+/// The positions of a sequence that are still to come.
+#[derive(Drop)]
+pub struct Positions<'a> {
+    rest: &'a [u32],
+}
+
+impl<'a> Model for Positions<'a> {
+    ghost Value = { List ℕ };
+
+    ghost view = { λ s. s.rest.now };
+}
+
+impl<'a> Iterator for Positions<'a> {
+    type Item = usize;
+
+    ghost next_gives = { YieldsFirst (λ s. s) };
+
+    ghost remaining = { item_count (λ s. s) };
+
+    fn next(&mut self) -> Option<usize> {
+        let (first, rest) = self.rest.split_first()?;
+        self.rest = rest;
+        Some(*first as usize)
+    }
+}
+
+/// One isolating run sequence of a paragraph (BD13). Positions are those of the paragraph.
+#[derive(Drop)]
+pub struct Sequence<'a> {
+    pub(crate) positions: &'a [u32],
+    pub(crate) links: &'a [OptionalPosition],
+    pub(crate) level: Level,
+    pub(crate) sos: Class,
+    pub(crate) eos: Class,
+}
+
+impl<'a> Model for Sequence<'a> {
+    ghost Value = { SequenceView };
+
+    ghost view = { λ s. record { positions = s.positions.now; level = s.level; sos = s.sos; eos = s.eos; extent = length s.links.now } };
+
+    ghost invariant = { λ s. ArePositions s.positions.now (length s.links.now) × IsChain s.positions.now s.links.now × (s.level ≤ 125) };
+}
+
+impl<'a> Sequence<'a> {
+    /// The positions, rising, one by one.
+    pub fn positions(&self) -> Positions<'a>
+        ensures value { result ≡ self.now.positions }
+        ensures rise { ArePositions self.now.positions self.now.extent }
+    {
+        Positions {
+            rest: self.positions,
+        }
+    }
+
+    /// The positions, rising, as one slice.
+    pub fn as_slice(&self) -> &'a [u32]
+        ensures value { result.now ≡ self.now.positions }
+        ensures rise { ArePositions self.now.positions self.now.extent }
+    {
+        self.positions
+    }
+
+    /// The level of its positions, 0 to 125.
+    pub fn level(&self) -> Level
+        ensures value { result ≡ self.now.level }
+        ensures within { result ≤ 125 }
+    {
+        self.level
+    }
+
+    /// What stands before its first position: L or R (X10).
+    pub fn sos(&self) -> Class
+        ensures { result ≡ self.now.sos }
+    {
+        self.sos
+    }
+
+    /// What stands after its last position: L or R (X10).
+    pub fn eos(&self) -> Class
+        ensures { result ≡ self.now.eos }
+    {
+        self.eos
+    }
+
+    /// The position after `p` in the sequence, or none where `p` is its last.
+    pub fn after(&self, p: usize) -> Option<usize>
+        requires { Contains self.now.positions p }
+        ensures value { (k : ℕ) → k < length self.now.positions → slice_index self.now.positions k ≡ p → result ≡ slice_get self.now.positions (k + 1) }
+        ensures later { IfSome result (λ q. (p < q) × (q < self.now.extent)) }
+    {
+        let links = self.links;
+        links[p].get()
+    }
+}
