@@ -12,7 +12,7 @@ use Rattle.units.specs.Runs.{SequenceView, LeveledView, IsLeveled, size_of, leve
 use Rattle.sequences.specs.declared.heads.Head.{Head}
 use Rattle.sequences.specs.Links.{link_at, ArePositions, IsChain}
 use Rattle.sequences.specs.Heads.{head_at, heads_from, heads_of, firsts_before, column_before, column_of, view_of, IsHead}
-use Rattle.sequences.specs.Once.{IsNested}
+use Rattle.units.specs.Runs.{IsNested}
 use Rattle.sequences.proofs.Forward.{successor_later}
 use Rattle.sequences.proofs.Links.{followed_rises, followed_chain, rising_positions}
 use Rattle.sequences.proofs.Marks.{positions_more}

@@ -7,7 +7,7 @@ use Rattle.std.proofs.lemmas.List.{length_push}
 use Rattle.units.specs.Runs.{LeveledView, IsLeveled, size_of, remains, last_remaining, begins_sequence, sequence_from}
 use Rattle.sequences.specs.declared.heads.Head.{Head}
 use Rattle.sequences.specs.Heads.{head_at, heads_from, firsts_before, column_before}
-use Rattle.sequences.specs.Once.{IsNested}
+use Rattle.units.specs.Runs.{IsNested}
 use Rattle.sequences.proofs.Column.{heads_push, heads_same, column_push, column_same, column_room}
 
 -- the sequences that begin before k are stored

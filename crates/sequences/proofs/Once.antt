@@ -8,7 +8,8 @@ use Rattle.std.proofs.lemmas.List.Sums.{sum_by-cons, sum_by-append}
 use Rattle.units.specs.Positions.{is_same, positions_from}
 use Rattle.units.specs.Runs.{followed}
 use Rattle.units.specs.Runs.{LeveledView, IsLeveled, size_of, remains, successor, begins_sequence, sequence_at, sequence_from, sequences_of}
-use Rattle.sequences.specs.Once.{times, IsNested, HoldsOnce}
+use Rattle.units.specs.Runs.{IsNested}
+use Rattle.sequences.specs.Once.{times, HoldsOnce}
 use Rattle.units.specs.Runs.{SequenceView}
 use Rattle.sequences.proofs.Forward.{successor_later}
 use Rattle.sequences.proofs.Joined.{successor_remains, successor_once, successor_cases}

@@ -1,7 +1,7 @@
 ghost use Rattle.std.specs.Prelude.{◌≡◌, ◌<◌, ◌≤◌, IfSome};
 ghost use Rattle.units.specs.Classes.{class_at, is_isolate_initiator};
-ghost use Rattle.units.specs.Runs.{LeveledView, IsLeveled, size_of, level_of, matched_pdi};
-ghost use Rattle.sequences.specs.Once.{IsNested, IsExplicit};
+ghost use Rattle.units.specs.Runs.{LeveledView, IsLeveled, IsNested, size_of, level_of, matched_pdi};
+ghost use Rattle.sequences.specs.Once.{IsExplicit};
 
 use std::marker::Model;
 use units::class::Class;
