@@ -1,0 +1,38 @@
+-- What a line says, by how its content begins.
+use Rattle.std.proofs.Common.{◌≡◌, ◌≢◌, ℕ, ◌<◌, ◌≤◌, ◌==◌, Bool, true, false, List, [], ◌∷◌, length, get_or, refl, sym, ap, ◌∙◌, arith}
+use Rattle.std.specs.Prelude.{nat_lt}
+use Rattle.std.proofs.lemmas.Bool.{ne_eqb, le-ltb}
+use Rattle.units.specs.Text.{content_of, fields_of}
+use Rattle.bidtests.specs.ClassesFile.{Nothing, classes_line, line_of_content, directive, data_line}
+
+by-content : (line content : List ℕ) → content ≡ content_of line → length line ≤ 65536 → classes_line line ≡ line_of_content content
+unfolding classes_line
+by-content line content is le =
+    let e : nat_lt 65536 (length line) ≡ false = le-ltb 65536 (length line) le in
+    rw e (ap line_of_content (sym is))
+
+content-empty : (content : List ℕ) → length content ≡ 0 → line_of_content content ≡ Nothing
+content-empty [] none = refl
+content-empty (b ∷ bs) none = absurd (omega arith)
+
+content-at : (content : List ℕ) → 0 < length content → get_or content 0 0 ≡ 64 → line_of_content content ≡ directive content
+content-at [] some e = absurd (omega arith)
+content-at (b ∷ bs) some e = let t : (b == 64) ≡ true = ap (λ x. x == 64) e in rw t refl
+
+content-other : (content : List ℕ) → 0 < length content → get_or content 0 0 ≢ 64 → line_of_content content ≡ data_line (fields_of content)
+content-other [] some ne = absurd (omega arith)
+content-other (b ∷ bs) some ne = let t : (b == 64) ≡ false = ne_eqb b 64 ne in rw t refl
+
+module _ (line content : List ℕ) (is : content ≡ content_of line) (le : length line ≤ 65536) where
+  pub says-nothing : length content ≡ 0 → classes_line line ≡ Nothing
+  says-nothing none = by-content line content is le ∙ content-empty content none
+
+  pub says-directive : 0 < length content → get_or content 0 0 ≡ 64 → classes_line line ≡ directive content
+  says-directive some e = by-content line content is le ∙ content-at content some e
+
+  pub says-row : 0 < length content → get_or content 0 0 ≢ 64 → classes_line line ≡ data_line (fields_of content)
+  says-row some ne = by-content line content is le ∙ content-other content some ne
+
+pub not_empty : (content : List ℕ) (b : Bool) → b ≡ (length content == 0) → b ≡ false → 0 < length content
+not_empty [] b e f = absurd (cc)
+not_empty (x ∷ xs) b e f = omega arith

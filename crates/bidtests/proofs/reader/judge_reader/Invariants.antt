@@ -1,0 +1,12 @@
+use Rattle.std.proofs.Common.{ℕ, List, ◌++◌}
+use Rattle.bidtests.specs.Standing.{Judges}
+use Rattle.bidtests.proofs.reader.judge_reader.Given as goal
+
+abbrev pub invariant-loop-judge : goal.invariant-loop-judge
+invariant-loop-judge g l =
+    (given : List ℕ)
+    × g.S.ByteSource.gives l.initial.source given l.source
+    × ((b : List ℕ) → Judges l.initial.judge b → Judges l.judge (b ++ given))
+
+abbrev pub decreases-loop-judge : goal.decreases-loop-judge
+decreases-loop-judge g l = g.S.ByteSource.room l.source

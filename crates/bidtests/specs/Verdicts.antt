@@ -1,0 +1,124 @@
+-- The verdict on a test file: the least line that is malformed or holds a wrong case, or yes.
+use Rattle.std.specs.Prelude.{Option, ℕ, ◌+◌, ◌-◌, ◌^◌, min, Bool, true, false, nat_eq, if◌then◌else◌, List, [], ◌∷◌, length, sum_by, count_by, Some, None}
+use Rattle.units.specs.Positions.{is_same}
+use Rattle.units.specs.Layout.{TextLayout, layout_of, all_orders}
+use Rattle.units.specs.declared.bracket.Unit.{Unit as BidiUnit}
+use Rattle.units.specs.declared.level.Direction.{Direction}
+use Rattle.bidtests.specs.declared.verdict.Cause.{Cause}
+use Rattle.bidtests.specs.declared.verdict.Place.{Place}
+use Rattle.bidtests.specs.declared.verdict.Place.TheVariants.{ParaLevel, Levels, Order}
+use Rattle.bidtests.specs.declared.verdict.Verdict.{Verdict}
+use Rattle.bidtests.specs.declared.verdict.Verdict.TheVariants.{Yes, Malformed, Wrong}
+
+-- what a row claims of its text under each of its directions: the first paragraph's level or nothing of it, the levels of all positions, and the order
+pub record Claim : Type 0 where
+  pub text : List BidiUnit
+  pub directions : List Direction
+  pub para : Option ℕ
+  pub levels : List (Option ℕ)
+  pub order : List ℕ
+
+-- what a line comes to, with the lines before it: it says nothing, is a row with its claim, or is malformed
+pub data Finding : Type 0 where
+  Silent : Finding
+  Claims : (claim : Claim) → Finding
+  Faulty : (cause : Cause) → Finding
+
+-- the first index, counted from `at`, at which two lists differ or one of them ends
+abbrev pub first_difference : {A : Type 0} → (A → A → Bool) → List A → List A → ℕ → Option ℕ
+first_difference same [] [] at = None
+first_difference same [] (y ∷ ys) at = Some at
+first_difference same (x ∷ xs) [] at = Some at
+first_difference same (x ∷ xs) (y ∷ ys) at = if same x y then first_difference same xs ys (at + 1) else Some at
+
+-- the first of these, where there is one
+abbrev pub first_of : List ℕ → Option ℕ
+first_of [] = None
+first_of (x ∷ xs) = Some x
+
+-- no paragraph level is claimed, or this one
+abbrev pub agrees : Option ℕ → Option ℕ → Bool
+agrees None level = true
+agrees (Some claimed) level = is_same (Some claimed) level
+
+-- the first of the two that is there
+abbrev pub or_else : {A : Type 0} → Option A → Option A → Option A
+or_else None b = b
+or_else (Some a) b = Some a
+
+-- the place in such a list, where there is an index
+abbrev pub placed_in : (ℕ → Place) → Option ℕ → Option Place
+placed_in place None = None
+placed_in place (Some i) = Some (place i)
+
+-- the first place at which these differ from the layout: the first paragraph's level, then the levels, then the orders of all lines joined
+abbrev pub wrong_place : Option ℕ → List (Option ℕ) → List ℕ → TextLayout → Option Place
+wrong_place para levels order layout =
+    if agrees para (first_of layout.paras)
+    then or_else
+    (placed_in Levels (first_difference is_same levels layout.levels 0))
+    (placed_in Order (first_difference nat_eq order (all_orders layout) 0))
+    else Some ParaLevel
+
+-- the direction with the place, where there is one
+abbrev pub with_place : Direction → Option Place → Option (Direction × Place)
+with_place d None = None
+with_place d (Some place) = Some (d, place)
+
+-- the first of these directions whose case is wrong, and where: each case is compared with the layout of the row's text (P1 to L2) without breaks
+abbrev pub wrong_case : Claim → List Direction → Option (Direction × Place)
+wrong_case claim [] = None
+wrong_case claim (d ∷ ds) =
+    or_else (with_place d (wrong_place claim.para claim.levels claim.order (layout_of claim.text d []))) (wrong_case claim ds)
+
+-- the greatest number that is counted to
+abbrev pub most_counted : ℕ
+most_counted = 2 ^ 64 - 1
+
+-- the number of the line before which k lines stand
+abbrev pub line_number : ℕ → ℕ
+line_number k = min (k + 1) most_counted
+
+-- the no of a wrong case, where there is one
+abbrev pub wrong_at : ℕ → Option (Direction × Place) → Option Verdict
+wrong_at number None = None
+wrong_at number (Some x) = Some (Wrong number x.0 x.1)
+
+-- the no that a line of this number gives, if it is malformed or holds a wrong case
+abbrev pub fault_of : ℕ → Finding → Option Verdict
+fault_of number Silent = None
+fault_of number (Faulty cause) = Some (Malformed number cause)
+fault_of number (Claims claim) = wrong_at number (wrong_case claim claim.directions)
+
+-- how many cases a line holds: one for each direction that it names
+abbrev pub cases_of : Finding → ℕ
+cases_of Silent = 0
+cases_of (Faulty cause) = 0
+cases_of (Claims claim) = length claim.directions
+
+-- the line is a row
+abbrev pub is_row : Finding → Bool
+is_row (Claims claim) = true
+is_row _ = false
+
+-- the no of the least of these lines that gives one, where k lines stand before them
+abbrev pub first_fault : ℕ → List Finding → Option Verdict
+first_fault k [] = None
+first_fault k (f ∷ fs) = or_else (fault_of (line_number k) f) (first_fault (k + 1) fs)
+
+-- how many rows these lines hold
+abbrev pub rows_in : List Finding → ℕ
+rows_in fs = min (count_by is_row fs) most_counted
+
+-- how many cases these lines hold
+abbrev pub cases_in : List Finding → ℕ
+cases_in fs = min (sum_by cases_of fs) most_counted
+
+-- the no that is given, or else yes with the counts of these lines
+abbrev pub or_yes : List Finding → Option Verdict → Verdict
+or_yes fs (Some verdict) = verdict
+or_yes fs None = Yes (rows_in fs) (cases_in fs)
+
+-- the verdict on a file whose lines come to this
+unfoldable pub verdict_on : List Finding → Verdict
+verdict_on fs = or_yes fs (first_fault 0 fs)
