@@ -6,3 +6,4 @@ pub mod ClassesFile
 pub mod Readings
 pub mod Engines
 pub mod Standing
+pub mod Rows

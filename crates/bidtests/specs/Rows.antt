@@ -1,0 +1,106 @@
+-- Worked files, and what the definitions compute of them: each line ends at LF.
+use Rattle.std.specs.Prelude.{ℕ, ◌≡◌, List, [], ◌∷◌, refl, codes}
+use Rattle.std.specs.List.{flat_map}
+use Rattle.units.specs.Lines.{ended}
+use Rattle.units.specs.Isolates.{matching_pdi, matching_initiator, partner_of, isolate_holds, isolate_around, first_strong, para_level_of}
+use Rattle.units.specs.Explicit.{matching_pdf, embedding_holds, chain, entered, explicit_at}
+use Rattle.units.specs.Weak.{after_weak}
+use Rattle.units.specs.Brackets.{stop_of, bracket_pairs_of, closer_of, after_paired}
+use Rattle.units.specs.Neutral.{after_neutral}
+use Rattle.units.specs.Reordering.{after_resets, line_order}
+use Rattle.units.specs.Layout.{resolved_levels, layout_of}
+use Rattle.units.specs.declared.level.Direction.TheVariants.{Ltr, Rtl}
+use Rattle.bidtests.specs.Verdicts.{verdict_on}
+use Rattle.bidtests.specs.ClassesFile.{classes_line, classes_verdict}
+use Rattle.bidtests.specs.declared.verdict.Place.TheVariants.{Levels, Order}
+use Rattle.bidtests.specs.declared.verdict.Cause.TheVariants.{LevelItem, OrderItem, ClassItem, BitSet, NoExpectation, Directive}
+use Rattle.bidtests.specs.declared.verdict.Verdict.TheVariants.{Yes, Malformed, Wrong}
+
+-- a file of these lines
+abbrev pub written : List (List ℕ) → List ℕ
+written lines = flat_map ended lines
+
+-- no line is no row
+pub no_line : classes_verdict [] ≡ Yes 0 0
+unfolding classes_verdict verdict_on
+no_line = refl
+
+-- under RTL the level is 2; auto and LTR are right
+pub level_differs_rtl : classes_verdict (written (codes "@Levels: 0" ∷ codes "@Reorder: 0" ∷ codes "L; 7" ∷ [])) ≡ Wrong 3 Rtl (Levels 0)
+unfolding classes_verdict verdict_on classes_line matching_pdi matching_initiator partner_of isolate_holds isolate_around first_strong para_level_of matching_pdf embedding_holds chain entered explicit_at after_weak stop_of bracket_pairs_of closer_of after_paired after_neutral resolved_levels after_resets line_order layout_of
+level_differs_rtl = refl
+
+-- two paragraphs, the first at level 1
+pub two_paragraphs : classes_verdict (written (codes "@Levels: 1 1 0" ∷ codes "@Reorder: 1 0 2" ∷ codes "R B L; 1" ∷ [])) ≡ Yes 1 1
+unfolding classes_verdict verdict_on classes_line matching_pdi matching_initiator partner_of isolate_holds isolate_around first_strong para_level_of matching_pdf embedding_holds chain entered explicit_at after_weak stop_of bracket_pairs_of closer_of after_paired after_neutral resolved_levels after_resets line_order layout_of
+two_paragraphs = refl
+
+-- a row with no list in force
+pub no_lists : classes_verdict (written (codes "L; 7" ∷ [])) ≡ Malformed 1 NoExpectation
+unfolding classes_verdict verdict_on classes_line
+no_lists = refl
+
+-- a level above 126
+pub level_too_high : classes_verdict (written (codes "@Levels: 127" ∷ [])) ≡ Malformed 1 LevelItem
+unfolding classes_verdict verdict_on classes_line
+level_too_high = refl
+
+-- a bit set above 7
+pub bit_eight : classes_verdict (written (codes "@Levels: 0" ∷ codes "@Reorder: 0" ∷ codes "L; 8" ∷ [])) ≡ Malformed 3 BitSet
+unfolding classes_verdict verdict_on classes_line
+bit_eight = refl
+
+-- an order that ends too early
+pub order_too_short : classes_verdict (written (codes "@Levels: 0 0" ∷ codes "@Reorder: 0" ∷ codes "L L; 2" ∷ [])) ≡ Wrong 3 Ltr (Order 1)
+unfolding classes_verdict verdict_on classes_line matching_pdi matching_initiator partner_of isolate_holds isolate_around first_strong para_level_of matching_pdf embedding_holds chain entered explicit_at after_weak stop_of bracket_pairs_of closer_of after_paired after_neutral resolved_levels after_resets line_order layout_of
+order_too_short = refl
+
+-- two directions at level 0
+pub left_to_right : classes_verdict (written (codes "@Levels: 0 1 1" ∷ codes "@Reorder: 0 2 1" ∷ codes "L R AL; 3" ∷ [])) ≡ Yes 1 2
+unfolding classes_verdict verdict_on classes_line matching_pdi matching_initiator partner_of isolate_holds isolate_around first_strong para_level_of matching_pdf embedding_holds chain entered explicit_at after_weak stop_of bracket_pairs_of closer_of after_paired after_neutral resolved_levels after_resets line_order layout_of
+left_to_right = refl
+
+-- one direction at level 1
+pub right_to_left : classes_verdict (written (codes "@Levels: 2 1 1" ∷ codes "@Reorder: 2 1 0" ∷ codes "L R AL; 4" ∷ [])) ≡ Yes 1 1
+unfolding classes_verdict verdict_on classes_line matching_pdi matching_initiator partner_of isolate_holds isolate_around first_strong para_level_of matching_pdf embedding_holds chain entered explicit_at after_weak stop_of bracket_pairs_of closer_of after_paired after_neutral resolved_levels after_resets line_order layout_of
+right_to_left = refl
+
+-- a class that no row may have so far
+pub other_class : classes_verdict (written (codes "@Levels: x" ∷ codes "@Reorder:" ∷ codes "LRE; 7" ∷ [])) ≡ Malformed 3 ClassItem
+unfolding classes_verdict verdict_on classes_line
+other_class = refl
+
+-- the least line that is wrong or malformed decides
+pub least_line : classes_verdict (written (codes "@Levels: 0" ∷ codes "@Reorder: 0" ∷ codes "L; 4" ∷ codes "L; 4" ∷ codes "L; 16" ∷ [])) ≡ Wrong 3 Rtl (Levels 0)
+unfolding classes_verdict verdict_on classes_line matching_pdi matching_initiator partner_of isolate_holds isolate_around first_strong para_level_of matching_pdf embedding_holds chain entered explicit_at after_weak stop_of bracket_pairs_of closer_of after_paired after_neutral resolved_levels after_resets line_order layout_of
+least_line = refl
+
+-- `@Type:` says nothing, and `@Level:` is no directive
+pub other_directive : classes_verdict (written (codes "@Type: 1" ∷ codes "@Level: 0" ∷ [])) ≡ Malformed 2 Directive
+unfolding classes_verdict verdict_on classes_line
+other_directive = refl
+
+-- a row with levels and no order in force
+pub order_missing : classes_verdict (written (codes "@Levels: 0" ∷ codes "L; 7" ∷ [])) ≡ Malformed 2 NoExpectation
+unfolding classes_verdict verdict_on classes_line
+order_missing = refl
+
+-- a number has no leading zero
+pub leading_zero : classes_verdict (written (codes "@Levels: 00" ∷ [])) ≡ Malformed 1 LevelItem
+unfolding classes_verdict verdict_on classes_line
+leading_zero = refl
+
+-- a position above 65,535
+pub position_too_high : classes_verdict (written (codes "@Reorder: 65536" ∷ [])) ≡ Malformed 1 OrderItem
+unfolding classes_verdict verdict_on classes_line
+position_too_high = refl
+
+-- each B is a paragraph
+pub only_separators : classes_verdict (written (codes "@Levels: 1 1 1" ∷ codes "@Reorder: 0 1 2" ∷ codes "B B B; 4" ∷ [])) ≡ Yes 1 1
+unfolding classes_verdict verdict_on classes_line matching_pdi matching_initiator partner_of isolate_holds isolate_around first_strong para_level_of matching_pdf embedding_holds chain entered explicit_at after_weak stop_of bracket_pairs_of closer_of after_paired after_neutral resolved_levels after_resets line_order layout_of
+only_separators = refl
+
+-- the nearest lists are in force
+pub nearest_lists : classes_verdict (written (codes "@Levels: 1" ∷ codes "@Reorder: 1" ∷ codes "@Levels: 0" ∷ codes "@Reorder: 0" ∷ codes "L; 1" ∷ codes "@Levels: 1" ∷ codes "R; 3" ∷ [])) ≡ Yes 2 3
+unfolding classes_verdict verdict_on classes_line matching_pdi matching_initiator partner_of isolate_holds isolate_around first_strong para_level_of matching_pdf embedding_holds chain entered explicit_at after_weak stop_of bracket_pairs_of closer_of after_paired after_neutral resolved_levels after_resets line_order layout_of
+nearest_lists = refl

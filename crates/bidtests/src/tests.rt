@@ -1,0 +1,216 @@
+use crate::judge::Judge;
+use crate::reader::{ReadFault, judge_reader};
+use crate::verdict::{Cause, Place, Verdict};
+use std::alloc::Global;
+use std::process::Abort;
+use std::test::Fail;
+use units::cut_source::CutSource;
+use units::level::Direction;
+use units::memory::Memory;
+use units::slice_source::SliceSource;
+
+const WRONG_UNDER_RTL: &[u8] = b"@Levels: 0\n@Reorder: 0\nL; 7\n";
+
+const WRONG_UNDER_RTL_VERDICT: Verdict = Verdict::Wrong {
+    line: 3,
+    direction: Direction::Rtl,
+    place: Place::Levels(0),
+};
+
+const LONG_ROW_VERDICT: Verdict = Verdict::Wrong {
+    line: 3,
+    direction: Direction::Ltr,
+    place: Place::Levels(1),
+};
+
+fn yes(rows: u64, cases: u64) -> Verdict {
+    Verdict::Yes { rows, cases }
+}
+
+fn malformed(line: u64, cause: Cause) -> Verdict {
+    Verdict::Malformed { line, cause }
+}
+
+fn wrong(line: u64, direction: Direction, place: Place) -> Verdict {
+    Verdict::Wrong {
+        line,
+        direction,
+        place,
+    }
+}
+
+/// The verdict on bytes that are fed in pieces of this size, with empty pieces between.
+fn fed(alloc: Global, bytes: &[u8], size: usize) -> Result<Verdict, Memory> {
+    let mut judge = Judge::for_classes(alloc)?;
+    for piece in bytes.chunks(size.max(1)) {
+        judge.feed(piece);
+        judge.feed(&[]);
+    }
+    Ok(judge.finish())
+}
+
+/// The verdict is this one however the bytes are cut.
+fn expect(rt: &impl Abort, alloc: Global, bytes: &[u8], verdict: Verdict) -> Result<(), Memory> {
+    for size in [bytes.len(), 1, 4, 7] {
+        assert_eq!(rt; fed(alloc, bytes, size)?, verdict, "in pieces of {size}");
+    }
+    Ok(())
+}
+
+/// The third line has 65,535 bytes: 32,767 times `L`, with single blanks between, then `;2`.
+fn feed_long_row(judge: &mut Judge) {
+    for byte in b"@Levels: 0\n@Reorder: 0\n" {
+        judge.feed(&[*byte]);
+    }
+    for _ in 0..32_766 {
+        judge.feed(b"L");
+        judge.feed(b" ");
+    }
+    for byte in b"L;2" {
+        judge.feed(&[*byte]);
+    }
+}
+
+/// `#`, so many times `a`, and then these bytes.
+fn long_comment(alloc: Global, count: usize, end: &[u8]) -> Result<Verdict, Memory> {
+    let mut judge = Judge::for_classes(alloc)?;
+    judge.feed(b"#");
+    for _ in 0..count {
+        judge.feed(b"a");
+    }
+    judge.feed(end);
+    Ok(judge.finish())
+}
+
+#[test]
+fn rows_that_are_right(rt: HostRuntime) -> Result<(), Fail> {
+    let alloc = rt.alloc();
+    expect(&rt, alloc, b"", yes(0, 0))?;
+    expect(
+        &rt,
+        alloc,
+        b"@Levels: 1 1 0\n@Reorder: 1 0 2\nR B L; 1\n",
+        yes(1, 1),
+    )?;
+    expect(
+        &rt,
+        alloc,
+        b"@Levels: 0 1 1\n@Reorder: 0 2 1\nL R AL; 3\n",
+        yes(1, 2),
+    )?;
+    expect(
+        &rt,
+        alloc,
+        b"@Levels: 2 1 1\n@Reorder: 2 1 0\nL R AL; 4",
+        yes(1, 1),
+    )?;
+    expect(
+        &rt,
+        alloc,
+        b"# \xff\r\n@Type:\tL\r\n@Levels:\t0\n@Reorder: 0 # x\n L ;\t3 \r\nL;2\n\n",
+        yes(2, 3),
+    )?;
+    Ok(())
+}
+
+#[test]
+fn rows_that_are_wrong(rt: HostRuntime) -> Result<(), Fail> {
+    let alloc = rt.alloc();
+    expect(&rt, alloc, WRONG_UNDER_RTL, WRONG_UNDER_RTL_VERDICT)?;
+    expect(
+        &rt,
+        alloc,
+        b"@Levels: 0\n@Reorder: 0\nL; 4\nL; 4\nL; 16\n",
+        WRONG_UNDER_RTL_VERDICT,
+    )?;
+    expect(
+        &rt,
+        alloc,
+        b"@Levels: 0 0\n@Reorder: 0\nL L; 2\n",
+        wrong(3, Direction::Ltr, Place::Order(1)),
+    )?;
+    expect(
+        &rt,
+        alloc,
+        b"@Levels: 0 1 1\n@Reorder: 0 1 2\nL R AL; 7",
+        wrong(3, Direction::Auto, Place::Order(1)),
+    )?;
+    Ok(())
+}
+
+#[test]
+fn lines_that_are_malformed(rt: HostRuntime) -> Result<(), Fail> {
+    let alloc = rt.alloc();
+    for (bytes, line, cause) in [
+        (b"L; 7\n".as_slice(), 1, Cause::NoExpectation),
+        (b"@Levels: 127\n", 1, Cause::LevelItem),
+        (b"@Levels: 0\n@Reorder: 0\nL; 8\n", 3, Cause::BitSet),
+        (b"@Levels: x\n@Reorder:\nLRE; 7\n", 3, Cause::ClassItem),
+        (b"@Type: 1\n@Level: 0\n", 2, Cause::Directive),
+        (b"@Levels: 0\nL; 7\n", 2, Cause::NoExpectation),
+        (b"@Levels: 00\n", 1, Cause::LevelItem),
+        (b"@Reorder: 65536\n", 1, Cause::OrderItem),
+        (b"L", 1, Cause::FieldCount),
+        (b" ; 9", 1, Cause::EmptyRow),
+        (b"L l; 9", 1, Cause::ClassItem),
+    ] {
+        expect(&rt, alloc, bytes, malformed(line, cause))?;
+    }
+    Ok(())
+}
+
+#[test]
+fn pieces_may_begin_anywhere(rt: HostRuntime) -> Result<(), Fail> {
+    let mut judge = Judge::for_classes(rt.alloc())?;
+    let (first, rest) = WRONG_UNDER_RTL.split_at(4);
+    judge.feed(first);
+    judge.feed(rest);
+    assert_eq!(&rt; judge.finish(), WRONG_UNDER_RTL_VERDICT);
+    Ok(())
+}
+
+#[test]
+fn lines_up_to_the_longest(rt: HostRuntime) -> Result<(), Fail> {
+    let alloc = rt.alloc();
+    for end in [b"".as_slice(), b"\n"] {
+        assert_eq!(&rt; long_comment(alloc, 65_535, end)?, yes(0, 0));
+        let too_long = malformed(1, Cause::LineTooLong);
+        assert_eq!(&rt; long_comment(alloc, 65_536, end)?, too_long);
+    }
+    Ok(())
+}
+
+#[test]
+fn sources_are_read_to_the_end(rt: HostRuntime) -> Result<(), Fail> {
+    let judge = Judge::for_classes(rt.alloc())?;
+    let verdict = judge_reader(judge, &mut SliceSource::new(WRONG_UNDER_RTL));
+    assert_eq!(&rt; verdict, Ok(WRONG_UNDER_RTL_VERDICT));
+    Ok(())
+}
+
+#[test]
+fn a_failed_read_leaves_no_verdict(rt: HostRuntime) -> Result<(), Fail> {
+    for count in 0..=WRONG_UNDER_RTL.len() {
+        let judge = Judge::for_classes(rt.alloc())?;
+        let mut source = CutSource::new(WRONG_UNDER_RTL, count);
+        assert_eq!(&rt; judge_reader(judge, &mut source), Err(ReadFault));
+    }
+    Ok(())
+}
+
+#[test]
+fn making_a_judge_succeeds(rt: HostRuntime) {
+    assert!(&rt; Judge::for_classes(rt.alloc()).is_ok());
+}
+
+/// Passes whichever growth is refused: in making the judge it is answered as memory, and later there is none.
+#[test]
+fn no_growth_comes_after_making(rt: HostRuntime) {
+    match Judge::for_classes(rt.alloc()) {
+        Err(Memory) => {}
+        Ok(mut judge) => {
+            feed_long_row(&mut judge);
+            assert_eq!(&rt; judge.finish(), LONG_ROW_VERDICT);
+        }
+    }
+}
