@@ -7,7 +7,7 @@ use Rattle.units.specs.Classes.{class_at, is_embedding_initiator}
 use Rattle.units.specs.Isolates.{isolate_around}
 use Rattle.units.specs.Explicit.{lies_in}
 use Rattle.units.specs.declared.class.Class.{Class}
-use Rattle.explicit.proofs.Counting.{bit}
+use Rattle.explicit.proofs.StillOpen.{bit}
 use Rattle.explicit.proofs.Roles.{Has, Role, opens_isolate, opens_embedding, closes_isolate, closes_embedding, plain, isolate_not_embedding}
 use Rattle.explicit.specs.OpenInitiators.{is_isolate, past_isolate, after_pdf}
 use Rattle.explicit.proofs.Open.{holds, innermost}
@@ -30,24 +30,24 @@ pub record IsOpen (cs : List Class) (y : ℕ) (qs : List ℕ) : Type 0 where
   pub embeddings : OpenEmbeddings cs y 0 qs
   pub nested : Nested cs qs
 
-pub embeddings-left : (cs : List Class) (y : ℕ) (qs : List ℕ) → Role (class_at cs (suc y)) → suc y < length cs → AllBelow (suc y) qs → Nested cs qs → isolate_around cs (suc y) ≡ innermost cs (Left cs y qs) → OpenEmbeddings cs y 0 qs → OpenEmbeddings cs (suc y) (bit (is_embedding_initiator (class_at cs (suc y)))) (Left cs y qs)
-embeddings-left cs y qs (opens_isolate r) b a n s h = rw (r.pdi_is, r.pdf_is, r.embedding_is) (OpenEmbeddings-next cs y 0 0 qs a b n (rw (r.pdi_is, r.pdf_is) at s) (rw (r.embedding_is, r.pdf_is) refl) h)
-embeddings-left cs y qs (opens_embedding r) b a n s h = rw (r.pdi_is, r.pdf_is, r.embedding_is) (OpenEmbeddings-next cs y 0 1 qs a b n (rw (r.pdi_is, r.pdf_is) at s) (rw (r.embedding_is, r.pdf_is) refl) h)
-embeddings-left cs y qs (plain r) b a n s h = rw (r.pdi_is, r.pdf_is, r.embedding_is) (OpenEmbeddings-next cs y 0 0 qs a b n (rw (r.pdi_is, r.pdf_is) at s) (rw (r.embedding_is, r.pdf_is) refl) h)
-embeddings-left cs y qs (closes_isolate r) b a n s h =
+pub embeddings-left : (cs : List Class) (y : ℕ) (qs : List ℕ) → Role (class_at cs (suc y)) → AllBelow (suc y) qs → Nested cs qs → isolate_around cs (suc y) ≡ innermost cs (Left cs y qs) → OpenEmbeddings cs y 0 qs → OpenEmbeddings cs (suc y) (bit (is_embedding_initiator (class_at cs (suc y)))) (Left cs y qs)
+embeddings-left cs y qs (opens_isolate r) a n s h = rw (r.pdi_is, r.pdf_is, r.embedding_is) (OpenEmbeddings-next cs y 0 0 qs a n (rw (r.pdi_is, r.pdf_is) at s) (rw (r.embedding_is, r.pdf_is) refl) h)
+embeddings-left cs y qs (opens_embedding r) a n s h = rw (r.pdi_is, r.pdf_is, r.embedding_is) (OpenEmbeddings-next cs y 0 1 qs a n (rw (r.pdi_is, r.pdf_is) at s) (rw (r.embedding_is, r.pdf_is) refl) h)
+embeddings-left cs y qs (plain r) a n s h = rw (r.pdi_is, r.pdf_is, r.embedding_is) (OpenEmbeddings-next cs y 0 0 qs a n (rw (r.pdi_is, r.pdf_is) at s) (rw (r.embedding_is, r.pdf_is) refl) h)
+embeddings-left cs y qs (closes_isolate r) a n s h =
     elim (cases_Bool (list_any (is_isolate cs) qs)) [
       | inl v ↦ rw (r.pdi_is, v, r.embedding_is) (
           let l = left_open-keeps cs (λ xs. AllBelow (suc y) xs × Nested cs xs) (λ q xs h. (h.0.1, h.1.2)) (class_at cs (suc y)) qs (a, n) in
           let m : AllBelow (suc y) (past_isolate cs qs) × Nested cs (past_isolate cs qs) = rw (r.pdi_is, v) at l in
-          OpenEmbeddings-next cs y 0 0 (past_isolate cs qs) m.0 b m.1 (rw (r.pdi_is, v) at s) (rw (r.embedding_is, r.pdf_is) refl) (OpenEmbeddings-past cs y 0 qs v h))
-      | inr v ↦ rw (r.pdi_is, v, r.embedding_is) (OpenEmbeddings-next cs y 0 0 qs a b n (rw (r.pdi_is, v) at s) (rw (r.embedding_is, r.pdf_is) refl) h)
+          OpenEmbeddings-next cs y 0 0 (past_isolate cs qs) m.0 m.1 (rw (r.pdi_is, v) at s) (rw (r.embedding_is, r.pdf_is) refl) (OpenEmbeddings-past cs y 0 qs v h))
+      | inr v ↦ rw (r.pdi_is, v, r.embedding_is) (OpenEmbeddings-next cs y 0 0 qs a n (rw (r.pdi_is, v) at s) (rw (r.embedding_is, r.pdf_is) refl) h)
     ]
-embeddings-left cs y [] (closes_embedding r) b a n s h = rw (r.pdi_is, r.pdf_is) tt
-embeddings-left cs y (q ∷ qs) (closes_embedding r) b a n s h =
+embeddings-left cs y [] (closes_embedding r) a n s h = rw (r.pdi_is, r.pdf_is) tt
+embeddings-left cs y (q ∷ qs) (closes_embedding r) a n s h =
     elim (cases_Bool (is_isolate cs q)) [
       | inl u ↦ rw (r.pdi_is, r.pdf_is, r.embedding_is, u) (
-          (λ v. absurd (false≢true (sym v ∙ u)), rw u (OpenEmbeddings-around cs y q 0 qs a.1 b n.2 n.1 (s ∙ rw (r.pdi_is, r.pdf_is, u, u) refl) (rw u at h.1))))
-      | inr u ↦ rw (r.pdi_is, r.pdf_is, r.embedding_is, u) (OpenEmbeddings-next cs y 1 0 qs a.1 b n.2 (s ∙ rw (r.pdi_is, r.pdf_is, u) refl) (rw (r.embedding_is, r.pdf_is) refl) (rw u at h.1))
+          (λ v. absurd (false≢true (sym v ∙ u)), rw u (OpenEmbeddings-around cs y q 0 qs a.1 n.2 n.1 (s ∙ rw (r.pdi_is, r.pdf_is, u, u) refl) (rw u at h.1))))
+      | inr u ↦ rw (r.pdi_is, r.pdf_is, r.embedding_is, u) (OpenEmbeddings-next cs y 1 0 qs a.1 n.2 (s ∙ rw (r.pdi_is, r.pdf_is, u) refl) (rw (r.embedding_is, r.pdf_is) refl) (rw u at h.1))
     ]
 
 lies-innermost : (cs : List Class) (y k : ℕ) (qs : List ℕ) → AllBelow y qs → OpenIsolates cs y k qs → lies_in cs (innermost cs qs) y ≡ true

@@ -5,7 +5,7 @@ use Rattle.std.proofs.lemmas.Bool.{false≢true}
 use Rattle.units.specs.Classes.{class_at, is_embedding_initiator}
 use Rattle.units.specs.Isolates.{isolate_around}
 use Rattle.units.specs.declared.class.Class.{Class}
-use Rattle.explicit.proofs.Counting.{bit}
+use Rattle.explicit.proofs.StillOpen.{bit}
 use Rattle.explicit.proofs.Roles.{Role, role, opens_isolate, opens_embedding, closes_isolate, closes_embedding, plain}
 use Rattle.explicit.specs.OpenInitiators.{is_isolate, opened, left_open}
 use Rattle.explicit.proofs.Open.{holders, holders-next, isolate_around-next, innermost}
@@ -33,7 +33,7 @@ same cs y qs i e h = record {
 opened-is_open : (cs : List Class) (y : ℕ) (qs : List ℕ) → Role (class_at cs y) → y < length cs → IsLeft cs y qs → IsOpen cs y (opened cs y qs)
 opened-is_open cs y qs (opens_isolate r) l h = rw r.isolate_is (record {
   bound = (omega arith, AllBelow-weaker y (suc y) qs (omega arith) h.bound);
-  isolates = ((λ u. open_isolate-first cs y l r), rw r.isolate_is (rw r.isolate_is at h.isolates));
+  isolates = ((λ u. open_isolate-first cs y r), rw r.isolate_is (rw r.isolate_is at h.isolates));
   embeddings = ((λ u. absurd (false≢true (sym u ∙ r.isolate_is))), rw r.isolate_is (rw r.embedding_is at h.embeddings));
   nested = (h.around, h.bound, h.nested);
 })
@@ -55,8 +55,8 @@ left-next cs y l h =
     let kept = left_open-keeps cs (λ xs. AllBelow (suc y) xs × Nested cs xs) (λ q xs h. (h.0.1, h.1.2)) (class_at cs (suc y)) qs (h.bound, h.nested) in
     record {
       bound = kept.0;
-      isolates = isolates-left cs y qs ro h.bound l h.isolates;
-      embeddings = embeddings-left cs y qs ro l h.bound h.nested s h.embeddings;
+      isolates = isolates-left cs y qs ro h.bound h.isolates;
+      embeddings = embeddings-left cs y qs ro h.bound h.nested s h.embeddings;
       nested = kept.1;
       around = s;
     }

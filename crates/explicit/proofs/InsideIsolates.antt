@@ -3,6 +3,7 @@ use Rattle.std.proofs.Common.{◌≡◌, ℕ, zero, suc, ◌+◌, ◌<◌, ◌�
 use Rattle.std.specs.Prelude.{is_some, ◌==◌}
 use Rattle.std.specs.Option.{option_map}
 use Rattle.std.proofs.lemmas.Bool.{cases_Bool, false≢true, eqb-true}
+use Rattle.std.proofs.lemmas.List.{length-map}
 use Rattle.units.specs.Classes.{class_at, classes_of, is_removed, is_separator}
 use Rattle.units.specs.Isolates.{matching_pdi}
 use Rattle.units.specs.Explicit.{explicit_at}
@@ -17,7 +18,6 @@ use Rattle.explicit.proofs.Nesting.{match_bounds, match_injective}
 use Rattle.explicit.proofs.Matching.{matching_pdi_opens}
 use Rattle.explicit.proofs.MatchedIsolates.{Stacked, holders-stacked, is_among, among-filtered, holds-before, level-placed, level-of_isolate, levels-matched}
 use Rattle.explicit.proofs.Leveled.{level-read, matched-is}
-use Rattle.explicit.proofs.Places.{length-classes_of}
 
 -- inside further initiators the level does not fall
 levels-rise : (cs : List Class) (para : ℕ) (xs ys : List ℕ) → (state_within cs para ys).level ≤ (state_within cs para (xs ++ ys)).level
@@ -94,7 +94,7 @@ not_separator (first ∷ second ∷ others) (suc p) h lt = not_separator (second
 -- the level of what remains inside a matched isolate
 level-inside : (units : List BidiUnit) (para r p : ℕ) → SeparatorOnlyLast units → p < r → r < length (classes_of units) → remains (leveled_of (classes_of units) para) p ≡ true → level_of (leveled_of (classes_of units) para) p ≡ Some (state_within (classes_of units) para (holders (classes_of units) p)).level
 level-inside units para r p only low high left =
-    let n = length-classes_of units in
+    let n : length (classes_of units) ≡ length units = length-map _ _ in
     let read = level-read (classes_of units) para p (omega arith) in
     let kept = remains-kept (classes_of units) para p (ap is_some (sym read) ∙ left) in
     read ∙ level-placed (classes_of units) para p kept (not_separator units p only (omega (arith, n)))

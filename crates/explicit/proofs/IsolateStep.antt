@@ -6,7 +6,7 @@ use Rattle.std.proofs.lemmas.Bool.{cases_Bool, false≢true}
 use Rattle.units.specs.Classes.{class_at, is_pdi, is_pdf}
 use Rattle.units.specs.Isolates.{isolate_holds}
 use Rattle.units.specs.declared.class.Class.{Class}
-use Rattle.explicit.proofs.Counting.{bit}
+use Rattle.explicit.proofs.StillOpen.{bit}
 use Rattle.explicit.proofs.Roles.{Role, opens_isolate, opens_embedding, closes_isolate, closes_embedding, plain}
 use Rattle.explicit.specs.OpenInitiators.{is_isolate, past_isolate, after_pdf, left_open}
 use Rattle.explicit.proofs.Open.{innermost}
@@ -71,22 +71,22 @@ innermost-after_pdf cs (q ∷ qs) =
 abbrev pub Left : List Class → ℕ → List ℕ → List ℕ
 Left cs y qs = left_open cs (class_at cs (suc y)) qs
 
-pub isolates-left : (cs : List Class) (y : ℕ) (qs : List ℕ) → Role (class_at cs (suc y)) → AllBelow (suc y) qs → suc y < length cs → OpenIsolates cs y 0 qs → OpenIsolates cs (suc y) (bit (is_isolate cs (suc y))) (Left cs y qs)
-isolates-left cs y qs (opens_isolate r) a b h = rw (r.pdi_is, r.pdf_is, r.isolate_is) (OpenIsolates-next cs y 0 1 qs a b (rw (r.isolate_is, r.pdi_is) refl) h)
-isolates-left cs y qs (opens_embedding r) a b h = rw (r.pdi_is, r.pdf_is, r.isolate_is) (OpenIsolates-next cs y 0 0 qs a b (rw (r.isolate_is, r.pdi_is) refl) h)
-isolates-left cs y qs (plain r) a b h = rw (r.pdi_is, r.pdf_is, r.isolate_is) (OpenIsolates-next cs y 0 0 qs a b (rw (r.isolate_is, r.pdi_is) refl) h)
-isolates-left cs y qs (closes_embedding r) a b h = rw (r.pdi_is, r.pdf_is, r.isolate_is) (OpenIsolates-after_pdf cs (suc y) qs (OpenIsolates-next cs y 0 0 qs a b (rw (r.isolate_is, r.pdi_is) refl) h))
-isolates-left cs y qs (closes_isolate r) a b h =
+pub isolates-left : (cs : List Class) (y : ℕ) (qs : List ℕ) → Role (class_at cs (suc y)) → AllBelow (suc y) qs → OpenIsolates cs y 0 qs → OpenIsolates cs (suc y) (bit (is_isolate cs (suc y))) (Left cs y qs)
+isolates-left cs y qs (opens_isolate r) a h = rw (r.pdi_is, r.pdf_is, r.isolate_is) (OpenIsolates-next cs y 0 1 qs a (rw (r.isolate_is, r.pdi_is) refl) h)
+isolates-left cs y qs (opens_embedding r) a h = rw (r.pdi_is, r.pdf_is, r.isolate_is) (OpenIsolates-next cs y 0 0 qs a (rw (r.isolate_is, r.pdi_is) refl) h)
+isolates-left cs y qs (plain r) a h = rw (r.pdi_is, r.pdf_is, r.isolate_is) (OpenIsolates-next cs y 0 0 qs a (rw (r.isolate_is, r.pdi_is) refl) h)
+isolates-left cs y qs (closes_embedding r) a h = rw (r.pdi_is, r.pdf_is, r.isolate_is) (OpenIsolates-after_pdf cs (suc y) qs (OpenIsolates-next cs y 0 0 qs a (rw (r.isolate_is, r.pdi_is) refl) h))
+isolates-left cs y qs (closes_isolate r) a h =
     elim (cases_Bool (list_any (is_isolate cs) qs)) [
-      | inl v ↦ rw (r.pdi_is, r.isolate_is, v) (OpenIsolates-closed cs y qs a b r h)
+      | inl v ↦ rw (r.pdi_is, r.isolate_is, v) (OpenIsolates-closed cs y qs a r h)
       | inr v ↦ rw (r.pdi_is, r.isolate_is, v) (OpenIsolates-none cs (suc y) 0 qs v)
     ]
 
 pub find-left : (cs : List Class) (y : ℕ) (qs : List ℕ) → Role (class_at cs (suc y)) → AllBelow (suc y) qs → suc y < length cs → OpenIsolates cs y 0 qs → find (λ q. isolate_holds cs q (suc y)) qs ≡ innermost cs (Left cs y qs)
-find-left cs y qs (opens_isolate r) a b h = rw (r.pdi_is, r.pdf_is) (find-open cs (suc y) 1 qs a (OpenIsolates-next cs y 0 1 qs a b (rw (r.isolate_is, r.pdi_is) refl) h))
-find-left cs y qs (opens_embedding r) a b h = rw (r.pdi_is, r.pdf_is) (find-open cs (suc y) 0 qs a (OpenIsolates-next cs y 0 0 qs a b (rw (r.isolate_is, r.pdi_is) refl) h))
-find-left cs y qs (plain r) a b h = rw (r.pdi_is, r.pdf_is) (find-open cs (suc y) 0 qs a (OpenIsolates-next cs y 0 0 qs a b (rw (r.isolate_is, r.pdi_is) refl) h))
-find-left cs y qs (closes_embedding r) a b h = rw (r.pdi_is, r.pdf_is) (find-open cs (suc y) 0 qs a (OpenIsolates-next cs y 0 0 qs a b (rw (r.isolate_is, r.pdi_is) refl) h) ∙ sym (innermost-after_pdf cs qs))
+find-left cs y qs (opens_isolate r) a b h = rw (r.pdi_is, r.pdf_is) (find-open cs (suc y) 1 qs a (OpenIsolates-next cs y 0 1 qs a (rw (r.isolate_is, r.pdi_is) refl) h))
+find-left cs y qs (opens_embedding r) a b h = rw (r.pdi_is, r.pdf_is) (find-open cs (suc y) 0 qs a (OpenIsolates-next cs y 0 0 qs a (rw (r.isolate_is, r.pdi_is) refl) h))
+find-left cs y qs (plain r) a b h = rw (r.pdi_is, r.pdf_is) (find-open cs (suc y) 0 qs a (OpenIsolates-next cs y 0 0 qs a (rw (r.isolate_is, r.pdi_is) refl) h))
+find-left cs y qs (closes_embedding r) a b h = rw (r.pdi_is, r.pdf_is) (find-open cs (suc y) 0 qs a (OpenIsolates-next cs y 0 0 qs a (rw (r.isolate_is, r.pdi_is) refl) h) ∙ sym (innermost-after_pdf cs qs))
 find-left cs y qs (closes_isolate r) a b h =
     elim (cases_Bool (list_any (is_isolate cs) qs)) [
       | inl v ↦ rw (r.pdi_is, v) (find-closed cs y qs a b r h)

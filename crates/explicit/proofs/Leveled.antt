@@ -1,29 +1,21 @@
 -- The levels and the partners of a paragraph, as the sequences see them.
-use Rattle.std.proofs.Common.{◌≡◌, ℕ, zero, suc, ◌+◌, ◌<◌, ◌≤◌, true, List, length, get_or, map, Option, Some, None, inl, inr, refl, sym, ap, subst, ◌∙◌, arith}
+use Rattle.std.proofs.Common.{◌≡◌, ℕ, ◌<◌, ◌≤◌, true, List, length, get_or, map, Option, Some, None, inl, inr, refl, sym, ap, subst, ◌∙◌, arith}
 use Rattle.std.specs.Prelude.{IfSome}
 use Rattle.std.specs.Option.{option_map}
 use Rattle.std.proofs.lemmas.Bool.{cases_Bool, cases_lt}
 use Rattle.std.proofs.lemmas.List.{length-map, get_or-map, get_or_past}
-use Rattle.units.specs.Positions.{positions_from, positions_of}
+use Rattle.units.specs.Positions.{positions_of}
 use Rattle.units.specs.Classes.{class_at, is_isolate_initiator}
 use Rattle.units.specs.Isolates.{matching_pdi, partner_of}
 use Rattle.units.specs.Explicit.{explicit_at, explicit_of}
 use Rattle.units.specs.Runs.{leveled_of, level_of, size_of, matched_pdi, IsLeveled}
 use Rattle.units.specs.declared.class.Class.{Class}
 use Rattle.units.specs.declared.class.Class.TheVariants.{L}
+use Rattle.explicit.proofs.Positions.{length-positions_from, get_or-positions_from}
 use Rattle.explicit.proofs.Matching.{matching_pdi_none, opener_is_no_pdi}
 use Rattle.explicit.proofs.Nesting.{match_bounds}
 use Rattle.explicit.proofs.PartnerOf.{partner_of_other}
 use Rattle.explicit.proofs.MatchedIsolates.{level-at_most}
-
-pub length-positions_from : (start count : ℕ) → length (positions_from start count) ≡ count
-length-positions_from start zero = refl
-length-positions_from start (suc count) = ap suc (length-positions_from (start + 1) count)
-
-pub get_or-positions_from : (start count k d : ℕ) → k < count → get_or (positions_from start count) k d ≡ start + k
-get_or-positions_from start zero k d h = absurd (omega arith)
-get_or-positions_from start (suc count) zero d h = omega arith
-get_or-positions_from start (suc count) (suc k) d h = let ih = get_or-positions_from (start + 1) count k d (omega arith) in omega (arith, ih)
 
 -- what is found at each position is read at it
 pub get_or-of_positions : {A : Type 0} (cs : List Class) (f : ℕ → A) (p : ℕ) (d : A) → p < length cs → get_or (map f (positions_of cs)) p d ≡ f p

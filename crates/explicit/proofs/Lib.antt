@@ -1,9 +1,8 @@
 pub mod Around
 pub mod Balance
-pub mod ClassKinds
+pub mod StillOpen
 pub mod Closing
 pub mod ClosingIsolate
-pub mod Counting
 pub mod EmbeddingStep
 pub mod Embeddings
 pub mod Filling
@@ -23,7 +22,6 @@ pub mod Places
 pub mod Positions
 pub mod Represented
 pub mod Roles
-pub mod Scan
 pub mod Sides
 pub mod Taken
 pub mod TheTail

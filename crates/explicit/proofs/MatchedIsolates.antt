@@ -1,11 +1,10 @@
 -- A matched isolate initiator and its PDI lie within the same initiators.
-use Rattle.std.proofs.Common.{◌≡◌, ℕ, zero, suc, ◌+◌, ◌-◌, ◌<◌, ◌≤◌, Bool, true, false, List, [], ◌∷◌, length, arith, refl, sym, ap, subst, ◌∙◌, inl, inr}
-use Rattle.std.specs.Prelude.{Option, Some, None, filter, ◌==◌, IfSome}
+use Rattle.std.proofs.Common.{◌≡◌, ℕ, zero, suc, ◌+◌, ◌<◌, ◌≤◌, Bool, true, false, List, [], ◌∷◌, length, arith, refl, sym, ap, subst, ◌∙◌, inl, inr}
+use Rattle.std.specs.Prelude.{Option, Some, filter, ◌==◌, IfSome}
 use Rattle.std.specs.List.{list_any}
-use Rattle.std.proofs.lemmas.Bool.{cases_Bool, cases_eq, false≢true, lt-ltb, le-ltb, ltb-true, eq-eqb, ne_eqb, eqb-true}
-use Rattle.units.specs.Positions.{first_from, first_after, is_before}
+use Rattle.std.proofs.lemmas.Bool.{cases_Bool, cases_eq, false≢true, lt-ltb, le-ltb, eq-eqb, ne_eqb, eqb-true}
 use Rattle.units.specs.Classes.{class_at, is_isolate_initiator, is_initiator, is_pdi, is_removed, is_separator}
-use Rattle.units.specs.Isolates.{is_balanced, matching_pdi, isolate_holds}
+use Rattle.units.specs.Isolates.{matching_pdi, isolate_holds}
 use Rattle.std.specs.Option.{option_map}
 use Rattle.units.specs.Explicit.{State, explicit_at}
 use Rattle.units.specs.declared.class.Class.{Class}
@@ -13,8 +12,9 @@ use Rattle.units.specs.declared.class.Class.TheVariants.{LRI, RLI, FSI, PDI}
 use Rattle.explicit.proofs.Taken.{level-bound}
 use Rattle.explicit.specs.OpenInitiators.{is_isolate, opened, past_isolate, left_open}
 use Rattle.explicit.specs.StatusStacks.{state_within, placed}
-use Rattle.explicit.proofs.Scan.{first_after-past}
-use Rattle.explicit.proofs.Counting.{bit}
+use Rattle.explicit.proofs.Matching.{matching_pdi_opens}
+use Rattle.explicit.proofs.Nesting.{match_bounds, match_is_pdi}
+use Rattle.explicit.proofs.StillOpen.{bit}
 use Rattle.explicit.proofs.Roles.{Has, Role, role, opens_isolate, opens_embedding, closes_isolate, closes_embedding, plain}
 use Rattle.explicit.proofs.Open.{below, holders, holds}
 use Rattle.explicit.proofs.OpenIsolates.{AllBelow, OpenIsolates, OpenIsolates-next, holds-open_isolate}
@@ -52,50 +52,23 @@ among-filtered t i (suc y) l h =
       ]
     ]
 
-found-within : (t : ℕ → Bool) (s n j : ℕ) → first_from t s n ≡ Some j → j < s + n
-found-within t s zero j h = absurd (cc)
-found-within t s (suc n) j h =
-    elim (cases_Bool (t s)) [
-      | inl u ↦ let k : Some s ≡ Some j = rw u at h in let e : s ≡ j = cc in omega arith
-      | inr u ↦ let k : j < s + 1 + n = found-within t (s + 1) n j (rw u at h) in omega arith
-    ]
-
--- where a PDI matches, and what
-pub record IsMatched (cs : List Class) (i j : ℕ) : Type 0 where
-  pub initiates : is_isolate cs i ≡ true
-  pub behind : i < j
-  pub within : j < length cs
-
-pub matched : (cs : List Class) (i j : ℕ) → matching_pdi cs i ≡ Some j → IsMatched cs i j
-unfolding matching_pdi
-matched cs i j h =
-    elim (cases_Bool (is_isolate cs i)) [
-      | inr u ↦ absurd (let k : None ≡ Some j = rw u at h in cc)
-      | inl u ↦
-          let k : first_after (is_balanced cs i) i (length cs) ≡ Some j = rw u at h in
-          let p : is_before i (Some j) ≡ true = ap (is_before i) (sym k) ∙ first_after-past (is_balanced cs i) i (length cs) in
-          let b : i < j = ltb-true i j p in
-          let w : j < i + 1 + (length cs - (i + 1)) = found-within (is_balanced cs i) (i + 1) (length cs - (i + 1)) j k in
-          record { initiates = u; behind = b; within = omega arith }
-    ]
-
 ends-there : (cs : List Class) (i j : ℕ) → matching_pdi cs i ≡ Some j → isolate_holds cs i j ≡ false
 unfolding isolate_holds
-ends-there cs i j h = rw (h, (matched cs i j h).initiates, lt-ltb i j (matched cs i j h).behind, le-ltb j j (omega arith)) refl
+ends-there cs i j h = let m = match_bounds cs i j h in rw (h, matching_pdi_opens cs i j h, lt-ltb i j m.0, le-ltb j j (omega arith)) refl
 
 pub holds-before : (cs : List Class) (i j y : ℕ) → matching_pdi cs i ≡ Some j → i < y → y < j → isolate_holds cs i y ≡ true
 unfolding isolate_holds
-holds-before cs i j y h a b = rw (h, (matched cs i j h).initiates, lt-ltb i y a, lt-ltb y j b) refl
+holds-before cs i j y h a b = rw (h, matching_pdi_opens cs i j h, lt-ltb i y a, lt-ltb y j b) refl
 
 -- it is among the open ones before its PDI
 among-open : (cs : List Class) (i y : ℕ) → matching_pdi cs i ≡ Some (suc y) → is_among i (opened cs y (holders cs y)) ≡ true
 among-open cs i y h =
-    let m = matched cs i (suc y) h in
-    let b : i < suc y = m.behind in
+    let b = match_bounds cs i (suc y) h in
     elim (cases_eq i y) [
-      | inl e ↦ rw (rw e at m.initiates) (rw (eq-eqb y i (sym e)) refl)
+      | inl e ↦ rw (rw e at (matching_pdi_opens cs i (suc y) h)) (rw (eq-eqb y i (sym e)) refl)
       | inr ne ↦
-          let a : is_among i (holders cs y) ≡ true = among-filtered (holds cs y) i y (omega arith) (rw (holds-before cs i (suc y) y h (omega arith) (omega arith)) refl) in
+          let low : i < y = omega (arith, b.0) in
+          let a : is_among i (holders cs y) ≡ true = among-filtered (holds cs y) i y low (rw (holds-before cs i (suc y) y h low (omega arith)) refl) in
           elim (cases_Bool (is_initiator (class_at cs y))) [
             | inl u ↦ rw (u, ne_eqb y i (λ e. ne (sym e))) a
             | inr u ↦ rw u a
@@ -123,7 +96,7 @@ past-matched cs i y (q ∷ qs) a l r o s u m h =
           let v : is_isolate cs q ≡ true = ap (is_isolate cs) (eqb-true q i e) ∙ u in
           rw v (s.0 ∙ ap (holders cs) (eqb-true q i e))
       | inr e ↦ elim (cases_Bool (is_isolate cs q)) [
-        | inl v ↦ absurd (false≢true (sym h ∙ open-holds cs i (suc y) 0 qs a.1 (OpenIsolates-next cs y 1 0 qs a.1 l (rw (r.isolate_is, r.pdi_is) refl) (rw v at o.1)) u (rw e at m)))
+        | inl v ↦ absurd (false≢true (sym h ∙ open-holds cs i (suc y) 0 qs a.1 (OpenIsolates-next cs y 1 0 qs a.1 (rw (r.isolate_is, r.pdi_is) refl) (rw v at o.1)) u (rw e at m)))
         | inr v ↦ rw v (past-matched cs i y qs a.1 l r (rw v at o.1) s.1 u (rw e at m) h)
       ]
     ]
@@ -136,45 +109,26 @@ isolate-among cs i (q ∷ qs) u m =
       | inr e ↦ elim (cases_Bool (is_isolate cs q)) [ inl v ↦ rw v refl | inr v ↦ rw v (isolate-among cs i qs u (rw e at m)) ]
     ]
 
-record IsClosed (cs : List Class) (i y : ℕ) : Type 0 where
-  pdi : Has (class_at cs (suc y)) false false true false
-  around : holders cs (suc y) ≡ holders cs i
-
--- no other class ends an isolate
-not_closed : (cs : List Class) (i y : ℕ) → matching_pdi cs i ≡ Some (suc y) → is_pdi (class_at cs (suc y)) ≡ false → ⊥
-not_closed cs i y h n =
-    let m = matched cs i (suc y) h in
-    let w : suc y < length cs = m.within in
-    let o = holders-are_open cs y (omega arith) in
-    let next = OpenIsolates-next cs y 0 (bit (is_isolate cs (suc y))) (opened cs y (holders cs y)) o.bound w (rw n (omega arith)) o.isolates in
-    false≢true (sym (ends-there cs i (suc y) h) ∙ open-holds cs i (suc y) (bit (is_isolate cs (suc y))) (opened cs y (holders cs y)) o.bound next m.initiates (among-open cs i y h))
-
-closed : (cs : List Class) (i y : ℕ) → matching_pdi cs i ≡ Some (suc y) → Role (class_at cs (suc y)) → IsClosed cs i y
-closed cs i y h (opens_isolate r) = absurd (not_closed cs i y h r.pdi_is)
-closed cs i y h (opens_embedding r) = absurd (not_closed cs i y h r.pdi_is)
-closed cs i y h (closes_embedding r) = absurd (not_closed cs i y h r.pdi_is)
-closed cs i y h (plain r) = absurd (not_closed cs i y h r.pdi_is)
+-- what its PDI leaves open is what holds the initiator
+closed : (cs : List Class) (i y : ℕ) → matching_pdi cs i ≡ Some (suc y) → Role (class_at cs (suc y)) → holders cs (suc y) ≡ holders cs i
+closed cs i y h (opens_isolate r) = absurd (false≢true (sym r.pdi_is ∙ match_is_pdi cs i (suc y) h))
+closed cs i y h (opens_embedding r) = absurd (false≢true (sym r.pdi_is ∙ match_is_pdi cs i (suc y) h))
+closed cs i y h (closes_embedding r) = absurd (false≢true (sym r.pdi_is ∙ match_is_pdi cs i (suc y) h))
+closed cs i y h (plain r) = absurd (false≢true (sym r.pdi_is ∙ match_is_pdi cs i (suc y) h))
 closed cs i y h (closes_isolate r) =
-    let m = matched cs i (suc y) h in
-    let w : suc y < length cs = m.within in
+    let b = match_bounds cs i (suc y) h in
     let qs : List ℕ = opened cs y (holders cs y) in
-    let o = holders-are_open cs y (omega arith) in
-    let v : list_any (is_isolate cs) qs ≡ true = isolate-among cs i qs m.initiates (among-open cs i y h) in
-    let s = opened-stacked cs y (holders-stacked cs y (omega arith)) in
+    let o = holders-are_open cs y (omega (arith, b.1)) in
+    let opener = matching_pdi_opens cs i (suc y) h in
+    let v : list_any (is_isolate cs) qs ≡ true = isolate-among cs i qs opener (among-open cs i y h) in
+    let s = opened-stacked cs y (holders-stacked cs y (omega (arith, b.1))) in
     let left : left_open cs (class_at cs (suc y)) qs ≡ past_isolate cs qs = rw (r.pdi_is, v) refl in
-    record {
-      pdi = r;
-      around = holders-step cs y w ∙ left ∙ past-matched cs i y qs o.bound w r o.isolates s m.initiates (among-open cs i y h) (ends-there cs i (suc y) h);
-    }
+    holders-step cs y b.1 ∙ left ∙ past-matched cs i y qs o.bound b.1 r o.isolates s opener (among-open cs i y h) (ends-there cs i (suc y) h)
 
 -- they lie within the same initiators
 pub holders-matched : (cs : List Class) (i j : ℕ) → matching_pdi cs i ≡ Some j → holders cs j ≡ holders cs i
-holders-matched cs i zero h = absurd (let m = matched cs i 0 h in let b : i < 0 = m.behind in omega arith)
-holders-matched cs i (suc y) h = (closed cs i y h (role (class_at cs (suc y)))).around
-
-pub matched-pdi : (cs : List Class) (i j : ℕ) → matching_pdi cs i ≡ Some j → is_pdi (class_at cs j) ≡ true
-matched-pdi cs i zero h = absurd (let m = matched cs i 0 h in let b : i < 0 = m.behind in omega arith)
-matched-pdi cs i (suc y) h = (closed cs i y h (role (class_at cs (suc y)))).pdi.pdi_is
+holders-matched cs i zero h = absurd (let b = match_bounds cs i 0 h in omega (arith, b.0))
+holders-matched cs i (suc y) h = closed cs i y h (role (class_at cs (suc y)))
 
 pub level-placed : (cs : List Class) (para p : ℕ) → is_removed (class_at cs p) ≡ false → is_separator (class_at cs p) ≡ false → option_map (λ x. x.0) (explicit_at cs para p) ≡ Some (state_within cs para (holders cs p)).level
 level-placed cs para p r s = ap (option_map (λ x. x.0)) (sym (explicit-placed cs para p)) ∙ rw (r, s) refl
@@ -196,8 +150,8 @@ level-of_isolate cs para i h = let a = isolate-remains (class_at cs i) h in leve
 -- so their levels are equal
 pub levels-matched : (cs : List Class) (para i j : ℕ) → matching_pdi cs i ≡ Some j → option_map (λ x. x.0) (explicit_at cs para i) ≡ option_map (λ x. x.0) (explicit_at cs para j)
 levels-matched cs para i j h =
-    let b = pdi-remains (class_at cs j) (matched-pdi cs i j h) in
-    level-of_isolate cs para i (matched cs i j h).initiates ∙ ap (λ qs. Some (state_within cs para qs).level) (sym (holders-matched cs i j h)) ∙ sym (level-placed cs para j b.0 b.1)
+    let b = pdi-remains (class_at cs j) (match_is_pdi cs i j h) in
+    level-of_isolate cs para i (matching_pdi_opens cs i j h) ∙ ap (λ qs. Some (state_within cs para qs).level) (sym (holders-matched cs i j h)) ∙ sym (level-placed cs para j b.0 b.1)
 
 placed-bounded : (s : State) (para : ℕ) (own : Class) → s.level ≤ 125 → para ≤ 125 → IfSome (placed s para own) (λ place. place.0 ≤ 125)
 placed-bounded s para own a b =

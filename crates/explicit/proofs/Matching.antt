@@ -4,7 +4,7 @@ use Rattle.std.proofs.lemmas.Bool.{cases_Bool, true≢false}
 use Rattle.units.specs.Classes.{class_at, is_isolate_initiator, is_pdi}
 use Rattle.units.specs.Isolates.{matching_pdi}
 use Rattle.units.specs.declared.class.Class.{Class}
-use Rattle.explicit.proofs.ClassKinds.{Kind, opening, closing, other, kind_of}
+use Rattle.explicit.proofs.Roles.{Kind, opening, closing, other, kind_of}
 use Rattle.explicit.proofs.Balance.{Exclude, match_of}
 use Rattle.explicit.proofs.OpenStack.{IsStack}
 

@@ -8,7 +8,7 @@ use Rattle.units.specs.Isolates.{matching_pdi, isolate_holds, isolate_around}
 use Rattle.units.specs.Explicit.{matching_pdf, lies_in, embedding_holds}
 use Rattle.units.specs.declared.class.Class.{Class}
 use Rattle.explicit.specs.OpenInitiators.{is_isolate, opened}
-use Rattle.explicit.proofs.Scan.{is_before-earlier}
+use Rattle.explicit.proofs.Positions.{is_before-earlier, last_below_some}
 
 -- the positions below p, falling
 abbrev pub below : ℕ → List ℕ
@@ -34,17 +34,9 @@ isolate_holds-earlier cs q y l h =
     let b = and_parts (nat_lt q (suc y)) (is_before (suc y) (matching_pdi cs q)) a.1 in
     rw (a.0, lt-ltb q y l, is_before-earlier y (matching_pdi cs q) b.1) refl
 
-last_below-below : (t : ℕ → Bool) (n i : ℕ) → last_below t n ≡ Some i → i < n
-last_below-below t zero i h = absurd (cc)
-last_below-below t (suc n) i h =
-    elim (cases_Bool (t n)) [
-      | inl e ↦ let k : Some n ≡ Some i = rw e at h in let m : n ≡ i = cc in omega arith
-      | inr e ↦ let k : i < n = last_below-below t n i (rw e at h) in omega arith
-    ]
-
 pub isolate_around-below : (cs : List Class) (q i : ℕ) → isolate_around cs q ≡ Some i → i < q
 unfolding isolate_around
-isolate_around-below cs q i h = last_below-below (λ k. isolate_holds cs k q) q i h
+isolate_around-below cs q i h = (last_below_some (λ k. isolate_holds cs k q) q i h).within
 
 lies_in-earlier : (cs : List Class) (o : Option ℕ) (y : ℕ) → ((i : ℕ) → o ≡ Some i → i < y) → lies_in cs o (suc y) ≡ true → lies_in cs o y ≡ true
 lies_in-earlier cs None y a h = refl

@@ -1,28 +1,24 @@
 -- The open embeddings and their counts: what the next position does to them.
-use Rattle.std.proofs.Common.{◌≡◌, ℕ, suc, ◌+◌, ◌-◌, ◌<◌, ◌≤◌, Bool, true, false, not, ◌&&◌, List, [], ◌∷◌, length, arith, refl, sym, ap, ◌∙◌, cond, inl, inr}
-use Rattle.std.specs.Prelude.{Option, Some, None, count_by, nat_lt, ◌==◌}
-use Rattle.std.proofs.lemmas.Bool.{cases_Bool, lt-ltb, false≢true, eq-eqb, ne_eqb, and_right}
-use Rattle.units.specs.Positions.{positions_from, is_before, is_same}
+use Rattle.std.proofs.Common.{◌≡◌, ℕ, suc, ◌+◌, ◌<◌, ◌≤◌, Bool, true, false, List, [], ◌∷◌, length, arith, refl, sym, ap, ◌∙◌, cond, inl, inr}
+use Rattle.std.specs.Prelude.{Some, nat_lt}
+use Rattle.std.proofs.lemmas.Bool.{cases_Bool, lt-ltb, false≢true, ne_eqb, and_left, and_right}
+use Rattle.units.specs.Positions.{is_before, is_same}
 use Rattle.units.specs.Classes.{class_at, is_embedding_initiator, is_pdf}
 use Rattle.units.specs.Isolates.{isolate_around}
 use Rattle.units.specs.Explicit.{beside, matching_pdf, lies_in, embedding_holds}
 use Rattle.units.specs.declared.class.Class.{Class}
-use Rattle.explicit.proofs.Scan.{first_after-past, first_after-next}
-use Rattle.explicit.proofs.Counting.{bit, count_at-next, count_at-first}
+use Rattle.explicit.proofs.Positions.{is_same_refl}
+use Rattle.explicit.proofs.Embeddings.{opens_beside, closes_beside, opens_beside_itself, matching_pdf_is}
+use Rattle.explicit.proofs.StillOpen.{bit, IsOpenAt, open_first, open_next, open_closed, before_match, at_match}
 use Rattle.explicit.proofs.Roles.{Has}
 use Rattle.explicit.specs.OpenInitiators.{is_isolate}
 use Rattle.explicit.proofs.Open.{innermost}
 use Rattle.explicit.proofs.OpenIsolates.{AllBelow}
 
--- so many positions beside e, from e to y, have such a class
-abbrev pub count_beside : List Class → (Class → Bool) → ℕ → ℕ → ℕ
-count_beside cs kind e y = count_by (beside cs kind e) (positions_from e (y + 1 - e))
-
 -- the embedding at q is open past y, with k more directly in its isolate
 pub record IsOpenEmbedding (cs : List Class) (y k q : ℕ) : Type 0 where
   pub initiates : is_embedding_initiator (class_at cs q) ≡ true
-  pub lasts : is_before y (matching_pdf cs q) ≡ true
-  pub excess : count_beside cs is_embedding_initiator q y ≡ count_beside cs is_pdf q y + suc k
+  pub still : IsOpenAt (opens_beside cs q) (closes_beside cs q) (suc y) (suc k) q
 
 -- the embeddings among these are open past y, with k more in the first
 abbrev pub OpenEmbeddings : List Class → ℕ → ℕ → List ℕ → Type 0
@@ -34,10 +30,6 @@ abbrev pub Nested : List Class → List ℕ → Type 0
 Nested cs [] = Unit {0}
 Nested cs (q ∷ qs) = (isolate_around cs q ≡ innermost cs qs) × AllBelow q qs × Nested cs qs
 
-is_same-itself : (o : Option ℕ) → is_same o o ≡ true
-is_same-itself None = refl
-is_same-itself (Some p) = eq-eqb p p refl
-
 innermost-differs : (cs : List Class) (i : ℕ) (qs : List ℕ) → AllBelow i qs → is_same (Some i) (innermost cs qs) ≡ false
 innermost-differs cs i [] a = refl
 innermost-differs cs i (q ∷ qs) a =
@@ -47,39 +39,18 @@ innermost-differs cs i (q ∷ qs) a =
       | inr u ↦ rw u (innermost-differs cs i qs a.1)
     ]
 
--- whether f lies beside e, with counts that agree
-abbrev ends : List Class → ℕ → ℕ → Bool
-ends cs e f = is_same (isolate_around cs f) (isolate_around cs e) && (count_beside cs is_embedding_initiator e f == count_beside cs is_pdf e f)
-
-lasts-next : (cs : List Class) (y q : ℕ) → q ≤ y → suc y < length cs → is_before y (matching_pdf cs q) ≡ true → is_before (suc y) (matching_pdf cs q) ≡ not (ends cs q (suc y))
-unfolding matching_pdf
-lasts-next cs y q a b h = first_after-next (ends cs q) q (length cs) y a b h
-
-lasts-first : (cs : List Class) (y : ℕ) → is_before y (matching_pdf cs y) ≡ true
-unfolding matching_pdf
-lasts-first cs y = first_after-past (ends cs y) y (length cs)
-
 pub open_embedding-first : (cs : List Class) (y : ℕ) → Has (class_at cs y) false true false false → IsOpenEmbedding cs y 0 y
-open_embedding-first cs y r =
-    let s = is_same-itself (isolate_around cs y) in
-    record {
-      initiates = r.embedding_is;
-      lasts = lasts-first cs y;
-      excess = rw (count_at-first (beside cs is_embedding_initiator y) y, count_at-first (beside cs is_pdf y) y, r.embedding_is, r.pdf_is, s) refl;
-    }
+open_embedding-first cs y r = record {
+  initiates = r.embedding_is;
+  still = open_first (opens_beside cs y) (closes_beside cs y) y (opens_beside_itself cs y r.embedding_is) (and_left _ _ r.pdf_is);
+}
 
 -- where the next position is in another isolate, it stays as it is; else its class counts
-open_embedding-next : (cs : List Class) (y k m q : ℕ) → q ≤ y → suc y < length cs → IsOpenEmbedding cs y k q → bit (beside cs is_embedding_initiator q (suc y)) + k ≡ bit (beside cs is_pdf q (suc y)) + m → IsOpenEmbedding cs (suc y) m q
-open_embedding-next cs y k m q a b h e =
-    let ups = count_at-next (beside cs is_embedding_initiator q) q y a in
-    let downs = count_at-next (beside cs is_pdf q) q y a in
-    let x : count_beside cs is_embedding_initiator q (suc y) ≡ count_beside cs is_pdf q (suc y) + suc m = omega (arith, ups, downs, e, h.excess) in
-    let n : (count_beside cs is_embedding_initiator q (suc y) == count_beside cs is_pdf q (suc y)) ≡ false = ne_eqb _ _ (λ z. omega arith) in
-    record {
-      initiates = h.initiates;
-      lasts = lasts-next cs y q a b h.lasts ∙ ap not (and_right (is_same (isolate_around cs (suc y)) (isolate_around cs q)) _ n);
-      excess = x;
-    }
+open_embedding-next : (cs : List Class) (y k m q : ℕ) → q ≤ y → IsOpenEmbedding cs y k q → bit (beside cs is_embedding_initiator q (suc y)) + k ≡ bit (beside cs is_pdf q (suc y)) + m → IsOpenEmbedding cs (suc y) m q
+open_embedding-next cs y k m q a h e = record {
+  initiates = h.initiates;
+  still = open_next (opens_beside cs q) (closes_beside cs q) (suc y) (suc k) m q (omega arith) h.still (omega (arith, e));
+}
 
 beside-elsewhere : (cs : List Class) (kind : Class → Bool) (q p : ℕ) → is_same (isolate_around cs p) (isolate_around cs q) ≡ false → beside cs kind q p ≡ false
 beside-elsewhere cs kind q p h = and_right (kind (class_at cs p)) (is_same (isolate_around cs p) (isolate_around cs q)) h
@@ -92,32 +63,34 @@ beside-here cs kind q p h =
     ]
 
 -- a position within the isolate at i changes nothing around i
-pub OpenEmbeddings-around : (cs : List Class) (y i k : ℕ) (qs : List ℕ) → AllBelow (suc y) qs → suc y < length cs → Nested cs qs → AllBelow i qs → isolate_around cs (suc y) ≡ Some i → OpenEmbeddings cs y k qs → OpenEmbeddings cs (suc y) k qs
-OpenEmbeddings-around cs y i k [] a b n d s h = tt
-OpenEmbeddings-around cs y i k (q ∷ qs) a b n d s h =
+pub OpenEmbeddings-around : (cs : List Class) (y i k : ℕ) (qs : List ℕ) → AllBelow (suc y) qs → Nested cs qs → AllBelow i qs → isolate_around cs (suc y) ≡ Some i → OpenEmbeddings cs y k qs → OpenEmbeddings cs (suc y) k qs
+OpenEmbeddings-around cs y i k [] a n d s h = tt
+OpenEmbeddings-around cs y i k (q ∷ qs) a n d s h =
     let l : q < suc y = a.0 in
     let x : is_same (isolate_around cs (suc y)) (isolate_around cs q) ≡ false = rw (s, n.0) (innermost-differs cs i qs d.1) in (
-      λ u. open_embedding-next cs y k k q (omega arith) b (h.0 u) (rw (beside-elsewhere cs is_embedding_initiator q (suc y) x, beside-elsewhere cs is_pdf q (suc y) x) refl),
-      OpenEmbeddings-around cs y i (cond (is_isolate cs q) 0 (suc k)) qs a.1 b n.2 d.1 s h.1,
+      λ u. open_embedding-next cs y k k q (omega arith) (h.0 u) (rw (beside-elsewhere cs is_embedding_initiator q (suc y) x, beside-elsewhere cs is_pdf q (suc y) x) refl),
+      OpenEmbeddings-around cs y i (cond (is_isolate cs q) 0 (suc k)) qs a.1 n.2 d.1 s h.1,
     )
 
-pub OpenEmbeddings-next : (cs : List Class) (y k m : ℕ) (qs : List ℕ) → AllBelow (suc y) qs → suc y < length cs → Nested cs qs → isolate_around cs (suc y) ≡ innermost cs qs → bit (is_embedding_initiator (class_at cs (suc y))) + k ≡ bit (is_pdf (class_at cs (suc y))) + m → OpenEmbeddings cs y k qs → OpenEmbeddings cs (suc y) m qs
-OpenEmbeddings-next cs y k m [] a b n s e h = tt
-OpenEmbeddings-next cs y k m (q ∷ qs) a b n s e h =
+pub OpenEmbeddings-next : (cs : List Class) (y k m : ℕ) (qs : List ℕ) → AllBelow (suc y) qs → Nested cs qs → isolate_around cs (suc y) ≡ innermost cs qs → bit (is_embedding_initiator (class_at cs (suc y))) + k ≡ bit (is_pdf (class_at cs (suc y))) + m → OpenEmbeddings cs y k qs → OpenEmbeddings cs (suc y) m qs
+OpenEmbeddings-next cs y k m [] a n s e h = tt
+OpenEmbeddings-next cs y k m (q ∷ qs) a n s e h =
     let l : q < suc y = a.0 in
     elim (cases_Bool (is_isolate cs q)) [
-      | inl u ↦ (λ v. absurd (false≢true (sym v ∙ u)), rw u (OpenEmbeddings-around cs y q 0 qs a.1 b n.2 n.1 (s ∙ rw u refl) (rw u at h.1)))
+      | inl u ↦ (λ v. absurd (false≢true (sym v ∙ u)), rw u (OpenEmbeddings-around cs y q 0 qs a.1 n.2 n.1 (s ∙ rw u refl) (rw u at h.1)))
       | inr u ↦
           let t : isolate_around cs (suc y) ≡ innermost cs qs = s ∙ rw u refl in
-          let x : is_same (isolate_around cs (suc y)) (isolate_around cs q) ≡ true = rw (t, n.0) (is_same-itself (innermost cs qs)) in (
-            λ v. open_embedding-next cs y k m q (omega arith) b (h.0 v) (rw (beside-here cs is_embedding_initiator q (suc y) x, beside-here cs is_pdf q (suc y) x) e),
-            rw u (OpenEmbeddings-next cs y (suc k) (suc m) qs a.1 b n.2 t (omega arith) (rw u at h.1)),
+          let x : is_same (isolate_around cs (suc y)) (isolate_around cs q) ≡ true = rw (t, n.0) (is_same_refl (innermost cs qs)) in (
+            λ v. open_embedding-next cs y k m q (omega arith) (h.0 v) (rw (beside-here cs is_embedding_initiator q (suc y) x, beside-here cs is_pdf q (suc y) x) e),
+            rw u (OpenEmbeddings-next cs y (suc k) (suc m) qs a.1 n.2 t (omega arith) (rw u at h.1)),
           )
     ]
 
 pub holds-open_embedding : (cs : List Class) (y k q : ℕ) → q < y → IsOpenEmbedding cs y k q → lies_in cs (isolate_around cs q) y ≡ true → embedding_holds cs q y ≡ true
 unfolding embedding_holds
-holds-open_embedding cs y k q l h i = rw (h.initiates, lt-ltb q y l, h.lasts, i) refl
+holds-open_embedding cs y k q l h i =
+    let before = ap (is_before y) (matching_pdf_is cs q h.initiates) ∙ before_match (opens_beside cs q) (closes_beside cs q) y (length cs) q h.still.unmatched in
+    rw (h.initiates, lt-ltb q y l, before, i) refl
 
 pub holds-not_embedding : (cs : List Class) (y q : ℕ) → is_embedding_initiator (class_at cs q) ≡ false → embedding_holds cs q y ≡ false
 unfolding embedding_holds
@@ -131,11 +104,9 @@ holds-past_isolate cs y q u = and_right (is_embedding_initiator (class_at cs q))
 pub holds-closed_embedding : (cs : List Class) (y q : ℕ) → q ≤ y → suc y < length cs → Has (class_at cs (suc y)) false false false true → isolate_around cs (suc y) ≡ isolate_around cs q → IsOpenEmbedding cs y 0 q → embedding_holds cs q (suc y) ≡ false
 unfolding embedding_holds
 holds-closed_embedding cs y q a b r s h =
-    let x : is_same (isolate_around cs (suc y)) (isolate_around cs q) ≡ true = rw s (is_same-itself (isolate_around cs q)) in
-    let ups = count_at-next (beside cs is_embedding_initiator q) q y a in
-    let downs = count_at-next (beside cs is_pdf q) q y a in
-    let i : bit (beside cs is_embedding_initiator q (suc y)) ≡ 0 = rw (beside-here cs is_embedding_initiator q (suc y) x, r.embedding_is) refl in
-    let d : bit (beside cs is_pdf q (suc y)) ≡ 1 = rw (beside-here cs is_pdf q (suc y) x, r.pdf_is) refl in
-    let n : (count_beside cs is_embedding_initiator q (suc y) == count_beside cs is_pdf q (suc y)) ≡ true = eq-eqb _ _ (omega (arith, ups, downs, i, d, h.excess)) in
-    let t : ends cs q (suc y) ≡ true = rw (x, n) refl in
-    rw (h.initiates, lt-ltb q (suc y) (omega arith), lasts-next cs y q a b h.lasts, t) refl
+    let x : is_same (isolate_around cs (suc y)) (isolate_around cs q) ≡ true = rw s (is_same_refl (isolate_around cs q)) in
+    let opens : opens_beside cs q (suc y) ≡ false = beside-here cs is_embedding_initiator q (suc y) x ∙ r.embedding_is in
+    let closes : closes_beside cs q (suc y) ≡ true = beside-here cs is_pdf q (suc y) x ∙ r.pdf_is in
+    let now = open_closed (opens_beside cs q) (closes_beside cs q) (suc y) 1 q (omega arith) h.still (rw (opens, closes) refl) in
+    let ended = ap (is_before (suc y)) (matching_pdf_is cs q h.initiates) ∙ at_match (opens_beside cs q) (closes_beside cs q) (suc y) (length cs) q b now in
+    rw (h.initiates, lt-ltb q (suc y) (omega arith), ended) refl

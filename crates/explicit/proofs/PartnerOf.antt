@@ -6,7 +6,7 @@ use Rattle.units.specs.Classes.{class_at, is_isolate_initiator, is_pdi}
 use Rattle.units.specs.Isolates.{matching_pdi, matching_initiator, partner_of}
 use Rattle.units.specs.declared.class.Class.{Class}
 use Rattle.explicit.proofs.Positions.{last_below_some, last_below_is, is_same_true, is_same_refl}
-use Rattle.explicit.proofs.ClassKinds.{Kind, opening, closing, other, kind_of}
+use Rattle.explicit.proofs.Roles.{Kind, opening, closing, other, kind_of}
 use Rattle.explicit.proofs.Matching.{matching_pdi_opens}
 use Rattle.explicit.proofs.Nesting.{match_bounds, match_is_pdi, match_injective}
 use Rattle.explicit.proofs.Around.{IsUnmatched}

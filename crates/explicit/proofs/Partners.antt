@@ -4,7 +4,7 @@ use Rattle.std.proofs.lemmas.Bool.{cases_eq, true≢false, false_from_ne_true}
 use Rattle.units.specs.Classes.{class_at, is_isolate_initiator, is_pdi}
 use Rattle.units.specs.Isolates.{matching_pdi, matching_initiator, partner_of}
 use Rattle.units.specs.declared.class.Class.{Class}
-use Rattle.explicit.proofs.ClassKinds.{Kind, opening, closing, other, kind_of}
+use Rattle.explicit.proofs.Roles.{Kind, opening, closing, other, kind_of}
 use Rattle.explicit.proofs.Balance.{is_level, match_new, match_stays, match_extends, match_within, match_of_bounds, stays_unclosed}
 use Rattle.explicit.proofs.OpenStack.{unlevel_at_other, unlevel_at_opening, unlevel_at_closing, stack_empty, stack_stays, stack_push, top_is_closed, stack_pop, stack_none_left}
 use Rattle.explicit.proofs.Matching.{opens_at, closes_at, matching_before, IsOpenStack, matching_pdi_of, matching_pdi_none, matching_pdi_opens, matching_pdi_before}

@@ -1,6 +1,6 @@
 -- Explicit levels from the initiators that are open.
-use Rattle.std.proofs.Common.{◌≡◌, ℕ, zero, suc, ◌+◌, ◌<◌, ◌≤◌, Bool, true, List, [], ◌∷◌, ◌++◌, length, arith, refl, sym, ap, subst, ◌∙◌, inl, inr, zero-add, append-nil, get_or, ◌^◌, reverse}
-use Rattle.std.proofs.lemmas.List.{reverse-append}
+use Rattle.std.proofs.Common.{◌≡◌, ℕ, zero, suc, ◌+◌, ◌<◌, ◌≤◌, Bool, true, List, [], ◌∷◌, ◌++◌, length, arith, refl, sym, ap, subst, ◌∙◌, inl, inr, zero-add, append-nil, ◌^◌, reverse}
+use Rattle.std.proofs.lemmas.List.{length-map, reverse-append}
 use Rattle.std.specs.Prelude.{None, filter, fold}
 use Rattle.std.proofs.lemmas.Bool.{cases_Bool}
 use Rattle.std.proofs.lemmas.List.Elements.{filter-append}
@@ -12,7 +12,7 @@ use Rattle.units.specs.declared.class.Class.{Class}
 use Rattle.explicit.specs.OpenInitiators.{opened, left_open}
 use Rattle.explicit.specs.StatusStacks.{state_within, placed, Represents, IsKept}
 use Rattle.explicit.specs.declared.status.StatusStack.{StatusStack}
-use Rattle.explicit.proofs.Counting.{positions_from-next}
+use Rattle.explicit.proofs.Positions.{positions_from-next}
 use Rattle.explicit.proofs.Open.{below, holders, holds}
 use Rattle.explicit.proofs.HoldersStep.{holders-step}
 
@@ -68,15 +68,6 @@ pub explicit-placed : (cs : List Class) (para p : ℕ) → placed (state_within 
 unfolding explicit_at
 explicit-placed cs para p = ap (λ s. placed s para (class_at cs p)) (sym (state-of_chain cs para p))
 
-pub class-of : (para : List Unit) (p : ℕ) (d : Unit) → p < length para → (get_or para p d).class ≡ class_at (classes_of para) p
-class-of [] p d l = absurd (omega arith)
-class-of (u ∷ us) zero d l = refl
-class-of (u ∷ us) (suc p) d l = class-of us p d (omega arith)
-
-pub length-classes_of : (para : List Unit) → length (classes_of para) ≡ length para
-length-classes_of [] = refl
-length-classes_of (u ∷ us) = ap suc (length-classes_of us)
-
 -- what the pass keeps when it comes to p
 pub is-kept : (para : List Unit) (base p : ℕ) (n : StatusStack) → base ≤ 1 → p < 2 ^ 63 → Represents (classes_of para) base (holders (classes_of para) p) n → IsKept n
 is-kept para base p n b l r = record { classes = classes_of para; para = base; initiators = holders (classes_of para) p; represents = r; base = b; few = omega (arith, holders-few (classes_of para) p) }
@@ -102,4 +93,4 @@ chain-reversed cs p = chain-filtered (holds cs p) p
 
 -- what the pass keeps at p, after what the class there closes
 pub kept-at : (para : List Unit) (base p : ℕ) (class : Class) (n : StatusStack) → base ≤ 1 → p < length para → p < 2 ^ 63 → class ≡ class_at (classes_of para) p → Represents (classes_of para) base (left_open (classes_of para) class (open_before (classes_of para) p)) n → IsKept n
-kept-at para base p class n b l s e r = is-kept para base p n b s (left-is (classes_of para) base p class n (omega (arith, length-classes_of para)) e r)
+kept-at para base p class n b l s e r = is-kept para base p n b s (left-is (classes_of para) base p class n (omega (arith, length-map para (λ unit. unit.class))) e r)

@@ -5,9 +5,9 @@ use Rattle.units.specs.Positions.{first_from}
 use Rattle.units.specs.Classes.{class_at, is_isolate_initiator, is_pdi, is_strong, is_right_to_left}
 use Rattle.units.specs.Isolates.{matching_pdi, partner_of, isolate_around, first_strong, begins_right_to_left}
 use Rattle.units.specs.declared.class.Class.{Class}
-use Rattle.units.specs.declared.class.Class.TheVariants.{L, R, AL, EN, ES, ET, AN, CS, NSM, BN, B, S, WS, ON, LRE, LRO, RLE, RLO, PDF, LRI, RLI, FSI, PDI}
+use Rattle.units.specs.declared.class.Class.TheVariants.{L, R, AL}
 use Rattle.explicit.proofs.Positions.{first_from_is, first_from_nowhere, is_same_refl}
-use Rattle.explicit.proofs.ClassKinds.{Kind, opening, closing, other, kind_of}
+use Rattle.explicit.proofs.Roles.{Kind, opening, closing, other, kind_of}
 use Rattle.explicit.proofs.Matching.{matching_pdi_opens}
 use Rattle.explicit.proofs.Nesting.{match_bounds, match_is_pdi}
 use Rattle.explicit.proofs.Around.{around_holds, around_zero, around_pair, inside_after, IsUnmatched, around_more, unmatched_other, closes_innermost}
@@ -61,26 +61,7 @@ pub strong_is_other : (c : Class) → is_strong c ≡ true → (is_isolate_initi
 strong_is_other L h = (refl, refl)
 strong_is_other R h = (refl, refl)
 strong_is_other AL h = (refl, refl)
-strong_is_other EN h = absurd (true≢false (sym h))
-strong_is_other ES h = absurd (true≢false (sym h))
-strong_is_other ET h = absurd (true≢false (sym h))
-strong_is_other AN h = absurd (true≢false (sym h))
-strong_is_other CS h = absurd (true≢false (sym h))
-strong_is_other NSM h = absurd (true≢false (sym h))
-strong_is_other BN h = absurd (true≢false (sym h))
-strong_is_other B h = absurd (true≢false (sym h))
-strong_is_other S h = absurd (true≢false (sym h))
-strong_is_other WS h = absurd (true≢false (sym h))
-strong_is_other ON h = absurd (true≢false (sym h))
-strong_is_other LRE h = absurd (true≢false (sym h))
-strong_is_other LRO h = absurd (true≢false (sym h))
-strong_is_other RLE h = absurd (true≢false (sym h))
-strong_is_other RLO h = absurd (true≢false (sym h))
-strong_is_other PDF h = absurd (true≢false (sym h))
-strong_is_other LRI h = absurd (true≢false (sym h))
-strong_is_other RLI h = absurd (true≢false (sym h))
-strong_is_other FSI h = absurd (true≢false (sym h))
-strong_is_other PDI h = absurd (true≢false (sym h))
+strong_is_other c h = absurd (cc)
 
 -- the place before a position lies where the position lies, unless that is a matched PDI
 pub isolate_before_unmatched : (cs : List Class) (p : ℕ) → IsUnmatched cs p → isolate_before cs p ≡ isolate_around cs p

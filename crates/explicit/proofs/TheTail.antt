@@ -9,7 +9,7 @@ use Rattle.std.proofs.lemmas.List.Folds.{prefix_len-append}
 use Rattle.units.specs.declared.class.Class.{Class}
 use Rattle.explicit.specs.OpenInitiators.{is_isolate}
 use Rattle.explicit.specs.StatusStacks.{state_within, is_taken, entry_at, entries_of, taken_isolates, refused_isolates, IsCut}
-use Rattle.explicit.proofs.Counting.{bit}
+use Rattle.explicit.proofs.StillOpen.{bit}
 use Rattle.explicit.proofs.Taken.{taken-outer, none_refused, adds-taken}
 
 count-cons : (t : ℕ → Bool) (q : ℕ) (qs : List ℕ) → count_by t (q ∷ qs) ≡ bit (t q) + count_by t qs

@@ -1,7 +1,7 @@
 use Rattle.std.proofs.Common.{◌≡◌, ◌-◌, ◌<◌, length, true, false, get_or, None, arith, sym, ap, ◌∙◌}
 use Rattle.std.proofs.lemmas.List.{length-map, length-set, get_or_read}
 use Rattle.units.specs.Classes.{class_at, classes_of, is_isolate_initiator, is_strong, is_right_to_left}
-use Rattle.explicit.proofs.ClassKinds.{class_read}
+use Rattle.explicit.proofs.Roles.{class_read}
 use Rattle.explicit.proofs.Sides.{carrying_none, carrying_more, carrying_at, carried_outside, carried_sides, over_pdi, pdi_within, over_matched_pdi, over_lost, over_plain, over_strong}
 use Rattle.explicit.proofs.isolates.carry_sides.Goals as goal
 

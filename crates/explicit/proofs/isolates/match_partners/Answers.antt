@@ -1,7 +1,7 @@
 use Rattle.std.proofs.Common.{◌≡◌, ◌+◌, ◌-◌, ◌<◌, suc, length, true, false, arith, refl, sym, ap, ◌∙◌}
 use Rattle.std.proofs.lemmas.List.{length-map}
 use Rattle.units.specs.Classes.{class_at, classes_of, is_isolate_initiator, is_pdi}
-use Rattle.explicit.proofs.ClassKinds.{class_read}
+use Rattle.explicit.proofs.Roles.{class_read}
 use Rattle.explicit.proofs.Filling.{filling_opening, filling_other, filling_unmatched, filling_matched, filling_all}
 use Rattle.explicit.proofs.isolates.match_partners.Goals as goal
 use Rattle.explicit.proofs.isolates.match_partners.Goals.{then-is_isolate_initiator, else-is_isolate_initiator+then-is_pdi+then-depth-gt0, else-is_isolate_initiator+else-is_pdi, else-is_pdi-via-then-is_pdi+else-depth-gt0, else-is_pdi-via-else-is_pdi}
