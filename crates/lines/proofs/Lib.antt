@@ -13,4 +13,5 @@ pub mod TextEnd
 pub mod Cuts
 pub mod NextLine
 pub mod LinesWritten
+pub mod LinesRead
 pub mod Law

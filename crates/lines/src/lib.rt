@@ -1,8 +1,13 @@
-//! The lines of a text: where they begin, their levels, and the order of their positions.
+//! The lines of a text: where they begin, their levels, the order of their positions, and how they are shown.
 #![tactic(auto)]
 
 pub mod bounds;
 pub mod breaks;
 pub mod filling;
+pub mod lay_out;
+pub mod layout;
+pub mod mirror;
 pub mod order;
 pub mod resets;
+pub mod scratch;
+pub mod shown;

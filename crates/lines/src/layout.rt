@@ -1,0 +1,122 @@
+ghost use Rattle.lines.specs.Bounds.{AreBounds};
+
+use crate::bounds::Bound;
+use crate::mirror::Mirrors;
+use crate::shown::Shown;
+use units::level::{Level, ParaLevel};
+
+/// One line of a text.
+#[derive(Clone, Copy)]
+pub struct Line<'a> {
+    /// The position of the text at which the line begins.
+    pub start: usize,
+    /// The position of the text behind its last one.
+    pub end: usize,
+    /// The levels of its positions after L1, none where a position was removed.
+    pub levels: &'a [Option<Level>],
+    /// Its remaining positions, those of the whole text, from left to right (L2).
+    pub order: &'a [usize],
+}
+
+/// The layout of a text, lent by the scratch that it was written to.
+#[derive(Drop)]
+pub struct Layout<'s> {
+    paras: &'s [ParaLevel],
+    levels: &'s [Option<Level>],
+    orders: &'s [usize],
+    bounds: &'s [Bound],
+    ghost bounded: { AreBounds levels.now orders.now bounds.now },
+}
+
+impl<'s> Layout<'s> {
+    ghost use Rattle.std.specs.Prelude.{◌≡◌, ◌<◌, ◌≤◌, ◌+◌, length, map, slice_index_or};
+    ghost use Rattle.std.specs.List.{All};
+    ghost use Rattle.units.specs.Isolates.{level_of_para};
+    ghost use Rattle.units.specs.Reordering.{shown_of};
+    ghost use Rattle.lines.specs.Bounds.{AreBounds, Follows, line_between, lines_in};
+    ghost use Rattle.lines.specs.Layouts.{view_of, no_line, IsLineAt};
+    ghost use Rattle.lines.specs.Showing.{shown_left};
+
+    pub(crate) fn new(
+        paras: &'s [ParaLevel],
+        levels: &'s [Option<Level>],
+        orders: &'s [usize],
+        bounds: &'s [Bound],
+    ) -> Layout<'s>
+        requires { AreBounds levels.now orders.now bounds.now }
+        ensures { view_of result ≡ record { paras = map level_of_para paras.now; levels = levels.now; lines = lines_in orders.now bounds.now } }
+    {
+        Layout {
+            paras,
+            levels,
+            orders,
+            bounds,
+        }
+    }
+
+    /// The levels of the paragraphs (P2, P3), in order.
+    pub fn para_levels(&self) -> &[ParaLevel]
+        ensures { map level_of_para result.now ≡ (view_of self.now).paras }
+    {
+        self.paras
+    }
+
+    /// The levels of all positions of the text after L1, none where a position was removed.
+    pub fn levels(&self) -> &[Option<Level>]
+        ensures { result.now ≡ (view_of self.now).levels }
+    {
+        self.levels
+    }
+
+    /// The number of lines; an empty text has none.
+    pub fn line_count(&self) -> usize
+        ensures { result ≡ length (view_of self.now).lines }
+    {
+        self.bounds.len() - 1
+    }
+
+    /// The bounds of the line with the number `k`.
+    fn bounds_of(&self, k: usize) -> (Bound, Bound)
+        requires { k + 1 < length self.now.bounds.now }
+        ensures line { slice_index_or (view_of self.now).lines k no_line ≡ line_between self.now.orders.now result.0 result.1 }
+        ensures rising { Follows result.0 result.1 }
+        ensures inside { result.1.position ≤ length self.now.levels.now }
+        ensures written { result.1.order ≤ length self.now.orders.now }
+    {
+        let bounds = self.bounds;
+        (bounds[k], bounds[k + 1])
+    }
+
+    /// The line with the number `k`, counted from 0.
+    pub fn line(&self, k: usize) -> Line<'_>
+        requires { k < length (view_of self.now).lines }
+        ensures line { IsLineAt (view_of self.now) k result }
+        ensures places { All (λ p. p < length (view_of self.now).levels) result.order.now }
+    {
+        let (from, to) = self.bounds_of(k);
+        let start = from.position as usize;
+        let end = to.position as usize;
+        Line {
+            start,
+            end,
+            levels: &self.levels[start..end],
+            order: &self.orders[from.order as usize..to.order as usize],
+        }
+    }
+
+    /// The characters of the line with the number `k` from left to right, each whose level is odd as its mirror image, where it has
+    /// one (L4); `chars` are the characters of the whole text.
+    pub fn shown<'a, M: Mirrors>(
+        &'a self,
+        mirrors: &'a M,
+        chars: &'a [char],
+        k: usize,
+    ) -> Shown<'a, M>
+        requires line { k < length (view_of self.now).lines }
+        requires chars { length chars.now ≡ length (view_of self.now).levels }
+        ensures { shown_left M.images result ≡ shown_of (M.images mirrors.now) (view_of self.now).levels chars.now (slice_index_or (view_of self.now).lines k no_line).order }
+    {
+        let line = self.line(k);
+        Shown::new(mirrors, self.levels, chars, line.order)
+    }
+}

@@ -1,0 +1,79 @@
+ghost use Rattle.std.specs.Prelude.{◌≡◌, ◌<◌, length};
+ghost use Rattle.std.specs.List.{All};
+ghost use Rattle.units.specs.Reordering.{is_odd_level, shown_at, shown_of};
+
+use crate::mirror::Mirrors;
+use units::level::Level;
+
+/// The characters of a line from left to right, mirrored where their level is odd.
+#[derive(Drop)]
+pub struct Shown<'a, M> {
+    mirrors: &'a M,
+    levels: &'a [Option<Level>],
+    chars: &'a [char],
+    order: &'a [usize],
+    ghost leveled: { All (λ p. p < length levels.now) order.now },
+    ghost written: { length chars.now ≡ length levels.now },
+}
+
+fn is_odd(level: Option<Level>) -> bool
+    ensures { result ≡ is_odd_level level }
+{
+    match level {
+        Some(level) => level.get() % 2 == 1,
+        None => false,
+    }
+}
+
+impl<'a, M: Mirrors> Shown<'a, M> {
+    ghost use Rattle.lines.specs.Showing.{shown_left};
+
+    pub(crate) fn new(
+        mirrors: &'a M,
+        levels: &'a [Option<Level>],
+        chars: &'a [char],
+        order: &'a [usize],
+    ) -> Shown<'a, M>
+        requires leveled { All (λ p. p < length levels.now) order.now }
+        requires written { length chars.now ≡ length levels.now }
+        ensures { shown_left M.images result ≡ shown_of (M.images mirrors.now) levels.now chars.now order.now }
+    {
+        Shown {
+            mirrors,
+            levels,
+            chars,
+            order,
+        }
+    }
+
+    /// The character at a position as it is shown.
+    fn char_at(&self, position: usize) -> char
+        requires { position < length self.now.levels.now }
+        ensures { result ≡ shown_at (M.images self.now.mirrors.now) self.now.levels.now self.now.chars.now position }
+    {
+        let c = self.chars[position];
+        if is_odd(self.levels[position]) {
+            self.mirrors.mirror(c).unwrap_or(c)
+        } else {
+            c
+        }
+    }
+}
+
+impl<'a, M: Mirrors> Iterator for Shown<'a, M> {
+    ghost use Rattle.std.specs.Iterator.{YieldsFirst, item_count};
+    ghost use Rattle.lines.specs.Showing.{shown_left};
+
+    type Item = char;
+
+    ghost next_gives = { YieldsFirst (shown_left M.images) };
+
+    ghost remaining = { item_count (shown_left M.images) };
+
+    fn next(&mut self) -> Option<char> {
+        let (first, others) = self.order.split_first()?;
+        let c = self.char_at(*first);
+        self.order = others;
+        Some(c)
+    }
+}
