@@ -1,0 +1,89 @@
+// What goes wrong in a run, and how it is said.
+ghost use Rattle.std.specs.Prelude.{◌≡◌, OnOk};
+ghost use Rattle.bidi.specs.FaultText.{SaysFault, fault_status};
+
+use std::io;
+use std::io::Write;
+use units::memory::Memory;
+
+/// Why a text was not printed whole.
+#[derive(Clone, Copy, Debug, PartialEq, Eq)]
+pub enum PrintFault {
+    /// A write failed. How much went out before is not known.
+    Write,
+    /// Memory was refused.
+    Memory,
+}
+
+impl From<io::Error> for PrintFault {
+    ghost use Rattle.std.specs.Prelude.{◌≡◌};
+    ghost use Rattle.bidi.specs.declared.fault.PrintFault.TheVariants.{Write};
+
+    ghost from_gives = { λ _ fault. fault ≡ Write };
+
+    fn from(_error: io::Error) -> Self {
+        Self::Write
+    }
+}
+
+/// Why a run did not end well.
+#[derive(Debug, Drop)]
+pub enum Fault<'a> {
+    /// The command line is refused; the error has the text for the user.
+    Refused(clap::Error),
+    /// The file of this name can't be opened, a read of it failed, or it has more bytes than are allowed.
+    CannotRead(&'a str),
+    /// A write to the output, or its flush, failed.
+    CannotWrite,
+    /// Memory was refused.
+    OutOfMemory,
+}
+
+impl From<PrintFault> for Fault<'_> {
+    ghost use Rattle.std.specs.Prelude.{◌≡◌};
+    ghost use Rattle.bidi.specs.FaultText.{fault_of};
+
+    ghost from_gives = { λ fault given. given ≡ fault_of fault };
+
+    fn from(fault: PrintFault) -> Self {
+        match fault {
+            PrintFault::Write => Fault::CannotWrite,
+            PrintFault::Memory => Fault::OutOfMemory,
+        }
+    }
+}
+
+impl From<Memory> for Fault<'_> {
+    ghost use Rattle.std.specs.Prelude.{◌≡◌};
+    ghost use Rattle.bidi.specs.declared.fault.Fault.TheVariants.{OutOfMemory};
+
+    ghost from_gives = { λ _ fault. fault ≡ OutOfMemory };
+
+    fn from(_memory: Memory) -> Self {
+        Fault::OutOfMemory
+    }
+}
+
+impl Fault<'_> {
+    /// The exit status: 2 where the command line is refused, else 3.
+    pub fn status(&self) -> u8
+        ensures { result ≡ fault_status self.now }
+    {
+        match self {
+            Fault::Refused(_) => 2,
+            _ => 3,
+        }
+    }
+
+    /// Writes the line that says the fault, or the text for the user where the command line is refused.
+    pub fn print<E: Write>(&self, err: &mut E) -> io::Result<()>
+        ensures { OnOk result (SaysFault (E.contents err.old) (E.contents err.new) self.now) }
+    {
+        match self {
+            Fault::Refused(error) => write!(err, "{error}"),
+            Fault::CannotRead(name) => writeln!(err, "bidi: cannot read {name}"),
+            Fault::CannotWrite => writeln!(err, "bidi: cannot write"),
+            Fault::OutOfMemory => writeln!(err, "bidi: out of memory"),
+        }
+    }
+}

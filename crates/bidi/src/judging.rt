@@ -1,0 +1,50 @@
+// A source judged, and its verdict printed.
+ghost use Rattle.std.specs.Prelude.{◌≡◌, ◌≤◌, ℕ, List, IfOk, IsErr, OnOk};
+ghost use Rattle.bidtests.specs.ClassesFile.{classes_verdict};
+ghost use Rattle.bidi.specs.Judged.{SaysVerdict};
+ghost use Rattle.bidi.specs.VerdictText.{verdict_status};
+
+use crate::fault::Fault;
+use crate::verdict_line::print_verdict;
+use bidtests::judge::Judge;
+use bidtests::reader::judge_reader;
+use bidtests::verdict::Verdict;
+use std::alloc::Global;
+use std::io::Write;
+use units::source::ByteSource;
+
+/// The exit status of a verdict: 0 for a yes, 1 for a no.
+fn status_of(verdict: Verdict) -> u8
+    ensures status { result ≡ verdict_status verdict }
+    ensures least { result ≤ 1 }
+{
+    match verdict {
+        Verdict::Yes { .. } => 0,
+        Verdict::Malformed { .. } | Verdict::Wrong { .. } => 1,
+    }
+}
+
+/// Judges the bytes that a source hands out to its end, as a file whose rows are lists of classes. Prints the verdict's line and answers its exit status. The faults are a failed read, by the name that is given, a failed write, and refused memory.
+pub fn judge_classes<'a, S: ByteSource, W: Write>(
+    alloc: Global,
+    source: &mut S,
+    name: &'a str,
+    out: &mut W,
+) -> Result<u8, Fault<'a>>
+    // No verdict without the whole of the source.
+    ensures ended { OnOk result (S.ended source.new) }
+    ensures failed { S.failures source.new ≡ 1 → IsErr result }
+    ensures unread { result ≡ Err (Fault.CannotRead name.entry) → S.failures source.new ≡ 1 }
+
+    ensures verdict { IfOk result (λ status. (given : List ℕ) × S.gives source.old given source.new
+        × SaysVerdict (W.contents out.old) (W.contents out.new) (classes_verdict given) status) }
+    ensures status { IfOk result (λ status. status ≤ 1) }
+{
+    let judge = Judge::for_classes(alloc)?;
+    let verdict = match judge_reader(judge, source) {
+        Ok(verdict) => verdict,
+        Err(_) => return Err(Fault::CannotRead(name)),
+    };
+    print_verdict(out, &verdict)?;
+    Ok(status_of(verdict))
+}

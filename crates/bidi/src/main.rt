@@ -1,0 +1,49 @@
+//! The command `bidi`: judges conformance files of the bidirectional algorithm.
+#![tactic(auto)]
+
+mod command_line;
+mod fault;
+mod files;
+mod judging;
+mod run;
+#[cfg(test)]
+mod tests;
+mod verdict_line;
+
+use files::SystemFiles;
+use run::run;
+use std::env;
+use std::io::{self, BufWriter, Write};
+use std::process::ExitCode;
+
+/// Runs with the words of the command line, over the files of the system, standard output (buffered) and standard error.
+fn run_with_words<E: Write>(rt: &HostRuntime, err: &mut E) -> io::Result<u8> {
+    let alloc = rt.alloc();
+    let owned: Vec<String> = env::args(rt)?.collect(alloc)?;
+    let words: Vec<&str> = owned.iter().map(|word| word.as_str()).collect(alloc)?;
+    let mut out = BufWriter::new(alloc, rt.stdout())?;
+    Ok(run(alloc, &words, &mut SystemFiles::new(rt), &mut out, err))
+}
+
+/// Says why there were no words to run with, and answers the exit status.
+fn report<E: Write>(kind: io::ErrorKind, err: &mut E) -> u8 {
+    match kind {
+        io::ErrorKind::OutOfMemory => {
+            let _ = writeln!(err, "bidi: out of memory");
+            3
+        }
+        _ => {
+            let _ = writeln!(err, "bidi: a word is not UTF-8");
+            2
+        }
+    }
+}
+
+fn main(rt: HostRuntime) -> ExitCode {
+    let mut err = rt.stderr();
+    let status = match run_with_words(&rt, &mut err) {
+        Ok(status) => status,
+        Err(error) => report(error.kind(), &mut err),
+    };
+    ExitCode::from(status)
+}
