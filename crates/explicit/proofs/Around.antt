@@ -100,7 +100,3 @@ closes_innermost cs i p e =
           let after = h.before m.0 m.1 in
           omega (arith, after, m.2)))
     ]
-
--- what an isolate that begins at p holds lies in no isolate that begins before p, innermost
-pub around_held : (cs : List Class) (p q i : ℕ) → IsHeld cs p q → isolate_around cs q ≡ Some i → p ≤ i
-around_held cs p q i h e = around_innermost cs q i p e h

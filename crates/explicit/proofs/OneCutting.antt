@@ -1,7 +1,6 @@
 -- A text has one cutting into paragraphs.
-use Rattle.std.proofs.Common.{Some, None, ◌≡◌, ℕ, suc, ◌+◌, ◌<◌, ◌≤◌, true, false, List, [], ◌∷◌, ◌++◌, length, take, drop, inl, inr, refl, sym, ap, ◌∙◌, arith, ◌↔◌}
+use Rattle.std.proofs.Common.{Some, None, ◌≡◌, ℕ, suc, ◌+◌, ◌<◌, ◌≤◌, true, false, List, [], ◌∷◌, length, take, drop, inl, inr, refl, sym, ap, ◌∙◌, arith, ◌↔◌}
 use Rattle.std.proofs.lemmas.Bool.{cases_Bool, cases_lt, lt-ltb, le-ltb}
-use Rattle.std.proofs.lemmas.List.{length-append}
 use Rattle.std.proofs.lemmas.Option.{same_Some, none-some}
 use Rattle.std.specs.Prelude.{nat_lt}
 use Rattle.std.specs.List.{position_or_len, position}
@@ -158,10 +157,3 @@ length-begin_with unit (piece ∷ pieces) =
 pub no_more_paragraphs : (text : List BidiUnit) → length (paragraphs_of text) ≤ length text
 no_more_paragraphs [] = omega arith
 no_more_paragraphs (unit ∷ units) = omega (arith, length-begin_with unit (paragraphs_of units), no_more_paragraphs units)
-
--- the first paragraph and the text after it make up the text
-pub split_joined : (text para rest : List BidiUnit) → paragraphs_of text ≡ para ∷ paragraphs_of rest → text ≡ para ++ rest
-split_joined text para rest e = sym (joined-paragraphs_of text) ∙ ap joined e ∙ ap (λ us. para ++ us) (joined-paragraphs_of rest)
-
-pub split_length : (text para rest : List BidiUnit) → paragraphs_of text ≡ para ∷ paragraphs_of rest → length text ≡ length para + length rest
-split_length text para rest e = ap length (split_joined text para rest e) ∙ length-append para rest

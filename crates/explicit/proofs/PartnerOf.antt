@@ -1,13 +1,11 @@
 -- What a partner is, by its place.
 use Rattle.std.proofs.Common.{◌≡◌, ℕ, ◌<◌, ◌≤◌, Bool, true, false, List, Some, None, inl, inr, refl, sym, ◌∙◌, arith}
-use Rattle.std.proofs.lemmas.Bool.{cases_Bool, true≢false}
+use Rattle.std.proofs.lemmas.Bool.{cases_Bool}
 use Rattle.units.specs.Positions.{is_same}
-use Rattle.units.specs.Classes.{class_at, is_isolate_initiator, is_pdi}
+use Rattle.units.specs.Classes.{class_at, is_pdi}
 use Rattle.units.specs.Isolates.{matching_pdi, matching_initiator, partner_of}
 use Rattle.units.specs.declared.class.Class.{Class}
 use Rattle.explicit.proofs.Positions.{last_below_some, last_below_is, is_same_true, is_same_refl}
-use Rattle.explicit.proofs.Roles.{Kind, opening, closing, other, kind_of}
-use Rattle.explicit.proofs.Matching.{matching_pdi_opens}
 use Rattle.explicit.proofs.Nesting.{match_bounds, match_is_pdi, match_injective}
 use Rattle.explicit.proofs.Around.{IsUnmatched}
 
@@ -61,30 +59,3 @@ partner_nobody cs p e = record {
       let found : Some i ≡ None = sym (initiator_of_match cs p i m) ∙ sym (partner_of_pdi cs p (match_is_pdi cs i p m)) ∙ e in
       absurd (cc);
 }
-
--- partners are partners both ways
-pub partner_both_ways : (cs : List Class) (p a : ℕ) → partner_of cs p ≡ Some a → partner_of cs a ≡ Some p
-partner_both_ways cs p a e =
-    elim (cases_Bool (is_pdi (class_at cs p))) [
-      | inl closer ↦
-          let m = initiator_matches cs p a (sym (partner_of_pdi cs p closer) ∙ e) in
-          opens_to a p m
-      | inr plain ↦
-          let m : matching_pdi cs p ≡ Some a = sym (partner_of_other cs p plain) ∙ e in
-          partner_of_pdi cs a (match_is_pdi cs p a m) ∙ initiator_of_match cs a p m
-    ]
-  where
-    opens_to : (i j : ℕ) → matching_pdi cs i ≡ Some j → partner_of cs i ≡ Some j
-    opens_to i j m =
-        elim (cases_Bool (is_pdi (class_at cs i))) [
-          | inl closer ↦ absurd (let none = matching_pdi_not_closer i j m in true≢false (sym closer ∙ none))
-          | inr plain ↦ partner_of_other cs i plain ∙ m
-        ]
-      where
-        matching_pdi_not_closer : (i j : ℕ) → matching_pdi cs i ≡ Some j → is_pdi (class_at cs i) ≡ false
-        matching_pdi_not_closer i j m = go (kind_of (class_at cs i)) (matching_pdi_opens cs i j m)
-          where
-            go : Kind (class_at cs i) → is_isolate_initiator (class_at cs i) ≡ true → is_pdi (class_at cs i) ≡ false
-            go (opening x y) o = y
-            go (closing x y) o = absurd (true≢false (sym o ∙ x))
-            go (other x y) o = y

@@ -10,6 +10,8 @@ pub mod levels;
 pub mod para_level;
 pub mod paragraph;
 mod status;
+#[cfg(test)]
+mod tests;
 
 use paragraph::Paragraphs;
 use units::bracket::Unit;
