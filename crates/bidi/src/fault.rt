@@ -31,6 +31,8 @@ impl From<io::Error> for PrintFault {
 pub enum Fault<'a> {
     /// The command line is refused; the error has the text for the user.
     Refused(clap::Error),
+    /// A word of the command line is not UTF-8.
+    WordNotUtf8,
     /// The file of this name can't be opened, a read of it failed, or it has more bytes than are allowed.
     CannotRead(&'a str),
     /// A write to the output, or its flush, failed.
@@ -65,25 +67,35 @@ impl From<Memory> for Fault<'_> {
 }
 
 impl Fault<'_> {
-    /// The exit status: 2 where the command line is refused, else 3.
-    pub fn status(&self) -> u8
+    /// The exit status: 2 where the words of the command line are refused, else 3.
+    fn status(&self) -> u8
         ensures { result ≡ fault_status self.now }
     {
         match self {
-            Fault::Refused(_) => 2,
+            Fault::Refused(_) | Fault::WordNotUtf8 => 2,
             _ => 3,
         }
     }
 
     /// Writes the line that says the fault, or the text for the user where the command line is refused.
-    pub fn print<E: Write>(&self, err: &mut E) -> io::Result<()>
+    fn print<E: Write>(&self, err: &mut E) -> io::Result<()>
         ensures { OnOk result (SaysFault (E.contents err.old) (E.contents err.new) self.now) }
     {
         match self {
             Fault::Refused(error) => write!(err, "{error}"),
+            Fault::WordNotUtf8 => writeln!(err, "bidi: a word is not UTF-8"),
             Fault::CannotRead(name) => writeln!(err, "bidi: cannot read {name}"),
             Fault::CannotWrite => writeln!(err, "bidi: cannot write"),
             Fault::OutOfMemory => writeln!(err, "bidi: out of memory"),
         }
+    }
+
+    /// Says the fault, and answers the exit status, which stays where the line can't be written.
+    pub fn report<E: Write>(&self, err: &mut E) -> u8
+        ensures { result ≡ fault_status self.now }
+    {
+        let _ = self.print(err);
+        let _ = err.flush();
+        self.status()
     }
 }

@@ -10,6 +10,7 @@ mod run;
 mod tests;
 mod verdict_line;
 
+use fault::Fault;
 use files::SystemFiles;
 use run::run;
 use std::env;
@@ -25,17 +26,11 @@ fn run_with_words<E: Write>(rt: &HostRuntime, err: &mut E) -> io::Result<u8> {
     Ok(run(alloc, &words, &mut SystemFiles::new(rt), &mut out, err))
 }
 
-/// Says why there were no words to run with, and answers the exit status.
-fn report<E: Write>(kind: io::ErrorKind, err: &mut E) -> u8 {
+/// Why there are no words to run with.
+fn fault_of_words(kind: io::ErrorKind) -> Fault<'static> {
     match kind {
-        io::ErrorKind::OutOfMemory => {
-            let _ = writeln!(err, "bidi: out of memory");
-            3
-        }
-        _ => {
-            let _ = writeln!(err, "bidi: a word is not UTF-8");
-            2
-        }
+        io::ErrorKind::OutOfMemory => Fault::OutOfMemory,
+        _ => Fault::WordNotUtf8,
     }
 }
 
@@ -43,7 +38,7 @@ fn main(rt: HostRuntime) -> ExitCode {
     let mut err = rt.stderr();
     let status = match run_with_words(&rt, &mut err) {
         Ok(status) => status,
-        Err(error) => report(error.kind(), &mut err),
+        Err(error) => fault_of_words(error.kind()).report(&mut err),
     };
     ExitCode::from(status)
 }

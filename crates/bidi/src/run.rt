@@ -102,11 +102,6 @@ pub fn run<F: Files, W: Write, E: Write>(
 {
     match outcome_of(alloc, words, files, out) {
         Ok(status) => status,
-        Err(fault) => {
-            // The status stays where the line can't be written.
-            let _ = fault.print(err);
-            let _ = err.flush();
-            fault.status()
-        }
+        Err(fault) => fault.report(err),
     }
 }

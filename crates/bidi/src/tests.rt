@@ -149,10 +149,7 @@ struct Outcome {
     err: FixedWriter,
 }
 
-fn outcome_of<F: Files>(alloc: Global, words: &[&str], mut files: F) -> Outcome
-where
-    F: Drop,
-{
+fn outcome_of<F: Files + Drop>(alloc: Global, words: &[&str], mut files: F) -> Outcome {
     let mut out = FixedWriter::new();
     let mut err = FixedWriter::new();
     let status = run(alloc, words, &mut files, &mut out, &mut err);
@@ -179,12 +176,9 @@ fn answers_by_status_and_verdict_line(rt: HostRuntime) {
     ];
     for (bytes, status, line) in rows {
         let outcome = outcome_of(rt.alloc(), &JUDGE_FILE, file_of(bytes));
-        let refused = outcome.status == 3
-            && outcome.err.written() == b"bidi: out of memory\n".as_slice();
-        let ordinary = outcome.status == status
-            && outcome.out.written() == line
-            && outcome.err.written().is_empty();
-        assert!(rt; refused || ordinary, "{status}");
+        assert_eq!(rt; outcome.status, status);
+        assert_eq!(rt; outcome.out.written(), line);
+        assert!(rt; outcome.err.written().is_empty(), "{status}");
     }
 }
 
@@ -320,11 +314,30 @@ fn keeps_the_status_where_the_fault_line_is_not_taken(rt: HostRuntime) {
 }
 
 #[test]
-fn says_that_memory_was_refused(rt: HostRuntime) {
+fn says_that_a_file_found_no_memory(rt: HostRuntime) {
     let outcome = outcome_of(rt.alloc(), &JUDGE_FILE, NoMemory);
     assert_eq!(rt; outcome.status, 3);
     assert!(rt; outcome.out.written().is_empty());
     assert_eq!(rt; outcome.err.written(), b"bidi: out of memory\n".as_slice());
+}
+
+// To be run with each allocation failing in turn.
+#[test]
+fn answers_as_ever_or_says_that_memory_was_refused(rt: HostRuntime) {
+    let rows: [(&[&str], u8, &[u8], &[u8]); 3] = [
+        (&JUDGE_FILE, 1, b"no: line 3: rtl: levels at 0\n", b""),
+        (&["bidi", "judge", "--help"], 0, b"Judges ", b""),
+        (&["bidi", "other"], 2, b"", b"error: "),
+    ];
+    for (words, status, out, err) in rows {
+        let outcome = outcome_of(rt.alloc(), words, file_of(WRONG_UNDER_RTL));
+        let said = outcome.err.written();
+        let refused = outcome.status == 3 && said == b"bidi: out of memory\n".as_slice();
+        let as_ever = outcome.status == status
+            && outcome.out.written().starts_with(out)
+            && said.starts_with(err);
+        assert!(rt; refused || as_ever, "{words:?}");
+    }
 }
 
 #[test]
