@@ -8,7 +8,7 @@ use Rattle.std.proofs.lemmas.List.Sums.{sum_by-append}
 use Rattle.std.proofs.lemmas.List.Folds.{prefix_len-append}
 use Rattle.units.specs.declared.class.Class.{Class}
 use Rattle.explicit.specs.OpenInitiators.{is_isolate}
-use Rattle.explicit.specs.StatusStacks.{state_within, is_taken, entry_at, entries_of, taken_isolates, refused_isolates, IsCut}
+use Rattle.explicit.specs.StatusStacks.{state_within, is_taken, entry_at, entries_of, taken_isolates, refused_isolates, IsRefusedTail}
 use Rattle.explicit.proofs.StillOpen.{bit}
 use Rattle.explicit.proofs.Taken.{taken-outer, none_refused, adds-taken}
 
@@ -55,13 +55,13 @@ all_taken cs para (q ∷ qs) s =
     let n : length (entries_of cs para qs ++ entry_at cs para q qs ∷ []) ≡ length (entries_of cs para qs) + 1 = length-append (entries_of cs para qs) (entry_at cs para q qs ∷ []) in
     (ap length a.entry_is ∙ n ∙ omega (arith, ih.0), a.taken_isolates_is ∙ ap (λ k. bit (is_isolate cs q) + k) ih.1 ∙ sym (count-cons (is_isolate cs) q qs))
 
-cut-sound : (cs : List Class) (para : ℕ) (qs : List ℕ) → (state_within cs para qs).sound ≡ true → IsCut cs para [] qs
+cut-sound : (cs : List Class) (para : ℕ) (qs : List ℕ) → (state_within cs para qs).sound ≡ true → IsRefusedTail cs para [] qs
 cut-sound cs para qs s =
     let a = all_taken cs para qs s in
     let z = none_refused cs para qs s in
     record { sound = s; entries = refl; one_each = a.0; overflow_isolates = z.0; overflow_embeddings = z.1; valid_isolates = a.1 }
 
-cut-refused : (cs : List Class) (para q : ℕ) (refused taken : List ℕ) → is_taken cs para q (refused ++ taken) ≡ false → IsCut cs para refused taken → IsCut cs para (q ∷ refused) taken
+cut-refused : (cs : List Class) (para q : ℕ) (refused taken : List ℕ) → is_taken cs para q (refused ++ taken) ≡ false → IsRefusedTail cs para refused taken → IsRefusedTail cs para (q ∷ refused) taken
 cut-refused cs para q refused taken t c =
     let t' = λ (q : ℕ). not (is_isolate cs q) in
     record {
@@ -93,7 +93,7 @@ cut-refused cs para q refused taken t c =
     }
 
 -- whatever initiators are open, those that were refused stand in front of those that were taken
-pub cut_of : (cs : List Class) (para : ℕ) (qs : List ℕ) → (refused : List ℕ) × (taken : List ℕ) × (qs ≡ refused ++ taken) × IsCut cs para refused taken
+pub cut_of : (cs : List Class) (para : ℕ) (qs : List ℕ) → (refused : List ℕ) × (taken : List ℕ) × (qs ≡ refused ++ taken) × IsRefusedTail cs para refused taken
 cut_of cs para [] = ([], [], refl, cut-sound cs para [] refl)
 cut_of cs para (q ∷ qs) =
     elim (cases_Bool (is_taken cs para q qs)) [

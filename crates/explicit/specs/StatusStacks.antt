@@ -1,4 +1,4 @@
--- What the pass keeps of the open initiators.
+-- What the pass keeps of the open initiators, which are lists with the innermost first.
 use Rattle.std.specs.List.{list_any, suffix_len}
 use Rattle.std.specs.Prelude.{count_by, not, Option, None, Some, unwrap_or, if◌then◌else◌, ◌≡◌, ℕ, ◌+◌, ◌<◌, ◌≤◌, ◌^◌, length, cond, Bool, true, false, ◌||◌, List, [], ◌∷◌, ◌++◌, nat_lt}
 use Rattle.units.specs.Explicit.{State, entered}
@@ -12,56 +12,58 @@ use Rattle.explicit.specs.declared.status.StatusStack.{StatusStack}
 abbrev pub size_of : StatusStack → ℕ
 size_of n = length n.entries.items
 
--- what holds inside these initiators, the innermost first
+-- X1 to X5c: what holds inside these initiators
 abbrev pub state_within : List Class → ℕ → List ℕ → State
 state_within cs para [] = record { level = para; override = None; sound = true }
 state_within cs para (q ∷ qs) = entered cs (state_within cs para qs) q
 
--- the innermost of these was taken
+-- X2 to X5c: the initiator at q was taken, neither above the greatest level nor inside one that was refused
 abbrev pub is_taken : List Class → ℕ → ℕ → List ℕ → Bool
 is_taken cs para q qs = (state_within cs para (q ∷ qs)).sound
 
+-- X1: the entry that keeps this state
 abbrev pub entry_of : State → Bool → Status
 entry_of s isolate = record { level = s.level; override_class = s.override; is_isolate = isolate }
 
--- the entry of the initiator at q, where it was taken
+-- X2 to X5c: the entry of the initiator at q, where it was taken
 abbrev pub entry_at : List Class → ℕ → ℕ → List ℕ → Status
 entry_at cs para q qs = entry_of (state_within cs para (q ∷ qs)) (is_isolate cs q)
 
--- an entry for the paragraph and for each initiator that was taken, the outermost first
+-- X1 to X5c: an entry for the paragraph and for each initiator that was taken, the outermost first
 abbrev pub entries_of : List Class → ℕ → List ℕ → List Status
 entries_of cs para [] = entry_of (state_within cs para []) false ∷ []
 entries_of cs para (q ∷ qs) =
     cond (is_taken cs para q qs) (entries_of cs para qs ++ entry_at cs para q qs ∷ []) (entries_of cs para qs)
 
--- how many isolates were taken, and how many not
+-- X5a to X5c: how many isolates were taken (the valid isolate count)
 abbrev pub taken_isolates : List Class → ℕ → List ℕ → ℕ
 taken_isolates cs para [] = 0
 taken_isolates cs para (q ∷ qs) = cond (is_taken cs para q qs) (cond (is_isolate cs q) 1 0) 0 + taken_isolates cs para qs
 
+-- X5a to X5c: how many isolates were refused (the overflow isolate count)
 abbrev pub refused_isolates : List Class → ℕ → List ℕ → ℕ
 refused_isolates cs para [] = 0
 refused_isolates cs para (q ∷ qs) = cond (is_taken cs para q qs) 0 (cond (is_isolate cs q) 1 0) + refused_isolates cs para qs
 
--- how many embeddings were not taken, outside of the isolates that were not
+-- X2 to X5: how many embeddings were refused outside of refused isolates (the overflow embedding count)
 abbrev pub refused_embeddings : List Class → ℕ → List ℕ → ℕ
 refused_embeddings cs para [] = 0
 refused_embeddings cs para (q ∷ qs) =
     cond (is_taken cs para q qs || (is_isolate cs q || nat_lt 0 (refused_isolates cs para qs))) 0 1 + refused_embeddings cs para qs
 
--- this is what the pass keeps of these
+-- X1 to X8: this is what the pass keeps of these initiators
 pub record Represents (cs : List Class) (para : ℕ) (qs : List ℕ) (n : StatusStack) : Type 0 where
   pub entries : n.entries.items ≡ entries_of cs para qs
   pub overflow_isolates : n.overflow_isolates ≡ refused_isolates cs para qs
   pub overflow_embeddings : n.overflow_embeddings ≡ refused_embeddings cs para qs
   pub valid_isolates : n.valid_isolates ≡ taken_isolates cs para qs
 
--- the entries before the last isolate's, or none
+-- X6a: the entries before the last isolate's, or none
 abbrev pub before_isolate : List Status → List Status
 before_isolate [] = []
 before_isolate (x ∷ xs) = cond (list_any (λ e. e.is_isolate) xs) (x ∷ before_isolate xs) []
 
--- this is what the pass keeps of some initiators, not too many
+-- X1: this is what the pass keeps of some initiators, not too many for the counts
 pub record IsKept (n : StatusStack) : Type 0 where
   pub classes : List Class
   pub para : ℕ
@@ -70,12 +72,13 @@ pub record IsKept (n : StatusStack) : Type 0 where
   pub base : para ≤ 1
   pub few : length initiators < 2 ^ 63
 
--- the level and the current class of a position of this class, or none where it is removed
+-- X5a to X9: the level and the current class of a position of this class in this state, or none where it is removed
 abbrev pub placed : State → ℕ → Class → Option (ℕ × Class)
 placed s para own = if is_removed own then None else if is_separator own then Some (para, own) else Some (s.level, unwrap_or s.override own)
 
--- the bridge in one view: what was refused is a tail of the chain, here in front, since the innermost comes first
-pub record IsCut (cs : List Class) (para : ℕ) (refused taken : List ℕ) : Type 0 where
+-- X1 to X5c: the refused initiators stand inside all that were taken; the entries are those of the paragraph and of each
+-- that was taken; the three counts are of the refused isolates, of the refused embeddings outside of these, and of the taken isolates
+pub record IsRefusedTail (cs : List Class) (para : ℕ) (refused taken : List ℕ) : Type 0 where
   pub sound : (state_within cs para taken).sound ≡ true
   pub entries : entries_of cs para (refused ++ taken) ≡ entries_of cs para taken
   pub one_each : length (entries_of cs para taken) ≡ length taken + 1

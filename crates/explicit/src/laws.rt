@@ -9,7 +9,7 @@ ghost use Rattle.units.specs.Runs.{leveled_of, IsLeveled, IsNested};
 ghost use Rattle.units.specs.declared.bracket.Unit.{Unit as BidiUnit};
 ghost use Rattle.units.specs.declared.class.Class.{Class};
 ghost use Rattle.explicit.specs.IsolateNesting.{IsWithin, AreApart};
-ghost use Rattle.explicit.specs.StatusStacks.{IsCut};
+ghost use Rattle.explicit.specs.StatusStacks.{IsRefusedTail};
 
 /// Isolates nest or are apart (BD9): the one that begins later lies within the other, or no position lies in both.
 pub fn isolates_nest()
@@ -29,7 +29,7 @@ pub fn matched_levels_are_equal()
 /// The initiators around a position that were refused are a tail of its chain, and the three counts of X1 are those of
 /// the isolates in that tail, of the embeddings in it before its first isolate, and of the isolates before it.
 pub fn refused_are_a_tail()
-    ensures { (cs : List Class) (para p : ℕ) → (refused : List ℕ) × (taken : List ℕ) × (chain cs p ≡ reverse taken ++ reverse refused) × IsCut cs para refused taken }
+    ensures { (cs : List Class) (para p : ℕ) → (refused : List ℕ) × (taken : List ℕ) × (chain cs p ≡ reverse taken ++ reverse refused) × IsRefusedTail cs para refused taken }
 {}
 
 /// What isolating run sequences need of the levels and the matching PDIs of a list of classes: levels up to 125, and

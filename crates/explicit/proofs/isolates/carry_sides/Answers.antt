@@ -37,7 +37,7 @@ loop-p-preserved-then-is_strong g c =
     let now = carrying_at cs c.loop-p.p _ _ c.loop-p.carried c.loop-p.invariant.carrying (omega (arith, start)) in
     let strong : is_strong (class_at cs (c.loop-p.p - 1)) ≡ true = ap is_strong (class_read para _ _ inside) ∙ sym c.is_strong.ensures ∙ c.if-is_strong.true in
     let side : is_right_to_left (class_at cs (c.loop-p.p - 1)) ≡ c.is_right_to_left-carried.result = ap is_right_to_left (class_read para _ _ inside) ∙ sym c.is_right_to_left-carried.ensures in
-    record { carrying = carrying_more cs _ _ _ _ _ now (sym side ∙ over_strong cs _ _ _ _ now strong); taken = omega (arith, c.tick.ensures, c.loop-p.invariant.taken, start) }
+    record { carrying = carrying_more cs _ _ _ _ _ now (sym side ∙ over_strong cs _ _ _ _ now strong); taken = omega (arith, c.loop-p.invariant.taken, start) }
 
 pub loop-p-preserved-in-Some : goal.loop-p-preserved-in-Some
 loop-p-preserved-in-Some g c =
@@ -51,7 +51,7 @@ loop-p-preserved-in-Some g c =
     let weak : is_strong (class_at cs (c.loop-p.p - 1)) ≡ false = ap is_strong (class_read para _ _ inside) ∙ sym c.is_strong.ensures ∙ c.if-is_strong.false in
     let enough = now.partner.enough in
     let read : get_or c.args.partners.now (c.loop-p.p - 1) None ≡ c.get.result = sym (get_or_read c.args.partners.now (c.loop-p.p - 1) c.index-partners-p.result (omega (arith, enough)) c.index-partners-p.is None) ∙ sym c.get.ensures in
-    record { carrying = carrying_more cs _ _ _ _ _ now (over_pdi cs _ c.in-Some.pdi _ _ _ now weak (read ∙ c.in-Some.is) c.if-p-pdi.true); taken = omega (arith, c.tick.ensures, c.loop-p.invariant.taken, start) }
+    record { carrying = carrying_more cs _ _ _ _ _ now (over_pdi cs _ c.in-Some.pdi _ _ _ now weak (read ∙ c.in-Some.is) c.if-p-pdi.true); taken = omega (arith, c.loop-p.invariant.taken, start) }
 
 pub loop-p-preserved-in-Some-2 : goal.loop-p-preserved-in-Some-2
 loop-p-preserved-in-Some-2 g c =
@@ -64,7 +64,7 @@ loop-p-preserved-in-Some-2 g c =
     let now = carrying_at cs c.loop-p.p _ _ c.loop-p.carried c.loop-p.invariant.carrying (omega (arith, start)) in
     let enough = now.partner.enough in
     let read : get_or c.args.partners.now (c.loop-p.p - 1) None ≡ c.get.result = sym (get_or_read c.args.partners.now (c.loop-p.p - 1) c.index-partners-p.result (omega (arith, enough)) c.index-partners-p.is None) ∙ sym c.get.ensures in
-    record { carrying = carrying_more cs _ _ _ _ _ now (over_matched_pdi cs _ c.in-Some.pdi _ _ _ now (read ∙ c.in-Some.is) c.if-p-pdi.false); taken = omega (arith, c.tick.ensures, c.loop-p.invariant.taken, start) }
+    record { carrying = carrying_more cs _ _ _ _ _ now (over_matched_pdi cs _ c.in-Some.pdi _ _ _ now (read ∙ c.in-Some.is) c.if-p-pdi.false); taken = omega (arith, c.loop-p.invariant.taken, start) }
 
 pub loop-p-preserved-in-None : goal.loop-p-preserved-in-None
 loop-p-preserved-in-None g c =
@@ -79,7 +79,7 @@ loop-p-preserved-in-None g c =
     let enough = now.partner.enough in
     let read : get_or c.args.partners.now (c.loop-p.p - 1) None ≡ c.get.result = sym (get_or_read c.args.partners.now (c.loop-p.p - 1) c.index-partners-p.result (omega (arith, enough)) c.index-partners-p.is None) ∙ sym c.get.ensures in
     let opener : is_isolate_initiator (class_at cs (c.loop-p.p - 1)) ≡ true = ap is_isolate_initiator (class_read para _ _ inside) ∙ sym c.is_isolate_initiator.ensures ∙ c.if-is_isolate_initiator.true in
-    record { carrying = carrying_more cs _ _ _ _ _ now (over_lost cs _ _ _ _ now weak (read ∙ c.in-None.is) opener); taken = omega (arith, c.tick.ensures, c.loop-p.invariant.taken, start) }
+    record { carrying = carrying_more cs _ _ _ _ _ now (over_lost cs _ _ _ _ now weak (read ∙ c.in-None.is) opener); taken = omega (arith, c.loop-p.invariant.taken, start) }
 
 pub loop-p-preserved : goal.loop-p-preserved
 loop-p-preserved g c =
@@ -94,7 +94,7 @@ loop-p-preserved g c =
     let enough = now.partner.enough in
     let read : get_or c.args.partners.now (c.loop-p.p - 1) None ≡ c.get.result = sym (get_or_read c.args.partners.now (c.loop-p.p - 1) c.index-partners-p.result (omega (arith, enough)) c.index-partners-p.is None) ∙ sym c.get.ensures in
     let opener : is_isolate_initiator (class_at cs (c.loop-p.p - 1)) ≡ false = ap is_isolate_initiator (class_read para _ _ inside) ∙ sym c.is_isolate_initiator.ensures ∙ c.if-is_isolate_initiator.false in
-    record { carrying = carrying_more cs _ _ _ _ _ now (over_plain cs _ _ _ _ now weak (read ∙ c.in-None-2.is) opener); taken = omega (arith, c.tick.ensures, c.loop-p.invariant.taken, start) }
+    record { carrying = carrying_more cs _ _ _ _ _ now (over_plain cs _ _ _ _ now weak (read ∙ c.in-None-2.is) opener); taken = omega (arith, c.loop-p.invariant.taken, start) }
 
 pub returns-clause-outside : goal.returns-clause-outside
 returns-clause-outside g c =

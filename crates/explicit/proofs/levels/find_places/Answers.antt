@@ -44,6 +44,6 @@ loop-p-preserved g c =
         | inl same ↦ rw same (rw get_or-set_same (c.place.ensures cs (holders cs p) r ∙ ap (λ x. placed (state_within cs c.args.base (holders cs p)) c.args.base x) e ∙ explicit-placed cs c.args.base p))
         | inr other ↦ rw get_or-set_other (c.loop-p.invariant.filled q (omega arith))
       ];
-      least = omega (arith, c.tick.ensures, c.close.ensures.least_steps, c.loop-p.invariant.least);
-      most = omega (arith, c.tick.ensures, c.close.ensures.most_steps, c.open.ensures.size, c.loop-p.invariant.most);
+      least = omega (arith, c.close.ensures.least_steps, c.loop-p.invariant.least);
+      most = omega (arith, c.close.ensures.most_steps, c.open.ensures.size, c.loop-p.invariant.most);
     }
