@@ -11,3 +11,5 @@ pub mod order;
 pub mod resets;
 pub mod scratch;
 pub mod shown;
+#[cfg(test)]
+mod tests;
