@@ -2,7 +2,11 @@
 #![tactic(auto)]
 
 pub mod implicit;
+pub mod laws;
 pub mod neutral;
+mod openers;
+pub mod paired;
+pub mod pairs;
 mod rules;
 mod runs;
 pub mod weak;
