@@ -1,0 +1,48 @@
+-- What a line says, by its content and its comment.
+use Rattle.std.proofs.Common.{◌≡◌, ℕ, ◌+◌, ◌<◌, ◌≤◌, ◌==◌, false, List, [], ◌∷◌, length, take, refl, sym, ap, ◌∙◌, arith}
+use Rattle.std.specs.List.{before_first, after_first, position_or_len}
+use Rattle.std.specs.Prelude.{nat_lt}
+use Rattle.std.proofs.lemmas.Bool.{le-ltb}
+use Rattle.std.proofs.lemmas.List.{length-take}
+use Rattle.std.proofs.lemmas.List.Sums.{prefix_len-le-length}
+use Rattle.std.proofs.Math.ListN.{drop_of_length-le}
+use Rattle.units.specs.Text.{content_of, trimmed, fields_of, without_blanks_before}
+use Rattle.units.specs.ClassNames.{class_of_short}
+use Rattle.ucdfiles.specs.declared.span.FileLine.TheVariants.{Silent, Data}
+use Rattle.ucdfiles.specs.ClassFile.{class_line_says, content_says, comment_says, says, range_in}
+
+class_line_says-short : (line : List ℕ) → length line ≤ 65536 → class_line_says line ≡ content_says line (content_of line)
+unfolding class_line_says
+class_line_says-short line le = let e : nat_lt 65536 (length line) ≡ false = le-ltb _ _ le in rw e refl
+
+content_says-some : (line content : List ℕ) → 0 < length content → content_says line content ≡ says Data (range_in class_of_short (fields_of content))
+content_says-some line [] lt = absurd (omega arith)
+content_says-some line (b ∷ bs) lt = refl
+
+content_says-none : (line content : List ℕ) → length content ≡ 0 → content_says line content ≡ comment_says (without_blanks_before (after_first (λ b. b == 35) line))
+content_says-none line [] e = refl
+content_says-none line (b ∷ bs) e = absurd (omega arith)
+
+pub class_line_says-data : (line before content : List ℕ) → length line ≤ 65536 → before ≡ before_first (λ b. b == 35) line → content ≡ trimmed before → 0 < length content
+    → class_line_says line ≡ says Data (range_in class_of_short (fields_of content))
+class_line_says-data line before content le cut trim some =
+    let e : content ≡ content_of line = trim ∙ ap trimmed cut in
+    class_line_says-short line le ∙ ap (content_says line) (sym e) ∙ content_says-some line content some
+
+pub class_line_says-comment : (line before content comment : List ℕ) → length line ≤ 65536 → before ≡ before_first (λ b. b == 35) line → content ≡ trimmed before → length content ≡ 0
+    → comment ≡ after_first (λ b. b == 35) line → class_line_says line ≡ comment_says (without_blanks_before comment)
+class_line_says-comment line before content comment le cut trim none behind =
+    let e : content ≡ content_of line = trim ∙ ap trimmed cut in
+    class_line_says-short line le ∙ ap (content_says line) (sym e) ∙ content_says-none line content none ∙ ap (λ t. comment_says (without_blanks_before t)) (sym behind)
+
+no_comment : (line : List ℕ) → before_first (λ b. b == 35) line ≡ line → [] ≡ after_first (λ b. b == 35) line
+no_comment line e =
+    let p = position_or_len (λ b. b == 35) line in
+    let le : p ≤ length line = prefix_len-le-length _ line in
+    let same : length (take p line) ≡ length line = ap length e in
+    let past : length line ≤ p + 1 = omega (arith, length-take p line, same, le) in
+    sym (drop_of_length-le line past)
+
+pub class_line_says-silent : (line before content : List ℕ) → length line ≤ 65536 → before ≡ before_first (λ b. b == 35) line → content ≡ trimmed before → length content ≡ 0
+    → before_first (λ b. b == 35) line ≡ line → class_line_says line ≡ Silent
+class_line_says-silent line before content le cut trim none whole = class_line_says-comment line before content [] le cut trim none (no_comment line whole)

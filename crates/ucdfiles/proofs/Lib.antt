@@ -1,0 +1,11 @@
+pub mod ClassLines
+pub mod Rising
+pub mod Settled
+pub mod FirstFault
+pub mod Steps
+pub mod Pieces
+pub mod Stating
+pub mod States
+pub mod Ends
+pub mod Outcomes
+pub mod PairLines

@@ -1,0 +1,31 @@
+-- What a reader says at each of its ends.
+use Rattle.std.proofs.Common.{◌≡◌, ◌≢◌, ℕ, ◌⊎◌, inl, inr, List, [], Option, None, Some, Result, Ok, Err, refl, ap, ◌∙◌}
+use Rattle.std.specs.Prelude.{IfErr, OnOk}
+use Rattle.units.specs.LineCutting.{Cutting}
+use Rattle.units.specs.Text.{lines_of}
+use Rattle.ucdfiles.specs.declared.fault.Fault.{Fault}
+use Rattle.ucdfiles.specs.declared.fault.TableFault.{TableFault}
+use Rattle.ucdfiles.specs.declared.fault.TableFault.TheVariants.{Read, Memory}
+use Rattle.ucdfiles.specs.Faults.{first_fault}
+use Rattle.ucdfiles.specs.Reading.{Reads, Refuses, IsFault, IsOutcome}
+use Rattle.ucdfiles.proofs.Settled.{settled-whole}
+
+module _ (before after : List (List ℕ) → Type 0) (fault : List (List ℕ) → List ℕ → Option Fault) (cutter : Cutting) (ended : Type 0) (b : List ℕ) (r : Reads before fault cutter b) where
+  pub failed : IsFault fault ended b Read
+  failed = record {
+    read = λ _. ap (first_fault fault []) (settled-whole b r.lines r.rest r.whole) ∙ r.faultless;
+    other = λ other. absurd (other refl);
+  }
+
+  pub ends-outcome : (result : Result (Unit {0}) TableFault) → ended
+      → OnOk result ((b : List ℕ) → Reads before fault cutter b → (first_fault fault [] (lines_of b) ≡ None) × after (lines_of b))
+      → IfErr result (λ e. (b : List ℕ) → Reads before fault cutter b → (e ≡ Memory) ⊎ (first_fault fault [] (lines_of b) ≡ Some e))
+      → IfErr result (λ e. e ≢ Read) → IsOutcome after fault ended b result
+  ends-outcome (Ok done) end ok err not_read = (end, (ok b r).0, (ok b r).1)
+  ends-outcome (Err e) end ok err not_read = record {
+    read = λ is. absurd (not_read is);
+    other = λ _. elim (err b r) [ inl memory ↦ inl (inl memory) | inr faulty ↦ inr (end, faulty) ];
+  }
+
+pub refused : (fault : List (List ℕ) → List ℕ → Option Fault) (ended : Type 0) (b : List ℕ) (e : TableFault) → Refuses fault b e → e ≢ Read → IsFault fault ended b e
+refused fault ended b e refuses not_read = record { read = λ is. absurd (not_read is); other = λ _. inl refuses }

@@ -1,0 +1,211 @@
+-- Spans in order: where one that holds a code point stands, and one more among them.
+use Rattle.std.proofs.Common.{◌≡◌, ℕ, zero, suc, ◌+◌, ◌-◌, ◌<◌, ◌≤◌, Bool, true, false, ltb, leb, ◌&&◌, ◌||◌, Option, None, Some, List, [], ◌∷◌, ◌++◌, length, get_or, take, drop, insert, refl, sym, ap, ◌∙◌, arith, ◌⊎◌, inl, inr}
+use Rattle.std.specs.List.{find, list_any, AllWithin}
+use Rattle.std.specs.List.Sorted.{IsPartitionedBy}
+use Rattle.std.specs.Option.{option_or}
+use Rattle.std.proofs.lemmas.Bool.{ltb-true, lt-ltb, leb-true, le-leb, lt-leb, false_from_ne_true, cases_lt, false≢true}
+use Rattle.std.proofs.Math.Nat.{eq-or-lt_of_le}
+use Rattle.std.proofs.lemmas.List.{take-append-drop, get_or_default}
+use Rattle.std.proofs.lemmas.List.Edits.{length-insert, get_or-insert_at, get_or-insert_below, get_or-insert_above}
+use Rattle.std.proofs.lemmas.List.Folds.{find-append, list_any-append}
+use Rattle.ucdfiles.specs.declared.fault.Fault.{Fault}
+use Rattle.ucdfiles.specs.declared.span.Span.{Span}
+use Rattle.ucdfiles.specs.Spans.{holds, overlaps, IsRising, Adds, data_fault}
+
+and_false : (b : Bool) → (b && false) ≡ false
+and_false true = refl
+and_false false = refl
+
+known : (b : Bool) → (b ≡ true) ⊎ (b ≡ false)
+known true = inl refl
+known false = inr refl
+
+both_true : (a b : Bool) → (a && b) ≡ true → (a ≡ true) × (b ≡ true)
+both_true true b h = (refl, h)
+both_true false b h = absurd (false≢true h)
+
+both_false : (a b : Bool) → (a || b) ≡ false → (a ≡ false) × (b ≡ false)
+both_false true b h = absurd (false≢true (sym h))
+both_false false b h = (refl, h)
+
+or_false : (b : Bool) → (b || false) ≡ b
+or_false true = refl
+or_false false = refl
+
+or_moves : (a b c : Bool) → (a || (b || c)) ≡ ((a || c) || (b || false))
+or_moves true b c = refl
+or_moves false true true = refl
+or_moves false true false = refl
+or_moves false false true = refl
+or_moves false false false = refl
+
+module _ {V : Type 0} where
+  pub parted : (rs : List (Span V)) (code : ℕ) → IsRising rs → IsPartitionedBy (λ (r : Span V). ltb r.last code) rs
+  parted rs code rising i j d le lt low =
+      let below : (get_or rs j d).last < code = ltb-true _ _ low in
+      elim (eq-or-lt_of_le le) [
+        | inr less ↦ lt-ltb _ _ (omega (arith, rising.apart i j d less lt, rising.each j d lt, below))
+        | inl same ↦ ap (λ k. ltb (get_or rs k d).last code) same ∙ low
+      ]
+
+  -- a list none of whose elements pass
+  find-none : (p : Span V → Bool) (rs : List (Span V)) → ((k : ℕ) (d : Span V) → k < length rs → p (get_or rs k d) ≡ false) → find p rs ≡ None
+  find-none p [] none = refl
+  find-none p (r ∷ rs) none =
+      let e : p r ≡ false = none 0 r (omega arith) in
+      rw e (find-none p rs (λ k d lt. none (suc k) d (omega arith)))
+
+  list_any-none : (p : Span V → Bool) (rs : List (Span V)) → ((k : ℕ) (d : Span V) → k < length rs → p (get_or rs k d) ≡ false) → list_any p rs ≡ false
+  list_any-none p [] none = refl
+  list_any-none p (r ∷ rs) none =
+      let e : p r ≡ false = none 0 r (omega arith) in
+      rw e (list_any-none p rs (λ k d lt. none (suc k) d (omega arith)))
+
+  -- the first element that passes
+  find-first : (p : Span V → Bool) (rs : List (Span V)) (n : ℕ) (d : Span V) → n < length rs → ((k : ℕ) (d : Span V) → k < n → p (get_or rs k d) ≡ false) → p (get_or rs n d) ≡ true → find p rs ≡ Some (get_or rs n d)
+  find-first p [] n d lt none pass = absurd (omega arith)
+  find-first p (r ∷ rs) zero d lt none pass = rw pass refl
+  find-first p (r ∷ rs) (suc n) d lt none pass =
+      let e : p r ≡ false = none 0 r (omega arith) in
+      rw e (find-first p rs n d (omega arith) (λ k f lt. none (suc k) f (omega arith)) pass)
+
+  not_held_behind : (code : ℕ) (r : Span V) → r.last < code → holds code r ≡ false
+  not_held_behind code r lt = let e : leb code r.last ≡ false = lt-leb _ _ lt in rw e (and_false (leb r.first code))
+
+  not_held_before : (code : ℕ) (r : Span V) → code < r.first → holds code r ≡ false
+  not_held_before code r lt = let e : leb r.first code ≡ false = lt-leb _ _ lt in rw e refl
+
+  -- the spans from a place on begin above a code point below the first of them
+  all_above : (rs : List (Span V)) (n code : ℕ) → IsRising rs → (n < length rs → (d : Span V) → code < (get_or rs n d).first) → (k : ℕ) (d : Span V) → n ≤ k → k < length rs → code < (get_or rs k d).first
+  all_above rs n code rising above k d le lt =
+      elim (eq-or-lt_of_le le) [
+        | inr less ↦ let a = above (omega arith) d in omega (arith, a, rising.each n d (omega arith), rising.apart n k d less lt)
+        | inl same ↦ let a = above (omega arith) d in omega (arith, a, ap (λ j. (get_or rs j d).first) same)
+      ]
+
+  pub span_at-some : (rs : List (Span V)) (n code : ℕ) (d : Span V) → n < length rs → AllWithin (λ (r : Span V). r.last < code) rs 0 n → AllWithin (λ (r : Span V). code ≤ r.last) rs n (length rs)
+      → (get_or rs n d).first ≤ code → Some (get_or rs n d) ≡ find (holds code) rs
+  span_at-some rs n code d lt below above le =
+      let pass : holds code (get_or rs n d) ≡ true = let e : leb (get_or rs n d).first code ≡ true = le-leb _ _ le in let f : leb code (get_or rs n d).last ≡ true = le-leb _ _ (above n d (omega arith) lt) in rw (e, f) refl in
+      sym (find-first (holds code) rs n d lt (λ k f high. not_held_behind code (get_or rs k f) (below k f (omega arith) high)) pass)
+
+  pub span_at-none : (rs : List (Span V)) (n code : ℕ) → IsRising rs → n ≤ length rs → AllWithin (λ (r : Span V). r.last < code) rs 0 n → (n < length rs → (d : Span V) → code < (get_or rs n d).first)
+      → None ≡ find (holds code) rs
+  span_at-none rs n code rising le below above =
+      sym (find-none (holds code) rs (λ k d lt. elim (cases_lt k n) [
+        | inl low ↦ not_held_behind code (get_or rs k d) (below k d (omega arith) low)
+        | inr high ↦ not_held_before code (get_or rs k d) (all_above rs n code rising above k d high lt)
+      ]))
+
+  -- two spans that hold one code point meet
+  overlaps-holds : (code : ℕ) (a b : Span V) → holds code a ≡ true → holds code b ≡ true → overlaps a b ≡ true
+  overlaps-holds code a b ha hb =
+      let p = both_true (leb a.first code) (leb code a.last) ha in
+      let q = both_true (leb b.first code) (leb code b.last) hb in
+      let e : leb a.first b.last ≡ true = le-leb _ _ (omega (arith, leb-true a.first code p.0, leb-true code b.last q.1)) in
+      let f : leb b.first a.last ≡ true = le-leb _ _ (omega (arith, leb-true b.first code q.0, leb-true code a.last p.1)) in
+      rw (e, f) refl
+
+  apart-holds : (code : ℕ) (a b : Span V) → holds code a ≡ true → overlaps a b ≡ false → holds code b ≡ false
+  apart-holds code a b ha apart = false_from_ne_true (holds code b) (λ hb. false≢true (sym apart ∙ overlaps-holds code a b ha hb))
+
+  -- where a span meets none of these, none of these holds a code point of it
+  pub find-apart : (code : ℕ) (span : Span V) (rs : List (Span V)) → holds code span ≡ true → list_any (overlaps span) rs ≡ false → find (holds code) rs ≡ None
+  find-apart code span [] held none = refl
+  find-apart code span (r ∷ rs) held none =
+      let parts = both_false (overlaps span r) (list_any (overlaps span) rs) none in
+      let e : holds code r ≡ false = apart-holds code span r held parts.0 in
+      rw e (find-apart code span rs held parts.1)
+
+  option_or-none : (o : Option (Span V)) → option_or o None ≡ o
+  option_or-none None = refl
+  option_or-none (Some x) = refl
+
+  finds-aside : (code : ℕ) (front back : List (Span V)) (span : Span V) → holds code span ≡ false
+      → find (holds code) (front ++ span ∷ back) ≡ find (holds code) ((front ++ back) ++ span ∷ [])
+  finds-aside code front back span aside =
+      let one : find (holds code) (front ++ span ∷ back) ≡ option_or (find (holds code) front) (find (holds code) back) = find-append (holds code) front (span ∷ back) ∙ rw aside refl in
+      let other : find (holds code) ((front ++ back) ++ span ∷ []) ≡ option_or (find (holds code) (front ++ back)) None = find-append (holds code) (front ++ back) (span ∷ []) ∙ rw aside refl in
+      one ∙ sym (find-append (holds code) front back) ∙ sym (option_or-none (find (holds code) (front ++ back))) ∙ sym other
+
+  finds-held : (code : ℕ) (front back : List (Span V)) (span : Span V) → holds code span ≡ true → list_any (overlaps span) (front ++ back) ≡ false
+      → find (holds code) (front ++ span ∷ back) ≡ find (holds code) ((front ++ back) ++ span ∷ [])
+  finds-held code front back span held none =
+      let f : find (holds code) (front ++ back) ≡ None = find-apart code span (front ++ back) held none in
+      let g : find (holds code) front ≡ None = find-apart code span front held (both_false _ _ (sym (list_any-append (overlaps span) front back) ∙ none)).0 in
+      let one : find (holds code) (front ++ span ∷ back) ≡ Some span = find-append (holds code) front (span ∷ back) ∙ rw (g, held) refl in
+      let other : find (holds code) ((front ++ back) ++ span ∷ []) ≡ Some span = find-append (holds code) (front ++ back) (span ∷ []) ∙ rw (f, held) refl in
+      one ∙ sym other
+
+  pub finds-insert : (code : ℕ) (rs : List (Span V)) (at : ℕ) (span : Span V) → list_any (overlaps span) rs ≡ false
+      → find (holds code) (insert rs at span) ≡ find (holds code) (rs ++ span ∷ [])
+  finds-insert code rs at span none =
+      let whole : take at rs ++ drop at rs ≡ rs = take-append-drop at rs in
+      let apart : list_any (overlaps span) (take at rs ++ drop at rs) ≡ false = ap (list_any (overlaps span)) whole ∙ none in
+      elim (known (holds code span)) [
+        | inl held ↦ finds-held code (take at rs) (drop at rs) span held apart
+        | inr aside ↦ finds-aside code (take at rs) (drop at rs) span aside
+      ] ∙ ap (λ t. find (holds code) (t ++ span ∷ [])) whole
+
+  pub meets-insert : (p : Span V → Bool) (rs : List (Span V)) (at : ℕ) (span : Span V) → list_any p (insert rs at span) ≡ list_any p (rs ++ span ∷ [])
+  meets-insert p rs at span =
+      list_any-append p (take at rs) (span ∷ drop at rs) ∙ or_moves (list_any p (take at rs)) (p span) (list_any p (drop at rs))
+      ∙ ap (λ b. b || (p span || false)) (sym (list_any-append p (take at rs) (drop at rs)) ∙ ap (list_any p) (take-append-drop at rs))
+      ∙ sym (list_any-append p rs (span ∷ []))
+
+  pub Adds-insert : (rs : List (Span V)) (at : ℕ) (span : Span V) → at ≤ length rs → list_any (overlaps span) rs ≡ false → Adds rs span (insert rs at span)
+  Adds-insert rs at span le none = record {
+    finds = λ code. finds-insert code rs at span none;
+    meets = λ other. meets-insert (overlaps other) rs at span;
+    counts = length-insert rs at span le;
+  }
+
+  -- none of the spans in order meets one that ends before those from a place on begin
+  pub overlaps-none : (rs : List (Span V)) (n : ℕ) (span : Span V) → IsRising rs → n ≤ length rs → AllWithin (λ (r : Span V). r.last < span.first) rs 0 n → (n < length rs → (d : Span V) → span.last < (get_or rs n d).first)
+      → list_any (overlaps span) rs ≡ false
+  overlaps-none rs n span rising le below above =
+      list_any-none (overlaps span) rs (λ k d lt. elim (cases_lt k n) [
+        | inl low ↦ let e : leb span.first (get_or rs k d).last ≡ false = lt-leb _ _ (below k d (omega arith) low) in rw e refl
+        | inr high ↦ let e : leb (get_or rs k d).first span.last ≡ false = lt-leb _ _ (all_above rs n span.last rising above k d high lt) in rw e (and_false (leb span.first (get_or rs k d).last))
+      ])
+
+  -- what is known of an element at a place is known of it whatever stands for one past the end
+  pub begins_above : (rs : List (Span V)) (n code : ℕ) (d : Span V) → code < (get_or rs n d).first → n < length rs → (e : Span V) → code < (get_or rs n e).first
+  begins_above rs n code d above lt e = omega (arith, above, ap (λ (r : Span V). r.first) (get_or_default rs n d e lt))
+
+  pub data_fault-none : (taken : Fault) (rs : List (Span V)) (span : Span V) → length rs < 65536 → list_any (overlaps span) rs ≡ false → data_fault taken rs span ≡ None
+  data_fault-none taken rs span lt none = let e : leb 65536 (length rs) ≡ false = lt-leb _ _ lt in rw (e, none) refl
+
+  -- one more span between those below it and those above it
+  pub rising-insert : (rs : List (Span V)) (n : ℕ) (span : Span V) → span.first ≤ span.last → IsRising rs → n ≤ length rs → AllWithin (λ (r : Span V). r.last < span.first) rs 0 n
+      → (n < length rs → (d : Span V) → span.last < (get_or rs n d).first) → IsRising (insert rs n span)
+  rising-insert rs n span straight rising le below above =
+      let size : length (insert rs n span) ≡ length rs + 1 = length-insert rs n span le in
+      let first = λ (r : Span V). r.first in
+      let last = λ (r : Span V). r.last in
+      let at = λ (d : Span V) (k : ℕ). get_or (insert rs n span) k d in
+      let front = λ (d : Span V) (k : ℕ) (low : k < n). (let e : at d k ≡ get_or rs k d = get_or-insert_below rs n span d k low le in e) in
+      let own = λ (d : Span V) (k : ℕ) (same : n ≡ k). (let e : at d k ≡ span = ap (at d) (sym same) ∙ get_or-insert_at rs n span d le in e) in
+      let back = λ (d : Span V) (k : ℕ) (high : n < k). (let e : at d k ≡ get_or rs (k - 1) d = (let f : (k - 1) + 1 ≡ k = omega arith in ap (at d) (sym f) ∙ get_or-insert_above rs n span d (k - 1) (omega arith) le) in e) in
+      record {
+        each = λ k d lt. elim (cases_lt k n) [
+          | inl low ↦ omega (arith, ap first (front d k low), ap last (front d k low), rising.each k d (omega arith))
+          | inr high ↦ elim (eq-or-lt_of_le high) [
+            | inl same ↦ omega (arith, ap first (own d k same), ap last (own d k same))
+            | inr over ↦ omega (arith, ap first (back d k over), ap last (back d k over), rising.each (k - 1) d (omega arith))
+          ]
+        ];
+        apart = λ i j d less lt. elim (cases_lt i n) [
+          | inl low ↦ elim (cases_lt j n) [
+            | inl low' ↦ omega (arith, ap last (front d i low), ap first (front d j low'), rising.apart i j d less (omega arith))
+            | inr high ↦ elim (eq-or-lt_of_le high) [
+              | inl same ↦ omega (arith, ap last (front d i low), ap first (own d j same), below i d (omega arith) low)
+              | inr over ↦ omega (arith, ap last (front d i low), ap first (back d j over), rising.apart i (j - 1) d (omega arith) (omega arith))
+            ]
+          ]
+          | inr high ↦ elim (eq-or-lt_of_le high) [
+            | inl same ↦ omega (arith, ap last (own d i same), ap first (back d j (omega arith)), all_above rs n span.last rising above (j - 1) d (omega arith) (omega arith))
+            | inr over ↦ omega (arith, ap last (back d i over), ap first (back d j (omega arith)), rising.apart (i - 1) (j - 1) d (omega arith) (omega arith))
+          ]
+        ];
+      }

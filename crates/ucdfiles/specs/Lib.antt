@@ -1,0 +1,9 @@
+pub mod Faults
+pub mod Spans
+pub mod Statements
+pub mod ClassFile
+pub mod PairFiles
+pub mod LongLines
+pub mod Reading
+pub mod Tables
+pub mod Rows

@@ -1,0 +1,27 @@
+-- An over-long line is faulty, whatever stands before it.
+use Rattle.std.specs.Prelude.{◌≡◌, ℕ, ◌<◌, List, length, map, Some, true, refl, nat_lt, Result}
+use Rattle.std.proofs.Common.{ap}
+use Rattle.std.proofs.lemmas.Bool.{lt-ltb}
+use Rattle.ucdfiles.specs.declared.fault.Fault.{Fault}
+use Rattle.ucdfiles.specs.declared.fault.Fault.TheVariants.{Overlap, Twice}
+use Rattle.ucdfiles.specs.declared.span.Span.{Span}
+use Rattle.ucdfiles.specs.declared.span.FileLine.TheVariants.{Faulty}
+use Rattle.ucdfiles.specs.Faults.{over_long_line}
+use Rattle.ucdfiles.specs.Statements.{fault_behind, line_fault}
+use Rattle.ucdfiles.specs.ClassFile.{class_line_says, class_fault}
+use Rattle.ucdfiles.specs.PairFiles.{pair_line_says}
+
+pub class_line_says-long : (line : List ℕ) → 65536 < length line → class_line_says line ≡ Faulty over_long_line
+unfolding class_line_says
+class_line_says-long line lt = let e : nat_lt 65536 (length line) ≡ true = lt-ltb _ _ lt in rw e refl
+
+pub class_fault-long : (lines : List (List ℕ)) (line : List ℕ) → 65536 < length line → class_fault lines line ≡ Some over_long_line
+class_fault-long lines line lt = ap (fault_behind Overlap (map class_line_says lines)) (class_line_says-long line lt)
+
+pub pair_line_says-long : {V : Type 0} (read : List (List ℕ) → Result (Span V) Fault) (line : List ℕ) → 65536 < length line → pair_line_says read line ≡ Faulty over_long_line
+unfolding pair_line_says
+pair_line_says-long read line lt = let e : nat_lt 65536 (length line) ≡ true = lt-ltb _ _ lt in rw e refl
+
+pub pair_fault-long : {V : Type 0} (read : List (List ℕ) → Result (Span V) Fault) (lines : List (List ℕ)) (line : List ℕ) → 65536 < length line
+    → line_fault (pair_line_says read) Twice lines line ≡ Some over_long_line
+pair_fault-long read lines line lt = ap (fault_behind Twice (map (pair_line_says read) lines)) (pair_line_says-long read line lt)

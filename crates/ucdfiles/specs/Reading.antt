@@ -1,0 +1,46 @@
+-- A table that is made of the lines of a source.
+use Rattle.std.specs.Prelude.{Option, ℕ, ◌≡◌, ◌≢◌, ◌⊎◌, List, [], ◌∷◌, ◌++◌, Some, None, Result, Ok, Err}
+use Rattle.std.specs.Option.{option_map}
+use Rattle.units.specs.Text.{lines_of, settled_lines}
+use Rattle.units.specs.LineCutting.{Cutting, StandsFor}
+use Rattle.units.specs.Lines.{CutsInto}
+use Rattle.units.specs.declared.line_cut.Step.{Step}
+use Rattle.units.specs.declared.line_cut.Step.TheVariants.{More, Line, TooLong}
+use Rattle.ucdfiles.specs.declared.fault.Fault.{Fault}
+use Rattle.ucdfiles.specs.declared.fault.TableFault.{TableFault}
+use Rattle.ucdfiles.specs.declared.fault.TableFault.TheVariants.{Read, Memory, LineTooLong}
+use Rattle.ucdfiles.specs.Faults.{fault_at, first_fault}
+
+-- a cutter and a table that were handed these bytes, in any pieces, and no line that ended was faulty
+pub record Reads (stands : List (List ℕ) → Type 0) (fault : List (List ℕ) → List ℕ → Option Fault) (cutter : Cutting) (bytes : List ℕ) : Type 0 where
+  pub cuts : StandsFor cutter bytes
+  pub lines : List (List ℕ)
+  pub rest : List ℕ
+  pub whole : CutsInto bytes lines rest
+  pub table : stands lines
+  pub faultless : first_fault fault [] lines ≡ None
+
+-- what a step does to a table
+abbrev pub IsStep : (List (List ℕ) → Type 0) → (List (List ℕ) → Type 0) → (List (List ℕ) → List ℕ → Option Fault) → Step → Type 0
+IsStep before after fault More = (lines : List (List ℕ)) → before lines → after lines
+IsStep before after fault (Line number text) = (lines : List (List ℕ)) → before lines → (fault lines text.now ≡ None) × after (lines ++ text.now ∷ [])
+IsStep before after fault (TooLong number) = ⊥
+
+-- why a step is refused
+abbrev pub IsRefusal : (List (List ℕ) → Type 0) → (List (List ℕ) → List ℕ → Option Fault) → Step → TableFault → Type 0
+IsRefusal before fault More e = ⊥
+IsRefusal before fault (Line number text) e = (lines : List (List ℕ)) → before lines → (e ≡ Memory) ⊎ (option_map (λ f. fault_at f number) (fault lines text.now) ≡ Some e)
+IsRefusal before fault (TooLong number) e = e ≡ LineTooLong number
+
+-- a growth was refused, or this is the fault of the least faulty of the settled lines
+abbrev pub Refuses : (List (List ℕ) → List ℕ → Option Fault) → List ℕ → TableFault → Type 0
+Refuses fault bytes e = (e ≡ Memory) ⊎ (first_fault fault [] (settled_lines bytes) ≡ Some e)
+
+-- what a reader says of the bytes that its source handed out
+pub record IsFault (fault : List (List ℕ) → List ℕ → Option Fault) (ended : Type 0) (bytes : List ℕ) (e : TableFault) : Type 0 where
+  pub read : e ≡ Read → first_fault fault [] (settled_lines bytes) ≡ None
+  pub other : e ≢ Read → Refuses fault bytes e ⊎ (ended × (first_fault fault [] (lines_of bytes) ≡ Some e))
+
+abbrev pub IsOutcome : (List (List ℕ) → Type 0) → (List (List ℕ) → List ℕ → Option Fault) → Type 0 → List ℕ → Result (Unit {0}) TableFault → Type 0
+IsOutcome stands fault ended bytes (Ok done) = ended × (first_fault fault [] (lines_of bytes) ≡ None) × stands (lines_of bytes)
+IsOutcome stands fault ended bytes (Err e) = IsFault fault ended bytes e

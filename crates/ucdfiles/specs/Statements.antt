@@ -1,0 +1,83 @@
+-- What the lines of a property file state: the fault of a line behind the earlier ones, and the value of a code point.
+use Rattle.std.specs.Prelude.{Option, ℕ, ◌≡◌, ◌≤◌, List, [], ◌∷◌, ◌++◌, length, map, Some, None}
+use Rattle.std.specs.List.{find, list_any}
+use Rattle.units.specs.Text.{lines_of}
+use Rattle.ucdfiles.specs.declared.fault.Fault.{Fault}
+use Rattle.ucdfiles.specs.declared.fault.TableFault.{TableFault}
+use Rattle.ucdfiles.specs.declared.span.Span.{Span}
+use Rattle.ucdfiles.specs.declared.span.FileLine.{FileLine}
+use Rattle.ucdfiles.specs.declared.span.FileLine.TheVariants.{Silent, Data, Default, Faulty}
+use Rattle.ucdfiles.specs.Faults.{first_fault}
+use Rattle.ucdfiles.specs.Spans.{holds, overlaps, Adds, data_fault, default_fault, value_in}
+
+-- the data lines
+abbrev pub data_of : {V : Type 0} → List (FileLine V) → List (Span V)
+data_of [] = []
+data_of (Data span ∷ lines) = span ∷ data_of lines
+data_of (_ ∷ lines) = data_of lines
+
+-- the default lines
+abbrev pub defaults_of : {V : Type 0} → List (FileLine V) → List (Span V)
+defaults_of [] = []
+defaults_of (Default span ∷ lines) = span ∷ defaults_of lines
+defaults_of (_ ∷ lines) = defaults_of lines
+
+-- the fault of a line behind these: its own, or that of another line of its kind
+abbrev pub fault_behind : {V : Type 0} → Fault → List (FileLine V) → FileLine V → Option Fault
+fault_behind taken earlier Silent = None
+fault_behind taken earlier (Faulty fault) = Some fault
+fault_behind taken earlier (Data span) = data_fault taken (data_of earlier) span
+fault_behind taken earlier (Default span) = default_fault (defaults_of earlier)
+
+-- the same of lines of bytes, by what each says
+abbrev pub line_fault : {V : Type 0} → (List ℕ → FileLine V) → Fault → List (List ℕ) → List ℕ → Option Fault
+line_fault says taken earlier line = fault_behind taken (map says earlier) (says line)
+
+-- the fault of the least faulty line of these bytes
+abbrev pub file_fault : {V : Type 0} → (List ℕ → FileLine V) → Fault → List ℕ → Option TableFault
+file_fault says taken bytes = first_fault (line_fault says taken) [] (lines_of bytes)
+
+-- the value of a code point by these lines: that of the one data line that holds it, else that of the last default line that holds it
+abbrev pub value_stated : {V : Type 0} → List (FileLine V) → ℕ → Option V
+value_stated lines c = value_in (data_of lines) (defaults_of lines) c
+
+-- the value of a code point by the lines of these bytes
+abbrev pub value_of : {V : Type 0} → (List ℕ → FileLine V) → List ℕ → ℕ → Option V
+value_of says bytes c = value_stated (map says (lines_of bytes)) c
+
+-- the data lines, in order, and the default lines, as they came
+pub record Stated (V : Type 0) : Type 0 where
+  pub data_lines : List (Span V)
+  pub default_lines : List (Span V)
+
+-- the fault of a line behind those that were stated
+abbrev pub stated_fault : {V : Type 0} → Fault → Stated V → FileLine V → Option Fault
+stated_fault taken stated Silent = None
+stated_fault taken stated (Faulty fault) = Some fault
+stated_fault taken stated (Data span) = data_fault taken stated.data_lines span
+stated_fault taken stated (Default span) = default_fault stated.default_lines
+
+-- what a line that is not faulty adds
+abbrev pub Becomes : {V : Type 0} → Fault → Stated V → FileLine V → Stated V → Type 0
+Becomes taken old Silent new = new ≡ old
+Becomes taken old (Faulty fault) new = ⊥
+Becomes taken old (Data span) new = Adds old.data_lines span new.data_lines × (data_fault taken old.data_lines span ≡ None) × (new.default_lines ≡ old.default_lines)
+Becomes taken old (Default span) new = (new.default_lines ≡ old.default_lines ++ span ∷ []) × (default_fault old.default_lines ≡ None) × (new.data_lines ≡ old.data_lines)
+
+-- what is stated is what these lines say
+pub record Holds {V : Type 0} (stated : Stated V) (lines : List (FileLine V)) : Type 0 where
+  pub finds : (c : ℕ) → find (holds c) stated.data_lines ≡ find (holds c) (data_of lines)
+  pub meets : (span : Span V) → list_any (overlaps span) stated.data_lines ≡ list_any (overlaps span) (data_of lines)
+  pub counts : length stated.data_lines ≡ length (data_of lines)
+  pub defaults : stated.default_lines ≡ defaults_of lines
+
+-- the same of lines of bytes
+abbrev pub Stands : {V : Type 0} → (List ℕ → FileLine V) → Stated V → List (List ℕ) → Type 0
+Stands says stated lines = Holds stated (map says lines)
+
+-- the span of a data line is not turned round
+abbrev pub IsRisingLine : {V : Type 0} → FileLine V → Type 0
+IsRisingLine Silent = Unit {0}
+IsRisingLine (Data span) = span.first ≤ span.last
+IsRisingLine (Default span) = Unit {0}
+IsRisingLine (Faulty fault) = Unit {0}

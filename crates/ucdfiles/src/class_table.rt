@@ -1,0 +1,67 @@
+// The class of each character, as DerivedBidiClass.txt states it.
+ghost use Rattle.std.specs.Prelude.{◌≡◌, ◌↔◌, ℕ, List, Err, IfOk, IfErr};
+
+use crate::class_line::class_line;
+use crate::fault::{Fault, TableFault};
+use crate::reading::{LineTable, read_lines};
+use crate::statements::Statements;
+use std::alloc::Global;
+use std::marker::Model;
+use units::class::Class;
+use units::source::ByteSource;
+
+impl LineTable for Statements<Class> {
+    ghost use Rattle.ucdfiles.specs.ClassFile.{class_fault, class_line_says};
+    ghost use Rattle.ucdfiles.specs.Statements.{Stands};
+    ghost use Rattle.ucdfiles.specs.LongLines.{class_fault-long};
+
+    ghost stands = { Stands class_line_says };
+
+    ghost fault = { class_fault };
+
+    ghost over_long = { class_fault-long };
+
+    fn add(&mut self, line: &[u8], number: u64) -> Result<(), TableFault> {
+        self.add_line(class_line(line), Fault::Overlap, number)
+    }
+}
+
+/// The classes of the characters. Contracts see them by `class_at`.
+#[derive(Drop)]
+pub struct ClassTable {
+    classes: Statements<Class>,
+}
+
+impl Model for ClassTable {
+    ghost use Rattle.ucdfiles.specs.Statements.{Stated};
+    ghost use Rattle.units.specs.declared.class.Class.{Class as ClassOf};
+
+    ghost Value = { Stated ClassOf };
+
+    ghost view = { λ t. t.classes };
+}
+
+impl ClassTable {
+    ghost use Rattle.ucdfiles.specs.ClassFile.{class_fault, StatesClasses};
+    ghost use Rattle.ucdfiles.specs.Reading.{IsFault};
+    ghost use Rattle.ucdfiles.specs.Tables.{class_at};
+
+    /// The class table that the source's bytes state, read to the source's end; or the fault of the least faulty line. `Read` is answered
+    /// exactly if the source has failed, and then no line that is complete is faulty, and none that has begun is over-long.
+    pub fn read<S: ByteSource>(alloc: Global, source: &mut S) -> Result<ClassTable, TableFault>
+        ensures read { (result ≡ Err TableFault.Read) ↔ (S.failures source.new ≡ 1) }
+        ensures ok { IfOk result (λ table. (given : List ℕ) × S.gives source.old given source.new × S.ended source.new × StatesClasses given (class_at table)) }
+        ensures err { IfErr result (λ e. (given : List ℕ) × S.gives source.old given source.new × IsFault class_fault (S.ended source.new) given e) }
+    {
+        let mut classes = Statements::new(alloc);
+        read_lines(&mut classes, source)?;
+        Ok(ClassTable { classes })
+    }
+
+    /// The class of a character: that of the one data line that holds it, else that of the last `@missing` line that holds it, else L.
+    pub fn class(&self, c: char) -> Class
+        ensures { result ≡ class_at self.now c }
+    {
+        self.classes.value(u32::from(c)).unwrap_or(Class::L)
+    }
+}

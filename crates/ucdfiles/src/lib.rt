@@ -1,0 +1,13 @@
+//! The readers of the property files: DerivedBidiClass.txt, BidiBrackets.txt and BidiMirroring.txt.
+#![tactic(auto)]
+
+pub mod class_line;
+pub mod class_table;
+pub mod fault;
+pub mod mirror_table;
+pub mod pair_line;
+pub mod reading;
+pub mod sided_bracket;
+pub mod span;
+pub mod spans;
+pub mod statements;

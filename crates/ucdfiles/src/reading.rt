@@ -1,0 +1,85 @@
+// Reads a source line by line into a table.
+ghost use Rattle.std.specs.Prelude.{◌≡◌, ◌≢◌, ℕ, ◌<◌, ◌⊎◌, ◌↔◌, List, [], ◌∷◌, ◌++◌, length, Option, None, Some, Err, take, IfErr, OnOk};
+ghost use Rattle.std.specs.Option.{option_map};
+ghost use Rattle.ucdfiles.specs.Faults.{fault_at, over_long_line, first_fault};
+ghost use Rattle.units.specs.Text.{lines_of};
+ghost use Rattle.ucdfiles.specs.Reading.{Reads, IsStep, IsRefusal, Refuses, IsOutcome};
+ghost use Rattle.ucdfiles.specs.declared.fault.Fault.{Fault as FaultKind};
+
+use crate::fault::TableFault;
+use units::line_cut::{LineCut, Step};
+use units::source::ByteSource;
+
+/// What is made of a file line by line.
+pub trait LineTable {
+    // It is what these lines state.
+    ghost stands: { Self → List (List ℕ) → Type 0 };
+
+    // The fault of a line behind these.
+    ghost fault: { List (List ℕ) → List ℕ → Option FaultKind };
+
+    /// One more line, with its number, counted from 1; or the fault of it.
+    fn add(&mut self, line: &[u8], number: u64) -> Result<(), TableFault>
+        ensures ok { OnOk result ((lines : List (List ℕ)) → stands self.old lines → (fault lines line.now ≡ None) × stands self.new (lines ++ line.now ∷ [])) }
+        ensures err { IfErr result (λ e. (lines : List (List ℕ)) → stands self.old lines → (e ≡ TableFault.Memory) ⊎ (option_map (λ f. fault_at f number) (fault lines line.now) ≡ Some e)) }
+        ensures not_read { IfErr result (λ e. e ≢ TableFault.Read) };
+
+    ghost over_long: { (lines : List (List ℕ)) (line : List ℕ) → 65536 < length line → fault lines line ≡ Some over_long_line };
+}
+
+fn take_step<T: LineTable>(table: &mut T, step: Step<'_>) -> Result<(), TableFault>
+    ensures ok { OnOk result (IsStep (T.stands table.old) (T.stands table.new) T.fault step.entry) }
+    ensures err { IfErr result (IsRefusal (T.stands table.old) T.fault step.entry) }
+    ensures not_read { IfErr result (λ e. e ≢ TableFault.Read) }
+{
+    match step {
+        Step::More => Ok(()),
+        Step::Line { number, text } => table.add(text, number),
+        Step::TooLong { number } => Err(TableFault::LineTooLong(number)),
+    }
+}
+
+fn feed<T: LineTable>(table: &mut T, cutter: &mut LineCut, piece: &[u8]) -> Result<(), TableFault>
+    ensures ok { OnOk result ((b : List ℕ) → Reads (T.stands table.old) T.fault cutter.old b → Reads (T.stands table.new) T.fault cutter.new (b ++ piece.now)) }
+    ensures err { IfErr result (λ e. (b : List ℕ) → Reads (T.stands table.old) T.fault cutter.old b → Refuses T.fault (b ++ piece.now) e) }
+    ensures not_read { IfErr result (λ e. e ≢ TableFault.Read) }
+{
+    let mut at = 0;
+    while at < piece.len() {
+        let (used, step) = cutter.take(&piece[at..]);
+        take_step(table, step)?;
+        at += used;
+    }
+    Ok(())
+}
+
+// The line that the end of the bytes ends.
+fn end<T: LineTable>(table: &mut T, cutter: &LineCut) -> Result<(), TableFault>
+    ensures ok { OnOk result ((b : List ℕ) → Reads (T.stands table.old) T.fault cutter.now b → (first_fault T.fault [] (lines_of b) ≡ None) × T.stands table.new (lines_of b)) }
+    ensures err { IfErr result (λ e. (b : List ℕ) → Reads (T.stands table.old) T.fault cutter.now b → (e ≡ TableFault.Memory) ⊎ (first_fault T.fault [] (lines_of b) ≡ Some e)) }
+    ensures not_read { IfErr result (λ e. e ≢ TableFault.Read) }
+{
+    match cutter.finish() {
+        None => Ok(()),
+        Some((number, text)) => table.add(text, number),
+    }
+}
+
+/// Reads the source to its end, or to the first faulty line.
+pub fn read_lines<T: LineTable, S: ByteSource>(
+    table: &mut T,
+    source: &mut S,
+) -> Result<(), TableFault>
+    ensures read { (result ≡ Err TableFault.Read) ↔ (S.failures source.new ≡ 1) }
+    ensures outcome { T.stands table.old [] → (given : List ℕ) × S.gives source.old given source.new × IsOutcome (T.stands table.new) T.fault (S.ended source.new) given result }
+{
+    let mut cutter = LineCut::new();
+    let mut buf = [0; 4096];
+    loop {
+        match source.read(&mut buf) {
+            Err(_) => return Err(TableFault::Read),
+            Ok(0) => return end(table, &cutter),
+            Ok(n) => feed(table, &mut cutter, &buf[..n])?,
+        }
+    }
+}

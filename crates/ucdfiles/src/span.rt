@@ -1,0 +1,36 @@
+// What a line of a property file says.
+ghost use Rattle.std.specs.Prelude.{◌≡◌};
+
+use crate::fault::Fault;
+
+/// The code points from the first to the last, both inclusive, and the value that a line gives them.
+#[derive(Clone, Copy, Debug, Drop, PartialEq, Eq)]
+pub struct Span<V> {
+    pub first: u32,
+    pub last: u32,
+    pub value: V,
+}
+
+impl<V> Span<V> {
+    ghost use Rattle.ucdfiles.specs.Spans.{holds as holds_code};
+
+    /// Whether the code point is one of these.
+    pub fn holds(&self, code: u32) -> bool
+        ensures { result ≡ holds_code code self.now }
+    {
+        self.first <= code && code <= self.last
+    }
+}
+
+/// What a line says by itself.
+#[derive(Clone, Copy, Debug, Drop, PartialEq, Eq)]
+pub enum FileLine<V> {
+    /// Nothing: the line is empty, or has a comment alone.
+    Silent,
+    /// A data line.
+    Data(Span<V>),
+    /// A default line, of `@missing:`.
+    Default(Span<V>),
+    /// The first fault of the line.
+    Faulty(Fault),
+}

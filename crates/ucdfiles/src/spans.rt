@@ -1,0 +1,72 @@
+// Spans in order.
+ghost use Rattle.std.specs.Prelude.{◌≡◌, ◌<◌, ◌≤◌, ◌⊎◌, ◌≢◌, length, reverse, Some, None, IfErr, OnOk};
+ghost use Rattle.std.specs.List.{find, AllWithin};
+ghost use Rattle.std.specs.Option.{option_map};
+ghost use Rattle.ucdfiles.specs.Spans.{holds, IsRising, Adds, data_fault};
+ghost use Rattle.ucdfiles.specs.Faults.{fault_at};
+
+use crate::fault::{Fault, TableFault, at};
+use crate::span::Span;
+
+/// The greatest number of data lines of a file.
+pub const MOST_DATA: usize = 65_536;
+
+/// The greatest number of default lines of a file.
+pub const MOST_DEFAULTS: usize = 1_024;
+
+/// The place of the first span that does not end before the code point.
+pub fn place<V>(spans: &[Span<V>], code: u32) -> usize
+    requires { IsRising spans.now }
+    ensures bound { result ≤ length spans.now }
+    ensures below { AllWithin (λ s. s.last < code) spans.now 0 result }
+    ensures above { AllWithin (λ s. code ≤ s.last) spans.now result (length spans.now) }
+{
+    spans.partition_point(|span| span.last < code)
+}
+
+/// The span that holds the code point.
+pub fn span_at<V: Copy>(spans: &[Span<V>], code: u32) -> Option<Span<V>>
+    requires { IsRising spans.now }
+    ensures { result ≡ find (holds code) spans.now }
+{
+    let place = place(spans, code);
+    if place < spans.len() && spans[place].first <= code {
+        Some(spans[place])
+    } else {
+        None
+    }
+}
+
+/// The last span that holds the code point, of spans in any order.
+pub fn last_at<V: Copy>(spans: &[Span<V>], code: u32) -> Option<Span<V>>
+    ensures { result ≡ find (holds code) (reverse spans.now) }
+{
+    spans.iter().rev().copied().find(|span| span.holds(code))
+}
+
+/// One more span, in order. `taken` names the fault of a code point that an earlier span has.
+pub fn add_span<V: Copy>(
+    spans: &mut Vec<Span<V>>,
+    span: Span<V>,
+    taken: Fault,
+    line: u64,
+) -> Result<(), TableFault>
+    requires rising { IsRising spans.old.items }
+    requires span { span.first ≤ span.last }
+    ensures rising { IsRising spans.new.items }
+    ensures ok { OnOk result (Adds spans.old.items span spans.new.items × (data_fault taken spans.old.items span ≡ None)) }
+    ensures err { IfErr result (λ e. (e ≡ TableFault.Memory) ⊎ (option_map (λ f. fault_at f line) (data_fault taken spans.old.items span) ≡ Some e)) }
+    ensures not_read { IfErr result (λ e. e ≢ TableFault.Read) }
+{
+    if spans.len() >= MOST_DATA {
+        return Err(TableFault::TooMany(line));
+    }
+    let place = place(spans, span.first);
+    if place < spans.len() && spans[place].first <= span.last {
+        return Err(at(taken, line));
+    }
+    match spans.insert(place, span) {
+        Ok(()) => Ok(()),
+        Err(_) => Err(TableFault::Memory),
+    }
+}

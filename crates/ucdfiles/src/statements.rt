@@ -1,0 +1,97 @@
+// What the lines of a file have stated.
+ghost use Rattle.std.specs.Prelude.{◌≡◌, ◌≢◌, ◌⊎◌, List, [], ◌∷◌, ◌++◌, None, Some, OnOk, IfErr};
+ghost use Rattle.std.specs.Option.{option_map};
+ghost use Rattle.ucdfiles.specs.Faults.{fault_at};
+ghost use Rattle.ucdfiles.specs.Spans.{default_fault};
+ghost use Rattle.ucdfiles.specs.Statements.{IsRisingLine, Becomes, stated_fault};
+
+use crate::fault::{Fault, TableFault, at};
+use crate::span::{FileLine, Span};
+use crate::spans::{MOST_DEFAULTS, add_span, last_at, span_at};
+use std::alloc::Global;
+use std::marker::Model;
+
+/// The data lines in the order of their code points, and the default lines in the order of the file.
+#[derive(Drop)]
+pub struct Statements<V> {
+    data: Vec<Span<V>>,
+    defaults: Vec<Span<V>>,
+}
+
+impl<V> Model for Statements<V> {
+    ghost use Rattle.ucdfiles.specs.Spans.{IsRising};
+    ghost use Rattle.ucdfiles.specs.Statements.{Stated};
+
+    ghost Value = { Stated V };
+
+    ghost view = { λ t. record { data_lines = t.data.items; default_lines = t.defaults.items } };
+
+    ghost invariant = { λ t. IsRising t.data.items };
+}
+
+// One more default line.
+fn add_default<V: Copy>(
+    defaults: &mut Vec<Span<V>>,
+    span: Span<V>,
+    line: u64,
+) -> Result<(), TableFault>
+    ensures ok { OnOk result ((defaults.new.items ≡ defaults.old.items ++ span ∷ []) × (default_fault defaults.old.items ≡ None)) }
+    ensures err { IfErr result (λ e. (e ≡ TableFault.Memory) ⊎ (option_map (λ f. fault_at f line) (default_fault defaults.old.items) ≡ Some e)) }
+    ensures not_read { IfErr result (λ e. e ≢ TableFault.Read) }
+{
+    if defaults.len() >= MOST_DEFAULTS {
+        return Err(TableFault::TooMany(line));
+    }
+    match defaults.push(span) {
+        Ok(()) => Ok(()),
+        Err(_) => Err(TableFault::Memory),
+    }
+}
+
+impl<V: Copy> Statements<V> {
+    ghost use Rattle.ucdfiles.specs.Statements.{Holds};
+    ghost use Rattle.ucdfiles.specs.Spans.{value_in};
+
+    /// No line yet.
+    pub fn new(alloc: Global) -> Self
+        ensures { Holds result [] }
+    {
+        Statements {
+            data: Vec::new(alloc),
+            defaults: Vec::new(alloc),
+        }
+    }
+
+    /// What one more line says, with its number. `taken` names the fault of a code point that an earlier data line has.
+    pub fn add_line(
+        &mut self,
+        line: FileLine<V>,
+        taken: Fault,
+        number: u64,
+    ) -> Result<(), TableFault>
+        requires { IsRisingLine line }
+        ensures ok { OnOk result (Becomes taken self.old line self.new) }
+        ensures err { IfErr result (λ e. (e ≡ TableFault.Memory) ⊎ (option_map (λ f. fault_at f number) (stated_fault taken self.old line) ≡ Some e)) }
+        ensures not_read { IfErr result (λ e. e ≢ TableFault.Read) }
+    {
+        match line {
+            FileLine::Silent => Ok(()),
+            FileLine::Faulty(fault) => Err(at(fault, number)),
+            FileLine::Data(span) => add_span(&mut self.data, span, taken, number),
+            FileLine::Default(span) => add_default(&mut self.defaults, span, number),
+        }
+    }
+
+    /// The value of a code point: that of the data line that holds it, else that of the last default line that holds it.
+    pub fn value(&self, code: u32) -> Option<V>
+        ensures { result ≡ value_in self.now.data_lines self.now.default_lines code }
+    {
+        match span_at(&self.data, code) {
+            Some(span) => Some(span.value),
+            None => match last_at(&self.defaults, code) {
+                Some(span) => Some(span.value),
+                None => None,
+            },
+        }
+    }
+}
