@@ -9,3 +9,5 @@ pub mod States
 pub mod Ends
 pub mod Outcomes
 pub mod PairLines
+pub mod Numbers
+pub mod Keyed

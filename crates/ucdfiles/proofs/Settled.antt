@@ -2,7 +2,7 @@
 use Rattle.std.proofs.Common.{◌≡◌, ℕ, ◌<◌, Bool, true, false, List, [], ◌∷◌, ◌++◌, length, flat_map, refl, ap, ◌∙◌, arith, append_assoc, append-nil}
 use Rattle.std.proofs.lemmas.Bool.{lt-ltb, le-ltb}
 use Rattle.units.specs.Text.{cut_at, lines_with, lines_of, settled_lines, has_bytes, is_over_long}
-use Rattle.units.specs.Lines.{CutsInto, IsTooLongAfter, ended, cut_lines}
+use Rattle.units.specs.Lines.{CutsInto, IsTooLongAfter, ended}
 use Rattle.units.proofs.Ranges.{cut_at-some}
 use Rattle.units.proofs.LineReading.{cut_lines-ended, cut_lines-CutsInto, cut_lines-long}
 

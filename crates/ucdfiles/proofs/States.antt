@@ -7,7 +7,7 @@ use Rattle.units.specs.declared.class.Class.TheVariants.{L}
 use Rattle.ucdfiles.specs.declared.fault.Fault.TheVariants.{Overlap, Twice}
 use Rattle.ucdfiles.specs.Faults.{first_fault}
 use Rattle.ucdfiles.specs.Spans.{value_in}
-use Rattle.ucdfiles.specs.Statements.{Stated, Stands, line_fault}
+use Rattle.ucdfiles.specs.Statements.{Stated, Stands}
 use Rattle.ucdfiles.specs.ClassFile.{class_fault, class_line_says, class_file_fault, class_of, StatesClasses}
 use Rattle.ucdfiles.specs.PairFiles.{mirror_fault, mirror_in, pair_line_says, mirror_file_fault, mirror_of, StatesMirrors}
 use Rattle.ucdfiles.proofs.Stating.{value_in-stands}

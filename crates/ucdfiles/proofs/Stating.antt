@@ -1,6 +1,7 @@
 -- One more line, and what is stated with it.
 use Rattle.std.proofs.Common.{◌≡◌, ℕ, None, List, [], ◌∷◌, ◌++◌, length, map, refl, sym, ap, ◌∙◌, arith, length-append, append-nil, subst}
 use Rattle.std.specs.List.{find, list_any}
+use Rattle.std.proofs.lemmas.List.{map-append}
 use Rattle.std.proofs.lemmas.List.Folds.{find-append, list_any-append}
 use Rattle.ucdfiles.specs.declared.fault.Fault.{Fault}
 use Rattle.ucdfiles.specs.declared.span.Span.{Span}
@@ -63,16 +64,12 @@ module _ {V : Type 0} where
   becomes taken old new lines (Default span) h b = (sym (fault-same taken old lines (Default span) h) ∙ b.1, same_data old new lines (Default span) h b.2 refl b.0)
 
   module _ (says : List ℕ → FileLine V) (taken : Fault) where
-    map-push : (lines : List (List ℕ)) (line : List ℕ) → map says (lines ++ line ∷ []) ≡ map says lines ++ says line ∷ []
-    map-push [] line = refl
-    map-push (l ∷ lines) line = ap (λ ls. says l ∷ ls) (map-push lines line)
-
     pub stands-becomes : (old new : Stated V) (lines : List (List ℕ)) (line : List ℕ) (said : FileLine V) → says line ≡ said → Stands says old lines → Becomes taken old said new
         → (line_fault says taken lines line ≡ None) × Stands says new (lines ++ line ∷ [])
     stands-becomes old new lines line said e s b =
         let made = becomes taken old new (map says lines) said s b in (
           ap (fault_behind taken (map says lines)) e ∙ made.0,
-          let P : List (FileLine V) → Type 0 = λ ls. Holds new ls in subst P (sym (map-push lines line ∙ ap (λ l. map says lines ++ l ∷ []) e)) made.1,
+          let P : List (FileLine V) → Type 0 = λ ls. Holds new ls in subst P (sym (map-append says lines (line ∷ []) ∙ ap (λ l. map says lines ++ l ∷ []) e)) made.1,
         )
 
     pub fault-stands : (stated : Stated V) (lines : List (List ℕ)) (line : List ℕ) (said : FileLine V) → says line ≡ said → Stands says stated lines → stated_fault taken stated said ≡ line_fault says taken lines line

@@ -5,5 +5,6 @@ pub mod ClassFile
 pub mod PairFiles
 pub mod LongLines
 pub mod Reading
+pub mod Keys
 pub mod Tables
 pub mod Rows

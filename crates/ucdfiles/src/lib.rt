@@ -1,9 +1,11 @@
 //! The readers of the property files: DerivedBidiClass.txt, BidiBrackets.txt and BidiMirroring.txt.
 #![tactic(auto)]
 
+pub mod bracket_table;
 pub mod class_line;
 pub mod class_table;
 pub mod fault;
+pub mod keys;
 pub mod mirror_table;
 pub mod pair_line;
 pub mod reading;
@@ -11,3 +13,4 @@ pub mod sided_bracket;
 pub mod span;
 pub mod spans;
 pub mod statements;
+pub mod tables;

@@ -1,4 +1,7 @@
 // What a line of BidiBrackets.txt says of its character.
+ghost use Rattle.std.specs.Prelude.{◌≡◌};
+
+use units::bracket::{Bracket, Key};
 
 /// BD14, BD15: whether a bracket opens or closes a pair.
 #[derive(Clone, Copy, Debug, PartialEq, Eq)]
@@ -12,4 +15,18 @@ pub enum Side {
 pub struct SidedBracket {
     pub side: Side,
     pub keyed_by: char,
+}
+
+impl Side {
+    ghost use Rattle.ucdfiles.specs.PairFiles.{bracket_with};
+
+    /// The bracket of this side with this key.
+    pub fn with_key(self, key: Key) -> Bracket
+        ensures { result ≡ bracket_with self key }
+    {
+        match self {
+            Side::Open => Bracket::Open(key),
+            Side::Close => Bracket::Close(key),
+        }
+    }
 }

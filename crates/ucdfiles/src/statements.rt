@@ -50,7 +50,7 @@ fn add_default<V: Copy>(
 
 impl<V: Copy> Statements<V> {
     ghost use Rattle.ucdfiles.specs.Statements.{Holds};
-    ghost use Rattle.ucdfiles.specs.Spans.{value_in};
+    ghost use Rattle.ucdfiles.specs.Spans.{IsRising, value_in};
 
     /// No line yet.
     pub fn new(alloc: Global) -> Self
@@ -93,5 +93,13 @@ impl<V: Copy> Statements<V> {
                 None => None,
             },
         }
+    }
+
+    /// The data lines, in the order of their code points.
+    pub fn data(&self) -> &[Span<V>]
+        ensures value { result.now ≡ self.now.data_lines }
+        ensures rising { IsRising result.now }
+    {
+        &self.data
     }
 }

@@ -1,0 +1,170 @@
+-- Brackets with keys: one more, and the table of a faultless file.
+use Rattle.std.proofs.Common.{◌≡◌, ◌≤◌, ◌<◌, ◌↔◌, ℕ, Bool, true, false, Option, None, Some, Result, Ok, Err, List, [], ◌∷◌, ◌++◌, length, map, get_or, refl, sym, ap, subst, ◌∙◌, arith, ◌⊎◌, inl, inr}
+use Rattle.std.specs.Prelude.{nat_lt, if◌then◌else◌}
+use Rattle.std.specs.List.{find}
+use Rattle.std.specs.Option.{option_map, unwrap_or}
+use Rattle.std.proofs.lemmas.List.{map-append, length-map, get_or-map}
+use Rattle.std.proofs.lemmas.List.Elements.{All-push, All-head, All-tail}
+use Rattle.unicode_normalization.specs.Forms.{nfd}
+use Rattle.units.specs.Text.{lines_of, longest_line, content_of}
+use Rattle.units.specs.declared.bracket.Bracket.{Bracket}
+use Rattle.units.specs.declared.bracket.Bracket.TheVariants.{No}
+use Rattle.units.specs.declared.bracket.Key.{Key}
+use Rattle.ucdfiles.specs.declared.fault.Fault.{Fault}
+use Rattle.ucdfiles.specs.declared.fault.Fault.TheVariants.{Twice, LineTooLong}
+use Rattle.ucdfiles.specs.declared.span.Span.{Span}
+use Rattle.ucdfiles.specs.declared.span.FileLine.{FileLine}
+use Rattle.ucdfiles.specs.declared.span.FileLine.TheVariants.{Silent, Data, Default, Faulty}
+use Rattle.ucdfiles.specs.declared.sided_bracket.SidedBracket.{SidedBracket}
+use Rattle.ucdfiles.specs.declared.sided_bracket.Side.TheVariants.{Open}
+use Rattle.ucdfiles.specs.Faults.{first_fault}
+use Rattle.ucdfiles.specs.Spans.{holds, value_by, value_in, IsRising}
+use Rattle.ucdfiles.specs.Statements.{Stated, Stands, defaults_of, value_of}
+use Rattle.ucdfiles.specs.Keys.{number_in, IsNumbering, Keeps, key_in, keyed_span, IsNumbered, AreNumbered, AreKeyed}
+use Rattle.ucdfiles.specs.PairFiles.{pair_line_says, content_says, says, bracket_in, bracket_fault, bracket_file_fault, bracket_of, bracket_by, bracket_with, IsEquivalent, IsKeyed, StatesBrackets}
+use Rattle.ucdfiles.proofs.Stating.{value_in-stands}
+
+known : (b : Bool) → (b ≡ true) ⊎ (b ≡ false)
+known true = inl refl
+known false = inr refl
+
+module _ (old new : List (List ℕ × ℕ)) (keeps : Keeps old new) where
+  number-kept : (a : ℕ) → IsNumbered old a → number_in new (nfd (a ∷ [])) ≡ number_in old (nfd (a ∷ []))
+  number-kept a is = keeps (nfd (a ∷ [])) is.0 is.1 ∙ sym is.1
+
+  keyed-kept : (spans : List (Span SidedBracket)) → AreNumbered old spans → map (keyed_span (key_in new)) spans ≡ map (keyed_span (key_in old)) spans
+  keyed-kept [] are = refl
+  keyed-kept (s ∷ spans) are =
+      let own = number-kept s.value.keyed_by (All-head (λ (s : Span SidedBracket). IsNumbered old s.value.keyed_by) s spans are) in
+      let rest = keyed-kept spans (All-tail (λ (s : Span SidedBracket). IsNumbered old s.value.keyed_by) s spans are) in
+      rw (own, rest) refl
+
+  numbered-kept : (spans : List (Span SidedBracket)) → AreNumbered old spans → AreNumbered new spans
+  numbered-kept spans are = λ k d lt. (let h = are k d lt in (h.0, keeps _ _ h.1))
+
+-- the brackets of the spans so far
+pub record AreKeyedSoFar (numbers : List (List ℕ × ℕ)) (spans : List (Span SidedBracket)) (brackets : List (Span Bracket)) : Type 0 where
+  pub numbering : IsNumbering numbers
+  pub numbered : AreNumbered numbers spans
+  pub keyed : brackets ≡ map (keyed_span (key_in numbers)) spans
+
+pub keyed-more : (old new : List (List ℕ × ℕ)) (spans : List (Span SidedBracket)) (span : Span SidedBracket) (brackets : List (Span Bracket)) (n : ℕ)
+    → AreKeyedSoFar old spans brackets → IsNumbering new → Keeps old new → number_in new (nfd (span.value.keyed_by ∷ [])) ≡ Some n
+    → AreKeyedSoFar new (spans ++ span ∷ []) (brackets ++ record { first = span.first; last = span.last; value = bracket_with span.value.side (record { 0 = n }) } ∷ [])
+keyed-more old new spans span brackets n h numbering keeps is =
+    let front : brackets ≡ map (keyed_span (key_in new)) spans = h.keyed ∙ sym (keyed-kept old new keeps spans h.numbered) in
+    record {
+      numbering = numbering;
+      numbered = All-push (λ (s : Span SidedBracket). IsNumbered new s.value.keyed_by) spans span (numbered-kept old new keeps spans h.numbered) (n, is);
+      keyed = rw (front, map-append, is) refl;
+    }
+
+find-keyed : (key : ℕ → Key) (c : ℕ) (spans : List (Span SidedBracket)) → find (holds c) (map (keyed_span key) spans) ≡ option_map (keyed_span key) (find (holds c) spans)
+find-keyed key c [] = refl
+find-keyed key c (s ∷ spans) = elim (known (holds c s)) [
+  | inl held ↦ rw held refl
+  | inr other ↦ rw (other, find-keyed key c spans) refl
+]
+
+find-numbered : (numbers : List (List ℕ × ℕ)) (c : ℕ) (spans : List (Span SidedBracket)) (stated : SidedBracket) → AreNumbered numbers spans
+    → value_by (find (holds c) spans) None ≡ Some stated → IsNumbered numbers stated.keyed_by
+find-numbered numbers c [] stated are is = absurd (let bad : ⊥ = cc in bad)
+find-numbered numbers c (s ∷ spans) stated are is = elim (known (holds c s)) [
+  | inl held ↦
+      let found : Some s.value ≡ Some stated = rw held at is in
+      let same : s.value ≡ stated = cc in
+      let P : SidedBracket → Type 0 = λ v. IsNumbered numbers v.keyed_by in
+      subst P same (All-head (λ (s : Span SidedBracket). IsNumbered numbers s.value.keyed_by) s spans are)
+  | inr other ↦
+      let rest : value_by (find (holds c) spans) None ≡ Some stated = rw other at is in
+      find-numbered numbers c spans stated (All-tail (λ (s : Span SidedBracket). IsNumbered numbers s.value.keyed_by) s spans are) rest
+]
+
+keys-equal : (numbers : List (List ℕ × ℕ)) (a b : ℕ) → IsNumbering numbers → IsNumbered numbers a → IsNumbered numbers b → (key_in numbers a ≡ key_in numbers b) ↔ IsEquivalent a b
+keys-equal numbers a b numbering ha hb = (
+  λ same.
+      let numbers_same : unwrap_or (number_in numbers (nfd (a ∷ []))) 0 ≡ unwrap_or (number_in numbers (nfd (b ∷ []))) 0 = ap (λ (k : Key). k.0) same in
+      let n_same : ha.0 ≡ hb.0 = rw (ha.1, hb.1) at numbers_same in
+      numbering.apart (nfd (a ∷ [])) (nfd (b ∷ [])) ha.0 ha.1 (hb.1 ∙ ap (λ n. Some n) (sym n_same)),
+  λ same. ap (λ d. record { 0 = unwrap_or (number_in numbers d) 0 }) same,
+)
+
+-- a line of pairs is no default line
+abbrev IsNoDefault : {V : Type 0} → FileLine V → Type 0
+IsNoDefault Silent = Unit {0}
+IsNoDefault (Data span) = Unit {0}
+IsNoDefault (Default span) = ⊥
+IsNoDefault (Faulty fault) = Unit {0}
+
+module _ {V : Type 0} (read : List (List ℕ) → Result (Span V) Fault) where
+  says-data : (r : Result (Span V) Fault) → IsNoDefault (says r)
+  says-data (Ok span) = tt
+  says-data (Err fault) = tt
+
+  content-data : (content : List ℕ) → IsNoDefault (content_says read content)
+  content-data [] = tt
+  content-data (b ∷ bs) = says-data _
+
+  line-data : (line : List ℕ) → IsNoDefault (pair_line_says read line)
+  unfolding pair_line_says
+  line-data line = elim (nat_lt longest_line (length line)) as (λ t. IsNoDefault (if t then Faulty LineTooLong else content_says read (content_of line))) [
+    | true ↦ tt
+    | false ↦ content-data (content_of line)
+  ]
+
+  defaults_of-plain : (line : FileLine V) (lines : List (FileLine V)) → IsNoDefault line → defaults_of (line ∷ lines) ≡ defaults_of lines
+  defaults_of-plain Silent lines is = refl
+  defaults_of-plain (Data span) lines is = refl
+  defaults_of-plain (Default span) lines is = absurd is
+  defaults_of-plain (Faulty fault) lines is = refl
+
+  defaults_of-pairs : (lines : List (List ℕ)) → defaults_of (map (pair_line_says read) lines) ≡ []
+  defaults_of-pairs [] = refl
+  defaults_of-pairs (line ∷ lines) = defaults_of-plain (pair_line_says read line) (map (pair_line_says read) lines) (line-data line) ∙ defaults_of-pairs lines
+
+  -- so the data lines alone state the values
+  pub value_of-pairs : (stated : Stated V) (bytes : List ℕ) (c : ℕ) → Stands (pair_line_says read) stated (lines_of bytes) → value_of (pair_line_says read) bytes c ≡ value_by (find (holds c) stated.data_lines) None
+  value_of-pairs stated bytes c stands =
+      let none : stated.default_lines ≡ [] = stands.defaults ∙ defaults_of-pairs (lines_of bytes) in
+      sym (value_in-stands (pair_line_says read) Twice stated (lines_of bytes) c stands) ∙ ap (λ ds. value_in stated.data_lines ds c) none
+
+bracket_by-keyed : (key : ℕ → Key) (o : Option (Span SidedBracket)) → unwrap_or (option_map (λ (s : Span Bracket). s.value) (option_map (keyed_span key) o)) No ≡ bracket_by key (value_by o None)
+bracket_by-keyed key None = refl
+bracket_by-keyed key (Some span) = refl
+
+module _ (bytes : List ℕ) (stated : Stated SidedBracket) (stands : Stands (pair_line_says bracket_in) stated (lines_of bytes)) (brackets : List (Span Bracket)) (keyed : AreKeyed stated.data_lines brackets) where
+  bracket_of-data : (c : ℕ) → bracket_of bytes c ≡ value_by (find (holds c) stated.data_lines) None
+  unfolding bracket_of
+  bracket_of-data c = value_of-pairs bracket_in stated bytes c stands
+
+  is_numbered : (a : ℕ) → IsKeyed bytes a → IsNumbered keyed.numbers a
+  is_numbered a is =
+      let P : ℕ → Type 0 = λ a. IsNumbered keyed.numbers a in
+      subst P is.4 (find-numbered keyed.numbers is.0 stated.data_lines is.1 keyed.numbered (sym (bracket_of-data is.0) ∙ is.3))
+
+  pub states-brackets : first_fault bracket_fault [] (lines_of bytes) ≡ None → (look : ℕ → Bracket)
+      → ((c : ℕ) → c ≤ 0x10FFFF → look c ≡ unwrap_or (option_map (λ (s : Span Bracket). s.value) (find (holds c) brackets)) No) → StatesBrackets bytes look
+  unfolding bracket_file_fault
+  states-brackets none look looks = record {
+    faultless = none;
+    key = key_in keyed.numbers;
+    keys = λ a b ha hb. keys-equal keyed.numbers a b keyed.numbering (is_numbered a ha) (is_numbered b hb);
+    stated = λ c within.
+        looks c within ∙ ap (λ bs. unwrap_or (option_map (λ (s : Span Bracket). s.value) (find (holds c) bs)) No) keyed.keyed
+        ∙ ap (λ o. unwrap_or (option_map (λ (s : Span Bracket). s.value) o) No) (find-keyed (key_in keyed.numbers) c stated.data_lines)
+        ∙ bracket_by-keyed (key_in keyed.numbers) (find (holds c) stated.data_lines) ∙ ap (bracket_by (key_in keyed.numbers)) (sym (bracket_of-data c));
+  }
+
+-- brackets stand where their spans do
+pub rising-keyed : (key : ℕ → Key) (spans : List (Span SidedBracket)) → IsRising spans → IsRising (map (keyed_span key) spans)
+rising-keyed key spans rising =
+    let size : length (map (keyed_span key) spans) ≡ length spans = length-map spans (keyed_span key) in
+    let none : Span SidedBracket = record { first = 0; last = 0; value = record { side = Open; keyed_by = 0 } } in
+    let at = λ (k : ℕ) (d : Span Bracket) (lt : k < length (map (keyed_span key) spans)). (
+    let e : get_or (map (keyed_span key) spans) k d ≡ keyed_span key (get_or spans k none) = get_or-map (keyed_span key) spans k none d (omega (arith, size)) in e) in
+    let first = λ (s : Span Bracket). s.first in
+    let last = λ (s : Span Bracket). s.last in
+    record {
+      each = λ k d lt. omega (arith, size, ap first (at k d lt), ap last (at k d lt), rising.each k none (omega (arith, size)));
+      apart = λ i j d less lt. omega (arith, size, ap last (at i d (omega arith)), ap first (at j d lt), rising.apart i j none less (omega (arith, size)));
+    }

@@ -1,0 +1,81 @@
+// The brackets, as BidiBrackets.txt states them.
+ghost use Rattle.std.specs.Prelude.{◌≡◌, ◌↔◌, ℕ, List, Err, IfOk, IfErr};
+
+use crate::fault::{Fault, TableFault};
+use crate::keys::keyed;
+use crate::pair_line::bracket_line;
+use crate::reading::{LineTable, read_lines};
+use crate::sided_bracket::SidedBracket;
+use crate::span::Span;
+use crate::spans::span_at;
+use crate::statements::Statements;
+use std::alloc::Global;
+use std::marker::Model;
+use units::bracket::Bracket;
+use units::source::ByteSource;
+
+impl LineTable for Statements<SidedBracket> {
+    ghost use Rattle.ucdfiles.specs.PairFiles.{bracket_fault, bracket_in, pair_line_says};
+    ghost use Rattle.ucdfiles.specs.Statements.{Stands};
+    ghost use Rattle.ucdfiles.specs.LongLines.{pair_fault-long};
+
+    ghost stands = { Stands (pair_line_says bracket_in) };
+
+    ghost fault = { bracket_fault };
+
+    ghost over_long = { pair_fault-long bracket_in };
+
+    fn add(&mut self, line: &[u8], number: u64) -> Result<(), TableFault> {
+        self.add_line(bracket_line(line), Fault::Twice, number)
+    }
+}
+
+/// BD14 to BD16: the brackets of the characters, with their keys. Contracts see them by `bracket_at`.
+#[derive(Drop)]
+pub struct BracketTable {
+    brackets: Vec<Span<Bracket>>,
+}
+
+impl Model for BracketTable {
+    ghost use Rattle.std.specs.Prelude.{List};
+    ghost use Rattle.ucdfiles.specs.Spans.{IsRising};
+    ghost use Rattle.ucdfiles.specs.declared.span.Span.{Span as SpanOf};
+    ghost use Rattle.units.specs.declared.bracket.Bracket.{Bracket as BracketOf};
+
+    ghost Value = { List (SpanOf BracketOf) };
+
+    ghost view = { λ t. t.brackets.items };
+
+    ghost invariant = { λ t. IsRising t.brackets.items };
+}
+
+impl BracketTable {
+    ghost use Rattle.ucdfiles.specs.PairFiles.{bracket_fault, StatesBrackets};
+    ghost use Rattle.ucdfiles.specs.Reading.{IsFault};
+    ghost use Rattle.ucdfiles.specs.Tables.{bracket_at};
+
+    /// The bracket table that the source's bytes state, read to the source's end; or the fault of the least faulty line. `Read` is answered
+    /// exactly if the source has failed, and then no line that is complete is faulty, and none that has begun is over-long.
+    pub fn read<S: ByteSource>(alloc: Global, source: &mut S) -> Result<BracketTable, TableFault>
+        ensures read { (result ≡ Err TableFault.Read) ↔ (S.failures source.new ≡ 1) }
+        ensures ok { IfOk result (λ table. (given : List ℕ) × S.gives source.old given source.new × S.ended source.new × StatesBrackets given (bracket_at table)) }
+        ensures err { IfErr result (λ e. (given : List ℕ) × S.gives source.old given source.new × IsFault bracket_fault (S.ended source.new) given e) }
+    {
+        let mut lines = Statements::new(alloc);
+        read_lines(&mut lines, source)?;
+        match keyed(alloc, lines.data()) {
+            Ok(brackets) => Ok(BracketTable { brackets }),
+            Err(_) => Err(TableFault::Memory),
+        }
+    }
+
+    /// The bracket of a character: `No` without a line, else `Open` with the key of its second field or `Close` with the key of its first.
+    pub fn bracket(&self, c: char) -> Bracket
+        ensures { result ≡ bracket_at self.now c }
+    {
+        match span_at(&self.brackets, u32::from(c)) {
+            Some(span) => span.value,
+            None => Bracket::No,
+        }
+    }
+}
