@@ -128,7 +128,7 @@ module _ {V : Type 0} (read : List (List ℕ) → Result (Span V) Fault) where
       let none : stated.default_lines ≡ [] = stands.defaults ∙ defaults_of-pairs (lines_of bytes) in
       sym (value_in-stands (pair_line_says read) Twice stated (lines_of bytes) c stands) ∙ ap (λ ds. value_in stated.data_lines ds c) none
 
-bracket_by-keyed : (key : ℕ → Key) (o : Option (Span SidedBracket)) → unwrap_or (option_map (λ (s : Span Bracket). s.value) (option_map (keyed_span key) o)) No ≡ bracket_by key (value_by o None)
+bracket_by-keyed : (key : ℕ → Key) (o : Option (Span SidedBracket)) → unwrap_or (value_by (option_map (keyed_span key) o) None) No ≡ bracket_by key (value_by o None)
 bracket_by-keyed key None = refl
 bracket_by-keyed key (Some span) = refl
 
@@ -143,15 +143,15 @@ module _ (bytes : List ℕ) (stated : Stated SidedBracket) (stands : Stands (pai
       subst P is.4 (find-numbered keyed.numbers is.0 stated.data_lines is.1 keyed.numbered (sym (bracket_of-data is.0) ∙ is.3))
 
   pub states-brackets : first_fault bracket_fault [] (lines_of bytes) ≡ None → (look : ℕ → Bracket)
-      → ((c : ℕ) → c ≤ 0x10FFFF → look c ≡ unwrap_or (option_map (λ (s : Span Bracket). s.value) (find (holds c) brackets)) No) → StatesBrackets bytes look
+      → ((c : ℕ) → c ≤ 0x10FFFF → look c ≡ unwrap_or (value_by (find (holds c) brackets) None) No) → StatesBrackets bytes look
   unfolding bracket_file_fault
   states-brackets none look looks = record {
     faultless = none;
     key = key_in keyed.numbers;
     keys = λ a b ha hb. keys-equal keyed.numbers a b keyed.numbering (is_numbered a ha) (is_numbered b hb);
     stated = λ c within.
-        looks c within ∙ ap (λ bs. unwrap_or (option_map (λ (s : Span Bracket). s.value) (find (holds c) bs)) No) keyed.keyed
-        ∙ ap (λ o. unwrap_or (option_map (λ (s : Span Bracket). s.value) o) No) (find-keyed (key_in keyed.numbers) c stated.data_lines)
+        looks c within ∙ ap (λ bs. unwrap_or (value_by (find (holds c) bs) None) No) keyed.keyed
+        ∙ ap (λ o. unwrap_or (value_by o None) No) (find-keyed (key_in keyed.numbers) c stated.data_lines)
         ∙ bracket_by-keyed (key_in keyed.numbers) (find (holds c) stated.data_lines) ∙ ap (bracket_by (key_in keyed.numbers)) (sym (bracket_of-data c));
   }
 

@@ -11,3 +11,5 @@ pub mod Outcomes
 pub mod PairLines
 pub mod Numbers
 pub mod Keyed
+pub mod Painting
+pub mod Staging

@@ -5,7 +5,7 @@ use Rattle.std.specs.List.Sorted.{IsPartitionedBy}
 use Rattle.std.specs.Option.{option_or}
 use Rattle.std.proofs.lemmas.Bool.{ltb-true, lt-ltb, leb-true, le-leb, lt-leb, false_from_ne_true, cases_lt, false≢true}
 use Rattle.std.proofs.Math.Nat.{eq-or-lt_of_le}
-use Rattle.std.proofs.lemmas.List.{take-append-drop, get_or_default}
+use Rattle.std.proofs.lemmas.List.{take-append-drop, get_or_default, get_or-take, get_or-drop, length-take, length-drop}
 use Rattle.std.proofs.lemmas.List.Edits.{length-insert, get_or-insert_at, get_or-insert_below, get_or-insert_above}
 use Rattle.std.proofs.lemmas.List.Folds.{find-append, list_any-append}
 use Rattle.ucdfiles.specs.declared.fault.Fault.{Fault}
@@ -48,8 +48,16 @@ module _ {V : Type 0} where
         | inl same ↦ ap (λ k. ltb (get_or rs k d).last code) same ∙ low
       ]
 
+  pub parted_first : (rs : List (Span V)) (code : ℕ) → IsRising rs → IsPartitionedBy (λ (r : Span V). leb r.first code) rs
+  parted_first rs code rising i j d le lt low =
+      let below : (get_or rs j d).first ≤ code = leb-true _ _ low in
+      elim (eq-or-lt_of_le le) [
+        | inr less ↦ le-leb _ _ (omega (arith, rising.apart i j d less lt, rising.each i d (omega arith), below))
+        | inl same ↦ ap (λ k. leb (get_or rs k d).first code) same ∙ low
+      ]
+
   -- a list none of whose elements pass
-  find-none : (p : Span V → Bool) (rs : List (Span V)) → ((k : ℕ) (d : Span V) → k < length rs → p (get_or rs k d) ≡ false) → find p rs ≡ None
+  pub find-none : (p : Span V → Bool) (rs : List (Span V)) → ((k : ℕ) (d : Span V) → k < length rs → p (get_or rs k d) ≡ false) → find p rs ≡ None
   find-none p [] none = refl
   find-none p (r ∷ rs) none =
       let e : p r ≡ false = none 0 r (omega arith) in
@@ -72,7 +80,7 @@ module _ {V : Type 0} where
   not_held_behind : (code : ℕ) (r : Span V) → r.last < code → holds code r ≡ false
   not_held_behind code r lt = let e : leb code r.last ≡ false = lt-leb _ _ lt in rw e (and_false (leb r.first code))
 
-  not_held_before : (code : ℕ) (r : Span V) → code < r.first → holds code r ≡ false
+  pub not_held_before : (code : ℕ) (r : Span V) → code < r.first → holds code r ≡ false
   not_held_before code r lt = let e : leb r.first code ≡ false = lt-leb _ _ lt in rw e refl
 
   -- the spans from a place on begin above a code point below the first of them
@@ -209,3 +217,44 @@ module _ {V : Type 0} where
           ]
         ];
       }
+
+  -- the first of spans in order
+  pub rising-take : (rs : List (Span V)) (n : ℕ) → IsRising rs → IsRising (take n rs)
+  rising-take rs n rising =
+      let within : length (take n rs) ≤ n = omega (arith, length-take n rs) in
+      let size : length (take n rs) ≤ length rs = omega (arith, length-take n rs) in
+      let at = λ (k : ℕ) (d : Span V) (lt : k < length (take n rs)). (let e : get_or (take n rs) k d ≡ get_or rs k d = get_or-take n rs k d (omega (arith, within)) in e) in
+      let first = λ (r : Span V). r.first in
+      let last = λ (r : Span V). r.last in
+      record {
+        each = λ k d lt. omega (arith, ap first (at k d lt), ap last (at k d lt), rising.each k d (omega (arith, size)));
+        apart = λ i j d less lt. omega (arith, ap last (at i d (omega arith)), ap first (at j d lt), rising.apart i j d less (omega (arith, size)));
+      }
+
+  -- and those behind a place
+  pub rising-drop : (rs : List (Span V)) (m : ℕ) → IsRising rs → IsRising (drop m rs)
+  rising-drop rs m rising =
+      let size : length (drop m rs) ≡ length rs - m = length-drop m rs in
+      let at = λ (k : ℕ) (d : Span V). (let e : get_or (drop m rs) k d ≡ get_or rs (m + k) d = get_or-drop m rs k d in e) in
+      let first = λ (r : Span V). r.first in
+      let last = λ (r : Span V). r.last in
+      record {
+        each = λ k d lt. omega (arith, ap first (at k d), ap last (at k d), rising.each (m + k) d (omega (arith, size)));
+        apart = λ i j d less lt. omega (arith, ap last (at i d), ap first (at j d), rising.apart (m + i) (m + j) d (omega arith) (omega (arith, size)));
+      }
+
+  -- spans that end before a code point don't hold it
+  pub find-drop : (rs : List (Span V)) (m code : ℕ) → AllWithin (λ (r : Span V). r.last < code) rs 0 m → find (holds code) (drop m rs) ≡ find (holds code) rs
+  find-drop rs m code below =
+      let front : find (holds code) (take m rs) ≡ None = find-none (holds code) (take m rs) (λ k d lt. (
+      let low : k < m = omega (arith, length-take m rs, lt) in
+      ap (holds code) (get_or-take m rs k d low) ∙ not_held_behind code (get_or rs k d) (below k d (omega arith) low))) in
+      sym (ap (find (holds code)) (sym (take-append-drop m rs)) ∙ find-append (holds code) (take m rs) (drop m rs) ∙ rw front refl)
+
+  -- nor do those that begin after it
+  pub find-take : (rs : List (Span V)) (n code : ℕ) → AllWithin (λ (r : Span V). code < r.first) rs n (length rs) → find (holds code) (take n rs) ≡ find (holds code) rs
+  find-take rs n code above =
+      let back : find (holds code) (drop n rs) ≡ None = find-none (holds code) (drop n rs) (λ k d lt. (
+      let inside : n + k < length rs = omega (arith, length-drop n rs, lt) in
+      ap (holds code) (get_or-drop n rs k d) ∙ not_held_before code (get_or rs (n + k) d) (above (n + k) d (omega arith) inside))) in
+      sym (ap (find (holds code)) (sym (take-append-drop n rs)) ∙ find-append (holds code) (take n rs) (drop n rs) ∙ rw back (option_or-none (find (holds code) (take n rs))))

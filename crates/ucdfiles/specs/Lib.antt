@@ -6,5 +6,6 @@ pub mod PairFiles
 pub mod LongLines
 pub mod Reading
 pub mod Keys
+pub mod Stages
 pub mod Tables
 pub mod Rows

@@ -6,9 +6,8 @@ use crate::keys::keyed;
 use crate::pair_line::bracket_line;
 use crate::reading::{LineTable, read_lines};
 use crate::sided_bracket::SidedBracket;
-use crate::span::Span;
-use crate::spans::span_at;
 use crate::statements::Statements;
+use crate::two_stage::TwoStage;
 use std::alloc::Global;
 use std::marker::Model;
 use units::bracket::Bracket;
@@ -33,20 +32,16 @@ impl LineTable for Statements<SidedBracket> {
 /// BD14 to BD16: the brackets of the characters, with their keys. Contracts see them by `bracket_at`.
 #[derive(Drop)]
 pub struct BracketTable {
-    brackets: Vec<Span<Bracket>>,
+    brackets: TwoStage<Bracket>,
 }
 
 impl Model for BracketTable {
-    ghost use Rattle.std.specs.Prelude.{List};
-    ghost use Rattle.ucdfiles.specs.Spans.{IsRising};
-    ghost use Rattle.ucdfiles.specs.declared.span.Span.{Span as SpanOf};
+    ghost use Rattle.ucdfiles.specs.Stages.{Stages};
     ghost use Rattle.units.specs.declared.bracket.Bracket.{Bracket as BracketOf};
 
-    ghost Value = { List (SpanOf BracketOf) };
+    ghost Value = { Stages BracketOf };
 
-    ghost view = { λ t. t.brackets.items };
-
-    ghost invariant = { λ t. IsRising t.brackets.items };
+    ghost view = { λ t. t.brackets };
 }
 
 impl BracketTable {
@@ -63,7 +58,10 @@ impl BracketTable {
     {
         let mut lines = Statements::new(alloc);
         read_lines(&mut lines, source)?;
-        match keyed(alloc, lines.data()) {
+        let Ok(spans) = keyed(alloc, lines.data()) else {
+            return Err(TableFault::Memory);
+        };
+        match TwoStage::new(alloc, &spans, &[], Bracket::No) {
             Ok(brackets) => Ok(BracketTable { brackets }),
             Err(_) => Err(TableFault::Memory),
         }
@@ -73,9 +71,6 @@ impl BracketTable {
     pub fn bracket(&self, c: char) -> Bracket
         ensures { result ≡ bracket_at self.now c }
     {
-        match span_at(&self.brackets, u32::from(c)) {
-            Some(span) => span.value,
-            None => Bracket::No,
-        }
+        self.brackets.value(c)
     }
 }

@@ -5,6 +5,7 @@ use crate::class_line::class_line;
 use crate::fault::{Fault, TableFault};
 use crate::reading::{LineTable, read_lines};
 use crate::statements::Statements;
+use crate::two_stage::TwoStage;
 use std::alloc::Global;
 use std::marker::Model;
 use units::class::Class;
@@ -29,14 +30,14 @@ impl LineTable for Statements<Class> {
 /// The classes of the characters. Contracts see them by `class_at`.
 #[derive(Drop)]
 pub struct ClassTable {
-    classes: Statements<Class>,
+    classes: TwoStage<Class>,
 }
 
 impl Model for ClassTable {
-    ghost use Rattle.ucdfiles.specs.Statements.{Stated};
+    ghost use Rattle.ucdfiles.specs.Stages.{Stages};
     ghost use Rattle.units.specs.declared.class.Class.{Class as ClassOf};
 
-    ghost Value = { Stated ClassOf };
+    ghost Value = { Stages ClassOf };
 
     ghost view = { λ t. t.classes };
 }
@@ -53,15 +54,18 @@ impl ClassTable {
         ensures ok { IfOk result (λ table. (given : List ℕ) × S.gives source.old given source.new × S.ended source.new × StatesClasses given (class_at table)) }
         ensures err { IfErr result (λ e. (given : List ℕ) × S.gives source.old given source.new × IsFault class_fault (S.ended source.new) given e) }
     {
-        let mut classes = Statements::new(alloc);
-        read_lines(&mut classes, source)?;
-        Ok(ClassTable { classes })
+        let mut lines = Statements::new(alloc);
+        read_lines(&mut lines, source)?;
+        match TwoStage::new(alloc, lines.data(), lines.defaults(), Class::L) {
+            Ok(classes) => Ok(ClassTable { classes }),
+            Err(_) => Err(TableFault::Memory),
+        }
     }
 
     /// The class of a character: that of the one data line that holds it, else that of the last `@missing` line that holds it, else L.
     pub fn class(&self, c: char) -> Class
         ensures { result ≡ class_at self.now c }
     {
-        self.classes.value(u32::from(c)).unwrap_or(Class::L)
+        self.classes.value(c)
     }
 }

@@ -2,6 +2,7 @@
 ghost use Rattle.std.specs.Prelude.{◌≡◌, ℕ, List, [], ◌∷◌, length, Some, IfOk, OnOk};
 ghost use Rattle.unicode_normalization.specs.Forms.{nfd};
 ghost use Rattle.ucdfiles.specs.Keys.{AreKeyed};
+ghost use Rattle.ucdfiles.specs.Spans.{IsRising};
 
 use crate::sided_bracket::SidedBracket;
 use crate::span::Span;
@@ -73,7 +74,9 @@ impl Numbering {
 
 /// The brackets of the same code points, in their order, with keys.
 pub fn keyed(alloc: Global, spans: &[Span<SidedBracket>]) -> Result<Vec<Span<Bracket>>, AllocError>
-    ensures { IfOk result (λ brackets. AreKeyed spans.now brackets.items) }
+    requires { IsRising spans.now }
+    ensures keyed { IfOk result (λ brackets. AreKeyed spans.now brackets.items) }
+    ensures rising { IfOk result (λ brackets. IsRising brackets.items) }
 {
     let mut numbering = Numbering::new(alloc);
     let mut brackets = Vec::new(alloc);

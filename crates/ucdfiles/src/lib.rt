@@ -14,3 +14,4 @@ pub mod span;
 pub mod spans;
 pub mod statements;
 pub mod tables;
+pub mod two_stage;

@@ -1,5 +1,5 @@
 // Spans in order.
-ghost use Rattle.std.specs.Prelude.{◌≡◌, ◌<◌, ◌≤◌, ◌⊎◌, ◌≢◌, length, reverse, Some, None, IfErr, OnOk};
+ghost use Rattle.std.specs.Prelude.{◌≡◌, ◌<◌, ◌≤◌, ◌⊎◌, ◌≢◌, ℕ, length, reverse, Some, None, IfErr, OnOk};
 ghost use Rattle.std.specs.List.{find, AllWithin};
 ghost use Rattle.std.specs.Option.{option_map};
 ghost use Rattle.ucdfiles.specs.Spans.{holds, IsRising, Adds, data_fault};
@@ -14,8 +14,8 @@ pub const MOST_DATA: usize = 65_536;
 /// The greatest number of default lines of a file.
 pub const MOST_DEFAULTS: usize = 1_024;
 
-/// The place of the first span that does not end before the code point.
-pub fn place<V>(spans: &[Span<V>], code: u32) -> usize
+// The place of the first span that does not end before the code point.
+fn place<V>(spans: &[Span<V>], code: u32) -> usize
     requires { IsRising spans.now }
     ensures bound { result ≤ length spans.now }
     ensures below { AllWithin (λ s. s.last < code) spans.now 0 result }
@@ -69,4 +69,33 @@ pub fn add_span<V: Copy>(
         Ok(()) => Ok(()),
         Err(_) => Err(TableFault::Memory),
     }
+}
+
+// The place of the first span that begins behind the code point.
+fn place_behind<V>(spans: &[Span<V>], code: u32) -> usize
+    requires { IsRising spans.now }
+    ensures bound { result ≤ length spans.now }
+    ensures above { AllWithin (λ s. code < s.first) spans.now result (length spans.now) }
+{
+    spans.partition_point(|span| span.first <= code)
+}
+
+/// The spans that do not end before the code point.
+pub fn ending_from<V>(spans: &[Span<V>], code: u32) -> &[Span<V>]
+    requires { IsRising spans.now }
+    ensures rising { IsRising result.now }
+    ensures finds { (c : ℕ) → code ≤ c → find (holds c) result.now ≡ find (holds c) spans.now }
+{
+    let place = place(spans, code);
+    &spans[place..]
+}
+
+/// The spans that do not begin behind the code point.
+pub fn beginning_by<V>(spans: &[Span<V>], code: u32) -> &[Span<V>]
+    requires { IsRising spans.now }
+    ensures rising { IsRising result.now }
+    ensures finds { (c : ℕ) → c ≤ code → find (holds c) result.now ≡ find (holds c) spans.now }
+{
+    let place = place_behind(spans, code);
+    &spans[..place]
 }

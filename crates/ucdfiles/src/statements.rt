@@ -102,4 +102,11 @@ impl<V: Copy> Statements<V> {
     {
         &self.data
     }
+
+    /// The default lines, in the order of the file.
+    pub fn defaults(&self) -> &[Span<V>]
+        ensures { result.now ≡ self.now.default_lines }
+    {
+        &self.defaults
+    }
 }

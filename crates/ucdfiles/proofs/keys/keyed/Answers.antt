@@ -1,10 +1,13 @@
-use Rattle.std.proofs.Common.{◌≡◌, List, take, get_or, ap, subst, ◌∙◌, arith}
+use Rattle.std.proofs.Common.{◌≡◌, List, take, get_or, ap, sym, subst, ◌∙◌, arith}
 use Rattle.std.proofs.lemmas.List.{take_more, take_all}
 use Rattle.ucdfiles.specs.declared.sided_bracket.SidedBracket.{SidedBracket}
 use Rattle.ucdfiles.specs.declared.sided_bracket.Side.TheVariants.{Open}
 use Rattle.ucdfiles.specs.declared.span.Span.{Span}
+use Rattle.units.specs.declared.bracket.Bracket.{Bracket}
 use Rattle.ucdfiles.specs.PairFiles.{bracket_with}
-use Rattle.ucdfiles.proofs.Keyed.{AreKeyedSoFar, keyed-more}
+use Rattle.ucdfiles.specs.Keys.{AreKeyed, key_in}
+use Rattle.ucdfiles.specs.Spans.{IsRising}
+use Rattle.ucdfiles.proofs.Keyed.{AreKeyedSoFar, keyed-more, rising-keyed}
 use Rattle.ucdfiles.proofs.keys.keyed.Goals as goal
 
 pub loop-span-preserved : goal.loop-span-preserved
@@ -17,10 +20,16 @@ loop-span-preserved c =
     rw (take_more spans i d c.loop-span-test.true, c.in_ok-push.ensures.items, key)
     (keyed-more c.loop-span.numbering c.number.new.self (take i spans) span c.loop-span.brackets.items c.in_ok-number.number c.loop-span.invariant c.in_ok-number.ensures.numbering c.in_ok-number.ensures.kept c.in_ok-number.ensures.number)
 
-pub returns : goal.returns
-returns c =
+pub returns-clause-keyed : goal.returns-clause-keyed
+returns-clause-keyed c =
     let spans = c.args.spans.now in
     let whole : take c.loop-span.span-index spans ≡ spans = take_all c.loop-span.span-index spans (omega arith) in
     let P : List (Span SidedBracket) → Type 0 = λ ss. AreKeyedSoFar c.loop-span.numbering ss c.loop-span.brackets.items in
     let h : AreKeyedSoFar c.loop-span.numbering spans c.loop-span.brackets.items = subst P whole c.loop-span.invariant in
     record { numbers = c.loop-span.numbering; numbering = h.numbering; numbered = h.numbered; keyed = h.keyed }
+
+pub returns-clause-rising : goal.returns-clause-rising
+returns-clause-rising c =
+    let are : AreKeyed c.args.spans.now c.loop-span.brackets.items = returns-clause-keyed c in
+    let P : List (Span Bracket) → Type 0 = λ bs. IsRising bs in
+    subst P (sym are.keyed) (rising-keyed (key_in are.numbers) c.args.spans.now c.requires)

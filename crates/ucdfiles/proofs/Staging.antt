@@ -1,0 +1,58 @@
+-- Blocks of values, one after the other.
+use Rattle.std.proofs.Common.{◌≡◌, ℕ, ◌+◌, ◌*◌, ◌/◌, ◌%◌, ◌<◌, ◌≤◌, List, [], ◌∷◌, ◌++◌, length, get_or, sym, ap, ◌∙◌, arith, inl, inr, length-append}
+use Rattle.std.specs.Option.{unwrap_or}
+use Rattle.std.proofs.lemmas.Bool.{cases_lt}
+use Rattle.std.proofs.lemmas.List.{get_or_default}
+use Rattle.std.proofs.Math.ListN.{get_or-append}
+use Rattle.std.proofs.Math.Seq.{get_or-append_seam}
+use Rattle.ucdfiles.specs.declared.span.Span.{Span}
+use Rattle.ucdfiles.specs.Spans.{value_in}
+use Rattle.ucdfiles.specs.Stages.{AreStages, HasBlock, stage_at}
+
+module _ {V : Type 0} where
+  -- the blocks before the n-th
+  pub record AreStagesUpTo (n : ℕ) (spans defaults : List (Span V)) (none : V) (places : List ℕ) (values : List V) : Type 0 where
+    pub size : length places ≡ n
+    pub whole : length values % 128 ≡ 0
+    pub most : length values ≤ n * 128
+    pub within : (k : ℕ) → k < n → get_or places k 0 * 128 + 128 ≤ length values
+    pub stated : (k j : ℕ) (d : V) → k < n → j < 128 → get_or values (get_or places k 0 * 128 + j) d ≡ unwrap_or (value_in spans defaults (k * 128 + j)) none
+
+  -- one more block
+  pub one_more : (n : ℕ) (spans defaults : List (Span V)) (none : V) (places : List ℕ) (values more new block : List V) (place : ℕ) → AreStagesUpTo n spans defaults none places values
+      → new ≡ values ++ more → length new % 128 ≡ 0 → length new ≤ length values + 128 → place * 128 + 128 ≤ length new → HasBlock new place block
+      → ((k : ℕ) (d : V) → k < 128 → get_or block k d ≡ unwrap_or (value_in spans defaults (n * 128 + k)) none)
+      → AreStagesUpTo (n + 1) spans defaults none (places ++ place ∷ []) new
+  one_more n spans defaults none places values more new block place h grown whole most within has says =
+      let size : length new ≡ length values + length more = ap length grown ∙ length-append values more in
+      let front = λ (k : ℕ) (low : k < n). (let e : get_or (places ++ place ∷ []) k 0 ≡ get_or places k 0 = get_or-append places (place ∷ []) 0 k (omega (arith, h.size)) in e) in
+      let own : get_or (places ++ place ∷ []) n 0 ≡ place = ap (λ m. get_or (places ++ place ∷ []) m 0) (sym h.size) ∙ get_or-append_seam places place [] 0 in
+      record {
+        size = omega (arith, h.size, length-append places (place ∷ []));
+        whole = whole;
+        most = omega (arith, h.most, most);
+        within = λ k lt. elim (cases_lt k n) [
+          | inl low ↦ omega (arith, front k low, h.within k low, size)
+          | inr high ↦ (let e : k ≡ n = omega arith in omega (arith, ap (λ m. get_or (places ++ place ∷ []) m 0) e, own, within))
+        ];
+        stated = λ k j d lt small. elim (cases_lt k n) [
+          | inl low ↦
+              let at : get_or (places ++ place ∷ []) k 0 * 128 + j ≡ get_or places k 0 * 128 + j = ap (λ p. p * 128 + j) (front k low) in
+              let kept : get_or new (get_or places k 0 * 128 + j) d ≡ get_or values (get_or places k 0 * 128 + j) d =
+              ap (λ vs. get_or vs (get_or places k 0 * 128 + j) d) grown ∙ get_or-append values more d (get_or places k 0 * 128 + j) (omega (arith, h.within k low)) in
+              ap (λ i. get_or new i d) at ∙ kept ∙ h.stated k j d low small
+          | inr high ↦
+              let e : k ≡ n = omega arith in
+              let at : get_or (places ++ place ∷ []) k 0 * 128 + j ≡ place * 128 + j = ap (λ p. p * 128 + j) (ap (λ m. get_or (places ++ place ∷ []) m 0) e ∙ own) in
+              ap (λ i. get_or new i d) at ∙ has j d small ∙ says j d small ∙ ap (λ m. unwrap_or (value_in spans defaults (m * 128 + j)) none) (sym e)
+        ];
+      }
+
+  module _ (spans defaults : List (Span V)) (none : V) (places : List ℕ) (values : List V) (h : AreStagesUpTo 8704 spans defaults none places values) where
+    pub all-stages : AreStages (record { places = places; values = values })
+    all-stages = record { blocks = h.size; within = λ k d lt. (let e : get_or places k d ≡ get_or places k 0 = get_or_default places k d 0 lt in omega (arith, e, h.within k (omega (arith, h.size)))) }
+
+    pub stage_at-all : (c : ℕ) (d : V) → c ≤ 0x10FFFF → stage_at (record { places = places; values = values }) c d ≡ unwrap_or (value_in spans defaults c) none
+    stage_at-all c d le =
+        let whole : c / 128 * 128 + c % 128 ≡ c = omega arith in
+        h.stated (c / 128) (c % 128) d (omega arith) (omega arith) ∙ ap (λ k. unwrap_or (value_in spans defaults k) none) whole

@@ -1,0 +1,152 @@
+// A value for each code point, found by two loads.
+ghost use Rattle.std.specs.Prelude.{◌≡◌, ◌<◌, ◌≤◌, ◌+◌, ◌*◌, ◌%◌, ℕ, length, true, IfOk, OnOk, slice_index_or, List, ◌++◌};
+ghost use Rattle.std.specs.List.{find};
+ghost use Rattle.std.specs.Option.{unwrap_or};
+ghost use Rattle.ucdfiles.specs.Spans.{holds, IsRising, value_in};
+ghost use Rattle.ucdfiles.specs.Stages.{value_over, value_over_all, stage_at, HasBlock};
+
+use crate::span::Span;
+use crate::spans::{beginning_by, ending_from};
+use std::alloc::{AllocError, Global};
+use std::marker::Model;
+
+/// How many code points a block has.
+pub const BLOCK: usize = 128;
+
+/// How many blocks the code points have.
+pub const BLOCKS: u32 = 8_704;
+
+/// The place of each block of 128 code points, and the values of the blocks; blocks that follow one another with the same values share them.
+#[derive(Drop)]
+pub struct TwoStage<V> {
+    places: Vec<u16>,
+    values: Vec<V>,
+}
+
+impl<V> Model for TwoStage<V> {
+    ghost use Rattle.ucdfiles.specs.Stages.{Stages, AreStages};
+
+    ghost Value = { Stages V };
+
+    ghost view = { λ t. record { places = t.places.items; values = t.values.items } };
+
+    ghost invariant = { λ t. AreStages (record { places = t.places.items; values = t.values.items }) };
+}
+
+// Lays a span over the values of the code points from `first` on.
+fn paint<V: Copy>(block: &mut [V], first: u32, span: &Span<V>)
+    requires { first + length block.old ≤ 0x110000 }
+    ensures len { length block.new ≡ length block.old }
+    ensures values { (k : ℕ) (d : V) → k < length block.old → slice_index_or block.new k d ≡ value_over (first + k) span.now (slice_index_or block.old k d) }
+{
+    for k in 0..block.len() {
+        if span.holds(first + k as u32) {
+            block[k] = span.value;
+        }
+    }
+}
+
+// Lays spans over the values of the code points from `first` on, one after the other.
+fn paint_all<V: Copy>(block: &mut [V], first: u32, spans: &[Span<V>])
+    requires { first + length block.old ≤ 0x110000 }
+    ensures len { length block.new ≡ length block.old }
+    ensures values { (k : ℕ) (d : V) → k < length block.old → slice_index_or block.new k d ≡ value_over_all (first + k) spans.now (slice_index_or block.old k d) }
+{
+    for span in spans {
+        paint(block, first, span);
+    }
+}
+
+// The spans that have a code point of the block that begins at `first`.
+fn meeting<V>(spans: &[Span<V>], first: u32) -> &[Span<V>]
+    requires rising { IsRising spans.now }
+    requires first { first + 128 ≤ 0x110000 }
+    ensures rising { IsRising result.now }
+    ensures finds { (c : ℕ) → first ≤ c → c < first + 128 → find (holds c) result.now ≡ find (holds c) spans.now }
+{
+    beginning_by(ending_from(spans, first), first + 127)
+}
+
+// Fills in the values of the block that begins at `first`.
+fn fill_block<V: Copy>(
+    block: &mut [V],
+    first: u32,
+    spans: &[Span<V>],
+    defaults: &[Span<V>],
+    none: V,
+)
+    requires rising { IsRising spans.now }
+    requires first { first + 128 ≤ 0x110000 }
+    requires len { length block.old ≡ 128 }
+    ensures len { length block.new ≡ 128 }
+    ensures values { (k : ℕ) (d : V) → k < 128 → slice_index_or block.new k d ≡ unwrap_or (value_in spans.now defaults.now (first + k)) none }
+{
+    let everything = Span {
+        first: 0,
+        last: 0x10FFFF,
+        value: none,
+    };
+    paint(block, first, &everything);
+    paint_all(block, first, defaults);
+    paint_all(block, first, meeting(spans, first));
+}
+
+// The place of a block: that of the last, if it has the same values, else one more.
+fn place_of<V: Copy + PartialEq>(values: &mut Vec<V>, block: &[V]) -> Result<u16, AllocError>
+    requires exact { (x y : V) → V.eq x y ≡ true → x ≡ y }
+    requires block { length block.now ≡ 128 }
+    requires whole { length values.old.items % 128 ≡ 0 }
+    requires room { length values.old.items < 128 * 65536 }
+    ensures whole { OnOk result (length values.new.items % 128 ≡ 0) }
+    ensures most { OnOk result (length values.new.items ≤ length values.old.items + 128) }
+    ensures kept { OnOk result ((more : List V) × (values.new.items ≡ values.old.items ++ more)) }
+    ensures within { IfOk result (λ place. place * 128 + 128 ≤ length values.new.items) }
+    ensures block { IfOk result (λ place. HasBlock values.new.items place block.now) }
+{
+    let len = values.len();
+    if len >= BLOCK && &values[len - BLOCK..] == block {
+        return Ok((len / BLOCK - 1) as u16);
+    }
+    values.extend_from_slice(block)?;
+    Ok((len / BLOCK) as u16)
+}
+
+impl<V: Copy + PartialEq> TwoStage<V> {
+    ghost use Rattle.ucdfiles.specs.Stages.{Stages};
+
+    /// The values of the spans, else of the last default that holds a code point, else `none`.
+    pub fn new(
+        alloc: Global,
+        spans: &[Span<V>],
+        defaults: &[Span<V>],
+        none: V,
+    ) -> Result<TwoStage<V>, AllocError>
+        requires rising { IsRising spans.now }
+        requires exact { (x y : V) → V.eq x y ≡ true → x ≡ y }
+        ensures { IfOk result (λ stages. (c : ℕ) (d : V) → c ≤ 0x10FFFF → stage_at stages c d ≡ unwrap_or (value_in spans.now defaults.now c) none) }
+    {
+        let mut places = Vec::with_capacity(alloc, BLOCKS as usize)?;
+        let mut values = Vec::new(alloc);
+        let mut room = Vec::from_elem(alloc, none, BLOCK)?;
+        let block = room.as_mut_slice();
+        for n in 0..BLOCKS {
+            fill_block(block, n * BLOCK as u32, spans, defaults, none);
+            let place = place_of(&mut values, block)?;
+            places.push(place)?;
+        }
+        Ok(TwoStage { places, values })
+    }
+}
+
+impl<V: Copy> TwoStage<V> {
+    ghost use Rattle.ucdfiles.specs.Stages.{Stages};
+
+    /// The value of a character.
+    pub fn value(&self, c: char) -> V
+        ensures { (d : V) → result ≡ stage_at self.now c d }
+    {
+        let code = u32::from(c) as usize;
+        let place = self.places[code / BLOCK] as usize;
+        self.values[place * BLOCK + code % BLOCK]
+    }
+}
