@@ -15,3 +15,4 @@ pub mod NextLine
 pub mod LinesWritten
 pub mod LinesRead
 pub mod Law
+pub mod Uniform

@@ -52,3 +52,7 @@ pub record Holds (levels : List (Option ℕ)) (start end : ℕ) (xs : List ℕ) 
 pub record IsTurned (levels : List (Option ℕ)) (k start end : ℕ) (xs : List ℕ) : Type 0 where
   pub holds : Holds levels start end xs
   pub before : Ordered (Before levels k) xs
+
+-- all remaining positions of the line have one level
+pub record IsUniform (levels : List (Option ℕ)) (start end level : ℕ) : Type 0 where
+  pub same : (p v : ℕ) → start ≤ p → p < end → HasLevel levels p v → v ≡ level

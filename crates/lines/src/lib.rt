@@ -4,6 +4,7 @@
 pub mod bounds;
 pub mod breaks;
 pub mod filling;
+pub mod laws;
 pub mod lay_out;
 pub mod layout;
 pub mod mirror;

@@ -1,6 +1,5 @@
 ghost use Rattle.std.specs.Prelude.{◌≡◌, ◌≤◌, ◌<◌, ◌%◌, ◌+◌, ◌-◌, ◌*◌, ◌++◌, ℕ, length, List, IsTrue, ◌↔◌, reverse, vec_len, vec_capacity};
-ghost use Rattle.std.specs.List.{All};
-ghost use Rattle.units.specs.Reordering.{IsLineOrder, line_order};
+ghost use Rattle.units.specs.Reordering.{line_order};
 ghost use Rattle.lines.specs.Turning.{Has, HasLevel, Holds, IsTurned, Ordered, remaining};
 
 use std::marker::Brand;
@@ -156,16 +155,6 @@ pub fn append_order<L: Ledger>(
     append_remaining(levels, start, end, orders, steps);
     reorder(levels, start, end, &mut orders[from..], steps);
 }
-
-/// The order of a line is the only list of its remaining positions in which, of two, the one that comes first in the text stands
-/// first exactly if the least level between them is even.
-pub fn order_law(levels: &[Option<Level>], start: usize, end: usize)
-    requires line { start ≤ end }
-    requires within { end ≤ length levels.now }
-    ensures is { IsLineOrder levels.now start end (line_order levels.now start end) }
-    ensures only { (other : List ℕ) → IsLineOrder levels.now start end other → other ≡ line_order levels.now start end }
-    ensures places { All (λ p. p < length levels.now) (line_order levels.now start end) }
-{}
 
 fn append_counting<L: Ledger>(
     levels: &[Option<Level>],

@@ -1,5 +1,5 @@
 use Rattle.lines.proofs.Law.{line_order-is, line_order-only, line_order-places}
-use Rattle.lines.proofs.order.order_law.Goals as goal
+use Rattle.lines.proofs.laws.order_law.Goals as goal
 
 pub returns-clause-is : goal.returns-clause-is
 returns-clause-is c = line_order-is c.args.levels.now c.args.start c.args.end c.requires.line
