@@ -18,7 +18,7 @@ pub record Standing : Type 0 where
   pub rows : ℕ
   pub cases : ℕ
 
--- what is kept behind a line that gives no no
+-- what is kept behind a line that is neither malformed nor wrong
 abbrev pub after_line : ClassesLine → Standing → Standing
 after_line Nothing s = s
 after_line (LevelsAre levels) s = record { levels = Some levels; order = s.order; rows = s.rows; cases = s.cases }
@@ -27,7 +27,7 @@ after_line (RowOf text directions) s =
     record { levels = s.levels; order = s.order; rows = min (s.rows + 1) most_counted; cases = min (s.cases + length directions) most_counted }
 after_line (Broken cause) s = s
 
--- this is kept behind these lines, none of which gives a no
+-- this is kept behind these lines, none of which is malformed or wrong
 pub record IsBehind (s : Standing) (lines : List (List ℕ)) : Type 0 where
   pub faultless : first_fault 0 (findings_of lines) ≡ None
   pub levels : s.levels ≡ levels_in_force (reverse (map classes_line lines))
@@ -41,7 +41,7 @@ pub record Judging : Type 0 where
   pub standing : Standing
   pub decided : Option Verdict
 
--- undecided: no line that has ended gives a no
+-- undecided: no line that has ended is malformed or wrong
 pub record IsOpen (cutting : Cutting) (standing : Standing) (bytes : List ℕ) : Type 0 where
   pub cutter : StandsFor cutting bytes
   pub lines : List (List ℕ)
@@ -72,7 +72,7 @@ fault_by s More = None
 fault_by s (Line number text) = fault_at s number text.now
 fault_by s (TooLong number) = Some (Malformed number LineTooLong)
 
--- what is kept behind a step that gives no no
+-- what is kept behind a step that ends no such line
 abbrev pub after_step : Step → Standing → Standing
 after_step More s = s
 after_step (Line number text) s = after_line (classes_line text.now) s

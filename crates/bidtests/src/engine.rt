@@ -16,7 +16,7 @@ use units::class::Class;
 use units::level::{Direction, Level, ParaLevel};
 use units::memory::Memory;
 
-/// The units that a text may have: as many as a line has room for.
+/// The units that a text may have: as many as a line has room for, since an item takes two bytes with the blank before it.
 pub const MOST_UNITS: usize = 32_768;
 
 /// Lays out one text after another in room that was reserved. Contracts see the layout that was made last.
@@ -29,12 +29,13 @@ pub struct ShortEngine {
 impl Model for ShortEngine {
     ghost use Rattle.std.specs.Prelude.{◌≤◌, vec_capacity};
     ghost use Rattle.bidtests.specs.Engines.{Laid};
+    ghost use Rattle.bidtests.specs.declared.engine.TheConstants.{MOST_UNITS};
 
     ghost Value = { Laid };
 
     ghost view = { λ s. record { levels = s.levels.items; order = s.order.items } };
 
-    ghost invariant = { λ s. (32768 ≤ vec_capacity s.levels) × (32768 ≤ vec_capacity s.order) };
+    ghost invariant = { λ s. (MOST_UNITS ≤ vec_capacity s.levels) × (MOST_UNITS ≤ vec_capacity s.order) };
 }
 
 // The first strong class (P2).

@@ -2,6 +2,7 @@
 ghost use Rattle.std.specs.Prelude.{◌≡◌, ◌≤◌, ◌++◌, ℕ, List, [], IfOk, IfSome, IsNone, length};
 ghost use Rattle.bidtests.specs.Standing.{Judges, fault_by, after_step, verdict_behind};
 ghost use Rattle.units.specs.LineAnswers.{StepIsShort};
+ghost use Rattle.units.specs.Text.{longest_line};
 ghost use Rattle.bidtests.specs.ClassesFile.{classes_verdict};
 
 use crate::sheet::Sheet;
@@ -46,7 +47,7 @@ fn answer(sheet: &mut Sheet, step: Step<'_>) -> Option<Verdict>
 
 // Judges the line that has begun, if one has.
 fn answer_last(sheet: &mut Sheet, last: Option<(u64, &[u8])>) -> Verdict
-    requires { IfSome last (λ line. length line.1.now ≤ 65536) }
+    requires { IfSome last (λ line. length line.1.now ≤ longest_line) }
     ensures { result ≡ verdict_behind sheet.old last.entry }
 {
     if let Some((number, text)) = last {

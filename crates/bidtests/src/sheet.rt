@@ -1,6 +1,6 @@
 // What a judge knows of a classes file between two lines.
 ghost use Rattle.std.specs.Prelude.{◌≡◌, ◌≤◌, None, Some, IfOk, IsNone, length};
-ghost use Rattle.units.specs.Text.{items_of, each_read, fields_of};
+ghost use Rattle.units.specs.Text.{items_of, each_read, fields_of, longest_line};
 ghost use Rattle.bidtests.specs.ClassesFile.{classes_line, directive as directive_said, levels_directive, order_directive, data_line, level_item, order_item};
 
 use crate::compare::row_fault;
@@ -32,12 +32,13 @@ impl Model for Sheet {
     ghost use Rattle.std.specs.Prelude.{◌≤◌, vec_capacity};
     ghost use Rattle.bidtests.specs.Standing.{Standing};
     ghost use Rattle.bidtests.specs.Readings.{if_read};
+    ghost use Rattle.bidtests.specs.declared.engine.TheConstants.{MOST_UNITS};
 
     ghost Value = { Standing };
 
     ghost view = { λ s. record { levels = if_read s.has_levels s.levels.items; order = if_read s.has_order s.order.items; rows = s.rows; cases = s.cases } };
 
-    ghost invariant = { λ s. (32768 ≤ vec_capacity s.text) × (32768 ≤ vec_capacity s.levels) × (32768 ≤ vec_capacity s.order) };
+    ghost invariant = { λ s. (MOST_UNITS ≤ vec_capacity s.text) × (MOST_UNITS ≤ vec_capacity s.levels) × (MOST_UNITS ≤ vec_capacity s.order) };
 }
 
 fn malformed(number: u64, cause: Cause) -> Option<Verdict>
@@ -73,7 +74,7 @@ impl Sheet {
     }
 
     fn levels(&mut self, number: u64, field: &[u8]) -> Option<Verdict>
-        requires { length field.now ≤ 65536 }
+        requires { length field.now ≤ longest_line }
         ensures fault { result ≡ fault_in self.old number (levels_directive (each_read level_item (items_of field.now))) }
         ensures standing { IsNone result → self.new ≡ after_line (levels_directive (each_read level_item (items_of field.now))) self.old }
     {
@@ -86,7 +87,7 @@ impl Sheet {
     }
 
     fn order(&mut self, number: u64, field: &[u8]) -> Option<Verdict>
-        requires { length field.now ≤ 65536 }
+        requires { length field.now ≤ longest_line }
         ensures fault { result ≡ fault_in self.old number (order_directive (each_read order_item (items_of field.now))) }
         ensures standing { IsNone result → self.new ≡ after_line (order_directive (each_read order_item (items_of field.now))) self.old }
     {
@@ -99,7 +100,7 @@ impl Sheet {
     }
 
     fn directive(&mut self, number: u64, content: &[u8]) -> Option<Verdict>
-        requires { length content.now ≤ 65536 }
+        requires { length content.now ≤ longest_line }
         ensures fault { result ≡ fault_in self.old number (directive_said content.now) }
         ensures standing { IsNone result → self.new ≡ after_line (directive_said content.now) self.old }
     {
@@ -115,7 +116,7 @@ impl Sheet {
     }
 
     fn row(&mut self, number: u64, content: &[u8]) -> Option<Verdict>
-        requires { length content.now ≤ 65536 }
+        requires { length content.now ≤ longest_line }
         ensures fault { result ≡ fault_in self.old number (data_line (fields_of content.now)) }
         ensures standing { IsNone result → self.new ≡ after_line (data_line (fields_of content.now)) self.old }
     {
@@ -141,7 +142,7 @@ impl Sheet {
 
     /// Judges a line by what the lines before it said.
     pub fn line(&mut self, number: u64, line: &[u8]) -> Option<Verdict>
-        requires { length line.now ≤ 65536 }
+        requires { length line.now ≤ longest_line }
         ensures fault { result ≡ fault_at self.old number line.now }
         ensures standing { IsNone result → self.new ≡ after_line (classes_line line.now) self.old }
     {

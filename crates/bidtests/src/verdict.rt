@@ -1,3 +1,5 @@
+//! What a judge answers.
+
 use units::level::Direction;
 
 /// Why a line of a test file is malformed.
@@ -11,7 +13,7 @@ pub enum Cause {
     LevelItem,
     /// An item of an order is no number of 0 to 65,535.
     OrderItem,
-    /// An item of a row is no short name of a class.
+    /// An item of a row is no short name of a class that a row may have: so far L, R, AL and B.
     ClassItem,
     /// The second field of a row is not one digit of 1 to 7.
     BitSet,
