@@ -1,7 +1,7 @@
 // A source judged, and its verdict printed.
-ghost use Rattle.std.specs.Prelude.{◌≡◌, ◌≤◌, ℕ, List, IfOk, IsErr, OnOk};
+ghost use Rattle.std.specs.Prelude.{◌≡◌, ◌≤◌, ℕ, List, IfOk, IfErr, IsErr, OnOk};
 ghost use Rattle.bidtests.specs.ClassesFile.{classes_verdict};
-ghost use Rattle.bidi.specs.Judged.{SaysVerdict};
+ghost use Rattle.bidi.specs.Judged.{EndsJudging, SaysVerdict};
 ghost use Rattle.bidi.specs.VerdictText.{verdict_status};
 
 use crate::fault::Fault;
@@ -34,7 +34,7 @@ pub fn judge_classes<'a, S: ByteSource, W: Write>(
     // No verdict without the whole of the source.
     ensures ended { OnOk result (S.ended source.new) }
     ensures failed { S.failures source.new ≡ 1 → IsErr result }
-    ensures unread { result ≡ Err (Fault.CannotRead name.entry) → S.failures source.new ≡ 1 }
+    ensures fault { IfErr result (EndsJudging (S.failures source.new) (S.ended source.new) name.now) }
 
     ensures verdict { IfOk result (λ status. (given : List ℕ) × S.gives source.old given source.new
         × SaysVerdict (W.contents out.old) (W.contents out.new) (classes_verdict given) status) }

@@ -1,5 +1,6 @@
 // A run of the command.
-ghost use Rattle.std.specs.Prelude.{◌≡◌, ◌≤◌, IfOk};
+ghost use Rattle.std.specs.Prelude.{◌≡◌, ◌≤◌, IfOk, IfErr};
+ghost use Rattle.bidi.specs.FaultText.{fault_status};
 ghost use Rattle.bidi.specs.Judged.{HasJudged};
 
 use crate::command_line::{Request, request_of};
@@ -19,7 +20,9 @@ fn open<'a, F: Files>(
     files: &mut F,
     name: &'a str,
     most: u64,
-) -> Result<F::Source, Fault<'a>> {
+) -> Result<F::Source, Fault<'a>>
+    ensures { IfErr result (λ fault. fault_status fault ≡ 3) }
+{
     match files.source(alloc, name, most) {
         Ok(source) => Ok(source),
         Err(OpenFault::Cannot) => Err(Fault::CannotRead(name)),
@@ -34,7 +37,8 @@ fn perform<'a, F: Files, W: Write>(
     files: &mut F,
     out: &mut W,
 ) -> Result<u8, Fault<'a>>
-    ensures { IfOk result (HasJudged F.Source.ByteSource.gives F.Source.ByteSource.ended (W.contents out.old) (W.contents out.new)) }
+    ensures judged { IfOk result (HasJudged F.Source.ByteSource.gives F.Source.ByteSource.ended (W.contents out.old) (W.contents out.new)) }
+    ensures fault { IfErr result (λ fault. fault_status fault ≡ 3) }
 {
     match request {
         Request::JudgeClasses { file } => {
@@ -51,7 +55,8 @@ fn perform_and_flush<'a, F: Files, W: Write>(
     files: &mut F,
     out: &mut W,
 ) -> Result<u8, Fault<'a>>
-    ensures { IfOk result (HasJudged F.Source.ByteSource.gives F.Source.ByteSource.ended (W.contents out.old) (W.contents out.new)) }
+    ensures judged { IfOk result (HasJudged F.Source.ByteSource.gives F.Source.ByteSource.ended (W.contents out.old) (W.contents out.new)) }
+    ensures fault { IfErr result (λ fault. fault_status fault ≡ 3) }
 {
     let status = perform(alloc, request, files, out)?;
     if out.flush().is_err() {
