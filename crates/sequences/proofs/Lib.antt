@@ -1,6 +1,7 @@
 pub mod Backward
 pub mod Column
 pub mod Filled
+pub mod FilledFrom
 pub mod Fits
 pub mod Forward
 pub mod HeadWalks

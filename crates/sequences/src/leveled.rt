@@ -1,47 +1,57 @@
 ghost use Rattle.std.specs.Prelude.{◌≡◌, ◌<◌, ◌≤◌, IfSome};
-ghost use Rattle.units.specs.Classes.{class_at, is_isolate_initiator};
-ghost use Rattle.units.specs.Runs.{LeveledView, IsLeveled, IsNested, size_of, level_of, matched_pdi};
-ghost use Rattle.sequences.specs.Once.{IsExplicit};
+ghost use Rattle.units.specs.Classes.{class_at, classes_of, is_isolate_initiator};
+ghost use Rattle.units.specs.Paragraphs.{SeparatorOnlyLast};
+ghost use Rattle.units.specs.Runs.{LeveledView, IsLeveled, IsNested, leveled_of, size_of, level_of, matched_pdi};
+ghost use Rattle.units.specs.Isolates.{level_of_para};
+ghost use Rattle.explicit.specs.IsolateMaps.{IsFilledFrom};
+ghost use Rattle.explicit.specs.ExplicitLevels.{HoldsLevels};
 
+use explicit::isolates::IsolateMap;
+use explicit::laws::{explicit_is_leveled, explicit_is_nested};
+use explicit::levels::Explicit;
 use std::marker::Model;
-use units::class::Class;
-use units::level::Level;
-use units::optional_position::OptionalPosition;
+use units::bracket::Unit;
+use units::level::{Level, ParaLevel};
 
-/// A paragraph after X1 to X9: the own class of each position, its level where it remains, the partner of each matched
-/// isolate initiator and PDI, and the paragraph's level.
+/// A paragraph after X1 to X9.
 #[derive(Drop)]
 pub struct Leveled<'a> {
-    classes: &'a [Class],
-    levels: &'a [Option<Level>],
-    partners: &'a [OptionalPosition],
+    para: &'a [Unit],
+    isolates: &'a IsolateMap,
+    explicit: &'a Explicit,
     base: Level,
 }
 
 impl<'a> Model for Leveled<'a> {
+    ghost use Rattle.units.specs.Classes.{classes_of};
+    ghost use Rattle.units.specs.Runs.{LeveledView, leveled_of};
+    ghost use Rattle.sequences.specs.FilledFrom.{AreOfParagraph};
+
     ghost Value = { LeveledView };
 
-    ghost view = { λ t. record { classes = t.classes.now; levels = t.levels.now; partners = t.partners.now; base = t.base } };
+    ghost view = { λ t. leveled_of (classes_of t.para.now) t.base };
 
-    ghost invariant = { λ t. IsExplicit (record { classes = t.classes.now; levels = t.levels.now; partners = t.partners.now; base = t.base }) };
+    ghost invariant = { λ t. AreOfParagraph t.para.now t.isolates.now t.explicit.now t.base };
 }
 
 impl<'a> Leveled<'a> {
-    /// What X1 to X9 have found of a paragraph. The three slices are indexed by its positions.
+    /// The paragraph, of this level, with the isolates and the explicit levels that were found of it.
     pub fn new(
-        classes: &'a [Class],
-        levels: &'a [Option<Level>],
-        partners: &'a [OptionalPosition],
-        base: Level,
+        para: &'a [Unit],
+        isolates: &'a IsolateMap,
+        explicit: &'a Explicit,
+        level: ParaLevel,
     ) -> Self
-        requires { IsExplicit (record { classes = classes.now; levels = levels.now; partners = partners.now; base = base }) }
-        ensures { result ≡ record { classes = classes.now; levels = levels.now; partners = partners.now; base = base } }
+        requires separators { SeparatorOnlyLast para.now }
+        requires isolates { IsFilledFrom isolates.now (classes_of para.now) }
+        requires levels { HoldsLevels explicit.now (classes_of para.now) (level_of_para level) }
+        ensures { result ≡ leveled_of (classes_of para.now) (level_of_para level) }
     {
         Leveled {
-            classes,
-            levels,
-            partners,
-            base,
+            para,
+            isolates,
+            explicit,
+            base: level.level(),
         }
     }
 
@@ -51,7 +61,9 @@ impl<'a> Leveled<'a> {
         ensures leveled { IsLeveled self.now }
         ensures nested { IsNested self.now }
     {
-        self.levels.len()
+        explicit_is_leveled();
+        explicit_is_nested();
+        self.para.len()
     }
 
     /// The paragraph's level.
@@ -67,8 +79,8 @@ impl<'a> Leveled<'a> {
         ensures value { result ≡ level_of self.now p }
         ensures within { IfSome result (λ level. level ≤ 125) }
     {
-        let levels = self.levels;
-        levels[p]
+        let (level, _) = self.explicit.at(p)?;
+        Some(level)
     }
 
     /// Whether the position's own class is LRI, RLI or FSI.
@@ -76,7 +88,8 @@ impl<'a> Leveled<'a> {
         requires { p < size_of self.now }
         ensures { result ≡ is_isolate_initiator (class_at self.now.classes p) }
     {
-        self.classes[p].is_isolate_initiator()
+        let para = self.para;
+        para[p].class.is_isolate_initiator()
     }
 
     /// The PDI that matches the isolate initiator at the position (BD9); none where no initiator stands.
@@ -85,8 +98,9 @@ impl<'a> Leveled<'a> {
         ensures value { result ≡ matched_pdi self.now p }
         ensures later { IfSome result (λ q. (p < q) × (q < size_of self.now)) }
     {
+        explicit_is_leveled();
         if self.is_isolate_initiator(p) {
-            self.partners[p].get()
+            self.isolates.partner(p)
         } else {
             None
         }

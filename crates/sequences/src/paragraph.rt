@@ -1,5 +1,10 @@
 ghost use Rattle.std.specs.Prelude.{◌≡◌, ℕ, ◌+◌, ◌*◌, ◌<◌, ◌≤◌, [], Some, map, take, length, slice_get, vec_len, vec_capacity, IfOk, sum_by};
-ghost use Rattle.units.specs.Runs.{size_of, successor, sequences_of};
+ghost use Rattle.units.specs.Classes.{classes_of};
+ghost use Rattle.units.specs.Isolates.{level_of_para};
+ghost use Rattle.units.specs.Paragraphs.{SeparatorOnlyLast};
+ghost use Rattle.units.specs.Runs.{leveled_of, size_of, successor, sequences_of};
+ghost use Rattle.explicit.specs.ExplicitLevels.{HoldsLevels};
+ghost use Rattle.explicit.specs.IsolateMaps.{IsFilledFrom};
 ghost use Rattle.sequences.specs.Links.{link_at};
 ghost use Rattle.sequences.specs.View.{SequencesView};
 ghost use Rattle.sequences.specs.Heads.{view_of, heads_of, column_of, AreSuccessors};
@@ -10,10 +15,14 @@ use crate::heads::{Head, fill_heads, mark};
 use crate::leveled::Leveled;
 use crate::linking::link;
 use crate::sequence::Sequence;
+use explicit::isolates::IsolateMap;
+use explicit::levels::Explicit;
 use std::alloc::Global;
 use std::marker::Model;
 use std::sync::ledger::Ledger;
+use units::bracket::Unit;
 use units::class::Class;
+use units::level::ParaLevel;
 use units::memory::Memory;
 use units::optional_position::OptionalPosition;
 use units::steps::Steps;
@@ -89,7 +98,7 @@ impl Sequences {
     }
 
     /// Finds the sequences of a paragraph, which has no more positions than there is room for.
-    pub fn fill<L: Ledger>(&mut self, t: &Leveled, steps: &mut Steps<L>)
+    fn fill_from<L: Ledger>(&mut self, t: &Leveled, steps: &mut Steps<L>)
         requires { size_of t.now ≤ self.old.room }
         ensures all { self.new.all ≡ sequences_of t.now }
         ensures room { self.new.room ≡ self.old.room }
@@ -108,6 +117,30 @@ impl Sequences {
             steps,
         );
         self.size = t.len();
+    }
+
+    /// Finds the sequences of a paragraph of this level, from its isolates (BD9) and its explicit levels (X1 to X9).
+    /// There is room for it. What was found of an earlier one is gone.
+    pub fn fill<L: Ledger>(
+        &mut self,
+        para: &[Unit],
+        isolates: &IsolateMap,
+        explicit: &Explicit,
+        level: ParaLevel,
+        steps: &mut Steps<L>,
+    )
+        requires room { length para.now ≤ self.old.room }
+        requires separators { SeparatorOnlyLast para.now }
+        requires isolates { IsFilledFrom isolates.now (classes_of para.now) }
+        requires levels { HoldsLevels explicit.now (classes_of para.now) (level_of_para level) }
+        ensures all { self.new.all ≡ sequences_of (leveled_of (classes_of para.now) (level_of_para level)) }
+        ensures room { self.new.room ≡ self.old.room }
+        ensures once { HoldsOnce (leveled_of (classes_of para.now) (level_of_para level)) self.new.all }
+        ensures fit { sum_by (λ s. length s.positions) self.new.all ≤ length para.now }
+        ensures at_least { steps.old + length para.now ≤ steps.new }
+        ensures at_most { steps.new ≤ steps.old + 20 * (length para.now + 1) }
+    {
+        self.fill_from(&Leveled::new(para, isolates, explicit, level), steps);
     }
 
     /// How many sequences there are.

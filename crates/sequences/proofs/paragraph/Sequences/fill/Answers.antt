@@ -1,62 +1,21 @@
-use Rattle.std.proofs.Common.{arith, ◌≡◌, ◌≤◌, ◌∙◌, ap, sym, subst, length, take, List}
-use Rattle.std.specs.Prelude.{sum_by}
-use Rattle.std.proofs.lemmas.List.{length-take-le}
-use Rattle.units.specs.Runs.{SequenceView, size_of}
-use Rattle.sequences.specs.View.{SequencesView}
-use Rattle.sequences.specs.Once.{HoldsOnce}
-use Rattle.sequences.proofs.Fits.{sequences_fit}
-use Rattle.sequences.proofs.Once.{sequences_hold_once}
-use Rattle.sequences.proofs.Filled.{put_back, links_are}
-use Rattle.sequences.proofs.Column.{column_fits, views_of_heads, heads_stand}
+use Rattle.std.proofs.Common.{ap, arith}
+use Rattle.units.specs.Isolates.{level_of_para}
+use Rattle.units.specs.Runs.{size_of}
+use Rattle.sequences.proofs.FilledFrom.{size-of_paragraph}
 use Rattle.sequences.proofs.paragraph.Sequences.fill.Goals as goal
 
-pub invariant_of-self : goal.invariant_of-self
-invariant_of-self g c =
-    let t = c.args.t.now in
-    let h = c.len-self-inside.ensures.leveled in
-    let links = c.fill_columns.new.links in
-    let old = c.self.inside in
-    let l : length links ≡ old.links.len = c.fill_columns.auto.links ∙ c.deref_mut.ensures.len in
-    let e : length c.fill_columns.new.ends ≡ old.ends.len = c.fill_columns.auto.ends ∙ c.deref_mut-2.ensures.len in
-    let j : length c.fill_columns.new.joined ≡ old.joined.len = c.fill_columns.auto.joined ∙ c.deref_mut-3.ensures.len in
-    let l' : length old.links.items ≡ old.links.len = sym (ap length c.deref_mut.ensures.value) ∙ c.deref_mut.ensures.len in
-    let e' : length old.ends.items ≡ old.ends.len = sym (ap length c.deref_mut-2.ensures.value) ∙ c.deref_mut-2.ensures.len in
-    let j' : length old.joined.items ≡ old.joined.len = sym (ap length c.deref_mut-3.ensures.value) ∙ c.deref_mut-3.ensures.len in
-    let fit : size_of t ≤ length links = omega (arith, c.requires, ap (λ (s : SequencesView). s.room) c.self.view_is) in
-    let short : length (take (size_of t) links) ≡ size_of t = length-take-le (size_of t) links fit in
-    rw (
-      put_back _ links old.links.items l,
-      put_back _ c.fill_columns.new.ends old.ends.items e,
-      put_back _ c.fill_columns.new.joined old.joined.items j,
-      c.fill_columns.ensures.heads,
-      c.fill_columns.ensures.column,
-      c.len-self-inside.ensures.value,
-    ) (record {
-      small = omega (arith, c.self.invariant.small);
-      ends_fit = omega (arith, c.self.invariant.ends_fit);
-      joined_fit = omega (arith, c.self.invariant.joined_fit);
-      heads_fit = omega (arith, c.self.invariant.heads_fit, c.fill_columns.ensures.heads_capacity);
-      column_fit = omega (arith, c.self.invariant.column_fit, c.fill_columns.ensures.column_capacity);
-      in_use = fit;
-      headed = heads_stand t h (take (size_of t) links) short (links_are t (take (size_of t) links) short c.fill_columns.ensures.links);
-    })
-
-pub returns-clause-all : goal.returns-clause-all
-returns-clause-all g c =
-    rw (c.fill_columns.ensures.heads, c.fill_columns.ensures.column, c.len-self-inside.ensures.value) (views_of_heads c.args.t.now)
-
-pub returns-clause-once : goal.returns-clause-once
-returns-clause-once g c =
-    let t = c.args.t.now in
-    let P : List SequenceView → Type 0 = λ all. HoldsOnce t all in
-    subst P (sym (returns-clause-all g c)) (sequences_hold_once t c.len-self-inside.ensures.leveled c.len-self-inside.ensures.nested)
+pub fill_from-requires : goal.fill_from-requires
+fill_from-requires g c =
+    omega (arith, c.requires.room, ap size_of c.new.ensures, size-of_paragraph c.args.para.now (level_of_para c.args.level))
 
 pub returns-clause-fit : goal.returns-clause-fit
 returns-clause-fit g c =
-    let t = c.args.t.now in
-    let P : List SequenceView → Type 0 = λ all. sum_by (λ (s : SequenceView). length s.positions) all ≤ size_of t in
-    subst P (sym (returns-clause-all g c)) (sequences_fit t c.len-self-inside.ensures.leveled c.len-self-inside.ensures.nested)
+    omega (arith, c.fill_from.ensures.fit, ap size_of c.new.ensures, size-of_paragraph c.args.para.now (level_of_para c.args.level))
+
+pub returns-clause-at_least : goal.returns-clause-at_least
+returns-clause-at_least g c =
+    omega (arith, c.fill_from.ensures.at_least, ap size_of c.new.ensures, size-of_paragraph c.args.para.now (level_of_para c.args.level))
 
 pub returns-clause-at_most : goal.returns-clause-at_most
 returns-clause-at_most g c =
-    omega (arith, c.fill_columns.ensures.steps, column_fits c.args.t.now c.len-self-inside.ensures.leveled c.len-self-inside.ensures.nested)
+    omega (arith, c.fill_from.ensures.at_most, ap size_of c.new.ensures, size-of_paragraph c.args.para.now (level_of_para c.args.level))

@@ -1,0 +1,52 @@
+-- What the isolates and the explicit levels of a paragraph say of it, position by position.
+use Rattle.std.specs.Prelude.{Option, None, ℕ, true, ◌<◌, ◌≡◌, List, length, IfSome, slice_index_or}
+use Rattle.std.specs.Option.{option_map}
+use Rattle.std.proofs.Common.{arith, ap, sym, ◌∙◌, subst}
+use Rattle.std.proofs.lemmas.Bool.{cond-true}
+use Rattle.std.proofs.lemmas.List.{length-map}
+use Rattle.units.specs.Classes.{class_at, classes_of, is_isolate_initiator}
+use Rattle.units.specs.Isolates.{partner_of}
+use Rattle.units.specs.Runs.{LeveledView, IsLeveled, leveled_of, size_of, level_of, matched_pdi}
+use Rattle.units.specs.declared.bracket.Unit.{Unit as BidiUnit}
+use Rattle.units.specs.declared.class.Class.{Class}
+use Rattle.explicit.specs.IsolateMaps.{Isolates}
+use Rattle.explicit.proofs.Leveled.{get_or-of_positions, level-read, size-is}
+use Rattle.sequences.specs.FilledFrom.{AreOfParagraph}
+
+pub length-classes_of : (units : List BidiUnit) → length (classes_of units) ≡ length units
+length-classes_of units = length-map units (λ (u : BidiUnit). u.class)
+
+-- the paragraph has as many positions as units
+pub size-of_paragraph : (units : List BidiUnit) (para : ℕ) → size_of (leveled_of (classes_of units) para) ≡ length units
+size-of_paragraph units para = size-is (classes_of units) para ∙ length-classes_of units
+
+module _ {units : List BidiUnit} {isolates : Isolates} {places : List (Option (ℕ × Class))} {base : ℕ} {t : LeveledView}
+    (a : AreOfParagraph units isolates places base) (e : leveled_of (classes_of units) base ≡ t) (p : ℕ) (h : p < size_of t) where
+  pub within_classes : p < length (classes_of units)
+  within_classes = omega (arith, size-is (classes_of units) base, ap size_of e)
+
+  pub within_units : p < length units
+  within_units = omega (arith, within_classes, length-classes_of units)
+
+  pub within_places : p < length places
+  within_places = omega (arith, within_classes, a.levels.enough)
+
+  pub within_isolates : p < length isolates.partners
+  within_isolates = omega (arith, within_classes, a.matched.matched.enough)
+
+  -- a position's level is that of its place
+  pub level-place : level_of t p ≡ option_map (λ place. place.0) (slice_index_or places p None)
+  level-place =
+      ap (λ (v : LeveledView). level_of v p) (sym e)
+      ∙ level-read (classes_of units) base p within_classes
+      ∙ ap (option_map (λ place. place.0)) (sym (a.levels.at p within_classes))
+
+  -- the matching PDI of an initiator is its partner
+  pub matched-partner : is_isolate_initiator (class_at t.classes p) ≡ true → matched_pdi t p ≡ partner_of (classes_of units) p
+  matched-partner i =
+      cond-true _ _ _ i
+      ∙ ap (λ (v : LeveledView). slice_index_or v.partners p None) (sym e)
+      ∙ get_or-of_positions (classes_of units) (partner_of (classes_of units)) p None within_classes
+
+  pub leveled_later : IsLeveled (leveled_of (classes_of units) base) → IfSome (matched_pdi t p) (λ q. (p < q) × (q < size_of t))
+  leveled_later l = let P : LeveledView → Type 0 = λ v. IfSome (matched_pdi v p) (λ q. (p < q) × (q < size_of v)) in subst P e (l.later p)
