@@ -15,6 +15,7 @@ pub mod Pairing
 pub mod Passes
 pub mod Positions
 pub mod Raising
+pub mod Resolved
 pub mod Scan
 pub mod Separators
 pub mod Settles

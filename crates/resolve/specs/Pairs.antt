@@ -35,3 +35,10 @@ pub record HasRoomForPairs (closers : List (Option ℕ)) (stack : List Opener) :
 abbrev pub MarksAreOwn : List ℕ → List BidiUnit → List Class → Type 0
 MarksAreOwn ps us before =
     (p : ℕ) → Contains ps p → is_nonspacing (class_at before p) ≡ true → is_nonspacing (class_at (classes_of us) p) ≡ true
+
+-- the pairs were filled from the sequence at these positions of some paragraph, whose marks before W1 are marks of their own
+pub record IsFilledFor (ps : List ℕ) (before cs : List Class) (table : List (Option ℕ)) : Type 0 where
+  pub units : List BidiUnit
+  pub enough : length units ≡ length cs
+  pub pairs : HoldsPairs ps units cs table
+  pub marks : MarksAreOwn ps units before

@@ -10,3 +10,4 @@ pub mod pairs;
 mod rules;
 mod runs;
 pub mod weak;
+pub mod whole;

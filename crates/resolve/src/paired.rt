@@ -5,7 +5,7 @@ ghost use Rattle.units.specs.Classes.{classes_at, is_nonspacing};
 ghost use Rattle.units.specs.Layout.{after_brackets};
 ghost use Rattle.units.specs.declared.bracket.Unit.{Unit as BidiUnit};
 ghost use Rattle.sequences.specs.Links.{ArePositions};
-ghost use Rattle.resolve.specs.Pairs.{HoldsPairs, MarksAreOwn};
+ghost use Rattle.resolve.specs.Pairs.{HoldsPairs, IsFilledFor};
 ghost use Rattle.resolve.specs.PairCosts.{marks_after, cost_of_pair};
 ghost use Rattle.resolve.specs.Rewritten.{Rewrites};
 
@@ -201,14 +201,12 @@ pub fn paired<L: Ledger>(
     classes: &mut [Class],
     steps: &mut Steps<L>,
 )
-    ghost para: { List BidiUnit }
-    requires units { length para ≡ s.now.extent }
     requires before { length before.now ≡ s.now.extent }
     requires classes { length classes.old ≡ s.now.extent }
     requires room { s.now.extent ≤ length pairs.now }
-    requires marks { MarksAreOwn s.now.positions para before.now }
-    requires pairs { HoldsPairs s.now.positions para classes.old pairs.now }
-    ensures classes { Rewrites (after_brackets s.now para (classes_at before.now s.now.positions)) s.now.positions classes.old classes.new }
+    requires filled { IsFilledFor s.now.positions before.now classes.old pairs.now }
+    ensures classes { (para : List BidiUnit) → HoldsPairs s.now.positions para classes.old pairs.now
+        → Rewrites (after_brackets s.now para (classes_at before.now s.now.positions)) s.now.positions classes.old classes.new }
     ensures at_least { steps.old ≤ steps.new }
     ensures at_most { steps.new ≤ steps.old + 150 * length s.now.positions }
 {

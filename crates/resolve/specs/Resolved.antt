@@ -1,0 +1,17 @@
+-- The resolved levels of a sequence in its paragraph (W1 to I2).
+use Rattle.std.specs.Prelude.{Option, Some, ℕ, ◌<◌, ◌≡◌, List, length, Contains, slice_index}
+use Rattle.units.specs.Classes.{classes_at}
+use Rattle.units.specs.Layout.{levels_of_sequence}
+use Rattle.units.specs.Runs.{SequenceView}
+use Rattle.units.specs.declared.bracket.Unit.{Unit as BidiUnit}
+use Rattle.units.specs.declared.class.Class.{Class}
+use Rattle.resolve.specs.Raised.{resolved_at}
+
+-- each position of the sequence has its resolved level, by the paragraph's units and its classes before W1
+abbrev pub HasLevels : SequenceView → List BidiUnit → List Class → List (Option ℕ) → Type 0
+HasLevels s us before levels =
+    (k : ℕ) → k < length s.positions → resolved_at levels (slice_index s.positions k) ≡ Some (slice_index (levels_of_sequence s us (classes_at before s.positions)) k)
+
+-- nothing changes at a position that is none of these
+abbrev pub KeepsOtherLevels : List ℕ → List (Option ℕ) → List (Option ℕ) → Type 0
+KeepsOtherLevels ps old new = (p : ℕ) → (Contains ps p → ⊥) → resolved_at new p ≡ resolved_at old p
