@@ -1,8 +1,8 @@
 -- Explicit levels from the initiators that are open.
-use Rattle.std.proofs.Common.{◌≡◌, ℕ, zero, suc, ◌+◌, ◌<◌, ◌≤◌, Bool, true, List, [], ◌∷◌, ◌++◌, length, arith, refl, sym, ap, subst, ◌∙◌, inl, inr, zero-add, append-nil, ◌^◌, reverse}
-use Rattle.std.proofs.lemmas.List.{length-map, reverse-append}
+use Rattle.std.proofs.Common.{◌≡◌, ℕ, zero, suc, ◌+◌, ◌<◌, ◌≤◌, Bool, true, List, [], ◌∷◌, ◌++◌, length, arith, refl, sym, ap, subst, ◌∙◌, inl, inr, zero-add, append-nil, get_or, set, Option, ◌^◌, reverse}
+use Rattle.std.proofs.lemmas.List.{length-map, reverse-append, get_or-set_same, get_or-set_other}
 use Rattle.std.specs.Prelude.{None, filter, fold}
-use Rattle.std.proofs.lemmas.Bool.{cases_Bool}
+use Rattle.std.proofs.lemmas.Bool.{cases_Bool, cases_eq}
 use Rattle.std.proofs.lemmas.List.Elements.{filter-append}
 use Rattle.units.specs.Positions.{positions_from}
 use Rattle.units.specs.Classes.{class_at, classes_of, is_pdi, is_pdf}
@@ -94,3 +94,11 @@ chain-reversed cs p = chain-filtered (holds cs p) p
 -- what the pass keeps at p, after what the class there closes
 pub kept-at : (para : List Unit) (base p : ℕ) (class : Class) (n : StatusStack) → base ≤ 1 → p < length para → p < 2 ^ 63 → class ≡ class_at (classes_of para) p → Represents (classes_of para) base (left_open (classes_of para) class (open_before (classes_of para) p)) n → IsKept n
 kept-at para base p class n b l s e r = is-kept para base p n b s (left-is (classes_of para) base p class n (omega (arith, length-map para (λ unit. unit.class))) e r)
+
+-- the places that are found, one more
+pub places-more : (cs : List Class) (base p : ℕ) (places : List (Option (ℕ × Class))) (place : Option (ℕ × Class)) → p < length places → place ≡ explicit_at cs base p → ((k : ℕ) → k < p → get_or places k None ≡ explicit_at cs base k) → (k : ℕ) → k < p + 1 → get_or (set places p place) k None ≡ explicit_at cs base k
+places-more cs base p places place room found below k h =
+    elim (cases_eq k p) [
+      | inl here ↦ rw here (get_or-set_same places p place None room ∙ found)
+      | inr other ↦ get_or-set_other places p k place None other ∙ below k (omega arith)
+    ]

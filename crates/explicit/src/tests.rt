@@ -167,6 +167,28 @@ fn first_strong_isolate(rt: HostRuntime) -> Result<(), Fail> {
     Ok(())
 }
 
+#[test]
+fn first_strong_isolate_skips_isolates(rt: HostRuntime) -> Result<(), Fail> {
+    let classes = [
+        Class::FSI,
+        Class::FSI,
+        Class::R,
+        Class::PDI,
+        Class::PDI,
+        Class::L,
+    ];
+    let found = found(rt.alloc(), &classes, Direction::Auto)?;
+    let levels = [0, 2, 3, 2, 0, 0];
+    assert_eq!(rt; found.level, ParaLevel::Zero);
+    for p in 0..6 {
+        assert_eq!(rt;
+            numbered(found.explicit.at(p)),
+            Some((levels[p], classes[p]))
+        );
+    }
+    Ok(())
+}
+
 // What is found at the last of 62 times RLE LRE and these classes, from left to right.
 fn last_place(alloc: Global, tail: &[Class]) -> Result<Option<(u8, Class)>, Memory>
     requires { length tail.now < 100 }

@@ -1,12 +1,12 @@
-use Rattle.std.proofs.Common.{arith, ◌≡◌, ◌<◌, ℕ, List, length, sym, ap, subst, ◌∙◌, inl, inr, get_or-set_other, get_or-set_same}
-use Rattle.std.proofs.lemmas.Bool.{cases_eq}
+use Rattle.std.proofs.Common.{arith, ◌≡◌, ◌<◌, ℕ, List, length, sym, ap, subst, ◌∙◌}
 use Rattle.std.proofs.lemmas.List.{length-map}
 use Rattle.units.specs.Classes.{classes_of, is_isolate_initiator}
+use Rattle.units.specs.Layout.{no_unit}
 use Rattle.units.specs.declared.class.Class.{Class}
 use Rattle.explicit.specs.StatusStacks.{Represents, placed, state_within}
 use Rattle.explicit.proofs.Open.{holders}
 use Rattle.explicit.proofs.Roles.{class_read}
-use Rattle.explicit.proofs.Places.{open_before, left-is, open_before-next, explicit-placed, kept-at}
+use Rattle.explicit.proofs.Places.{open_before, left-is, open_before-next, explicit-placed, kept-at, places-more}
 use Rattle.explicit.proofs.levels.find_places.Goals as goal
 
 pub loop-p-init : goal.loop-p-init
@@ -18,13 +18,13 @@ loop-p-init g c = record {
 }
 
 pub place-requires : goal.place-requires
-place-requires g c = kept-at c.args.para.now c.args.base c.loop-p.p _ c.close.new.self c.requires.base c.loop-p-test.true (omega arith) (sym (class_read c.args.para.now c.loop-p.p _ c.loop-p-test.true)) (c.close.ensures.closed (classes_of c.args.para.now) c.args.base (open_before (classes_of c.args.para.now) c.loop-p.p) c.loop-p.invariant.keeps)
+place-requires g c = kept-at c.args.para.now c.args.base c.loop-p.p _ c.close.new.self c.requires.base c.loop-p-test.true (omega arith) (sym (class_read c.args.para.now c.loop-p.p no_unit c.loop-p-test.true)) (c.close.ensures.closed (classes_of c.args.para.now) c.args.base (open_before (classes_of c.args.para.now) c.loop-p.p) c.loop-p.invariant.keeps)
 
 pub is_right_to_left-requires : goal.is_right_to_left-requires
 is_right_to_left-requires g c = let n : length (classes_of c.args.para.now) ≡ length c.args.para.now = length-map _ _ in omega (arith, n, c.requires.filled.matched.enough)
 
 pub open-requires : goal.open-requires
-open-requires g c = kept-at c.args.para.now c.args.base c.loop-p.p _ c.close.new.self c.requires.base c.loop-p-test.true (omega arith) (sym (class_read c.args.para.now c.loop-p.p _ c.loop-p-test.true)) (c.close.ensures.closed (classes_of c.args.para.now) c.args.base (open_before (classes_of c.args.para.now) c.loop-p.p) c.loop-p.invariant.keeps)
+open-requires g c = kept-at c.args.para.now c.args.base c.loop-p.p _ c.close.new.self c.requires.base c.loop-p-test.true (omega arith) (sym (class_read c.args.para.now c.loop-p.p no_unit c.loop-p-test.true)) (c.close.ensures.closed (classes_of c.args.para.now) c.args.base (open_before (classes_of c.args.para.now) c.loop-p.p) c.loop-p.invariant.keeps)
 
 pub loop-p-preserved : goal.loop-p-preserved
 loop-p-preserved g c =
@@ -33,17 +33,15 @@ loop-p-preserved g c =
     let n : length cs ≡ length c.args.para.now = length-map _ _ in
     let l : p < length cs = omega (arith, n) in
     let short : p < length c.loop-p.places = omega (arith, c.requires.room) in
-    let e = sym (class_read c.args.para.now p _ c.loop-p-test.true) in
+    let e = sym (class_read c.args.para.now p no_unit c.loop-p-test.true) in
     let r = left-is cs c.args.base p _ c.close.new.self l e (c.close.ensures.closed cs c.args.base (open_before cs p) c.loop-p.invariant.keeps) in
     let o = c.asks_odd.ensures cs p e (λ f. c.is_right_to_left.ensures cs c.requires.filled l (ap is_isolate_initiator (sym e ∙ f))) in
     let k = c.open.ensures.opened cs c.args.base (holders cs p) p e o r in
     let P : List ℕ → Type 0 = λ qs. Represents cs c.args.base qs c.open.new.self in
+    let found = c.place.ensures cs (holders cs p) r ∙ ap (λ x. placed (state_within cs c.args.base (holders cs p)) c.args.base x) e ∙ explicit-placed cs c.args.base p in
     record {
       keeps = subst P (open_before-next cs p) k;
-      filled = λ q m. elim (cases_eq q p) [
-        | inl same ↦ rw same (rw get_or-set_same (c.place.ensures cs (holders cs p) r ∙ ap (λ x. placed (state_within cs c.args.base (holders cs p)) c.args.base x) e ∙ explicit-placed cs c.args.base p))
-        | inr other ↦ rw get_or-set_other (c.loop-p.invariant.filled q (omega arith))
-      ];
+      filled = places-more cs c.args.base p c.loop-p.places c.place.result short found c.loop-p.invariant.filled;
       least = omega (arith, c.close.ensures.least_steps, c.loop-p.invariant.least);
       most = omega (arith, c.close.ensures.most_steps, c.open.ensures.size, c.loop-p.invariant.most);
     }
