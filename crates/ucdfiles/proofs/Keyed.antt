@@ -1,28 +1,23 @@
 -- Brackets with keys: one more, and the table of a faultless file.
-use Rattle.std.proofs.Common.{◌≡◌, ◌≤◌, ◌<◌, ◌↔◌, ℕ, Bool, true, false, Option, None, Some, Result, Ok, Err, List, [], ◌∷◌, ◌++◌, length, map, get_or, refl, sym, ap, subst, ◌∙◌, arith, ◌⊎◌, inl, inr}
-use Rattle.std.specs.Prelude.{nat_lt, if◌then◌else◌}
+use Rattle.std.proofs.Common.{◌≡◌, ◌≤◌, ◌↔◌, ℕ, Bool, true, false, Option, None, Some, List, [], ◌∷◌, ◌++◌, map, refl, sym, ap, subst, ◌∙◌, ◌⊎◌, inl, inr}
 use Rattle.std.specs.List.{find}
 use Rattle.std.specs.Option.{option_map, unwrap_or}
-use Rattle.std.proofs.lemmas.List.{map-append, length-map, get_or-map}
+use Rattle.std.proofs.lemmas.List.{map-append}
 use Rattle.std.proofs.lemmas.List.Elements.{All-push, All-head, All-tail}
 use Rattle.unicode_normalization.specs.Forms.{nfd}
-use Rattle.units.specs.Text.{lines_of, longest_line, content_of}
+use Rattle.units.specs.Text.{lines_of}
 use Rattle.units.specs.declared.bracket.Bracket.{Bracket}
 use Rattle.units.specs.declared.bracket.Bracket.TheVariants.{No}
 use Rattle.units.specs.declared.bracket.Key.{Key}
-use Rattle.ucdfiles.specs.declared.fault.Fault.{Fault}
-use Rattle.ucdfiles.specs.declared.fault.Fault.TheVariants.{Twice, LineTooLong}
 use Rattle.ucdfiles.specs.declared.span.Span.{Span}
-use Rattle.ucdfiles.specs.declared.span.FileLine.{FileLine}
-use Rattle.ucdfiles.specs.declared.span.FileLine.TheVariants.{Silent, Data, Default, Faulty}
 use Rattle.ucdfiles.specs.declared.sided_bracket.SidedBracket.{SidedBracket}
-use Rattle.ucdfiles.specs.declared.sided_bracket.Side.TheVariants.{Open}
 use Rattle.ucdfiles.specs.Faults.{first_fault}
-use Rattle.ucdfiles.specs.Spans.{holds, value_by, value_in, IsRising}
-use Rattle.ucdfiles.specs.Statements.{Stated, Stands, defaults_of, value_of}
-use Rattle.ucdfiles.specs.Keys.{number_in, IsNumbering, Keeps, key_in, keyed_span, IsNumbered, AreNumbered, AreKeyed}
-use Rattle.ucdfiles.specs.PairFiles.{pair_line_says, content_says, says, bracket_in, bracket_fault, bracket_file_fault, bracket_of, bracket_by, bracket_with, IsEquivalent, IsKeyed, StatesBrackets}
-use Rattle.ucdfiles.proofs.Stating.{value_in-stands}
+use Rattle.ucdfiles.specs.Spans.{holds, value_by}
+use Rattle.ucdfiles.specs.Statements.{Stated, Stands}
+use Rattle.ucdfiles.specs.Keys.{number_in, IsNumbering, Keeps, key_in, keyed_value, keyed_span, IsNumbered, AreNumbered, AreKeyed}
+use Rattle.ucdfiles.specs.PairFiles.{pair_line_says, bracket_in, bracket_fault, bracket_file_fault, bracket_of, bracket_by, bracket_with, IsEquivalent, IsKeyed, StatesBrackets}
+use Rattle.ucdfiles.proofs.Rising.{find-revalued}
+use Rattle.ucdfiles.proofs.PairValues.{value_of-pairs}
 
 known : (b : Bool) → (b ≡ true) ⊎ (b ≡ false)
 known true = inl refl
@@ -59,13 +54,6 @@ keyed-more old new spans span brackets n h numbering keeps is =
       keyed = rw (front, map-append, is) refl;
     }
 
-find-keyed : (key : ℕ → Key) (c : ℕ) (spans : List (Span SidedBracket)) → find (holds c) (map (keyed_span key) spans) ≡ option_map (keyed_span key) (find (holds c) spans)
-find-keyed key c [] = refl
-find-keyed key c (s ∷ spans) = elim (known (holds c s)) [
-  | inl held ↦ rw held refl
-  | inr other ↦ rw (other, find-keyed key c spans) refl
-]
-
 find-numbered : (numbers : List (List ℕ × ℕ)) (c : ℕ) (spans : List (Span SidedBracket)) (stated : SidedBracket) → AreNumbered numbers spans
     → value_by (find (holds c) spans) None ≡ Some stated → IsNumbered numbers stated.keyed_by
 find-numbered numbers c [] stated are is = absurd (let bad : ⊥ = cc in bad)
@@ -88,45 +76,6 @@ keys-equal numbers a b numbering ha hb = (
       numbering.apart (nfd (a ∷ [])) (nfd (b ∷ [])) ha.0 ha.1 (hb.1 ∙ ap (λ n. Some n) (sym n_same)),
   λ same. ap (λ d. record { 0 = unwrap_or (number_in numbers d) 0 }) same,
 )
-
--- a line of pairs is no default line
-abbrev IsNoDefault : {V : Type 0} → FileLine V → Type 0
-IsNoDefault Silent = Unit {0}
-IsNoDefault (Data span) = Unit {0}
-IsNoDefault (Default span) = ⊥
-IsNoDefault (Faulty fault) = Unit {0}
-
-module _ {V : Type 0} (read : List (List ℕ) → Result (Span V) Fault) where
-  says-data : (r : Result (Span V) Fault) → IsNoDefault (says r)
-  says-data (Ok span) = tt
-  says-data (Err fault) = tt
-
-  content-data : (content : List ℕ) → IsNoDefault (content_says read content)
-  content-data [] = tt
-  content-data (b ∷ bs) = says-data _
-
-  line-data : (line : List ℕ) → IsNoDefault (pair_line_says read line)
-  unfolding pair_line_says
-  line-data line = elim (nat_lt longest_line (length line)) as (λ t. IsNoDefault (if t then Faulty LineTooLong else content_says read (content_of line))) [
-    | true ↦ tt
-    | false ↦ content-data (content_of line)
-  ]
-
-  defaults_of-plain : (line : FileLine V) (lines : List (FileLine V)) → IsNoDefault line → defaults_of (line ∷ lines) ≡ defaults_of lines
-  defaults_of-plain Silent lines is = refl
-  defaults_of-plain (Data span) lines is = refl
-  defaults_of-plain (Default span) lines is = absurd is
-  defaults_of-plain (Faulty fault) lines is = refl
-
-  defaults_of-pairs : (lines : List (List ℕ)) → defaults_of (map (pair_line_says read) lines) ≡ []
-  defaults_of-pairs [] = refl
-  defaults_of-pairs (line ∷ lines) = defaults_of-plain (pair_line_says read line) (map (pair_line_says read) lines) (line-data line) ∙ defaults_of-pairs lines
-
-  -- so the data lines alone state the values
-  pub value_of-pairs : (stated : Stated V) (bytes : List ℕ) (c : ℕ) → Stands (pair_line_says read) stated (lines_of bytes) → value_of (pair_line_says read) bytes c ≡ value_by (find (holds c) stated.data_lines) None
-  value_of-pairs stated bytes c stands =
-      let none : stated.default_lines ≡ [] = stands.defaults ∙ defaults_of-pairs (lines_of bytes) in
-      sym (value_in-stands (pair_line_says read) Twice stated (lines_of bytes) c stands) ∙ ap (λ ds. value_in stated.data_lines ds c) none
 
 bracket_by-keyed : (key : ℕ → Key) (o : Option (Span SidedBracket)) → unwrap_or (value_by (option_map (keyed_span key) o) None) No ≡ bracket_by key (value_by o None)
 bracket_by-keyed key None = refl
@@ -151,20 +100,6 @@ module _ (bytes : List ℕ) (stated : Stated SidedBracket) (stands : Stands (pai
     keys = λ a b ha hb. keys-equal keyed.numbers a b keyed.numbering (is_numbered a ha) (is_numbered b hb);
     stated = λ c within.
         looks c within ∙ ap (λ bs. unwrap_or (value_by (find (holds c) bs) None) No) keyed.keyed
-        ∙ ap (λ o. unwrap_or (value_by o None) No) (find-keyed (key_in keyed.numbers) c stated.data_lines)
+        ∙ ap (λ o. unwrap_or (value_by o None) No) (find-revalued (keyed_value (key_in keyed.numbers)) c stated.data_lines)
         ∙ bracket_by-keyed (key_in keyed.numbers) (find (holds c) stated.data_lines) ∙ ap (bracket_by (key_in keyed.numbers)) (sym (bracket_of-data c));
   }
-
--- brackets stand where their spans do
-pub rising-keyed : (key : ℕ → Key) (spans : List (Span SidedBracket)) → IsRising spans → IsRising (map (keyed_span key) spans)
-rising-keyed key spans rising =
-    let size : length (map (keyed_span key) spans) ≡ length spans = length-map spans (keyed_span key) in
-    let none : Span SidedBracket = record { first = 0; last = 0; value = record { side = Open; keyed_by = 0 } } in
-    let at = λ (k : ℕ) (d : Span Bracket) (lt : k < length (map (keyed_span key) spans)). (
-    let e : get_or (map (keyed_span key) spans) k d ≡ keyed_span key (get_or spans k none) = get_or-map (keyed_span key) spans k none d (omega (arith, size)) in e) in
-    let first = λ (s : Span Bracket). s.first in
-    let last = λ (s : Span Bracket). s.last in
-    record {
-      each = λ k d lt. omega (arith, size, ap first (at k d lt), ap last (at k d lt), rising.each k none (omega (arith, size)));
-      apart = λ i j d less lt. omega (arith, size, ap last (at i d (omega arith)), ap first (at j d lt), rising.apart i j none less (omega (arith, size)));
-    }

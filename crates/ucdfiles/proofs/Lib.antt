@@ -9,6 +9,7 @@ pub mod States
 pub mod Ends
 pub mod Outcomes
 pub mod PairLines
+pub mod PairValues
 pub mod Numbers
 pub mod Keyed
 pub mod Painting

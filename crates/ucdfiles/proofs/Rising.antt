@@ -1,16 +1,16 @@
 -- Spans in order: where one that holds a code point stands, and one more among them.
-use Rattle.std.proofs.Common.{◌≡◌, ℕ, zero, suc, ◌+◌, ◌-◌, ◌<◌, ◌≤◌, Bool, true, false, ltb, leb, ◌&&◌, ◌||◌, Option, None, Some, List, [], ◌∷◌, ◌++◌, length, get_or, take, drop, insert, refl, sym, ap, ◌∙◌, arith, ◌⊎◌, inl, inr}
+use Rattle.std.proofs.Common.{◌≡◌, ℕ, zero, suc, ◌+◌, ◌-◌, ◌<◌, ◌≤◌, Bool, true, false, ltb, leb, ◌&&◌, ◌||◌, Option, None, Some, List, [], ◌∷◌, ◌++◌, length, map, get_or, take, drop, insert, refl, sym, ap, ◌∙◌, arith, ◌⊎◌, inl, inr}
 use Rattle.std.specs.List.{find, list_any, AllWithin}
 use Rattle.std.specs.List.Sorted.{IsPartitionedBy}
-use Rattle.std.specs.Option.{option_or}
+use Rattle.std.specs.Option.{option_map, option_or}
 use Rattle.std.proofs.lemmas.Bool.{ltb-true, lt-ltb, leb-true, le-leb, lt-leb, false_from_ne_true, cases_lt, false≢true}
 use Rattle.std.proofs.Math.Nat.{eq-or-lt_of_le}
-use Rattle.std.proofs.lemmas.List.{take-append-drop, get_or_default, get_or-take, get_or-drop, length-take, length-drop}
+use Rattle.std.proofs.lemmas.List.{take-append-drop, get_or_default, get_or-take, get_or-drop, get_or-map, length-take, length-drop, length-map}
 use Rattle.std.proofs.lemmas.List.Edits.{length-insert, get_or-insert_at, get_or-insert_below, get_or-insert_above}
 use Rattle.std.proofs.lemmas.List.Folds.{find-append, list_any-append}
 use Rattle.ucdfiles.specs.declared.fault.Fault.{Fault}
 use Rattle.ucdfiles.specs.declared.span.Span.{Span}
-use Rattle.ucdfiles.specs.Spans.{holds, overlaps, IsRising, Adds, data_fault}
+use Rattle.ucdfiles.specs.Spans.{holds, overlaps, IsRising, Adds, data_fault, revalued}
 
 and_false : (b : Bool) → (b && false) ≡ false
 and_false true = refl
@@ -91,21 +91,6 @@ module _ {V : Type 0} where
         | inl same ↦ let a = above (omega arith) d in omega (arith, a, ap (λ j. (get_or rs j d).first) same)
       ]
 
-  pub span_at-some : (rs : List (Span V)) (n code : ℕ) (d : Span V) → n < length rs → AllWithin (λ (r : Span V). r.last < code) rs 0 n → AllWithin (λ (r : Span V). code ≤ r.last) rs n (length rs)
-      → (get_or rs n d).first ≤ code → Some (get_or rs n d) ≡ find (holds code) rs
-  span_at-some rs n code d lt below above le =
-      let pass : holds code (get_or rs n d) ≡ true = let e : leb (get_or rs n d).first code ≡ true = le-leb _ _ le in let f : leb code (get_or rs n d).last ≡ true = le-leb _ _ (above n d (omega arith) lt) in rw (e, f) refl in
-      sym (find-first (holds code) rs n d lt (λ k f high. not_held_behind code (get_or rs k f) (below k f (omega arith) high)) pass)
-
-  pub span_at-none : (rs : List (Span V)) (n code : ℕ) → IsRising rs → n ≤ length rs → AllWithin (λ (r : Span V). r.last < code) rs 0 n → (n < length rs → (d : Span V) → code < (get_or rs n d).first)
-      → None ≡ find (holds code) rs
-  span_at-none rs n code rising le below above =
-      sym (find-none (holds code) rs (λ k d lt. elim (cases_lt k n) [
-        | inl low ↦ not_held_behind code (get_or rs k d) (below k d (omega arith) low)
-        | inr high ↦ not_held_before code (get_or rs k d) (all_above rs n code rising above k d high lt)
-      ]))
-
-  -- two spans that hold one code point meet
   overlaps-holds : (code : ℕ) (a b : Span V) → holds code a ≡ true → holds code b ≡ true → overlaps a b ≡ true
   overlaps-holds code a b ha hb =
       let p = both_true (leb a.first code) (leb code a.last) ha in
@@ -258,3 +243,27 @@ module _ {V : Type 0} where
       let inside : n + k < length rs = omega (arith, length-drop n rs, lt) in
       ap (holds code) (get_or-drop n rs k d) ∙ not_held_before code (get_or rs (n + k) d) (above (n + k) d (omega arith) inside))) in
       sym (ap (find (holds code)) (sym (take-append-drop n rs)) ∙ find-append (holds code) (take n rs) (drop n rs) ∙ rw back (option_or-none (find (holds code) (take n rs))))
+
+-- spans with other values
+module _ {V W : Type 0} (value : V → W) where
+  -- hold what they held
+  pub find-revalued : (c : ℕ) (spans : List (Span V)) → find (holds c) (map (revalued value) spans) ≡ option_map (revalued value) (find (holds c) spans)
+  find-revalued c [] = refl
+  find-revalued c (s ∷ spans) = elim (known (holds c s)) [
+    | inl held ↦ rw held refl
+    | inr other ↦ rw (other, find-revalued c spans) refl
+  ]
+
+  -- and stand as they stood
+  pub rising-revalued : (none : V) (spans : List (Span V)) → IsRising spans → IsRising (map (revalued value) spans)
+  rising-revalued none spans rising =
+      let size : length (map (revalued value) spans) ≡ length spans = length-map spans (revalued value) in
+      let span : Span V = record { first = 0; last = 0; value = none } in
+      let at = λ (k : ℕ) (d : Span W) (lt : k < length (map (revalued value) spans)). (
+      let e : get_or (map (revalued value) spans) k d ≡ revalued value (get_or spans k span) = get_or-map (revalued value) spans k span d (omega (arith, size)) in e) in
+      let first = λ (s : Span W). s.first in
+      let last = λ (s : Span W). s.last in
+      record {
+        each = λ k d lt. omega (arith, size, ap first (at k d lt), ap last (at k d lt), rising.each k span (omega (arith, size)));
+        apart = λ i j d less lt. omega (arith, size, ap last (at i d (omega arith)), ap first (at j d lt), rising.apart i j span less (omega (arith, size)));
+      }

@@ -8,6 +8,7 @@ use Rattle.units.specs.declared.bracket.Bracket.{Bracket}
 use Rattle.units.specs.declared.bracket.Key.{Key}
 use Rattle.ucdfiles.specs.declared.span.Span.{Span}
 use Rattle.ucdfiles.specs.declared.sided_bracket.SidedBracket.{SidedBracket}
+use Rattle.ucdfiles.specs.Spans.{revalued}
 use Rattle.ucdfiles.specs.PairFiles.{bracket_with}
 
 -- the number of a decomposition, if it has one
@@ -27,9 +28,13 @@ Keeps old new = (a : List ℕ) (n : ℕ) → number_in old a ≡ Some n → numb
 abbrev pub key_in : List (List ℕ × ℕ) → ℕ → Key
 key_in numbers a = record { 0 = unwrap_or (number_in numbers (nfd (a ∷ []))) 0 }
 
--- the bracket of a span, with the key of its character
+-- the bracket with the key of its character
+abbrev pub keyed_value : (ℕ → Key) → SidedBracket → Bracket
+keyed_value key stated = bracket_with stated.side (key stated.keyed_by)
+
+-- the same of a span
 abbrev pub keyed_span : (ℕ → Key) → Span SidedBracket → Span Bracket
-keyed_span key span = record { first = span.first; last = span.last; value = bracket_with span.value.side (key span.value.keyed_by) }
+keyed_span key span = revalued (keyed_value key) span
 
 -- the character's decomposition has a number
 abbrev pub IsNumbered : List (List ℕ × ℕ) → ℕ → Type 0

@@ -49,3 +49,7 @@ pub record Adds {V : Type 0} (old : List (Span V)) (span : Span V) (new : List (
   pub finds : (c : ℕ) → find (holds c) new ≡ find (holds c) (old ++ span ∷ [])
   pub meets : (other : Span V) → list_any (overlaps other) new ≡ list_any (overlaps other) (old ++ span ∷ [])
   pub counts : length new ≡ length old + 1
+
+-- the same code points with another value
+abbrev pub revalued : {V W : Type 0} → (V → W) → Span V → Span W
+revalued value span = record { first = span.first; last = span.last; value = value span.value }

@@ -1,11 +1,14 @@
 // The mirror images, as BidiMirroring.txt states them.
-ghost use Rattle.std.specs.Prelude.{◌≡◌, ◌↔◌, ℕ, List, Err, IfOk, IfErr};
+ghost use Rattle.std.specs.Prelude.{◌≡◌, ◌↔◌, ℕ, List, map, Some, Err, IfOk, IfErr};
+ghost use Rattle.ucdfiles.specs.Spans.{IsRising, revalued};
 
 use crate::fault::{Fault, TableFault};
 use crate::pair_line::mirror_line;
 use crate::reading::{LineTable, read_lines};
+use crate::span::Span;
 use crate::statements::Statements;
-use std::alloc::Global;
+use crate::two_stage::TwoStage;
+use std::alloc::{AllocError, Global};
 use std::marker::Model;
 use units::source::ByteSource;
 
@@ -25,19 +28,36 @@ impl LineTable for Statements<char> {
     }
 }
 
+// The same code points, each with an image that is there.
+fn images(alloc: Global, spans: &[Span<char>]) -> Result<Vec<Span<Option<char>>>, AllocError>
+    requires { IsRising spans.now }
+    ensures items { IfOk result (λ images. images.items ≡ map (revalued Some) spans.now) }
+    ensures rising { IfOk result (λ images. IsRising images.items) }
+{
+    let mut images = Vec::new(alloc);
+    for span in spans {
+        images.push(Span {
+            first: span.first,
+            last: span.last,
+            value: Some(span.value),
+        })?;
+    }
+    Ok(images)
+}
+
 /// L4: the mirror images of the characters. Contracts see them by `glyph_at`.
 #[derive(Drop)]
 pub struct MirrorTable {
-    images: Statements<char>,
+    glyphs: TwoStage<Option<char>>,
 }
 
 impl Model for MirrorTable {
-    ghost use Rattle.std.specs.Prelude.{ℕ};
-    ghost use Rattle.ucdfiles.specs.Statements.{Stated};
+    ghost use Rattle.std.specs.Prelude.{ℕ, Option};
+    ghost use Rattle.ucdfiles.specs.Stages.{Stages};
 
-    ghost Value = { Stated ℕ };
+    ghost Value = { Stages (Option ℕ) };
 
-    ghost view = { λ t. t.images };
+    ghost view = { λ t. t.glyphs };
 }
 
 impl MirrorTable {
@@ -52,15 +72,21 @@ impl MirrorTable {
         ensures ok { IfOk result (λ table. (given : List ℕ) × S.gives source.old given source.new × S.ended source.new × StatesMirrors given (glyph_at table)) }
         ensures err { IfErr result (λ e. (given : List ℕ) × S.gives source.old given source.new × IsFault mirror_fault (S.ended source.new) given e) }
     {
-        let mut images = Statements::new(alloc);
-        read_lines(&mut images, source)?;
-        Ok(MirrorTable { images })
+        let mut lines = Statements::new(alloc);
+        read_lines(&mut lines, source)?;
+        let Ok(images) = images(alloc, lines.data()) else {
+            return Err(TableFault::Memory);
+        };
+        match TwoStage::new(alloc, &images, &[], None) {
+            Ok(glyphs) => Ok(MirrorTable { glyphs }),
+            Err(_) => Err(TableFault::Memory),
+        }
     }
 
     /// The mirror image of a character, if it has one.
     pub fn glyph(&self, c: char) -> Option<char>
         ensures { result ≡ glyph_at self.now c }
     {
-        self.images.value(u32::from(c))
+        self.glyphs.value(c)
     }
 }

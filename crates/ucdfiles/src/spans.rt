@@ -1,5 +1,5 @@
 // Spans in order.
-ghost use Rattle.std.specs.Prelude.{◌≡◌, ◌<◌, ◌≤◌, ◌⊎◌, ◌≢◌, ℕ, length, reverse, Some, None, IfErr, OnOk};
+ghost use Rattle.std.specs.Prelude.{◌≡◌, ◌<◌, ◌≤◌, ◌⊎◌, ◌≢◌, ℕ, length, Some, None, IfErr, OnOk};
 ghost use Rattle.std.specs.List.{find, AllWithin};
 ghost use Rattle.std.specs.Option.{option_map};
 ghost use Rattle.ucdfiles.specs.Spans.{holds, IsRising, Adds, data_fault};
@@ -22,26 +22,6 @@ fn place<V>(spans: &[Span<V>], code: u32) -> usize
     ensures above { AllWithin (λ s. code ≤ s.last) spans.now result (length spans.now) }
 {
     spans.partition_point(|span| span.last < code)
-}
-
-/// The span that holds the code point.
-pub fn span_at<V: Copy>(spans: &[Span<V>], code: u32) -> Option<Span<V>>
-    requires { IsRising spans.now }
-    ensures { result ≡ find (holds code) spans.now }
-{
-    let place = place(spans, code);
-    if place < spans.len() && spans[place].first <= code {
-        Some(spans[place])
-    } else {
-        None
-    }
-}
-
-/// The last span that holds the code point, of spans in any order.
-pub fn last_at<V: Copy>(spans: &[Span<V>], code: u32) -> Option<Span<V>>
-    ensures { result ≡ find (holds code) (reverse spans.now) }
-{
-    spans.iter().rev().copied().find(|span| span.holds(code))
 }
 
 /// One more span, in order. `taken` names the fault of a code point that an earlier span has.

@@ -7,7 +7,7 @@ ghost use Rattle.ucdfiles.specs.Statements.{IsRisingLine, Becomes, stated_fault}
 
 use crate::fault::{Fault, TableFault, at};
 use crate::span::{FileLine, Span};
-use crate::spans::{MOST_DEFAULTS, add_span, last_at, span_at};
+use crate::spans::{MOST_DEFAULTS, add_span};
 use std::alloc::Global;
 use std::marker::Model;
 
@@ -50,7 +50,7 @@ fn add_default<V: Copy>(
 
 impl<V: Copy> Statements<V> {
     ghost use Rattle.ucdfiles.specs.Statements.{Holds};
-    ghost use Rattle.ucdfiles.specs.Spans.{IsRising, value_in};
+    ghost use Rattle.ucdfiles.specs.Spans.{IsRising};
 
     /// No line yet.
     pub fn new(alloc: Global) -> Self
@@ -79,19 +79,6 @@ impl<V: Copy> Statements<V> {
             FileLine::Faulty(fault) => Err(at(fault, number)),
             FileLine::Data(span) => add_span(&mut self.data, span, taken, number),
             FileLine::Default(span) => add_default(&mut self.defaults, span, number),
-        }
-    }
-
-    /// The value of a code point: that of the data line that holds it, else that of the last default line that holds it.
-    pub fn value(&self, code: u32) -> Option<V>
-        ensures { result ≡ value_in self.now.data_lines self.now.default_lines code }
-    {
-        match span_at(&self.data, code) {
-            Some(span) => Some(span.value),
-            None => match last_at(&self.defaults, code) {
-                Some(span) => Some(span.value),
-                None => None,
-            },
         }
     }
 

@@ -5,9 +5,10 @@ use Rattle.ucdfiles.specs.declared.sided_bracket.Side.TheVariants.{Open}
 use Rattle.ucdfiles.specs.declared.span.Span.{Span}
 use Rattle.units.specs.declared.bracket.Bracket.{Bracket}
 use Rattle.ucdfiles.specs.PairFiles.{bracket_with}
-use Rattle.ucdfiles.specs.Keys.{AreKeyed, key_in}
+use Rattle.ucdfiles.specs.Keys.{AreKeyed, key_in, keyed_value}
 use Rattle.ucdfiles.specs.Spans.{IsRising}
-use Rattle.ucdfiles.proofs.Keyed.{AreKeyedSoFar, keyed-more, rising-keyed}
+use Rattle.ucdfiles.proofs.Keyed.{AreKeyedSoFar, keyed-more}
+use Rattle.ucdfiles.proofs.Rising.{rising-revalued}
 use Rattle.ucdfiles.proofs.keys.keyed.Goals as goal
 
 pub loop-span-preserved : goal.loop-span-preserved
@@ -32,4 +33,4 @@ pub returns-clause-rising : goal.returns-clause-rising
 returns-clause-rising c =
     let are : AreKeyed c.args.spans.now c.loop-span.brackets.items = returns-clause-keyed c in
     let P : List (Span Bracket) → Type 0 = λ bs. IsRising bs in
-    subst P (sym are.keyed) (rising-keyed (key_in are.numbers) c.args.spans.now c.requires)
+    subst P (sym are.keyed) (rising-revalued (keyed_value (key_in are.numbers)) (record { side = Open; keyed_by = 0 }) c.args.spans.now c.requires)
