@@ -10,6 +10,7 @@ pub mod Separators
 pub mod BreakAt
 pub mod LineEnd
 pub mod TextEnd
+pub mod KeptLevels
 pub mod Cuts
 pub mod NextLine
 pub mod LinesWritten

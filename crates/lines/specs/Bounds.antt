@@ -13,7 +13,7 @@ first_bound = record { position = 0; order = 0 }
 abbrev pub bound_at : List Bound → ℕ → Bound
 bound_at bounds k = slice_index_or bounds k first_bound
 
--- the line between two bounds
+-- L2: the line between two bounds, with its order
 abbrev pub line_between : List ℕ → Bound → Bound → LineLayout
 line_between orders from to = record { start = from.position; end = to.position; order = slice_range orders from.order to.order }
 
@@ -21,7 +21,7 @@ line_between orders from to = record { start = from.position; end = to.position;
 abbrev pub line_in : List ℕ → List Bound → ℕ → LineLayout
 line_in orders bounds k = line_between orders (bound_at bounds k) (bound_at bounds (k + 1))
 
--- the lines, one between each two bounds
+-- L1, L2: the lines, one between each two bounds
 abbrev pub lines_in : List ℕ → List Bound → List LineLayout
 lines_in orders bounds = map (line_in orders bounds) (positions_from 0 (length bounds - 1))
 

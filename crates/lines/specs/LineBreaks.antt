@@ -3,7 +3,7 @@ use Rattle.std.specs.Prelude.{ℕ, ◌<◌, ◌≤◌, ◌-◌, ◌≡◌, ◌�
 use Rattle.lines.specs.declared.breaks.BreakFault.{BreakFault}
 use Rattle.lines.specs.declared.breaks.BreakFault.TheVariants.{OutOfRange, NotRising}
 
--- breaks of a text of a length
+-- L1: breaks of a text of a length
 pub record BreaksView : Type 0 where
   pub positions : List ℕ
   pub len : ℕ
@@ -22,7 +22,7 @@ pub record AreBreaksBelow (at : List ℕ) (len end : ℕ) : Type 0 where
   pub inside : (index : ℕ) → index < end → IsInside at len index
   pub rising : (index : ℕ) → index < end → Rises at index
 
--- they rise, and are all inside the text
+-- L1: the breaks rise, and are all inside the text
 abbrev pub AreBreaks : List ℕ → ℕ → Type 0
 AreBreaks at len = AreBreaksBelow at len (length at)
 

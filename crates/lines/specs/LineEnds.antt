@@ -1,9 +1,9 @@
--- Where a line ends.
+-- Where a line ends (P1, L1).
 use Rattle.std.specs.Prelude.{ℕ, ◌-◌, ◌<◌, ◌≤◌, ◌≡◌, true, false, List}
 use Rattle.units.specs.Classes.{class_at, is_separator}
 use Rattle.units.specs.declared.class.Class.{Class}
 
--- a line from start on that no break comes into before the limit ends behind its first separator, or at the limit
+-- P1: a line from start on that no break comes into before the limit ends behind its first separator, or at the limit
 pub record EndsAt (own : List Class) (start limit end : ℕ) : Type 0 where
   pub above : start < end
   pub within : end ≤ limit

@@ -25,7 +25,7 @@ pub enum RoomFault {
     Memory,
 }
 
-/// Room for the layout of a text, to be used again and again.
+/// Room for the layout of a text, to be used again and again: 19 bytes for each unit of room, and 8 more.
 #[derive(Drop)]
 pub struct Scratch {
     room: usize,
