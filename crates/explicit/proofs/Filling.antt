@@ -3,7 +3,7 @@ use Rattle.std.proofs.Common.{◌≡◌, ℕ, suc, ◌+◌, ◌<◌, ◌≤◌, 
 use Rattle.std.proofs.lemmas.List.{length-set, get_or-set_same, get_or-set_other}
 use Rattle.units.specs.Classes.{class_at, is_isolate_initiator, is_pdi}
 use Rattle.units.specs.declared.class.Class.{Class}
-use Rattle.explicit.proofs.Partners.{IsPass, pass_none, pass_opening, pass_other, pass_unmatched, pass_matched, pass_all}
+use Rattle.explicit.proofs.Partners.{IsPass, pass_opening, pass_other, pass_unmatched, pass_matched, pass_all}
 use Rattle.explicit.specs.IsolateMaps.{HasPartners}
 
 -- after the first k positions, with this many open initiators
@@ -13,15 +13,6 @@ pub record IsFilling (cs : List Class) (k : ℕ) (depth : ℕ) (room : ℕ) (par
   pub partners_room : length partners ≡ room
   pub openers_room : length openers ≡ room
   pub pass : IsPass cs k depth (λ a. get_or openers a 0) (λ p. get_or partners p None)
-
-pub filling_none : (cs : List Class) (room : ℕ) (partners : List (Option ℕ)) (openers : List ℕ) → length cs ≤ room → length partners ≡ room → length openers ≡ room → IsFilling cs 0 0 room partners openers
-filling_none cs room partners openers a b c = record {
-  enough = a;
-  deep = omega arith;
-  partners_room = b;
-  openers_room = c;
-  pass = pass_none cs _ _;
-}
 
 -- one write into a list
 pub write_same : {A : Type 0} (xs : List A) (k : ℕ) (x d : A) → k < length xs → get_or (set xs k x) k d ≡ x

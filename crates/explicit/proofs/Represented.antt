@@ -1,5 +1,5 @@
 -- What the pass keeps, step by step.
-use Rattle.std.proofs.Common.{◌≡◌, ℕ, ◌+◌, ◌-◌, ◌<◌, ◌≤◌, ◌^◌, Bool, true, false, ◌&&◌, List, [], ◌∷◌, ◌++◌, length, get_or, take, arith, refl, sym, ap, subst, ◌∙◌, cond, ◌⊎◌, inl, inr, append-nil, length-append}
+use Rattle.std.proofs.Common.{◌≡◌, ℕ, ◌+◌, ◌-◌, ◌<◌, ◌≤◌, ◌^◌, Bool, true, false, ◌&&◌, List, [], ◌∷◌, ◌++◌, length, get_or, take, arith, refl, sym, ap, subst, ◌∙◌, cond, ◌⊎◌, inl, inr, length-append}
 use Rattle.std.proofs.Math.Seq.{get_or-append_seam, take-append_seam}
 use Rattle.std.proofs.lemmas.Bool.{cases_Bool, cases_eq, false≢true, ne_eqb, and_left, and_right}
 use Rattle.std.specs.Prelude.{nat_le, ◌==◌, Option, Some, unwrap_or}
@@ -10,7 +10,7 @@ use Rattle.explicit.specs.OpenInitiators.{is_isolate, after_pdi, after_pdf}
 use Rattle.explicit.specs.StatusStacks.{state_within, is_taken, entry_of, entry_at, entries_of, refused_isolates, refused_embeddings, before_isolate, Represents, IsKept, placed}
 use Rattle.explicit.specs.declared.status.Status.{Status}
 use Rattle.explicit.specs.declared.status.StatusStack.{StatusStack}
-use Rattle.explicit.proofs.Taken.{level-bound, entries-few, last_entry, refused_isolates-few, refused_embeddings-few, taken_isolates-few, taken_is, state-taken, asked, none_refused, some_refused, adds-taken, adds-isolate, adds-embedding_within, adds-embedding}
+use Rattle.explicit.proofs.Taken.{level-bound, entries-few, last_entry, refused_isolates-few, refused_embeddings-few, taken_isolates-few, taken_is, state-taken, asked, none_refused, some_refused}
 use Rattle.explicit.proofs.Closing.{IsKeptAlike, pdf-ignored, pdf-refused, pdf-taken}
 use Rattle.explicit.proofs.ClosingIsolate.{pdi-refused, pdi-taken, pdi-none}
 
@@ -121,46 +121,6 @@ sound_is cs para qs =
 
 pub takes-is_taken : (cs : List Class) (para : ℕ) (qs : List ℕ) (p : ℕ) (n : StatusStack) → Represents cs para qs n → is_taken cs para p qs ≡ ((n.overflow_isolates == 0 && n.overflow_embeddings == 0) && nat_le (asked cs para p qs) 125)
 takes-is_taken cs para qs p n r = taken_is cs para p qs ∙ ap (λ b. b && nat_le (asked cs para p qs) 125) (sound_is cs para qs ∙ rw (r.overflow_isolates, r.overflow_embeddings) refl)
-
-pub represents-taken : (cs : List Class) (para : ℕ) (qs : List ℕ) (p : ℕ) (n m : StatusStack) → Represents cs para qs n → is_taken cs para p qs ≡ true → m.entries.items ≡ n.entries.items ++ entry_at cs para p qs ∷ [] → m.overflow_isolates ≡ n.overflow_isolates → m.overflow_embeddings ≡ n.overflow_embeddings → m.valid_isolates ≡ n.valid_isolates + cond (is_isolate cs p) 1 0 → Represents cs para (p ∷ qs) m
-represents-taken cs para qs p n m r t x i e v =
-    let a = adds-taken cs para p qs t in
-    record {
-      entries = x ∙ ap (λ xs. xs ++ entry_at cs para p qs ∷ []) r.entries ∙ sym a.entry_is;
-      overflow_isolates = omega (arith, i, r.overflow_isolates, a.isolates_is);
-      overflow_embeddings = omega (arith, e, r.overflow_embeddings, a.embeddings_is);
-      valid_isolates = omega (arith, v, r.valid_isolates, a.taken_isolates_is);
-    }
-
-pub represents-refused_isolate : (cs : List Class) (para : ℕ) (qs : List ℕ) (p : ℕ) (n : StatusStack) → Represents cs para qs n → is_taken cs para p qs ≡ false → is_isolate cs p ≡ true → Represents cs para (p ∷ qs) (record { entries = n.entries; overflow_isolates = n.overflow_isolates + 1; overflow_embeddings = n.overflow_embeddings; valid_isolates = n.valid_isolates })
-represents-refused_isolate cs para qs p n r t u =
-    let a = adds-isolate cs para p qs t u in
-    record {
-      entries = r.entries ∙ sym (a.entry_is ∙ append-nil (entries_of cs para qs));
-      overflow_isolates = omega (arith, r.overflow_isolates, a.isolates_is);
-      overflow_embeddings = omega (arith, r.overflow_embeddings, a.embeddings_is);
-      valid_isolates = omega (arith, r.valid_isolates, a.taken_isolates_is);
-    }
-
-pub represents-refused_embedding : (cs : List Class) (para : ℕ) (qs : List ℕ) (p : ℕ) (n : StatusStack) → Represents cs para qs n → is_taken cs para p qs ≡ false → is_isolate cs p ≡ false → n.overflow_isolates ≡ 0 → Represents cs para (p ∷ qs) (record { entries = n.entries; overflow_isolates = n.overflow_isolates; overflow_embeddings = n.overflow_embeddings + 1; valid_isolates = n.valid_isolates })
-represents-refused_embedding cs para qs p n r t u z =
-    let a = adds-embedding cs para p qs t u (omega (arith, r.overflow_isolates)) in
-    record {
-      entries = r.entries ∙ sym (a.entry_is ∙ append-nil (entries_of cs para qs));
-      overflow_isolates = omega (arith, r.overflow_isolates, a.isolates_is);
-      overflow_embeddings = omega (arith, r.overflow_embeddings, a.embeddings_is);
-      valid_isolates = omega (arith, r.valid_isolates, a.taken_isolates_is);
-    }
-
-pub represents-within_overflow : (cs : List Class) (para : ℕ) (qs : List ℕ) (p : ℕ) (n : StatusStack) → Represents cs para qs n → is_taken cs para p qs ≡ false → is_isolate cs p ≡ false → (n.overflow_isolates ≡ 0 → ⊥) → Represents cs para (p ∷ qs) n
-represents-within_overflow cs para qs p n r t u z =
-    let a = adds-embedding_within cs para p qs t u (omega (arith, r.overflow_isolates)) in
-    record {
-      entries = r.entries ∙ sym (a.entry_is ∙ append-nil (entries_of cs para qs));
-      overflow_isolates = omega (arith, r.overflow_isolates, a.isolates_is);
-      overflow_embeddings = omega (arith, r.overflow_embeddings, a.embeddings_is);
-      valid_isolates = omega (arith, r.valid_isolates, a.taken_isolates_is);
-    }
 
 -- what the numbers of what the pass keeps are at most
 pub record IsBounded (n : StatusStack) : Type 0 where

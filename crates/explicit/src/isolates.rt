@@ -1,5 +1,5 @@
 //! The isolates of a paragraph (BD9), and which direction each begins with (P2, P3).
-ghost use Rattle.std.specs.Prelude.{◌≡◌, ℕ, ◌+◌, ◌*◌, ◌<◌, ◌≤◌, length, List, Bool, true, false, Option, Some, None, IfOk, slice_index_or};
+ghost use Rattle.std.specs.Prelude.{◌≡◌, ◌+◌, ◌*◌, ◌<◌, ◌≤◌, length, List, true, false, Option, Some, None, IfOk, slice_index_or};
 ghost use Rattle.units.specs.Classes.{class_at, classes_of, is_isolate_initiator};
 ghost use Rattle.units.specs.Isolates.{partner_of, first_strong, begins_right_to_left};
 ghost use Rattle.units.specs.declared.class.Class.{Class};
@@ -18,7 +18,9 @@ use units::steps::Steps;
 #[derive(Drop)]
 pub struct IsolateMap {
     partners: Vec<OptionalPosition>,
+    // The stack of open initiators, in use while partners are matched.
     openers: Vec<u32>,
+    // Behind each position, whether the next strong class of the isolate there is R or AL.
     sides: Vec<bool>,
     outside: bool,
 }

@@ -1,5 +1,5 @@
 //! The explicit levels of a paragraph (X1 to X9).
-ghost use Rattle.std.specs.Prelude.{◌≡◌, ◌+◌, ◌*◌, ◌<◌, ◌≤◌, ℕ, List, Bool, Option, Some, None, length, slice_index_or, IfOk, IfSome};
+ghost use Rattle.std.specs.Prelude.{◌≡◌, ◌+◌, ◌*◌, ◌<◌, ◌≤◌, ℕ, List, Option, Some, None, length, slice_index_or, IfOk, IfSome};
 ghost use Rattle.units.specs.Classes.{class_at, classes_of};
 ghost use Rattle.units.specs.Isolates.{begins_right_to_left, first_strong, level_of_para};
 ghost use Rattle.units.specs.Explicit.{explicit_at, wants_odd};

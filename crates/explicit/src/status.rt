@@ -1,6 +1,5 @@
 //! The initiators that are open, as one pass over a paragraph keeps them (X1 to X8).
-ghost use Rattle.std.specs.Prelude.{◌≡◌, ◌<◌, ◌≤◌, ◌+◌, ◌-◌, ◌==◌, ◌&&◌, nat_le, true, false, ℕ, List, [], ◌∷◌, Bool, slice_index_or, if◌then◌else◌};
-ghost use Rattle.arrayvec.specs.ArrayVec.{array_vec_len};
+ghost use Rattle.std.specs.Prelude.{◌≡◌, ◌<◌, ◌≤◌, ◌+◌, ◌-◌, ◌==◌, ◌&&◌, nat_le, true, false, ℕ, List, [], ◌∷◌, slice_index_or, if◌then◌else◌};
 ghost use Rattle.units.specs.Classes.{class_at, is_isolate_initiator};
 ghost use Rattle.units.specs.Explicit.{next_odd, next_even, override_of, wants_odd};
 ghost use Rattle.units.specs.declared.class.Class.{Class};

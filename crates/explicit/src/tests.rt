@@ -1,5 +1,5 @@
 //! Worked rows, by the classes of a paragraph.
-ghost use Rattle.std.specs.Prelude.{◌≡◌, ◌<◌, ℕ, ◌+◌, length, IfOk};
+ghost use Rattle.std.specs.Prelude.{◌≡◌, ◌<◌, ◌+◌, length, IfOk};
 ghost use Rattle.explicit.specs.IsolateMaps.{room};
 
 use crate::isolates::IsolateMap;
