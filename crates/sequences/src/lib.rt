@@ -6,3 +6,5 @@ mod leveled;
 mod linking;
 pub mod paragraph;
 pub mod sequence;
+#[cfg(test)]
+mod tests;

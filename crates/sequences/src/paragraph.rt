@@ -42,7 +42,7 @@ pub struct Sequences {
 impl Model for Sequences {
     ghost Value = { SequencesView };
 
-    ghost view = { λ s. record { all = map (view_of s.column.items s.size) s.heads.items; room = vec_len s.links } };
+    ghost view = { λ s. record { all = map (view_of s.column.items s.size) s.heads.items; extent = s.size; room = vec_len s.links } };
 
     ghost invariant = { λ s. HasRoom s.links.items s.ends.items s.joined.items s.heads.items (vec_capacity s.heads) s.column.items (vec_capacity s.column) s.size };
 }
@@ -82,7 +82,7 @@ impl Sequences {
     /// No sequences, with room for a paragraph of `n` positions. Memory that is refused is answered as `Memory`, and so are
     /// 2^32 - 1 positions and more, which links of 32 bits can't count.
     pub fn with_room(alloc: Global, n: usize) -> Result<Sequences, Memory>
-        ensures { IfOk result (λ s. s ≡ record { all = []; room = n }) }
+        ensures { IfOk result (λ s. s ≡ record { all = []; extent = 0; room = n }) }
     {
         if n >= u32::MAX as usize {
             return Err(Memory);
@@ -101,6 +101,7 @@ impl Sequences {
     fn fill_from<L: Ledger>(&mut self, t: &Leveled, steps: &mut Steps<L>)
         requires { size_of t.now ≤ self.old.room }
         ensures all { self.new.all ≡ sequences_of t.now }
+        ensures extent { self.new.extent ≡ size_of t.now }
         ensures room { self.new.room ≡ self.old.room }
         ensures once { HoldsOnce t.now self.new.all }
         ensures fit { sum_by (λ s. length s.positions) self.new.all ≤ size_of t.now }
@@ -134,6 +135,7 @@ impl Sequences {
         requires isolates { IsFilledFrom isolates.now (classes_of para.now) }
         requires levels { HoldsLevels explicit.now (classes_of para.now) (level_of_para level) }
         ensures all { self.new.all ≡ sequences_of (leveled_of (classes_of para.now) (level_of_para level)) }
+        ensures extent { self.new.extent ≡ length para.now }
         ensures room { self.new.room ≡ self.old.room }
         ensures once { HoldsOnce (leveled_of (classes_of para.now) (level_of_para level)) self.new.all }
         ensures fit { sum_by (λ s. length s.positions) self.new.all ≤ length para.now }
@@ -153,7 +155,8 @@ impl Sequences {
     /// The sequence with this number, counted from 0 in the order of first positions.
     pub fn get(&self, k: usize) -> Sequence<'_>
         requires { k < length self.now.all }
-        ensures { slice_get self.now.all k ≡ Some result }
+        ensures value { slice_get self.now.all k ≡ Some result }
+        ensures extent { result.extent ≡ self.now.extent }
     {
         let head = self.heads[k];
         Sequence {

@@ -19,3 +19,7 @@ returns-clause-at_least g c =
 pub returns-clause-at_most : goal.returns-clause-at_most
 returns-clause-at_most g c =
     omega (arith, c.fill_from.ensures.at_most, ap size_of c.new.ensures, size-of_paragraph c.args.para.now (level_of_para c.args.level))
+
+pub returns-clause-extent : goal.returns-clause-extent
+returns-clause-extent g c =
+    omega (arith, c.fill_from.ensures.extent, ap size_of c.new.ensures, size-of_paragraph c.args.para.now (level_of_para c.args.level))
