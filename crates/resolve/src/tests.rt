@@ -198,10 +198,22 @@ fn pairs_by_what_stands_inside(rt: HostRuntime) -> Result<(), Fail> {
     let (l, r) = (plain(Class::L), plain(Class::R));
     let (open, close) = (bracket(Bracket::Open(KEY)), bracket(Bracket::Close(KEY)));
     let other = bracket(Bracket::Close(OTHER_KEY));
-    assert_levels(&rt, alloc, &[r, open, l, close, r], Direction::Rtl, b"11211")?;
+    assert_levels(
+        &rt,
+        alloc,
+        &[r, open, l, close, r],
+        Direction::Rtl,
+        b"11211",
+    )?;
     assert_levels(&rt, alloc, &[l, open, r, close], ltr, b"0010")?;
     assert_levels(&rt, alloc, &[l, open, r, close, r], ltr, b"00101")?;
-    assert_levels(&rt, alloc, &[r, open, open, r, close, l, close], ltr, b"1001000")?;
+    assert_levels(
+        &rt,
+        alloc,
+        &[r, open, open, r, close, l, close],
+        ltr,
+        b"1001000",
+    )?;
     assert_levels(&rt, alloc, &[l, open, other, r, close, r], ltr, b"000101")?;
     Ok(())
 }

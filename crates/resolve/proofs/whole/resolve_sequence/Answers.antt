@@ -16,8 +16,8 @@ returns-clause-levels g c =
     let rules : classes_at c.neutral.new.classes c.args.s.now.positions ≡ after_rules c.args.s.now c.args.para.now (classes_at c.args.before.now c.args.s.now.positions) =
     c.neutral.ensures.classes.values
     ∙ ap (after_neutral (direction_of s.level) s.sos s.eos) (
-      (c.paired.ensures.classes us c.bracket_pairs.ensures.pairs).values
-      ∙ ap (after_brackets s us before) (c.weak.ensures.classes.values ∙ ap (after_weak s.sos) c.requires.copy)
+    (c.paired.ensures.classes us c.bracket_pairs.ensures.pairs).values
+    ∙ ap (after_brackets s us before) (c.weak.ensures.classes.values ∙ ap (after_weak s.sos) c.requires.copy)
     ) in
     levels_from s us c.args.before.now c.neutral.new.classes c.args.levels.now c.implicit.new.levels rules c.implicit.ensures.levels
 
