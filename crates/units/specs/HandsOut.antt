@@ -1,15 +1,23 @@
+-- What a source over a reader hands out.
 use Rattle.std.specs.Prelude.{◌≡◌, ℕ, ◌+◌, List, [], ◌++◌, Option, None, Some, length, refl}
-use Rattle.std.specs.Io.KnownBytes.{Consumes}
+use Rattle.std.specs.Io.KnownBytes.{Consumes, IsAtEnd}
 use Rattle.std.proofs.Common.{arith, length-append}
 use Rattle.units.specs.declared.reader_source.State.{State}
 use Rattle.units.specs.declared.reader_source.State.TheVariants.{Open, Ended, Failed}
 use Rattle.units.specs.Joined.{splits_joined}
 
-abbrev pub is_ended : State → Type 0
-is_ended Open = ⊥
-is_ended Ended = Unit {0}
-is_ended Failed = ⊥
+-- a source over a reader: what the reader still gives, where it is known, how many bytes may still come, and where the source stands
+pub record Reading : Type 0 where
+  pub remaining : Option (List ℕ)
+  pub left : ℕ
+  pub state : State
 
+-- a read found the end, and the reader gives no more
+pub record HasEnded (source : Reading) : Type 0 where
+  pub state_is : source.state ≡ Ended
+  pub no_more : IsAtEnd source.remaining
+
+-- how many reads have failed
 abbrev pub failures_of : State → ℕ
 failures_of Open = 0
 failures_of Ended = 0

@@ -1,9 +1,10 @@
 // A source over any reader.
 ghost use Rattle.std.specs.Prelude.{◌≡◌, ℕ, ◌++◌, List, [], length};
-ghost use Rattle.units.specs.HandsOut.{HandsOut, is_ended, failures_of, HandsOut-nothing, HandsOut-joined};
+ghost use Rattle.units.specs.HandsOut.{HandsOut, HasEnded, failures_of, HandsOut-nothing, HandsOut-joined};
 
 use crate::source::{ByteSource, SourceFault};
 use std::io::Read;
+use std::marker::Model;
 
 /// Where a source over a reader stands.
 #[derive(Debug, Clone, Copy, PartialEq, Eq)]
@@ -25,10 +26,23 @@ pub struct ReaderSource<R: Read + Drop> {
     state: State,
 }
 
+impl<R: Read + Drop> Model for ReaderSource<R> {
+    ghost use Rattle.std.specs.Prelude.{◌≡◌};
+    ghost use Rattle.std.specs.Io.KnownBytes.{IsAtEnd};
+    ghost use Rattle.units.specs.declared.reader_source.State.TheVariants.{Ended};
+    ghost use Rattle.units.specs.HandsOut.{Reading};
+
+    ghost Value = { Reading };
+
+    ghost view = { λ s. record { remaining = R.remaining s.reader; left = s.left; state = s.state } };
+
+    ghost invariant = { λ s. s.state ≡ Ended → IsAtEnd (R.remaining s.reader) };
+}
+
 impl<R: Read + Drop> ReaderSource<R> {
     /// A source over this reader that hands out at most so many bytes.
     pub fn new(reader: R, most: u64) -> Self
-        ensures reader { result.reader ≡ reader }
+        ensures reader { result.remaining ≡ R.remaining reader }
         ensures left { result.left ≡ most }
         ensures state { result.state ≡ State.Open }
     {
@@ -41,17 +55,17 @@ impl<R: Read + Drop> ReaderSource<R> {
 }
 
 impl<R: Read + Drop> ByteSource for ReaderSource<R> {
-    ghost gives = { λ s xs t. HandsOut (R.remaining s.reader) (R.remaining t.reader) s.left t.left s.state t.state xs };
+    ghost gives = { λ s xs t. HandsOut s.remaining t.remaining s.left t.left s.state t.state xs };
 
-    ghost ended = { λ s. is_ended s.state };
+    ghost ended = { λ s. HasEnded s };
 
     ghost failures = { λ s. failures_of s.state };
 
     ghost room = { λ s. s.left };
 
-    ghost gives_nothing = { λ s. HandsOut-nothing (R.remaining s.reader) s.left s.state };
+    ghost gives_nothing = { λ s. HandsOut-nothing s.remaining s.left s.state };
 
-    ghost gives_joined = { λ s t u xs ys f g. HandsOut-joined (R.remaining s.reader) (R.remaining t.reader) (R.remaining u.reader) s.left t.left u.left s.state t.state u.state xs ys f g };
+    ghost gives_joined = { λ s t u xs ys f g. HandsOut-joined s.remaining t.remaining u.remaining s.left t.left u.left s.state t.state u.state xs ys f g };
 
     fn read(&mut self, buf: &mut [u8]) -> Result<usize, SourceFault> {
         match self.state {
