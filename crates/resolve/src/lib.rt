@@ -9,5 +9,7 @@ pub mod paired;
 pub mod pairs;
 mod rules;
 mod runs;
+#[cfg(test)]
+mod tests;
 pub mod weak;
 pub mod whole;

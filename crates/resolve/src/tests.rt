@@ -56,13 +56,19 @@ fn is_paragraph(units: &[Unit]) -> bool
     !has_separator(units)
 }
 
+fn is_mark(class: Class) -> bool
+    ensures { result ≡ is_nonspacing class }
+{
+    matches!(class, Class::NSM)
+}
+
 /// Whether each current class NSM is an own class NSM.
 fn has_own_marks(para: &[Unit], current: &[Class]) -> bool
     requires { length current.now ≡ length para.now }
     ensures { IsTrue result → (p : ℕ) → is_nonspacing (class_at current.now p) ≡ true → is_nonspacing (class_at (classes_of para.now) p) ≡ true }
 {
     for p in 0..para.len() {
-        if current[p] == Class::NSM && para[p].class != Class::NSM {
+        if is_mark(current[p]) && !is_mark(para[p].class) {
             return false;
         }
     }
@@ -129,16 +135,20 @@ fn levels_from<L: Ledger>(
     requires some { 0 < blank.parts }
 {
     let mut steps = Steps::<L>::new(blank);
-    let mut found = found_from(alloc, para, direction, &mut steps)?;
-    assert!(rt; has_own_marks(para, &found.current));
+    let Findings {
+        sequences,
+        current,
+        mut pairs,
+    } = found_from(alloc, para, direction, &mut steps)?;
+    assert!(rt; has_own_marks(para, &current));
     let mut levels = vec![in alloc; None; para.len()]?;
-    for k in 0..found.sequences.count() {
-        let mut classes = found.current.to_vec(alloc)?;
+    for k in 0..sequences.count() {
+        let mut classes = current.to_vec(alloc)?;
         resolve_sequence(
-            &found.sequences.get(k),
+            &sequences.get(k),
             para,
-            &found.current,
-            &mut found.pairs,
+            &current,
+            &mut pairs,
             &mut classes,
             &mut levels,
             &mut steps,
@@ -196,24 +206,113 @@ fn weak_types(rt: HostRuntime) -> Result<(), Fail> {
 fn pairs_by_what_stands_inside(rt: HostRuntime) -> Result<(), Fail> {
     let (alloc, ltr) = (rt.alloc(), Direction::Ltr);
     let (l, r) = (plain(Class::L), plain(Class::R));
-    let (open, close) = (bracket(Bracket::Open(KEY)), bracket(Bracket::Close(KEY)));
-    let other = bracket(Bracket::Close(OTHER_KEY));
-    assert_levels(
-        &rt,
-        alloc,
-        &[r, open, l, close, r],
-        Direction::Rtl,
-        b"11211",
-    )?;
-    assert_levels(&rt, alloc, &[l, open, r, close], ltr, b"0010")?;
-    assert_levels(&rt, alloc, &[l, open, r, close, r], ltr, b"00101")?;
-    assert_levels(
-        &rt,
-        alloc,
-        &[r, open, open, r, close, l, close],
-        ltr,
-        b"1001000",
-    )?;
-    assert_levels(&rt, alloc, &[l, open, other, r, close, r], ltr, b"000101")?;
+    let only_opposite = [r, open(1), l, close(1), r];
+    assert_levels(&rt, alloc, &only_opposite, Direction::Rtl, b"11211")?;
+    assert_levels(&rt, alloc, &[l, open(1), r, close(1)], ltr, b"0010")?;
+    assert_levels(&rt, alloc, &[l, open(2), r, close(2), r], ltr, b"00101")?;
+    let outer_first = [r, open(1), open(1), r, close(1), l, close(1)];
+    assert_levels(&rt, alloc, &outer_first, ltr, b"1001000")?;
+    let lone_closer = [l, open(1), close(3), r, close(1), r];
+    assert_levels(&rt, alloc, &lone_closer, ltr, b"000101")?;
     Ok(())
+}
+
+#[test]
+fn marks_behind_brackets(rt: HostRuntime) -> Result<(), Fail> {
+    let (alloc, ltr) = (rt.alloc(), Direction::Ltr);
+    let (l, r, nsm) = (plain(Class::L), plain(Class::R), plain(Class::NSM));
+    assert_levels(&rt, alloc, &[r, open(1), r, close(1), nsm, l], ltr, b"111110")?;
+    let two_marks = [r, open(1), r, close(1), nsm, nsm, l];
+    assert_levels(&rt, alloc, &two_marks, ltr, b"1111110")?;
+    let (lre, lro, pdf) = (plain(Class::LRE), plain(Class::LRO), plain(Class::PDF));
+    let overridden = [
+        lre, r, open(1), r, close(1), pdf, lro, nsm, pdf, pdf, l,
+    ];
+    assert_levels(&rt, alloc, &overridden, ltr, b"x3333xx2xx0")?;
+    Ok(())
+}
+
+/// A pair round R, and behind it `n` pairs in one another round R.
+fn deep(alloc: Global, n: usize) -> Result<Vec<Unit>, Memory>
+    requires { n < 1000 }
+{
+    let mut units = vec![in alloc; plain(Class::R); 2 * n + 8]?;
+    units[0] = plain(Class::L);
+    units[1] = open(1);
+    units[3] = close(1);
+    units[5] = plain(Class::L);
+    for k in 0..n {
+        units[6 + k] = open(1);
+        units[7 + n + k] = close(1);
+    }
+    Ok(units)
+}
+
+/// The levels of `deep`, where those of the closing brackets of the pairs in one another are these.
+fn deep_levels(alloc: Global, n: usize, closing: u8) -> Result<Vec<u8>, Memory>
+    requires { n < 1000 }
+{
+    let mut levels = vec![in alloc; b'0'; 2 * n + 8]?;
+    levels[2] = b'1';
+    levels[4] = b'1';
+    levels[6 + n] = b'1';
+    levels[7 + 2 * n] = b'1';
+    for k in 0..n {
+        levels[7 + n + k] = closing;
+    }
+    Ok(levels)
+}
+
+#[test]
+fn full_stack(rt: HostRuntime) -> Result<(), Fail> {
+    let (alloc, ltr) = (rt.alloc(), Direction::Ltr);
+    let all_pair = deep_levels(alloc, 63, b'0')?;
+    assert_levels(&rt, alloc, &deep(alloc, 63)?, ltr, &all_pair)?;
+    let first_pairs = deep_levels(alloc, 64, b'1')?;
+    assert_levels(&rt, alloc, &deep(alloc, 64)?, ltr, &first_pairs)?;
+    Ok(())
+}
+
+fn closers_from<L: Ledger>(
+    rt: &impl Abort,
+    alloc: Global,
+    para: &[Unit],
+    blank: Blank,
+) -> Result<Vec<Option<usize>>, Memory>
+    requires separators { SeparatorOnlyLast para.now }
+    requires name { blank.name ≡ L.name }
+    requires parts { blank.parts ≡ L.parts }
+    requires some { 0 < blank.parts }
+{
+    let mut steps = Steps::<L>::new(blank);
+    let mut found = found_from(alloc, para, Direction::Ltr, &mut steps)?;
+    assert!(rt; found.sequences.count() > 0);
+    let s = found.sequences.get(0);
+    let mut classes = found.current.to_vec(alloc)?;
+    weak(&s, &mut classes, &mut steps);
+    bracket_pairs(&s, para, &classes, &mut found.pairs, &mut steps);
+    let mut closers = vec![in alloc; None; para.len()]?;
+    for p in 0..para.len() {
+        closers[p] = found.pairs.closer(p);
+    }
+    Ok(closers)
+}
+
+#[test]
+fn closers(rt: HostRuntime) -> Result<(), Fail> {
+    let (l, r) = (plain(Class::L), plain(Class::R));
+    let para = [r, open(1), open(1), r, close(1), l, close(1)];
+    assert!(rt; is_paragraph(&para));
+    let closers = closers_from::<Brand>(&rt, rt.alloc(), &para, Blank::new(1))?;
+    let expected = [None, Some(6), Some(4), None, None, None, None];
+    assert_eq!(rt; closers.as_slice(), expected.as_slice());
+    Ok(())
+}
+
+#[test]
+fn too_much_room(rt: HostRuntime) {
+    assert_eq!(rt;
+        Pairs::with_room(rt.alloc(), usize::MAX).err(),
+        Some(Memory)
+    );
 }

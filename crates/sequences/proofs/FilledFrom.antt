@@ -1,11 +1,13 @@
 -- What the isolates and the explicit levels of a paragraph say of it, position by position.
-use Rattle.std.specs.Prelude.{Option, None, ℕ, true, ◌<◌, ◌≡◌, List, length, IfSome, slice_index_or}
+use Rattle.std.specs.Prelude.{Option, None, ℕ, true, false, [], ◌∷◌, ◌<◌, ◌≡◌, List, length, IfSome, slice_index_or}
+use Rattle.std.specs.List.{list_any}
 use Rattle.std.specs.Option.{option_map}
 use Rattle.std.proofs.Common.{arith, ap, sym, ◌∙◌, subst}
-use Rattle.std.proofs.lemmas.Bool.{cond-true}
+use Rattle.std.proofs.lemmas.Bool.{cond-true, or_parts}
 use Rattle.std.proofs.lemmas.List.{length-map}
-use Rattle.units.specs.Classes.{class_at, classes_of, is_isolate_initiator}
+use Rattle.units.specs.Classes.{class_at, classes_of, is_isolate_initiator, is_separator}
 use Rattle.units.specs.Isolates.{partner_of}
+use Rattle.units.specs.Paragraphs.{SeparatorOnlyLast}
 use Rattle.units.specs.Runs.{LeveledView, IsLeveled, leveled_of, size_of, level_of, matched_pdi}
 use Rattle.units.specs.declared.bracket.Unit.{Unit as BidiUnit}
 use Rattle.units.specs.declared.class.Class.{Class}
@@ -15,6 +17,14 @@ use Rattle.sequences.specs.FilledFrom.{AreOfParagraph}
 
 pub length-classes_of : (units : List BidiUnit) → length (classes_of units) ≡ length units
 length-classes_of units = length-map units (λ (u : BidiUnit). u.class)
+
+-- without a separator, units are one paragraph
+pub no_separator : (us : List BidiUnit) → list_any (λ (unit : BidiUnit). is_separator unit.class) us ≡ false → SeparatorOnlyLast us
+no_separator [] e = tt
+no_separator (u ∷ []) e = tt
+no_separator (u ∷ v ∷ us) e =
+    let parts = or_parts (is_separator u.class) (list_any (λ (unit : BidiUnit). is_separator unit.class) (v ∷ us)) e in
+    (parts.0, no_separator (v ∷ us) parts.1)
 
 -- the paragraph has as many positions as units
 pub size-of_paragraph : (units : List BidiUnit) (para : ℕ) → size_of (leveled_of (classes_of units) para) ≡ length units
