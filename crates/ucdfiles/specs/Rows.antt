@@ -1,114 +1,222 @@
--- The rows for the table readers.
+-- Rows that the definitions compute to.
 use Rattle.std.specs.Prelude.{ℕ, ◌≡◌, List, [], ◌∷◌, ◌++◌, Some, None, refl, codes}
-use Rattle.ucdfiles.specs.ClassFile.{class_line_says, class_file_fault, class_of}
-use Rattle.ucdfiles.specs.PairFiles.{bracket_file_fault, mirror_file_fault, bracket_of, mirror_of, pair_line_says}
-use Rattle.ucdfiles.specs.declared.sided_bracket.Side.TheVariants.{Close}
+use Rattle.unicode_normalization.proofs.Computing.{unicode_normalization}
+use Rattle.units.specs.Text.{settled_lines}
+use Rattle.units.specs.declared.class.Class.TheVariants.{L, R, AL, AN}
+use Rattle.ucdfiles.specs.ClassFile.{class_line_says, class_fault, class_file_fault, class_of}
+use Rattle.ucdfiles.specs.PairFiles.{bracket_file_fault, mirror_file_fault, bracket_of, mirror_of, pair_line_says, IsEquivalent}
+use Rattle.ucdfiles.specs.Faults.{first_fault}
+use Rattle.ucdfiles.specs.declared.sided_bracket.Side.TheVariants.{Open, Close}
 use Rattle.ucdfiles.specs.declared.fault.TableFault.TheVariants.{CodePoint, Backwards, ClassName, Fields, Overlap, Twice, BracketKind}
-use Rattle.units.specs.declared.class.Class.TheVariants.{L, R, AN}
 
 abbrev lf : List ℕ
 lf = 10 ∷ []
 
-class_name : class_file_fault (codes "0041 ; Left_To_Right") ≡ Some (ClassName 1)
-unfolding class_file_fault class_line_says
-class_name = refl
+-- ---- DerivedBidiClass.txt
 
-missing : class_file_fault (codes "# @missing: 0041; Right_To_Left") ≡ None
-unfolding class_file_fault class_line_says
-missing = refl
+-- a data line takes no long name
+pub long_name_in_data : class_file_fault (codes "0041 ; Left_To_Right") ≡ Some (ClassName 1)
+unfolding class_file_fault class_of class_line_says
+long_name_in_data = refl
 
-missing-class : class_of (codes "# @missing: 0041; Right_To_Left") 0x41 ≡ R
-unfolding class_of class_line_says
-missing-class = refl
+-- a default line takes one
+pub default_line : class_file_fault (codes "# @missing: 0041; Right_To_Left") ≡ None
+unfolding class_file_fault class_of class_line_says
+default_line = refl
 
-backwards : class_file_fault (codes "0042..0041 ; L") ≡ Some (Backwards 1)
-unfolding class_file_fault class_line_says
+-- and states its class
+pub default_class : class_of (codes "# @missing: 0041; Right_To_Left") 0x41 ≡ R
+unfolding class_file_fault class_of class_line_says
+default_class = refl
+
+-- or a short name
+pub short_name_in_default : class_of (codes "# @missing: 0041; AL") 0x41 ≡ AL
+unfolding class_file_fault class_of class_line_says
+short_name_in_default = refl
+
+-- a range that ends before it begins
+pub backwards : class_file_fault (codes "0042..0041 ; L") ≡ Some (Backwards 1)
+unfolding class_file_fault class_of class_line_says
 backwards = refl
 
-short_digits : class_file_fault (codes "41 ; L") ≡ Some (CodePoint 1)
-unfolding class_file_fault class_line_says
-short_digits = refl
+-- a code point has at least four digits
+pub two_digits : class_file_fault (codes "41 ; L") ≡ Some (CodePoint 1)
+unfolding class_file_fault class_of class_line_says
+two_digits = refl
 
-above : class_file_fault (codes "110000 ; L") ≡ Some (CodePoint 1)
-unfolding class_file_fault class_line_says
-above = refl
+-- and is at most 10FFFF
+pub above_the_last : class_file_fault (codes "110000 ; L") ≡ Some (CodePoint 1)
+unfolding class_file_fault class_of class_line_says
+above_the_last = refl
 
-three : class_file_fault (codes "0041 ; L ; L") ≡ Some (Fields 1)
-unfolding class_file_fault class_line_says
-three = refl
+-- a range has no blanks inside
+pub blanks_in_range : class_file_fault (codes "0041 .. 0042 ; L") ≡ Some (CodePoint 1)
+unfolding class_file_fault class_of class_line_says
+blanks_in_range = refl
 
-free : class_file_fault (codes "0041 ; L # @missing: zz") ≡ None
-unfolding class_file_fault class_line_says
-free = refl
+-- a data line has two fields
+pub three_fields : class_file_fault (codes "0041 ; L ; L") ≡ Some (Fields 1)
+unfolding class_file_fault class_of class_line_says
+three_fields = refl
 
-empty : class_file_fault [] ≡ None
-unfolding class_file_fault class_line_says
-empty = refl
+-- the comment of a data line is free
+pub free_comment : class_file_fault (codes "0041 ; L # @missing: zz") ≡ None
+unfolding class_file_fault class_of class_line_says
+free_comment = refl
 
-empty-class : class_of [] 0x5D0 ≡ L
-unfolding class_of class_line_says
-empty-class = refl
+-- an empty file states a table
+pub empty_file : class_file_fault [] ≡ None
+unfolding class_file_fault class_of class_line_says
+empty_file = refl
 
-overlap : class_file_fault (codes "0040..0045 ; L" ++ lf ++ codes "0030..0040 ; R" ++ lf ++ codes "0050") ≡ Some (Overlap 2)
-unfolding class_file_fault class_line_says
-overlap = refl
+-- in which every character has L
+pub empty_file_class : class_of [] 0x5D0 ≡ L
+unfolding class_file_fault class_of class_line_says
+empty_file_class = refl
 
-spaced : class_file_fault (codes "0041 .. 0042 ; L") ≡ Some (CodePoint 1)
-unfolding class_file_fault class_line_says
-spaced = refl
+-- a surrogate may stand in a range
+pub surrogates : class_file_fault (codes "D800..DFFF ; L") ≡ None
+unfolding class_file_fault class_of class_line_says
+surrogates = refl
 
--- row 16, second half: lines 4 and 9 have a code point in common
-ninth : class_file_fault (lf ++ lf ++ lf ++ codes "0040..0045 ; L" ++ lf ++ lf ++ lf ++ lf ++ lf ++ codes "0045 ; R" ++ lf) ≡ Some (Overlap 9)
-unfolding class_file_fault class_line_says
-ninth = refl
+-- ranges that have one code point in common, the last of one
+pub overlap_at_last : class_file_fault (codes "0040..0045 ; L" ++ lf ++ codes "0030..0040 ; R" ++ lf ++ codes "0050") ≡ Some (Overlap 2)
+unfolding class_file_fault class_of class_line_says
+overlap_at_last = refl
+
+-- the fault is that of the later line
+pub overlap_far_away : class_file_fault (lf ++ lf ++ lf ++ codes "0040..0045 ; L" ++ lf ++ lf ++ lf ++ lf ++ lf ++ codes "0045 ; R" ++ lf) ≡ Some (Overlap 9)
+unfolding class_file_fault class_of class_line_says
+overlap_far_away = refl
+
+-- code points are compared by value
+pub overlap_by_value : class_file_fault (codes "0041 ; L" ++ lf ++ codes "000041 ; L") ≡ Some (Overlap 2)
+unfolding class_file_fault class_of class_line_says
+overlap_by_value = refl
 
 abbrev defaults : List ℕ
 defaults = codes "# @missing: 0000..10FFFF; Left_To_Right" ++ lf ++ codes "# @missing: 0590..05FF; R" ++ lf ++ codes "05D0 ; AN" ++ lf
 
-row26 : class_file_fault defaults ≡ None
-unfolding class_file_fault class_line_says
-row26 = refl
+-- default lines may overlap
+pub defaults_overlap : class_file_fault defaults ≡ None
+unfolding class_file_fault class_of class_line_says
+defaults_overlap = refl
 
-row26-data : class_of defaults 0x5D0 ≡ AN
-unfolding class_of class_line_says
-row26-data = refl
+-- a data line comes before them
+pub data_before_defaults : class_of defaults 0x5D0 ≡ AN
+unfolding class_file_fault class_of class_line_says
+data_before_defaults = refl
 
-row26-last : class_of defaults 0x5D1 ≡ R
-unfolding class_of class_line_says
-row26-last = refl
+-- of default lines the last decides
+pub last_default : class_of defaults 0x5D1 ≡ R
+unfolding class_file_fault class_of class_line_says
+last_default = refl
 
-row26-first : class_of defaults 0x41 ≡ L
-unfolding class_of class_line_says
-row26-first = refl
+-- the first, where it is alone
+pub first_default : class_of defaults 0x41 ≡ L
+unfolding class_file_fault class_of class_line_says
+first_default = refl
 
-kind : bracket_file_fault (codes "0028; 0029; n") ≡ Some (BracketKind 1)
-unfolding bracket_file_fault pair_line_says
-kind = refl
+-- a line that has ended is settled
+pub ended_line : first_fault class_fault [] (settled_lines (codes "0041 ; XX" ++ lf)) ≡ Some (ClassName 1)
+unfolding class_file_fault class_of class_line_says
+ended_line = refl
 
-twice : bracket_file_fault (codes "0028; 0029; o" ++ lf ++ codes "0028; 0029; o" ++ lf) ≡ Some (Twice 2)
-unfolding bracket_file_fault pair_line_says
-twice = refl
+-- one that has begun is not
+pub begun_line : first_fault class_fault [] (settled_lines (codes "0041 ; XX")) ≡ None
+unfolding class_file_fault class_of class_line_says
+begun_line = refl
 
-surrogate : mirror_file_fault (codes "0028; D800") ≡ Some (CodePoint 1)
-unfolding mirror_file_fault pair_line_says
-surrogate = refl
+-- ---- BidiBrackets.txt
 
-one : mirror_file_fault (codes "0028") ≡ Some (Fields 1)
-unfolding mirror_file_fault pair_line_says
-one = refl
+-- the third field is `o` or `c`
+pub bracket_kind : bracket_file_fault (codes "0028; 0029; n") ≡ Some (BracketKind 1)
+unfolding bracket_file_fault mirror_file_fault bracket_of mirror_of pair_line_says
+bracket_kind = refl
 
-closing : bracket_file_fault (codes "0029; 0041; c") ≡ None
-unfolding bracket_file_fault pair_line_says
-closing = refl
+-- a character has one line
+pub bracket_twice : bracket_file_fault (codes "0028; 0029; o" ++ lf ++ codes "0028; 0029; o" ++ lf) ≡ Some (Twice 2)
+unfolding bracket_file_fault mirror_file_fault bracket_of mirror_of pair_line_says
+bracket_twice = refl
 
-closing-bracket : bracket_of (codes "0029; 0041; c") 0x29 ≡ Some (record { side = Close; keyed_by = 0x29 })
-unfolding bracket_of pair_line_says
-closing-bracket = refl
+-- by its value
+pub bracket_twice_by_value : bracket_file_fault (codes "0028; 0029; o" ++ lf ++ codes "000028; 0029; c") ≡ Some (Twice 2)
+unfolding bracket_file_fault mirror_file_fault bracket_of mirror_of pair_line_says
+bracket_twice_by_value = refl
 
-closing-other : bracket_of (codes "0029; 0041; c") 0x41 ≡ None
-unfolding bracket_of pair_line_says
-closing-other = refl
+-- the second field of a closing line is checked
+pub closing_line : bracket_file_fault (codes "0029; 0041; c") ≡ None
+unfolding bracket_file_fault mirror_file_fault bracket_of mirror_of pair_line_says
+closing_line = refl
 
-image : mirror_of (codes "0028; 0029" ++ lf ++ codes "0029; 0028") 0x29 ≡ Some 0x28
-unfolding mirror_of pair_line_says
-image = refl
+-- and not used: a closing bracket has its own key
+pub closing_bracket : bracket_of (codes "0029; 0041; c") 0x29 ≡ Some (record { side = Close; keyed_by = 0x29 })
+unfolding bracket_file_fault mirror_file_fault bracket_of mirror_of pair_line_says
+closing_bracket = refl
+
+-- it makes no bracket
+pub no_bracket : bracket_of (codes "0029; 0041; c") 0x41 ≡ None
+unfolding bracket_file_fault mirror_file_fault bracket_of mirror_of pair_line_says
+no_bracket = refl
+
+abbrev brackets : List ℕ
+brackets =
+    codes "0028; 0029; o" ++ lf ++ codes "0029; 0028; c" ++ lf ++ codes "005B; 005D; o" ++ lf ++ codes "005D; 005B; c" ++ lf ++ codes "2329; 232A; o" ++ lf ++ codes "232A; 2329; c" ++ lf ++ codes "3008; 3009; o" ++ lf
+    ++ codes "3009; 3008; c" ++ lf
+
+-- brackets and their counterparts
+pub bracket_lines : bracket_file_fault brackets ≡ None
+unfolding bracket_file_fault mirror_file_fault bracket_of mirror_of pair_line_says
+bracket_lines = refl
+
+-- an opening bracket has the key of its counterpart
+pub angle_opens : bracket_of brackets 0x2329 ≡ Some (record { side = Open; keyed_by = 0x232A })
+unfolding bracket_file_fault mirror_file_fault bracket_of mirror_of pair_line_says
+angle_opens = refl
+
+-- this one is closed by another character
+pub angle_closes : bracket_of brackets 0x3009 ≡ Some (record { side = Close; keyed_by = 0x3009 })
+unfolding bracket_file_fault mirror_file_fault bracket_of mirror_of pair_line_says
+angle_closes = refl
+
+-- which is canonically equivalent to its counterpart
+pub angles_equivalent : IsEquivalent 0x232A 0x3009
+unfolding unicode_normalization
+angles_equivalent = refl
+
+-- a parenthesis
+pub parenthesis_opens : bracket_of brackets 0x28 ≡ Some (record { side = Open; keyed_by = 0x29 })
+unfolding bracket_file_fault mirror_file_fault bracket_of mirror_of pair_line_says
+parenthesis_opens = refl
+
+-- and a square bracket
+pub square_closes : bracket_of brackets 0x5D ≡ Some (record { side = Close; keyed_by = 0x5D })
+unfolding bracket_file_fault mirror_file_fault bracket_of mirror_of pair_line_says
+square_closes = refl
+
+-- are not equivalent
+pub parenthesis_square : ¬ IsEquivalent 0x29 0x5D
+unfolding unicode_normalization
+parenthesis_square e = cc
+
+-- ---- BidiMirroring.txt
+
+-- a surrogate has no image and is none
+pub mirror_surrogate : mirror_file_fault (codes "0028; D800") ≡ Some (CodePoint 1)
+unfolding bracket_file_fault mirror_file_fault bracket_of mirror_of pair_line_says
+mirror_surrogate = refl
+
+-- a data line has two fields
+pub mirror_fields : mirror_file_fault (codes "0028") ≡ Some (Fields 1)
+unfolding bracket_file_fault mirror_file_fault bracket_of mirror_of pair_line_says
+mirror_fields = refl
+
+-- the image of a character
+pub mirror_image : mirror_of (codes "0028; 0029" ++ lf ++ codes "0029; 0028") 0x29 ≡ Some 0x28
+unfolding bracket_file_fault mirror_file_fault bracket_of mirror_of pair_line_says
+mirror_image = refl
+
+-- a character without a line has none
+pub no_image : mirror_of (codes "0028; 0029" ++ lf ++ codes "0029; 0028") 0x41 ≡ None
+unfolding bracket_file_fault mirror_file_fault bracket_of mirror_of pair_line_says
+no_image = refl

@@ -14,4 +14,6 @@ pub mod span;
 pub mod spans;
 pub mod statements;
 pub mod tables;
+#[cfg(test)]
+mod tests;
 pub mod two_stage;
