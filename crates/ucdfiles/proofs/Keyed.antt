@@ -1,5 +1,5 @@
 -- Brackets with keys: one more, and the table of a faultless file.
-use Rattle.std.proofs.Common.{◌≡◌, ◌≤◌, ◌↔◌, ℕ, Bool, true, false, Option, None, Some, List, [], ◌∷◌, ◌++◌, map, refl, sym, ap, subst, ◌∙◌, ◌⊎◌, inl, inr}
+use Rattle.std.proofs.Common.{◌≡◌, ◌≤◌, ◌↔◌, ℕ, Option, None, Some, List, [], ◌∷◌, ◌++◌, map, refl, sym, ap, subst, ◌∙◌, inl, inr}
 use Rattle.std.specs.List.{find}
 use Rattle.std.specs.Option.{option_map, unwrap_or}
 use Rattle.std.proofs.lemmas.List.{map-append}
@@ -18,10 +18,7 @@ use Rattle.ucdfiles.specs.Keys.{number_in, IsNumbering, Keeps, key_in, keyed_val
 use Rattle.ucdfiles.specs.PairFiles.{pair_line_says, bracket_in, bracket_fault, bracket_file_fault, bracket_of, bracket_by, bracket_with, IsEquivalent, IsKeyed, StatesBrackets}
 use Rattle.ucdfiles.proofs.Rising.{find-revalued}
 use Rattle.ucdfiles.proofs.PairValues.{value_of-pairs}
-
-known : (b : Bool) → (b ≡ true) ⊎ (b ≡ false)
-known true = inl refl
-known false = inr refl
+use Rattle.ucdfiles.proofs.Bools.{known}
 
 module _ (old new : List (List ℕ × ℕ)) (keeps : Keeps old new) where
   number-kept : (a : ℕ) → IsNumbered old a → number_in new (nfd (a ∷ [])) ≡ number_in old (nfd (a ∷ []))

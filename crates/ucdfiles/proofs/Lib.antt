@@ -1,3 +1,4 @@
+pub mod Bools
 pub mod ClassLines
 pub mod Rising
 pub mod Settled

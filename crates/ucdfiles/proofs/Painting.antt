@@ -1,5 +1,5 @@
 -- Spans laid over values, and the values that they leave.
-use Rattle.std.proofs.Common.{◌≡◌, ℕ, suc, ◌+◌, ◌<◌, ◌≤◌, Bool, true, false, leb, ◌&&◌, Option, None, Some, List, [], ◌∷◌, ◌++◌, length, get_or, reverse, refl, sym, ap, ◌∙◌, arith, ◌⊎◌, inl, inr}
+use Rattle.std.proofs.Common.{◌≡◌, ℕ, suc, ◌+◌, ◌<◌, ◌≤◌, Bool, true, leb, Option, None, Some, List, [], ◌∷◌, ◌++◌, length, get_or, reverse, refl, sym, ap, ◌∙◌, arith, inl, inr}
 use Rattle.std.specs.List.{find}
 use Rattle.std.specs.Cmp.Lexicographic.{pointwise}
 use Rattle.std.specs.Option.{option_or, unwrap_or}
@@ -10,18 +10,7 @@ use Rattle.ucdfiles.specs.declared.span.Span.{Span}
 use Rattle.ucdfiles.specs.Spans.{holds, IsRising, value_by, value_in}
 use Rattle.ucdfiles.proofs.Rising.{find-none, not_held_before}
 use Rattle.ucdfiles.specs.Stages.{value_over, value_over_all}
-
-and_left : (a b : Bool) → (a && b) ≡ true → a ≡ true
-and_left true b h = refl
-and_left false b h = h
-
-and_right : (a b : Bool) → (a && b) ≡ true → b ≡ true
-and_right true b h = h
-and_right false b h = absurd (false≢true h)
-
-known : (b : Bool) → (b ≡ true) ⊎ (b ≡ false)
-known true = inl refl
-known false = inr refl
+use Rattle.ucdfiles.proofs.Bools.{known, both_true}
 
 module _ {V : Type 0} where
   pub value_over_all-push : (c : ℕ) (spans : List (Span V)) (span : Span V) (v : V) → value_over_all c (spans ++ span ∷ []) v ≡ value_over c span (value_over_all c spans v)
@@ -76,7 +65,7 @@ module _ {V : Type 0} where
 
   -- of spans in order, those behind one that holds a code point don't
   none_behind : (c : ℕ) (s : Span V) (spans : List (Span V)) → IsRising (s ∷ spans) → holds c s ≡ true → find (holds c) spans ≡ None
-  none_behind c s spans rising held = find-none (holds c) spans (λ k d lt. not_held_before c (get_or spans k d) (omega (arith, leb-true c s.last (and_right _ _ held), rising.apart 0 (suc k) d (omega arith) (omega arith))))
+  none_behind c s spans rising held = find-none (holds c) spans (λ k d lt. not_held_before c (get_or spans k d) (omega (arith, leb-true c s.last ((both_true _ _ held).1), rising.apart 0 (suc k) d (omega arith) (omega arith))))
 
   -- so the one that holds it gives it its value
   pub value_over_all-rising : (c : ℕ) (spans : List (Span V)) (v : V) → IsRising spans → value_over_all c spans v ≡ unwrap_or (value_by (find (holds c) spans) None) v
@@ -115,6 +104,6 @@ module _ {V : Type 0} where
   pointwise-exact equal exact [] (y ∷ ys) e = absurd (false≢true e)
   pointwise-exact equal exact (x ∷ xs) [] e = absurd (false≢true e)
   pointwise-exact equal exact (x ∷ xs) (y ∷ ys) e =
-      let head : x ≡ y = exact x y (and_left _ _ e) in
-      let tail : xs ≡ ys = pointwise-exact equal exact xs ys (and_right _ _ e) in
-      cc
+      let head : x ≡ y = exact x y ((both_true _ _ e).0) in
+      let tail : xs ≡ ys = pointwise-exact equal exact xs ys ((both_true _ _ e).1) in
+      ap (λ z. z ∷ xs) head ∙ ap (λ zs. y ∷ zs) tail

@@ -1,5 +1,5 @@
 -- Spans in order: where one that holds a code point stands, and one more among them.
-use Rattle.std.proofs.Common.{◌≡◌, ℕ, zero, suc, ◌+◌, ◌-◌, ◌<◌, ◌≤◌, Bool, true, false, ltb, leb, ◌&&◌, ◌||◌, Option, None, Some, List, [], ◌∷◌, ◌++◌, length, map, get_or, take, drop, insert, refl, sym, ap, ◌∙◌, arith, ◌⊎◌, inl, inr}
+use Rattle.std.proofs.Common.{◌≡◌, ℕ, zero, suc, ◌+◌, ◌-◌, ◌<◌, ◌≤◌, Bool, true, false, ltb, leb, ◌||◌, Option, None, Some, List, [], ◌∷◌, ◌++◌, length, map, get_or, take, drop, insert, refl, sym, ap, ◌∙◌, arith, inl, inr}
 use Rattle.std.specs.List.{find, list_any, AllWithin}
 use Rattle.std.specs.List.Sorted.{IsPartitionedBy}
 use Rattle.std.specs.Option.{option_map, option_or}
@@ -10,34 +10,8 @@ use Rattle.std.proofs.lemmas.List.Edits.{length-insert, get_or-insert_at, get_or
 use Rattle.std.proofs.lemmas.List.Folds.{find-append, list_any-append}
 use Rattle.ucdfiles.specs.declared.fault.Fault.{Fault}
 use Rattle.ucdfiles.specs.declared.span.Span.{Span}
+use Rattle.ucdfiles.proofs.Bools.{and_false, known, both_true, both_false, or_moves}
 use Rattle.ucdfiles.specs.Spans.{holds, overlaps, IsRising, Adds, data_fault, revalued}
-
-and_false : (b : Bool) → (b && false) ≡ false
-and_false true = refl
-and_false false = refl
-
-known : (b : Bool) → (b ≡ true) ⊎ (b ≡ false)
-known true = inl refl
-known false = inr refl
-
-both_true : (a b : Bool) → (a && b) ≡ true → (a ≡ true) × (b ≡ true)
-both_true true b h = (refl, h)
-both_true false b h = absurd (false≢true h)
-
-both_false : (a b : Bool) → (a || b) ≡ false → (a ≡ false) × (b ≡ false)
-both_false true b h = absurd (false≢true (sym h))
-both_false false b h = (refl, h)
-
-or_false : (b : Bool) → (b || false) ≡ b
-or_false true = refl
-or_false false = refl
-
-or_moves : (a b c : Bool) → (a || (b || c)) ≡ ((a || c) || (b || false))
-or_moves true b c = refl
-or_moves false true true = refl
-or_moves false true false = refl
-or_moves false false true = refl
-or_moves false false false = refl
 
 module _ {V : Type 0} where
   pub parted : (rs : List (Span V)) (code : ℕ) → IsRising rs → IsPartitionedBy (λ (r : Span V). ltb r.last code) rs

@@ -11,17 +11,21 @@ use Rattle.ucdfiles.specs.Statements.{fault_behind, line_fault}
 use Rattle.ucdfiles.specs.ClassFile.{class_line_says, class_fault}
 use Rattle.ucdfiles.specs.PairFiles.{pair_line_says}
 
+-- of DerivedBidiClass.txt, by itself
 pub class_line_says-long : (line : List ℕ) → 65536 < length line → class_line_says line ≡ Faulty over_long_line
 unfolding class_line_says
 class_line_says-long line lt = let e : nat_lt 65536 (length line) ≡ true = lt-ltb _ _ lt in rw e refl
 
+-- and behind the earlier ones
 pub class_fault-long : (lines : List (List ℕ)) (line : List ℕ) → 65536 < length line → class_fault lines line ≡ Some over_long_line
 class_fault-long lines line lt = ap (fault_behind Overlap (map class_line_says lines)) (class_line_says-long line lt)
 
+-- of the files of pairs, by itself
 pub pair_line_says-long : {V : Type 0} (read : List (List ℕ) → Result (Span V) Fault) (line : List ℕ) → 65536 < length line → pair_line_says read line ≡ Faulty over_long_line
 unfolding pair_line_says
 pair_line_says-long read line lt = let e : nat_lt 65536 (length line) ≡ true = lt-ltb _ _ lt in rw e refl
 
+-- and behind the earlier ones
 pub pair_fault-long : {V : Type 0} (read : List (List ℕ) → Result (Span V) Fault) (lines : List (List ℕ)) (line : List ℕ) → 65536 < length line
     → line_fault (pair_line_says read) Twice lines line ≡ Some over_long_line
 pair_fault-long read lines line lt = ap (fault_behind Twice (map (pair_line_says read) lines)) (pair_line_says-long read line lt)

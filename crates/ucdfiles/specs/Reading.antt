@@ -41,6 +41,7 @@ pub record IsFault (fault : List (List ℕ) → List ℕ → Option Fault) (ende
   pub read : e ≡ Read → first_fault fault [] (settled_lines bytes) ≡ None
   pub other : e ≢ Read → Refuses fault bytes e ⊎ (ended × (first_fault fault [] (lines_of bytes) ≡ Some e))
 
+-- what a reader answers: all lines state the table, or a fault
 abbrev pub IsOutcome : (List (List ℕ) → Type 0) → (List (List ℕ) → List ℕ → Option Fault) → Type 0 → List ℕ → Result (Unit {0}) TableFault → Type 0
 IsOutcome stands fault ended bytes (Ok done) = ended × (first_fault fault [] (lines_of bytes) ≡ None) × stands (lines_of bytes)
 IsOutcome stands fault ended bytes (Err e) = IsFault fault ended bytes e

@@ -9,6 +9,7 @@ use Rattle.ucdfiles.specs.Faults.{first_fault}
 use Rattle.ucdfiles.specs.declared.sided_bracket.Side.TheVariants.{Open, Close}
 use Rattle.ucdfiles.specs.declared.fault.TableFault.TheVariants.{CodePoint, Backwards, ClassName, Fields, Overlap, Twice, BracketKind}
 
+-- a line feed
 abbrev lf : List ℕ
 lf = 10 ∷ []
 
@@ -94,6 +95,7 @@ pub overlap_by_value : class_file_fault (codes "0041 ; L" ++ lf ++ codes "000041
 unfolding class_file_fault class_of class_line_says
 overlap_by_value = refl
 
+-- two default lines and a data line
 abbrev defaults : List ℕ
 defaults = codes "# @missing: 0000..10FFFF; Left_To_Right" ++ lf ++ codes "# @missing: 0590..05FF; R" ++ lf ++ codes "05D0 ; AN" ++ lf
 
@@ -159,6 +161,7 @@ pub no_bracket : bracket_of (codes "0029; 0041; c") 0x41 ≡ None
 unfolding bracket_file_fault mirror_file_fault bracket_of mirror_of pair_line_says
 no_bracket = refl
 
+-- four pairs of brackets
 abbrev brackets : List ℕ
 brackets =
     codes "0028; 0029; o" ++ lf ++ codes "0029; 0028; c" ++ lf ++ codes "005B; 005D; o" ++ lf ++ codes "005D; 005B; c" ++ lf ++ codes "2329; 232A; o" ++ lf ++ codes "232A; 2329; c" ++ lf ++ codes "3008; 3009; o" ++ lf

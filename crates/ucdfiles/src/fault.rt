@@ -4,7 +4,7 @@ ghost use Rattle.ucdfiles.specs.Faults.{fault_at, name_of, line_of};
 
 use thiserror::Error;
 
-/// What is wrong with a line of a property file.
+/// What is wrong with a line of a property file; `TableFault` says when each comes.
 #[derive(Clone, Copy, Debug, PartialEq, Eq)]
 pub enum Fault {
     CodePoint,

@@ -6,14 +6,18 @@ use units::bracket::{Bracket, Key};
 /// BD14, BD15: whether a bracket opens or closes a pair.
 #[derive(Clone, Copy, Debug, PartialEq, Eq)]
 pub enum Side {
+    /// `o`: an opening bracket.
     Open,
+    /// `c`: a closing bracket.
     Close,
 }
 
 /// The side of a bracket, and the character whose key it has: its paired bracket if it opens, itself if it closes.
 #[derive(Clone, Copy, Debug, PartialEq, Eq)]
 pub struct SidedBracket {
+    /// Whether it opens or closes a pair.
     pub side: Side,
+    /// The character whose key it has.
     pub keyed_by: char,
 }
 

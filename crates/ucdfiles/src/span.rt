@@ -6,8 +6,11 @@ use crate::fault::Fault;
 /// The code points from the first to the last, both inclusive, and the value that a line gives them.
 #[derive(Clone, Copy, Debug, Drop, PartialEq, Eq)]
 pub struct Span<V> {
+    /// The first code point.
     pub first: u32,
+    /// The last code point.
     pub last: u32,
+    /// The value of each of them.
     pub value: V,
 }
 
