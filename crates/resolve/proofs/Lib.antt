@@ -3,6 +3,7 @@ pub mod AtEach
 pub mod BracketSteps
 pub mod Costs
 pub mod CountingPairs
+pub mod Covering
 pub mod Depth
 pub mod Gathered
 pub mod Giving

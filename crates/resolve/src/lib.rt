@@ -7,6 +7,7 @@ pub mod neutral;
 mod openers;
 pub mod paired;
 pub mod pairs;
+pub mod paragraph;
 mod rules;
 mod runs;
 #[cfg(test)]

@@ -1,6 +1,7 @@
 pub mod CodePoints
 pub mod Cuts
 pub mod FirstItem
+pub mod Lengths
 pub mod LineAppending
 pub mod LineReading
 pub mod LineRunning

@@ -1,0 +1,76 @@
+-- Each rule over a sequence gives as many classes as there were (W1 to I2).
+use Rattle.std.specs.Prelude.{Option, ℕ, zero, suc, Some, None, ◌+◌, ◌≡◌, List, [], ◌∷◌, length, map, fold, refl}
+use Rattle.std.proofs.Common.{ap, ◌∙◌, arith}
+use Rattle.std.proofs.lemmas.List.{length-map}
+use Rattle.units.specs.Positions.{positions_from, positions_of}
+use Rattle.units.specs.Runs.{SequenceView, direction_of}
+use Rattle.units.specs.Weak.{at_each, by_w3, by_w6, after_w1, after_w2, after_w3, after_w4, after_w5, after_w6, after_w7, after_weak}
+use Rattle.units.specs.Brackets.{acting_brackets, bracket_pairs_of, closer_of, given_to, with_direction, after_pair, after_paired}
+use Rattle.units.specs.Implicit.{implicit_level}
+use Rattle.units.specs.Neutral.{after_neutral}
+use Rattle.units.specs.Layout.{units_at, after_brackets, after_rules, levels_of_sequence}
+use Rattle.units.specs.declared.bracket.Unit.{Unit as BidiUnit}
+use Rattle.units.specs.declared.class.Class.{Class}
+
+length-positions_from : (start count : ℕ) → length (positions_from start count) ≡ count
+length-positions_from start zero = refl
+length-positions_from start (suc count) = omega (arith, length-positions_from (start + 1) count)
+
+pub length-at_each : (f : ℕ → Class) (cs : List Class) → length (at_each f cs) ≡ length cs
+length-at_each f cs = length-map (positions_of cs) f ∙ length-positions_from 0 (length cs)
+
+length-after_w1 : (sos : Class) (cs : List Class) → length (after_w1 sos cs) ≡ length cs
+length-after_w1 sos cs = length-at_each _ cs
+
+length-after_w2 : (sos : Class) (cs : List Class) → length (after_w2 sos cs) ≡ length cs
+length-after_w2 sos cs = length-at_each _ cs
+
+length-after_w4 : (cs : List Class) → length (after_w4 cs) ≡ length cs
+length-after_w4 cs = length-at_each _ cs
+
+length-after_w5 : (cs : List Class) → length (after_w5 cs) ≡ length cs
+length-after_w5 cs = length-at_each _ cs
+
+length-after_w7 : (sos : Class) (cs : List Class) → length (after_w7 sos cs) ≡ length cs
+length-after_w7 sos cs = length-at_each _ cs
+
+pub length-after_weak : (sos : Class) (cs : List Class) → length (after_weak sos cs) ≡ length cs
+unfolding after_weak
+length-after_weak sos cs =
+    let a : List Class = after_w1 sos cs in
+    let b : List Class = after_w2 sos a in
+    let c : List Class = after_w3 b in
+    let d : List Class = after_w4 c in
+    let e : List Class = after_w5 d in
+    let f : List Class = after_w6 e in
+    length-after_w7 sos f ∙ length-map e by_w6 ∙ length-after_w5 d ∙ length-after_w4 c ∙ length-map b by_w3 ∙ length-after_w2 sos a ∙ length-after_w1 sos cs
+
+length-with_direction : (before cs : List Class) (o c : ℕ) (direction : Option Class) → length (with_direction before cs o c direction) ≡ length cs
+length-with_direction before cs o c None = refl
+length-with_direction before cs o c (Some d) = length-at_each _ (given_to before o d cs) ∙ length-at_each _ cs
+
+pub length-after_pair : (embedding sos : Class) (before cs : List Class) (o : ℕ) (closer : Option ℕ) → length (after_pair embedding sos before cs o closer) ≡ length cs
+length-after_pair embedding sos before cs o None = refl
+length-after_pair embedding sos before cs o (Some c) = length-with_direction before cs o c _
+
+length-pairs : (embedding sos : Class) (before : List Class) (closer : ℕ → Option ℕ) (cs : List Class) (os : List ℕ) → length (fold (λ now o. after_pair embedding sos before now o (closer o)) cs os) ≡ length cs
+length-pairs embedding sos before closer cs [] = refl
+length-pairs embedding sos before closer cs (o ∷ os) =
+    length-pairs embedding sos before closer (after_pair embedding sos before cs o (closer o)) os ∙ length-after_pair embedding sos before cs o (closer o)
+
+pub length-after_paired : (embedding sos : Class) (before : List Class) (closer : ℕ → Option ℕ) (cs : List Class) → length (after_paired embedding sos before closer cs) ≡ length cs
+unfolding after_paired
+length-after_paired embedding sos before closer cs = length-pairs embedding sos before closer cs (positions_of cs)
+
+pub length-after_neutral : (embedding sos eos : Class) (cs : List Class) → length (after_neutral embedding sos eos cs) ≡ length cs
+unfolding after_neutral
+length-after_neutral embedding sos eos cs = length-at_each _ cs
+
+pub length-levels_of_sequence : (s : SequenceView) (us : List BidiUnit) (before : List Class) → length (levels_of_sequence s us before) ≡ length before
+length-levels_of_sequence s us before =
+    let weak : List Class = after_weak s.sos before in
+    let paired : List Class = after_brackets s us before weak in
+    length-map (after_rules s us before) (implicit_level s.level)
+    ∙ length-after_neutral (direction_of s.level) s.sos s.eos paired
+    ∙ length-after_paired (direction_of s.level) s.sos before (closer_of (bracket_pairs_of (acting_brackets (units_at us s.positions) weak))) weak
+    ∙ length-after_weak s.sos before
