@@ -1,12 +1,11 @@
 -- Sequence by sequence, each position gets the level that its sequence gives it.
-use Rattle.std.specs.Prelude.{Option, Some, None, ℕ, zero, suc, Bool, true, false, ◌==◌, ◌+◌, ◌*◌, ◌<◌, ◌≤◌, ◌≡◌, ◌⊎◌, List, [], ◌∷◌, ◌++◌, cond, length, map, take, drop, Contains, slice_index, slice_get, refl}
+use Rattle.std.specs.Prelude.{Option, Some, None, ℕ, zero, suc, true, ◌==◌, ◌+◌, ◌<◌, ◌≤◌, ◌≡◌, List, [], ◌∷◌, ◌++◌, cond, length, map, take, drop, Contains, slice_index, slice_get, refl}
 use Rattle.std.specs.List.{All, flat_map, find, zip}
-use Rattle.std.specs.Option.{option_map, option_or}
+use Rattle.std.specs.Option.{option_map}
 use Rattle.std.proofs.Common.{arith, ap, sym, ◌∙◌, subst, inl, inr}
 use Rattle.std.proofs.lemmas.Bool.{cases_Bool, cases_lt, cond-true, cond-false, eqb-true, eq-eqb}
-use Rattle.std.proofs.lemmas.List.{length-append, length-map, take-append-drop, take_more, take_all, append_assoc, append-nil}
-use Rattle.std.proofs.lemmas.List.Elements.{All-contains, Contains-get_or, All-get_or}
-use Rattle.std.proofs.lemmas.List.Folds.{find-append}
+use Rattle.std.proofs.lemmas.List.{length-append, length-map, take-append-drop, take_more, append_assoc, append-nil}
+use Rattle.std.proofs.lemmas.List.Elements.{All-contains, All-get_or}
 use Rattle.std.proofs.lemmas.List.Sums.{sum_by-append}
 use Rattle.std.proofs.lemmas.Option.{get_or_from_slice_get}
 use Rattle.units.specs.Classes.{class_at, classes_at}
@@ -57,9 +56,12 @@ found_some (x ∷ ps) (v ∷ vs) p n l =
           (0, omega arith, eqb-true x p same, ap (option_map (λ (y : ℕ × ℕ). y.1)) (cond-true (x == p) (Some (x, v)) (find (λ (y : ℕ × ℕ). y.0 == p) (zip ps vs)) same))
       | inr other ↦
           (let zero : one_if x p ≡ 0 = cond-false (x == p) 1 0 other in
-          let w = found_some ps vs p (omega arith) (omega (arith, times-cons x ps p)) in
-          (suc w.0, omega (arith, w.1), w.2,
-          ap (option_map (λ (y : ℕ × ℕ). y.1)) (cond-false (x == p) (Some (x, v)) (find (λ (y : ℕ × ℕ). y.0 == p) (zip ps vs)) other) ∙ w.3))
+          let w = found_some ps vs p (omega arith) (omega (arith, times-cons x ps p)) in (
+            suc w.0,
+            omega (arith, w.1),
+            w.2,
+            ap (option_map (λ (y : ℕ × ℕ). y.1)) (cond-false (x == p) (Some (x, v)) (find (λ (y : ℕ × ℕ). y.0 == p) (zip ps vs)) other) ∙ w.3,
+          ))
     ]
 
 found-append : (xs ys : List (ℕ × ℕ)) (p : ℕ) → level_found xs p ≡ None → level_found (xs ++ ys) p ≡ level_found ys p

@@ -1,4 +1,5 @@
 pub mod Ahead
+pub mod AllSequences
 pub mod AtEach
 pub mod BracketSteps
 pub mod Costs

@@ -1,20 +1,90 @@
 //! The resolved levels of a paragraph (P2 to I2).
-ghost use Rattle.std.specs.Prelude.{◌≡◌, ◌+◌, ◌*◌, ◌<◌, ◌≤◌, ℕ, None, length};
+ghost use Rattle.std.specs.Prelude.{◌≡◌, ◌+◌, ◌*◌, ◌<◌, ◌≤◌, ℕ, None, IfOk, length, take};
+ghost use Rattle.std.specs.Option.{option_map_or};
+ghost use Rattle.units.specs.Classes.{classes_of};
+ghost use Rattle.units.specs.Isolates.{level_of_para, para_level_of};
+ghost use Rattle.units.specs.Layout.{current_of, resolved_levels};
+ghost use Rattle.units.specs.Paragraphs.{SeparatorOnlyLast};
+ghost use Rattle.units.specs.declared.class.Class.TheVariants.{BN};
 ghost use Rattle.resolve.specs.Covering.{AreApart, HasLevelsBy, KeepsMarks};
 ghost use Rattle.resolve.specs.Raised.{resolved_at};
 
 use crate::pairs::Pairs;
 use crate::whole::resolve_sequence;
+use explicit::isolates::IsolateMap;
+use explicit::levels::{Explicit, explicit_levels};
+use explicit::para_level::para_level;
 use sequences::paragraph::Sequences;
+use std::alloc::Global;
+use std::marker::Model;
 use std::sync::ledger::Ledger;
 use units::bracket::Unit;
 use units::class::Class;
-use units::level::Level;
+use units::level::{Direction, Level, ParaLevel};
+use units::memory::Memory;
 use units::steps::Steps;
+
+/// Room for the resolution of paragraphs, one after another. Contracts see for how many positions there is room.
+#[derive(Drop)]
+pub struct Resolver {
+    isolates: IsolateMap,
+    explicit: Explicit,
+    sequences: Sequences,
+    pairs: Pairs,
+    before: Vec<Class>,
+    classes: Vec<Class>,
+}
+
+impl Model for Resolver {
+    ghost use Rattle.std.specs.Prelude.{ℕ, length};
+    ghost use Rattle.explicit.specs.IsolateMaps.{room};
+    ghost use Rattle.resolve.specs.Resolvers.{HasRoom};
+
+    ghost Value = { ℕ };
+
+    ghost view = { λ r. length r.before.items };
+
+    ghost invariant = { λ r. HasRoom (length r.before.items) (room r.isolates) (length r.explicit) r.sequences.room (length r.pairs) (length r.classes.items) };
+}
+
+/// The class that the weak rules begin with: the current one, or BN where X9 removes the position.
+fn current_class(place: Option<(Level, Class)>) -> Class
+    ensures { result ≡ option_map_or (λ x. x.1) place BN }
+{
+    match place {
+        Some((_, class)) => class,
+        None => Class::BN,
+    }
+}
+
+/// Writes the current classes of a paragraph into both columns, and no levels.
+fn begin<L: Ledger>(
+    explicit: &Explicit,
+    before: &mut [Class],
+    classes: &mut [Class],
+    levels: &mut [Option<Level>],
+    steps: &mut Steps<L>,
+)
+    requires found { length before.old ≤ length explicit.now }
+    requires classes { length classes.old ≡ length before.old }
+    requires levels { length levels.old ≡ length before.old }
+    ensures before { before.new ≡ current_of (take (length before.old) explicit.now) }
+    ensures copy { classes.new ≡ before.new }
+    ensures none { (p : ℕ) → resolved_at levels.new p ≡ None }
+    ensures steps { steps.new ≡ steps.old + length before.old }
+{
+    for p in 0..before.len() {
+        steps.tick();
+        let class = current_class(explicit.at(p));
+        before[p] = class;
+        classes[p] = class;
+        levels[p] = None;
+    }
+}
 
 /// W1 to I2 over all sequences of a paragraph, in their order. `before` are the current classes of the paragraph (X1 to X8),
 /// `classes` a copy of them to work on, and `levels` hold none yet.
-pub(crate) fn resolve_each<L: Ledger>(
+fn resolve_each<L: Ledger>(
     sequences: &Sequences,
     para: &[Unit],
     before: &[Class],
@@ -39,5 +109,87 @@ pub(crate) fn resolve_each<L: Ledger>(
         steps.tick();
         let sequence = sequences.get(k);
         resolve_sequence(&sequence, para, before, pairs, classes, levels, steps);
+    }
+}
+
+/// W1 to I2 over a paragraph whose explicit levels and sequences were found. It takes the fronts of the class columns.
+fn resolve_found<L: Ledger>(
+    para: &[Unit],
+    explicit: &Explicit,
+    sequences: &Sequences,
+    pairs: &mut Pairs,
+    before: &mut [Class],
+    classes: &mut [Class],
+    levels: &mut [Option<Level>],
+    steps: &mut Steps<L>,
+)
+    requires found { length para.now ≤ length explicit.now }
+    requires apart { AreApart (length para.now) sequences.now.all }
+    requires marks { KeepsMarks para.now (current_of (take (length para.now) explicit.now)) }
+    requires pairs { length para.now ≤ length pairs.old }
+    requires before { length para.now ≤ length before.old }
+    requires classes { length para.now ≤ length classes.old }
+    requires levels { length levels.old ≡ length para.now }
+    ensures levels { HasLevelsBy para.now (current_of (take (length para.now) explicit.now)) sequences.now.all levels.new }
+    ensures room { length pairs.new ≡ length pairs.old }
+    ensures at_least { steps.old + length para.now ≤ steps.new }
+    ensures at_most { steps.new ≤ steps.old + 342 * length para.now }
+{
+    let before = &mut before[..para.len()];
+    let classes = &mut classes[..para.len()];
+    begin(explicit, before, classes, levels, steps);
+    resolve_each(sequences, para, before, pairs, classes, levels, steps);
+}
+
+impl Resolver {
+    /// Room for paragraphs of up to `n` positions. Memory that is refused is answered as `Memory`, and so are
+    /// 2^32 - 1 positions and more.
+    pub fn with_room(alloc: Global, n: usize) -> Result<Resolver, Memory>
+        ensures { IfOk result (λ resolver. resolver ≡ n) }
+    {
+        Ok(Resolver {
+            isolates: IsolateMap::with_room(alloc, n)?,
+            explicit: Explicit::with_room(alloc, n)?,
+            sequences: Sequences::with_room(alloc, n)?,
+            pairs: Pairs::with_room(alloc, n)?,
+            before: vec![in alloc; Class::BN; n]?,
+            classes: vec![in alloc; Class::BN; n]?,
+        })
+    }
+
+    /// Finds the level of a paragraph (P2, P3) and writes the resolved levels of its positions, none where X9 removes
+    /// one (X1 to I2), over what `levels` held. There is room for the paragraph, and no memory is taken.
+    pub fn resolve<L: Ledger>(
+        &mut self,
+        para: &[Unit],
+        direction: Direction,
+        levels: &mut [Option<Level>],
+        steps: &mut Steps<L>,
+    ) -> ParaLevel
+        requires room { length para.now ≤ self.old }
+        requires separators { SeparatorOnlyLast para.now }
+        requires levels { length levels.old ≡ length para.now }
+        ensures level { level_of_para result ≡ para_level_of (classes_of para.now) direction }
+        ensures levels { levels.new ≡ resolved_levels para.now (para_level_of (classes_of para.now) direction) }
+        ensures room { self.new ≡ self.old }
+        ensures at_least { steps.old + 4 * length para.now ≤ steps.new }
+        ensures at_most { steps.new ≤ steps.old + 402 * length para.now + 60 }
+    {
+        self.isolates.fill(para, steps);
+        let level = para_level(para, &self.isolates, direction, steps);
+        explicit_levels(para, &self.isolates, level, &mut self.explicit, steps);
+        self.sequences
+            .fill(para, &self.isolates, &self.explicit, level, steps);
+        resolve_found(
+            para,
+            &self.explicit,
+            &self.sequences,
+            &mut self.pairs,
+            &mut self.before,
+            &mut self.classes,
+            levels,
+            steps,
+        );
+        level
     }
 }

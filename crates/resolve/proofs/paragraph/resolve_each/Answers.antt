@@ -1,4 +1,4 @@
-use Rattle.std.proofs.Common.{arith, rules, ◌≡◌, sym}
+use Rattle.std.proofs.Common.{arith, rules}
 use Rattle.resolve.proofs.Covering.{covered_none, covered_next, copied, length_next}
 use Rattle.resolve.proofs.paragraph.resolve_each.Goals as goal
 
