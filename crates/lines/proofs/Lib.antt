@@ -1,5 +1,6 @@
 pub mod Least
 pub mod Lists
+pub mod TextLevels
 pub mod Turning
 pub mod Stretches
 pub mod Remaining

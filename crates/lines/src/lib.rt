@@ -10,6 +10,7 @@ pub mod layout;
 pub mod mirror;
 pub mod order;
 pub mod resets;
+mod resolving;
 pub mod scratch;
 pub mod shown;
 #[cfg(test)]

@@ -1,0 +1,80 @@
+-- The levels of a text, written paragraph by paragraph.
+use Rattle.std.specs.Prelude.{Option, ℕ, ◌+◌, ◌*◌, ◌<◌, ◌≤◌, ◌≡◌, List, [], ◌∷◌, ◌++◌, length, map, take, refl}
+use Rattle.std.specs.List.{flat_map}
+use Rattle.std.proofs.Common.{arith, ap, sym, ◌∙◌}
+use Rattle.std.proofs.lemmas.List.{append_assoc, append-nil, length-append}
+use Rattle.units.specs.Classes.{classes_of}
+use Rattle.units.specs.Isolates.{level_of_para, para_level_of}
+use Rattle.units.specs.Layout.{resolved_levels, para_levels_of, text_levels}
+use Rattle.units.specs.Paragraphs.{IsCut, SeparatorOnlyLast, joined, paragraphs_of}
+use Rattle.units.specs.declared.bracket.Unit.{Unit as BidiUnit}
+use Rattle.units.specs.declared.level.Direction.{Direction}
+use Rattle.units.specs.declared.level.ParaLevel.{ParaLevel}
+use Rattle.explicit.proofs.OneCutting.{joined-paragraphs_of, IsCut-paragraphs_of}
+
+-- the level of a paragraph
+abbrev pub para_level : Direction → List BidiUnit → ℕ
+para_level direction us = para_level_of (classes_of us) direction
+
+-- the resolved levels of a paragraph
+abbrev pub para_levels : Direction → List BidiUnit → List (Option ℕ)
+para_levels direction us = resolved_levels us (para_level direction us)
+
+-- the paragraphs before start are written, and these are still to come
+pub record IsWritten (text : List BidiUnit) (direction : Direction) (start : ℕ) (paras : List ParaLevel) (levels : List (Option ℕ)) (rest : List (List BidiUnit)) : Type 0 where
+  pub cut : IsCut rest
+  pub ahead : start + length (joined rest) ≡ length text
+  pub few : length paras ≤ start
+  pub found_paras : map level_of_para paras ++ map (para_level direction) rest ≡ para_levels_of text direction
+  pub found_levels : take start levels ++ flat_map (para_levels direction) rest ≡ text_levels text direction
+
+pub written_none : (text : List BidiUnit) (direction : Direction) (levels : List (Option ℕ)) → IsWritten text direction 0 [] levels (paragraphs_of text)
+written_none text direction levels = record {
+  cut = IsCut-paragraphs_of text;
+  ahead = omega (arith, ap length (joined-paragraphs_of text));
+  few = omega arith;
+  found_paras = refl;
+  found_levels = refl;
+}
+
+map-push : (paras : List ParaLevel) (level : ParaLevel) (rest : List ℕ) → map level_of_para (paras ++ (level ∷ [])) ++ rest ≡ map level_of_para paras ++ (level_of_para level ∷ rest)
+map-push [] level rest = refl
+map-push (para ∷ paras) level rest = ap (λ (xs : List ℕ). level_of_para para ∷ xs) (map-push paras level rest)
+
+module _ {text : List BidiUnit} {direction : Direction} {start : ℕ} {paras : List ParaLevel} {levels : List (Option ℕ)} where
+  module _ {para : List BidiUnit} {rest : List (List BidiUnit)} (w : IsWritten text direction start paras levels (para ∷ rest)) where
+    pub some_units : 0 < length para
+    some_units = w.cut.0
+
+    pub separator_last : SeparatorOnlyLast para
+    separator_last = w.cut.1
+
+    pub within_text : start + length para ≤ length text
+    within_text = omega (arith, w.ahead, length-append para (joined rest))
+
+    pub written_next : (level : ParaLevel) (now : List (Option ℕ)) → level_of_para level ≡ para_level direction para →
+        take (start + length para) now ≡ take start levels ++ para_levels direction para →
+        IsWritten text direction (start + length para) (paras ++ (level ∷ [])) now rest
+    written_next level now at put = record {
+      cut = w.cut.3;
+      ahead = omega (arith, w.ahead, length-append para (joined rest));
+      few = omega (arith, w.few, w.cut.0, length-append paras (level ∷ []));
+      found_paras =
+          map-push paras level (map (para_level direction) rest)
+          ∙ ap (λ (n : ℕ). map level_of_para paras ++ (n ∷ map (para_level direction) rest)) at
+          ∙ w.found_paras;
+      found_levels =
+          ap (λ (xs : List (Option ℕ)). xs ++ flat_map (para_levels direction) rest) put
+          ∙ append_assoc (take start levels) (para_levels direction para) (flat_map (para_levels direction) rest)
+          ∙ w.found_levels;
+    }
+
+  module _ (w : IsWritten text direction start paras levels []) where
+    pub all_written : start ≡ length text
+    all_written = omega (arith, w.ahead)
+
+    pub written_paras : map level_of_para paras ≡ para_levels_of text direction
+    written_paras = sym (append-nil (map level_of_para paras)) ∙ w.found_paras
+
+    pub written_levels : take (length text) levels ≡ text_levels text direction
+    written_levels = ap (λ (n : ℕ). take n levels) (sym all_written) ∙ sym (append-nil (take start levels)) ∙ w.found_levels

@@ -1,0 +1,42 @@
+//! The paragraph levels and the resolved levels of a text (P1 to I2).
+ghost use Rattle.std.specs.Prelude.{◌≡◌, ◌≤◌, ◌+◌, ◌*◌, length, map, take, vec_capacity};
+ghost use Rattle.units.specs.Isolates.{level_of_para};
+ghost use Rattle.units.specs.Layout.{para_levels_of, text_levels};
+
+use explicit::paragraphs;
+use resolve::paragraph::Resolver;
+use std::sync::ledger::Ledger;
+use units::bracket::Unit;
+use units::level::{Direction, Level, ParaLevel};
+use units::steps::Steps;
+
+/// Writes the levels of a text's paragraphs over what `paras` held, and the resolved levels of its positions to the front of
+/// `levels`, paragraph by paragraph. The lists keep their room: no memory is taken.
+pub(crate) fn resolve_text<L: Ledger>(
+    text: &[Unit],
+    direction: Direction,
+    resolver: &mut Resolver,
+    paras: &mut Vec<ParaLevel>,
+    levels: &mut [Option<Level>],
+    steps: &mut Steps<L>,
+)
+    requires resolver { length text.now ≤ resolver.old }
+    requires paras { length text.now ≤ vec_capacity paras.old }
+    requires levels { length text.now ≤ length levels.old }
+    ensures resolver { resolver.new ≡ resolver.old }
+    ensures paras { map level_of_para paras.new.items ≡ para_levels_of text.now direction }
+    ensures paras_room { vec_capacity paras.new ≡ vec_capacity paras.old }
+    ensures levels { take (length text.now) levels.new ≡ text_levels text.now direction }
+    ensures at_least { steps.old + 4 * length text.now ≤ steps.new }
+    ensures at_most { steps.new ≤ steps.old + 463 * length text.now }
+{
+    paras.clear();
+    let mut start = 0;
+    for para in paragraphs(text) {
+        steps.tick();
+        let end = start + para.len();
+        let level = resolver.resolve(para, direction, &mut levels[start..end], steps);
+        paras.push_reserved(level);
+        start = end;
+    }
+}
