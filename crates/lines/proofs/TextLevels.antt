@@ -1,13 +1,15 @@
 -- The levels of a text, written paragraph by paragraph.
-use Rattle.std.specs.Prelude.{Option, ℕ, ◌+◌, ◌*◌, ◌<◌, ◌≤◌, ◌≡◌, List, [], ◌∷◌, ◌++◌, length, map, take, refl}
+use Rattle.std.specs.Prelude.{Option, ℕ, ◌+◌, ◌<◌, ◌≤◌, ◌≡◌, List, [], ◌∷◌, ◌++◌, length, map, take, refl}
 use Rattle.std.specs.List.{flat_map}
 use Rattle.std.proofs.Common.{arith, ap, sym, ◌∙◌}
 use Rattle.std.proofs.lemmas.List.{append_assoc, append-nil, length-append}
 use Rattle.units.specs.Classes.{classes_of}
 use Rattle.units.specs.Isolates.{level_of_para, para_level_of}
-use Rattle.units.specs.Layout.{resolved_levels, para_levels_of, text_levels}
+use Rattle.units.specs.Layout.{LineLayout, TextLayout, layout_of, lines_of, para_levels_of, resolved_levels, text_layout, text_levels, with_lines}
+use Rattle.units.specs.Reordering.{after_resets, cuts_of}
 use Rattle.units.specs.Paragraphs.{IsCut, SeparatorOnlyLast, joined, paragraphs_of}
 use Rattle.units.specs.declared.bracket.Unit.{Unit as BidiUnit}
+use Rattle.units.specs.declared.class.Class.{Class}
 use Rattle.units.specs.declared.level.Direction.{Direction}
 use Rattle.units.specs.declared.level.ParaLevel.{ParaLevel}
 use Rattle.explicit.proofs.OneCutting.{joined-paragraphs_of, IsCut-paragraphs_of}
@@ -78,3 +80,18 @@ module _ {text : List BidiUnit} {direction : Direction} {start : ℕ} {paras : L
 
     pub written_levels : take (length text) levels ≡ text_levels text direction
     written_levels = ap (λ (n : ℕ). take n levels) (sym all_written) ∙ sym (append-nil (take start levels)) ∙ w.found_levels
+
+-- the parts that were written are those of the layout
+pub laid_out : (text : List BidiUnit) (direction : Direction) (breaks : List ℕ) (paras : List ℕ) (resolved levels front : List (Option ℕ)) (lines : List LineLayout) →
+    front ≡ levels → paras ≡ para_levels_of text direction → resolved ≡ text_levels text direction → levels ≡ after_resets (classes_of text) breaks paras resolved →
+    lines ≡ lines_of levels (cuts_of (classes_of text) breaks) →
+    (let shown : TextLayout = record { paras = paras; levels = front; lines = lines } in shown ≡ layout_of text direction breaks)
+unfolding layout_of
+laid_out text direction breaks paras resolved levels front lines e p r l w =
+    let own : List Class = classes_of text in
+    let shown : List (Option ℕ) → TextLayout = λ xs. record { paras = paras; levels = xs; lines = lines } in
+    let lined : List LineLayout → TextLayout = λ xs. record { paras = paras; levels = levels; lines = xs } in
+    ap shown e
+    ∙ ap lined w
+    ∙ ap (λ (xs : List (Option ℕ)). with_lines paras xs (cuts_of own breaks)) (l ∙ ap (after_resets own breaks paras) r)
+    ∙ ap (λ (ns : List ℕ). text_layout own breaks ns (text_levels text direction)) p

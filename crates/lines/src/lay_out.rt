@@ -1,9 +1,6 @@
-ghost use Rattle.std.specs.Prelude.{◌≡◌, ◌<◌, ◌≤◌, ◌+◌, ◌*◌, ◌↔◌, length, map, IfOk, IsErr};
+ghost use Rattle.std.specs.Prelude.{◌≡◌, ◌<◌, ◌≤◌, ◌+◌, ◌*◌, ◌↔◌, length, IfOk, IsErr};
 ghost use Rattle.std.specs.Borrow.{sem};
-ghost use Rattle.units.specs.Classes.{classes_of};
-ghost use Rattle.units.specs.Isolates.{level_of_para};
-ghost use Rattle.units.specs.Layout.{text_layout};
-ghost use Rattle.units.specs.Paragraphs.{paragraphs_of};
+ghost use Rattle.units.specs.Layout.{layout_of};
 ghost use Rattle.lines.specs.Layouts.{view_of};
 ghost use Rattle.lines.specs.Lending.{KeepsRoom};
 ghost use Rattle.lines.specs.Scratches.{room_of};
@@ -13,38 +10,54 @@ use crate::layout::Layout;
 use crate::scratch::Scratch;
 use std::sync::ledger::Ledger;
 use units::bracket::Unit;
-use units::level::{Level, ParaLevel};
+use units::level::Direction;
 use units::steps::Steps;
 
 /// The text is longer than the room.
 #[derive(Clone, Copy, Debug, PartialEq, Eq)]
 pub struct TooLong;
 
-/// Lays out a text whose levels are resolved: L1 and L2, by the units of the text with their own classes, its breaks, and the
-/// levels of its paragraphs and positions, none where a position was removed.
+/// Lays out a text under a direction (P1 to L2), broken into lines. No memory is taken.
 ///
 /// `TooLong` is answered exactly if the text is longer than the room; the scratch can then be used as before. It takes at least
-/// `5 * n` steps on a text of n units that it lays out, and at most `386 * n`.
-pub fn lay_out_resolved<'s, L: Ledger>(
+/// `8 * n` steps on a text of n units that it lays out, and at most `847 * n`, whatever the text, the direction and the breaks
+/// are, and whatever was laid out or refused before.
+pub fn lay_out<'s, L: Ledger>(
     room: &'s mut Scratch,
-    own: &[Unit],
+    text: &[Unit],
+    direction: Direction,
     breaks: &Breaks,
-    paras: &[ParaLevel],
-    levels: &[Option<Level>],
     steps: &mut Steps<L>,
 ) -> Result<Layout<'s>, TooLong>
-    requires len { breaks.now.len ≡ length own.now }
-    requires levels { length levels.now ≡ length own.now }
-    requires paras { length paras.now ≡ length (paragraphs_of own.now) }
+    requires { breaks.now.len ≡ length text.now }
     ensures* keeps { sem 𝓛 (KeepsRoom room.entry) }
-    ensures too_long { IsErr result ↔ (room_of room.old < length own.now) }
-    ensures laid_out { IfOk result (λ layout. view_of layout ≡ text_layout (classes_of own.now) breaks.now.positions (map level_of_para paras.now) levels.now) }
-    ensures at_least { IfOk result (λ layout. steps.old + 5 * length own.now ≤ steps.new) }
-    ensures at_most { steps.new ≤ steps.old + 386 * length own.now }
+    ensures too_long { IsErr result ↔ (room_of room.old < length text.now) }
+    ensures laid_out { IfOk result (λ layout. view_of layout ≡ layout_of text.now direction breaks.now.positions) }
+    ensures at_least { IfOk result (λ layout. steps.old + 8 * length text.now ≤ steps.new) }
+    ensures at_most { steps.new ≤ steps.old + 847 * length text.now }
 {
-    if own.len() > room.room() {
+    if text.len() > room.room() {
         return Err(TooLong);
     }
-    room.fill(own, breaks, paras, levels, steps);
+    room.fill(text, direction, breaks, steps);
+    Ok(room.frozen().layout())
+}
+
+/// What `lay_out` does, for a caller that counts no steps.
+pub fn lay_out_uncounted<'s>(
+    room: &'s mut Scratch,
+    text: &[Unit],
+    direction: Direction,
+    breaks: &Breaks,
+) -> Result<Layout<'s>, TooLong>
+    requires { breaks.now.len ≡ length text.now }
+    ensures* keeps { sem 𝓛 (KeepsRoom room.entry) }
+    ensures too_long { IsErr result ↔ (room_of room.old < length text.now) }
+    ensures laid_out { IfOk result (λ layout. view_of layout ≡ layout_of text.now direction breaks.now.positions) }
+{
+    if text.len() > room.room() {
+        return Err(TooLong);
+    }
+    room.fill_uncounted(text, direction, breaks);
     Ok(room.frozen().layout())
 }

@@ -1,4 +1,10 @@
-ghost use Rattle.std.specs.Prelude.{◌≡◌, ◌≤◌, ◌+◌, ◌*◌, length, map, vec_capacity};
+ghost use Rattle.std.specs.Prelude.{◌≡◌, ◌<◌, ◌≤◌, ◌+◌, ◌*◌, ◌^◌, length, map, take, vec_capacity};
+ghost use Rattle.units.specs.Classes.{classes_of};
+ghost use Rattle.units.specs.Isolates.{level_of_para};
+ghost use Rattle.units.specs.Layout.{lines_of};
+ghost use Rattle.units.specs.Paragraphs.{paragraphs_of};
+ghost use Rattle.units.specs.Reordering.{after_resets, cuts_of};
+ghost use Rattle.lines.specs.Bounds.{AreBounds, lines_in};
 ghost use Rattle.lines.specs.Room.{HasRoom};
 
 use crate::bounds::Bound;
@@ -6,10 +12,13 @@ use crate::breaks::Breaks;
 use crate::filling::fill_lines;
 use crate::layout::Layout;
 use crate::resets::reset_text;
+use crate::resolving::resolve_text;
+use resolve::paragraph::Resolver;
 use std::alloc::Global;
-use std::sync::ledger::Ledger;
+use std::marker::Brand;
+use std::sync::ledger::{Blank, Ledger};
 use units::bracket::Unit;
-use units::level::{Level, ParaLevel};
+use units::level::{Direction, Level, ParaLevel};
 use units::memory::Memory;
 use units::steps::Steps;
 
@@ -25,38 +34,53 @@ pub enum RoomFault {
     Memory,
 }
 
-/// Room for the layout of a text, to be used again and again: 19 bytes for each unit of room, and 8 more.
+/// Room for the layout of a text, to be used again and again: 59 bytes for each unit of room, and 8 more.
 #[derive(Drop)]
 pub struct Scratch {
     room: usize,
+    size: usize,
+    resolver: Resolver,
     paras: Vec<ParaLevel>,
     levels: Vec<Option<Level>>,
     orders: Vec<usize>,
     bounds: Vec<Bound>,
-    ghost fits: { HasRoom room (vec_capacity paras) (vec_capacity levels) (vec_capacity orders) (vec_capacity bounds) },
+    ghost fits: { HasRoom room resolver (vec_capacity paras) (length levels.items) (vec_capacity orders) (vec_capacity bounds) },
+    ghost in_use: { size ≤ room },
 }
 
-/// Writes the items over what the column held, a step for each.
-fn refill<T: Copy, L: Ledger>(column: &mut Vec<T>, items: &[T], steps: &mut Steps<L>)
-    requires { length items.now ≤ vec_capacity column.old }
-    ensures items { column.new.items ≡ items.now }
-    ensures capacity { vec_capacity column.new ≡ vec_capacity column.old }
-    ensures steps { steps.new ≡ steps.old + length items.now }
+/// Resets the levels of a text (L1), at the front of the column, and writes its lines (L2).
+fn arrange<L: Ledger>(
+    text: &[Unit],
+    breaks: &Breaks,
+    paras: &[ParaLevel],
+    levels: &mut [Option<Level>],
+    orders: &mut Vec<usize>,
+    bounds: &mut Vec<Bound>,
+    steps: &mut Steps<L>,
+)
+    requires len { breaks.now.len ≡ length text.now }
+    requires levels { length text.now ≤ length levels.old }
+    requires paras { length paras.now ≡ length (paragraphs_of text.now) }
+    requires small { length text.now < 2 ^ 32 }
+    requires orders { length text.now ≤ vec_capacity orders.old }
+    requires bounds { length text.now < vec_capacity bounds.old }
+    ensures levels { take (length text.now) levels.new ≡ after_resets (classes_of text.now) breaks.now.positions (map level_of_para paras.now) (take (length text.now) levels.old) }
+    ensures bounds { AreBounds (take (length text.now) levels.new) orders.new.items bounds.new.items }
+    ensures lines { lines_in orders.new.items bounds.new.items ≡ lines_of (take (length text.now) levels.new) (cuts_of (classes_of text.now) breaks.now.positions) }
+    ensures orders_room { vec_capacity orders.new ≡ vec_capacity orders.old }
+    ensures bounds_room { vec_capacity bounds.new ≡ vec_capacity bounds.old }
+    ensures at_least { steps.old + 4 * length text.now ≤ steps.new }
+    ensures at_most { steps.new ≤ steps.old + 384 * length text.now }
 {
-    column.clear();
-    for item in items {
-        steps.tick();
-        column.push_reserved(*item);
-    }
+    let levels = &mut levels[..text.len()];
+    reset_text(text, breaks, paras, levels, steps);
+    fill_lines(text, breaks, levels, orders, bounds, steps);
 }
 
 impl Scratch {
-    ghost use Rattle.std.specs.Prelude.{◌≡◌, ◌≤◌, ◌<◌, ◌↔◌, ◌+◌, ◌*◌, length, map, IfOk};
+    ghost use Rattle.std.specs.Prelude.{◌≡◌, ◌≤◌, ◌<◌, ◌↔◌, ◌+◌, ◌*◌, length, IfOk};
     ghost use Rattle.std.specs.Borrow.{sem};
-    ghost use Rattle.units.specs.Classes.{classes_of};
-    ghost use Rattle.units.specs.Isolates.{level_of_para};
-    ghost use Rattle.units.specs.Layout.{text_layout};
-    ghost use Rattle.units.specs.Paragraphs.{paragraphs_of};
+    ghost use Rattle.units.specs.Layout.{layout_of};
     ghost use Rattle.lines.specs.Lending.{IsLentOut};
     ghost use Rattle.lines.specs.Layouts.{view_of};
     ghost use Rattle.lines.specs.Scratches.{room_of, layout_in, IsFilled};
@@ -78,8 +102,10 @@ impl Scratch {
     {
         Ok(Scratch {
             room: n,
+            size: 0,
+            resolver: Resolver::with_room(alloc, n)?,
             paras: Vec::with_capacity(alloc, n)?,
-            levels: Vec::with_capacity(alloc, n)?,
+            levels: vec![in alloc; None; n]?,
             orders: Vec::with_capacity(alloc, n)?,
             bounds: Vec::with_capacity(alloc, n + 1)?,
         })
@@ -92,36 +118,71 @@ impl Scratch {
         self.room
     }
 
-    /// Writes the layout of a text whose levels are resolved.
+    /// Writes the layout of a text.
     pub(crate) fn fill<L: Ledger>(
         &mut self,
-        own: &[Unit],
+        text: &[Unit],
+        direction: Direction,
         breaks: &Breaks,
-        paras: &[ParaLevel],
-        levels: &[Option<Level>],
         steps: &mut Steps<L>,
     )
-        requires len { breaks.now.len ≡ length own.now }
-        requires levels { length levels.now ≡ length own.now }
-        requires paras { length paras.now ≡ length (paragraphs_of own.now) }
-        requires fits { length own.now ≤ room_of self.old }
+        requires len { breaks.now.len ≡ length text.now }
+        requires fits { length text.now ≤ room_of self.old }
         ensures room { room_of self.new ≡ room_of self.old }
         ensures filled { IsFilled self.new }
-        ensures layout { layout_in self.new ≡ text_layout (classes_of own.now) breaks.now.positions (map level_of_para paras.now) levels.now }
-        ensures at_least { steps.old + 5 * length own.now ≤ steps.new }
-        ensures at_most { steps.new ≤ steps.old + 386 * length own.now }
+        ensures layout { layout_in self.new ≡ layout_of text.now direction breaks.now.positions }
+        ensures at_least { steps.old + 8 * length text.now ≤ steps.new }
+        ensures at_most { steps.new ≤ steps.old + 847 * length text.now }
     {
-        refill(&mut self.paras, paras, steps);
-        refill(&mut self.levels, levels, steps);
-        reset_text(own, breaks, &self.paras, &mut self.levels, steps);
-        fill_lines(
-            own,
+        resolve_text(
+            text,
+            direction,
+            &mut self.resolver,
+            &mut self.paras,
+            &mut self.levels,
+            steps,
+        );
+        arrange(
+            text,
             breaks,
-            &self.levels,
+            &self.paras,
+            &mut self.levels,
             &mut self.orders,
             &mut self.bounds,
             steps,
         );
+        self.size = text.len();
+    }
+
+    fn fill_counting<L: Ledger>(
+        &mut self,
+        text: &[Unit],
+        direction: Direction,
+        breaks: &Breaks,
+        blank: Blank,
+    )
+        requires len { breaks.now.len ≡ length text.now }
+        requires fits { length text.now ≤ room_of self.old }
+        requires name { blank.name ≡ L.name }
+        requires parts { blank.parts ≡ L.parts }
+        requires some { 0 < blank.parts }
+        ensures room { room_of self.new ≡ room_of self.old }
+        ensures filled { IsFilled self.new }
+        ensures layout { layout_in self.new ≡ layout_of text.now direction breaks.now.positions }
+    {
+        let mut steps = Steps::<L>::new(blank);
+        self.fill(text, direction, breaks, &mut steps);
+    }
+
+    /// What `fill` does, for a caller that counts no steps.
+    pub(crate) fn fill_uncounted(&mut self, text: &[Unit], direction: Direction, breaks: &Breaks)
+        requires len { breaks.now.len ≡ length text.now }
+        requires fits { length text.now ≤ room_of self.old }
+        ensures room { room_of self.new ≡ room_of self.old }
+        ensures filled { IsFilled self.new }
+        ensures layout { layout_in self.new ≡ layout_of text.now direction breaks.now.positions }
+    {
+        self.fill_counting::<Brand>(text, direction, breaks, Blank::new(1));
     }
 
     /// The scratch as it is, for as long as it is lent.
@@ -137,6 +198,11 @@ impl Scratch {
         requires { IsFilled self.now }
         ensures { view_of result ≡ layout_in self.now }
     {
-        Layout::new(&self.paras, &self.levels, &self.orders, &self.bounds)
+        Layout::new(
+            &self.paras,
+            &self.levels[..self.size],
+            &self.orders,
+            &self.bounds,
+        )
     }
 }

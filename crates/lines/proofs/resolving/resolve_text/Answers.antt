@@ -1,9 +1,8 @@
-use Rattle.std.proofs.Common.{arith, rules, ap, sym, ◌∙◌, subst, ◌≡◌, ◌+◌, ◌++◌, ◌∷◌, [], ℕ, List, Option, length, take}
+use Rattle.std.proofs.Common.{arith, rules, ap, ◌∙◌, subst, ◌≡◌, ◌+◌, ◌++◌, ◌∷◌, ℕ, List, Option, length, take}
 use Rattle.std.proofs.lemmas.Slice.{take-put_mid}
 use Rattle.units.specs.declared.bracket.Unit.{Unit as BidiUnit}
-use Rattle.units.specs.declared.level.ParaLevel.{ParaLevel}
 use Rattle.units.specs.Paragraphs.{paragraphs_of}
-use Rattle.lines.proofs.TextLevels.{IsWritten, para_levels, written_none, some_units, separator_last, within_text, written_next, all_written, written_paras, written_levels}
+use Rattle.lines.proofs.TextLevels.{IsWritten, written_none, some_units, within_text, written_next}
 use Rattle.lines.proofs.resolving.resolve_text.Goals as goal
 
 pub loop-para-init : goal.loop-para-init
