@@ -11,6 +11,7 @@ pub mod Giving
 pub mod Insides
 pub mod Light
 pub mod Nesting
+pub mod OwnMarks
 pub mod PairInOrder
 pub mod PairResolving
 pub mod Pairing

@@ -1,6 +1,10 @@
-//! What holds of the bracket pairs of every sequence (BD16).
-ghost use Rattle.std.specs.Prelude.{List};
+//! Laws for the layers above: of bracket pairs (BD16), and of the classes before W1.
+ghost use Rattle.std.specs.Prelude.{◌≡◌, ℕ, List, true};
+ghost use Rattle.units.specs.Classes.{class_at, is_nonspacing};
+ghost use Rattle.units.specs.Explicit.{explicit_of};
+ghost use Rattle.units.specs.Layout.{current_of};
 ghost use Rattle.units.specs.declared.bracket.Bracket.{Bracket};
+ghost use Rattle.units.specs.declared.class.Class.{Class};
 ghost use Rattle.resolve.specs.PairLaws.{PairsAreOrdered, PairsNest, PairsAreShallow, InsidesAreFew, InsidesAreFewByOpener};
 
 /// A pair that counts ends after it begins, within the sequence.
@@ -22,4 +26,9 @@ pub fn pairs_are_shallow()
 pub fn insides_are_few()
     ensures by_pair { (bs : List Bracket) → InsidesAreFew bs }
     ensures by_opener { (bs : List Bracket) → InsidesAreFewByOpener bs }
+{}
+
+/// What is a mark after X1 to X8 is one by its own class: no override makes a mark.
+pub fn marks_are_own()
+    ensures { (cs : List Class) (para p : ℕ) → is_nonspacing (class_at (current_of (explicit_of cs para)) p) ≡ true → is_nonspacing (class_at cs p) ≡ true }
 {}
