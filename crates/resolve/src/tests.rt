@@ -221,13 +221,17 @@ fn pairs_by_what_stands_inside(rt: HostRuntime) -> Result<(), Fail> {
 fn marks_behind_brackets(rt: HostRuntime) -> Result<(), Fail> {
     let (alloc, ltr) = (rt.alloc(), Direction::Ltr);
     let (l, r, nsm) = (plain(Class::L), plain(Class::R), plain(Class::NSM));
-    assert_levels(&rt, alloc, &[r, open(1), r, close(1), nsm, l], ltr, b"111110")?;
+    assert_levels(
+        &rt,
+        alloc,
+        &[r, open(1), r, close(1), nsm, l],
+        ltr,
+        b"111110",
+    )?;
     let two_marks = [r, open(1), r, close(1), nsm, nsm, l];
     assert_levels(&rt, alloc, &two_marks, ltr, b"1111110")?;
     let (lre, lro, pdf) = (plain(Class::LRE), plain(Class::LRO), plain(Class::PDF));
-    let overridden = [
-        lre, r, open(1), r, close(1), pdf, lro, nsm, pdf, pdf, l,
-    ];
+    let overridden = [lre, r, open(1), r, close(1), pdf, lro, nsm, pdf, pdf, l];
     assert_levels(&rt, alloc, &overridden, ltr, b"x3333xx2xx0")?;
     Ok(())
 }

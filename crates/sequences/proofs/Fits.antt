@@ -56,7 +56,7 @@ length-by_times end (x ∷ xs) b =
     let once : sum_by (λ p. one_if p x) (positions_from 0 end) ≡ 1 = times-positions 0 end x (omega arith) (omega (arith, b.0)) in
     omega (arith, each, once, sum_by-plus (λ p. one_if p x) (times xs) (positions_from 0 end), length-by_times end xs b.1)
 
-flat_below : (t : LeveledView) → IsLeveled t → (a n : ℕ) → a + n ≤ size_of t →
+pub flat_below : (t : LeveledView) → IsLeveled t → (a n : ℕ) → a + n ≤ size_of t →
     AreBelow (size_of t) (flat_map (λ (s : SequenceView). s.positions) (map (sequence_at t) (filter (begins_sequence t) (positions_from a n))))
 flat_below t h a zero l = tt
 flat_below t h a (suc n) l =

@@ -1,3 +1,4 @@
+pub mod Apart
 pub mod Backward
 pub mod Column
 pub mod Filled

@@ -22,13 +22,13 @@ one_if x p = cond (x == p) 1 0
 pub times-cons : (x : ℕ) (xs : List ℕ) (p : ℕ) → times (x ∷ xs) p ≡ one_if x p + times xs p
 times-cons x xs p = sum_by-cons (λ q. cond (q == p) 1 0) x xs
 
-times-append : (xs ys : List ℕ) (p : ℕ) → times (xs ++ ys) p ≡ times xs p + times ys p
+pub times-append : (xs ys : List ℕ) (p : ℕ) → times (xs ++ ys) p ≡ times xs p + times ys p
 times-append xs ys p = sum_by-append (λ q. cond (q == p) 1 0) xs ys
 
-one_if-same : (x p : ℕ) → x ≡ p → one_if x p ≡ 1
+pub one_if-same : (x p : ℕ) → x ≡ p → one_if x p ≡ 1
 one_if-same x p e = cond-true (x == p) 1 0 (eq-eqb x p e)
 
-one_if-other : (x p : ℕ) → (x ≡ p → ⊥) → one_if x p ≡ 0
+pub one_if-other : (x p : ℕ) → (x ≡ p → ⊥) → one_if x p ≡ 0
 one_if-other x p e = cond-false (x == p) 1 0 (ne_eqb x p e)
 
 same_from : (o : Option ℕ) (p : ℕ) → is_same o (Some p) ≡ true → o ≡ Some p

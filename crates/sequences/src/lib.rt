@@ -2,6 +2,7 @@
 #![tactic(auto)]
 
 mod heads;
+pub mod laws;
 mod leveled;
 mod linking;
 pub mod paragraph;
