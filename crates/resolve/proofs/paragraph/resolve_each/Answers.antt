@@ -12,14 +12,14 @@ loop-k-init g c = record {
 
 pub resolve_sequence-requires-clause-copy : goal.resolve_sequence-requires-clause-copy
 resolve_sequence-requires-clause-copy g c =
-    copied c.requires.apart c.get-sequence.ensures (omega arith) c.loop-k.classes c.args.before.now c.loop-k.invariant.covered.kept
+    copied c.requires.apart c.get-sequence.ensures.value (omega arith) c.loop-k.classes c.args.before.now c.loop-k.invariant.covered.kept
 
 pub loop-k-preserved : goal.loop-k-preserved
 loop-k-preserved g c = record {
   covered =
-      covered_next c.requires.apart c.get-sequence.ensures (omega arith) c.args.para.now c.args.before.now c.loop-k.classes c.resolve_sequence.new.classes c.loop-k.levels c.resolve_sequence.new.levels
+      covered_next c.requires.apart c.get-sequence.ensures.value (omega arith) c.args.para.now c.args.before.now c.loop-k.classes c.resolve_sequence.new.classes c.loop-k.levels c.resolve_sequence.new.levels
       (search rules) c.loop-k.invariant.covered c.resolve_sequence.ensures.levels c.resolve_sequence.ensures.other_levels c.resolve_sequence.ensures.other_classes;
   room = search rules;
   at_least = omega arith;
-  at_most = omega (arith, length_next c.requires.apart c.get-sequence.ensures (omega arith));
+  at_most = omega (arith, length_next c.requires.apart c.get-sequence.ensures.value (omega arith));
 }
