@@ -17,10 +17,14 @@ closer_in table p = slice_index_or table p None
 abbrev pub brackets_at : List BidiUnit → List Class → List ℕ → List Bracket
 brackets_at us cs ps = acting_brackets (units_at us ps) (classes_at cs ps)
 
--- BD16: at each position of the sequence stands the closer of the pair that begins there, if one that counts does
+-- BD16: at each of these positions stands the closer of the pair of these brackets that begins there, if one that counts does
+abbrev pub HoldsPairsOf : List ℕ → List Bracket → List (Option ℕ) → Type 0
+HoldsPairsOf ps bs table =
+    (k : ℕ) → k < length ps → closer_in table (slice_index ps k) ≡ option_map (slice_index ps) (closer_of (bracket_pairs_of bs) k)
+
+-- BD14 to BD16: the same of the acting brackets of the sequence at these positions
 abbrev pub HoldsPairs : List ℕ → List BidiUnit → List Class → List (Option ℕ) → Type 0
-HoldsPairs ps us cs table =
-    (k : ℕ) → k < length ps → closer_in table (slice_index ps k) ≡ option_map (slice_index ps) (closer_of (bracket_pairs_of (brackets_at us cs ps)) k)
+HoldsPairs ps us cs table = HoldsPairsOf ps (brackets_at us cs ps) table
 
 -- nothing changes at a position that is none of these
 abbrev pub KeepsOtherClosers : List ℕ → List (Option ℕ) → List (Option ℕ) → Type 0
