@@ -4,18 +4,19 @@ use Rattle.units.specs.declared.class.Class.{Class}
 use Rattle.units.specs.declared.class.Class.TheVariants.{L}
 use Rattle.units.specs.declared.bracket.Bracket.{Bracket}
 use Rattle.units.specs.declared.bracket.Bracket.TheVariants.{No}
+use Rattle.units.specs.declared.bracket.Unit.{Unit as BidiUnit}
 use Rattle.ucdfiles.specs.Stages.{Stages, stage_at}
 
 -- the class that a table gives a code point
-abbrev pub class_at : Stages Class → ℕ → Class
+unfoldable pub class_at : Stages Class → ℕ → Class
 class_at table c = stage_at table c L
 
 -- the bracket that a table gives a code point
-abbrev pub bracket_at : Stages Bracket → ℕ → Bracket
+unfoldable pub bracket_at : Stages Bracket → ℕ → Bracket
 bracket_at table c = stage_at table c No
 
 -- the mirror image that a table gives a code point, if it gives one
-abbrev pub glyph_at : Stages (Option ℕ) → ℕ → Option ℕ
+unfoldable pub glyph_at : Stages (Option ℕ) → ℕ → Option ℕ
 glyph_at table c = stage_at table c None
 
 -- the three tables
@@ -23,3 +24,7 @@ pub record TablesOf : Type 0 where
   pub classes : Stages Class
   pub brackets : Stages Bracket
   pub mirrors : Stages (Option ℕ)
+
+-- what the algorithm knows of a code point by the tables
+abbrev pub unit_at : TablesOf → ℕ → BidiUnit
+unit_at tables c = record { class = class_at tables.classes c; bracket = bracket_at tables.brackets c }

@@ -67,6 +67,7 @@ impl BracketTable {
         }
     }
 
+    #[tactic(auto, unfolding(crate::specs::Tables::bracket_at))]
     /// The bracket of a character: `No` without a line, else `Open` with the key of its second field or `Close` with the key of its first.
     pub fn bracket(&self, c: char) -> Bracket
         ensures { result ≡ bracket_at self.now c }

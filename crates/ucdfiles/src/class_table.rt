@@ -62,6 +62,7 @@ impl ClassTable {
         }
     }
 
+    #[tactic(auto, unfolding(crate::specs::Tables::class_at))]
     /// The class of a character: that of the one data line that holds it, else that of the last `@missing` line that holds it, else L.
     pub fn class(&self, c: char) -> Class
         ensures { result ≡ class_at self.now c }

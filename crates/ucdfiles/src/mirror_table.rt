@@ -83,6 +83,7 @@ impl MirrorTable {
         }
     }
 
+    #[tactic(auto, unfolding(crate::specs::Tables::glyph_at))]
     /// The mirror image of a character, if it has one.
     pub fn glyph(&self, c: char) -> Option<char>
         ensures { result ≡ glyph_at self.now c }

@@ -4,6 +4,7 @@ ghost use Rattle.std.specs.Prelude.{◌≡◌};
 use crate::bracket_table::BracketTable;
 use crate::class_table::ClassTable;
 use crate::mirror_table::MirrorTable;
+use std::marker::Model;
 use units::bracket::Unit;
 
 /// The tables of the three property files.
@@ -14,7 +15,7 @@ pub struct Tables {
     mirrors: MirrorTable,
 }
 
-impl std::marker::Model for Tables {
+impl Model for Tables {
     ghost use Rattle.ucdfiles.specs.Tables.{TablesOf};
 
     ghost Value = { TablesOf };
@@ -23,7 +24,7 @@ impl std::marker::Model for Tables {
 }
 
 impl Tables {
-    ghost use Rattle.ucdfiles.specs.Tables.{TablesOf, class_at, bracket_at};
+    ghost use Rattle.ucdfiles.specs.Tables.{TablesOf, unit_at};
 
     /// These three tables.
     pub fn new(classes: ClassTable, brackets: BracketTable, mirrors: MirrorTable) -> Self
@@ -38,8 +39,7 @@ impl Tables {
 
     /// What the algorithm knows of a character: its class and its bracket.
     pub fn unit(&self, c: char) -> Unit
-        ensures class { result.class ≡ class_at self.now.classes c }
-        ensures bracket { result.bracket ≡ bracket_at self.now.brackets c }
+        ensures { result ≡ unit_at self.now c }
     {
         Unit {
             class: self.classes.class(c),

@@ -5,6 +5,7 @@ use Rattle.ucdfiles.proofs.Keyed.{states-brackets}
 use Rattle.ucdfiles.proofs.bracket_table.BracketTable.read.Goals as goal
 
 pub returns-in-Ok-new-clause-ok : goal.returns-in-Ok-new-clause-ok
+unfolding bracket_at
 returns-in-Ok-new-clause-ok g c =
     let o = c.in_ok-read_lines.ensures.outcome c.new-lines.ensures in
     let are : AreKeyed c.read_lines.new.table.data_lines c.in-Ok.spans.items = rw c.data.ensures.value at c.in-Ok.ensures.keyed in

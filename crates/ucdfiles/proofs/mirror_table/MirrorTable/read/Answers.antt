@@ -5,6 +5,7 @@ use Rattle.ucdfiles.proofs.States.{states-mirrors}
 use Rattle.ucdfiles.proofs.mirror_table.MirrorTable.read.Goals as goal
 
 pub returns-in-Ok-new-clause-ok : goal.returns-in-Ok-new-clause-ok
+unfolding glyph_at
 returns-in-Ok-new-clause-ok g c =
     let o = c.in_ok-read_lines.ensures.outcome c.new-lines.ensures in
     let same : c.in-Ok.images.items ≡ map (revalued (λ (c : ℕ). Some c)) c.read_lines.new.table.data_lines = rw c.data.ensures.value at c.in-Ok.ensures.items in
