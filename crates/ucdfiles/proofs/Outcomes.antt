@@ -1,5 +1,6 @@
 -- What a reader says at each of its ends.
-use Rattle.std.proofs.Common.{◌≡◌, ◌≢◌, ℕ, ◌⊎◌, inl, inr, List, [], Option, None, Some, Result, Ok, Err, refl, ap, ◌∙◌}
+use Rattle.std.proofs.Common.{◌≡◌, ◌≢◌, ◌<◌, ◌≤◌, ℕ, ◌⊎◌, inl, inr, List, [], ◌++◌, length, length-append, take, arith, Option, None, Some, Result, Ok, Err, refl, ap, ◌∙◌}
+use Rattle.std.proofs.lemmas.List.{length-take-le}
 use Rattle.std.specs.Prelude.{IfErr, OnOk}
 use Rattle.units.specs.LineCutting.{Cutting}
 use Rattle.units.specs.Text.{lines_of}
@@ -14,6 +15,7 @@ module _ (before after : List (List ℕ) → Type 0) (fault : List (List ℕ) �
   pub failed : IsFault fault ended b Read
   failed = record {
     read = λ _. ap (first_fault fault []) (settled-whole b r.lines r.rest r.whole) ∙ r.faultless;
+    memory = λ is. cc;
     other = λ other. absurd (other refl);
   }
 
@@ -24,8 +26,12 @@ module _ (before after : List (List ℕ) → Type 0) (fault : List (List ℕ) �
   ends-outcome (Ok done) end ok err not_read = (end, (ok b r).0, (ok b r).1)
   ends-outcome (Err e) end ok err not_read = record {
     read = λ is. absurd (not_read is);
+    memory = λ _. inl end;
     other = λ _. elim (err b r) [ inl memory ↦ inl (inl memory) | inr faulty ↦ inr (end, faulty) ];
   }
 
-pub refused : (fault : List (List ℕ) → List ℕ → Option Fault) (ended : Type 0) (b : List ℕ) (e : TableFault) → Refuses fault b e → e ≢ Read → IsFault fault ended b e
-refused fault ended b e refuses not_read = record { read = λ is. absurd (not_read is); other = λ _. inl refuses }
+pub refused : (fault : List (List ℕ) → List ℕ → Option Fault) (ended : Type 0) (b : List ℕ) (e : TableFault) → 0 < length b → Refuses fault b e → e ≢ Read → IsFault fault ended b e
+refused fault ended b e some refuses not_read = record { read = λ is. absurd (not_read is); memory = λ _. inr some; other = λ _. inl refuses }
+
+pub some-given : (b xs : List ℕ) (n : ℕ) → n ≢ 0 → n ≤ length xs → 0 < length (b ++ take n xs)
+some-given b xs n some bound = omega (arith, length-append b (take n xs), length-take-le n xs bound, some)

@@ -1,5 +1,5 @@
 -- A table that is made of the lines of a source.
-use Rattle.std.specs.Prelude.{Option, ℕ, ◌≡◌, ◌≢◌, ◌⊎◌, List, [], ◌∷◌, ◌++◌, Some, None, Result, Ok, Err}
+use Rattle.std.specs.Prelude.{Option, ℕ, ◌≡◌, ◌≢◌, ◌<◌, ◌⊎◌, List, [], ◌∷◌, ◌++◌, length, Some, None, Result, Ok, Err}
 use Rattle.std.specs.Option.{option_map}
 use Rattle.units.specs.Text.{lines_of, settled_lines}
 use Rattle.units.specs.LineCutting.{Cutting, StandsFor}
@@ -36,9 +36,10 @@ IsRefusal before fault (TooLong number) e = e ≡ LineTooLong number
 abbrev pub Refuses : (List (List ℕ) → List ℕ → Option Fault) → List ℕ → TableFault → Type 0
 Refuses fault bytes e = (e ≡ Memory) ⊎ (first_fault fault [] (settled_lines bytes) ≡ Some e)
 
--- what a reader says of the bytes that its source handed out
+-- what a reader says of the bytes that its source handed out; it asks for memory only behind a read that did not fail
 pub record IsFault (fault : List (List ℕ) → List ℕ → Option Fault) (ended : Type 0) (bytes : List ℕ) (e : TableFault) : Type 0 where
   pub read : e ≡ Read → first_fault fault [] (settled_lines bytes) ≡ None
+  pub memory : e ≡ Memory → ended ⊎ (0 < length bytes)
   pub other : e ≢ Read → Refuses fault bytes e ⊎ (ended × (first_fault fault [] (lines_of bytes) ≡ Some e))
 
 -- what a reader answers: all lines state the table, or a fault
