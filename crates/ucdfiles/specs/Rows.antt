@@ -71,9 +71,9 @@ unfolding class_file_fault class_of class_line_says
 empty_file = refl
 
 -- in which every character has L
-pub empty_file_class : class_of [] 0x5D0 ≡ L
+pub empty_file_class : (c : ℕ) → class_of [] c ≡ L
 unfolding class_file_fault class_of class_line_says
-empty_file_class = refl
+empty_file_class c = refl
 
 -- a surrogate may stand in a range
 pub surrogates : class_file_fault (codes "D800..DFFF ; L") ≡ None
