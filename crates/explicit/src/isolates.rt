@@ -37,12 +37,12 @@ impl Model for IsolateMap {
 }
 
 impl IsolateMap {
-    /// Room for paragraphs of at most `n` units. `Memory` where the room is refused, and for more units than
-    /// positions of four bytes can count (4,294,967,295), whose room is not even asked for.
+    /// Room for paragraphs of at most `n` units. `Memory` where the room is refused, and for 2^32 - 1 units and more,
+    /// which positions of four bytes can't count and whose room is not even asked for.
     pub fn with_room(alloc: Global, n: usize) -> Result<IsolateMap, Memory>
         ensures { IfOk result (λ map. room map ≡ n) }
     {
-        if n > u32::MAX as usize {
+        if n >= u32::MAX as usize {
             return Err(Memory);
         }
         let partners = vec![in alloc; OptionalPosition::none(); n]?;
