@@ -1,21 +1,18 @@
 -- The sequences of a paragraph after X1 to X9 cover it, and their levels are its resolved levels.
-use Rattle.std.specs.Prelude.{Option, Some, None, ℕ, Bool, true, false, ◌<◌, ◌≤◌, ◌≡◌, List, [], ◌∷◌, length, map, filter, fold, take, unwrap_or, slice_index, nat_le, ◌&&◌, if◌then◌else◌, refl}
+use Rattle.std.specs.Prelude.{Option, None, ℕ, Bool, true, false, ◌<◌, ◌≤◌, ◌≡◌, List, length, map, filter, take, slice_index, if◌then◌else◌}
 use Rattle.std.specs.List.{All, flat_map}
-use Rattle.std.specs.Option.{option_map_or}
-use Rattle.std.proofs.Common.{arith, ap, sym, ◌∙◌, subst, inl, inr}
-use Rattle.std.proofs.lemmas.Bool.{cases_Bool, cases_lt, false≢true}
-use Rattle.std.proofs.lemmas.List.{length-map, get_or-map, get_or-take, get_or_past, length-take-le, ext_get_or}
+use Rattle.std.proofs.Common.{arith, ap, sym, ◌∙◌, subst}
+use Rattle.std.proofs.lemmas.List.{length-map, get_or-map, get_or-take, length-take-le, ext_get_or}
 use Rattle.std.proofs.lemmas.List.Elements.{All-map, All-filter, All-from_get_or, All-weaker}
 use Rattle.std.proofs.lemmas.List.Sums.{length-filter, count_by-le-length}
-use Rattle.units.specs.Classes.{class_at, classes_of, is_nonspacing, is_removed, is_separator}
-use Rattle.units.specs.Explicit.{State, explicit_at, explicit_of, entered, override_of, wanted_level, max_depth, state_of, chain}
+use Rattle.units.specs.Classes.{classes_of}
+use Rattle.units.specs.Explicit.{explicit_at, explicit_of}
 use Rattle.units.specs.Layout.{current_of, levels_in, level_found, resolved_levels}
 use Rattle.units.specs.Paragraphs.{SeparatorOnlyLast}
 use Rattle.units.specs.Positions.{positions_of}
 use Rattle.units.specs.Runs.{SequenceView, LeveledView, leveled_of, size_of, begins_sequence, successor, sequence_from, sequence_at, sequences_of}
 use Rattle.units.specs.declared.bracket.Unit.{Unit as BidiUnit}
 use Rattle.units.specs.declared.class.Class.{Class}
-use Rattle.units.specs.declared.class.Class.TheVariants.{L, BN, LRO, RLO}
 use Rattle.explicit.specs.ExplicitLevels.{HoldsLevels}
 use Rattle.explicit.proofs.InsideIsolates.{nested}
 use Rattle.explicit.proofs.Leveled.{leveled, size-is, get_or-of_positions}
@@ -26,6 +23,7 @@ use Rattle.sequences.proofs.Fits.{length-flat, sequences_fit}
 use Rattle.sequences.proofs.Forward.{successor_later}
 use Rattle.sequences.proofs.Links.{followed_rises, rising_positions}
 use Rattle.sequences.proofs.Once.{sequences_hold_once}
+use Rattle.resolve.proofs.OwnMarks.{current-own}
 use Rattle.resolve.specs.Covering.{AreApart, HasLevelsBy, KeepsMarks}
 
 length-of_positions : (cs : List Class) {A : Type 0} (f : ℕ → A) → length (map f (positions_of cs)) ≡ length cs
@@ -78,57 +76,8 @@ module _ (us : List BidiUnit) (para : ℕ) (low : para ≤ 1) (only : SeparatorO
       }
 
 -- no override makes a mark
-abbrev IsNoMark : Option Class → Type 0
-IsNoMark override = is_nonspacing (unwrap_or override L) ≡ false
-
-override_no_mark : (c : Class) → IsNoMark (override_of c)
-override_no_mark RLO = refl
-override_no_mark LRO = refl
-override_no_mark _ = refl
-
-entered_no_mark : (cs : List Class) (s : State) (q : ℕ) → IsNoMark s.override → IsNoMark (entered cs s q).override
-unfolding entered
-entered_no_mark cs s q h =
-    elim (cases_Bool (s.sound && nat_le (wanted_level cs s.level q) max_depth)) [
-      | inl taken ↦ rw taken (override_no_mark (class_at cs q))
-      | inr refused ↦ rw refused h
-    ]
-
-state_no_mark : (cs : List Class) (s : State) (qs : List ℕ) → IsNoMark s.override → IsNoMark (fold (entered cs) s qs).override
-state_no_mark cs s [] h = h
-state_no_mark cs s (q ∷ qs) h = state_no_mark cs (entered cs s q) qs (entered_no_mark cs s q h)
-
-overridden_mark : (override : Option Class) (own : Class) → IsNoMark override → is_nonspacing (unwrap_or override own) ≡ true → is_nonspacing own ≡ true
-overridden_mark None own h e = e
-overridden_mark (Some c) own h e = absurd (false≢true (sym h ∙ e))
-
-abbrev current_class : Option (ℕ × Class) → Class
-current_class place = option_map_or (λ x. x.1) place BN
-
-explicit_mark : (cs : List Class) (para p : ℕ) → is_nonspacing (current_class (explicit_at cs para p)) ≡ true → is_nonspacing (class_at cs p) ≡ true
-unfolding explicit_at
-explicit_mark cs para p e =
-    let own : Class = class_at cs p in
-    let s : State = state_of cs para (chain cs p) in
-    elim (cases_Bool (is_removed own)) [
-      | inl removed ↦ absurd (false≢true (rw removed at e))
-      | inr remains ↦ elim (cases_Bool (is_separator own)) [
-        | inl separates ↦ rw (remains, separates) at e
-        | inr plain ↦ overridden_mark s.override own (state_no_mark cs (record { level = para; override = None; sound = true }) (chain cs p) refl) (rw (remains, plain) at e)
-      ]
-    ]
-
 pub marks_are_kept : (us : List BidiUnit) (para : ℕ) → KeepsMarks us (current_of (explicit_of (classes_of us) para))
-marks_are_kept us para = λ p e.
-    let cs : List Class = classes_of us in
-    let n : length (explicit_of cs para) ≡ length cs = length-of_positions cs (explicit_at cs para) in
-    let m : length (current_of (explicit_of cs para)) ≡ length (explicit_of cs para) = length-map (explicit_of cs para) current_class in
-    elim (cases_lt p (length cs)) [
-      | inl h ↦
-          explicit_mark cs para p
-          (ap is_nonspacing (ap current_class (sym (get_or-of_positions cs (explicit_at cs para) p None h)) ∙ sym (get_or-map current_class (explicit_of cs para) p None L (omega arith))) ∙ e)
-      | inr h ↦ absurd (false≢true (ap is_nonspacing (sym (get_or_past (current_of (explicit_of cs para)) p L (omega arith))) ∙ e))
-    ]
+marks_are_kept us para = current-own (classes_of us) para
 
 -- the front of what was found is what the rules give
 pub found_front : (places : List (Option (ℕ × Class))) (cs : List Class) (para : ℕ) → HoldsLevels places cs para → take (length cs) places ≡ explicit_of cs para
