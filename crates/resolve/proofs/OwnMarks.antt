@@ -1,5 +1,5 @@
 -- No override makes a mark: what is a mark after X1 to X8 is one by its own class.
-use Rattle.std.specs.Prelude.{Option, Some, None, ℕ, Bool, true, false, ◌&&◌, nat_le, ◌<◌, ◌≡◌, List, [], ◌∷◌, length, map, fold, refl, IfSome, unwrap_or, if◌then◌else◌}
+use Rattle.std.specs.Prelude.{Option, Some, None, ℕ, Bool, true, false, ◌&&◌, nat_le, ◌≡◌, List, [], ◌∷◌, length, fold, refl, IfSome, unwrap_or, if◌then◌else◌}
 use Rattle.std.specs.Option.{option_map_or}
 use Rattle.std.proofs.Common.{arith, ap, sym, ◌∙◌, inl, inr}
 use Rattle.std.proofs.lemmas.Bool.{cases_lt, false≢true, both_ways}

@@ -1,7 +1,7 @@
-use Rattle.std.proofs.Common.{◌≡◌, ◌∙◌, ap, subst, List}
+use Rattle.std.proofs.Common.{◌∙◌, ap, subst, List}
 use Rattle.units.specs.Brackets.{acting_brackets}
 use Rattle.units.specs.Classes.{classes_at}
-use Rattle.units.specs.Layout.{after_brackets, after_rules, units_at}
+use Rattle.units.specs.Layout.{after_brackets, units_at}
 use Rattle.units.specs.Neutral.{after_neutral}
 use Rattle.units.specs.Runs.{direction_of}
 use Rattle.units.specs.Weak.{after_weak}
