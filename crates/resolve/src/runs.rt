@@ -57,7 +57,7 @@ fn class_past<L: Ledger>(
 ) -> Class
     requires { (k : ℕ) → k < length rest.now → slice_index rest.now k < length classes.now }
     ensures value { result ≡ first_class (outside run) (classes_at classes.now rest.now) end }
-    ensures at_least { steps.old ≤ steps.new }
+    ensures at_least { steps.old + prefix_len (in_run run) (classes_at classes.now rest.now) ≤ steps.new }
     ensures at_most { steps.new ≤ steps.old + prefix_len (in_run run) (classes_at classes.now rest.now) + 1 }
 {
     for position in rest {
