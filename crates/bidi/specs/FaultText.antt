@@ -12,7 +12,8 @@ use Rattle.bidi.specs.VerdictText.{line_feed}
 abbrev pub SaysFault : Option (List ℕ) → Option (List ℕ) → Fault → Type 0
 SaysFault before after (Refused error) = Unit {0}
 SaysFault before after WordNotUtf8 = Appends before after (concat (codes "bidi: a word is not UTF-8" ∷ line_feed ∷ []))
-SaysFault before after (CannotRead name) = Appends before after (concat (codes "bidi: cannot read " ∷ name.now ∷ line_feed ∷ []))
+SaysFault before after (CannotRead name) =
+    Appends before after (concat (codes "bidi: cannot read " ∷ name.now ∷ line_feed ∷ []))
 SaysFault before after CannotWrite = Appends before after (concat (codes "bidi: cannot write" ∷ line_feed ∷ []))
 SaysFault before after OutOfMemory = Appends before after (concat (codes "bidi: out of memory" ∷ line_feed ∷ []))
 
@@ -25,6 +26,6 @@ fault_status CannotWrite = 3
 fault_status OutOfMemory = 3
 
 -- the fault of a run in which printing failed so
-abbrev pub fault_of : PrintFault → Fault
-fault_of Write = CannotWrite
-fault_of Memory = OutOfMemory
+abbrev pub print_fault : PrintFault → Fault
+print_fault Write = CannotWrite
+print_fault Memory = OutOfMemory

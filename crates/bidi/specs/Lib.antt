@@ -1,3 +1,4 @@
 pub mod FaultText
 pub mod Judged
+pub mod Outcomes
 pub mod VerdictText

@@ -19,6 +19,9 @@ and each row claims, for each direction that it names, the levels and the order
 that the algorithm gives. Else prints `no`, with the first line that is malformed
 or wrong, and what is wrong there.
 
+So far rows may have the classes L, R, AL and B alone: any other class is
+`ClassItem`, as a word that is no class.
+
 Ends with status 0 after a yes, 1 after a no, 2 where the command line is refused,
 and 3 where the file can't be read, a write fails or memory is refused.";
 
@@ -56,7 +59,8 @@ fn bidi_command<'a>(alloc: Global) -> Result<Command<'a>, AllocError> {
         .subcommand(judge_command(alloc)?)
 }
 
-/// Reads the words of a command line, of which the first is the program's name. Words that are refused, or that ask for help, are answered as an error with the text for the user.
+/// Reads the words of a command line, of which the first is the program's name. Words that are refused, or that ask for
+/// help, are answered as an error with the text for the user.
 pub fn request_of<'a>(alloc: Global, words: &'a [&'a str]) -> Result<Request<'a>, Error> {
     let mut command = bidi_command(alloc)?;
     let matches = command.try_get_matches_from_mut(words)?;

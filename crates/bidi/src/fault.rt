@@ -43,9 +43,9 @@ pub enum Fault<'a> {
 
 impl From<PrintFault> for Fault<'_> {
     ghost use Rattle.std.specs.Prelude.{◌≡◌};
-    ghost use Rattle.bidi.specs.FaultText.{fault_of};
+    ghost use Rattle.bidi.specs.FaultText.{print_fault};
 
-    ghost from_gives = { λ fault given. given ≡ fault_of fault };
+    ghost from_gives = { λ fault given. given ≡ print_fault fault };
 
     fn from(fault: PrintFault) -> Self {
         match fault {

@@ -18,7 +18,8 @@ pub trait Files {
     /// What hands out a file's bytes.
     type Source: ByteSource + Drop;
 
-    /// A source of the bytes of the file of this name, of which a read past the first `most` bytes fails. The fault is `Cannot` where there is no such file or it can't be opened, and `Memory` where memory was refused.
+    /// A source of the bytes of the file of this name, of which a read past the first `most` bytes fails. The fault is
+    /// `Cannot` where there is no such file or it can't be opened, and `Memory` where memory was refused.
     fn source(&mut self, alloc: Global, name: &str, most: u64) -> Result<Self::Source, OpenFault>;
 }
 

@@ -24,7 +24,9 @@ fn status_of(verdict: Verdict) -> u8
     }
 }
 
-/// Judges the bytes that a source hands out to its end, as a file whose rows are lists of classes. Prints the verdict's line and answers its exit status. The faults are a failed read, by the name that is given, a failed write, and refused memory.
+/// Judges the bytes that a source hands out to its end, as a file whose rows are lists of classes. Prints the verdict's
+/// line and answers its exit status. The faults are a failed read, by the name that is given, a failed write, and
+/// refused memory.
 pub fn judge_classes<'a, S: ByteSource, W: Write>(
     alloc: Global,
     source: &mut S,

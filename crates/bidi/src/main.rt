@@ -5,6 +5,7 @@ mod command_line;
 mod fault;
 mod files;
 mod judging;
+mod outcome;
 mod run;
 #[cfg(test)]
 mod tests;
@@ -17,7 +18,8 @@ use std::env;
 use std::io::{self, BufWriter, Write};
 use std::process::ExitCode;
 
-/// Runs with the words of the command line, over the files of the system, standard output (buffered) and standard error.
+/// Runs with the words of the command line, over the files of the system, standard output (buffered) and standard
+/// error.
 fn run_with_words<E: Write>(rt: &HostRuntime, err: &mut E) -> io::Result<u8> {
     let alloc = rt.alloc();
     let owned: Vec<String> = env::args(rt)?.collect(alloc)?;

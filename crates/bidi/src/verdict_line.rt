@@ -52,21 +52,25 @@ fn print_place<W: Write>(w: &mut W, place: Place) -> io::Result<()>
 }
 
 fn print_malformed<W: Write>(w: &mut W, line: u64, cause: Cause) -> io::Result<()>
-    ensures { OnOk result (Appends (W.contents w.old) (W.contents w.new) (verdict_text (Verdict.Malformed line cause))) }
+    ensures { OnOk result (Appends (W.contents w.old) (W.contents w.new)
+        (verdict_text (Verdict.Malformed line cause))) }
 {
     let name = name_of_cause(cause);
     writeln!(w, "no: line {line}: malformed: {name}")
 }
 
 fn print_wrong<W: Write>(w: &mut W, line: u64, direction: Direction, place: Place) -> io::Result<()>
-    ensures { OnOk result (Appends (W.contents w.old) (W.contents w.new) (verdict_text (Verdict.Wrong line direction place))) }
+    ensures { OnOk result (Appends (W.contents w.old) (W.contents w.new)
+        (verdict_text (Verdict.Wrong line direction place))) }
 {
     let word = word_of_direction(direction);
     write!(w, "no: line {line}: {word}: ")?;
     print_place(w, place)
 }
 
-/// Writes the line that says a verdict, with its LF: its numbers are decimal, lines of the file are counted from 1 and indices from 0. Takes no memory. The fault is `Write`, where the writer fails; how much it took before is not known then.
+/// Writes the line that says a verdict, with its LF: its numbers are decimal, lines of the file are counted from 1 and
+/// indices from 0. Takes no memory. The fault is `Write`, where the writer fails; how much it took before is not known
+/// then.
 pub fn print_verdict<W: Write>(w: &mut W, verdict: &Verdict) -> Result<(), PrintFault>
     ensures text { OnOk result (Appends (W.contents w.old) (W.contents w.new) (verdict_text verdict.now)) }
     ensures fault { IfErr result (λ fault. fault ≡ PrintFault.Write) }

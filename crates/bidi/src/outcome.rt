@@ -1,0 +1,24 @@
+// What a run came to.
+ghost use Rattle.std.specs.Prelude.{◌≡◌, Ok};
+ghost use Rattle.bidi.specs.Outcomes.{outcome_status};
+
+/// What a run without a fault came to.
+#[derive(Clone, Copy, Debug, PartialEq, Eq)]
+pub enum Outcome {
+    /// A file was judged and its verdict printed: the verdict's exit status.
+    Judged(u8),
+    /// Help was printed, as the words asked.
+    Helped,
+}
+
+impl Outcome {
+    /// The exit status: that of the verdict, and 0 after help.
+    pub fn status(self) -> u8
+        ensures { result ≡ outcome_status (Ok self) }
+    {
+        match self {
+            Outcome::Judged(status) => status,
+            Outcome::Helped => 0,
+        }
+    }
+}
