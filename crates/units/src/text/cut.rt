@@ -13,6 +13,7 @@ pub fn cut(bytes: &[u8], separator: u8) -> (&[u8], Option<&[u8]>)
     ensures before { result.0.now ≡ before_first (λ b. b == separator) bytes.now }
     ensures behind { MatchOption result.1 (before_first (λ b. b == separator) bytes.now ≡ bytes.now) (λ rest. rest.now ≡ after_first (λ b. b == separator) bytes.now) }
     ensures short { length result.0.now ≤ length bytes.now }
+    ensures less { IfSome result.1 (λ rest. length rest.now ≤ length bytes.now) }
 {
     match memchr(separator, bytes) {
         None => (bytes, None),
@@ -24,6 +25,7 @@ pub fn cut(bytes: &[u8], separator: u8) -> (&[u8], Option<&[u8]>)
 pub fn cut_field(content: &[u8]) -> (&[u8], Option<&[u8]>)
     ensures fields { fields_of content.now ≡ result.0.now ∷ fields_behind result.1 }
     ensures short { length result.0.now ≤ length content.now }
+    ensures less { IfSome result.1 (λ rest. length rest.now ≤ length content.now) }
 {
     let (field, rest) = cut(content, b';');
     (trim(field), rest)
