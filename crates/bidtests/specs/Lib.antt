@@ -3,7 +3,9 @@ pub mod IdleRules
 pub mod ShortLayout
 pub mod Verdicts
 pub mod ClassesFile
+pub mod CharactersFile
 pub mod Readings
 pub mod Engines
 pub mod Standing
 pub mod Rows
+pub mod CharactersRows

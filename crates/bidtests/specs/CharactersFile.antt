@@ -1,0 +1,65 @@
+-- The grammar of BidiCharacterTest.txt, line by line, and the verdict on such a file.
+use Rattle.std.specs.Prelude.{Option, ℕ, nat_lt, if◌then◌else◌, List, [], ◌∷◌, length, map, Some, None, codes}
+use Rattle.std.specs.Option.{option_map}
+use Rattle.std.specs.Str.{bytes_eq}
+use Rattle.units.specs.Text.{lines_of, longest_line, content_of, fields_of, items_of, each_read}
+use Rattle.units.specs.Isolates.{level_of_para}
+use Rattle.units.specs.declared.bracket.Unit.{Unit as BidiUnit}
+use Rattle.units.specs.declared.level.Direction.{Direction}
+use Rattle.units.specs.declared.level.Direction.TheVariants.{Auto, Ltr, Rtl}
+use Rattle.units.specs.declared.level.ParaLevel.{ParaLevel}
+use Rattle.units.specs.declared.level.ParaLevel.TheVariants.{Zero, One}
+use Rattle.ucdfiles.specs.PairFiles.{char_of}
+use Rattle.bidtests.specs.declared.verdict.Cause.TheVariants.{LineTooLong, LevelItem, OrderItem, FieldCount, CodePoint, DirectionField, ParaField, EmptyRow}
+use Rattle.bidtests.specs.declared.verdict.Verdict.{Verdict}
+use Rattle.bidtests.specs.Verdicts.{Finding, Silent, Claims, Faulty, verdict_on}
+use Rattle.bidtests.specs.ClassesFile.{level_item, order_item}
+
+-- an item of the first field: a code point that is no surrogate, as the unit that the tables give it
+abbrev pub character_item : (ℕ → BidiUnit) → List ℕ → Option BidiUnit
+character_item unit_of item = option_map unit_of (char_of item)
+
+-- the second field: the direction that is asked for
+abbrev pub direction_field : List ℕ → Option Direction
+direction_field field =
+    if bytes_eq field (codes "0") then Some Ltr else if bytes_eq field (codes "1") then Some Rtl else if bytes_eq field (codes "2") then Some Auto else None
+
+-- the third field: the paragraph's level
+abbrev pub para_field : List ℕ → Option ParaLevel
+para_field field = if bytes_eq field (codes "0") then Some Zero else if bytes_eq field (codes "1") then Some One else None
+
+-- what a row claims whose fields are read as these, or the cause of the first that can't be read
+abbrev pub row_claims : Option (List BidiUnit) → Option Direction → Option ParaLevel → Option (List (Option ℕ)) → Option (List ℕ) → Finding
+row_claims None direction para levels order = Faulty CodePoint
+row_claims (Some text) None para levels order = Faulty DirectionField
+row_claims (Some text) (Some direction) None levels order = Faulty ParaField
+row_claims (Some text) (Some direction) (Some para) None order = Faulty LevelItem
+row_claims (Some text) (Some direction) (Some para) (Some levels) None = Faulty OrderItem
+row_claims (Some text) (Some direction) (Some para) (Some levels) (Some order) =
+    Claims (record { text = text; directions = direction ∷ []; para = Some (level_of_para para); levels = levels; order = order })
+
+-- what a row of these items claims: it has at least one
+abbrev pub row_with : (ℕ → BidiUnit) → List (List ℕ) → List ℕ → List ℕ → List ℕ → List ℕ → Finding
+row_with unit_of [] direction para levels order = Faulty EmptyRow
+row_with unit_of (item ∷ items) direction para levels order =
+    row_claims (each_read (character_item unit_of) (item ∷ items)) (direction_field direction) (para_field para)
+    (each_read level_item (items_of levels)) (each_read order_item (items_of order))
+
+-- what a row of these fields claims: it has exactly five
+abbrev pub row_of_fields : (ℕ → BidiUnit) → List (List ℕ) → Finding
+row_of_fields unit_of (characters ∷ direction ∷ para ∷ levels ∷ order ∷ []) = row_with unit_of (items_of characters) direction para levels order
+row_of_fields unit_of _ = Faulty FieldCount
+
+-- what a content comes to: nothing if it is empty, else a row, also where it begins with `@`
+abbrev pub line_of_content : (ℕ → BidiUnit) → List ℕ → Finding
+line_of_content unit_of [] = Silent
+line_of_content unit_of (b ∷ bs) = row_of_fields unit_of (fields_of (b ∷ bs))
+
+-- what a line comes to, by the unit of each code point
+unfoldable pub characters_line : (ℕ → BidiUnit) → List ℕ → Finding
+characters_line unit_of line =
+    if nat_lt longest_line (length line) then Faulty LineTooLong else line_of_content unit_of (content_of line)
+
+-- the verdict on the bytes of a BidiCharacterTest.txt, by the unit of each code point
+unfoldable pub characters_verdict : (ℕ → BidiUnit) → List ℕ → Verdict
+characters_verdict unit_of bytes = verdict_on (map (characters_line unit_of) (lines_of bytes))
