@@ -4,11 +4,13 @@ use Rattle.std.proofs.lemmas.List.{map-append, reverse-append, length-map}
 use Rattle.std.proofs.lemmas.List.Sums.{sum_by-append}
 use Rattle.bidtests.specs.declared.verdict.Verdict.{Verdict}
 use Rattle.bidtests.specs.declared.verdict.Verdict.TheVariants.{Yes}
-use Rattle.units.specs.declared.bracket.Unit.{Unit as BidiUnit}
-use Rattle.units.specs.declared.level.Direction.{Direction}
-use Rattle.bidtests.specs.Verdicts.{Finding, Silent, fault_of, first_fault, or_else, line_number, is_row, cases_of, rows_in, cases_in, most_counted, verdict_on}
-use Rattle.bidtests.specs.ClassesFile.{ClassesLine, Nothing, LevelsAre, OrderIs, RowOf, Broken, classes_line, finding, findings_behind, findings_of, levels_in_force, order_in_force, claimed}
-use Rattle.bidtests.specs.Standing.{Standing, after_line, IsBehind}
+use Rattle.bidtests.specs.declared.kind.Kind.{Kind}
+use Rattle.bidtests.specs.declared.kind.Kind.TheVariants.{Classes, Characters}
+use Rattle.bidtests.specs.Verdicts.{Finding, Silent, Claims, Faulty, fault_of, first_fault, or_else, line_number, is_row, cases_of, rows_in, cases_in, most_counted, verdict_on}
+use Rattle.bidtests.specs.ClassesFile.{ClassesLine, Nothing, LevelsAre, OrderIs, RowOf, Broken, classes_line, finding, findings_behind, findings_of, levels_in_force, order_in_force}
+use Rattle.bidtests.specs.CharactersFile.{characters_line}
+use Rattle.bidtests.specs.FileKinds.{unit_by, findings_by}
+use Rattle.bidtests.specs.Standing.{Standing, at_start, AreInForce, levels_behind, order_behind, rows_behind, cases_behind, found_by, after_line, IsBehind}
 
 findings_behind-append : (earlier a b : List ClassesLine) → findings_behind earlier (a ++ b) ≡ findings_behind earlier a ++ findings_behind (reverse a ++ earlier) b
 findings_behind-append earlier [] b = refl
@@ -53,36 +55,63 @@ findings_of-last lines line =
 length-findings_of : (lines : List (List ℕ)) → length (findings_of lines) ≡ length lines
 length-findings_of lines = length-findings_behind [] (map classes_line lines) ∙ length-map lines classes_line
 
-module _ (s : Standing) (lines : List (List ℕ)) (line : List ℕ) (h : IsBehind s lines) where
-  -- what the line says behind these
-  abbrev said : Finding
-  said = finding s.levels s.order (classes_line line)
+said-is : (s : Standing) (lines : List (List ℕ)) (line : List ℕ) → s.levels ≡ levels_in_force (reverse (map classes_line lines)) → s.order ≡ order_in_force (reverse (map classes_line lines))
+    → finding (levels_in_force (reverse (map classes_line lines))) (order_in_force (reverse (map classes_line lines))) (classes_line line) ≡ finding s.levels s.order (classes_line line)
+said-is s lines line l o = rw (l, o) refl
 
-  said-is : finding (levels_in_force (reverse (map classes_line lines))) (order_in_force (reverse (map classes_line lines))) (classes_line line) ≡ said
-  said-is = rw (h.levels, h.order) refl
+-- what a line of either kind of file comes to stands behind what the lines before it come to
+findings-line : (kind : Kind) (s : Standing) (lines : List (List ℕ)) (line : List ℕ) (others : List (List ℕ)) → AreInForce kind s.levels s.order lines
+    → (rest : List Finding) × (findings_by kind (lines ++ line ∷ others) ≡ findings_by kind lines ++ found_by kind s line ∷ rest)
+findings-line Classes s lines line others h =
+    let f = findings_of-line lines line others in
+    (f.0, f.1 ∙ ap (λ x. findings_of lines ++ x ∷ f.0) (said-is s lines line h.0 h.1))
+findings-line (Characters tables) s lines line others h =
+    let reading = characters_line (unit_by tables.now) in
+    (map reading others, map-append reading lines (line ∷ others))
 
-  fault-at : (rest : List Finding)
-      → first_fault 0 (findings_of lines ++ said ∷ rest) ≡ or_else (fault_of (line_number (length lines)) said) (first_fault (length lines + 1) rest)
-  fault-at rest =
-      first_fault-append 0 (findings_of lines) (said ∷ rest)
-      ∙ ap (λ o. or_else o (first_fault (0 + length (findings_of lines)) (said ∷ rest))) h.faultless
-      ∙ ap (λ n. first_fault n (said ∷ rest)) (omega (arith, length-findings_of lines))
+findings-last : (kind : Kind) (s : Standing) (lines : List (List ℕ)) (line : List ℕ) → AreInForce kind s.levels s.order lines
+    → findings_by kind (lines ++ line ∷ []) ≡ findings_by kind lines ++ found_by kind s line ∷ []
+findings-last Classes s lines line h = findings_of-last lines line ∙ ap (λ x. findings_of lines ++ x ∷ []) (said-is s lines line h.0 h.1)
+findings-last (Characters tables) s lines line h = map-append (characters_line (unit_by tables.now)) lines (line ∷ [])
 
-  -- the first fault decides, whatever stands behind it
-  pub verdict-fault : (v : Verdict) → fault_of (line_number (length lines)) (finding s.levels s.order (classes_line line)) ≡ Some v
-      → (others : List (List ℕ)) → verdict_on (findings_of (lines ++ line ∷ others)) ≡ v
-  unfolding verdict_on
-  verdict-fault v e others =
-      let f = findings_of-line lines line others in
-      let all : findings_of (lines ++ line ∷ others) ≡ findings_of lines ++ said ∷ f.0 = f.1 ∙ ap (λ x. findings_of lines ++ x ∷ f.0) said-is in
-      let fault : first_fault 0 (findings_of (lines ++ line ∷ others)) ≡ Some v =
-      ap (first_fault 0) all ∙ fault-at f.0 ∙ ap (λ o. or_else o (first_fault (length lines + 1) f.0)) e in
-      rw fault refl
+length-findings : (kind : Kind) (lines : List (List ℕ)) → length (findings_by kind lines) ≡ length lines
+length-findings Classes lines = length-findings_of lines
+length-findings (Characters tables) lines = length-map lines (characters_line (unit_by tables.now))
 
--- with no fault the numbers are those held
-pub verdict-yes : (s : Standing) (lines : List (List ℕ)) → IsBehind s lines → verdict_on (findings_of lines) ≡ Yes s.rows s.cases
-unfolding verdict_on
-verdict-yes s lines h = rw (h.faultless, h.rows, h.cases) refl
+-- the lists in force behind one line more
+levels-behind : (said : ClassesLine) (says : List ClassesLine) (levels : Option (List (Option ℕ))) → levels ≡ levels_in_force says → levels_behind said levels ≡ levels_in_force (said ∷ says)
+levels-behind Nothing says levels e = e
+levels-behind (LevelsAre now) says levels e = refl
+levels-behind (OrderIs order) says levels e = e
+levels-behind (RowOf text directions) says levels e = e
+levels-behind (Broken cause) says levels e = e
+
+order-behind : (said : ClassesLine) (says : List ClassesLine) (order : Option (List ℕ)) → order ≡ order_in_force says → order_behind said order ≡ order_in_force (said ∷ says)
+order-behind Nothing says order e = e
+order-behind (LevelsAre levels) says order e = e
+order-behind (OrderIs now) says order e = refl
+order-behind (RowOf text directions) says order e = e
+order-behind (Broken cause) says order e = e
+
+in-force : (kind : Kind) (s : Standing) (lines : List (List ℕ)) (line : List ℕ) → AreInForce kind s.levels s.order lines
+    → AreInForce kind (after_line kind line s).levels (after_line kind line s).order (lines ++ line ∷ [])
+in-force Classes s lines line h =
+    let says = map classes_line lines in
+    let nearer : classes_line line ∷ reverse says ≡ reverse (map classes_line (lines ++ line ∷ [])) =
+    sym (ap (reverse {A = ClassesLine}) (map-append classes_line lines (line ∷ [])) ∙ reverse-append says (classes_line line ∷ [])) in (
+      levels-behind (classes_line line) (reverse says) s.levels h.0 ∙ ap levels_in_force nearer,
+      order-behind (classes_line line) (reverse says) s.order h.1 ∙ ap order_in_force nearer,
+    )
+in-force (Characters tables) s lines line h = tt
+
+-- the counts are those before the line, with its own
+rows-after : (kind : Kind) (line : List ℕ) (s : Standing) → (after_line kind line s).rows ≡ rows_behind (found_by kind s line) s.rows
+rows-after Classes line s = refl
+rows-after (Characters tables) line s = refl
+
+cases-after : (kind : Kind) (line : List ℕ) (s : Standing) → (after_line kind line s).cases ≡ cases_behind (found_by kind s line) s.cases
+cases-after Classes line s = refl
+cases-after (Characters tables) line s = refl
 
 min-add : (s n c : ℕ) → s ≡ min n most_counted → min (s + c) most_counted ≡ min (n + c) most_counted
 min-add s n c e = omega arith
@@ -96,59 +125,55 @@ cases-push s fs f c one e = min-add s (sum_by cases_of fs) c e ∙ ap (λ n. min
 capped : (s n : ℕ) → s ≡ min n most_counted → min (s + 0) most_counted ≡ s
 capped s n e = omega arith
 
--- what a standing behind lines becomes by one more, by what that line says
-record Becomes (s t : Standing) (says : List ClassesLine) (fs : List Finding) (line : ClassesLine) : Type 0 where
-  pub levels : t.levels ≡ levels_in_force (line ∷ says)
-  pub order : t.order ≡ order_in_force (line ∷ says)
-  pub rows : t.rows ≡ rows_in (fs ++ finding s.levels s.order line ∷ [])
-  pub cases : t.cases ≡ cases_in (fs ++ finding s.levels s.order line ∷ [])
+rows-behind : (number : ℕ) (f : Finding) (rows : ℕ) (fs : List Finding) → fault_of number f ≡ None → rows ≡ rows_in fs → rows_behind f rows ≡ rows_in (fs ++ f ∷ [])
+rows-behind number Silent rows fs e r = sym (capped rows (count_by is_row fs) r) ∙ rows-push rows fs Silent 0 refl r
+rows-behind number (Claims claim) rows fs e r = rows-push rows fs (Claims claim) 1 refl r
+rows-behind number (Faulty cause) rows fs e r = absurd (cc)
 
-silent : (s : Standing) (fs : List Finding) → s.rows ≡ rows_in fs → s.cases ≡ cases_in fs
-    → (s.rows ≡ rows_in (fs ++ Silent ∷ [])) × (s.cases ≡ cases_in (fs ++ Silent ∷ []))
-silent s fs r c = (
-  sym (capped s.rows (count_by is_row fs) r) ∙ rows-push s.rows fs Silent 0 refl r,
-  sym (capped s.cases (sum_by cases_of fs) c) ∙ cases-push s.cases fs Silent 0 refl c,
-)
+cases-behind : (number : ℕ) (f : Finding) (cases : ℕ) (fs : List Finding) → fault_of number f ≡ None → cases ≡ cases_in fs → cases_behind f cases ≡ cases_in (fs ++ f ∷ [])
+cases-behind number Silent cases fs e c = sym (capped cases (sum_by cases_of fs) c) ∙ cases-push cases fs Silent 0 refl c
+cases-behind number (Claims claim) cases fs e c = cases-push cases fs (Claims claim) (length claim.directions) refl c
+cases-behind number (Faulty cause) cases fs e c = absurd (cc)
 
-row-becomes : (number : ℕ) (text : List BidiUnit) (directions : List Direction) (levels : Option (List (Option ℕ))) (order : Option (List ℕ)) (rows cases : ℕ) (fs : List Finding)
-    → rows ≡ rows_in fs → cases ≡ cases_in fs → fault_of number (claimed text directions levels order) ≡ None
-    → (min (rows + 1) most_counted ≡ rows_in (fs ++ claimed text directions levels order ∷ []))
-    × (min (cases + length directions) most_counted ≡ cases_in (fs ++ claimed text directions levels order ∷ []))
-row-becomes number text directions (Some levels) (Some order) rows cases fs r c e = (
-  rows-push rows fs _ 1 refl r,
-  cases-push cases fs _ (length directions) refl c,
-)
-row-becomes number text directions None order rows cases fs r c e = absurd (cc)
-row-becomes number text directions (Some levels) None rows cases fs r c e = absurd (cc)
+module _ (kind : Kind) (s : Standing) (lines : List (List ℕ)) (line : List ℕ) (h : IsBehind kind s lines) where
+  -- what the line comes to behind these
+  abbrev found : Finding
+  found = found_by kind s line
 
-becomes : (number : ℕ) (s : Standing) (says : List ClassesLine) (fs : List Finding) (line : ClassesLine)
-    → s.levels ≡ levels_in_force says → s.order ≡ order_in_force says → s.rows ≡ rows_in fs → s.cases ≡ cases_in fs
-    → fault_of number (finding s.levels s.order line) ≡ None → Becomes s (after_line line s) says fs line
-becomes number s says fs Nothing l o r c e = let q = silent s fs r c in record { levels = l; order = o; rows = q.0; cases = q.1 }
-becomes number s says fs (LevelsAre levels) l o r c e = let q = silent s fs r c in record { levels = refl; order = o; rows = q.0; cases = q.1 }
-becomes number s says fs (OrderIs order) l o r c e = let q = silent s fs r c in record { levels = l; order = refl; rows = q.0; cases = q.1 }
-becomes number s says fs (RowOf text directions) l o r c e =
-    let q = row-becomes number text directions s.levels s.order s.rows s.cases fs r c e in record { levels = l; order = o; rows = q.0; cases = q.1 }
-becomes number s says fs (Broken cause) l o r c e = absurd (cc)
+  fault-at : (rest : List Finding)
+      → first_fault 0 (findings_by kind lines ++ found ∷ rest) ≡ or_else (fault_of (line_number (length lines)) found) (first_fault (length lines + 1) rest)
+  fault-at rest =
+      first_fault-append 0 (findings_by kind lines) (found ∷ rest)
+      ∙ ap (λ o. or_else o (first_fault (0 + length (findings_by kind lines)) (found ∷ rest))) h.faultless
+      ∙ ap (λ n. first_fault n (found ∷ rest)) (omega (arith, length-findings kind lines))
 
-module _ (s : Standing) (lines : List (List ℕ)) (line : List ℕ) (h : IsBehind s lines) where
+  -- the first fault decides, whatever stands behind it
+  pub verdict-fault : (v : Verdict) → fault_of (line_number (length lines)) (found_by kind s line) ≡ Some v
+      → (others : List (List ℕ)) → verdict_on (findings_by kind (lines ++ line ∷ others)) ≡ v
+  unfolding verdict_on
+  verdict-fault v e others =
+      let f = findings-line kind s lines line others h.lists in
+      let fault : first_fault 0 (findings_by kind (lines ++ line ∷ others)) ≡ Some v =
+      ap (first_fault 0) f.1 ∙ fault-at f.0 ∙ ap (λ o. or_else o (first_fault (length lines + 1) f.0)) e in
+      rw fault refl
+
   -- a line without a fault
-  pub behind-line : fault_of (line_number (length lines)) (finding s.levels s.order (classes_line line)) ≡ None
-      → IsBehind (after_line (classes_line line) s) (lines ++ line ∷ [])
+  pub behind-line : fault_of (line_number (length lines)) (found_by kind s line) ≡ None → IsBehind kind (after_line kind line s) (lines ++ line ∷ [])
   behind-line e =
-      let says = map classes_line lines in
-      let b = becomes (line_number (length lines)) s (reverse says) (findings_of lines) (classes_line line) h.levels h.order h.rows h.cases e in
-      let all : findings_of (lines ++ line ∷ []) ≡ findings_of lines ++ finding s.levels s.order (classes_line line) ∷ [] =
-      findings_of-last lines line ∙ ap (λ x. findings_of lines ++ x ∷ []) (said-is s lines line h) in
-      let nearer : reverse (map classes_line (lines ++ line ∷ [])) ≡ classes_line line ∷ reverse says =
-      ap (reverse {A = ClassesLine}) (map-append classes_line lines (line ∷ [])) ∙ reverse-append says (classes_line line ∷ []) in
+      let number = line_number (length lines) in
+      let all : findings_by kind (lines ++ line ∷ []) ≡ findings_by kind lines ++ found ∷ [] = findings-last kind s lines line h.lists in
       record {
-        faultless = ap (first_fault 0) all ∙ fault-at s lines line h [] ∙ ap (λ o. or_else o None) e;
-        levels = b.levels ∙ ap levels_in_force (sym nearer);
-        order = b.order ∙ ap order_in_force (sym nearer);
-        rows = b.rows ∙ ap rows_in (sym all);
-        cases = b.cases ∙ ap cases_in (sym all);
+        faultless = ap (first_fault 0) all ∙ fault-at [] ∙ ap (λ o. or_else o None) e;
+        lists = in-force kind s lines line h.lists;
+        rows = rows-after kind line s ∙ rows-behind number found s.rows (findings_by kind lines) e h.rows ∙ ap rows_in (sym all);
+        cases = cases-after kind line s ∙ cases-behind number found s.cases (findings_by kind lines) e h.cases ∙ ap cases_in (sym all);
       }
 
-pub behind-none : IsBehind (record { levels = None; order = None; rows = 0; cases = 0 }) []
-behind-none = record { faultless = refl; levels = refl; order = refl; rows = refl; cases = refl }
+-- with no fault the numbers are those held
+pub verdict-yes : (kind : Kind) (s : Standing) (lines : List (List ℕ)) → IsBehind kind s lines → verdict_on (findings_by kind lines) ≡ Yes s.rows s.cases
+unfolding verdict_on
+verdict-yes kind s lines h = rw (h.faultless, h.rows, h.cases) refl
+
+pub behind-none : (kind : Kind) → IsBehind kind at_start []
+behind-none Classes = record { faultless = refl; lists = (refl, refl); rows = refl; cases = refl }
+behind-none (Characters tables) = record { faultless = refl; lists = tt; rows = refl; cases = refl }

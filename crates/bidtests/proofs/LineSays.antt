@@ -1,8 +1,12 @@
--- What a line says, by how its content begins.
+-- What a line says or comes to, by how its content begins.
 use Rattle.std.proofs.Common.{◌≡◌, ◌≢◌, ℕ, ◌<◌, ◌≤◌, ◌==◌, Bool, true, false, List, [], ◌∷◌, length, get_or, refl, sym, ap, ◌∙◌, arith}
 use Rattle.std.specs.Prelude.{nat_lt}
 use Rattle.std.proofs.lemmas.Bool.{ne_eqb, le-ltb}
 use Rattle.units.specs.Text.{content_of, fields_of}
+use Rattle.units.specs.declared.bracket.Unit.{Unit as BidiUnit}
+use Rattle.bidtests.specs.Verdicts.{Silent}
+use Rattle.bidtests.specs.CharactersFile.{characters_line, row_of_fields}
+use Rattle.bidtests.specs.CharactersFile as characters
 use Rattle.bidtests.specs.ClassesFile.{Nothing, classes_line, line_of_content, directive, data_line}
 
 by-content : (line content : List ℕ) → content ≡ content_of line → length line ≤ 65536 → classes_line line ≡ line_of_content content
@@ -36,3 +40,25 @@ module _ (line content : List ℕ) (is : content ≡ content_of line) (le : leng
 pub not_empty : (content : List ℕ) (b : Bool) → b ≡ (length content == 0) → b ≡ false → 0 < length content
 not_empty [] b e f = absurd (cc)
 not_empty (x ∷ xs) b e f = omega arith
+
+module _ (unit_of : ℕ → BidiUnit) where
+  comes-by-content : (line content : List ℕ) → content ≡ content_of line → length line ≤ 65536 → characters_line unit_of line ≡ characters.line_of_content unit_of content
+  unfolding characters_line
+  comes-by-content line content is le =
+      let e : nat_lt 65536 (length line) ≡ false = le-ltb 65536 (length line) le in
+      rw e (ap (characters.line_of_content unit_of) (sym is))
+
+  characters-empty : (content : List ℕ) → length content ≡ 0 → characters.line_of_content unit_of content ≡ Silent
+  characters-empty [] none = refl
+  characters-empty (b ∷ bs) none = absurd (omega arith)
+
+  characters-some : (content : List ℕ) → 0 < length content → characters.line_of_content unit_of content ≡ row_of_fields unit_of (fields_of content)
+  characters-some [] some = absurd (omega arith)
+  characters-some (b ∷ bs) some = refl
+
+  pub comes-silent : (line content : List ℕ) → content ≡ content_of line → length line ≤ 65536 → length content ≡ 0 → characters_line unit_of line ≡ Silent
+  comes-silent line content is le none = comes-by-content line content is le ∙ characters-empty content none
+
+  pub comes-row : (line content : List ℕ) → content ≡ content_of line → length line ≤ 65536 → 0 < length content
+      → characters_line unit_of line ≡ row_of_fields unit_of (fields_of content)
+  comes-row line content is le some = comes-by-content line content is le ∙ characters-some content some

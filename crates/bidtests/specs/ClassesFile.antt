@@ -14,7 +14,6 @@ use Rattle.bidtests.specs.declared.verdict.Cause.{Cause}
 use Rattle.bidtests.specs.declared.verdict.Cause.TheVariants.{LineTooLong, Directive, LevelItem, OrderItem, ClassItem, BitSet, NoExpectation, FieldCount, EmptyRow}
 use Rattle.bidtests.specs.declared.verdict.Verdict.{Verdict}
 use Rattle.bidtests.specs.Verdicts.{Claim, Finding, Silent, Claims, Faulty, verdict_on}
-use Rattle.bidtests.specs.ShortLayout.{is_short_class}
 
 -- `x`: the position is removed (X9)
 abbrev pub removed_item : List ℕ
@@ -43,18 +42,13 @@ abbrev pub bit_set : List ℕ → Option (List Direction)
 bit_set (d ∷ []) = if nat_le 49 d && nat_le d 55 then Some (directions_of (d - 48)) else None
 bit_set _ = None
 
--- the unit of a class that a row may have: L, R, AL and B so far
-abbrev pub unit_of_class : Class → Option BidiUnit
-unit_of_class class = if is_short_class class then Some (record { class = class; bracket = No }) else None
+-- the unit of a class, which is no bracket
+abbrev pub unit_of_class : Class → BidiUnit
+unit_of_class class = record { class = class; bracket = No }
 
--- the unit of a class that a row may have, where there is a class
-abbrev pub unit_of_found : Option Class → Option BidiUnit
-unit_of_found None = None
-unit_of_found (Some class) = unit_of_class class
-
--- an item of a row: the short name of a class that a row may have
+-- an item of a row: the short name of a class
 abbrev pub unit_item : List ℕ → Option BidiUnit
-unit_item name = unit_of_found (class_of_short name)
+unit_item name = option_map unit_of_class (class_of_short name)
 
 -- what a line says by itself: nothing, a list of levels, an order, a row, or that it is malformed
 pub data ClassesLine : Type 0 where

@@ -1,11 +1,8 @@
-pub mod Flat
-pub mod IdleRules
-pub mod ShortLayout
 pub mod Verdicts
 pub mod ClassesFile
 pub mod CharactersFile
+pub mod FileKinds
 pub mod Readings
-pub mod Engines
 pub mod Standing
 pub mod Rows
 pub mod CharactersRows

@@ -1,9 +1,14 @@
 -- What the reading of a line hands out, in the words of the grammar.
 use Rattle.std.specs.Borrow.{Bor}
-use Rattle.std.specs.Prelude.{Option, Result, Ok, Err, Some, None, ◌≡◌, Bool, true, false, List}
+use Rattle.std.specs.Prelude.{Option, Result, Ok, Err, Some, None, ◌≡◌, Bool, true, false, ℕ, List, [], ◌∷◌}
 use Rattle.units.specs.declared.bracket.Unit.{Unit as BidiUnit}
 use Rattle.units.specs.declared.level.Direction.{Direction}
 use Rattle.bidtests.specs.declared.verdict.Cause.{Cause}
+use Rattle.units.specs.Isolates.{level_of_para}
+use Rattle.units.specs.declared.level.ParaLevel.{ParaLevel}
+use Rattle.std.specs.Option.{option_map}
+use Rattle.bidtests.specs.declared.claim.Claim.{Claim as RowClaim}
+use Rattle.bidtests.specs.Verdicts.{Claim, Finding, Claims, Faulty}
 use Rattle.bidtests.specs.ClassesFile.{ClassesLine, RowOf, Broken}
 
 -- the list that was read, if it was
@@ -20,3 +25,13 @@ MatchesNow (Some r) found = found ≡ Some r.now
 abbrev pub row_read : Result (Bor (List Direction)) Cause → List BidiUnit → ClassesLine
 row_read (Ok directions) text = RowOf text directions.now
 row_read (Err cause) text = Broken cause
+
+-- what a row of a classes file or of a characters file claims
+abbrev pub claim_of : RowClaim → Claim
+claim_of c = record { text = c.text.now; directions = c.directions.now; para = option_map level_of_para c.para; levels = c.levels.now; order = c.order.now }
+
+-- the claim of a row of this direction and this paragraph level with these lists, or the cause
+abbrev pub claim_read : Result (Direction × ParaLevel) Cause → List BidiUnit → List (Option ℕ) → List ℕ → Finding
+claim_read (Ok asked) text levels order =
+    Claims (record { text = text; directions = asked.0 ∷ []; para = Some (level_of_para asked.1); levels = levels; order = order })
+claim_read (Err cause) text levels order = Faulty cause

@@ -65,10 +65,45 @@ pub right_to_left : classes_verdict (written (codes "@Levels: 2 1 1" ∷ codes "
 unfolding classes_verdict verdict_on classes_line matching_pdi matching_initiator partner_of isolate_holds isolate_around first_strong para_level_of matching_pdf embedding_holds chain entered explicit_at after_weak stop_of bracket_pairs_of closer_of after_paired after_neutral resolved_levels after_resets line_order layout_of
 right_to_left = refl
 
--- a class that no row may have so far
-pub other_class : classes_verdict (written (codes "@Levels: x" ∷ codes "@Reorder:" ∷ codes "LRE; 7" ∷ [])) ≡ Malformed 3 ClassItem
+-- X9: a removed position has no level and stands in no order
+pub removed : classes_verdict (written (codes "@Levels: x" ∷ codes "@Reorder:" ∷ codes "LRE; 7" ∷ [])) ≡ Yes 1 3
+unfolding classes_verdict verdict_on classes_line matching_pdi matching_initiator partner_of isolate_holds isolate_around first_strong para_level_of matching_pdf embedding_holds chain entered explicit_at after_weak stop_of bracket_pairs_of closer_of after_paired after_neutral resolved_levels after_resets line_order layout_of
+removed = refl
+
+-- an item that is no short name of a class
+pub other_name : classes_verdict (written (codes "L l; 9" ∷ [])) ≡ Malformed 1 ClassItem
 unfolding classes_verdict verdict_on classes_line
-other_class = refl
+other_name = refl
+
+-- BD13: R and R are not joined across an embedding
+pub across_embedding : classes_verdict (written (codes "@Levels: 1 0 x 2 x 0 1" ∷ codes "@Reorder: 0 1 3 5 6" ∷ codes "R ON LRE L PDF ON R; 2" ∷ [])) ≡ Yes 1 1
+unfolding classes_verdict verdict_on classes_line matching_pdi matching_initiator partner_of isolate_holds isolate_around first_strong para_level_of matching_pdf embedding_holds chain entered explicit_at after_weak stop_of bracket_pairs_of closer_of after_paired after_neutral resolved_levels after_resets line_order layout_of
+across_embedding = refl
+
+-- BD13: R and R are joined across an isolate
+pub across_isolate : classes_verdict (written (codes "@Levels: 1 1 1 2 1 1 1" ∷ codes "@Reorder: 6 5 4 3 2 1 0" ∷ codes "R ON LRI L PDI ON R; 2" ∷ [])) ≡ Yes 1 1
+unfolding classes_verdict verdict_on classes_line matching_pdi matching_initiator partner_of isolate_holds isolate_around first_strong para_level_of matching_pdf embedding_holds chain entered explicit_at after_weak stop_of bracket_pairs_of closer_of after_paired after_neutral resolved_levels after_resets line_order layout_of
+across_isolate = refl
+
+-- L1: the blank at the end has the paragraph's level by its own class
+pub blank_at_end : classes_verdict (written (codes "@Levels: 0 x 1 0" ∷ codes "@Reorder: 0 2 3" ∷ codes "L RLO R WS; 2" ∷ [])) ≡ Yes 1 1
+unfolding classes_verdict verdict_on classes_line matching_pdi matching_initiator partner_of isolate_holds isolate_around first_strong para_level_of matching_pdf embedding_holds chain entered explicit_at after_weak stop_of bracket_pairs_of closer_of after_paired after_neutral resolved_levels after_resets line_order layout_of
+blank_at_end = refl
+
+-- X5c: the FSI acts as RLI, and its content says nothing of the paragraph's level
+pub first_strong_isolate : classes_verdict (written (codes "@Levels: 0 1 0 0" ∷ codes "@Reorder: 0 1 2 3" ∷ codes "FSI R PDI L; 1" ∷ [])) ≡ Yes 1 1
+unfolding classes_verdict verdict_on classes_line matching_pdi matching_initiator partner_of isolate_holds isolate_around first_strong para_level_of matching_pdf embedding_holds chain entered explicit_at after_weak stop_of bracket_pairs_of closer_of after_paired after_neutral resolved_levels after_resets line_order layout_of
+first_strong_isolate = refl
+
+-- each separator has the level of its paragraph
+pub separators_at_zero : classes_verdict (written (codes "@Levels: 0 0 0" ∷ codes "@Reorder: 0 1 2" ∷ codes "B B B; 7" ∷ [])) ≡ Wrong 3 Rtl (Levels 0)
+unfolding classes_verdict verdict_on classes_line matching_pdi matching_initiator partner_of isolate_holds isolate_around first_strong para_level_of matching_pdf embedding_holds chain entered explicit_at after_weak stop_of bracket_pairs_of closer_of after_paired after_neutral resolved_levels after_resets line_order layout_of
+separators_at_zero = refl
+
+-- X6a: a PDI without an isolate closes no embedding
+pub pdi_without_isolate : classes_verdict (written (codes "@Levels: x 1 2" ∷ codes "@Reorder: 2 1" ∷ codes "RLE PDI L; 2" ∷ [])) ≡ Yes 1 1
+unfolding classes_verdict verdict_on classes_line matching_pdi matching_initiator partner_of isolate_holds isolate_around first_strong para_level_of matching_pdf embedding_holds chain entered explicit_at after_weak stop_of bracket_pairs_of closer_of after_paired after_neutral resolved_levels after_resets line_order layout_of
+pdi_without_isolate = refl
 
 -- the least line that is wrong or malformed decides
 pub least_line : classes_verdict (written (codes "@Levels: 0" ∷ codes "@Reorder: 0" ∷ codes "L; 4" ∷ codes "L; 4" ∷ codes "L; 16" ∷ [])) ≡ Wrong 3 Rtl (Levels 0)

@@ -1,15 +1,19 @@
--- What a judge of classes files holds, and the bytes that it stands for.
-use Rattle.std.specs.Prelude.{◌≡◌, Option, Some, None, ℕ, ◌+◌, min, List, ◌++◌, map, reverse, length}
+-- What a judge holds, and the bytes that it stands for.
+use Rattle.std.specs.Prelude.{◌≡◌, Option, Some, None, ℕ, ◌+◌, min, List, ◌++◌, map, reverse, length, ⊤}
 use Rattle.std.specs.Borrow.{Bor}
 use Rattle.units.specs.LineCutting.{Cutting, StandsFor}
 use Rattle.units.specs.Lines.{CutsInto}
 use Rattle.units.specs.declared.line_cut.Step.{Step}
 use Rattle.units.specs.declared.line_cut.Step.TheVariants.{More, Line, TooLong}
+use Rattle.bidtests.specs.declared.kind.Kind.{Kind}
+use Rattle.bidtests.specs.declared.kind.Kind.TheVariants.{Classes, Characters}
 use Rattle.bidtests.specs.declared.verdict.Verdict.{Verdict}
 use Rattle.bidtests.specs.declared.verdict.Verdict.TheVariants.{Yes, Malformed}
 use Rattle.bidtests.specs.declared.verdict.Cause.TheVariants.{LineTooLong}
-use Rattle.bidtests.specs.Verdicts.{first_fault, fault_of, rows_in, cases_in, most_counted}
-use Rattle.bidtests.specs.ClassesFile.{ClassesLine, Nothing, LevelsAre, OrderIs, RowOf, Broken, classes_line, finding, levels_in_force, order_in_force, findings_of, classes_verdict}
+use Rattle.bidtests.specs.Verdicts.{Finding, Silent, Claims, Faulty, first_fault, fault_of, rows_in, cases_in, most_counted}
+use Rattle.bidtests.specs.ClassesFile.{ClassesLine, Nothing, LevelsAre, OrderIs, RowOf, Broken, classes_line, finding, levels_in_force, order_in_force}
+use Rattle.bidtests.specs.CharactersFile.{characters_line}
+use Rattle.bidtests.specs.FileKinds.{unit_by, findings_by, verdict_of}
 
 -- what a judge keeps between two lines: the lists in force, and how many rows and cases were right
 pub record Standing : Type 0 where
@@ -18,65 +22,122 @@ pub record Standing : Type 0 where
   pub rows : ℕ
   pub cases : ℕ
 
+-- before the first line
+abbrev pub at_start : Standing
+at_start = record { levels = None; order = None; rows = 0; cases = 0 }
+
+-- the levels in force behind a line that says this
+abbrev pub levels_behind : ClassesLine → Option (List (Option ℕ)) → Option (List (Option ℕ))
+levels_behind (LevelsAre levels) before = Some levels
+levels_behind _ before = before
+
+-- the order in force behind a line that says this
+abbrev pub order_behind : ClassesLine → Option (List ℕ) → Option (List ℕ)
+order_behind (OrderIs order) before = Some order
+order_behind _ before = before
+
+-- how many rows there are behind a line that comes to this
+abbrev pub rows_behind : Finding → ℕ → ℕ
+rows_behind (Claims claim) before = min (before + 1) most_counted
+rows_behind _ before = before
+
+-- how many cases there are behind a line that comes to this
+abbrev pub cases_behind : Finding → ℕ → ℕ
+cases_behind (Claims claim) before = min (before + length claim.directions) most_counted
+cases_behind _ before = before
+
+-- with the row and the cases counted of a line that comes to this
+abbrev pub counted : Finding → Standing → Standing
+counted found s = record { levels = s.levels; order = s.order; rows = rows_behind found s.rows; cases = cases_behind found s.cases }
+
+-- with the list in force that a line of a classes file says
+abbrev pub listed : ClassesLine → Standing → Standing
+listed said s = record { levels = levels_behind said s.levels; order = order_behind said s.order; rows = s.rows; cases = s.cases }
+
+-- with no list in force
+abbrev pub unlisted : Standing → Standing
+unlisted s = record { levels = None; order = None; rows = s.rows; cases = s.cases }
+
+-- no list is in force
+pub record HasNoLists (s : Standing) : Type 0 where
+  pub levels : s.levels ≡ None
+  pub order : s.order ≡ None
+
+-- what is kept behind a line of a classes file that says this
+abbrev pub after_said : ClassesLine → Standing → Standing
+after_said said s = counted (finding s.levels s.order said) (listed said s)
+
+-- what a line of such a file comes to
+abbrev pub found_by : Kind → Standing → List ℕ → Finding
+found_by Classes s line = finding s.levels s.order (classes_line line)
+found_by (Characters tables) s line = characters_line (unit_by tables.now) line
+
+-- with the list in force that a line says; in a characters file none is
+abbrev pub listed_by : Kind → List ℕ → Standing → Standing
+listed_by Classes line s = listed (classes_line line) s
+listed_by (Characters tables) line s = unlisted s
+
 -- what is kept behind a line that is neither malformed nor wrong
-abbrev pub after_line : ClassesLine → Standing → Standing
-after_line Nothing s = s
-after_line (LevelsAre levels) s = record { levels = Some levels; order = s.order; rows = s.rows; cases = s.cases }
-after_line (OrderIs order) s = record { levels = s.levels; order = Some order; rows = s.rows; cases = s.cases }
-after_line (RowOf text directions) s =
-    record { levels = s.levels; order = s.order; rows = min (s.rows + 1) most_counted; cases = min (s.cases + length directions) most_counted }
-after_line (Broken cause) s = s
+abbrev pub after_line : Kind → List ℕ → Standing → Standing
+after_line kind line s = counted (found_by kind s line) (listed_by kind line s)
+
+-- the lists in force behind these lines
+abbrev pub AreInForce : Kind → Option (List (Option ℕ)) → Option (List ℕ) → List (List ℕ) → Type 0
+AreInForce Classes levels order lines =
+    (levels ≡ levels_in_force (reverse (map classes_line lines))) × (order ≡ order_in_force (reverse (map classes_line lines)))
+AreInForce (Characters tables) levels order lines = ⊤
 
 -- this is kept behind these lines, none of which is malformed or wrong
-pub record IsBehind (s : Standing) (lines : List (List ℕ)) : Type 0 where
-  pub faultless : first_fault 0 (findings_of lines) ≡ None
-  pub levels : s.levels ≡ levels_in_force (reverse (map classes_line lines))
-  pub order : s.order ≡ order_in_force (reverse (map classes_line lines))
-  pub rows : s.rows ≡ rows_in (findings_of lines)
-  pub cases : s.cases ≡ cases_in (findings_of lines)
+pub record IsBehind (kind : Kind) (s : Standing) (lines : List (List ℕ)) : Type 0 where
+  pub faultless : first_fault 0 (findings_by kind lines) ≡ None
+  pub lists : AreInForce kind s.levels s.order lines
+  pub rows : s.rows ≡ rows_in (findings_by kind lines)
+  pub cases : s.cases ≡ cases_in (findings_by kind lines)
 
--- what a judge holds: where its cutter stands in a line, what it keeps between lines, and the no that is decided
+-- what a judge holds: the kind of its file, where its cutter stands in a line, what it keeps between lines, and the no that is decided
 pub record Judging : Type 0 where
+  pub kind : Kind
   pub cutting : Cutting
   pub standing : Standing
   pub decided : Option Verdict
 
 -- undecided: no line that has ended is malformed or wrong
-pub record IsOpen (cutting : Cutting) (standing : Standing) (bytes : List ℕ) : Type 0 where
+pub record IsOpen (kind : Kind) (cutting : Cutting) (standing : Standing) (bytes : List ℕ) : Type 0 where
   pub cutter : StandsFor cutting bytes
   pub lines : List (List ℕ)
   pub rest : List ℕ
   pub cut : CutsInto bytes lines rest
-  pub behind : IsBehind standing lines
+  pub behind : IsBehind kind standing lines
 
 -- what holds of the bytes that were handed over: with nothing decided the standing is that behind their lines, else all files that begin so have the verdict that is decided
-abbrev pub JudgesBy : Option Verdict → Cutting → Standing → List ℕ → Type 0
-JudgesBy None cutting standing bytes = IsOpen cutting standing bytes
-JudgesBy (Some verdict) cutting standing bytes = (more : List ℕ) → classes_verdict (bytes ++ more) ≡ verdict
+abbrev pub JudgesBy : Kind → Option Verdict → Cutting → Standing → List ℕ → Type 0
+JudgesBy kind None cutting standing bytes = IsOpen kind cutting standing bytes
+JudgesBy kind (Some verdict) cutting standing bytes = (more : List ℕ) → verdict_of kind (bytes ++ more) ≡ verdict
 
--- the judge was handed these bytes, in any pieces
-pub record Judges (judge : Judging) (bytes : List ℕ) : Type 0 where
-  pub is : JudgesBy judge.decided judge.cutting judge.standing bytes
+-- the judge judges files of this kind, and was handed these bytes, in any pieces
+pub record Judges (kind : Kind) (judge : Judging) (bytes : List ℕ) : Type 0 where
+  pub of : judge.kind ≡ kind
+  pub is : JudgesBy kind judge.decided judge.cutting judge.standing bytes
 
--- the no that a line of this number gives that says this
+-- the no that a line of a classes file of this number gives that says this
 abbrev pub fault_in : Standing → ℕ → ClassesLine → Option Verdict
 fault_in s number said = fault_of number (finding s.levels s.order said)
 
 -- the no that a line of this number gives
-abbrev pub fault_at : Standing → ℕ → List ℕ → Option Verdict
-fault_at s number line = fault_in s number (classes_line line)
+abbrev pub fault_at : Kind → Standing → ℕ → List ℕ → Option Verdict
+fault_at kind s number line = fault_of number (found_by kind s line)
 
 -- the no that a step of the cutter gives
-abbrev pub fault_by : Standing → Step → Option Verdict
-fault_by s More = None
-fault_by s (Line number text) = fault_at s number text.now
-fault_by s (TooLong number) = Some (Malformed number LineTooLong)
+abbrev pub fault_by : Kind → Standing → Step → Option Verdict
+fault_by kind s More = None
+fault_by kind s (Line number text) = fault_at kind s number text.now
+fault_by kind s (TooLong number) = Some (Malformed number LineTooLong)
 
 -- what is kept behind a step that ends no such line
-abbrev pub after_step : Step → Standing → Standing
-after_step More s = s
-after_step (Line number text) s = after_line (classes_line text.now) s
-after_step (TooLong number) s = s
+abbrev pub after_step : Kind → Step → Standing → Standing
+after_step kind More s = s
+after_step kind (Line number text) s = after_line kind text.now s
+after_step kind (TooLong number) s = s
 
 -- the no that is given, or else yes with the counts that are kept
 abbrev pub fault_or_yes : Option Verdict → Standing → Verdict
@@ -84,6 +145,6 @@ fault_or_yes (Some verdict) s = verdict
 fault_or_yes None s = Yes s.rows s.cases
 
 -- the verdict at the end of the file, behind the line that has begun, if one has
-abbrev pub verdict_behind : Standing → Option (ℕ × Bor (List ℕ)) → Verdict
-verdict_behind s None = Yes s.rows s.cases
-verdict_behind s (Some last) = fault_or_yes (fault_at s last.0 last.1.now) (after_line (classes_line last.1.now) s)
+abbrev pub verdict_behind : Kind → Standing → Option (ℕ × Bor (List ℕ)) → Verdict
+verdict_behind kind s None = Yes s.rows s.cases
+verdict_behind kind s (Some last) = fault_or_yes (fault_at kind s last.0 last.1.now) (after_line kind last.1.now s)

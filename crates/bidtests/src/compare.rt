@@ -1,15 +1,32 @@
 // Claims compared with layouts.
-ghost use Rattle.std.specs.Prelude.{◌≡◌, ◌≤◌, None, [], length, nat_eq};
-ghost use Rattle.units.specs.Layout.{layout_of};
+ghost use Rattle.std.specs.Prelude.{◌≡◌, ◌≤◌, ◌+◌, ◌++◌, ℕ, List, None, Some, [], drop, length, map, nat_eq, MatchOption};
+ghost use Rattle.std.specs.Option.{option_map};
+ghost use Rattle.units.specs.Layout.{layout_of, all_orders};
+ghost use Rattle.units.specs.Isolates.{level_of_para};
 ghost use Rattle.units.specs.Positions.{is_same};
-ghost use Rattle.bidtests.specs.Verdicts.{first_difference, wrong_place, wrong_case, fault_of, Claims};
-ghost use Rattle.bidtests.specs.ClassesFile.{row_claim};
-ghost use Rattle.bidtests.specs.ShortLayout.{IsShort};
+ghost use Rattle.lines.specs.Layouts.{view_of};
+ghost use Rattle.lines.specs.Scratches.{room_of};
+ghost use Rattle.bidtests.specs.Verdicts.{agrees, first_of, first_difference, wrong_place, wrong_case, fault_of, Claims};
+ghost use Rattle.bidtests.specs.Readings.{claim_of};
 
-use crate::engine::{MOST_UNITS, ShortEngine};
+use crate::claim::Claim;
 use crate::verdict::{Place, Verdict};
-use units::bracket::Unit;
-use units::level::{Direction, Level};
+use lines::breaks::Breaks;
+use lines::lay_out::lay_out_uncounted;
+use lines::layout::Layout;
+use lines::scratch::Scratch;
+use units::level::{Direction, Level, ParaLevel};
+
+/// No level is claimed, or that of the first paragraph.
+fn agrees_with(claimed: Option<ParaLevel>, defined: &[ParaLevel]) -> bool
+    ensures { result ≡ agrees (option_map level_of_para claimed) (first_of (map level_of_para defined.now)) }
+{
+    match (claimed, defined.first()) {
+        (None, _) => true,
+        (Some(_), None) => false,
+        (Some(claimed), Some(first)) => claimed == *first,
+    }
+}
 
 /// The first index at which the lists differ or one of them ends.
 fn differing_level(claimed: &[Option<Level>], defined: &[Option<Level>]) -> Option<usize>
@@ -28,57 +45,74 @@ fn differing_level(claimed: &[Option<Level>], defined: &[Option<Level>]) -> Opti
     }
 }
 
-/// The first index at which the lists differ or one of them ends.
-fn differing_position(claimed: &[usize], defined: &[usize]) -> Option<usize>
-    ensures { result ≡ first_difference nat_eq claimed.now defined.now 0 }
+/// The first index of the line's order at which the claimed list differs or ends.
+fn differing_position(claimed: &[usize], line: &[usize]) -> Option<usize>
+    ensures { MatchOption result
+        ((length line.now ≤ length claimed.now) × ((more : List ℕ) (at : ℕ) → first_difference nat_eq claimed.now (line.now ++ more) at
+        ≡ first_difference nat_eq (drop (length line.now) claimed.now) more (at + length line.now)))
+        (λ i. (i ≤ length claimed.now) × ((more : List ℕ) (at : ℕ) → first_difference nat_eq claimed.now (line.now ++ more) at ≡ Some (at + i))) }
 {
-    let shorter = claimed.len().min(defined.len());
-    for i in 0..shorter {
-        if claimed[i] != defined[i] {
+    for i in 0..line.len() {
+        if i >= claimed.len() || claimed[i] != line[i] {
             return Some(i);
         }
     }
-    if claimed.len() == defined.len() {
-        None
-    } else {
-        Some(shorter)
+    None
+}
+
+/// The first index at which the claimed list and the orders of all lines, joined, differ or one of them ends.
+fn differing_order(claimed: &[usize], layout: &Layout<'_>) -> Option<usize>
+    ensures { result ≡ first_difference nat_eq claimed.now (all_orders (view_of layout.now)) 0 }
+{
+    let mut at = 0;
+    for k in 0..layout.line_count() {
+        let order = layout.line(k).order;
+        if let Some(i) = differing_position(&claimed[at..], order) {
+            return Some(at + i);
+        }
+        at += order.len();
+    }
+    if at < claimed.len() { Some(at) } else { None }
+}
+
+/// No breaks.
+fn no_breaks(len: usize) -> Breaks<'static>
+    ensures { result ≡ record { positions = []; len = len } }
+{
+    match Breaks::new(&[], len) {
+        Ok(breaks) => breaks,
+        Err(_) => unreachable!(),
     }
 }
 
-/// The first place at which the claim differs from the text's layout under the direction.
-fn differing_place(
-    engine: &mut ShortEngine,
-    text: &[Unit],
-    direction: Direction,
-    levels: &[Option<Level>],
-    order: &[usize],
-) -> Option<Place>
-    requires short { IsShort text.now }
-    requires room { length text.now ≤ MOST_UNITS }
-    ensures { result ≡ wrong_place None levels.now order.now (layout_of text.now direction []) }
+/// The first place at which the claim differs from the layout of its text under the direction.
+fn differing_place(scratch: &mut Scratch, claim: Claim<'_>, direction: Direction) -> Option<Place>
+    requires { length claim.text.now ≤ room_of scratch.old }
+    ensures place { result ≡ wrong_place (claim_of claim.entry).para claim.entry.levels.now claim.entry.order.now (layout_of claim.entry.text.now direction []) }
+    ensures room { room_of scratch.new ≡ room_of scratch.old }
 {
-    engine.lay_out(text, direction);
-    if let Some(at) = differing_level(levels, engine.levels()) {
+    let breaks = no_breaks(claim.text.len());
+    let Ok(layout) = lay_out_uncounted(scratch, claim.text, direction, &breaks) else {
+        unreachable!()
+    };
+    if !agrees_with(claim.para, layout.para_levels()) {
+        return Some(Place::ParaLevel);
+    }
+    if let Some(at) = differing_level(claim.levels, layout.levels()) {
         return Some(Place::Levels(at));
     }
-    let at = differing_position(order, engine.order())?;
+    let at = differing_order(claim.order, &layout)?;
     Some(Place::Order(at))
 }
 
-/// The first of the directions under which the claim differs from the layout, and where.
-fn first_wrong(
-    engine: &mut ShortEngine,
-    text: &[Unit],
-    directions: &[Direction],
-    levels: &[Option<Level>],
-    order: &[usize],
-) -> Option<(Direction, Place)>
-    requires short { IsShort text.now }
-    requires room { length text.now ≤ MOST_UNITS }
-    ensures { result ≡ wrong_case (row_claim text.now directions.now levels.now order.now) directions.now }
+/// The first of the claim's directions under which it differs from the layout, and where.
+fn first_wrong(scratch: &mut Scratch, claim: Claim<'_>) -> Option<(Direction, Place)>
+    requires { length claim.text.now ≤ room_of scratch.old }
+    ensures wrong { result ≡ wrong_case (claim_of claim.entry) claim.entry.directions.now }
+    ensures room { room_of scratch.new ≡ room_of scratch.old }
 {
-    for direction in directions {
-        if let Some(place) = differing_place(engine, text, *direction, levels, order) {
+    for direction in claim.directions {
+        if let Some(place) = differing_place(scratch, claim, *direction) {
             return Some((*direction, place));
         }
     }
@@ -86,19 +120,12 @@ fn first_wrong(
 }
 
 /// The no that a row of this line gives.
-pub fn row_fault(
-    engine: &mut ShortEngine,
-    number: u64,
-    text: &[Unit],
-    directions: &[Direction],
-    levels: &[Option<Level>],
-    order: &[usize],
-) -> Option<Verdict>
-    requires short { IsShort text.now }
-    requires room { length text.now ≤ MOST_UNITS }
-    ensures { result ≡ fault_of number (Claims (row_claim text.now directions.now levels.now order.now)) }
+pub fn row_fault(scratch: &mut Scratch, number: u64, claim: Claim<'_>) -> Option<Verdict>
+    requires { length claim.text.now ≤ room_of scratch.old }
+    ensures fault { result ≡ fault_of number (Claims (claim_of claim.entry)) }
+    ensures room { room_of scratch.new ≡ room_of scratch.old }
 {
-    let (direction, place) = first_wrong(engine, text, directions, levels, order)?;
+    let (direction, place) = first_wrong(scratch, claim)?;
     Some(Verdict::Wrong {
         line: number,
         direction,

@@ -1,4 +1,5 @@
 // Bit sets of directions.
+ghost use Rattle.std.specs.Prelude.{◌≡◌, [], ◌∷◌};
 ghost use Rattle.bidtests.specs.ClassesFile.{bit_set as directions_named};
 ghost use Rattle.bidtests.specs.Readings.{MatchesNow};
 
@@ -18,5 +19,16 @@ pub fn directions(field: &[u8]) -> Option<&'static [Direction]>
         b"6" => Some(&[Ltr, Rtl]),
         b"7" => Some(&[Auto, Ltr, Rtl]),
         _ => None,
+    }
+}
+
+/// The direction alone.
+pub fn alone(direction: Direction) -> &'static [Direction]
+    ensures { result.now ≡ direction ∷ [] }
+{
+    match direction {
+        Direction::Auto => &[Direction::Auto],
+        Direction::Ltr => &[Direction::Ltr],
+        Direction::Rtl => &[Direction::Rtl],
     }
 }

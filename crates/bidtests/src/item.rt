@@ -1,28 +1,36 @@
 // Items of lists, and lists read into reserved room.
 ghost use Rattle.std.specs.Prelude.{◌≡◌, ◌+◌, ◌*◌, ◌≤◌, Option, List, ℕ, length, vec_capacity};
 ghost use Rattle.units.specs.Text.{items_of, each_read};
-ghost use Rattle.bidtests.specs.ClassesFile.{level_item, order_item, unit_item, unit_of_class};
+ghost use Rattle.ucdfiles.specs.PairFiles.{char_of};
+ghost use Rattle.bidtests.specs.ClassesFile.{level_item, order_item, unit_item};
+ghost use Rattle.bidtests.specs.CharactersFile.{character_item};
+ghost use Rattle.bidtests.specs.FileKinds.{unit_by};
 ghost use Rattle.bidtests.specs.Readings.{if_read};
 
+use ucdfiles::tables::Tables;
 use units::bracket::{Bracket, Unit};
 use units::class::Class;
 use units::level::Level;
+use units::text::code_point::code_point;
 use units::text::items::next_item;
 use units::text::number::number;
 
-/// What an item of a list says.
-pub trait Item: Copy {
-    ghost reading: { List ℕ → Option Self };
+/// How an item of a list is read.
+pub trait ReadsItem<T> {
+    ghost reading: { Self → List ℕ → Option T };
 
-    fn read(item: &[u8]) -> Option<Self>
-        ensures { result ≡ reading item.now };
+    fn read(&self, item: &[u8]) -> Option<T>
+        ensures { result ≡ reading self.now item.now };
 }
 
 /// `x`, or a level.
-impl Item for Option<Level> {
-    ghost reading = { level_item };
+#[derive(Drop)]
+pub struct LevelItems;
 
-    fn read(item: &[u8]) -> Option<Option<Level>> {
+impl ReadsItem<Option<Level>> for LevelItems {
+    ghost reading = { λ _. level_item };
+
+    fn read(&self, item: &[u8]) -> Option<Option<Level>> {
         if item == b"x".as_slice() {
             return Some(None);
         }
@@ -32,47 +40,64 @@ impl Item for Option<Level> {
 }
 
 /// A position.
-impl Item for usize {
-    ghost reading = { order_item };
+#[derive(Drop)]
+pub struct OrderItems;
 
-    fn read(item: &[u8]) -> Option<usize> {
+impl ReadsItem<usize> for OrderItems {
+    ghost reading = { λ _. order_item };
+
+    fn read(&self, item: &[u8]) -> Option<usize> {
         let position = number(item, 65_535)?;
         Some(position as usize)
     }
 }
 
-// The unit of a class that a row may have.
-fn unit_of(class: Class) -> Option<Unit>
-    ensures { result ≡ unit_of_class class }
-{
-    match class {
-        Class::L | Class::R | Class::AL | Class::B => Some(Unit {
+/// The short name of a class.
+#[derive(Drop)]
+pub struct ClassItems;
+
+impl ReadsItem<Unit> for ClassItems {
+    ghost reading = { λ _. unit_item };
+
+    fn read(&self, item: &[u8]) -> Option<Unit> {
+        let class = Class::from_short(item)?;
+        Some(Unit {
             class,
             bracket: Bracket::No,
-        }),
-        _ => None,
+        })
     }
 }
 
-/// The short name of a class that a row may have: L, R, AL and B so far.
-impl Item for Unit {
-    ghost reading = { unit_item };
+/// A code point that is no surrogate, as the unit that the tables give it.
+#[derive(Drop)]
+pub struct CharacterItems<'t> {
+    pub tables: &'t Tables,
+}
 
-    fn read(item: &[u8]) -> Option<Unit> {
-        unit_of(Class::from_short(item)?)
+fn character(item: &[u8]) -> Option<char>
+    ensures { result ≡ char_of item.now }
+{
+    char::from_u32(code_point(item)?)
+}
+
+impl<'t> ReadsItem<Unit> for CharacterItems<'t> {
+    ghost reading = { λ by. character_item (unit_by by.tables.now) };
+
+    fn read(&self, item: &[u8]) -> Option<Unit> {
+        Some(self.tables.unit(character(item)?))
     }
 }
 
 /// Reads a field's items into the list, as far as they can be read.
-pub fn read_items<T: Item>(mut field: &[u8], list: &mut Vec<T>) -> bool
+pub fn read_items<T: Copy, R: ReadsItem<T>>(reader: &R, mut field: &[u8], list: &mut Vec<T>) -> bool
     requires { length field.now ≤ 2 * vec_capacity list.old }
-    ensures read { if_read result list.new.items ≡ each_read T.reading (items_of field.now) }
+    ensures read { if_read result list.new.items ≡ each_read (R.reading reader.now) (items_of field.now) }
     ensures count { 2 * length list.new.items ≤ length field.entry.now + 1 }
     ensures room { vec_capacity list.new ≡ vec_capacity list.old }
 {
     list.clear();
     while let Some((item, rest)) = next_item(field) {
-        match T::read(item) {
+        match reader.read(item) {
             None => return false,
             Some(value) => list.push_reserved(value),
         }

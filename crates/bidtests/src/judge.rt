@@ -1,43 +1,47 @@
-//! The judge of classes files.
+//! The judge of both kinds of test files.
 ghost use Rattle.std.specs.Prelude.{◌≡◌, ◌≤◌, ◌++◌, ℕ, List, [], IfOk, IfSome, IsNone, length};
 ghost use Rattle.bidtests.specs.Standing.{Judges, fault_by, after_step, verdict_behind};
 ghost use Rattle.units.specs.LineAnswers.{StepIsShort};
 ghost use Rattle.units.specs.Text.{longest_line};
-ghost use Rattle.bidtests.specs.ClassesFile.{classes_verdict};
+ghost use Rattle.bidtests.specs.FileKinds.{verdict_of};
+ghost use Rattle.bidtests.specs.declared.kind.Kind.{Kind as FileKind};
 
+use crate::kind::Kind;
 use crate::sheet::Sheet;
 use crate::verdict::{Cause, Verdict};
 use std::alloc::Global;
 use std::marker::Model;
+use ucdfiles::tables::Tables;
 use units::line_cut::{LineCut, Step};
 use units::memory::Memory;
 
 /// Judges the bytes of a test file, in whatever pieces they come. It holds one line, one row's text and the lists in force, and
 /// stops judging at the first no. Contracts say which bytes it stands for: those that were handed over, joined.
 #[derive(Drop)]
-pub struct Judge {
+pub struct Judge<'t> {
+    kind: Kind<'t>,
     cutter: LineCut,
     sheet: Sheet,
     decided: Option<Verdict>,
 }
 
-impl Model for Judge {
+impl<'t> Model for Judge<'t> {
     ghost use Rattle.bidtests.specs.Standing.{Judging};
 
     ghost Value = { Judging };
 
-    ghost view = { λ s. record { cutting = s.cutter; standing = s.sheet; decided = s.decided } };
+    ghost view = { λ s. record { kind = s.kind; cutting = s.cutter; standing = s.sheet; decided = s.decided } };
 }
 
 // Judges the line that a step ends, if it ends one.
-fn answer(sheet: &mut Sheet, step: Step<'_>) -> Option<Verdict>
+fn answer(kind: Kind<'_>, sheet: &mut Sheet, step: Step<'_>) -> Option<Verdict>
     requires { StepIsShort step }
-    ensures fault { result ≡ fault_by sheet.old step.entry }
-    ensures standing { IsNone result → sheet.new ≡ after_step step.entry sheet.old }
+    ensures fault { result ≡ fault_by kind.entry sheet.old step.entry }
+    ensures standing { IsNone result → sheet.new ≡ after_step kind.entry step.entry sheet.old }
 {
     match step {
         Step::More => None,
-        Step::Line { number, text } => sheet.line(number, text),
+        Step::Line { number, text } => sheet.line(kind, number, text),
         Step::TooLong { number } => Some(Verdict::Malformed {
             line: number,
             cause: Cause::LineTooLong,
@@ -46,25 +50,39 @@ fn answer(sheet: &mut Sheet, step: Step<'_>) -> Option<Verdict>
 }
 
 // Judges the line that has begun, if one has.
-fn answer_last(sheet: &mut Sheet, last: Option<(u64, &[u8])>) -> Verdict
+fn answer_last(kind: Kind<'_>, sheet: &mut Sheet, last: Option<(u64, &[u8])>) -> Verdict
     requires { IfSome last (λ line. length line.1.now ≤ longest_line) }
-    ensures { result ≡ verdict_behind sheet.old last.entry }
+    ensures { result ≡ verdict_behind kind.entry sheet.old last.entry }
 {
     if let Some((number, text)) = last {
-        if let Some(verdict) = sheet.line(number, text) {
+        if let Some(verdict) = sheet.line(kind, number, text) {
             return verdict;
         }
     }
     sheet.verdict()
 }
 
-impl Judge {
-    /// A judge of a BidiTest.txt, before its first byte. So far a row may have the classes L, R, AL and B alone, and any other name is
-    /// the cause `ClassItem`. All memory is taken here: `Memory` is answered where some of it was refused.
-    pub fn for_classes(alloc: Global) -> Result<Self, Memory>
-        ensures { IfOk result (λ judge. Judges judge []) }
+impl<'t> Judge<'t> {
+    /// A judge of a BidiTest.txt, before its first byte. All memory is taken here: `Memory` is answered where some of it was refused.
+    pub fn for_classes(alloc: Global) -> Result<Judge<'static>, Memory>
+        ensures { IfOk result (λ judge. Judges FileKind.Classes judge []) }
+    {
+        Judge::of_kind(alloc, Kind::Classes)
+    }
+
+    /// A judge of a BidiCharacterTest.txt, before its first byte; the units of its code points come from the tables. All memory is
+    /// taken here: `Memory` is answered where some of it was refused.
+    pub fn for_characters(alloc: Global, tables: &'t Tables) -> Result<Judge<'t>, Memory>
+        ensures { IfOk result (λ judge. Judges (FileKind.Characters tables.entry) judge []) }
+    {
+        Judge::of_kind(alloc, Kind::Characters(tables))
+    }
+
+    fn of_kind(alloc: Global, kind: Kind<'t>) -> Result<Judge<'t>, Memory>
+        ensures { IfOk result (λ judge. Judges kind.entry judge []) }
     {
         Ok(Judge {
+            kind,
             cutter: LineCut::new(),
             sheet: Sheet::new(alloc)?,
             decided: None,
@@ -74,7 +92,7 @@ impl Judge {
     /// Hands over the next bytes of the file, as many or as few as there are: where pieces begin and end changes nothing. Once a no is
     /// decided, further bytes change nothing. It takes no memory and always succeeds.
     pub fn feed(&mut self, piece: &[u8])
-        ensures { (b : List ℕ) → Judges self.old b → Judges self.new (b ++ piece.now) }
+        ensures { (kind : FileKind) (b : List ℕ) → Judges kind self.old b → Judges kind self.new (b ++ piece.now) }
     {
         let mut at = 0;
         while at < piece.len() {
@@ -82,7 +100,7 @@ impl Judge {
                 return;
             }
             let (used, step) = self.cutter.take(&piece[at..]);
-            self.decided = answer(&mut self.sheet, step);
+            self.decided = answer(self.kind, &mut self.sheet, step);
             at += used;
         }
     }
@@ -90,13 +108,14 @@ impl Judge {
     /// The verdict on all bytes that were handed over, as the whole file: that of the least line that is malformed or holds a wrong
     /// case, or yes with the numbers of rows and cases. It takes no memory and always succeeds.
     pub fn finish(mut self) -> Verdict
-        ensures { (b : List ℕ) → Judges self b → result ≡ classes_verdict b }
+        ensures { (kind : FileKind) (b : List ℕ) → Judges kind self.entry b → result ≡ verdict_of kind b }
     {
         match self.decided {
             Some(verdict) => verdict,
             None => {
-                let last = self.cutter.finish();
-                answer_last(&mut self.sheet, last)
+                let judge = &mut self;
+                let last = judge.cutter.finish();
+                answer_last(judge.kind, &mut judge.sheet, last)
             }
         }
     }

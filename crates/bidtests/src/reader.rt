@@ -1,7 +1,8 @@
 //! Files judged as they are read.
 ghost use Rattle.std.specs.Prelude.{◌≡◌, ◌↔◌, ◌++◌, ℕ, List, IfOk, OnOk, IsErr};
 ghost use Rattle.bidtests.specs.Standing.{Judges};
-ghost use Rattle.bidtests.specs.ClassesFile.{classes_verdict};
+ghost use Rattle.bidtests.specs.FileKinds.{verdict_of};
+ghost use Rattle.bidtests.specs.declared.kind.Kind.{Kind};
 
 use crate::judge::Judge;
 use crate::verdict::Verdict;
@@ -14,11 +15,14 @@ pub struct ReadFault;
 /// Reads the source to its end and judges what it handed out, behind what the judge was handed before. It reads on behind a no. The
 /// fault comes exactly if the source has failed, in this call or before it; no verdict on part of a file is given. It reads 4,096
 /// bytes at a time and takes no memory.
-pub fn judge_reader<S: ByteSource>(mut judge: Judge, source: &mut S) -> Result<Verdict, ReadFault>
+pub fn judge_reader<S: ByteSource>(
+    mut judge: Judge<'_>,
+    source: &mut S,
+) -> Result<Verdict, ReadFault>
     ensures fault { IsErr result ↔ (S.failures source.new ≡ 1) }
     ensures whole { OnOk result (S.ended source.new) }
     ensures verdict { IfOk result (λ verdict. (given : List ℕ) × S.gives source.old given source.new
-        × ((b : List ℕ) → Judges judge b → verdict ≡ classes_verdict (b ++ given))) }
+        × ((kind : Kind) (b : List ℕ) → Judges kind judge.entry b → verdict ≡ verdict_of kind (b ++ given))) }
 {
     let mut piece = [0; 4096];
     loop {

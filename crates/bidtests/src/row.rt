@@ -5,7 +5,7 @@ ghost use Rattle.bidtests.specs.ClassesFile.{data_line};
 ghost use Rattle.bidtests.specs.Readings.{row_read};
 
 use crate::directions::directions;
-use crate::item::read_items;
+use crate::item::{ClassItems, read_items};
 use crate::verdict::Cause;
 use units::bracket::Unit;
 use units::level::Direction;
@@ -22,7 +22,7 @@ pub fn read_row(content: &[u8], text: &mut Vec<Unit>) -> Result<&'static [Direct
         text.clear();
         return Err(Cause::FieldCount);
     };
-    if !read_items(names, text) {
+    if !read_items(&ClassItems, names, text) {
         return Err(Cause::ClassItem);
     }
     if text.is_empty() {

@@ -1,24 +1,36 @@
-// What a judge knows of a classes file between two lines.
+// What a judge keeps between two lines.
 ghost use Rattle.std.specs.Prelude.{◌≡◌, ◌≤◌, None, Some, IfOk, IsNone, length};
 ghost use Rattle.units.specs.Text.{items_of, each_read, fields_of, longest_line};
+ghost use Rattle.bidtests.specs.Verdicts.{fault_of};
 ghost use Rattle.bidtests.specs.ClassesFile.{classes_line, directive as directive_said, levels_directive, order_directive, data_line, level_item, order_item};
+ghost use Rattle.bidtests.specs.CharactersFile.{characters_line, row_of_fields};
+ghost use Rattle.bidtests.specs.FileKinds.{unit_by};
+ghost use Rattle.lines.specs.Scratches.{room_of};
 
+use crate::characters_row::read_characters;
+use crate::claim::Claim;
 use crate::compare::row_fault;
-use crate::engine::{MOST_UNITS, ShortEngine};
-use crate::item::read_items;
+use crate::directions::alone;
+use crate::item::{LevelItems, OrderItems, read_items};
+use crate::kind::Kind;
 use crate::row::read_row;
 use crate::verdict::{Cause, Verdict};
+use lines::scratch::Scratch;
 use std::alloc::Global;
 use std::marker::Model;
+use ucdfiles::tables::Tables;
 use units::bracket::Unit;
 use units::level::Level;
 use units::memory::Memory;
 use units::text::trim::content;
 
-/// The engine, the lists in force, a row's text and the counts.
+/// The units that a text may have: as many as a line has room for, since an item takes two bytes with the blank before it.
+const MOST_UNITS: usize = 32_768;
+
+/// The room for layouts, a row's text, the lists in force or those of a row, and the counts.
 #[derive(Drop)]
 pub struct Sheet {
-    engine: ShortEngine,
+    scratch: Scratch,
     text: Vec<Unit>,
     levels: Vec<Option<Level>>,
     has_levels: bool,
@@ -29,16 +41,17 @@ pub struct Sheet {
 }
 
 impl Model for Sheet {
-    ghost use Rattle.std.specs.Prelude.{◌≤◌, vec_capacity};
+    ghost use Rattle.std.specs.Prelude.{◌≡◌, ◌≤◌, vec_capacity};
+    ghost use Rattle.lines.specs.Scratches.{room_of};
     ghost use Rattle.bidtests.specs.Standing.{Standing};
     ghost use Rattle.bidtests.specs.Readings.{if_read};
-    ghost use Rattle.bidtests.specs.declared.engine.TheConstants.{MOST_UNITS};
+    ghost use Rattle.bidtests.specs.declared.sheet.TheConstants.{MOST_UNITS};
 
     ghost Value = { Standing };
 
     ghost view = { λ s. record { levels = if_read s.has_levels s.levels.items; order = if_read s.has_order s.order.items; rows = s.rows; cases = s.cases } };
 
-    ghost invariant = { λ s. (MOST_UNITS ≤ vec_capacity s.text) × (MOST_UNITS ≤ vec_capacity s.levels) × (MOST_UNITS ≤ vec_capacity s.order) };
+    ghost invariant = { λ s. (room_of s.scratch ≡ MOST_UNITS) × (MOST_UNITS ≤ vec_capacity s.text) × (MOST_UNITS ≤ vec_capacity s.levels) × (MOST_UNITS ≤ vec_capacity s.order) };
 }
 
 fn malformed(number: u64, cause: Cause) -> Option<Verdict>
@@ -50,19 +63,26 @@ fn malformed(number: u64, cause: Cause) -> Option<Verdict>
     })
 }
 
+// Room for the text of a row.
+fn scratch(alloc: Global) -> Result<Scratch, Memory>
+    ensures { IfOk result (λ scratch. room_of scratch ≡ MOST_UNITS) }
+{
+    Scratch::with_room(alloc, MOST_UNITS).map_err(|_| Memory)
+}
+
 impl Sheet {
-    ghost use Rattle.bidtests.specs.Standing.{fault_in, fault_at, after_line};
+    ghost use Rattle.bidtests.specs.Standing.{at_start, unlisted, counted, HasNoLists, fault_in, fault_at, after_said, after_line};
 
     /// A sheet before the first line.
     pub fn new(alloc: Global) -> Result<Self, Memory>
-        ensures { IfOk result (λ sheet. sheet ≡ record { levels = None; order = None; rows = 0; cases = 0 }) }
+        ensures { IfOk result (λ sheet. sheet ≡ at_start) }
     {
-        let engine = ShortEngine::new(alloc)?;
+        let scratch = scratch(alloc)?;
         let text = Vec::with_capacity(alloc, MOST_UNITS)?;
         let levels = Vec::with_capacity(alloc, MOST_UNITS)?;
         let order = Vec::with_capacity(alloc, MOST_UNITS)?;
         Ok(Sheet {
-            engine,
+            scratch,
             text,
             levels,
             has_levels: false,
@@ -76,9 +96,9 @@ impl Sheet {
     fn levels(&mut self, number: u64, field: &[u8]) -> Option<Verdict>
         requires { length field.now ≤ longest_line }
         ensures fault { result ≡ fault_in self.old number (levels_directive (each_read level_item (items_of field.now))) }
-        ensures standing { IsNone result → self.new ≡ after_line (levels_directive (each_read level_item (items_of field.now))) self.old }
+        ensures standing { IsNone result → self.new ≡ after_said (levels_directive (each_read level_item (items_of field.now))) self.old }
     {
-        self.has_levels = read_items(field, &mut self.levels);
+        self.has_levels = read_items(&LevelItems, field, &mut self.levels);
         if self.has_levels {
             None
         } else {
@@ -89,9 +109,9 @@ impl Sheet {
     fn order(&mut self, number: u64, field: &[u8]) -> Option<Verdict>
         requires { length field.now ≤ longest_line }
         ensures fault { result ≡ fault_in self.old number (order_directive (each_read order_item (items_of field.now))) }
-        ensures standing { IsNone result → self.new ≡ after_line (order_directive (each_read order_item (items_of field.now))) self.old }
+        ensures standing { IsNone result → self.new ≡ after_said (order_directive (each_read order_item (items_of field.now))) self.old }
     {
-        self.has_order = read_items(field, &mut self.order);
+        self.has_order = read_items(&OrderItems, field, &mut self.order);
         if self.has_order {
             None
         } else {
@@ -102,7 +122,7 @@ impl Sheet {
     fn directive(&mut self, number: u64, content: &[u8]) -> Option<Verdict>
         requires { length content.now ≤ longest_line }
         ensures fault { result ≡ fault_in self.old number (directive_said content.now) }
-        ensures standing { IsNone result → self.new ≡ after_line (directive_said content.now) self.old }
+        ensures standing { IsNone result → self.new ≡ after_said (directive_said content.now) self.old }
     {
         if content.starts_with(b"@Type:") {
             None
@@ -118,7 +138,7 @@ impl Sheet {
     fn row(&mut self, number: u64, content: &[u8]) -> Option<Verdict>
         requires { length content.now ≤ longest_line }
         ensures fault { result ≡ fault_in self.old number (data_line (fields_of content.now)) }
-        ensures standing { IsNone result → self.new ≡ after_line (data_line (fields_of content.now)) self.old }
+        ensures standing { IsNone result → self.new ≡ after_said (data_line (fields_of content.now)) self.old }
     {
         let directions = match read_row(content, &mut self.text) {
             Err(cause) => return malformed(number, cause),
@@ -127,24 +147,53 @@ impl Sheet {
         if !self.has_levels || !self.has_order {
             return malformed(number, Cause::NoExpectation);
         }
-        let fault = row_fault(
-            &mut self.engine,
-            number,
-            &self.text,
+        let claim = Claim {
+            text: &self.text,
             directions,
-            &self.levels,
-            &self.order,
-        );
+            para: None,
+            levels: &self.levels,
+            order: &self.order,
+        };
+        let fault = row_fault(&mut self.scratch, number, claim);
         self.rows = self.rows.saturating_add(1);
         self.cases = self.cases.saturating_add(directions.len() as u64);
         fault
     }
 
-    /// Judges a line by what the lines before it said.
-    pub fn line(&mut self, number: u64, line: &[u8]) -> Option<Verdict>
+    fn characters(&mut self, number: u64, content: &[u8], tables: &Tables) -> Option<Verdict>
+        requires short { length content.now ≤ longest_line }
+        requires lists { HasNoLists self.old }
+        ensures fault { result ≡ fault_of number (row_of_fields (unit_by tables.now) (fields_of content.now)) }
+        ensures standing { IsNone result → self.new ≡ counted (row_of_fields (unit_by tables.now) (fields_of content.now)) self.old }
+    {
+        let (direction, para) = match read_characters(
+            content,
+            tables,
+            &mut self.text,
+            &mut self.levels,
+            &mut self.order,
+        ) {
+            Err(cause) => return malformed(number, cause),
+            Ok(asked) => asked,
+        };
+        let claim = Claim {
+            text: &self.text,
+            directions: alone(direction),
+            para: Some(para),
+            levels: &self.levels,
+            order: &self.order,
+        };
+        let fault = row_fault(&mut self.scratch, number, claim);
+        self.rows = self.rows.saturating_add(1);
+        self.cases = self.cases.saturating_add(1);
+        fault
+    }
+
+    // Judges a line of a classes file.
+    fn classes_line(&mut self, number: u64, line: &[u8]) -> Option<Verdict>
         requires { length line.now ≤ longest_line }
-        ensures fault { result ≡ fault_at self.old number line.now }
-        ensures standing { IsNone result → self.new ≡ after_line (classes_line line.now) self.old }
+        ensures fault { result ≡ fault_in self.old number (classes_line line.now) }
+        ensures standing { IsNone result → self.new ≡ after_said (classes_line line.now) self.old }
     {
         let content = content(line);
         if content.is_empty() {
@@ -153,6 +202,34 @@ impl Sheet {
             self.directive(number, content)
         } else {
             self.row(number, content)
+        }
+    }
+
+    // Judges a line of a characters file.
+    fn characters_line(&mut self, number: u64, line: &[u8], tables: &Tables) -> Option<Verdict>
+        requires { length line.now ≤ longest_line }
+        ensures fault { result ≡ fault_of number (characters_line (unit_by tables.now) line.now) }
+        ensures standing { IsNone result → self.new ≡ counted (characters_line (unit_by tables.now) line.now) (unlisted self.old) }
+    {
+        self.has_levels = false;
+        self.has_order = false;
+        let content = content(line);
+        if content.is_empty() {
+            None
+        } else {
+            self.characters(number, content, tables)
+        }
+    }
+
+    /// Judges a line of a file of this kind by what the lines before it said.
+    pub fn line(&mut self, kind: Kind<'_>, number: u64, line: &[u8]) -> Option<Verdict>
+        requires { length line.now ≤ longest_line }
+        ensures fault { result ≡ fault_at kind.entry self.old number line.now }
+        ensures standing { IsNone result → self.new ≡ after_line kind.entry line.now self.old }
+    {
+        match kind {
+            Kind::Classes => self.classes_line(number, line),
+            Kind::Characters(tables) => self.characters_line(number, line, tables),
         }
     }
 

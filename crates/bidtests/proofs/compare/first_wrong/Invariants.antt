@@ -1,9 +1,11 @@
 use Rattle.std.proofs.Common.{◌≡◌, drop}
+use Rattle.lines.specs.Scratches.{room_of}
 use Rattle.bidtests.specs.Verdicts.{wrong_case}
-use Rattle.bidtests.specs.ClassesFile.{row_claim}
+use Rattle.bidtests.specs.Readings.{claim_of}
 use Rattle.bidtests.proofs.compare.first_wrong.Given as goal
 
 abbrev pub invariant-loop-direction : goal.invariant-loop-direction
-invariant-loop-direction l =
-    wrong_case (row_claim l.text l.directions l.levels l.order) l.directions
-    ≡ wrong_case (row_claim l.text l.directions l.levels l.order) (drop l.direction-index l.directions)
+invariant-loop-direction l = record {
+  rest : wrong_case (claim_of l.claim) l.claim.directions.now ≡ wrong_case (claim_of l.claim) (drop l.direction-index l.claim.directions.now);
+  room : room_of l.scratch ≡ room_of l.fn.scratch;
+}

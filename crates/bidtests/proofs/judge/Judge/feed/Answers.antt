@@ -5,8 +5,8 @@ use Rattle.bidtests.proofs.Pieces.{joined, within}
 use Rattle.bidtests.proofs.judge.Judge.feed.Goals as goal
 
 pub returns-then-is_some : goal.returns-then-is_some
-returns-then-is_some c = λ b j.
-    feeds-some _ b c.args.piece.now c.loop-at.at (sym c.is_some.ensures ∙ c.if-is_some.true) (c.loop-at.invariant.judges b j)
+returns-then-is_some c = λ kind b j.
+    feeds-some kind _ b c.args.piece.now c.loop-at.at (sym c.is_some.ensures ∙ c.if-is_some.true) (c.loop-at.invariant.judges kind b j)
 
 pub loop-at-preserved : goal.loop-at-preserved
 loop-at-preserved c =
@@ -15,12 +15,12 @@ loop-at-preserved c =
     let used = c.take.result.0 in
     let rest = take (length piece - at) (drop at piece) in
     let self = c.loop-at.self-inside in
-    let j : Judging = record { cutting = self.cutter; standing = self.sheet; decided = self.decided } in
+    let j : Judging = record { kind = self.kind; cutting = self.cutter; standing = self.sheet; decided = self.decided } in
     record {
       within = within at used piece c.loop-at.invariant.within c.take.ensures.used;
-      judges = λ b s.
+      judges = λ kind b s.
           rw (joined at used piece b)
           (feeds-on j c.take.follows.lender-at-none c.answer-self-inside.new.sheet c.answer-self-inside.result rest used c.take.result.1
           (none-from self.decided (sym c.is_some.ensures ∙ c.if-is_some.false)) c.take.ensures.used c.take.ensures.through c.take.ensures.answer c.take.follows.holds-at-none
-          c.answer-self-inside.ensures.fault c.answer-self-inside.ensures.standing (b ++ take at piece) (c.loop-at.invariant.judges b s));
+          c.answer-self-inside.ensures.fault c.answer-self-inside.ensures.standing kind (b ++ take at piece) (c.loop-at.invariant.judges kind b s));
     }

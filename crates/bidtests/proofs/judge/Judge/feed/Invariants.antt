@@ -1,12 +1,13 @@
 use Rattle.std.proofs.Common.{ℕ, List, ◌++◌, ◌-◌, ◌≤◌, length, take}
+use Rattle.bidtests.specs.declared.kind.Kind.{Kind}
 use Rattle.bidtests.specs.Standing.{Judges}
 use Rattle.bidtests.proofs.judge.Judge.feed.Given as goal
 
 abbrev pub invariant-loop-at : goal.invariant-loop-at
 invariant-loop-at l = record {
   within : l.at ≤ length l.piece;
-  judges : (b : List ℕ) → Judges l.fn.self b
-      → Judges (record { cutting = l.self-inside.cutter; standing = l.self-inside.sheet; decided = l.self-inside.decided }) (b ++ take l.at l.piece);
+  judges : (kind : Kind) (b : List ℕ) → Judges kind l.fn.self b
+      → Judges kind (record { kind = l.self-inside.kind; cutting = l.self-inside.cutter; standing = l.self-inside.sheet; decided = l.self-inside.decided }) (b ++ take l.at l.piece);
 }
 
 abbrev pub decreases-loop-at : goal.decreases-loop-at

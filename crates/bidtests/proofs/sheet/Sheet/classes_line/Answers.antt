@@ -2,7 +2,7 @@ use Rattle.std.proofs.Common.{◌≡◌, ◌<◌, length, rules, refl}
 use Rattle.bidtests.specs.ClassesFile.{Nothing, classes_line, directive, data_line}
 use Rattle.units.specs.Text.{fields_of}
 use Rattle.bidtests.proofs.LineSays.{not_empty, says-nothing, says-directive, says-row}
-use Rattle.bidtests.proofs.sheet.Sheet.line.Goals as goal
+use Rattle.bidtests.proofs.sheet.Sheet.classes_line.Goals as goal
 
 pub returns-then-is_empty : goal.returns-then-is_empty
 returns-then-is_empty c =

@@ -1,0 +1,28 @@
+use Rattle.std.proofs.Common.{◌≡◌, ◌<◌, length, rules, refl, ap, sym, ◌∙◌}
+use Rattle.units.specs.Text.{fields_of}
+use Rattle.bidtests.specs.Verdicts.{Silent}
+use Rattle.bidtests.specs.Standing.{Standing, counted, unlisted}
+use Rattle.bidtests.specs.CharactersFile.{characters_line, row_of_fields}
+use Rattle.bidtests.specs.FileKinds.{unit_by}
+use Rattle.bidtests.proofs.LineSays.{not_empty, comes-silent, comes-row}
+use Rattle.bidtests.proofs.sheet.Sheet.characters_line.Goals as goal
+
+-- the sheet as it was, with no list in force
+unlisted-is : (s t : Standing) → s ≡ t → unlisted s ≡ unlisted t
+unlisted-is s t e = ap unlisted e
+
+pub returns-then-is_empty : goal.returns-then-is_empty
+returns-then-is_empty c =
+    let none : length c.content-content.result.now ≡ 0 = search rules in
+    let e : characters_line (unit_by c.args.tables.now) c.args.line.now ≡ Silent = comes-silent _ c.args.line.now _ c.content-content.ensures.content c.requires none in
+    record { fault = rw e refl; standing = λ h. rw e (unlisted-is _ _ c.self.view_is) }
+
+pub returns-else-is_empty : goal.returns-else-is_empty
+returns-else-is_empty c =
+    let some : 0 < length c.content-content.result.now = not_empty c.content-content.result.now _ c.is_empty.ensures c.if-is_empty.false in
+    let e : characters_line (unit_by c.args.tables.now) c.args.line.now ≡ row_of_fields (unit_by c.args.tables.now) (fields_of c.content-content.result.now) =
+    comes-row _ c.args.line.now _ c.content-content.ensures.content c.requires some in
+    record {
+      fault = rw e c.characters.ensures.fault;
+      standing = λ h. rw e (c.characters.ensures.standing h ∙ ap (counted (row_of_fields (unit_by c.args.tables.now) (fields_of c.content-content.result.now))) (unlisted-is _ _ c.self.view_is));
+    }

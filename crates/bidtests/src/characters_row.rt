@@ -1,0 +1,107 @@
+// Rows of characters files.
+ghost use Rattle.std.specs.Prelude.{◌≡◌, ◌≢◌, ◌+◌, ◌*◌, ◌≤◌, [], ◌∷◌, length, vec_capacity, MatchOption, IfSome, IfOk};
+ghost use Rattle.units.specs.Text.{fields_of};
+ghost use Rattle.bidtests.specs.CharactersFile.{direction_field, para_field, row_of_fields};
+ghost use Rattle.bidtests.specs.FileKinds.{unit_by};
+ghost use Rattle.bidtests.specs.Readings.{claim_read};
+
+use crate::item::{CharacterItems, LevelItems, OrderItems, read_items};
+use crate::verdict::Cause;
+use ucdfiles::tables::Tables;
+use units::bracket::Unit;
+use units::level::{Direction, Level, ParaLevel};
+use units::text::cut::cut_field;
+
+/// The fields of a row, without the blanks at their ends.
+#[derive(Clone, Copy)]
+struct RowFields<'a> {
+    characters: &'a [u8],
+    direction: &'a [u8],
+    para: &'a [u8],
+    levels: &'a [u8],
+    order: &'a [u8],
+}
+
+/// The fields of a content that has five.
+fn fields(content: &[u8]) -> Option<RowFields<'_>>
+    ensures fields { MatchOption result (length (fields_of content.now) ≢ 5) (λ f. fields_of content.now
+        ≡ f.characters.now ∷ f.direction.now ∷ f.para.now ∷ f.levels.now ∷ f.order.now ∷ []) }
+    ensures characters { IfSome result (λ f. length f.characters.now ≤ length content.now) }
+    ensures levels { IfSome result (λ f. length f.levels.now ≤ length content.now) }
+    ensures order { IfSome result (λ f. length f.order.now ≤ length content.now) }
+{
+    let (characters, rest) = cut_field(content);
+    let (direction, rest) = cut_field(rest?);
+    let (para, rest) = cut_field(rest?);
+    let (levels, rest) = cut_field(rest?);
+    let (order, rest) = cut_field(rest?);
+    match rest {
+        None => Some(RowFields {
+            characters,
+            direction,
+            para,
+            levels,
+            order,
+        }),
+        Some(_) => None,
+    }
+}
+
+fn direction(field: &[u8]) -> Option<Direction>
+    ensures { result ≡ direction_field field.now }
+{
+    match field {
+        b"0" => Some(Direction::Ltr),
+        b"1" => Some(Direction::Rtl),
+        b"2" => Some(Direction::Auto),
+        _ => None,
+    }
+}
+
+fn para_level(field: &[u8]) -> Option<ParaLevel>
+    ensures { result ≡ para_field field.now }
+{
+    match field {
+        b"0" => Some(ParaLevel::Zero),
+        b"1" => Some(ParaLevel::One),
+        _ => None,
+    }
+}
+
+/// Reads a row's text and the lists that it claims, and hands out the direction that it asks for and the level of the first paragraph
+/// that it claims.
+pub fn read_characters(
+    content: &[u8],
+    tables: &Tables,
+    text: &mut Vec<Unit>,
+    levels: &mut Vec<Option<Level>>,
+    order: &mut Vec<usize>,
+) -> Result<(Direction, ParaLevel), Cause>
+    requires text { length content.now ≤ 2 * vec_capacity text.old }
+    requires levels { length content.now ≤ 2 * vec_capacity levels.old }
+    requires order { length content.now ≤ 2 * vec_capacity order.old }
+    ensures row { claim_read result text.new.items levels.new.items order.new.items ≡ row_of_fields (unit_by tables.now) (fields_of content.now) }
+    ensures count { IfOk result (λ _. 2 * length text.new.items ≤ length content.now + 1) }
+    ensures text { vec_capacity text.new ≡ vec_capacity text.old }
+    ensures levels { vec_capacity levels.new ≡ vec_capacity levels.old }
+    ensures order { vec_capacity order.new ≡ vec_capacity order.old }
+{
+    let Some(fields) = fields(content) else {
+        return Err(Cause::FieldCount);
+    };
+    if !read_items(&CharacterItems { tables }, fields.characters, text) {
+        return Err(Cause::CodePoint);
+    }
+    if text.is_empty() {
+        return Err(Cause::EmptyRow);
+    }
+    let direction = direction(fields.direction).ok_or(Cause::DirectionField)?;
+    let para = para_level(fields.para).ok_or(Cause::ParaField)?;
+    if !read_items(&LevelItems, fields.levels, levels) {
+        return Err(Cause::LevelItem);
+    }
+    if !read_items(&OrderItems, fields.order, order) {
+        return Err(Cause::OrderItem);
+    }
+    Ok((direction, para))
+}
