@@ -98,6 +98,18 @@ fn states_brackets(rt: HostRuntime) {
     assert_eq!(rt; bracket(&rt, file, 'A'), Some(Bracket::No));
 }
 
+// The second field of a closing bracket's line gives no key.
+#[test]
+fn closing_brackets_have_their_own_keys(rt: HostRuntime) -> Result<(), TableFault> {
+    let table = brackets(&rt, b"0028; 0029; o\n0029; 0041; c\n")?;
+    let (Bracket::Open(opening), Bracket::Close(closing)) = (table.bracket('('), table.bracket(')'))
+    else {
+        panic!(rt; "no parentheses");
+    };
+    assert_eq!(rt; opening, closing);
+    Ok(())
+}
+
 #[test]
 fn states_mirrors(rt: HostRuntime) {
     assert_eq!(rt;
@@ -193,13 +205,17 @@ fn sources_that_fail(rt: HostRuntime) {
         } else {
             TableFault::Read
         };
-        let pair = if count == 10 {
+        let bracket = if count == 10 {
+            TableFault::Fields(1)
+        } else {
+            TableFault::Read
+        };
+        let mirror = if count == 10 {
             TableFault::CodePoint(1)
         } else {
             TableFault::Read
         };
-        assert_eq!(rt; answers[0], Some(class));
-        assert_eq!(rt; answers[2], Some(pair));
+        assert_eq!(rt; answers, [Some(class), Some(bracket), Some(mirror)]);
     }
     for count in 0..=CLASSES.len() {
         assert_eq!(rt; failing(&rt, CLASSES, count)[0], Some(TableFault::Read));
@@ -245,12 +261,38 @@ fn a_source_that_had_failed(rt: HostRuntime) {
 
 #[test]
 fn texts_of_faults(rt: HostRuntime) -> Result<(), Fail> {
-    let fault = TableFault::Overlap(9);
+    let rows: [(TableFault, &str); 11] = [
+        (TableFault::CodePoint(1), "line 1: not a code point"),
+        (
+            TableFault::Backwards(2),
+            "line 2: the range ends before it begins",
+        ),
+        (TableFault::ClassName(3), "line 3: not the name of a class"),
+        (TableFault::Fields(4), "line 4: wrong number of fields"),
+        (
+            TableFault::Overlap(9),
+            "line 9: a code point of an earlier line",
+        ),
+        (
+            TableFault::Twice(10),
+            "line 10: the character of an earlier line",
+        ),
+        (TableFault::BracketKind(11), "line 11: neither `o` nor `c`"),
+        (
+            TableFault::LineTooLong(12),
+            "line 12: longer than 65536 bytes",
+        ),
+        (TableFault::TooMany(65_537), "line 65537: too many lines"),
+        (TableFault::Read, "cannot read"),
+        (TableFault::Memory, "out of memory"),
+    ];
+    for (fault, text) in rows {
+        assert_eq!(rt; format!(in rt.alloc(); "{fault}")?.as_str(), text);
+    }
     assert_eq!(rt;
-        format!(in rt.alloc(); "{fault}")?.as_str(),
-        "line 9: a code point of an earlier line"
+        (TableFault::Overlap(9).name(), TableFault::Overlap(9).line()),
+        ("Overlap", Some(9))
     );
-    assert_eq!(rt; (fault.name(), fault.line()), ("Overlap", Some(9)));
     assert_eq!(rt;
         (TableFault::Read.name(), TableFault::Read.line()),
         ("Read", None)
