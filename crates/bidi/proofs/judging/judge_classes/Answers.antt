@@ -1,6 +1,7 @@
 use Rattle.std.proofs.Common.{◌≡◌, ℕ, List, Option, [], ap, ◌∙◌, subst}
 use Rattle.std.specs.Io.KnownBytes.{Appends}
 use Rattle.bidtests.specs.declared.verdict.Verdict.{Verdict}
+use Rattle.bidtests.specs.declared.kind.Kind.TheVariants.{Classes}
 use Rattle.bidi.specs.Judged.{SaysVerdict}
 use Rattle.bidi.specs.VerdictText.{verdict_text, verdict_status}
 use Rattle.bidi.proofs.judging.judge_classes.Goals as goal
@@ -17,5 +18,5 @@ returns-clause-verdict g c =
     let judged = c.in-Ok.ensures.verdict in (
       judged.0,
       judged.1,
-      says _ _ c.in-Ok.verdict _ _ (judged.2 [] c.in_ok-judge.ensures) c.status_of.ensures.status c.in_ok-print_verdict.ensures.text,
+      says _ _ c.in-Ok.verdict _ _ (judged.2 Classes [] c.in_ok-judge.ensures) c.status_of.ensures.status c.in_ok-print_verdict.ensures.text,
     )
