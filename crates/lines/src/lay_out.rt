@@ -55,7 +55,7 @@ pub fn lay_out_uncounted<'s>(
     ensures too_long { IsErr result ↔ (room_of room.old < length text.now) }
     ensures laid_out { IfOk result (λ layout. view_of layout ≡ layout_of text.now direction breaks.now.positions) }
 {
-    if text.len() > room.room() {
+    if room.room() < text.len() {
         return Err(TooLong);
     }
     room.fill_uncounted(text, direction, breaks);
