@@ -1,0 +1,10 @@
+pub mod Listed
+pub mod Searches
+pub mod FlatClasses
+pub mod FlatParagraph
+pub mod OneSequence
+pub mod WholeLevels
+pub mod IdleRules
+pub mod Unbracketed
+pub mod Stages
+pub mod Staying

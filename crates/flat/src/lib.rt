@@ -1,0 +1,6 @@
+//! Laws of paragraphs and lines in which most rules of the bidirectional algorithm have nothing to do.
+#![tactic(auto)]
+
+pub mod paragraphs;
+pub mod rules;
+pub mod uniform;
