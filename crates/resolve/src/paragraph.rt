@@ -1,5 +1,5 @@
 //! The resolved levels of a paragraph (P2 to I2).
-ghost use Rattle.std.specs.Prelude.{◌≡◌, ◌+◌, ◌*◌, ◌<◌, ◌≤◌, ℕ, None, IfOk, length, take};
+ghost use Rattle.std.specs.Prelude.{◌≡◌, ◌+◌, ◌*◌, ◌<◌, ◌≤◌, ℕ, Some, None, IfOk, length, take};
 ghost use Rattle.std.specs.Option.{option_map_or};
 ghost use Rattle.units.specs.Classes.{classes_of};
 ghost use Rattle.units.specs.Isolates.{level_of_para, para_level_of};
@@ -9,6 +9,7 @@ ghost use Rattle.units.specs.declared.class.Class.TheVariants.{BN};
 ghost use Rattle.resolve.specs.Covering.{AreApart, HasLevelsBy, KeepsMarks};
 ghost use Rattle.resolve.specs.Raised.{resolved_at};
 
+use crate::contents::Contents;
 use crate::pairs::Pairs;
 use crate::whole::resolve_sequence;
 use explicit::isolates::IsolateMap;
@@ -141,6 +142,17 @@ fn resolve_found<L: Ledger>(
     resolve_each(sequences, para, before, pairs, classes, levels, steps);
 }
 
+/// Gives all positions this level, a step for each.
+fn write_level<L: Ledger>(level: Level, levels: &mut [Option<Level>], steps: &mut Steps<L>)
+    ensures levels { (p : ℕ) → p < length levels.old → resolved_at levels.new p ≡ Some level }
+    ensures steps { steps.new ≡ steps.old + length levels.old }
+{
+    for p in 0..levels.len() {
+        steps.tick();
+        levels[p] = Some(level);
+    }
+}
+
 impl Resolver {
     /// Room for paragraphs of up to `n` positions. Memory that is refused is answered as `Memory`, and so are
     /// 2^32 - 1 positions and more.
@@ -157,9 +169,8 @@ impl Resolver {
         })
     }
 
-    /// Finds the level of a paragraph (P2, P3) and writes the resolved levels of its positions, none where X9 removes
-    /// one (X1 to I2), over what `levels` held. There is room for the paragraph, and no memory is taken.
-    pub fn resolve<L: Ledger>(
+    /// What `resolve` does for any paragraph, sequence by sequence.
+    fn resolve_sequences<L: Ledger>(
         &mut self,
         para: &[Unit],
         direction: Direction,
@@ -191,5 +202,33 @@ impl Resolver {
             steps,
         );
         level
+    }
+
+    /// Finds the level of a paragraph (P2, P3) and writes the resolved levels of its positions, none where X9 removes
+    /// one (X1 to I2), over what `levels` held. Where no rule can change the paragraph's level at any position, that level
+    /// is written and nothing else is found. There is room for the paragraph, and no memory is taken.
+    pub fn resolve<L: Ledger>(
+        &mut self,
+        para: &[Unit],
+        direction: Direction,
+        levels: &mut [Option<Level>],
+        steps: &mut Steps<L>,
+    ) -> ParaLevel
+        requires room { length para.now ≤ self.old }
+        requires separators { SeparatorOnlyLast para.now }
+        requires levels { length levels.old ≡ length para.now }
+        ensures level { level_of_para result ≡ para_level_of (classes_of para.now) direction }
+        ensures levels { levels.new ≡ resolved_levels para.now (para_level_of (classes_of para.now) direction) }
+        ensures room { self.new ≡ self.old }
+        ensures at_least { steps.old + 2 * length para.now ≤ steps.new }
+        ensures at_most { steps.new ≤ steps.old + 403 * length para.now + 60 }
+    {
+        let contents = Contents::of(para, steps);
+        let level = contents.para_level(direction);
+        if contents.keeps(level) {
+            write_level(level.level(), levels, steps);
+            return level;
+        }
+        self.resolve_sequences(para, direction, levels, steps)
     }
 }

@@ -1,29 +1,25 @@
-use Rattle.std.proofs.Common.{arith, rules, ap, sym, ◌∙◌, subst, ◌≤◌, List, length}
-use Rattle.units.specs.Isolates.{level_of_para}
+use Rattle.std.proofs.Common.{rules, arith, ap, sym, ◌∙◌, ◌≡◌, List, true, Some}
+use Rattle.units.specs.Classes.{classes_of}
+use Rattle.units.specs.Isolates.{level_of_para, para_level_of}
 use Rattle.units.specs.Layout.{resolved_levels}
-use Rattle.units.specs.Runs.{SequenceView}
-use Rattle.units.specs.declared.level.ParaLevel.{ParaLevel}
-use Rattle.units.specs.declared.level.ParaLevel.TheVariants.{Zero, One}
-use Rattle.resolve.specs.Covering.{AreApart}
-use Rattle.resolve.proofs.AllSequences.{sequences_are_apart, found_marks, found_levels}
+use Rattle.units.specs.declared.class.Class.{Class}
+use Rattle.flat.proofs.FlatParagraph.{para_level_of-flat}
+use Rattle.resolve.specs.Contents.{keeps_level}
+use Rattle.resolve.proofs.FlatLevels.{flat_where_kept, levels_are_kept}
 use Rattle.resolve.proofs.paragraph.Resolver.resolve.Goals as goal
 
-low : (level : ParaLevel) → level_of_para level ≤ 1
-low Zero = omega arith
-low One = omega arith
+pub returns-then-keeps-clause-level : goal.returns-then-keeps-clause-level
+returns-then-keeps-clause-level g c =
+    let cs : List Class = classes_of c.args.para.now in
+    let kept : keeps_level (level_of_para c.para_level-level.result) cs ≡ true = sym (c.keeps.ensures cs c.of-contents.ensures.contents) ∙ c.if-keeps.true in
+    c.para_level-level.ensures cs c.of-contents.ensures.contents ∙ sym (para_level_of-flat cs c.args.direction (flat_where_kept (level_of_para c.para_level-level.result) cs kept))
 
-pub resolve_found-requires-clause-apart : goal.resolve_found-requires-clause-apart
-resolve_found-requires-clause-apart g c =
-    let level : ParaLevel = c.para_level-level.result in
-    let P : List SequenceView → Type 0 = λ all. AreApart (length c.args.para.now) all in
-    subst P (sym c.fill-2.ensures.all) (sequences_are_apart c.args.para.now (level_of_para level) (low level) c.requires.separators)
-
-pub resolve_found-requires-clause-marks : goal.resolve_found-requires-clause-marks
-resolve_found-requires-clause-marks g c =
-    found_marks c.args.para.now (level_of_para c.para_level-level.result) c.explicit_levels.new.out c.explicit_levels.ensures.found
-
-pub returns-clause-levels : goal.returns-clause-levels
-returns-clause-levels g c =
-    found_levels c.args.para.now (level_of_para c.para_level-level.result) c.explicit_levels.new.out c.explicit_levels.ensures.found c.fill-2.new.self.all c.resolve_found.new.levels c.fill-2.ensures.all
-    (search rules) c.resolve_found.ensures.levels
-    ∙ ap (resolved_levels c.args.para.now) c.para_level-level.ensures.level
+pub returns-then-keeps-clause-levels : goal.returns-then-keeps-clause-levels
+returns-then-keeps-clause-levels g c =
+    let cs : List Class = classes_of c.args.para.now in
+    let kept : keeps_level (level_of_para c.para_level-level.result) cs ≡ true = sym (c.keeps.ensures cs c.of-contents.ensures.contents) ∙ c.if-keeps.true in
+    let level : level_of_para c.para_level-level.result ≡ para_level_of cs c.args.direction =
+    c.para_level-level.ensures cs c.of-contents.ensures.contents ∙ sym (para_level_of-flat cs c.args.direction (flat_where_kept (level_of_para c.para_level-level.result) cs kept)) in
+    levels_are_kept c.args.para.now (level_of_para c.para_level-level.result) c.write_level.new.levels kept (search rules)
+    (λ p lt. c.write_level.ensures.levels p (omega (arith, lt, c.requires.levels)) ∙ ap Some c.level.ensures.value)
+    ∙ ap (resolved_levels c.args.para.now) level
