@@ -1,7 +1,7 @@
 -- Flat paragraphs: what the scan of their classes tells.
-use Rattle.std.specs.Prelude.{Option, Some, None, ℕ, Bool, true, false, ◌<◌, ◌≡◌, ◌&&◌, not, List, length, map, refl}
+use Rattle.std.specs.Prelude.{Option, Some, None, ℕ, Bool, true, false, ◌<◌, ◌≡◌, not, List, length, map, refl}
 use Rattle.std.specs.List.{list_all}
-use Rattle.std.proofs.Common.{arith, ap, sym, ◌∙◌, get_or}
+use Rattle.std.proofs.Common.{arith, sym, ◌∙◌, get_or}
 use Rattle.std.proofs.lemmas.Bool.{and_parts}
 use Rattle.std.proofs.lemmas.List.{length-map, get_or-map, ext_get_or}
 use Rattle.std.proofs.lemmas.List.Sums.{AllPass-from_list_all}

@@ -1,4 +1,4 @@
-use Rattle.std.proofs.Common.{rules, arith, ap, ◌∙◌, sym}
+use Rattle.std.proofs.Common.{arith, ap}
 use Rattle.std.specs.Prelude.{not}
 use Rattle.units.specs.Classes.{is_strong}
 use Rattle.units.specs.Layout.{no_unit}
