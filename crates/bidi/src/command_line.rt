@@ -19,9 +19,6 @@ and each row claims, for each direction that it names, the levels and the order
 that the algorithm gives. Else prints `no`, with the first line that is malformed
 or wrong, and what is wrong there.
 
-So far rows may have the classes L, R, AL and B alone: any other class is
-`ClassItem`, as a word that is no class.
-
 Ends with status 0 after a yes, 1 after a no, 2 where the command line is refused,
 and 3 where the file can't be read, a write fails or memory is refused.";
 

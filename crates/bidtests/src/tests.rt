@@ -145,7 +145,7 @@ fn lines_that_are_malformed(rt: HostRuntime) -> Result<(), Fail> {
         (b"L; 7\n".as_slice(), 1, Cause::NoExpectation),
         (b"@Levels: 127\n", 1, Cause::LevelItem),
         (b"@Levels: 0\n@Reorder: 0\nL; 8\n", 3, Cause::BitSet),
-        (b"@Levels: x\n@Reorder:\nLRE; 7\n", 3, Cause::ClassItem),
+        (b"@Levels: x\n@Reorder:\nLRX; 7\n", 3, Cause::ClassItem),
         (b"@Type: 1\n@Level: 0\n", 2, Cause::Directive),
         (b"@Levels: 0\nL; 7\n", 2, Cause::NoExpectation),
         (b"@Levels: 00\n", 1, Cause::LevelItem),

@@ -13,7 +13,7 @@ pub enum Cause {
     LevelItem,
     /// An item of an order is no number of 0 to 65,535.
     OrderItem,
-    /// An item of a row is no short name of a class that a row may have: so far L, R, AL and B.
+    /// An item of a row is no short name of a class.
     ClassItem,
     /// The second field of a row is not one digit of 1 to 7.
     BitSet,
