@@ -1,7 +1,10 @@
+mod characters;
+
 use crate::judge::Judge;
 use crate::reader::{ReadFault, judge_reader};
 use crate::verdict::{Cause, Place, Verdict};
 use std::alloc::Global;
+use std::io::Write;
 use std::process::Abort;
 use std::test::Fail;
 use units::cut_source::CutSource;
@@ -40,25 +43,25 @@ fn wrong(line: u64, direction: Direction, place: Place) -> Verdict {
 }
 
 /// The verdict on bytes that are fed in pieces of this size, with empty pieces between.
-fn fed(alloc: Global, bytes: &[u8], size: usize) -> Result<Verdict, Memory> {
-    let mut judge = Judge::for_classes(alloc)?;
+fn fed(mut judge: Judge<'_>, bytes: &[u8], size: usize) -> Verdict {
     for piece in bytes.chunks(size.max(1)) {
         judge.feed(piece);
         judge.feed(&[]);
     }
-    Ok(judge.finish())
+    judge.finish()
 }
 
 /// The verdict is this one however the bytes are cut.
 fn expect(rt: &impl Abort, alloc: Global, bytes: &[u8], verdict: Verdict) -> Result<(), Memory> {
     for size in [bytes.len(), 1, 4, 7] {
-        assert_eq!(rt; fed(alloc, bytes, size)?, verdict, "in pieces of {size}");
+        let judge = Judge::for_classes(alloc)?;
+        assert_eq!(rt; fed(judge, bytes, size), verdict, "in pieces of {size}");
     }
     Ok(())
 }
 
 /// The third line has 65,535 bytes: 32,767 times `L`, with single blanks between, then `;2`.
-fn feed_long_row(judge: &mut Judge) {
+fn feed_long_row(judge: &mut Judge<'_>) {
     for byte in b"@Levels: 0\n@Reorder: 0\n" {
         judge.feed(&[*byte]);
     }
@@ -113,6 +116,83 @@ fn rows_that_are_right(rt: HostRuntime) -> Result<(), Fail> {
     Ok(())
 }
 
+/// The verdict on a file of this one row under these lists.
+fn expect_yes(
+    rt: &impl Abort,
+    alloc: Global,
+    levels: &str,
+    order: &str,
+    row: &str,
+    cases: u64,
+) -> Result<(), Fail> {
+    let mut file = Vec::new(alloc);
+    write!(file, "@Levels: {levels}\n@Reorder: {order}\n{row}\n")?;
+    expect(rt, alloc, &file, yes(1, cases))?;
+    Ok(())
+}
+
+#[test]
+fn rows_by_rule(rt: HostRuntime) -> Result<(), Fail> {
+    let alloc = rt.alloc();
+    for (levels, order, row, cases) in [
+        // X9: removed positions have no level.
+        ("x", "", "LRE; 7", 3),
+        // BD13: no joining across an embedding, and joining across an isolate.
+        ("1 0 x 2 x 0 1", "0 1 3 5 6", "R ON LRE L PDF ON R; 2", 1),
+        (
+            "1 1 1 2 1 1 1",
+            "6 5 4 3 2 1 0",
+            "R ON LRI L PDI ON R; 2",
+            1,
+        ),
+        // L1 goes by the original classes.
+        ("0 x 1 0", "0 2 3", "L RLO R WS; 2", 1),
+        // P2, X5c: the content of an isolate says nothing of the paragraph's level, and that of an FSI its direction.
+        ("0 1 0 0", "0 1 2 3", "FSI R PDI L; 1", 1),
+        // P1: each separator ends a paragraph.
+        ("1 1 1", "0 1 2", "B B B; 4", 1),
+        // X6a: a PDI without an initiator closes no embedding.
+        ("x 1 2", "2 1", "RLE PDI L; 2", 1),
+    ] {
+        expect_yes(&rt, alloc, levels, order, row, cases)?;
+    }
+    Ok(())
+}
+
+/// A file of one row under LTR: 62 times `RLE LRE`, then these items, of which only the last remains, at this place and level.
+fn deep_row(alloc: Global, items: &str, place: usize, level: u8) -> Result<Vec<u8>, Fail> {
+    let mut file = Vec::new(alloc);
+    write!(file, "@Levels:")?;
+    for _ in 0..place {
+        write!(file, " x")?;
+    }
+    write!(file, " {level}\n@Reorder: {place}\n")?;
+    for _ in 0..62 {
+        write!(file, "RLE LRE ")?;
+    }
+    write!(file, "{items}; 2\n")?;
+    Ok(file)
+}
+
+/// BD2, X2 to X5, X7: initiators beyond level 125 overflow, all those behind one that did, too, and a PDF closes such a one first.
+#[test]
+fn the_deepest_levels(rt: HostRuntime) -> Result<(), Fail> {
+    let alloc = rt.alloc();
+    for (items, place, level) in [
+        ("RLE LRE L", 126, 126),
+        ("RLE LRE RLE PDF PDF L", 129, 126),
+        ("LRE RLE L", 126, 124),
+    ] {
+        expect(
+            &rt,
+            alloc,
+            &deep_row(alloc, items, place, level)?,
+            yes(1, 1),
+        )?;
+    }
+    Ok(())
+}
+
 #[test]
 fn rows_that_are_wrong(rt: HostRuntime) -> Result<(), Fail> {
     let alloc = rt.alloc();
@@ -135,6 +215,12 @@ fn rows_that_are_wrong(rt: HostRuntime) -> Result<(), Fail> {
         b"@Levels: 0 1 1\n@Reorder: 0 1 2\nL R AL; 7",
         wrong(3, Direction::Auto, Place::Order(1)),
     )?;
+    expect(
+        &rt,
+        alloc,
+        b"@Levels: 0 0 0\n@Reorder: 0 1 2\nB B B; 7\n",
+        wrong(3, Direction::Rtl, Place::Levels(0)),
+    )?;
     Ok(())
 }
 
@@ -145,7 +231,7 @@ fn lines_that_are_malformed(rt: HostRuntime) -> Result<(), Fail> {
         (b"L; 7\n".as_slice(), 1, Cause::NoExpectation),
         (b"@Levels: 127\n", 1, Cause::LevelItem),
         (b"@Levels: 0\n@Reorder: 0\nL; 8\n", 3, Cause::BitSet),
-        (b"@Levels: x\n@Reorder:\nLRX; 7\n", 3, Cause::ClassItem),
+        (b"@Levels: x\n@Reorder:\nXX; 7\n", 3, Cause::ClassItem),
         (b"@Type: 1\n@Level: 0\n", 2, Cause::Directive),
         (b"@Levels: 0\nL; 7\n", 2, Cause::NoExpectation),
         (b"@Levels: 00\n", 1, Cause::LevelItem),
@@ -177,6 +263,17 @@ fn lines_up_to_the_longest(rt: HostRuntime) -> Result<(), Fail> {
         let too_long = malformed(1, Cause::LineTooLong);
         assert_eq!(&rt; long_comment(alloc, 65_536, end)?, too_long);
     }
+    Ok(())
+}
+
+/// A line may be over-long before it ends.
+#[test]
+fn a_line_without_end(rt: HostRuntime) -> Result<(), Fail> {
+    let mut judge = Judge::for_classes(rt.alloc())?;
+    for _ in 0..65_537 {
+        judge.feed(b"a");
+    }
+    assert_eq!(&rt; judge.finish(), malformed(1, Cause::LineTooLong));
     Ok(())
 }
 

@@ -1,0 +1,137 @@
+//! Character files by the tables of a few characters.
+use super::{fed, malformed, wrong, yes};
+use crate::judge::Judge;
+use crate::reader::{ReadFault, judge_reader};
+use crate::verdict::{Cause, Place, Verdict};
+use std::alloc::Global;
+use std::process::Abort;
+use std::test::Fail;
+use ucdfiles::bracket_table::BracketTable;
+use ucdfiles::class_table::ClassTable;
+use ucdfiles::fault::TableFault;
+use ucdfiles::mirror_table::MirrorTable;
+use ucdfiles::tables::Tables;
+use units::cut_source::CutSource;
+use units::level::Direction;
+use units::memory::Memory;
+use units::slice_source::SliceSource;
+
+const CLASSES: &[u8] = b"# @missing: 0000..10FFFF; Left_To_Right\n\
+000A ; B\n000D ; B\n0020 ; WS\n0028..0029 ; ON\n002C ; CS\n0031..0032 ; EN\n003C ; ON\n003E ; ON\n\
+005B ; ON\n005D ; ON\n05D0..05D1 ; R\n0627 ; AL\n2329..232A ; ON\n3008..3009 ; ON\n";
+
+const BRACKETS: &[u8] = b"0028; 0029; o\n0029; 0028; c\n005B; 005D; o\n005D; 005B; c\n\
+2329; 232A; o\n232A; 2329; c\n3008; 3009; o\n3009; 3008; c\n";
+
+const MIRRORS: &[u8] = b"0028; 0029\n0029; 0028\n003C; 003E\n003E; 003C\n005B; 005D\n005D; 005B\n";
+
+const PARA_DIFFERS: &[u8] = b"0061;0;1;0;0\n";
+
+/// The tables that these files state.
+fn tables(alloc: Global) -> Result<Tables, TableFault> {
+    let classes = ClassTable::read(alloc, &mut SliceSource::new(CLASSES))?;
+    let brackets = BracketTable::read(alloc, &mut SliceSource::new(BRACKETS))?;
+    let mirrors = MirrorTable::read(alloc, &mut SliceSource::new(MIRRORS))?;
+    Ok(Tables::new(classes, brackets, mirrors))
+}
+
+/// The verdict is this one however the bytes are cut.
+fn expect(
+    rt: &impl Abort,
+    alloc: Global,
+    tables: &Tables,
+    bytes: &[u8],
+    verdict: Verdict,
+) -> Result<(), Fail> {
+    for size in [bytes.len(), 1, 7] {
+        let judge = Judge::for_characters(alloc, tables)?;
+        assert_eq!(rt; fed(judge, bytes, size), verdict, "in pieces of {size}");
+    }
+    Ok(())
+}
+
+#[test]
+fn rows_that_are_right(rt: HostRuntime) -> Result<(), Fail> {
+    let alloc = rt.alloc();
+    let tables = tables(alloc)?;
+    expect(&rt, alloc, &tables, b"", yes(0, 0))?;
+    for row in [
+        b"05D0 0031 002C 0032;0;0;1 2 2 2;1 2 3 0\n".as_slice(),
+        b"0627 0031;0;0;1 2;1 0\n",
+        b"05D0 0028 0061 0029 05D1;1;1;1 1 2 1 1;4 3 2 1 0\n",
+        b"0061 0028 05D0 0029;0;0;0 0 1 0;0 1 2 3\n",
+        b"0061 2329 05D0 3009 05D1;0;0;0 0 1 0 1;0 1 2 3 4\n",
+        b"0061 0028 005D 05D0 0029 05D1;0;0;0 0 0 1 0 1;0 1 2 3 4 5\n",
+    ] {
+        expect(&rt, alloc, &tables, row, yes(1, 1))?;
+    }
+    expect(
+        &rt,
+        alloc,
+        &tables,
+        b"# \xff\n05D0 ; 2 ; 1 ; 1 ; 0 # right to left\r\n\n0061;2;0;0;0",
+        yes(2, 2),
+    )
+}
+
+#[test]
+fn lines_that_are_malformed(rt: HostRuntime) -> Result<(), Fail> {
+    let alloc = rt.alloc();
+    let tables = tables(alloc)?;
+    for (line, cause) in [
+        (b"0061;0;0;0;0;\n".as_slice(), Cause::FieldCount),
+        (b";0;0;;\n", Cause::EmptyRow),
+        (b"D800;0;0;0;0\n", Cause::CodePoint),
+        (b"0061;3;0;0;0\n", Cause::DirectionField),
+        (b"0061;0;2;0;0\n", Cause::ParaField),
+        (b"@Levels: 0\n", Cause::FieldCount),
+        (b"0061;0;0;127;0\n", Cause::LevelItem),
+        (b"0061;0;0;0;65536\n", Cause::OrderItem),
+    ] {
+        expect(&rt, alloc, &tables, line, malformed(1, cause))?;
+    }
+    Ok(())
+}
+
+#[test]
+fn rows_that_are_wrong(rt: HostRuntime) -> Result<(), Fail> {
+    let alloc = rt.alloc();
+    let tables = tables(alloc)?;
+    for (line, direction, place) in [
+        (PARA_DIFFERS, Direction::Ltr, Place::ParaLevel),
+        (b"05D0;1;1;1 1;0\n", Direction::Rtl, Place::Levels(1)),
+        (b"05D0 05D1;2;1;1 1;0 1\n", Direction::Auto, Place::Order(0)),
+    ] {
+        expect(&rt, alloc, &tables, line, wrong(1, direction, place))?;
+    }
+    Ok(())
+}
+
+#[test]
+fn sources_are_read_to_the_end(rt: HostRuntime) -> Result<(), Fail> {
+    let alloc = rt.alloc();
+    let tables = tables(alloc)?;
+    let judge = Judge::for_characters(alloc, &tables)?;
+    let verdict = judge_reader(judge, &mut SliceSource::new(PARA_DIFFERS));
+    assert_eq!(&rt; verdict, Ok(wrong(1, Direction::Ltr, Place::ParaLevel)));
+    let judge = Judge::for_characters(alloc, &tables)?;
+    let mut source = CutSource::new(PARA_DIFFERS, 12);
+    assert_eq!(&rt; judge_reader(judge, &mut source), Err(ReadFault));
+    Ok(())
+}
+
+/// Passes whichever growth is refused: in making the judge it is answered as memory, and later there is none.
+#[test]
+fn no_growth_comes_after_making(rt: HostRuntime) {
+    let alloc = rt.alloc();
+    let Ok(tables) = tables(alloc) else {
+        return;
+    };
+    match Judge::for_characters(alloc, &tables) {
+        Err(Memory) => {}
+        Ok(judge) => {
+            let verdict = fed(judge, PARA_DIFFERS, 1);
+            assert_eq!(&rt; verdict, wrong(1, Direction::Ltr, Place::ParaLevel));
+        }
+    }
+}
