@@ -1,4 +1,7 @@
+pub mod Columns
 pub mod FaultText
 pub mod Judged
+pub mod LevelsText
 pub mod Outcomes
+pub mod ReorderText
 pub mod VerdictText

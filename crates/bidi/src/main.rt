@@ -1,11 +1,14 @@
 //! The command `bidi`: judges conformance files of the bidirectional algorithm.
 #![tactic(auto)]
 
+mod columns;
 mod command_line;
 mod fault;
 mod files;
 mod judging;
+mod layout_text;
 mod outcome;
+mod position_line;
 mod run;
 #[cfg(test)]
 mod tests;
