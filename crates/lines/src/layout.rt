@@ -92,6 +92,8 @@ impl<'s> Layout<'s> {
         requires { k < length (view_of self.now).lines }
         ensures line { IsLineAt (view_of self.now) k result }
         ensures places { All (λ p. p < length (view_of self.now).levels) result.order.now }
+        ensures forward { result.start ≤ result.end }
+        ensures inside { result.end ≤ length (view_of self.now).levels }
     {
         let (from, to) = self.bounds_of(k);
         let start = from.position as usize;
