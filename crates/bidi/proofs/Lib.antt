@@ -1,4 +1,5 @@
 pub mod Appending
 pub mod Breaks
 pub mod Codes
+pub mod Lengths
 pub mod Printing

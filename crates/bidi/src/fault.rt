@@ -26,6 +26,17 @@ impl From<io::Error> for PrintFault {
     }
 }
 
+impl From<Memory> for PrintFault {
+    ghost use Rattle.std.specs.Prelude.{◌≡◌};
+    ghost use Rattle.bidi.specs.declared.fault.PrintFault.TheVariants as print_fault;
+
+    ghost from_gives = { λ _ fault. fault ≡ print_fault.Memory };
+
+    fn from(_memory: Memory) -> Self {
+        Self::Memory
+    }
+}
+
 /// Why a run did not end well.
 #[derive(Debug, Drop)]
 pub enum Fault<'a> {

@@ -9,6 +9,7 @@ mod judging;
 mod layout_text;
 mod outcome;
 mod position_line;
+mod print;
 mod run;
 #[cfg(test)]
 mod tests;

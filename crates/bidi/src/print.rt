@@ -1,0 +1,70 @@
+// What `levels` and `reorder` print of a text.
+ghost use Rattle.std.specs.Prelude.{◌≡◌, ◌≤◌, ℕ, [], length, map, slice_index_or, IfOk, OnOk};
+ghost use Rattle.std.specs.Io.KnownBytes.{Appends};
+ghost use Rattle.units.specs.Isolates.{level_of_para};
+ghost use Rattle.units.specs.Layout.{layout_of};
+ghost use Rattle.lines.specs.Layouts.{view_of};
+ghost use Rattle.lines.specs.Scratches.{room_of};
+ghost use Rattle.bidi.specs.LevelsText.{levels_text};
+ghost use Rattle.bidi.specs.PrintedTexts.{units_of, printed_levels};
+
+use crate::fault::PrintFault;
+use crate::layout_text::print_paragraphs;
+use lines::breaks::Breaks;
+use lines::lay_out::lay_out_uncounted;
+use lines::scratch::Scratch;
+use std::alloc::Global;
+use std::io::Write;
+use ucdfiles::tables::Tables;
+use units::bracket::Unit;
+use units::level::Direction;
+use units::memory::Memory;
+
+/// What the tables know of each character of a text.
+fn units_of(alloc: Global, tables: &Tables, chars: &[char]) -> Result<Vec<Unit>, Memory>
+    ensures { IfOk result (λ units. units.items ≡ units_of tables.now chars.now) }
+{
+    let mut units = Vec::with_capacity(alloc, chars.len())?;
+    for c in chars {
+        let unit = tables.unit(*c);
+        match units.push(unit) {
+            Ok(()) => {}
+            Err(_) => return Err(Memory),
+        }
+    }
+    Ok(units)
+}
+
+/// Room for a text of so many units.
+fn room_for(alloc: Global, n: usize) -> Result<Scratch, Memory>
+    requires { n ≤ 16777216 }
+    ensures { IfOk result (λ room. room_of room ≡ n) }
+{
+    match Scratch::with_room(alloc, n) {
+        Ok(room) => Ok(room),
+        Err(_) => Err(Memory),
+    }
+}
+
+/// Writes the levels of a text: for each paragraph a line with its number, counted from 0, and its level (P2, P3); then
+/// for each of its positions a line with the position in the whole text, the code point, the original class and the level
+/// after L1, or `x` where the position was removed (X9). The text may have 16,777,216 characters. The fault is `Write`
+/// where the writer fails, when it is not known how much it took, and `Memory` where memory is refused.
+pub fn print_levels<W: Write>(
+    alloc: Global,
+    w: &mut W,
+    tables: &Tables,
+    text: &[char],
+    direction: Direction,
+) -> Result<(), PrintFault>
+    requires { length text.now ≤ 16777216 }
+    ensures { OnOk result (Appends (W.contents w.old) (W.contents w.new)
+        (printed_levels tables.now text.now direction)) }
+{
+    let units = units_of(alloc, tables, text)?;
+    let mut room = room_for(alloc, text.len())?;
+    let breaks = Breaks::new(&[], text.len()).unwrap();
+    let layout = lay_out_uncounted(&mut room, &units, direction, &breaks).unwrap();
+    print_paragraphs(w, text, &units, &layout)?;
+    Ok(())
+}
