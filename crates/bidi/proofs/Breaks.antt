@@ -4,7 +4,7 @@ use Rattle.std.specs.Prelude.{filter}
 use Rattle.std.proofs.lemmas.List.Elements.{filter-append}
 use Rattle.units.specs.Positions.{positions_from}
 use Rattle.units.specs.declared.bracket.Unit.{Unit as BidiUnit}
-use Rattle.lines.specs.LineBreaks.{AreBreaks, IsInside, Rises}
+use Rattle.lines.specs.LineBreaks.{AreBreaks, Rises}
 use Rattle.bidi.specs.Columns.{is_column_break, separates_at, paragraph_start}
 
 pub one_more_position : (s n : ℕ) → positions_from s (suc n) ≡ positions_from s n ++ ((s + n) ∷ [])

@@ -1,13 +1,20 @@
 use crate::fault::PrintFault;
 use crate::files::{Files, OpenFault};
+use crate::print::print_levels;
 use crate::run::run;
 use crate::verdict_line::print_verdict;
 use bidtests::verdict::{Cause, Place, Verdict};
 use std::alloc::Global;
 use std::io::{self, Write};
+use std::process::Abort;
+use ucdfiles::bracket_table::BracketTable;
+use ucdfiles::class_table::ClassTable;
+use ucdfiles::mirror_table::MirrorTable;
+use ucdfiles::tables::Tables;
 use units::cut_source::CutSource;
 use units::level::Direction;
 use units::reader_source::ReaderSource;
+use units::slice_source::SliceSource;
 
 const TWO_PARAGRAPHS: &[u8] = b"@Levels: 1 1 0\n@Reorder: 1 0 2\nR B L; 1\n";
 
@@ -180,6 +187,36 @@ fn answers_by_status_and_verdict_line(rt: HostRuntime) {
         assert_eq!(rt; outcome.out.written(), line);
         assert!(rt; outcome.err.written().is_empty(), "{status}");
     }
+}
+
+/// Tables with these classes, no brackets and no mirror images.
+fn tables_of(rt: &impl Abort, alloc: Global, classes: &[u8]) -> Tables {
+    Tables::new(
+        ClassTable::read(alloc, &mut SliceSource::new(classes)).expect(rt, "classes"),
+        BracketTable::read(alloc, &mut SliceSource::new(b"")).expect(rt, "brackets"),
+        MirrorTable::read(alloc, &mut SliceSource::new(b"")).expect(rt, "mirrors"),
+    )
+}
+
+#[test]
+fn prints_levels(rt: HostRuntime) {
+    let tables = tables_of(
+        &rt,
+        rt.alloc(),
+        b"05D0 ; R\n0031 ; EN\n000A ; B\n0061 ; L\n",
+    );
+    let text = ['\u{5D0}', '1', '\n', 'a'];
+    let lines =
+        b"paragraph 0 level 1\n0 05D0 R 1\n1 0031 EN 2\n2 000A B 1\nparagraph 1 level 0\n3 0061 L 0\n";
+    let mut out = FixedWriter::new();
+    let answer = print_levels(rt.alloc(), &mut out, &tables, &text, Direction::Auto);
+    assert_eq!(rt; answer, Ok(()));
+    assert_eq!(rt; out.written(), lines.as_slice());
+
+    let mut empty = FixedWriter::new();
+    let answer = print_levels(rt.alloc(), &mut empty, &tables, &[], Direction::Auto);
+    assert_eq!(rt; answer, Ok(()));
+    assert!(rt; empty.written().is_empty());
 }
 
 #[test]
