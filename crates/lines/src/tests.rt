@@ -3,9 +3,11 @@ ghost use Rattle.std.specs.Prelude.{◌≡◌, ◌<◌};
 
 use crate::breaks::{BreakFault, Breaks};
 use crate::lay_out::lay_out_uncounted;
+use crate::layout::Layout;
 use crate::order::append_order_uncounted;
 use crate::resets::reset_text;
 use crate::scratch::{RoomFault, Scratch};
+use crate::shown::Shown;
 use std::alloc::Global;
 use std::marker::Brand;
 use std::process::Abort;
@@ -469,12 +471,8 @@ fn lays_out_broken(rt: &impl Abort, room: &mut Scratch, text: &[Unit]) -> Result
     let breaks = Breaks::new(&at, text.len())?;
     let layout = lay_out_uncounted(room, text, Direction::Ltr, &breaks)?;
     assert_eq!(rt; layout.line_count(), 2);
-    let line = layout.line(0);
-    assert_eq!(rt; line.levels, [Level::new(1), Level::new(0)].as_slice());
-    assert_eq!(rt; line.order, [0, 1].as_slice());
-    let line = layout.line(1);
-    assert_eq!(rt; line.levels, [Level::new(1)].as_slice());
-    assert_eq!(rt; line.order, [2].as_slice());
+    line_shows(rt, &layout, 0, &[Level::new(1), Level::new(0)], &[0, 1]);
+    line_shows(rt, &layout, 1, &[Level::new(1)], &[2]);
     Ok(())
 }
 
@@ -503,12 +501,29 @@ fn lays_out_after_too_long(rt: HostRuntime) -> Result<(), Fail> {
     shows(&rt, &mut room, &text, Direction::Ltr, &expected, &[0, 1])
 }
 
+/// Compares a line's levels and its order.
+fn line_shows(
+    rt: &impl Abort,
+    layout: &Layout,
+    k: usize,
+    levels: &[Option<Level>],
+    order: &[usize],
+) {
+    assert!(rt; k < layout.line_count());
+    let line = layout.line(k);
+    assert_eq!(rt; line.levels, levels);
+    assert_eq!(rt; line.order, order);
+}
+
+/// A Hebrew letter and a digit, a separator, and a Latin letter.
+fn two_paragraphs(alloc: Global) -> Result<Vec<Unit>, Fail> {
+    units_of(alloc, &tables(alloc)?, "\u{5D0}1\na")
+}
+
 #[test]
-fn lays_out_paragraphs(rt: HostRuntime) -> Result<(), Fail> {
-    let alloc = rt.alloc();
-    let tables = tables(alloc)?;
-    let text = units_of(alloc, &tables, "\u{5D0}1\na")?;
-    let mut room = Scratch::with_room(alloc, 4)?;
+fn a_break_behind_a_separator_adds_nothing(rt: HostRuntime) -> Result<(), Fail> {
+    let text = two_paragraphs(rt.alloc())?;
+    let mut room = Scratch::with_room(rt.alloc(), 4)?;
     let at = [3];
     let breaks = Breaks::new(&at, text.len())?;
     let layout = lay_out_uncounted(&mut room, &text, Direction::Auto, &breaks)?;
@@ -516,22 +531,62 @@ fn lays_out_paragraphs(rt: HostRuntime) -> Result<(), Fail> {
         layout.para_levels(),
         [ParaLevel::One, ParaLevel::Zero].as_slice()
     );
-    assert_eq!(&rt; layout.levels(), levels(alloc, "1 2 1 0")?.as_slice());
     assert_eq!(&rt; layout.line_count(), 2);
-    assert_eq!(&rt; layout.line(0).order, [2, 1, 0].as_slice());
-    assert_eq!(&rt; layout.line(1).order, [3].as_slice());
+    let first = [Level::new(1), Level::new(2), Level::new(1)];
+    line_shows(&rt, &layout, 0, &first, &[2, 1, 0]);
+    line_shows(&rt, &layout, 1, &[Level::new(0)], &[3]);
+    Ok(())
+}
+
+#[test]
+fn a_break_begins_a_line(rt: HostRuntime) -> Result<(), Fail> {
+    let text = two_paragraphs(rt.alloc())?;
+    let mut room = Scratch::with_room(rt.alloc(), 4)?;
     let at = [1];
     let breaks = Breaks::new(&at, text.len())?;
     let layout = lay_out_uncounted(&mut room, &text, Direction::Auto, &breaks)?;
     assert_eq!(&rt; layout.line_count(), 3);
-    assert_eq!(&rt; layout.line(0).order, [0].as_slice());
-    assert_eq!(&rt; layout.line(1).levels, levels(alloc, "2 1")?.as_slice());
-    assert_eq!(&rt; layout.line(1).order, [2, 1].as_slice());
-    assert_eq!(&rt; layout.line(2).order, [3].as_slice());
+    line_shows(&rt, &layout, 0, &[Level::new(1)], &[0]);
+    line_shows(&rt, &layout, 1, &[Level::new(2), Level::new(1)], &[2, 1]);
+    line_shows(&rt, &layout, 2, &[Level::new(0)], &[3]);
     Ok(())
 }
 
-/// Lays out four characters or fewer from left to right, and compares what is shown.
+/// The units of these characters.
+fn units_of_chars(alloc: Global, tables: &Tables, chars: &[char]) -> Result<Vec<Unit>, Fail> {
+    let mut units = Vec::new(alloc);
+    for c in chars {
+        units.push(tables.unit(*c))?;
+    }
+    Ok(units)
+}
+
+/// Compares what is shown.
+fn gives(rt: &impl Abort, mut shown: Shown<MirrorTable>, expected: &[char]) {
+    for c in expected {
+        assert_eq!(rt; shown.next(), Some(*c));
+    }
+    assert_eq!(rt; shown.next(), None);
+}
+
+/// Lays out a text from left to right on one line, and compares what is shown of its characters.
+fn is_shown(
+    rt: &impl Abort,
+    room: &mut Scratch,
+    text: &[Unit],
+    mirrors: &MirrorTable,
+    chars: &[char],
+    expected: &[char],
+) -> Result<(), Fail> {
+    let breaks = Breaks::new(&[], text.len())?;
+    let layout = lay_out_uncounted(room, text, Direction::Ltr, &breaks)?;
+    assert_eq!(rt; layout.line_count(), 1);
+    assert_eq!(rt; layout.levels().len(), chars.len());
+    gives(rt, layout.shown(mirrors, chars, 0), expected);
+    Ok(())
+}
+
+/// The same by the tables.
 fn text_is_shown(
     rt: &impl Abort,
     alloc: Global,
@@ -539,38 +594,21 @@ fn text_is_shown(
     expected: &[char],
 ) -> Result<(), Fail> {
     let tables = tables(alloc)?;
-    let mut text = Vec::new(alloc);
-    for c in chars {
-        text.push(tables.unit(*c))?;
-    }
+    let text = units_of_chars(alloc, &tables, chars)?;
     let mut room = Scratch::with_room(alloc, 4)?;
-    let breaks = Breaks::new(&[], text.len())?;
-    let layout = lay_out_uncounted(&mut room, &text, Direction::Ltr, &breaks)?;
-    assert_eq!(rt; layout.line_count(), 1);
-    assert_eq!(rt; layout.levels().len(), chars.len());
-    let mut shown = Vec::new(alloc);
-    for c in layout.shown(tables.mirrors(), chars, 0) {
-        shown.push(c)?;
-    }
-    assert_eq!(rt; shown.as_slice(), expected);
-    Ok(())
+    is_shown(rt, &mut room, &text, tables.mirrors(), chars, expected)
 }
 
 #[test]
 fn mirrors_at_odd_levels(rt: HostRuntime) -> Result<(), Fail> {
-    let alloc = rt.alloc();
-    text_is_shown(
-        &rt,
-        alloc,
-        &['\u{5D0}', '<', '\u{5D1}'],
-        &['\u{5D1}', '>', '\u{5D0}'],
-    )?;
-    text_is_shown(
-        &rt,
-        alloc,
-        &['a', '(', '\u{5D0}', ')'],
-        &['a', '(', '\u{5D0}', ')'],
-    )
+    let chars = ['\u{5D0}', '<', '\u{5D1}'];
+    text_is_shown(&rt, rt.alloc(), &chars, &['\u{5D1}', '>', '\u{5D0}'])
+}
+
+#[test]
+fn mirrors_nothing_at_even_levels(rt: HostRuntime) -> Result<(), Fail> {
+    let chars = ['a', '(', '\u{5D0}', ')'];
+    text_is_shown(&rt, rt.alloc(), &chars, &chars)
 }
 
 #[test]
