@@ -61,8 +61,7 @@ impl IsolateMap {
         requires { length para.now ≤ room self.old }
         ensures same_room { room self.new ≡ room self.old }
         ensures filled { IsFilledFrom self.new (classes_of para.now) }
-        ensures least_steps { steps.old + length para.now ≤ steps.new }
-        ensures most_steps { steps.new ≤ steps.old + 20 * (length para.now + 1) }
+        ensures steps { steps.new ≡ steps.old + 2 * length para.now }
     {
         match_partners(para, &mut self.partners, &mut self.openers, steps);
         self.outside = carry_sides(para, &self.partners, &mut self.sides, steps);

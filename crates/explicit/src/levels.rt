@@ -7,6 +7,7 @@ ghost use Rattle.units.specs.declared.class.Class.{Class};
 ghost use Rattle.units.specs.declared.class.Class.TheVariants.{FSI};
 ghost use Rattle.explicit.specs.IsolateMaps.{IsFilledFrom};
 ghost use Rattle.explicit.specs.ExplicitLevels.{HoldsLevels};
+ghost use Rattle.explicit.specs.StatusStacks.{size_of};
 
 use crate::isolates::IsolateMap;
 use crate::status::StatusStack;
@@ -20,19 +21,24 @@ use units::memory::Memory;
 use units::steps::Steps;
 
 /// The explicit level and the current class of each position of a paragraph, or none where X9 removes it. Its room is
-/// made once and filled in place. Contracts see the list of all room.
+/// made once and filled in place. Contracts see the list of all room. Beside it stands the stack of directional statuses,
+/// which is empty between calls.
 #[derive(Drop)]
 pub struct Explicit {
     places: Vec<Option<(Level, Class)>>,
+    stack: StatusStack,
 }
 
 impl Model for Explicit {
-    ghost use Rattle.std.specs.Prelude.{ℕ, List, Option};
+    ghost use Rattle.std.specs.Prelude.{◌≡◌, ℕ, List, Option};
     ghost use Rattle.units.specs.declared.class.Class.{Class};
+    ghost use Rattle.explicit.specs.StatusStacks.{size_of};
 
     ghost Value = { List (Option (ℕ × Class)) };
 
     ghost view = { λ explicit. explicit.places.items };
+
+    ghost invariant = { λ explicit. size_of explicit.stack ≡ 0 };
 }
 
 impl Explicit {
@@ -41,7 +47,10 @@ impl Explicit {
         ensures { IfOk result (λ explicit. length explicit ≡ n) }
     {
         let places = vec![in alloc; None; n]?;
-        Ok(Explicit { places })
+        Ok(Explicit {
+            places,
+            stack: StatusStack::empty(),
+        })
     }
 
     /// X1 to X9: the explicit level, 0 to 125, and the current class of the position `p`, or none where it is removed.
@@ -67,32 +76,37 @@ fn asks_odd(class: Class, right_to_left: bool) -> bool
     }
 }
 
-// X1 to X9: finds the level and the current class of each position.
+// X1 to X9: finds the level and the current class of each position. The stack is empty before and after.
 fn find_places<L: Ledger>(
     para: &[Unit],
     map: &IsolateMap,
     base: Level,
+    open: &mut StatusStack,
     places: &mut [Option<(Level, Class)>],
     steps: &mut Steps<L>,
 )
     requires base { base ≤ 1 }
     requires room { length para.now ≤ length places.old }
     requires filled { IsFilledFrom map.now (classes_of para.now) }
+    requires empty { size_of open.old ≡ 0 }
     ensures found { HoldsLevels places.new (classes_of para.now) base }
+    ensures empty { size_of open.new ≡ 0 }
     ensures least_steps { steps.old + length para.now ≤ steps.new }
-    ensures most_steps { steps.new ≤ steps.old + 1 + 2 * length para.now }
+    ensures most_steps { steps.new ≤ steps.old + (2 * length para.now + 1) }
 {
-    let mut open = StatusStack::new(base);
+    open.begin(base);
     for (p, unit) in para.iter().enumerate() {
         steps.tick();
         open.close(unit.class, steps);
         places[p] = open.place(unit.class, base);
         open.open(unit.class, asks_odd(unit.class, map.is_right_to_left(p)));
     }
+    open.clear(steps);
 }
 
 /// X1 to X9: finds the explicit levels and current classes of a paragraph of this level, for which `out` has room and
-/// from which `map` was filled. What was found of an earlier one is gone.
+/// from which `map` was filled. What was found of an earlier one is gone. Each position is a step, and each entry of the
+/// stack (X1) that a PDI or the paragraph's end drops.
 pub fn explicit_levels<L: Ledger>(
     para: &[Unit],
     map: &IsolateMap,
@@ -105,7 +119,14 @@ pub fn explicit_levels<L: Ledger>(
     ensures same_room { length out.new ≡ length out.old }
     ensures found { HoldsLevels out.new (classes_of para.now) (level_of_para level) }
     ensures least_steps { steps.old + length para.now ≤ steps.new }
-    ensures most_steps { steps.new ≤ steps.old + 20 * (length para.now + 1) }
+    ensures most_steps { steps.new ≤ steps.old + (2 * length para.now + 1) }
 {
-    find_places(para, map, level.level(), &mut out.places, steps);
+    find_places(
+        para,
+        map,
+        level.level(),
+        &mut out.stack,
+        &mut out.places,
+        steps,
+    );
 }

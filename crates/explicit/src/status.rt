@@ -35,7 +35,7 @@ impl Default for Status {
 
 /// X1: the stack of directional statuses, one for the paragraph and one for each open initiator that was taken, and
 /// the counts of overflow isolates, of overflow embeddings and of the open isolates that were taken. A level rises
-/// with each entry from 0 or 1 to at most 125, so 126 entries are the most.
+/// with each entry from 0 or 1 to at most 125, so 126 entries are the most. Its room is made once.
 #[derive(Drop)]
 pub struct StatusStack {
     entries: ArrayVec<Status, 127>,
@@ -68,23 +68,41 @@ fn overridden_by(class: Class) -> Option<Class>
 }
 
 impl StatusStack {
-    /// X1: no initiator is open in a paragraph of this level.
-    pub fn new(base: Level) -> Self
-        ensures represents { (cs : List Class) → Represents cs base [] result }
-        ensures size { size_of result ≡ 1 }
+    /// A stack with no entry, as it is between paragraphs.
+    pub fn empty() -> Self
+        ensures { size_of result ≡ 0 }
     {
-        let mut entries = ArrayVec::new();
-        entries.push(Status {
-            level: base,
-            override_class: None,
-            is_isolate: false,
-        });
         StatusStack {
-            entries,
+            entries: ArrayVec::new(),
             overflow_isolates: 0,
             overflow_embeddings: 0,
             valid_isolates: 0,
         }
+    }
+
+    /// X1: begins a paragraph of this level, in which no initiator is open yet.
+    pub fn begin(&mut self, base: Level)
+        requires { size_of self.old ≡ 0 }
+        ensures represents { (cs : List Class) → Represents cs base [] self.new }
+        ensures size { size_of self.new ≡ 1 }
+    {
+        self.entries.push(Status {
+            level: base,
+            override_class: None,
+            is_isolate: false,
+        });
+        self.overflow_isolates = 0;
+        self.overflow_embeddings = 0;
+        self.valid_isolates = 0;
+    }
+
+    /// Drops what is left at a paragraph's end. Each entry is a step.
+    pub fn clear<L: Ledger>(&mut self, steps: &mut Steps<L>)
+        ensures empty { size_of self.new ≡ 0 }
+        ensures steps { steps.new ≡ steps.old + size_of self.old }
+    {
+        steps.add(self.entries.len());
+        self.entries.clear();
     }
 
     // What holds inside the innermost initiator that was taken.

@@ -11,10 +11,10 @@ use Rattle.explicit.proofs.levels.find_places.Goals as goal
 
 pub loop-p-init : goal.loop-p-init
 loop-p-init g c = record {
-  keeps = c.new-open.ensures.represents (classes_of c.args.para.now);
+  keeps = c.begin.ensures.represents (classes_of c.args.para.now);
   filled = λ k l. absurd (omega arith);
   least = omega arith;
-  most = omega (arith, c.new-open.ensures.size);
+  most = omega (arith, c.begin.ensures.size);
 }
 
 pub place-requires : goal.place-requires

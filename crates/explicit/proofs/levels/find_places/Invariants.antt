@@ -11,5 +11,5 @@ invariant-loop-p g l = record {
   keeps : Represents (classes_of l.para) l.base (open_before (classes_of l.para) l.p) l.open;
   filled : (k : ℕ) → k < l.p → get_or l.places k None ≡ explicit_at (classes_of l.para) l.base k;
   least : l.fn.steps + l.p ≤ l.steps;
-  most : l.steps + size_of l.open ≤ l.fn.steps + 1 + 2 * l.p;
+  most : l.steps + size_of l.open ≤ l.fn.steps + (2 * l.p + 1);
 }
