@@ -26,7 +26,7 @@ no_closer_from ps (Some c) e = absurd cc
 pub record IsPaired (embedding sos : Class) (ps : List ℕ) (before : List Class) (closer : ℕ → Option ℕ) (start now : List Class) (context : Class) (k from steps : ℕ) : Type 0 where
   pub resolved : IsResolvedTo embedding sos before closer (classes_at start ps) (classes_at now ps) context k
   pub others : KeepsOthers ps start now
-  pub at_least : from ≤ steps
+  pub at_least : from + k ≤ steps
   pub at_most : steps ≤ from + k + sum_below (λ o. cost_of_pair before o (closer o)) k
 
 pub paired_start : (embedding sos : Class) (ps : List ℕ) (before : List Class) (closer : ℕ → Option ℕ) (start : List Class) (context : Class) (from : ℕ) → context ≡ sos →
@@ -63,7 +63,7 @@ module _ {embedding sos : Class} {ps : List ℕ} {before : List Class} {closer :
 
   -- a pair begins here
   pub paired_some : (c : ℕ) → closer k ≡ Some c → k < c → (new : List Class) → Rewrites (by_pair before embedding context k c) ps now new →
-      (later : ℕ) → steps ≤ later → later ≤ steps + 1 + cost_of_pair before k (Some c) →
+      (later : ℕ) → steps + 1 ≤ later → later ≤ steps + 1 + cost_of_pair before k (Some c) →
       nearer ≡ (if is_some (strong_as (class_at new (slice_index ps k))) then class_at new (slice_index ps k) else context) →
       IsPaired embedding sos ps before closer start new nearer (k + 1) from later
   paired_some c some order new rewrites later least most near = record {

@@ -75,8 +75,7 @@ pub fn implicit<L: Ledger>(
     requires classes { length classes.now ≡ s.now.extent }
     requires levels { length levels.old ≡ s.now.extent }
     ensures levels { Raises s.now.level classes.now s.now.positions levels.old levels.new }
-    ensures at_least { steps.old + length s.now.positions ≤ steps.new }
-    ensures at_most { steps.new ≤ steps.old + 30 * length s.now.positions }
+    ensures steps { steps.new ≡ steps.old + length s.now.positions }
 {
     raise(s.as_slice(), s.level(), classes, levels, steps);
 }

@@ -207,8 +207,8 @@ pub fn paired<L: Ledger>(
     requires filled { IsFilledFor s.now.positions before.now classes.old pairs.now }
     ensures classes { (para : List BidiUnit) → HoldsPairs s.now.positions para classes.old pairs.now
         → Rewrites (after_brackets s.now para (classes_at before.now s.now.positions)) s.now.positions classes.old classes.new }
-    ensures at_least { steps.old ≤ steps.new }
-    ensures at_most { steps.new ≤ steps.old + 150 * length s.now.positions }
+    ensures at_least { steps.old + length s.now.positions ≤ steps.new }
+    ensures at_most { steps.new ≤ steps.old + 68 * length s.now.positions }
 {
     let positions = s.as_slice();
     let embedding = s.level().direction();

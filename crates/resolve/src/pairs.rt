@@ -142,7 +142,7 @@ pub fn bracket_pairs<L: Ledger>(
     ensures others { KeepsOtherClosers s.now.positions out.old out.new }
     ensures room { length out.new ≡ length out.old }
     ensures at_least { steps.old + length s.now.positions ≤ steps.new }
-    ensures at_most { steps.new ≤ steps.old + 100 * length s.now.positions }
+    ensures at_most { steps.new ≤ steps.old + 65 * length s.now.positions }
 {
     find_closers(
         s.as_slice(),

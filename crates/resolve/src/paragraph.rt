@@ -104,7 +104,7 @@ fn resolve_each<L: Ledger>(
     ensures levels { HasLevelsBy para.now before.now sequences.now.all levels.new }
     ensures room { length pairs.new ≡ length pairs.old }
     ensures at_least { steps.old ≤ steps.new }
-    ensures at_most { steps.new ≤ steps.old + 341 * length para.now }
+    ensures at_most { steps.new ≤ steps.old + 145 * length para.now }
 {
     for k in 0..sequences.count() {
         steps.tick();
@@ -134,7 +134,7 @@ fn resolve_found<L: Ledger>(
     ensures levels { HasLevelsBy para.now (current_of (take (length para.now) explicit.now)) sequences.now.all levels.new }
     ensures room { length pairs.new ≡ length pairs.old }
     ensures at_least { steps.old + length para.now ≤ steps.new }
-    ensures at_most { steps.new ≤ steps.old + 342 * length para.now }
+    ensures at_most { steps.new ≤ steps.old + 146 * length para.now }
 {
     let before = &mut before[..para.len()];
     let classes = &mut classes[..para.len()];
@@ -183,8 +183,8 @@ impl Resolver {
         ensures level { level_of_para result ≡ para_level_of (classes_of para.now) direction }
         ensures levels { levels.new ≡ resolved_levels para.now (para_level_of (classes_of para.now) direction) }
         ensures room { self.new ≡ self.old }
-        ensures at_least { steps.old + 4 * length para.now ≤ steps.new }
-        ensures at_most { steps.new ≤ steps.old + 402 * length para.now + 60 }
+        ensures at_least { steps.old + 5 * length para.now ≤ steps.new }
+        ensures at_most { steps.new ≤ steps.old + 170 * length para.now + 21 }
     {
         self.isolates.fill(para, steps);
         let level = para_level(para, &self.isolates, direction, steps);
@@ -221,7 +221,7 @@ impl Resolver {
         ensures levels { levels.new ≡ resolved_levels para.now (para_level_of (classes_of para.now) direction) }
         ensures room { self.new ≡ self.old }
         ensures at_least { steps.old + 2 * length para.now ≤ steps.new }
-        ensures at_most { steps.new ≤ steps.old + 403 * length para.now + 60 }
+        ensures at_most { steps.new ≤ steps.old + 171 * length para.now + 21 }
     {
         let contents = Contents::of(para, steps);
         let level = contents.para_level(direction);

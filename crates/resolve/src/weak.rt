@@ -135,8 +135,8 @@ fn latin_numbers<L: Ledger>(
 pub fn weak<L: Ledger>(s: &Sequence, classes: &mut [Class], steps: &mut Steps<L>)
     requires { length classes.old ≡ s.now.extent }
     ensures classes { Rewrites (after_weak s.now.sos) s.now.positions classes.old classes.new }
-    ensures at_least { steps.old + length s.now.positions ≤ steps.new }
-    ensures at_most { steps.new ≤ steps.old + 30 * length s.now.positions }
+    ensures at_least { steps.old + 7 * length s.now.positions ≤ steps.new }
+    ensures at_most { steps.new ≤ steps.old + 8 * length s.now.positions }
 {
     let positions = s.as_slice();
     let sos = s.sos();

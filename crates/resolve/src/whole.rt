@@ -46,8 +46,8 @@ pub fn resolve_sequence<L: Ledger>(
     ensures pairs { HoldsPairsOf s.now.positions (acting_brackets (units_at para.now s.now.positions) (after_weak s.now.sos (classes_at before.now s.now.positions))) pairs.new }
     ensures other_pairs { KeepsOtherClosers s.now.positions pairs.old pairs.new }
     ensures room { length pairs.new ≡ length pairs.old }
-    ensures at_least { steps.old + 4 * length s.now.positions ≤ steps.new }
-    ensures at_most { steps.new ≤ steps.old + 340 * length s.now.positions }
+    ensures at_least { steps.old + 11 * length s.now.positions ≤ steps.new }
+    ensures at_most { steps.new ≤ steps.old + 144 * length s.now.positions }
 {
     weak(s, classes, steps);
     bracket_pairs(s, para, classes, pairs, steps);

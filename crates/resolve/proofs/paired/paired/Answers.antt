@@ -78,7 +78,8 @@ pub returns-clause-at_least : goal.returns-clause-at_least
 returns-clause-at_least g c =
     let P : List ℕ → Type 0 = λ qs. HoldsPairs qs c.requires.filled.units c.args.classes.now c.args.pairs.now in
     let holds : P c.as_slice-positions.result.now = subst P (sym c.as_slice-positions.ensures.value) c.requires.filled.pairs in
-    (c.loop-k.invariant c.requires.filled.units holds).at_least
+    let same : length c.as_slice-positions.result.now ≡ length c.args.s.now.positions = ap length c.as_slice-positions.ensures.value in
+    omega (arith, same, (c.loop-k.invariant c.requires.filled.units holds).at_least)
 
 pub returns-clause-at_most : goal.returns-clause-at_most
 returns-clause-at_most g c =
