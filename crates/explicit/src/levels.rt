@@ -81,27 +81,27 @@ fn find_places<L: Ledger>(
     para: &[Unit],
     map: &IsolateMap,
     base: Level,
-    open: &mut StatusStack,
+    stack: &mut StatusStack,
     places: &mut [Option<(Level, Class)>],
     steps: &mut Steps<L>,
 )
     requires base { base ≤ 1 }
     requires room { length para.now ≤ length places.old }
     requires filled { IsFilledFrom map.now (classes_of para.now) }
-    requires empty { size_of open.old ≡ 0 }
+    requires empty { size_of stack.old ≡ 0 }
     ensures found { HoldsLevels places.new (classes_of para.now) base }
-    ensures empty { size_of open.new ≡ 0 }
+    ensures empty { size_of stack.new ≡ 0 }
     ensures least_steps { steps.old + length para.now ≤ steps.new }
     ensures most_steps { steps.new ≤ steps.old + (2 * length para.now + 1) }
 {
-    open.begin(base);
+    stack.begin(base);
     for (p, unit) in para.iter().enumerate() {
         steps.tick();
-        open.close(unit.class, steps);
-        places[p] = open.place(unit.class, base);
-        open.open(unit.class, asks_odd(unit.class, map.is_right_to_left(p)));
+        stack.close(unit.class, steps);
+        places[p] = stack.place(unit.class, base);
+        stack.open(unit.class, asks_odd(unit.class, map.is_right_to_left(p)));
     }
-    open.clear(steps);
+    stack.clear(steps);
 }
 
 /// X1 to X9: finds the explicit levels and current classes of a paragraph of this level, for which `out` has room and
