@@ -1,10 +1,10 @@
 -- The column of the positions of all sequences, and the heads that tell where each begins and ends in it.
-use Rattle.std.specs.Prelude.{Option, Some, None, ℕ, zero, suc, true, false, ◌+◌, ◌-◌, ◌<◌, ◌≤◌, ◌≡◌, List, [], ◌∷◌, ◌++◌, length, map, filter, IfSome, All, unwrap_or, slice_range, refl}
+use Rattle.std.specs.Prelude.{Option, Some, None, ℕ, zero, suc, true, false, ◌+◌, ◌-◌, ◌<◌, ◌≤◌, ◌≡◌, List, [], ◌∷◌, ◌++◌, length, map, filter, IfSome, All, unwrap_or, slice_range, sum_by, refl}
 use Rattle.std.specs.List.{flat_map}
-use Rattle.std.proofs.Common.{arith, ap, sym, ◌∙◌, subst, inl, inr, take, append_assoc}
+use Rattle.std.proofs.Common.{arith, ap, sym, ◌∙◌, subst, inl, inr, take, drop, append_assoc}
 use Rattle.std.proofs.Math.Seq.{drop-append_seam}
 use Rattle.std.proofs.lemmas.Bool.{cases_Bool, cond-true, cond-false}
-use Rattle.std.proofs.lemmas.List.{append-nil, length-append, take_at}
+use Rattle.std.proofs.lemmas.List.{append-nil, length-append, take_at, take-append-drop}
 use Rattle.std.proofs.lemmas.List.Elements.{filter-append, All-nil, All-cons}
 use Rattle.std.proofs.lemmas.List.Concat.{flat_map-append}
 use Rattle.units.specs.Positions.{positions_from}
@@ -59,10 +59,14 @@ heads_push t k b =
 pub heads_same : (t : LeveledView) (k : ℕ) → begins_sequence t k ≡ false → heads_from t 0 (firsts_before t (k + 1)) ≡ heads_from t 0 (firsts_before t k)
 heads_same t k b = ap (heads_from t 0) (firsts_same t k b)
 
+-- the column has as many positions as the sequences together
+pub length-column : (t : LeveledView) → length (column_of t) ≡ sum_by (λ (s : SequenceView). length s.positions) (sequences_of t)
+length-column t = sym (ap length (flat_views t (firsts_before t (size_of t)))) ∙ length-flat (sequences_of t)
+
 -- the column has room for all positions
 pub column_fits : (t : LeveledView) → IsLeveled t → IsNested t → length (column_of t) ≤ size_of t
 column_fits t h n =
-    omega (arith, sequences_fit t h n, length-flat (sequences_of t), ap length (flat_views t (firsts_before t (size_of t))))
+    omega (arith, sequences_fit t h n, length-column t)
 
 column_grows : (t : LeveledView) (k n : ℕ) → length (column_before t k) ≤ length (column_before t (k + n))
 column_grows t k zero = let e : k ≡ k + 0 = omega arith in omega (arith, ap (λ j. length (column_before t j)) e)
@@ -99,29 +103,49 @@ slice_here before here after =
     ap (take (length before + length here - length before)) (drop-append_seam before (here ++ after))
     ∙ take_at here after (length before + length here - length before) (sym n)
 
--- the column from here on
-abbrev rest_of : LeveledView → List ℕ → List ℕ
-rest_of t ps = flat_map (sequence_from t) ps
+-- the column from here on, with what lies behind the part that is in use
+abbrev rest_of : LeveledView → List ℕ → List ℕ → List ℕ
+rest_of t spare [] = spare
+rest_of t spare (p ∷ ps) = sequence_from t p ++ rest_of t spare ps
 
-views_are : (t : LeveledView) (before : List ℕ) (start : ℕ) → start ≡ length before → (ps : List ℕ) →
-    map (view_of (before ++ rest_of t ps) (size_of t)) (heads_from t start ps) ≡ map (sequence_at t) ps
-views_are t before start s [] = refl
-views_are t before start s (p ∷ ps) =
-    let column : List ℕ = before ++ rest_of t (p ∷ ps) in
+rest_is : (t : LeveledView) (spare ps : List ℕ) → rest_of t spare ps ≡ flat_map (sequence_from t) ps ++ spare
+rest_is t spare [] = refl
+rest_is t spare (p ∷ ps) =
+    ap (λ (qs : List ℕ). sequence_from t p ++ qs) (rest_is t spare ps)
+    ∙ sym (append_assoc (sequence_from t p) (flat_map (sequence_from t) ps) spare)
+
+views_are : (t : LeveledView) (spare before : List ℕ) (start : ℕ) → start ≡ length before → (ps : List ℕ) →
+    map (view_of (before ++ rest_of t spare ps) (size_of t)) (heads_from t start ps) ≡ map (sequence_at t) ps
+views_are t spare before start s [] = refl
+views_are t spare before start s (p ∷ ps) =
+    let column : List ℕ = before ++ rest_of t spare (p ∷ ps) in
     let n : ℕ = length (sequence_from t p) in
     let positions : slice_range column start (start + n) ≡ sequence_from t p =
-    ap (λ k. slice_range column k (k + n)) s ∙ slice_here before (sequence_from t p) (rest_of t ps) in
+    ap (λ k. slice_range column k (k + n)) s ∙ slice_here before (sequence_from t p) (rest_of t spare ps) in
     let first : view_of column (size_of t) (head_at t p start) ≡ sequence_at t p =
     ap (λ (qs : List ℕ). let v : SequenceView = record { positions = qs; level = (sequence_at t p).level; sos = (sequence_at t p).sos; eos = (sequence_at t p).eos; extent = size_of t } in v) positions in
-    let moved : (before ++ sequence_from t p) ++ rest_of t ps ≡ column = append_assoc before (sequence_from t p) (rest_of t ps) in
+    let moved : (before ++ sequence_from t p) ++ rest_of t spare ps ≡ column = append_assoc before (sequence_from t p) (rest_of t spare ps) in
     let rest : map (view_of column (size_of t)) (heads_from t (start + n) ps) ≡ map (sequence_at t) ps =
     ap (λ (qs : List ℕ). map (view_of qs (size_of t)) (heads_from t (start + n) ps)) (sym moved)
-    ∙ views_are t (before ++ sequence_from t p) (start + n) (omega (arith, s, length-append before (sequence_from t p))) ps in
+    ∙ views_are t spare (before ++ sequence_from t p) (start + n) (omega (arith, s, length-append before (sequence_from t p))) ps in
     cc
 
+-- the positions of all sequences stand at the front of the column
+abbrev pub IsInFront : LeveledView → List ℕ → Type 0
+IsInFront t column = take (length (column_of t)) column ≡ column_of t
+
+column_is : (t : LeveledView) (column : List ℕ) → IsInFront t column →
+    rest_of t (drop (length (column_of t)) column) (firsts_before t (size_of t)) ≡ column
+column_is t column front =
+    let spare : List ℕ = drop (length (column_of t)) column in
+    rest_is t spare (firsts_before t (size_of t)) ∙ ap (λ (ps : List ℕ). ps ++ spare) (sym front) ∙ take-append-drop (length (column_of t)) column
+
 -- the heads over the column are the sequences
-pub views_of_heads : (t : LeveledView) → map (view_of (column_of t) (size_of t)) (heads_of t) ≡ sequences_of t
-views_of_heads t = views_are t [] 0 refl (firsts_before t (size_of t))
+pub views_of_heads : (t : LeveledView) (column : List ℕ) → IsInFront t column → map (view_of column (size_of t)) (heads_of t) ≡ sequences_of t
+views_of_heads t column front =
+    let spare : List ℕ = drop (length (column_of t)) column in
+    ap (λ (ps : List ℕ). map (view_of ps (size_of t)) (heads_of t)) (sym (column_is t column front))
+    ∙ views_are t spare [] 0 refl (firsts_before t (size_of t))
 
 level_within : (o : Option ℕ) (base : ℕ) → IfSome o (λ l. l ≤ 125) → base ≤ 1 → unwrap_or o base ≤ 125
 level_within None base h b = omega (arith, b)
@@ -144,28 +168,31 @@ module _ (t : LeveledView) (h : IsLeveled t) (links : List (Option ℕ)) (fit : 
         chain = subst Q (sym e) chain;
       }
 
-  headed : (a n : ℕ) → a + n ≤ size_of t → (before : List ℕ) (start : ℕ) → start ≡ length before →
-      All (IsHead (before ++ rest_of t (filter (begins_sequence t) (positions_from a n))) links) (heads_from t start (filter (begins_sequence t) (positions_from a n)))
-  headed a zero l before start s = All-nil (IsHead (before ++ []) links)
-  headed a (suc n) l before start s =
+  headed : (spare : List ℕ) (a n : ℕ) → a + n ≤ size_of t → (before : List ℕ) (start : ℕ) → start ≡ length before →
+      All (IsHead (before ++ rest_of t spare (filter (begins_sequence t) (positions_from a n))) links) (heads_from t start (filter (begins_sequence t) (positions_from a n)))
+  headed spare a zero l before start s = All-nil (IsHead (before ++ spare) links)
+  headed spare a (suc n) l before start s =
       let later : List ℕ = filter (begins_sequence t) (positions_from (a + 1) n) in
-      let P : List ℕ → Type 0 = λ ps. All (IsHead (before ++ rest_of t ps) links) (heads_from t start ps) in
+      let P : List ℕ → Type 0 = λ ps. All (IsHead (before ++ rest_of t spare ps) links) (heads_from t start ps) in
       elim (cases_Bool (begins_sequence t a)) [
         | inl b ↦
-            let column : List ℕ = before ++ rest_of t (a ∷ later) in
+            let column : List ℕ = before ++ rest_of t spare (a ∷ later) in
             let m : ℕ = length (sequence_from t a) in
-            let moved : (before ++ sequence_from t a) ++ rest_of t later ≡ column = append_assoc before (sequence_from t a) (rest_of t later) in
+            let moved : (before ++ sequence_from t a) ++ rest_of t spare later ≡ column = append_assoc before (sequence_from t a) (rest_of t spare later) in
             let Q : List ℕ → Type 0 = λ qs. All (IsHead qs links) (heads_from t (start + m) later) in
-            let rest : Q column = subst Q moved (headed (a + 1) n (omega arith) (before ++ sequence_from t a) (start + m) (omega (arith, s, length-append before (sequence_from t a)))) in
+            let rest : Q column = subst Q moved (headed spare (a + 1) n (omega arith) (before ++ sequence_from t a) (start + m) (omega (arith, s, length-append before (sequence_from t a)))) in
             let positions : slice_range column start (start + m) ≡ sequence_from t a =
-            ap (λ k. slice_range column k (k + m)) s ∙ slice_here before (sequence_from t a) (rest_of t later) in
+            ap (λ k. slice_range column k (k + m)) s ∙ slice_here before (sequence_from t a) (rest_of t spare later) in
             let room : start + m ≤ length column =
-            omega (arith, s, length-append before (rest_of t (a ∷ later)), length-append (sequence_from t a) (rest_of t later)) in
+            omega (arith, s, length-append before (rest_of t spare (a ∷ later)), length-append (sequence_from t a) (rest_of t spare later)) in
             subst P (sym (cond-true (begins_sequence t a) (a ∷ later) later b))
             (All-cons (IsHead column links) (head_at t a start) (heads_from t (start + m) later) (stands column a start (omega arith) room positions) rest)
-        | inr f ↦ subst P (sym (cond-false (begins_sequence t a) (a ∷ later) later f)) (headed (a + 1) n (omega arith) before start s)
+        | inr f ↦ subst P (sym (cond-false (begins_sequence t a) (a ∷ later) later f)) (headed spare (a + 1) n (omega arith) before start s)
       ]
 
   -- each head stands over the column and the links
-  pub heads_stand : All (IsHead (column_of t) links) (heads_of t)
-  heads_stand = headed 0 (size_of t) (omega arith) [] 0 refl
+  pub heads_stand : (column : List ℕ) → IsInFront t column → All (IsHead column links) (heads_of t)
+  heads_stand column front =
+      let spare : List ℕ = drop (length (column_of t)) column in
+      let P : List ℕ → Type 0 = λ ps. All (IsHead ps links) (heads_of t) in
+      subst P (column_is t column front) (headed spare 0 (size_of t) (omega arith) [] 0 refl)

@@ -1,9 +1,9 @@
 -- The heads and the column, filled from the first position on.
 use Rattle.std.specs.Prelude.{Option, Some, ℕ, suc, true, false, ◌+◌, ◌<◌, ◌≤◌, ◌≡◌, List, [], ◌∷◌, ◌++◌, length, IfSome, if◌then◌else◌}
-use Rattle.std.proofs.Common.{arith, ap, sym, ◌∙◌}
+use Rattle.std.proofs.Common.{arith, ap, sym, take, ◌∙◌}
 use Rattle.std.proofs.lemmas.Bool.{cond-true, cond-false}
 use Rattle.std.proofs.lemmas.Option.{IfSome_then}
-use Rattle.std.proofs.lemmas.List.{length_push}
+use Rattle.std.proofs.lemmas.List.{length_push, length-take-le}
 use Rattle.units.specs.Runs.{LeveledView, IsLeveled, size_of, remains, last_remaining, begins_sequence, sequence_from}
 use Rattle.sequences.specs.declared.heads.Head.{Head}
 use Rattle.sequences.specs.Heads.{head_at, heads_from, firsts_before, column_before}
@@ -45,6 +45,17 @@ module _ {t : LeveledView} {k : ℕ} {heads : List Head} {column : List ℕ} (w 
         few = omega (arith, ap length n, w.few);
         column_is = m ∙ w.column_is ∙ sym (column_same t k b);
       }
+
+-- what is stored at the fronts of two columns
+module _ (t : LeveledView) (k count end : ℕ) (heads : List Head) (column : List ℕ) (w : Stored t k (take count heads) (take end column)) (c : count ≤ length heads) (e : end ≤ length column) where
+  pub stored_count : count ≡ length (heads_from t 0 (firsts_before t k))
+  stored_count = sym (length-take-le count heads c) ∙ ap length w.heads_are
+
+  pub stored_few : count ≤ k
+  stored_few = omega (arith, w.few, length-take-le count heads c)
+
+  pub stored_end : end ≡ length (column_before t k)
+  stored_end = sym (length-take-le end column e) ∙ ap length w.column_is
 
 module _ {t : LeveledView} {k : ℕ} {heads : List Head} {column : List ℕ} {last : Option ℕ} (w : HeadWalk t k heads column last)
     {new : List Head} {more : List ℕ} (d : Stored t (k + 1) new more) where

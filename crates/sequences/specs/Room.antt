@@ -4,12 +4,13 @@ use Rattle.units.specs.declared.class.Class.{Class}
 use Rattle.sequences.specs.declared.heads.Head.{Head}
 use Rattle.sequences.specs.Heads.{IsHead}
 
--- the columns have room for as many positions, of which the first are in use
-pub record HasRoom (links : List (Option ℕ)) (ends : List Class) (joined : List Bool) (heads : List Head) (heads_room : ℕ) (column : List ℕ) (column_room size : ℕ) : Type 0 where
+-- the columns have room for as many positions, of which the first are in use, and so are the first heads
+pub record HasRoom (links : List (Option ℕ)) (ends : List Class) (joined : List Bool) (heads : List Head) (column : List ℕ) (count size : ℕ) : Type 0 where
   pub small : length links < 4294967295
   pub ends_fit : length ends ≡ length links
   pub joined_fit : length joined ≡ length links
-  pub heads_fit : length links ≤ heads_room
-  pub column_fit : length links ≤ column_room
+  pub heads_fit : length heads ≡ length links
+  pub column_fit : length column ≡ length links
   pub in_use : size ≤ length links
-  pub headed : All (IsHead column (take size links)) heads
+  pub counted : count ≤ length heads
+  pub headed : All (IsHead column (take size links)) (take count heads)

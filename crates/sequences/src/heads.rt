@@ -1,4 +1,4 @@
-ghost use Rattle.std.specs.Prelude.{◌≡◌, ◌≤◌, ℕ, ◌+◌, ◌++◌, ◌<◌, IfSome, Some, length, vec_capacity};
+ghost use Rattle.std.specs.Prelude.{◌≡◌, ◌≤◌, ℕ, ◌+◌, ◌++◌, ◌<◌, IfSome, Some, length, take};
 ghost use Rattle.std.specs.List.{list_any};
 ghost use Rattle.units.specs.Positions.{is_same, positions_from};
 ghost use Rattle.units.specs.Classes.{class_at};
@@ -50,27 +50,31 @@ fn begins(t: &Leveled, joined: &[bool], p: usize) -> bool
     t.level(p).is_some() && !joined[p]
 }
 
-/// Appends the position that is given, and what its links lead to.
-fn push_linked<L: Ledger>(
+/// Writes the position that is given, and what its links lead to, into the column from `start` on. Answers where they end.
+fn write_linked<L: Ledger>(
     links: &[OptionalPosition],
     first: usize,
-    column: &mut Vec<u32>,
+    column: &mut [u32],
+    start: usize,
     steps: &mut Steps<L>,
-)
+) -> usize
     requires small { length links.now < u32.MAX }
     requires linked { IsLinked links.now }
     requires first { first < length links.now }
-    requires room { length column.old.items + length (linked links.now (Some first)) ≤ vec_capacity column.old }
-    ensures column { column.new.items ≡ column.old.items ++ linked links.now (Some first) }
-    ensures capacity { vec_capacity column.new ≡ vec_capacity column.old }
+    requires room { start + length (linked links.now (Some first)) ≤ length column.old }
+    ensures column { take result column.new ≡ take start column.old ++ linked links.now (Some first) }
+    ensures end { result ≡ start + length (linked links.now (Some first)) }
     ensures steps { steps.new ≡ steps.old + length (linked links.now (Some first)) }
 {
+    let mut end = start;
     let mut at = Some(first);
     while let Some(p) = at {
         steps.tick();
-        column.push_reserved(p as u32);
+        column[end] = p as u32;
+        end += 1;
         at = links[p].get();
     }
+    end
 }
 
 /// What is stored of the sequence that begins at `p`, whose positions stand in the column from `start` up to `end`.
@@ -102,16 +106,17 @@ fn make_head(
     }
 }
 
-/// Stores the heads of the sequences in the order of their first positions, and the positions of each in one column.
+/// Writes the heads of the sequences in the order of their first positions, and the positions of each in one column, both
+/// from the front on. Answers how many sequences there are.
 pub fn fill_heads<L: Ledger>(
     t: &Leveled,
     links: &[OptionalPosition],
     ends: &[Class],
     joined: &[bool],
-    heads: &mut Vec<Head>,
-    column: &mut Vec<u32>,
+    heads: &mut [Head],
+    column: &mut [u32],
     steps: &mut Steps<L>,
-)
+) -> usize
     requires small { size_of t.now < u32.MAX }
     requires links_fit { length links.now ≡ size_of t.now }
     requires links { AreSuccessors t.now links.now }
@@ -119,26 +124,27 @@ pub fn fill_heads<L: Ledger>(
     requires ends { HasEnds t.now ends.now }
     requires joined_fit { size_of t.now ≤ length joined.now }
     requires joined { IsMarked t.now joined.now }
-    requires heads_room { size_of t.now ≤ vec_capacity heads.old }
-    requires column_room { size_of t.now ≤ vec_capacity column.old }
-    ensures heads { heads.new.items ≡ heads_of t.now }
-    ensures column { column.new.items ≡ column_of t.now }
-    ensures heads_capacity { vec_capacity heads.new ≡ vec_capacity heads.old }
-    ensures column_capacity { vec_capacity column.new ≡ vec_capacity column.old }
+    requires heads_room { size_of t.now ≤ length heads.old }
+    requires column_room { size_of t.now ≤ length column.old }
+    ensures count { result ≡ length (heads_of t.now) }
+    ensures heads { take result heads.new ≡ heads_of t.now }
+    ensures column { take (length (column_of t.now)) column.new ≡ column_of t.now }
     ensures steps { steps.new ≡ steps.old + size_of t.now + length (column_of t.now) }
 {
-    heads.clear();
-    column.clear();
+    let mut count = 0;
+    let mut end = 0;
     let mut last = None;
     for p in 0..t.len() {
         steps.tick();
         if begins(t, joined, p) {
-            let start = column.len();
-            push_linked(links, p, column, steps);
-            heads.push_reserved(make_head(t, ends, last, p, start, column.len()));
+            let start = end;
+            end = write_linked(links, p, column, start, steps);
+            heads[count] = make_head(t, ends, last, p, start, end);
+            count += 1;
         }
         if t.level(p).is_some() {
             last = Some(p);
         }
     }
+    count
 }

@@ -1,4 +1,4 @@
-ghost use Rattle.std.specs.Prelude.{◌≡◌, ℕ, ◌+◌, ◌*◌, ◌<◌, ◌≤◌, [], Some, map, take, length, slice_get, vec_len, vec_capacity, IfOk, sum_by};
+ghost use Rattle.std.specs.Prelude.{◌≡◌, ℕ, ◌+◌, ◌*◌, ◌<◌, ◌≤◌, [], Some, map, take, length, slice_get, vec_len, IfOk, sum_by};
 ghost use Rattle.units.specs.Classes.{classes_of};
 ghost use Rattle.units.specs.Isolates.{level_of_para};
 ghost use Rattle.units.specs.Paragraphs.{SeparatorOnlyLast};
@@ -28,7 +28,8 @@ use units::optional_position::OptionalPosition;
 use units::steps::Steps;
 
 /// The isolating run sequences of a paragraph (BD13), in the order of their first positions, in room that is made once:
-/// four bytes a position for links, four for the column of positions, twelve for heads, two more for ends and marks.
+/// four bytes a position for links, four for the column of positions, twelve for heads, two more for ends and marks. The first
+/// `count` heads are in use, and so are the first `size` of what is kept for each position.
 #[derive(Drop)]
 pub struct Sequences {
     links: Vec<OptionalPosition>,
@@ -36,38 +37,38 @@ pub struct Sequences {
     joined: Vec<bool>,
     heads: Vec<Head>,
     column: Vec<u32>,
+    count: usize,
     size: usize,
 }
 
 impl Model for Sequences {
     ghost Value = { SequencesView };
 
-    ghost view = { λ s. record { all = map (view_of s.column.items s.size) s.heads.items; extent = s.size; room = vec_len s.links } };
+    ghost view = { λ s. record { all = map (view_of s.column.items s.size) (take s.count s.heads.items); extent = s.size; room = vec_len s.links } };
 
-    ghost invariant = { λ s. HasRoom s.links.items s.ends.items s.joined.items s.heads.items (vec_capacity s.heads) s.column.items (vec_capacity s.column) s.size };
+    ghost invariant = { λ s. HasRoom s.links.items s.ends.items s.joined.items s.heads.items s.column.items s.count s.size };
 }
 
-/// Fills the columns, of which the paragraph takes the fronts.
+/// Fills the columns, of which the paragraph takes the fronts. Answers how many sequences there are.
 fn fill_columns<L: Ledger>(
     t: &Leveled,
     links: &mut [OptionalPosition],
     ends: &mut [Class],
     joined: &mut [bool],
-    heads: &mut Vec<Head>,
-    column: &mut Vec<u32>,
+    heads: &mut [Head],
+    column: &mut [u32],
     steps: &mut Steps<L>,
-)
+) -> usize
     requires small { size_of t.now < u32.MAX }
     requires links { size_of t.now ≤ length links.old }
     requires ends { size_of t.now ≤ length ends.old }
     requires joined { size_of t.now ≤ length joined.old }
-    requires heads { size_of t.now ≤ vec_capacity heads.old }
-    requires column { size_of t.now ≤ vec_capacity column.old }
+    requires heads { size_of t.now ≤ length heads.old }
+    requires column { size_of t.now ≤ length column.old }
+    ensures count { result ≡ length (heads_of t.now) }
     ensures links { AreSuccessors t.now (take (size_of t.now) links.new) }
-    ensures heads { heads.new.items ≡ heads_of t.now }
-    ensures column { column.new.items ≡ column_of t.now }
-    ensures heads_capacity { vec_capacity heads.new ≡ vec_capacity heads.old }
-    ensures column_capacity { vec_capacity column.new ≡ vec_capacity column.old }
+    ensures heads { take result heads.new ≡ heads_of t.now }
+    ensures column { take (length (column_of t.now)) column.new ≡ column_of t.now }
     ensures steps { steps.new ≡ steps.old + 4 * size_of t.now + length (column_of t.now) }
 {
     let size = t.len();
@@ -75,7 +76,7 @@ fn fill_columns<L: Ledger>(
     let joined = &mut joined[..size];
     link(t, links, ends, steps);
     mark(links, joined, steps);
-    fill_heads(t, links, ends, joined, heads, column, steps);
+    fill_heads(t, links, ends, joined, heads, column, steps)
 }
 
 impl Sequences {
@@ -87,12 +88,20 @@ impl Sequences {
         if n >= u32::MAX as usize {
             return Err(Memory);
         }
+        let unused = Head {
+            start: 0,
+            end: 0,
+            level: ParaLevel::Zero.level(),
+            sos: Class::L,
+            eos: Class::L,
+        };
         Ok(Sequences {
             links: vec![in alloc; OptionalPosition::none(); n]?,
             ends: vec![in alloc; Class::L; n]?,
             joined: vec![in alloc; false; n]?,
-            heads: Vec::with_capacity(alloc, n)?,
-            column: Vec::with_capacity(alloc, n)?,
+            heads: vec![in alloc; unused; n]?,
+            column: vec![in alloc; 0; n]?,
+            count: 0,
             size: 0,
         })
     }
@@ -105,10 +114,9 @@ impl Sequences {
         ensures room { self.new.room ≡ self.old.room }
         ensures once { HoldsOnce t.now self.new.all }
         ensures fit { sum_by (λ s. length s.positions) self.new.all ≤ size_of t.now }
-        ensures at_least { steps.old + size_of t.now ≤ steps.new }
-        ensures at_most { steps.new ≤ steps.old + 20 * (size_of t.now + 1) }
+        ensures steps { steps.new ≡ steps.old + 4 * size_of t.now + sum_by (λ s. length s.positions) self.new.all }
     {
-        fill_columns(
+        self.count = fill_columns(
             t,
             &mut self.links,
             &mut self.ends,
@@ -139,8 +147,7 @@ impl Sequences {
         ensures room { self.new.room ≡ self.old.room }
         ensures once { HoldsOnce (leveled_of (classes_of para.now) (level_of_para level)) self.new.all }
         ensures fit { sum_by (λ s. length s.positions) self.new.all ≤ length para.now }
-        ensures at_least { steps.old + length para.now ≤ steps.new }
-        ensures at_most { steps.new ≤ steps.old + 20 * (length para.now + 1) }
+        ensures steps { steps.new ≡ steps.old + 4 * length para.now + sum_by (λ s. length s.positions) self.new.all }
     {
         self.fill_from(&Leveled::new(para, isolates, explicit, level), steps);
     }
@@ -149,7 +156,7 @@ impl Sequences {
     pub fn count(&self) -> usize
         ensures { result ≡ length self.now.all }
     {
-        self.heads.len()
+        self.count
     }
 
     /// The sequence with this number, counted from 0 in the order of first positions.

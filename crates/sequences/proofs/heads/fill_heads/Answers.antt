@@ -1,22 +1,24 @@
-use Rattle.std.proofs.Common.{arith, rules, ap, ◌≡◌, ◌+◌, ◌∙◌, ◌++◌, refl, length, Some, vec_capacity}
-use Rattle.std.proofs.lemmas.List.{length-append}
-use Rattle.sequences.specs.Links.{linked}
+use Rattle.std.proofs.Common.{arith, rules, ap, sym, subst, ◌≡◌, ℕ, List, ◌+◌, ◌≤◌, ◌∙◌, ◌++◌, refl, length, take}
+use Rattle.std.proofs.lemmas.List.{length-take-le, take_more_set}
+use Rattle.units.specs.Runs.{size_of}
+use Rattle.sequences.specs.Heads.{column_of}
 use Rattle.sequences.proofs.Filled.{links_lead_on, linked_is}
-use Rattle.sequences.proofs.HeadWalks.{Stored, stored_room, stored_push, stored_same, head_walk_here, head_walk_same}
+use Rattle.sequences.proofs.HeadWalks.{Stored, stored_room, stored_push, stored_same, stored_count, stored_few, stored_end, head_walk_here, head_walk_same}
 use Rattle.sequences.proofs.heads.fill_heads.Goals as goal
 use Rattle.sequences.proofs.heads.fill_heads.Goals.{then-begins, else-begins, then-is_some, else-is_some}
 
-pub push_linked-requires-clause-linked : goal.push_linked-requires-clause-linked
-push_linked-requires-clause-linked g c =
+pub write_linked-end-requires-clause-linked : goal.write_linked-end-requires-clause-linked
+write_linked-end-requires-clause-linked g c =
     links_lead_on c.args.t.now c.args.links.now c.requires.links_fit c.requires.links c.len-p-end.ensures.leveled
 
-pub push_linked-requires-clause-room : goal.push_linked-requires-clause-room
-push_linked-requires-clause-room g c =
+pub write_linked-end-requires-clause-room : goal.write_linked-end-requires-clause-room
+write_linked-end-requires-clause-room g c =
     let walk = linked_is c.args.t.now c.args.links.now c.requires.links_fit c.requires.links c.loop-p.p in
     omega (
       arith,
       ap length walk,
-      stored_room c.loop-p.invariant.0.stored c.len-p-end.ensures.leveled c.len-p-end.ensures.nested (omega arith) (search rules),
+      length-take-le c.loop-p.end c.loop-p.column c.loop-p.invariant.column_fit,
+      stored_room c.loop-p.invariant.walk.stored c.len-p-end.ensures.leveled c.len-p-end.ensures.nested (omega arith) (search rules),
     )
 
 pub make_head-requires-clause-small : goal.make_head-requires-clause-small
@@ -25,47 +27,65 @@ make_head-requires-clause-small g c =
     omega (
       arith,
       ap length walk,
-      ap length c.push_linked.ensures.column,
-      length-append c.loop-p.column.items (linked c.args.links.now (Some c.loop-p.p)),
-      stored_room c.loop-p.invariant.0.stored c.len-p-end.ensures.leveled c.len-p-end.ensures.nested (omega arith) (search rules),
+      length-take-le c.loop-p.end c.loop-p.column c.loop-p.invariant.column_fit,
+      stored_room c.loop-p.invariant.walk.stored c.len-p-end.ensures.leveled c.len-p-end.ensures.nested (omega arith) (search rules),
     )
 
 pub make_head-requires-clause-positions : goal.make_head-requires-clause-positions
 make_head-requires-clause-positions g c =
-    let walk = linked_is c.args.t.now c.args.links.now c.requires.links_fit c.requires.links c.loop-p.p in
-    omega (
-      arith,
-      ap length walk,
-      ap length c.push_linked.ensures.column,
-      length-append c.loop-p.column.items (linked c.args.links.now (Some c.loop-p.p)),
-    )
+    let walk = linked_is c.args.t.now c.args.links.now c.requires.links_fit c.requires.links c.loop-p.p in omega (arith, ap length walk)
 
 pub loop-p-preserved : goal.loop-p-preserved
 loop-p-preserved g c =
-    let w0 = c.loop-p.invariant.0 in
-    let walk = linked_is c.args.t.now c.args.links.now c.requires.links_fit c.requires.links c.loop-p.p in
-    let stored : Stored c.args.t.now (c.loop-p.p + 1) c.if-begins.heads.items c.if-begins.column.items =
+    let t = c.args.t.now in
+    let p : ℕ = c.loop-p.p in
+    let column : List ℕ = take c.loop-p.end c.loop-p.column in
+    let w0 = c.loop-p.invariant.walk in
+    let few : c.loop-p.count ≤ p = stored_few t p c.loop-p.count c.loop-p.end c.loop-p.heads c.loop-p.column w0.stored c.loop-p.invariant.heads_fit c.loop-p.invariant.column_fit in
+    let walk = linked_is t c.args.links.now c.requires.links_fit c.requires.links p in
+    let stored : Stored t (p + 1) (take c.if-begins.count c.if-begins.heads) (take c.if-begins.end c.if-begins.column) =
     elim c.if-begins.branch [
-      | then-begins w ↦ stored_push w0.stored c.if-begins.heads.items w.make_head.result c.if-begins.column.items w.len-start.result (search rules)
-          w.make_head.ensures (omega arith) (rw w.heads-is w.push_reserved.ensures.items) (rw w.column-is (w.push_linked.ensures.column ∙ ap (λ ps. c.loop-p.column.items ++ ps) walk))
-      | else-begins w ↦ stored_same w0.stored c.if-begins.heads.items c.if-begins.column.items (search rules) (rw w.heads-is refl) (rw w.column-is refl)
+      | then-begins w ↦ rw (w.heads-is, w.column-is, w.count-is, w.end-is)
+          (stored_push w0.stored _ w.make_head.result _ c.loop-p.end (search rules) w.make_head.ensures (sym (length-take-le c.loop-p.end c.loop-p.column c.loop-p.invariant.column_fit))
+          (take_more_set c.loop-p.heads c.loop-p.count w.make_head.result (omega arith))
+          (w.write_linked-end.ensures.column ∙ ap (λ (ps : List ℕ). column ++ ps) walk))
+      | else-begins w ↦ rw (w.heads-is, w.column-is, w.count-is, w.end-is) (stored_same w0.stored _ _ (search rules) refl refl)
     ] in
-    let sizes : (vec_capacity c.if-begins.heads ≡ vec_capacity c.clear.new.self)
-    × (vec_capacity c.if-begins.column ≡ vec_capacity c.clear-2.new.self)
-    × (c.if-begins.steps ≡ c.args.steps.now + (c.loop-p.p + 1) + length c.if-begins.column.items) =
+    let sizes : (c.if-begins.count ≤ length c.if-begins.heads) × (c.if-begins.end ≤ length c.if-begins.column) × (c.if-begins.steps ≡ c.args.steps.now + (p + 1) + c.if-begins.end) =
     elim c.if-begins.branch [
       | then-begins w ↦ (
-        rw w.heads-is (w.push_reserved.ensures.capacity ∙ c.loop-p.invariant.1),
-        rw w.column-is (w.push_linked.ensures.capacity ∙ c.loop-p.invariant.2),
-        rw (w.column-is, w.steps-is) (omega (arith, ap length w.push_linked.ensures.column, length-append c.loop-p.column.items (linked c.args.links.now (Some c.loop-p.p)))),
+        rw w.count-is (omega arith),
+        rw w.end-is (omega (
+          arith,
+          w.write_linked-end.ensures.end,
+          ap length walk,
+          length-take-le c.loop-p.end c.loop-p.column c.loop-p.invariant.column_fit,
+          stored_room w0.stored c.len-p-end.ensures.leveled c.len-p-end.ensures.nested (omega arith) (search rules),
+        )),
+        rw (w.end-is, w.steps-is) (omega arith),
       )
-      | else-begins w ↦ (rw w.heads-is c.loop-p.invariant.1, rw w.column-is c.loop-p.invariant.2, rw (w.column-is, w.steps-is) (omega arith))
-    ] in (
-      elim c.if-is_some.branch [
+      | else-begins w ↦ (rw w.count-is (omega arith), rw w.end-is (omega arith), rw (w.end-is, w.steps-is) (omega arith))
+    ] in
+    record {
+      walk = elim c.if-is_some.branch [
         | then-is_some w ↦ rw w.last-is (head_walk_here w0 stored (search rules))
         | else-is_some w ↦ rw w.last-is (head_walk_same w0 stored (search rules))
-      ],
-      sizes.0,
-      sizes.1,
-      sizes.2,
-    )
+      ];
+      heads_fit = sizes.0;
+      column_fit = sizes.1;
+      steps = sizes.2;
+    }
+
+pub returns : goal.returns
+returns g c =
+    let t = c.args.t.now in
+    let all : c.loop-p.p ≡ size_of t = omega arith in
+    let P : ℕ → Type 0 = λ k. Stored t k (take c.loop-p.count c.loop-p.heads) (take c.loop-p.end c.loop-p.column) in
+    let w : P (size_of t) = subst P all c.loop-p.invariant.walk.stored in
+    let end : c.loop-p.end ≡ length (column_of t) = stored_end t (size_of t) c.loop-p.count c.loop-p.end c.loop-p.heads c.loop-p.column w c.loop-p.invariant.heads_fit c.loop-p.invariant.column_fit in
+    record {
+      count = stored_count t (size_of t) c.loop-p.count c.loop-p.end c.loop-p.heads c.loop-p.column w c.loop-p.invariant.heads_fit c.loop-p.invariant.column_fit;
+      heads = w.heads_are;
+      column = ap (λ k. take k c.loop-p.column) (sym end) ∙ w.column_is;
+      steps = omega arith;
+    }

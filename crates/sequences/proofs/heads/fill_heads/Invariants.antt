@@ -1,10 +1,11 @@
-use Rattle.std.proofs.Common.{◌≡◌, ◌+◌, length, vec_capacity}
+use Rattle.std.proofs.Common.{◌≡◌, ◌≤◌, ◌+◌, length, take}
 use Rattle.sequences.proofs.HeadWalks.{HeadWalk}
 use Rattle.sequences.proofs.heads.fill_heads.Given as goal
 
 abbrev pub invariant-loop-p : goal.invariant-loop-p
-invariant-loop-p g l =
-    HeadWalk l.t l.p l.heads.items l.column.items l.last
-    × (vec_capacity l.heads ≡ vec_capacity l.initial.heads)
-    × (vec_capacity l.column ≡ vec_capacity l.initial.column)
-    × (l.steps ≡ l.initial.steps + l.p + length l.column.items)
+invariant-loop-p g l = record {
+  walk : HeadWalk l.t l.p (take l.count l.heads) (take l.end l.column) l.last;
+  heads_fit : l.count ≤ length l.heads;
+  column_fit : l.end ≤ length l.column;
+  steps : l.steps ≡ l.initial.steps + l.p + l.end;
+}

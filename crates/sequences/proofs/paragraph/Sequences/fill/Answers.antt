@@ -12,13 +12,9 @@ pub returns-clause-fit : goal.returns-clause-fit
 returns-clause-fit g c =
     omega (arith, c.fill_from.ensures.fit, ap size_of c.new.ensures, size-of_paragraph c.args.para.now (level_of_para c.args.level))
 
-pub returns-clause-at_least : goal.returns-clause-at_least
-returns-clause-at_least g c =
-    omega (arith, c.fill_from.ensures.at_least, ap size_of c.new.ensures, size-of_paragraph c.args.para.now (level_of_para c.args.level))
-
-pub returns-clause-at_most : goal.returns-clause-at_most
-returns-clause-at_most g c =
-    omega (arith, c.fill_from.ensures.at_most, ap size_of c.new.ensures, size-of_paragraph c.args.para.now (level_of_para c.args.level))
+pub returns-clause-steps : goal.returns-clause-steps
+returns-clause-steps g c =
+    omega (arith, c.fill_from.ensures.steps, ap size_of c.new.ensures, size-of_paragraph c.args.para.now (level_of_para c.args.level))
 
 pub returns-clause-extent : goal.returns-clause-extent
 returns-clause-extent g c =

@@ -1,49 +1,62 @@
 use Rattle.std.proofs.Common.{arith, ◌≡◌, ◌≤◌, ◌∙◌, ap, sym, subst, length, take, List}
 use Rattle.std.specs.Prelude.{sum_by}
-use Rattle.std.proofs.lemmas.List.{length-take-le}
+use Rattle.std.proofs.lemmas.List.{length-take, length-take-le}
 use Rattle.units.specs.Runs.{SequenceView, size_of}
 use Rattle.sequences.specs.View.{SequencesView}
 use Rattle.sequences.specs.Once.{HoldsOnce}
 use Rattle.sequences.proofs.Fits.{sequences_fit}
 use Rattle.sequences.proofs.Once.{sequences_hold_once}
 use Rattle.sequences.proofs.Filled.{put_back, links_are}
-use Rattle.sequences.proofs.Column.{column_fits, views_of_heads, heads_stand}
+use Rattle.sequences.proofs.Column.{length-column, views_of_heads, heads_stand}
 use Rattle.sequences.proofs.paragraph.Sequences.fill_from.Goals as goal
 
 pub invariant_of-self : goal.invariant_of-self
 invariant_of-self g c =
     let t = c.args.t.now in
     let h = c.len-self-inside.ensures.leveled in
-    let links = c.fill_columns.new.links in
+    let f = c.fill_columns-self-inside in
+    let links = f.new.links in
     let old = c.self.inside in
-    let l : length links ≡ old.links.len = c.fill_columns.auto.links ∙ c.deref_mut.ensures.len in
-    let e : length c.fill_columns.new.ends ≡ old.ends.len = c.fill_columns.auto.ends ∙ c.deref_mut-2.ensures.len in
-    let j : length c.fill_columns.new.joined ≡ old.joined.len = c.fill_columns.auto.joined ∙ c.deref_mut-3.ensures.len in
+    let l : length links ≡ old.links.len = f.auto.links ∙ c.deref_mut.ensures.len in
+    let e : length f.new.ends ≡ old.ends.len = f.auto.ends ∙ c.deref_mut-2.ensures.len in
+    let j : length f.new.joined ≡ old.joined.len = f.auto.joined ∙ c.deref_mut-3.ensures.len in
+    let d : length f.new.heads ≡ old.heads.len = f.auto.heads ∙ c.deref_mut-4.ensures.len in
+    let n : length f.new.column ≡ old.column.len = f.auto.column ∙ c.deref_mut-5.ensures.len in
     let l' : length old.links.items ≡ old.links.len = sym (ap length c.deref_mut.ensures.value) ∙ c.deref_mut.ensures.len in
     let e' : length old.ends.items ≡ old.ends.len = sym (ap length c.deref_mut-2.ensures.value) ∙ c.deref_mut-2.ensures.len in
     let j' : length old.joined.items ≡ old.joined.len = sym (ap length c.deref_mut-3.ensures.value) ∙ c.deref_mut-3.ensures.len in
+    let d' : length old.heads.items ≡ old.heads.len = sym (ap length c.deref_mut-4.ensures.value) ∙ c.deref_mut-4.ensures.len in
+    let n' : length old.column.items ≡ old.column.len = sym (ap length c.deref_mut-5.ensures.value) ∙ c.deref_mut-5.ensures.len in
     let fit : size_of t ≤ length links = omega (arith, c.requires, ap (λ (s : SequencesView). s.room) c.self.view_is) in
     let short : length (take (size_of t) links) ≡ size_of t = length-take-le (size_of t) links fit in
     rw (
       put_back _ links old.links.items l,
-      put_back _ c.fill_columns.new.ends old.ends.items e,
-      put_back _ c.fill_columns.new.joined old.joined.items j,
-      c.fill_columns.ensures.heads,
-      c.fill_columns.ensures.column,
+      put_back _ f.new.ends old.ends.items e,
+      put_back _ f.new.joined old.joined.items j,
+      put_back _ f.new.heads old.heads.items d,
+      put_back _ f.new.column old.column.items n,
       c.len-self-inside.ensures.value,
     ) (record {
       small = omega (arith, c.self.invariant.small);
       ends_fit = omega (arith, c.self.invariant.ends_fit);
       joined_fit = omega (arith, c.self.invariant.joined_fit);
-      heads_fit = omega (arith, c.self.invariant.heads_fit, c.fill_columns.ensures.heads_capacity);
-      column_fit = omega (arith, c.self.invariant.column_fit, c.fill_columns.ensures.column_capacity);
+      heads_fit = omega (arith, c.self.invariant.heads_fit);
+      column_fit = omega (arith, c.self.invariant.column_fit);
       in_use = fit;
-      headed = heads_stand t h (take (size_of t) links) short (links_are t (take (size_of t) links) short c.fill_columns.ensures.links);
+      counted = omega (arith, f.ensures.count, ap length f.ensures.heads, length-take f.result f.new.heads);
+      headed = rw f.ensures.heads (heads_stand t h (take (size_of t) links) short (links_are t (take (size_of t) links) short f.ensures.links) f.new.column f.ensures.column);
     })
 
 pub returns-clause-all : goal.returns-clause-all
 returns-clause-all g c =
-    rw (c.fill_columns.ensures.heads, c.fill_columns.ensures.column, c.len-self-inside.ensures.value) (views_of_heads c.args.t.now)
+    let f = c.fill_columns-self-inside in
+    let old = c.self.inside in
+    rw (
+      put_back _ f.new.heads old.heads.items (f.auto.heads ∙ c.deref_mut-4.ensures.len),
+      put_back _ f.new.column old.column.items (f.auto.column ∙ c.deref_mut-5.ensures.len),
+      f.ensures.heads,
+      c.len-self-inside.ensures.value,
+    ) (views_of_heads c.args.t.now f.new.column f.ensures.column)
 
 pub returns-clause-once : goal.returns-clause-once
 returns-clause-once g c =
@@ -57,6 +70,6 @@ returns-clause-fit g c =
     let P : List SequenceView → Type 0 = λ all. sum_by (λ (s : SequenceView). length s.positions) all ≤ size_of t in
     subst P (sym (returns-clause-all g c)) (sequences_fit t c.len-self-inside.ensures.leveled c.len-self-inside.ensures.nested)
 
-pub returns-clause-at_most : goal.returns-clause-at_most
-returns-clause-at_most g c =
-    omega (arith, c.fill_columns.ensures.steps, column_fits c.args.t.now c.len-self-inside.ensures.leveled c.len-self-inside.ensures.nested)
+pub returns-clause-steps : goal.returns-clause-steps
+returns-clause-steps g c =
+    omega (arith, length-column c.args.t.now, ap (λ (all : List SequenceView). sum_by (λ (s : SequenceView). length s.positions) all) (returns-clause-all g c))
