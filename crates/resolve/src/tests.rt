@@ -1,12 +1,12 @@
-//! Worked rows: the levels of a paragraph, by the layers in order.
-ghost use Rattle.std.specs.Prelude.{◌≡◌, ℕ, ◌<◌, ◌≤◌, true, length, IsTrue, IfOk};
+//! Worked rows: the levels of a paragraph, and the classes and pairs on the way to them.
+ghost use Rattle.std.specs.Prelude.{◌≡◌, ◌<◌, IsTrue};
 ghost use Rattle.std.specs.List.{list_any};
-ghost use Rattle.units.specs.Classes.{class_at, classes_of, is_nonspacing, is_separator};
+ghost use Rattle.units.specs.Classes.{is_separator};
 ghost use Rattle.units.specs.Paragraphs.{SeparatorOnlyLast};
 
 use crate::pairs::{Pairs, bracket_pairs};
+use crate::paragraph::Resolver;
 use crate::weak::weak;
-use crate::whole::resolve_sequence;
 use explicit::isolates::IsolateMap;
 use explicit::levels::{Explicit, explicit_levels};
 use explicit::para_level::para_level;
@@ -56,74 +56,8 @@ fn is_paragraph(units: &[Unit]) -> bool
     !has_separator(units)
 }
 
-fn is_mark(class: Class) -> bool
-    ensures { result ≡ is_nonspacing class }
-{
-    matches!(class, Class::NSM)
-}
-
-/// Whether each current class NSM is an own class NSM.
-fn has_own_marks(para: &[Unit], current: &[Class]) -> bool
-    requires { length current.now ≡ length para.now }
-    ensures { IsTrue result → (p : ℕ) → is_nonspacing (class_at current.now p) ≡ true → is_nonspacing (class_at (classes_of para.now) p) ≡ true }
-{
-    for p in 0..para.len() {
-        if is_mark(current[p]) && !is_mark(para[p].class) {
-            return false;
-        }
-    }
-    true
-}
-
-/// The current classes of a paragraph (X1 to X8), BN where a position is removed.
-fn current_classes(alloc: Global, para: &[Unit], explicit: &Explicit) -> Result<Vec<Class>, Memory>
-    requires { length para.now ≤ length explicit.now }
-    ensures { IfOk result (λ classes. length classes.items ≡ length para.now) }
-{
-    let mut current = vec![in alloc; Class::BN; para.len()]?;
-    for p in 0..para.len() {
-        if let Some((_, class)) = explicit.at(p) {
-            current[p] = class;
-        }
-    }
-    Ok(current)
-}
-
-/// What stands before the resolution of a paragraph.
-#[derive(Drop)]
-struct Findings {
-    sequences: Sequences,
-    current: Vec<Class>,
-    pairs: Pairs,
-}
-
-fn found_from<L: Ledger>(
-    alloc: Global,
-    para: &[Unit],
-    direction: Direction,
-    steps: &mut Steps<L>,
-) -> Result<Findings, Memory>
-    requires { SeparatorOnlyLast para.now }
-    ensures extent { IfOk result (λ found. found.sequences.extent ≡ length para.now) }
-    ensures current { IfOk result (λ found. length found.current.items ≡ length para.now) }
-    ensures room { IfOk result (λ found. length found.pairs ≡ length para.now) }
-{
-    let mut isolates = IsolateMap::with_room(alloc, para.len())?;
-    let mut explicit = Explicit::with_room(alloc, para.len())?;
-    let mut sequences = Sequences::with_room(alloc, para.len())?;
-    isolates.fill(para, steps);
-    let level = para_level(para, &isolates, direction, steps);
-    explicit_levels(para, &isolates, level, &mut explicit, steps);
-    sequences.fill(para, &isolates, &explicit, level, steps);
-    Ok(Findings {
-        sequences,
-        current: current_classes(alloc, para, &explicit)?,
-        pairs: Pairs::with_room(alloc, para.len())?,
-    })
-}
-
+/// The resolved levels of a paragraph.
 fn levels_from<L: Ledger>(
-    rt: &impl Abort,
     alloc: Global,
     para: &[Unit],
     direction: Direction,
@@ -135,25 +69,9 @@ fn levels_from<L: Ledger>(
     requires some { 0 < blank.parts }
 {
     let mut steps = Steps::<L>::new(blank);
-    let Findings {
-        sequences,
-        current,
-        mut pairs,
-    } = found_from(alloc, para, direction, &mut steps)?;
-    assert!(rt; has_own_marks(para, &current));
+    let mut resolver = Resolver::with_room(alloc, para.len())?;
     let mut levels = vec![in alloc; None; para.len()]?;
-    for k in 0..sequences.count() {
-        let mut classes = current.to_vec(alloc)?;
-        resolve_sequence(
-            &sequences.get(k),
-            para,
-            &current,
-            &mut pairs,
-            &mut classes,
-            &mut levels,
-            &mut steps,
-        );
-    }
+    resolver.resolve(para, direction, &mut levels, &mut steps);
     Ok(levels)
 }
 
@@ -166,7 +84,7 @@ fn assert_levels(
     shown: &[u8],
 ) -> Result<(), Memory> {
     assert!(rt; is_paragraph(para));
-    let levels = levels_from::<Brand>(rt, alloc, para, direction, Blank::new(1))?;
+    let levels = levels_from::<Brand>(alloc, para, direction, Blank::new(1))?;
     assert_eq!(rt; levels.len(), shown.len());
     for p in 0..shown.len() {
         let digit = match levels[p] {
@@ -178,27 +96,83 @@ fn assert_levels(
     Ok(())
 }
 
-/// The same of units without brackets, from left to right.
-fn assert_class_levels(
+/// What W1 to W7 and the search for pairs find of the first sequence of a paragraph.
+#[derive(Drop)]
+struct Found {
+    after_weak: Vec<Class>,
+    closers: Vec<Option<usize>>,
+}
+
+/// The same of a paragraph without overrides, from left to right: its current classes are its own.
+fn found_from<L: Ledger>(
+    rt: &impl Abort,
+    alloc: Global,
+    para: &[Unit],
+    blank: Blank,
+) -> Result<Found, Memory>
+    requires separators { SeparatorOnlyLast para.now }
+    requires name { blank.name ≡ L.name }
+    requires parts { blank.parts ≡ L.parts }
+    requires some { 0 < blank.parts }
+{
+    let mut steps = Steps::<L>::new(blank);
+    let mut isolates = IsolateMap::with_room(alloc, para.len())?;
+    let mut explicit = Explicit::with_room(alloc, para.len())?;
+    let mut sequences = Sequences::with_room(alloc, para.len())?;
+    let mut pairs = Pairs::with_room(alloc, para.len())?;
+    isolates.fill(para, &mut steps);
+    let level = para_level(para, &isolates, Direction::Ltr, &mut steps);
+    explicit_levels(para, &isolates, level, &mut explicit, &mut steps);
+    sequences.fill(para, &isolates, &explicit, level, &mut steps);
+    assert!(rt; sequences.count() > 0);
+    let sequence = sequences.get(0);
+    let mut classes: Vec<Class> = para.iter().map(|unit| unit.class).collect(alloc)?;
+    weak(&sequence, &mut classes, &mut steps);
+    bracket_pairs(&sequence, para, &classes, &mut pairs, &mut steps);
+    let mut closers = vec![in alloc; None; para.len()]?;
+    for p in 0..para.len() {
+        closers[p] = pairs.closer(p);
+    }
+    Ok(Found {
+        after_weak: classes,
+        closers,
+    })
+}
+
+/// Checks the classes after W7 and the levels of units without brackets and overrides, from left to right.
+fn assert_weak(
     rt: &impl Abort,
     alloc: Global,
     classes: &[Class],
+    after_weak: &[Class],
     shown: &[u8],
 ) -> Result<(), Memory> {
     let para: Vec<Unit> = classes.iter().map(|class| plain(*class)).collect(alloc)?;
+    assert!(rt; is_paragraph(&para));
+    let found = found_from::<Brand>(rt, alloc, &para, Blank::new(1))?;
+    assert_eq!(rt; found.after_weak.as_slice(), after_weak);
     assert_levels(rt, alloc, &para, Direction::Ltr, shown)
 }
 
 #[test]
 fn weak_types(rt: HostRuntime) -> Result<(), Fail> {
     let alloc = rt.alloc();
-    let (r, al, en, an) = (Class::R, Class::AL, Class::EN, Class::AN);
-    let (es, et, cs, nsm) = (Class::ES, Class::ET, Class::CS, Class::NSM);
-    assert_class_levels(&rt, alloc, &[nsm, en, es, en, et, cs, an], b"0000002")?;
-    assert_class_levels(&rt, alloc, &[r, en, cs, en, et, et, nsm], b"1222222")?;
-    assert_class_levels(&rt, alloc, &[al, en, cs, en], b"1222")?;
-    assert_class_levels(&rt, alloc, &[en], b"0")?;
-    assert_class_levels(&rt, alloc, &[al, Class::FSI, r], b"101")?;
+    let (l, r, al, en, an) = (Class::L, Class::R, Class::AL, Class::EN, Class::AN);
+    let (es, et, cs, nsm, on) = (Class::ES, Class::ET, Class::CS, Class::NSM, Class::ON);
+    let marks = [nsm, en, es, en, et, cs, an];
+    assert_weak(&rt, alloc, &marks, &[l, l, l, l, l, on, an], b"0000002")?;
+    let terminators = [r, en, cs, en, et, et, nsm];
+    assert_weak(
+        &rt,
+        alloc,
+        &terminators,
+        &[r, en, en, en, en, en, en],
+        b"1222222",
+    )?;
+    assert_weak(&rt, alloc, &[al, en, cs, en], &[r, an, an, an], b"1222")?;
+    assert_weak(&rt, alloc, &[en], &[l], b"0")?;
+    let unmatched = [plain(al), plain(Class::FSI), plain(r)];
+    assert_levels(&rt, alloc, &unmatched, Direction::Ltr, b"101")?;
     Ok(())
 }
 
@@ -277,39 +251,14 @@ fn full_stack(rt: HostRuntime) -> Result<(), Fail> {
     Ok(())
 }
 
-fn closers_from<L: Ledger>(
-    rt: &impl Abort,
-    alloc: Global,
-    para: &[Unit],
-    blank: Blank,
-) -> Result<Vec<Option<usize>>, Memory>
-    requires separators { SeparatorOnlyLast para.now }
-    requires name { blank.name ≡ L.name }
-    requires parts { blank.parts ≡ L.parts }
-    requires some { 0 < blank.parts }
-{
-    let mut steps = Steps::<L>::new(blank);
-    let mut found = found_from(alloc, para, Direction::Ltr, &mut steps)?;
-    assert!(rt; found.sequences.count() > 0);
-    let s = found.sequences.get(0);
-    let mut classes = found.current.to_vec(alloc)?;
-    weak(&s, &mut classes, &mut steps);
-    bracket_pairs(&s, para, &classes, &mut found.pairs, &mut steps);
-    let mut closers = vec![in alloc; None; para.len()]?;
-    for p in 0..para.len() {
-        closers[p] = found.pairs.closer(p);
-    }
-    Ok(closers)
-}
-
 #[test]
 fn closers(rt: HostRuntime) -> Result<(), Fail> {
     let (l, r) = (plain(Class::L), plain(Class::R));
     let para = [r, open(1), open(1), r, close(1), l, close(1)];
     assert!(rt; is_paragraph(&para));
-    let closers = closers_from::<Brand>(&rt, rt.alloc(), &para, Blank::new(1))?;
+    let found = found_from::<Brand>(&rt, rt.alloc(), &para, Blank::new(1))?;
     let expected = [None, Some(6), Some(4), None, None, None, None];
-    assert_eq!(rt; closers.as_slice(), expected.as_slice());
+    assert_eq!(rt; found.closers.as_slice(), expected.as_slice());
     Ok(())
 }
 
