@@ -1,3 +1,4 @@
+pub mod AllPositions
 pub mod Apart
 pub mod Backward
 pub mod Column
@@ -11,3 +12,4 @@ pub mod Links
 pub mod Marks
 pub mod Nearest
 pub mod Once
+pub mod Room

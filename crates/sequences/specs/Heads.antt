@@ -1,10 +1,10 @@
 -- What is stored of the sequences: their heads, and their positions in one column.
-use Rattle.std.specs.Prelude.{Option, Some, ℕ, ◌+◌, ◌<◌, ◌≤◌, ◌≡◌, Bool, List, [], ◌∷◌, filter, length, slice_range}
+use Rattle.std.specs.Prelude.{Option, Some, ℕ, ◌+◌, ◌<◌, ◌≤◌, ◌≡◌, Bool, List, [], ◌∷◌, filter, length, take, slice_range}
 use Rattle.std.specs.List.{flat_map, list_any}
 use Rattle.units.specs.Classes.{class_at}
 use Rattle.units.specs.Positions.{is_same, positions_from}
 use Rattle.units.specs.declared.class.Class.{Class}
-use Rattle.units.specs.Runs.{SequenceView, LeveledView, size_of, level_or_base, begins_sequence, successor, sos_at, eos_at, last_in, sequence_from}
+use Rattle.units.specs.Runs.{SequenceView, LeveledView, size_of, level_or_base, direction_of, begins_sequence, successor, sos_at, eos_at, last_in, sequence_from}
 use Rattle.sequences.specs.declared.heads.Head.{Head}
 use Rattle.sequences.specs.Links.{link_at, is_joined, ArePositions, IsChain}
 
@@ -51,6 +51,23 @@ column_before t k = flat_map (sequence_from t) (firsts_before t k)
 -- the positions of all sequences, sequence by sequence
 abbrev pub column_of : LeveledView → List ℕ
 column_of t = column_before t (size_of t)
+
+-- the columns hold the sequences, of which there are so many: the links at the positions, the heads and the positions from the front on
+pub record AreFilled (t : LeveledView) (count : ℕ) (links : List (Option ℕ)) (heads : List Head) (column : List ℕ) : Type 0 where
+  pub counted : count ≡ length (heads_of t)
+  pub linked : AreSuccessors t (take (size_of t) links)
+  pub headed : take count heads ≡ heads_of t
+  pub placed : take (length (column_of t)) column ≡ column_of t
+
+-- the head of all of so many positions at one level, as one sequence
+abbrev pub whole_head : ℕ → ℕ → Head
+whole_head level size = record {
+  start = 0;
+  end = size;
+  level = level;
+  sos = direction_of level;
+  eos = direction_of level;
+}
 
 -- what callers see of the sequence with this head
 abbrev pub view_of : List ℕ → ℕ → Head → SequenceView

@@ -9,3 +9,4 @@ pub mod paragraph;
 pub mod sequence;
 #[cfg(test)]
 mod tests;
+mod whole;

@@ -7,7 +7,8 @@ ghost use Rattle.explicit.specs.ExplicitLevels.{HoldsLevels};
 ghost use Rattle.explicit.specs.IsolateMaps.{IsFilledFrom};
 ghost use Rattle.sequences.specs.Links.{link_at};
 ghost use Rattle.sequences.specs.View.{SequencesView};
-ghost use Rattle.sequences.specs.Heads.{view_of, heads_of, column_of, AreSuccessors};
+ghost use Rattle.flat.specs.Flat.{IsFlat};
+ghost use Rattle.sequences.specs.Heads.{view_of, column_of, AreFilled};
 ghost use Rattle.sequences.specs.Once.{HoldsOnce};
 ghost use Rattle.sequences.specs.Room.{HasRoom};
 
@@ -15,6 +16,7 @@ use crate::heads::{Head, fill_heads, mark};
 use crate::leveled::Leveled;
 use crate::linking::link;
 use crate::sequence::Sequence;
+use crate::whole::fill_whole;
 use explicit::isolates::IsolateMap;
 use explicit::levels::Explicit;
 use std::alloc::Global;
@@ -65,10 +67,7 @@ fn fill_columns<L: Ledger>(
     requires joined { size_of t.now ≤ length joined.old }
     requires heads { size_of t.now ≤ length heads.old }
     requires column { size_of t.now ≤ length column.old }
-    ensures count { result ≡ length (heads_of t.now) }
-    ensures links { AreSuccessors t.now (take (size_of t.now) links.new) }
-    ensures heads { take result heads.new ≡ heads_of t.now }
-    ensures column { take (length (column_of t.now)) column.new ≡ column_of t.now }
+    ensures filled { AreFilled t.now result links.new heads.new column.new }
     ensures steps { steps.new ≡ steps.old + 4 * size_of t.now + length (column_of t.now) }
 {
     let size = t.len();
@@ -150,6 +149,27 @@ impl Sequences {
         ensures steps { steps.new ≡ steps.old + 4 * length para.now + sum_by (λ s. length s.positions) self.new.all }
     {
         self.fill_from(&Leveled::new(para, isolates, explicit, level), steps);
+    }
+
+    /// Finds the one sequence of a paragraph of this level in which nothing begins or ends an embedding or an isolate, and
+    /// from which X9 removes nothing: all its positions. There is room for it. What was found of an earlier one is gone.
+    pub fn fill_flat<L: Ledger>(&mut self, para: &[Unit], level: ParaLevel, steps: &mut Steps<L>)
+        requires room { length para.now ≤ self.old.room }
+        requires flat { IsFlat (classes_of para.now) }
+        ensures all { self.new.all ≡ sequences_of (leveled_of (classes_of para.now) (level_of_para level)) }
+        ensures extent { self.new.extent ≡ length para.now }
+        ensures room { self.new.room ≡ self.old.room }
+        ensures steps { steps.new ≡ steps.old + length para.now }
+    {
+        self.count = fill_whole(
+            para,
+            level,
+            &mut self.links,
+            &mut self.heads,
+            &mut self.column,
+            steps,
+        );
+        self.size = para.len();
     }
 
     /// How many sequences there are.

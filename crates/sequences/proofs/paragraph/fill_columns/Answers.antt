@@ -22,9 +22,14 @@ fill_heads-requires-clause-joined g c =
     let joined : length (take c.len-size.result c.args.joined.now) ≡ size_of t = length-take-le c.len-size.result c.args.joined.now (omega arith) ∙ c.len-size.ensures.value in
     marks_are t links size c.link.ensures.linked c.mark.new.joined (length (take c.len-size.result c.args.joined.now)) (omega (arith, joined)) c.mark.ensures.joined
 
-pub returns-clause-links : goal.returns-clause-links
-returns-clause-links g c = λ p l.
+pub returns-clause-filled : goal.returns-clause-filled
+returns-clause-filled g c =
     let t = c.args.t.now in
     let links = c.link.new.links in
     let size : length links ≡ size_of t = c.link.auto.links ∙ length-take-le c.len-size.result c.args.links.now (omega arith) ∙ c.len-size.ensures.value in
-    ap (λ ls. link_at ls p) (take_at links (drop c.len-size.result c.args.links.now) (size_of t) size) ∙ c.link.ensures.linked p l
+    record {
+      counted = c.fill_heads.ensures.count;
+      linked = λ p l. ap (λ ls. link_at ls p) (take_at links (drop c.len-size.result c.args.links.now) (size_of t) size) ∙ c.link.ensures.linked p l;
+      headed = c.fill_heads.ensures.heads;
+      placed = c.fill_heads.ensures.column;
+    }

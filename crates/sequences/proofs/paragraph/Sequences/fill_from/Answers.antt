@@ -1,23 +1,21 @@
-use Rattle.std.proofs.Common.{arith, ◌≡◌, ◌≤◌, ◌∙◌, ap, sym, subst, length, take, List}
+use Rattle.std.proofs.Common.{arith, ◌≡◌, ◌≤◌, ◌∙◌, ap, sym, subst, length, List}
 use Rattle.std.specs.Prelude.{sum_by}
-use Rattle.std.proofs.lemmas.List.{length-take, length-take-le}
 use Rattle.units.specs.Runs.{SequenceView, size_of}
 use Rattle.sequences.specs.View.{SequencesView}
 use Rattle.sequences.specs.Once.{HoldsOnce}
 use Rattle.sequences.proofs.Fits.{sequences_fit}
 use Rattle.sequences.proofs.Once.{sequences_hold_once}
-use Rattle.sequences.proofs.Filled.{put_back, links_are}
-use Rattle.sequences.proofs.Column.{length-column, views_of_heads, heads_stand}
+use Rattle.sequences.proofs.Filled.{put_back}
+use Rattle.sequences.proofs.Room.{HaveLength, filled_room, filled_views}
+use Rattle.sequences.proofs.Column.{length-column}
 use Rattle.sequences.proofs.paragraph.Sequences.fill_from.Goals as goal
 
 pub invariant_of-self : goal.invariant_of-self
 invariant_of-self g c =
     let t = c.args.t.now in
-    let h = c.len-self-inside.ensures.leveled in
     let f = c.fill_columns-self-inside in
-    let links = f.new.links in
     let old = c.self.inside in
-    let l : length links ≡ old.links.len = f.auto.links ∙ c.deref_mut.ensures.len in
+    let l : length f.new.links ≡ old.links.len = f.auto.links ∙ c.deref_mut.ensures.len in
     let e : length f.new.ends ≡ old.ends.len = f.auto.ends ∙ c.deref_mut-2.ensures.len in
     let j : length f.new.joined ≡ old.joined.len = f.auto.joined ∙ c.deref_mut-3.ensures.len in
     let d : length f.new.heads ≡ old.heads.len = f.auto.heads ∙ c.deref_mut-4.ensures.len in
@@ -27,25 +25,22 @@ invariant_of-self g c =
     let j' : length old.joined.items ≡ old.joined.len = sym (ap length c.deref_mut-3.ensures.value) ∙ c.deref_mut-3.ensures.len in
     let d' : length old.heads.items ≡ old.heads.len = sym (ap length c.deref_mut-4.ensures.value) ∙ c.deref_mut-4.ensures.len in
     let n' : length old.column.items ≡ old.column.len = sym (ap length c.deref_mut-5.ensures.value) ∙ c.deref_mut-5.ensures.len in
-    let fit : size_of t ≤ length links = omega (arith, c.requires, ap (λ (s : SequencesView). s.room) c.self.view_is) in
-    let short : length (take (size_of t) links) ≡ size_of t = length-take-le (size_of t) links fit in
+    let kept : HaveLength old.links.len f.new.links f.new.ends f.new.joined f.new.heads f.new.column = record {
+      small = omega (arith, c.self.invariant.small);
+      links_fit = l;
+      ends_fit = omega (arith, c.self.invariant.ends_fit);
+      joined_fit = omega (arith, c.self.invariant.joined_fit);
+      heads_fit = omega (arith, c.self.invariant.heads_fit);
+      column_fit = omega (arith, c.self.invariant.column_fit);
+    } in
     rw (
-      put_back _ links old.links.items l,
+      put_back _ f.new.links old.links.items l,
       put_back _ f.new.ends old.ends.items e,
       put_back _ f.new.joined old.joined.items j,
       put_back _ f.new.heads old.heads.items d,
       put_back _ f.new.column old.column.items n,
       c.len-self-inside.ensures.value,
-    ) (record {
-      small = omega (arith, c.self.invariant.small);
-      ends_fit = omega (arith, c.self.invariant.ends_fit);
-      joined_fit = omega (arith, c.self.invariant.joined_fit);
-      heads_fit = omega (arith, c.self.invariant.heads_fit);
-      column_fit = omega (arith, c.self.invariant.column_fit);
-      in_use = fit;
-      counted = omega (arith, f.ensures.count, ap length f.ensures.heads, length-take f.result f.new.heads);
-      headed = rw f.ensures.heads (heads_stand t h (take (size_of t) links) short (links_are t (take (size_of t) links) short f.ensures.links) f.new.column f.ensures.column);
-    })
+    ) (filled_room f.ensures.filled c.len-self-inside.ensures.leveled old.links.len f.new.ends f.new.joined kept (omega (arith, c.requires, ap (λ (s : SequencesView). s.room) c.self.view_is)))
 
 pub returns-clause-all : goal.returns-clause-all
 returns-clause-all g c =
@@ -54,9 +49,8 @@ returns-clause-all g c =
     rw (
       put_back _ f.new.heads old.heads.items (f.auto.heads ∙ c.deref_mut-4.ensures.len),
       put_back _ f.new.column old.column.items (f.auto.column ∙ c.deref_mut-5.ensures.len),
-      f.ensures.heads,
       c.len-self-inside.ensures.value,
-    ) (views_of_heads c.args.t.now f.new.column f.ensures.column)
+    ) (filled_views f.ensures.filled)
 
 pub returns-clause-once : goal.returns-clause-once
 returns-clause-once g c =

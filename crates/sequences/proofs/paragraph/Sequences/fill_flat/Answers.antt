@@ -1,0 +1,57 @@
+use Rattle.std.proofs.Common.{arith, ◌≡◌, ◌≤◌, ◌∙◌, ap, sym, length, ℕ}
+use Rattle.std.specs.Prelude.{map, take}
+use Rattle.units.specs.Classes.{classes_of}
+use Rattle.units.specs.Isolates.{level_of_para}
+use Rattle.units.specs.Runs.{LeveledView, leveled_of, size_of}
+use Rattle.units.specs.declared.level.ParaLevel.{ParaLevel}
+use Rattle.units.specs.declared.level.ParaLevel.TheVariants.{Zero, One}
+use Rattle.explicit.proofs.Leveled.{leveled}
+use Rattle.sequences.specs.Heads.{view_of}
+use Rattle.sequences.specs.View.{SequencesView}
+use Rattle.sequences.proofs.Filled.{put_back}
+use Rattle.sequences.proofs.FilledFrom.{size-of_paragraph}
+use Rattle.sequences.proofs.Room.{HaveLength, filled_room, filled_views}
+use Rattle.sequences.proofs.paragraph.Sequences.fill_flat.Goals as goal
+
+low : (level : ParaLevel) → level_of_para level ≤ 1
+low Zero = omega arith
+low One = omega arith
+
+pub invariant_of-self : goal.invariant_of-self
+invariant_of-self g c =
+    let para : ℕ = level_of_para c.args.level in
+    let t : LeveledView = leveled_of (classes_of c.args.para.now) para in
+    let size : size_of t ≡ length c.args.para.now = size-of_paragraph c.args.para.now para in
+    let f = c.fill_whole-self-inside in
+    let old = c.self.inside in
+    let l : length f.new.links ≡ old.links.len = f.auto.links ∙ c.deref_mut.ensures.len in
+    let d : length f.new.heads ≡ old.heads.len = f.auto.heads ∙ c.deref_mut-2.ensures.len in
+    let n : length f.new.column ≡ old.column.len = f.auto.column ∙ c.deref_mut-3.ensures.len in
+    let l' : length old.links.items ≡ old.links.len = sym (ap length c.deref_mut.ensures.value) ∙ c.deref_mut.ensures.len in
+    let d' : length old.heads.items ≡ old.heads.len = sym (ap length c.deref_mut-2.ensures.value) ∙ c.deref_mut-2.ensures.len in
+    let n' : length old.column.items ≡ old.column.len = sym (ap length c.deref_mut-3.ensures.value) ∙ c.deref_mut-3.ensures.len in
+    let kept : HaveLength old.links.len f.new.links old.ends.items old.joined.items f.new.heads f.new.column = record {
+      small = omega (arith, c.self.invariant.small);
+      links_fit = l;
+      ends_fit = omega (arith, c.self.invariant.ends_fit);
+      joined_fit = omega (arith, c.self.invariant.joined_fit);
+      heads_fit = omega (arith, c.self.invariant.heads_fit);
+      column_fit = omega (arith, c.self.invariant.column_fit);
+    } in
+    let fit : size_of t ≤ old.links.len = omega (arith, size, c.requires.room, ap (λ (s : SequencesView). s.room) c.self.view_is) in
+    rw (
+      put_back _ f.new.links old.links.items l,
+      put_back _ f.new.heads old.heads.items d,
+      put_back _ f.new.column old.column.items n,
+      ← size,
+    ) (filled_room f.ensures.filled (leveled (classes_of c.args.para.now) para (low c.args.level)) old.links.len old.ends.items old.joined.items kept fit)
+
+pub returns-clause-all : goal.returns-clause-all
+returns-clause-all g c =
+    let f = c.fill_whole-self-inside in
+    let old = c.self.inside in
+    let size : size_of (leveled_of (classes_of c.args.para.now) (level_of_para c.args.level)) ≡ length c.args.para.now = size-of_paragraph c.args.para.now (level_of_para c.args.level) in
+    rw (
+      put_back _ f.new.heads old.heads.items (f.auto.heads ∙ c.deref_mut-2.ensures.len),
+      put_back _ f.new.column old.column.items (f.auto.column ∙ c.deref_mut-3.ensures.len),
+    ) (ap (λ (k : ℕ). map (view_of f.new.column k) (take f.result f.new.heads)) (sym size) ∙ filled_views f.ensures.filled)
