@@ -106,7 +106,7 @@ levels_found ls =
 levels_found_at : (ls : List ℕ) (n : ℕ) → length ls ≡ n → map (level_found (zip (positions_from 0 n) ls)) (positions_from 0 n) ≡ map Some ls
 levels_found_at ls n e = ap (λ m. map (level_found (zip (positions_from 0 m) ls)) (positions_from 0 m)) (sym e) ∙ levels_found ls
 
-current-flat : (us : List BidiUnit) (para : ℕ) → IsFlat (classes_of us) → current_of (explicit_of (classes_of us) para) ≡ classes_of us
+pub current-flat : (us : List BidiUnit) (para : ℕ) → IsFlat (classes_of us) → current_of (explicit_of (classes_of us) para) ≡ classes_of us
 current-flat us para flat = ap current_of (explicit_of-flat (classes_of us) para flat) ∙ current_same para (classes_of us)
 
 pub length-classes_of : (us : List BidiUnit) → length (classes_of us) ≡ length us

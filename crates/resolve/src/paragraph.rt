@@ -1,11 +1,12 @@
 //! The resolved levels of a paragraph (P2 to I2).
-ghost use Rattle.std.specs.Prelude.{◌≡◌, ◌+◌, ◌*◌, ◌<◌, ◌≤◌, ℕ, Some, None, IfOk, length, take};
+ghost use Rattle.std.specs.Prelude.{◌≡◌, ◌+◌, ◌*◌, ◌<◌, ◌≤◌, ℕ, Some, None, IfOk, length, slice_set, take};
 ghost use Rattle.std.specs.Option.{option_map_or};
 ghost use Rattle.units.specs.Classes.{classes_of};
 ghost use Rattle.units.specs.Isolates.{level_of_para, para_level_of};
 ghost use Rattle.units.specs.Layout.{current_of, resolved_levels};
 ghost use Rattle.units.specs.Paragraphs.{SeparatorOnlyLast};
 ghost use Rattle.units.specs.declared.class.Class.TheVariants.{BN};
+ghost use Rattle.flat.specs.Flat.{IsFlat};
 ghost use Rattle.resolve.specs.Covering.{AreApart, HasLevelsBy, KeepsMarks};
 ghost use Rattle.resolve.specs.Raised.{resolved_at};
 
@@ -58,6 +59,26 @@ fn current_class(place: Option<(Level, Class)>) -> Class
     }
 }
 
+/// Writes the current class of a position into both columns, and no level.
+fn begin_at(
+    p: usize,
+    class: Class,
+    before: &mut [Class],
+    classes: &mut [Class],
+    levels: &mut [Option<Level>],
+)
+    requires before { p < length before.old }
+    requires classes { p < length classes.old }
+    requires levels { p < length levels.old }
+    ensures before { before.new ≡ slice_set before.old p class }
+    ensures classes { classes.new ≡ slice_set classes.old p class }
+    ensures levels { levels.new ≡ slice_set levels.old p None }
+{
+    before[p] = class;
+    classes[p] = class;
+    levels[p] = None;
+}
+
 /// Writes the current classes of a paragraph into both columns, and no levels.
 fn begin<L: Ledger>(
     explicit: &Explicit,
@@ -76,10 +97,29 @@ fn begin<L: Ledger>(
 {
     for p in 0..before.len() {
         steps.tick();
-        let class = current_class(explicit.at(p));
-        before[p] = class;
-        classes[p] = class;
-        levels[p] = None;
+        begin_at(p, current_class(explicit.at(p)), before, classes, levels);
+    }
+}
+
+/// Writes the classes of a paragraph's units into both columns, and no levels.
+fn begin_flat<L: Ledger>(
+    para: &[Unit],
+    before: &mut [Class],
+    classes: &mut [Class],
+    levels: &mut [Option<Level>],
+    steps: &mut Steps<L>,
+)
+    requires before { length before.old ≡ length para.now }
+    requires classes { length classes.old ≡ length para.now }
+    requires levels { length levels.old ≡ length para.now }
+    ensures before { before.new ≡ classes_of para.now }
+    ensures copy { classes.new ≡ before.new }
+    ensures none { (p : ℕ) → resolved_at levels.new p ≡ None }
+    ensures steps { steps.new ≡ steps.old + length para.now }
+{
+    for p in 0..para.len() {
+        steps.tick();
+        begin_at(p, para[p].class, before, classes, levels);
     }
 }
 
@@ -139,6 +179,33 @@ fn resolve_found<L: Ledger>(
     let before = &mut before[..para.len()];
     let classes = &mut classes[..para.len()];
     begin(explicit, before, classes, levels, steps);
+    resolve_each(sequences, para, before, pairs, classes, levels, steps);
+}
+
+/// W1 to I2 over a paragraph whose sequences were found, and whose current classes are its units'. It takes the fronts of the
+/// class columns.
+fn resolve_own<L: Ledger>(
+    para: &[Unit],
+    sequences: &Sequences,
+    pairs: &mut Pairs,
+    before: &mut [Class],
+    classes: &mut [Class],
+    levels: &mut [Option<Level>],
+    steps: &mut Steps<L>,
+)
+    requires apart { AreApart (length para.now) sequences.now.all }
+    requires pairs { length para.now ≤ length pairs.old }
+    requires before { length para.now ≤ length before.old }
+    requires classes { length para.now ≤ length classes.old }
+    requires levels { length levels.old ≡ length para.now }
+    ensures levels { HasLevelsBy para.now (classes_of para.now) sequences.now.all levels.new }
+    ensures room { length pairs.new ≡ length pairs.old }
+    ensures at_least { steps.old + length para.now ≤ steps.new }
+    ensures at_most { steps.new ≤ steps.old + 342 * length para.now }
+{
+    let before = &mut before[..para.len()];
+    let classes = &mut classes[..para.len()];
+    begin_flat(para, before, classes, levels, steps);
     resolve_each(sequences, para, before, pairs, classes, levels, steps);
 }
 
@@ -204,9 +271,40 @@ impl Resolver {
         level
     }
 
+    /// What `resolve` does for a paragraph of this level in which nothing begins or ends an embedding or an isolate, and
+    /// from which X9 removes nothing: all its positions are one sequence.
+    fn resolve_flat<L: Ledger>(
+        &mut self,
+        para: &[Unit],
+        level: ParaLevel,
+        levels: &mut [Option<Level>],
+        steps: &mut Steps<L>,
+    )
+        requires room { length para.now ≤ self.old }
+        requires separators { SeparatorOnlyLast para.now }
+        requires flat { IsFlat (classes_of para.now) }
+        requires levels { length levels.old ≡ length para.now }
+        ensures levels { levels.new ≡ resolved_levels para.now (level_of_para level) }
+        ensures room { self.new ≡ self.old }
+        ensures at_least { steps.old + 2 * length para.now ≤ steps.new }
+        ensures at_most { steps.new ≤ steps.old + 343 * length para.now }
+    {
+        self.sequences.fill_flat(para, level, steps);
+        resolve_own(
+            para,
+            &self.sequences,
+            &mut self.pairs,
+            &mut self.before,
+            &mut self.classes,
+            levels,
+            steps,
+        );
+    }
+
     /// Finds the level of a paragraph (P2, P3) and writes the resolved levels of its positions, none where X9 removes
     /// one (X1 to I2), over what `levels` held. Where no rule can change the paragraph's level at any position, that level
-    /// is written and nothing else is found. There is room for the paragraph, and no memory is taken.
+    /// is written and nothing else is found; where nothing begins or ends an embedding or an isolate and nothing is removed,
+    /// isolates and explicit levels aren't looked for. There is room for the paragraph, and no memory is taken.
     pub fn resolve<L: Ledger>(
         &mut self,
         para: &[Unit],
@@ -227,6 +325,10 @@ impl Resolver {
         let level = contents.para_level(direction);
         if contents.keeps(level) {
             write_level(level.level(), levels, steps);
+            return level;
+        }
+        if contents.flat {
+            self.resolve_flat(para, level, levels, steps);
             return level;
         }
         self.resolve_sequences(para, direction, levels, steps)
