@@ -1,10 +1,12 @@
 -- The breaks up to a position, and that they rise inside the text.
-use Rattle.std.proofs.Common.{rules, ◌≡◌, ℕ, zero, suc, ◌+◌, ◌-◌, ◌<◌, ◌≤◌, Bool, true, false, List, [], ◌∷◌, ◌++◌, length, refl, sym, ap, subst, ◌∙◌, arith, cond, slice_index}
+use Rattle.std.proofs.Common.{rules, ◌≡◌, ℕ, zero, suc, ◌+◌, ◌-◌, ◌<◌, ◌≤◌, Bool, true, false, List, [], ◌∷◌, ◌++◌, Result, Ok, Err, IsOk, MatchResult, inl, inr, length, refl, sym, ap, subst, ◌∙◌, arith, cond, slice_index}
 use Rattle.std.specs.Prelude.{filter}
 use Rattle.std.proofs.lemmas.List.Elements.{filter-append}
 use Rattle.units.specs.Positions.{positions_from}
 use Rattle.units.specs.declared.bracket.Unit.{Unit as BidiUnit}
-use Rattle.lines.specs.LineBreaks.{AreBreaks, Rises}
+use Rattle.lines.specs.declared.breaks.BreakFault.{BreakFault}
+use Rattle.lines.specs.declared.breaks.BreakFault.TheVariants.{OutOfRange, NotRising}
+use Rattle.lines.specs.LineBreaks.{AreBreaks, IsFirstFault, Rises}
 use Rattle.bidi.specs.Columns.{is_column_break, separates_at, paragraph_start}
 
 pub one_more_position : (s n : ℕ) → positions_from s (suc n) ≡ positions_from s n ++ ((s + n) ∷ [])
@@ -92,6 +94,21 @@ no_break_at_first text columns = search rules
 -- the positions that pass are breaks of a text of that length
 pub breaks-of-columns : (text : List BidiUnit) (columns n : ℕ) → AreBreaks (passing (is_column_break text columns) n) n
 breaks-of-columns text columns n = are-breaks _ n (passing-rises (is_column_break text columns) n (no_break_at_first text columns))
+
+no_fault : (at : List ℕ) (len : ℕ) (fault : BreakFault) → AreBreaks at len → IsFirstFault at len fault → ⊥
+no_fault at len (OutOfRange i) breaks h =
+    let inside = breaks.inside i h.0 in
+    elim h.2 [
+      | inl first ↦ let after : 0 < slice_index at i = inside.after_start in omega arith
+      | inr past ↦ let before : slice_index at i < len = inside.before_end in omega arith
+    ]
+no_fault at len (NotRising i) breaks h = let above : slice_index at (i - 1) < slice_index at i = breaks.rising i h.0 h.3 in let below = h.4 in omega arith
+
+-- breaks are never refused
+pub breaks_are_taken : {X : Type 0} (P : X → Type 0) (at : List ℕ) (len : ℕ) (answer : Result X BreakFault) → AreBreaks at len
+    → MatchResult answer P (IsFirstFault at len) → IsOk answer
+breaks_are_taken P at len (Ok taken) breaks h = refl
+breaks_are_taken P at len (Err fault) breaks h = absurd (no_fault at len fault breaks h)
 
 -- the paragraph's start, past one more position
 pub start_after_separator : (text : List BidiUnit) (p : ℕ) → separates_at text p ≡ true → p + 1 ≡ paragraph_start text (p + 1)

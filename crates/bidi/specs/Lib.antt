@@ -5,4 +5,5 @@ pub mod LevelsText
 pub mod Outcomes
 pub mod PrintedTexts
 pub mod ReorderText
+pub mod Rows
 pub mod VerdictText

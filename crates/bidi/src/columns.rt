@@ -3,6 +3,7 @@ ghost use Rattle.std.specs.Prelude.{◌≡◌, ◌<◌, ℕ, ◌-◌, ◌%◌, �
 ghost use Rattle.units.specs.Classes.{is_separator};
 ghost use Rattle.lines.specs.LineBreaks.{AreBreaks};
 ghost use Rattle.bidi.specs.Columns.{column_breaks_of};
+ghost use Rattle.bidi.specs.PrintedTexts.{breaks_of};
 
 use std::alloc::Global;
 use std::num::NonZeroU16;
@@ -50,4 +51,19 @@ pub fn column_breaks(
         }
     }
     Ok(breaks)
+}
+
+/// The breaks at columns where such are asked for, and else none. The error is refused memory.
+pub fn breaks_of(
+    alloc: Global,
+    text: &[Unit],
+    columns: Option<NonZeroU16>,
+) -> Result<Vec<usize>, Memory>
+    ensures breaks { IfOk result (λ breaks. breaks.items ≡ breaks_of text.now columns) }
+    ensures are { IfOk result (λ breaks. AreBreaks breaks.items (length text.now)) }
+{
+    match columns {
+        Some(columns) => column_breaks(alloc, text, columns),
+        None => Ok(Vec::new(alloc)),
+    }
 }

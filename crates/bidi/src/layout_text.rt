@@ -1,18 +1,15 @@
-// The texts of `levels` and `reorder`, over the parts of a layout.
+// The text of `levels`, over the parts of a layout.
 ghost use Rattle.std.specs.Prelude.{◌≡◌, ◌≤◌, length, map, slice_index_or, OnOk};
 ghost use Rattle.std.specs.Io.KnownBytes.{Appends};
-ghost use Rattle.units.specs.Classes.{is_separator};
 ghost use Rattle.units.specs.Isolates.{level_of_para};
 ghost use Rattle.lines.specs.Layouts.{view_of};
 ghost use Rattle.bidi.specs.LevelsText.{printed, text_at_position, levels_text};
-ghost use Rattle.bidi.specs.ReorderText.{text_unless};
 
 use crate::position_line::{print_paragraph, print_position};
 use lines::layout::Layout;
 use std::io;
 use std::io::Write;
 use units::bracket::Unit;
-use units::class::Class;
 use units::level::{Level, ParaLevel};
 
 /// Writes the lines of the positions from `start` up to `end` of a text, by its characters, units and levels after L1.
@@ -66,15 +63,4 @@ pub fn print_paragraphs<W: Write>(
         print_positions(w, chars, text, layout.levels(), line.start, line.end)?;
     }
     Ok(())
-}
-
-/// Writes a character in UTF-8 as it is shown, unless a paragraph separator stands there.
-fn print_shown<W: Write>(w: &mut W, class: Class, character: char) -> io::Result<()>
-    ensures { OnOk result (Appends (W.contents w.old) (W.contents w.new)
-        (text_unless (is_separator class) character)) }
-{
-    if class.is_separator() {
-        return Ok(());
-    }
-    write!(w, "{character}")
 }

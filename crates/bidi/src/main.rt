@@ -10,6 +10,9 @@ mod layout_text;
 mod outcome;
 mod position_line;
 mod print;
+#[cfg(test)]
+mod reorder_tests;
+mod reorder_text;
 mod run;
 #[cfg(test)]
 mod tests;

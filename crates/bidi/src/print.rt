@@ -6,15 +6,19 @@ ghost use Rattle.units.specs.Layout.{layout_of};
 ghost use Rattle.lines.specs.Layouts.{view_of};
 ghost use Rattle.lines.specs.Scratches.{room_of};
 ghost use Rattle.bidi.specs.LevelsText.{levels_text};
-ghost use Rattle.bidi.specs.PrintedTexts.{units_of, printed_levels};
+ghost use Rattle.bidi.specs.ReorderText.{reorder_text};
+ghost use Rattle.bidi.specs.PrintedTexts.{units_of, breaks_of, printed_levels, printed_reorder};
 
+use crate::columns::breaks_of;
 use crate::fault::PrintFault;
 use crate::layout_text::print_paragraphs;
+use crate::reorder_text::print_lines;
 use lines::breaks::Breaks;
 use lines::lay_out::lay_out_uncounted;
 use lines::scratch::Scratch;
 use std::alloc::Global;
 use std::io::Write;
+use std::num::NonZeroU16;
 use ucdfiles::tables::Tables;
 use units::bracket::Unit;
 use units::level::Direction;
@@ -66,5 +70,31 @@ pub fn print_levels<W: Write>(
     let breaks = Breaks::new(&[], text.len()).unwrap();
     let layout = lay_out_uncounted(&mut room, &units, direction, &breaks).unwrap();
     print_paragraphs(w, text, &units, &layout)?;
+    Ok(())
+}
+
+/// Writes a text as it is shown: each line from left to right (L2), in UTF-8, with mirror images at odd levels (L4), without
+/// paragraph separators and without what was removed (X9), and LF behind it. With `columns` a line breaks at every so many
+/// positions, counted from the paragraph's start, unless a paragraph separator stands there; removed positions count too.
+/// Without, each paragraph is a line. The text may have 16,777,216 characters. The fault is `Write` where the writer fails,
+/// when it is not known how much it took, and `Memory` where memory is refused.
+pub fn print_reorder<W: Write>(
+    alloc: Global,
+    w: &mut W,
+    tables: &Tables,
+    text: &[char],
+    direction: Direction,
+    columns: Option<NonZeroU16>,
+) -> Result<(), PrintFault>
+    requires { length text.now ≤ 16777216 }
+    ensures { OnOk result (Appends (W.contents w.old) (W.contents w.new)
+        (printed_reorder tables.now text.now direction columns)) }
+{
+    let units = units_of(alloc, tables, text)?;
+    let mut room = room_for(alloc, text.len())?;
+    let positions = breaks_of(alloc, &units, columns)?;
+    let at_columns = Breaks::new(&positions, text.len()).unwrap();
+    let layout = lay_out_uncounted(&mut room, &units, direction, &at_columns).unwrap();
+    print_lines(w, tables.mirrors(), text, &units, &layout)?;
     Ok(())
 }
