@@ -201,7 +201,7 @@ fn resolve_own<L: Ledger>(
     ensures levels { HasLevelsBy para.now (classes_of para.now) sequences.now.all levels.new }
     ensures room { length pairs.new ≡ length pairs.old }
     ensures at_least { steps.old + length para.now ≤ steps.new }
-    ensures at_most { steps.new ≤ steps.old + 342 * length para.now }
+    ensures at_most { steps.new ≤ steps.old + 146 * length para.now }
 {
     let before = &mut before[..para.len()];
     let classes = &mut classes[..para.len()];
@@ -287,7 +287,7 @@ impl Resolver {
         ensures levels { levels.new ≡ resolved_levels para.now (level_of_para level) }
         ensures room { self.new ≡ self.old }
         ensures at_least { steps.old + 2 * length para.now ≤ steps.new }
-        ensures at_most { steps.new ≤ steps.old + 343 * length para.now }
+        ensures at_most { steps.new ≤ steps.old + 147 * length para.now }
     {
         self.sequences.fill_flat(para, level, steps);
         resolve_own(
