@@ -27,13 +27,16 @@ pub(crate) fn resolve_text<L: Ledger>(
     ensures paras { map level_of_para paras.new.items ≡ para_levels_of text.now direction }
     ensures paras_room { vec_capacity paras.new ≡ vec_capacity paras.old }
     ensures levels { take (length text.now) levels.new ≡ text_levels text.now direction }
-    ensures at_least { steps.old + 2 * length text.now ≤ steps.new }
-    ensures at_most { steps.new ≤ steps.old + 464 * length text.now }
+    ensures at_least { steps.old + 3 * length text.now ≤ steps.new }
+    ensures at_most { steps.new ≤ steps.old + 194 * length text.now }
 {
     paras.clear();
     let mut start = 0;
     for para in paragraphs(text) {
         steps.tick();
+
+        // P1: the units that the search for the paragraph's end passed.
+        steps.add(para.len());
         let end = start + para.len();
         let level = resolver.resolve(para, direction, &mut levels[start..end], steps);
         paras.push_reserved(level);

@@ -131,8 +131,8 @@ impl Scratch {
         ensures room { room_of self.new ≡ room_of self.old }
         ensures filled { IsFilled self.new }
         ensures layout { layout_in self.new ≡ layout_of text.now direction breaks.now.positions }
-        ensures at_least { steps.old + 6 * length text.now ≤ steps.new }
-        ensures at_most { steps.new ≤ steps.old + 848 * length text.now }
+        ensures at_least { steps.old + 7 * length text.now ≤ steps.new }
+        ensures at_most { steps.new ≤ steps.old + 578 * length text.now }
     {
         resolve_text(
             text,
