@@ -1,21 +1,13 @@
 -- Lists of classes that are given index by index.
-use Rattle.std.specs.Prelude.{Option, Some, Bool, true, false, if◌then◌else◌, ℕ, zero, suc, ◌+◌, ◌<◌, ◌≡◌, List, ◌∷◌, length, map, refl}
-use Rattle.std.proofs.Common.{arith, ap, ◌∙◌, get_or, drop, add-one}
+use Rattle.std.specs.Prelude.{Option, Some, Bool, true, false, if◌then◌else◌, ℕ, ◌+◌, ◌<◌, ◌≡◌, List, ◌∷◌, length, map, refl}
+use Rattle.std.proofs.Common.{arith, ap, ◌∙◌, drop, add-one}
 use Rattle.std.proofs.lemmas.List.{drop_more, get_or-map, length-map, ext_get_or}
 use Rattle.units.specs.Positions.{positions_from, last_below}
 use Rattle.units.specs.Classes.{class_at}
 use Rattle.units.specs.Weak.{at_each, class_or, nearest_before}
 use Rattle.units.specs.declared.class.Class.{Class}
 use Rattle.units.specs.declared.class.Class.TheVariants.{L}
-
-pub length-positions_from : (start count : ℕ) → length (positions_from start count) ≡ count
-length-positions_from start zero = refl
-length-positions_from start (suc count) = ap suc (length-positions_from (start + 1) count)
-
-pub get_or-positions_from : (start count k d : ℕ) → k < count → get_or (positions_from start count) k d ≡ start + k
-get_or-positions_from start zero k d h = absurd (omega arith)
-get_or-positions_from start (suc count) zero d h = omega arith
-get_or-positions_from start (suc count) (suc k) d h = get_or-positions_from (start + 1) count k d (omega arith) ∙ omega arith
+use Rattle.explicit.proofs.Positions.{length-positions_from, get_or-positions_from}
 
 pub length-at_each : (f : ℕ → Class) (cs : List Class) → length (at_each f cs) ≡ length cs
 length-at_each f cs = length-map (positions_from 0 (length cs)) f ∙ length-positions_from 0 (length cs)

@@ -11,7 +11,7 @@ use Rattle.units.specs.Brackets.{follows_bracket, given_to}
 use Rattle.units.specs.declared.class.Class.{Class}
 use Rattle.units.specs.declared.class.Class.TheVariants.{L}
 use Rattle.resolve.proofs.AtEach.{length-at_each, class_at-at_each, same_classes}
-use Rattle.resolve.proofs.Positions.{positions_from-push}
+use Rattle.explicit.proofs.Positions.{positions_from-next}
 
 abbrev marks : List Class → ℕ → ℕ → Bool
 marks before b j = list_all (λ i. is_nonspacing (class_at before i)) (positions_from (b + 1) (j - b))
@@ -49,7 +49,7 @@ follows_bracket-more before b j le =
     let mark : ℕ → Bool = λ i. is_nonspacing (class_at before i) in
     follows_bracket-from before b (suc j) (omega arith)
     ∙ ap (λ m. list_all mark (positions_from (b + 1) m)) n
-    ∙ ap (list_all mark) (positions_from-push (b + 1) (j - b) ∙ ap (λ p. positions_from (b + 1) (j - b) ++ p ∷ []) e)
+    ∙ ap (list_all mark) (positions_from-next (b + 1) (j - b) ∙ ap (λ p. positions_from (b + 1) (j - b) ++ p ∷ []) e)
     ∙ list_all-append mark (positions_from (b + 1) (j - b)) (suc j ∷ [])
     ∙ ap (λ t. marks before b j && t) (and-of-true (mark (suc j)))
     ∙ ap (λ t. t && mark (suc j)) (sym (follows_bracket-from before b j le))

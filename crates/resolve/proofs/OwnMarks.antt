@@ -10,7 +10,7 @@ use Rattle.units.specs.Layout.{current_of}
 use Rattle.units.specs.Positions.{positions_of}
 use Rattle.units.specs.declared.class.Class.{Class}
 use Rattle.units.specs.declared.class.Class.TheVariants.{L, BN, LRO, RLO}
-use Rattle.resolve.proofs.AtEach.{length-positions_from, get_or-positions_from}
+use Rattle.explicit.proofs.Positions.{length-positions_from, get_or-positions_from}
 
 -- an override is no mark
 abbrev IsUnmarked : Option Class → Type 0

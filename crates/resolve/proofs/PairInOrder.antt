@@ -10,7 +10,7 @@ use Rattle.units.specs.Weak.{class_or}
 use Rattle.units.specs.Brackets.{strong_as, context_before, direction_of_pair, follows_bracket, given_to, with_direction, after_pair, after_paired}
 use Rattle.units.specs.declared.class.Class.{Class}
 use Rattle.units.specs.declared.class.Class.TheVariants.{L}
-use Rattle.resolve.proofs.Positions.{positions_from-push}
+use Rattle.explicit.proofs.Positions.{positions_from-next}
 use Rattle.resolve.proofs.AtEach.{length-at_each, class_at-at_each}
 use Rattle.resolve.proofs.Giving.{follows_bracket-below}
 
@@ -69,7 +69,7 @@ fold-next : (embedding sos : Class) (before : List Class) (closer : ℕ → Opti
 fold-next embedding sos before closer old k =
     let e : 0 + k ≡ k = omega arith in
     let step = each_pair embedding sos before closer in
-    ap (fold (each_pair embedding sos before closer) old) (positions_from-push 0 k ∙ ap (λ p. positions_from 0 k ++ p ∷ []) e)
+    ap (fold (each_pair embedding sos before closer) old) (positions_from-next 0 k ∙ ap (λ p. positions_from 0 k ++ p ∷ []) e)
     ∙ fold-append (each_pair embedding sos before closer) old (positions_from 0 k) (k ∷ [])
 
 -- one index further, where the pair that begins there, if one does, gives these classes

@@ -16,7 +16,7 @@ use Rattle.sequences.specs.Links.{ArePositions}
 use Rattle.resolve.specs.declared.openers.Opener.{Opener}
 use Rattle.resolve.specs.Stack.{topmost_of, popped, closed_at, blank}
 use Rattle.resolve.specs.Pairs.{closer_in, brackets_at, KeepsOtherClosers}
-use Rattle.resolve.proofs.Positions.{last_below-lt, last_below-passes, last_below-none_passes, last_below-above_fails}
+use Rattle.explicit.proofs.Positions.{last_below_none, last_below_some}
 use Rattle.resolve.proofs.BracketSteps.{Keeps, Pops, no_bracket, an_opener, a_closer_alone, a_closer_matched, open_before-opens}
 use Rattle.resolve.proofs.CountingPairs.{opener_cases, closer_of-push_same, closer_of-push_other, closer_of-uncovered, stopped_at, never_stopped}
 use Rattle.resolve.proofs.Gathered.{apart, length-classes_at, class_at-classes_at}
@@ -133,7 +133,7 @@ alone_at bs ps start k stack closers key s here none =
     let m = length_at bs ps start k stack closers s in
     let alone : (j : ℕ) → j < length (open_before bs k) → closes (bracket_at bs (get_or (open_before bs k) j 0)) (Close key) ≡ false = λ j lt.
     sym (key_at bs ps start k stack closers key s j lt)
-    ∙ last_below-none_passes (λ i. eqb (slice_index_or stack i blank).key.0 key.0) (length stack) none j (omega arith) in
+    ∙ last_below_none (λ i. eqb (slice_index_or stack i blank).key.0 key.0) (length stack) none j (omega arith) in
     keeps_at bs ps start k stack closers s (ap is_open here) (a_closer_alone bs k key here alone)
 
 -- the table after the pair (o, k)
@@ -158,13 +158,13 @@ pops_at : (bs : List Bracket) (ps : List ℕ) (start : List (Option ℕ)) (k : �
 pops_at bs ps start k stack closers key i s here lt some =
     let m = length_at bs ps start k stack closers s in
     let test : ℕ → Bool = λ j. eqb (slice_index_or stack j blank).key.0 key.0 in
-    let low : i < length stack = last_below-lt test (length stack) i some in
+    let low : i < length stack = (last_below_some test (length stack) i some).within in
     let within : i < length (open_before bs k) = omega arith in
     let o : ℕ = get_or (open_before bs k) i 0 in
     let opens = open_before-opens bs k i within in
     let pops : Pops bs k i = a_closer_matched bs k i key here within
-    (sym (key_at bs ps start k stack closers key s i within) ∙ last_below-passes test (length stack) i some)
-    (λ j gt below. sym (key_at bs ps start k stack closers key s j below) ∙ last_below-above_fails test (length stack) i some j gt (omega arith)) in
+    (sym (key_at bs ps start k stack closers key s i within) ∙ (last_below_some test (length stack) i some).passes)
+    (λ j gt below. sym (key_at bs ps start k stack closers key s j below) ∙ (last_below_some test (length stack) i some).fails_after j gt (omega arith)) in
     let free = closer_of-uncovered bs k o (and_parts (is_open (bracket_at bs o)) (is_uncovered (pairs_before bs k) o) opens.0).1 in
     let inside : o < length ps = omega (arith, opens.1) in
     let e = place_at bs ps start k stack closers s i within in
