@@ -15,7 +15,7 @@ use Rattle.units.specs.declared.bracket.Unit.{Unit as BidiUnit}
 use Rattle.units.specs.declared.class.Class.{Class}
 use Rattle.explicit.specs.ExplicitLevels.{HoldsLevels}
 use Rattle.explicit.proofs.InsideIsolates.{nested}
-use Rattle.explicit.proofs.Leveled.{leveled, size-is, get_or-of_positions}
+use Rattle.explicit.proofs.Leveled.{leveled, size-is, get_or-of_positions, length-of_positions}
 use Rattle.explicit.proofs.Positions.{length-positions_from, get_or-positions_from}
 use Rattle.sequences.specs.Links.{ArePositions}
 use Rattle.sequences.specs.Once.{HoldsOnce}
@@ -24,10 +24,8 @@ use Rattle.sequences.proofs.Forward.{successor_later}
 use Rattle.sequences.proofs.Links.{followed_rises, rising_positions}
 use Rattle.sequences.proofs.Once.{sequences_hold_once}
 use Rattle.resolve.proofs.OwnMarks.{current-own}
-use Rattle.resolve.specs.Covering.{AreApart, HasLevelsBy, KeepsMarks}
-
-length-of_positions : (cs : List Class) {A : Type 0} (f : ℕ → A) → length (map f (positions_of cs)) ≡ length cs
-length-of_positions cs f = length-map (positions_of cs) f ∙ length-positions_from 0 (length cs)
+use Rattle.resolve.specs.Covering.{AreApart, HasLevelsBy}
+use Rattle.resolve.specs.Pairs.{MarksAreOwn}
 
 at_most_one : (b : Bool) → (if b then 1 else 0) ≤ 1
 at_most_one true = omega arith
@@ -76,8 +74,8 @@ module _ (us : List BidiUnit) (para : ℕ) (low : para ≤ 1) (only : SeparatorO
       }
 
 -- no override makes a mark
-pub marks_are_kept : (us : List BidiUnit) (para : ℕ) → KeepsMarks us (current_of (explicit_of (classes_of us) para))
-marks_are_kept us para = current-own (classes_of us) para
+pub marks_are_kept : (us : List BidiUnit) (para : ℕ) (ps : List ℕ) → MarksAreOwn ps us (current_of (explicit_of (classes_of us) para))
+marks_are_kept us para ps = λ p within. current-own (classes_of us) para p
 
 -- the front of what was found is what the rules give
 pub found_front : (places : List (Option (ℕ × Class))) (cs : List Class) (para : ℕ) → HoldsLevels places cs para → take (length cs) places ≡ explicit_of cs para
@@ -107,8 +105,8 @@ module _ (us : List BidiUnit) (para : ℕ) (places : List (Option (ℕ × Class)
       let n : length (classes_of us) ≡ length us = length-map us (λ (u : BidiUnit). u.class) in
       ap current_of (ap (λ (k : ℕ). take k places) (sym n) ∙ found_front places (classes_of us) para holds)
 
-  pub found_marks : KeepsMarks us (current_of (take (length us) places))
-  found_marks = subst (KeepsMarks us) (sym front) (marks_are_kept us para)
+  pub found_marks : (ps : List ℕ) → MarksAreOwn ps us (current_of (take (length us) places))
+  found_marks ps = subst (MarksAreOwn ps us) (sym front) (marks_are_kept us para ps)
 
   pub found_levels : (all : List SequenceView) (levels : List (Option ℕ)) → all ≡ sequences_of (leveled_of (classes_of us) para) → length levels ≡ length us →
       HasLevelsBy us (current_of (take (length us) places)) all levels → levels ≡ resolved_levels us para

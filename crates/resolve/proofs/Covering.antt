@@ -1,12 +1,11 @@
 -- Sequence by sequence, each position gets the level that its sequence gives it.
-use Rattle.std.specs.Prelude.{Option, Some, None, ℕ, zero, suc, true, ◌==◌, ◌+◌, ◌<◌, ◌≤◌, ◌≡◌, List, [], ◌∷◌, ◌++◌, cond, length, map, take, drop, Contains, slice_index, slice_get, refl}
+use Rattle.std.specs.Prelude.{Option, Some, None, ℕ, zero, suc, ◌==◌, ◌+◌, ◌<◌, ◌≤◌, ◌≡◌, List, [], ◌∷◌, ◌++◌, length, map, take, drop, Contains, slice_index, slice_get, refl}
 use Rattle.std.specs.List.{All, flat_map, find, zip}
 use Rattle.std.specs.Option.{option_map}
-use Rattle.std.proofs.Common.{arith, ap, sym, ◌∙◌, subst, inl, inr}
-use Rattle.std.proofs.lemmas.Bool.{cases_Bool, cases_lt, cond-true, cond-false, eqb-true, eq-eqb}
+use Rattle.std.proofs.Common.{arith, ap, sym, ◌∙◌, subst, inl, inr, get_or}
+use Rattle.std.proofs.lemmas.Bool.{cases_Bool, cases_lt, cond-true, cond-false, eqb-true}
 use Rattle.std.proofs.lemmas.List.{length-append, length-map, take-append-drop, take_more, append_assoc, append-nil}
-use Rattle.std.proofs.lemmas.List.Elements.{All-contains, All-get_or}
-use Rattle.std.proofs.lemmas.List.Sums.{sum_by-append}
+use Rattle.std.proofs.lemmas.List.Elements.{All-contains, All-get_or, Contains-append_left, Contains-append_right}
 use Rattle.std.proofs.lemmas.Option.{get_or_from_slice_get}
 use Rattle.units.specs.Classes.{class_at, classes_at}
 use Rattle.units.specs.Layout.{levels_in, level_found, levels_of_sequence}
@@ -15,22 +14,16 @@ use Rattle.units.proofs.Lengths.{length-levels_of_sequence}
 use Rattle.units.specs.declared.bracket.Unit.{Unit as BidiUnit}
 use Rattle.units.specs.declared.class.Class.{Class}
 use Rattle.sequences.specs.Once.{times}
-use Rattle.sequences.proofs.Once.{one_if, times-cons}
+use Rattle.sequences.proofs.Once.{one_if, one_if-same, times-append, times-cons}
 use Rattle.resolve.specs.Covering.{positions_in, AreApart, HasLevelsBy}
 use Rattle.resolve.specs.Raised.{resolved_at}
 use Rattle.resolve.specs.Resolved.{HasLevels, KeepsOtherLevels}
 use Rattle.resolve.specs.Rewritten.{KeepsOthers}
 
-times-append : (xs ys : List ℕ) (p : ℕ) → times (xs ++ ys) p ≡ times xs p + times ys p
-times-append xs ys p = sum_by-append (λ q. cond (q == p) 1 0) xs ys
-
-one_if-same : (x p : ℕ) → (x == p) ≡ true → one_if x p ≡ 1
-one_if-same x p e = cond-true (x == p) 1 0 e
-
 -- a position that a list holds stands in it
 pub times_some : (ps : List ℕ) (p : ℕ) → Contains ps p → 0 < times ps p
 times_some [] p c = absurd (omega (arith, c.1))
-times_some (x ∷ ps) p (zero, within, e) = omega (arith, times-cons x ps p, one_if-same x p (eq-eqb x p e))
+times_some (x ∷ ps) p (zero, within, e) = omega (arith, times-cons x ps p, one_if-same x p e)
 times_some (x ∷ ps) p (suc k, within, e) = omega (arith, times-cons x ps p, times_some ps p (k, omega arith, e))
 
 -- what is found for a position that the list does not hold
@@ -39,7 +32,7 @@ found_none [] vs p e = refl
 found_none (x ∷ ps) [] p e = refl
 found_none (x ∷ ps) (v ∷ vs) p e =
     elim (cases_Bool (x == p)) [
-      | inl same ↦ absurd (omega (arith, e, times-cons x ps p, one_if-same x p same))
+      | inl same ↦ absurd (omega (arith, e, times-cons x ps p, one_if-same x p (eqb-true x p same)))
       | inr other ↦
           ap (option_map (λ (y : ℕ × ℕ). y.1)) (cond-false (x == p) (Some (x, v)) (find (λ (y : ℕ × ℕ). y.0 == p) (zip ps vs)) other)
           ∙ found_none ps vs p (omega (arith, e, times-cons x ps p))
@@ -134,6 +127,11 @@ map_where {B} f g (p ∷ ps) same =
     let rest : map f ps ≡ map g ps = map_where f g ps (λ q c. same q (suc c.0, omega (arith, c.1), c.2)) in
     ap (λ (x : B). x ∷ map f ps) here ∙ ap (λ (xs : List B). g p ∷ xs) rest
 
+contained : (all : List SequenceView) (k : ℕ) (d : SequenceView) → k < length all → (p : ℕ) → Contains (get_or all k d).positions p → Contains (positions_in all) p
+contained [] k d h p c = absurd (omega arith)
+contained (s ∷ all) zero d h p c = Contains-append_left s.positions (positions_in all) p c
+contained (s ∷ all) (suc k) d h p c = Contains-append_right s.positions (positions_in all) p (contained all k d (omega arith) p c)
+
 -- no position of the sequence stands in an earlier one
 module _ {extent : ℕ} {all : List SequenceView} (apart : AreApart extent all) {k : ℕ} {s : SequenceView} (at : slice_get all k ≡ Some s) (inside : k < length all) where
   pub take_next : take (k + 1) all ≡ take k all ++ (s ∷ [])
@@ -154,6 +152,11 @@ module _ {extent : ℕ} {all : List SequenceView} (apart : AreApart extent all) 
       All-contains (λ q. q < extent) s.positions p
       (let P : SequenceView → Type 0 = λ x. All (λ q. q < extent) x.positions in
       subst P (get_or_from_slice_get all k s s at) (All-get_or P all k s inside apart.within)) c
+
+  pub stands_in_all : (p : ℕ) → Contains s.positions p → Contains (positions_in all) p
+  stands_in_all p c =
+      let P : SequenceView → Type 0 = λ x. Contains x.positions p in
+      contained all k s inside p (subst P (sym (get_or_from_slice_get all k s s at)) c)
 
   pub extent_of : s.extent ≡ extent
   extent_of =

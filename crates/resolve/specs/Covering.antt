@@ -1,7 +1,6 @@
 -- The sequences of a paragraph, of which no two share a position (BD13), and the levels that they give it.
-use Rattle.std.specs.Prelude.{Option, ℕ, true, ◌<◌, ◌≤◌, ◌≡◌, List, length}
+use Rattle.std.specs.Prelude.{Option, ℕ, ◌<◌, ◌≤◌, ◌≡◌, List, length}
 use Rattle.std.specs.List.{All, flat_map}
-use Rattle.units.specs.Classes.{class_at, classes_of, is_nonspacing}
 use Rattle.units.specs.Layout.{levels_in, level_found}
 use Rattle.units.specs.Runs.{SequenceView}
 use Rattle.units.specs.declared.bracket.Unit.{Unit as BidiUnit}
@@ -24,7 +23,3 @@ pub record AreApart (extent : ℕ) (all : List SequenceView) : Type 0 where
 -- W1 to I2: each position has the level that these sequences give it, by the classes before W1, and none if it stands in none of them
 abbrev pub HasLevelsBy : List BidiUnit → List Class → List SequenceView → List (Option ℕ) → Type 0
 HasLevelsBy us before all levels = (p : ℕ) → p < length us → resolved_at levels p ≡ level_found (flat_map (levels_in us before) all) p
-
--- what is a mark just before W1 is a mark by its own class: no override makes one (X4, X5)
-abbrev pub KeepsMarks : List BidiUnit → List Class → Type 0
-KeepsMarks us before = (p : ℕ) → is_nonspacing (class_at before p) ≡ true → is_nonspacing (class_at (classes_of us) p) ≡ true

@@ -7,7 +7,8 @@ ghost use Rattle.units.specs.Layout.{current_of, resolved_levels};
 ghost use Rattle.units.specs.Paragraphs.{SeparatorOnlyLast};
 ghost use Rattle.units.specs.declared.class.Class.TheVariants.{BN};
 ghost use Rattle.flat.specs.Flat.{IsFlat};
-ghost use Rattle.resolve.specs.Covering.{AreApart, HasLevelsBy, KeepsMarks};
+ghost use Rattle.resolve.specs.Covering.{AreApart, HasLevelsBy, positions_in};
+ghost use Rattle.resolve.specs.Pairs.{MarksAreOwn};
 ghost use Rattle.resolve.specs.Raised.{resolved_at};
 
 use crate::contents::Contents;
@@ -135,7 +136,7 @@ fn resolve_each<L: Ledger>(
     steps: &mut Steps<L>,
 )
     requires apart { AreApart (length para.now) sequences.now.all }
-    requires marks { KeepsMarks para.now before.now }
+    requires marks { MarksAreOwn (positions_in sequences.now.all) para.now before.now }
     requires before { length before.now ≡ length para.now }
     requires copy { classes.old ≡ before.now }
     requires levels { length levels.old ≡ length para.now }
@@ -166,7 +167,7 @@ fn resolve_found<L: Ledger>(
 )
     requires found { length para.now ≤ length explicit.now }
     requires apart { AreApart (length para.now) sequences.now.all }
-    requires marks { KeepsMarks para.now (current_of (take (length para.now) explicit.now)) }
+    requires marks { MarksAreOwn (positions_in sequences.now.all) para.now (current_of (take (length para.now) explicit.now)) }
     requires pairs { length para.now ≤ length pairs.old }
     requires before { length para.now ≤ length before.old }
     requires classes { length para.now ≤ length classes.old }

@@ -1,5 +1,5 @@
 use Rattle.std.proofs.Common.{arith, rules}
-use Rattle.resolve.proofs.Covering.{covered_none, covered_next, copied, length_next}
+use Rattle.resolve.proofs.Covering.{covered_none, covered_next, copied, length_next, stands_in_all}
 use Rattle.resolve.proofs.paragraph.resolve_each.Goals as goal
 
 pub loop-k-init : goal.loop-k-init
@@ -13,6 +13,9 @@ loop-k-init g c = record {
 pub resolve_sequence-requires-clause-copy : goal.resolve_sequence-requires-clause-copy
 resolve_sequence-requires-clause-copy g c =
     copied c.requires.apart c.get-sequence.ensures.value (omega arith) c.loop-k.classes c.args.before.now c.loop-k.invariant.covered.kept
+
+pub resolve_sequence-requires-clause-marks : goal.resolve_sequence-requires-clause-marks
+resolve_sequence-requires-clause-marks g c = λ p h. c.requires.marks p (stands_in_all c.requires.apart c.get-sequence.ensures.value (omega arith) p h)
 
 pub loop-k-preserved : goal.loop-k-preserved
 loop-k-preserved g c = record {

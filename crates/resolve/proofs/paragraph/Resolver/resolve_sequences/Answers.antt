@@ -4,7 +4,7 @@ use Rattle.units.specs.Layout.{resolved_levels}
 use Rattle.units.specs.Runs.{SequenceView}
 use Rattle.units.specs.declared.level.ParaLevel.{ParaLevel}
 use Rattle.units.specs.declared.level.ParaLevel.TheVariants.{Zero, One}
-use Rattle.resolve.specs.Covering.{AreApart}
+use Rattle.resolve.specs.Covering.{AreApart, positions_in}
 use Rattle.resolve.proofs.AllSequences.{sequences_are_apart, found_marks, found_levels}
 use Rattle.resolve.proofs.paragraph.Resolver.resolve_sequences.Goals as goal
 
@@ -20,7 +20,7 @@ resolve_found-requires-clause-apart g c =
 
 pub resolve_found-requires-clause-marks : goal.resolve_found-requires-clause-marks
 resolve_found-requires-clause-marks g c =
-    found_marks c.args.para.now (level_of_para c.para_level-level.result) c.explicit_levels.new.out c.explicit_levels.ensures.found
+    found_marks c.args.para.now (level_of_para c.para_level-level.result) c.explicit_levels.new.out c.explicit_levels.ensures.found (positions_in c.fill-2.new.self.all)
 
 pub returns-clause-levels : goal.returns-clause-levels
 returns-clause-levels g c =
