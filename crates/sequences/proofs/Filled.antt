@@ -1,13 +1,11 @@
 -- What the filled lists say of the successors.
-use Rattle.std.specs.Prelude.{Option, Some, None, ℕ, zero, suc, Bool, false, ◌<◌, ◌≤◌, ◌≡◌, List, [], ◌∷◌, ◌++◌, length, take, IfSome, is_some, refl}
-use Rattle.std.specs.List.{list_any}
+use Rattle.std.specs.Prelude.{Option, Some, None, ℕ, zero, suc, false, ◌<◌, ◌≡◌, List, ◌∷◌, ◌++◌, length, take, IfSome, is_some, refl}
 use Rattle.std.proofs.Common.{arith, ap, sym, ◌∙◌, subst, drop, inl, inr}
 use Rattle.std.proofs.lemmas.Bool.{cases_lt, cond-false}
 use Rattle.std.proofs.lemmas.List.{get_or_past, take_at}
-use Rattle.units.specs.Positions.{is_same, positions_from}
 use Rattle.units.specs.Runs.{followed, LeveledView, IsLeveled, size_of, level_of, remains, next_remaining, successor_by, successor}
-use Rattle.sequences.specs.Links.{link_at, linked, IsLinked, is_joined}
-use Rattle.sequences.specs.Heads.{IsMarked, AreSuccessors}
+use Rattle.sequences.specs.Links.{link_at, linked, IsLinked}
+use Rattle.sequences.specs.Heads.{AreSuccessors}
 use Rattle.sequences.proofs.Forward.{successor_later}
 
 -- a loan of a whole list, given back
@@ -23,13 +21,6 @@ same_walk : (f g : ℕ → Option ℕ) → ((p : ℕ) → f p ≡ g p) → (n : 
 same_walk f g e zero at = refl
 same_walk f g e (suc n) None = refl
 same_walk f g e (suc n) (Some p) = ap (λ (ps : List ℕ). p ∷ ps) (same_walk f g e n (f p) ∙ ap (followed g n) (e p))
-
-same_any : (f g : ℕ → Bool) → ((p : ℕ) → f p ≡ g p) → (ps : List ℕ) → list_any f ps ≡ list_any g ps
-same_any f g e [] = refl
-same_any f g e (p ∷ ps) =
-    let here : f p ≡ g p = e p in
-    let rest : list_any f ps ≡ list_any g ps = same_any f g e ps in
-    cc
 
 module _ (t : LeveledView) (links : List (Option ℕ)) (fit : length links ≡ size_of t) (are : AreSuccessors t links) where
   -- past the end no position has a link, and none a successor
@@ -51,12 +42,3 @@ module _ (t : LeveledView) (links : List (Option ℕ)) (fit : length links ≡ s
   pub linked_is : (p : ℕ) → linked links (Some p) ≡ followed (successor t) (size_of t) (Some p)
   linked_is p =
       same_walk (link_at links) (successor t) links_are (length links) (Some p) ∙ ap (λ n. followed (successor t) n (Some p)) fit
-
-  -- the marks by the links are the marks by the successors
-  pub marks_are : (joined : List Bool) (size : ℕ) → size_of t ≤ size →
-      ((q : ℕ) → q < size → is_joined joined q ≡ list_any (λ p. is_same (link_at links p) (Some q)) (positions_from 0 (length links))) →
-      IsMarked t joined
-  marks_are joined size l h q k =
-      h q (omega arith)
-      ∙ same_any (λ p. is_same (link_at links p) (Some q)) (λ p. is_same (successor t p) (Some q)) (λ p. ap (λ (o : Option ℕ). is_same o (Some q)) (links_are p)) (positions_from 0 (length links))
-      ∙ ap (λ n. list_any (λ p. is_same (successor t p) (Some q)) (positions_from 0 n)) fit

@@ -1,5 +1,5 @@
 -- Positions that are joined by links, each to the next.
-use Rattle.std.specs.Prelude.{Option, Bool, false, ℕ, ◌+◌, ◌<◌, ◌≡◌, List, length, None, IfSome, slice_index, slice_index_or, slice_get}
+use Rattle.std.specs.Prelude.{Option, Bool, true, false, ℕ, ◌+◌, ◌<◌, ◌≡◌, List, length, Some, None, IfSome, slice_index, slice_index_or, slice_set, slice_get}
 use Rattle.units.specs.Runs.{followed}
 
 -- the link of a position, if it has one
@@ -9,6 +9,11 @@ link_at links p = slice_index_or links p None
 -- whether a position is marked as one that comes after another
 abbrev pub is_joined : List Bool → ℕ → Bool
 is_joined joined p = slice_index_or joined p false
+
+-- the marks, with one more at the position that a link leads to
+abbrev pub marked : List Bool → Option ℕ → List Bool
+marked joined None = joined
+marked joined (Some q) = slice_set joined q true
 
 -- the position that is given, and what its links lead to
 abbrev pub linked : List (Option ℕ) → Option ℕ → List ℕ

@@ -1,9 +1,6 @@
-ghost use Rattle.std.specs.Prelude.{◌≡◌, ◌≤◌, ℕ, ◌+◌, ◌++◌, ◌<◌, IfSome, Some, length, take};
-ghost use Rattle.std.specs.List.{list_any};
-ghost use Rattle.units.specs.Positions.{is_same, positions_from};
-ghost use Rattle.units.specs.Classes.{class_at};
-ghost use Rattle.units.specs.Runs.{size_of, remains, last_remaining, begins_sequence, successor, eos_at, last_in, sequence_from};
-ghost use Rattle.sequences.specs.Links.{link_at, linked, is_joined, IsLinked};
+ghost use Rattle.std.specs.Prelude.{◌≡◌, ◌≤◌, ◌+◌, ◌++◌, ◌<◌, IfSome, Some, length, take};
+ghost use Rattle.units.specs.Runs.{size_of, last_remaining, begins_sequence, sequence_from};
+ghost use Rattle.sequences.specs.Links.{linked, IsLinked};
 ghost use Rattle.sequences.specs.Heads.{IsMarked, HasEnds, AreSuccessors, head_at, heads_of, column_of};
 
 use crate::leveled::Leveled;
@@ -22,22 +19,6 @@ pub struct Head {
     pub level: Level,
     pub sos: Class,
     pub eos: Class,
-}
-
-/// Marks the positions that come after another in their sequence.
-pub fn mark<L: Ledger>(links: &[OptionalPosition], joined: &mut [bool], steps: &mut Steps<L>)
-    requires { (p : ℕ) → IfSome (link_at links.now p) (λ q. q < length joined.old) }
-    ensures joined { (q : ℕ) → q < length joined.old → is_joined joined.new q ≡ list_any (λ p. is_same (link_at links.now p) (Some q)) (positions_from 0 (length links.now)) }
-    ensures steps { steps.new ≡ steps.old + length joined.old + length links.now }
-{
-    steps.add(joined.len());
-    joined.fill(false);
-    for link in links {
-        steps.tick();
-        if let Some(q) = link.get() {
-            joined[q] = true;
-        }
-    }
 }
 
 /// Whether a sequence begins at `p` (BD13).

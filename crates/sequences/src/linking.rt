@@ -1,7 +1,7 @@
-ghost use Rattle.std.specs.Prelude.{◌≡◌, ℕ, ◌+◌, ◌<◌, ◌≤◌, IfSome, length};
-ghost use Rattle.units.specs.Classes.{class_at, is_isolate_initiator};
-ghost use Rattle.units.specs.Runs.{size_of, level_of, is_level, level_or_base, is_unmatched, remains, matched_pdi, next_remaining, successor, eos_by, eos_at, last_in, sequence_from};
-ghost use Rattle.sequences.specs.Links.{link_at};
+ghost use Rattle.std.specs.Prelude.{◌≡◌, ◌+◌, ◌<◌, ◌≤◌, IfSome, length};
+ghost use Rattle.units.specs.Runs.{size_of, is_level, level_or_base, next_remaining, successor, eos_by};
+ghost use Rattle.sequences.specs.Links.{marked};
+ghost use Rattle.sequences.specs.Heads.{AreSuccessors, HasEnds, IsMarked};
 ghost use Rattle.sequences.specs.Ends.{end_by};
 
 use crate::leveled::Leveled;
@@ -89,18 +89,32 @@ fn link_to(at: Option<usize>) -> OptionalPosition
     }
 }
 
-/// Links each position to the next of its sequence, and finds what its sequence ends with, from the last position back.
+/// Marks the position that a link leads to.
+fn mark(link: Option<usize>, joined: &mut [bool])
+    requires { IfSome link (λ q. q < length joined.old) }
+    ensures { joined.new ≡ marked joined.old link }
+{
+    if let Some(q) = link {
+        joined[q] = true;
+    }
+}
+
+/// From the last position back, links each position to the next of its sequence, finds what its sequence ends with, and
+/// marks the positions that come after another.
 pub fn link<L: Ledger>(
     t: &Leveled,
     links: &mut [OptionalPosition],
     ends: &mut [Class],
+    joined: &mut [bool],
     steps: &mut Steps<L>,
 )
     requires small { size_of t.now < u32.MAX }
     requires links { size_of t.now ≤ length links.old }
     requires ends { size_of t.now ≤ length ends.old }
-    ensures linked { (p : ℕ) → p < size_of t.now → link_at links.new p ≡ successor t.now p }
-    ensures ends { (p : ℕ) → p < size_of t.now → class_at ends.new p ≡ eos_at t.now (last_in (sequence_from t.now p) p) }
+    requires joined { size_of t.now ≤ length joined.old }
+    ensures linked { AreSuccessors t.now links.new }
+    ensures ends { HasEnds t.now ends.new }
+    ensures marked { IsMarked t.now joined.new }
     ensures steps { steps.new ≡ steps.old + size_of t.now }
 {
     let mut next = None;
@@ -109,6 +123,8 @@ pub fn link<L: Ledger>(
         let link = successor(t, p, next);
         links[p] = link_to(link);
         ends[p] = end(t, p, next, link, ends);
+        joined[p] = false;
+        mark(link, joined);
         if t.level(p).is_some() {
             next = Some(p);
         }

@@ -1,18 +1,17 @@
-ghost use Rattle.std.specs.Prelude.{◌≡◌, ℕ, ◌+◌, ◌*◌, ◌<◌, ◌≤◌, [], Some, map, take, length, slice_get, vec_len, IfOk, sum_by};
+ghost use Rattle.std.specs.Prelude.{◌≡◌, ◌+◌, ◌*◌, ◌<◌, ◌≤◌, [], Some, map, take, length, slice_get, vec_len, IfOk, sum_by};
 ghost use Rattle.units.specs.Classes.{classes_of};
 ghost use Rattle.units.specs.Isolates.{level_of_para};
 ghost use Rattle.units.specs.Paragraphs.{SeparatorOnlyLast};
-ghost use Rattle.units.specs.Runs.{leveled_of, size_of, successor, sequences_of};
+ghost use Rattle.units.specs.Runs.{leveled_of, size_of, sequences_of};
 ghost use Rattle.explicit.specs.ExplicitLevels.{HoldsLevels};
 ghost use Rattle.explicit.specs.IsolateMaps.{IsFilledFrom};
-ghost use Rattle.sequences.specs.Links.{link_at};
 ghost use Rattle.sequences.specs.View.{SequencesView};
 ghost use Rattle.flat.specs.Flat.{IsFlat};
 ghost use Rattle.sequences.specs.Heads.{view_of, column_of, AreFilled};
 ghost use Rattle.sequences.specs.Once.{HoldsOnce};
 ghost use Rattle.sequences.specs.Room.{HasRoom};
 
-use crate::heads::{Head, fill_heads, mark};
+use crate::heads::{Head, fill_heads};
 use crate::leveled::Leveled;
 use crate::linking::link;
 use crate::sequence::Sequence;
@@ -68,13 +67,11 @@ fn fill_columns<L: Ledger>(
     requires heads { size_of t.now ≤ length heads.old }
     requires column { size_of t.now ≤ length column.old }
     ensures filled { AreFilled t.now result links.new heads.new column.new }
-    ensures steps { steps.new ≡ steps.old + 4 * size_of t.now + length (column_of t.now) }
+    ensures steps { steps.new ≡ steps.old + 2 * size_of t.now + length (column_of t.now) }
 {
     let size = t.len();
     let links = &mut links[..size];
-    let joined = &mut joined[..size];
-    link(t, links, ends, steps);
-    mark(links, joined, steps);
+    link(t, links, ends, joined, steps);
     fill_heads(t, links, ends, joined, heads, column, steps)
 }
 
@@ -113,7 +110,7 @@ impl Sequences {
         ensures room { self.new.room ≡ self.old.room }
         ensures once { HoldsOnce t.now self.new.all }
         ensures fit { sum_by (λ s. length s.positions) self.new.all ≤ size_of t.now }
-        ensures steps { steps.new ≡ steps.old + 4 * size_of t.now + sum_by (λ s. length s.positions) self.new.all }
+        ensures steps { steps.new ≡ steps.old + 2 * size_of t.now + sum_by (λ s. length s.positions) self.new.all }
     {
         self.count = fill_columns(
             t,
@@ -146,7 +143,7 @@ impl Sequences {
         ensures room { self.new.room ≡ self.old.room }
         ensures once { HoldsOnce (leveled_of (classes_of para.now) (level_of_para level)) self.new.all }
         ensures fit { sum_by (λ s. length s.positions) self.new.all ≤ length para.now }
-        ensures steps { steps.new ≡ steps.old + 4 * length para.now + sum_by (λ s. length s.positions) self.new.all }
+        ensures steps { steps.new ≡ steps.old + 2 * length para.now + sum_by (λ s. length s.positions) self.new.all }
     {
         self.fill_from(&Leveled::new(para, isolates, explicit, level), steps);
     }

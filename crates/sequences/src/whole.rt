@@ -3,7 +3,7 @@ ghost use Rattle.std.specs.Prelude.{◌≡◌, ◌+◌, ◌<◌, ◌≤◌, Some
 ghost use Rattle.units.specs.Classes.{classes_of};
 ghost use Rattle.units.specs.Isolates.{level_of_para};
 ghost use Rattle.units.specs.Positions.{positions_from};
-ghost use Rattle.units.specs.Runs.{direction_of, leveled_of};
+ghost use Rattle.units.specs.Runs.{leveled_of};
 ghost use Rattle.flat.specs.Flat.{IsFlat};
 ghost use Rattle.sequences.specs.Links.{IsChain};
 ghost use Rattle.sequences.specs.Heads.{AreFilled, whole_head};

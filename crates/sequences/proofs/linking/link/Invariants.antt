@@ -4,4 +4,4 @@ use Rattle.sequences.proofs.Backward.{BackWalk}
 use Rattle.sequences.proofs.linking.link.Given as goal
 
 abbrev pub invariant-loop-p : goal.invariant-loop-p
-invariant-loop-p g l = BackWalk l.t l.p l.next l.links l.ends × (l.steps + l.p ≡ l.fn.steps + size_of l.t)
+invariant-loop-p g l = BackWalk l.t l.p l.next l.links l.ends l.joined × (l.steps + l.p ≡ l.fn.steps + size_of l.t)
