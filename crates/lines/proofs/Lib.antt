@@ -7,6 +7,7 @@ pub mod Remaining
 pub mod LineOrder
 pub mod Levels
 pub mod Turns
+pub mod TurnsFound
 pub mod Separators
 pub mod BreakAt
 pub mod LineEnd

@@ -15,6 +15,10 @@ pub record Passing (at : List ℕ) (passed start : ℕ) : Type 0 where
   pub behind : (k : ℕ) → k < passed → k < length at → slice_index at k ≤ start
   pub ahead : passed < length at → start < slice_index at passed
 
+-- none was passed at the start of the text
+pub passing_none : (at : List ℕ) (len : ℕ) → AreBreaks at len → Passing at 0 0
+passing_none at len breaks = record { behind = λ k h some. absurd (omega arith); ahead = λ h. let i = breaks.inside 0 h in i.after_start }
+
 -- the limit is the next break, or the end of the text
 pub record IsLimit (at : List ℕ) (passed len limit : ℕ) : Type 0 where
   pub coming : passed < length at → limit ≡ slice_index at passed

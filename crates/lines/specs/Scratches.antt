@@ -1,19 +1,32 @@
 -- What a scratch holds.
-use Rattle.std.specs.Prelude.{ℕ, map, take}
+use Rattle.std.specs.Prelude.{ℕ, ◌+◌, List, map, take}
 use Rattle.units.specs.Isolates.{level_of_para}
 use Rattle.units.specs.Layout.{TextLayout}
 use Rattle.lines.specs.Bounds.{AreBounds, lines_in}
+use Rattle.lines.specs.declared.bounds.Bound.{Bound}
 use Rattle.lines.specs.declared.scratch.Scratch.{Scratch}
 
 -- the length of the longest text that there is room for
 abbrev pub room_of : Scratch → ℕ
 room_of scratch = scratch.room
 
--- the layout that it holds, of which the levels are the front of their column
+-- the orders of its lines, one after another, at the front of their column
+abbrev pub orders_in : Scratch → List ℕ
+orders_in scratch = take scratch.used.filled.positions scratch.orders.items
+
+-- the bounds of its lines, at the front of their column
+abbrev pub bounds_in : Scratch → List Bound
+bounds_in scratch = take (scratch.used.filled.lines + 1) scratch.bounds.items
+
+-- the layout that it holds, all at the fronts of the columns
 abbrev pub layout_in : Scratch → TextLayout
 layout_in scratch =
-    record { paras = map level_of_para scratch.paras.items; levels = take scratch.size scratch.levels.items; lines = lines_in scratch.orders.items scratch.bounds.items }
+    record {
+      paras = map level_of_para (take scratch.used.paragraphs scratch.paras.items);
+      levels = take scratch.used.units scratch.levels.items;
+      lines = lines_in (orders_in scratch) (bounds_in scratch);
+    }
 
 -- it holds a layout
 abbrev pub IsFilled : Scratch → Type 0
-IsFilled scratch = AreBounds (take scratch.size scratch.levels.items) scratch.orders.items scratch.bounds.items
+IsFilled scratch = AreBounds (take scratch.used.units scratch.levels.items) (orders_in scratch) (bounds_in scratch)

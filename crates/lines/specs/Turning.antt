@@ -16,6 +16,16 @@ remaining levels start end = filter (is_remaining levels) (positions_from start 
 abbrev pub HasLevel : List (Option ℕ) → ℕ → ℕ → Type 0
 HasLevel levels p v = slice_index_or levels p None ≡ Some v
 
+-- L2: among the first count positions, the lowest odd level, or 127 where none is odd, and one more than the highest level, or 0 where there is none
+pub record AreTurns (levels : List (Option ℕ)) (count lowest past : ℕ) : Type 0 where
+  pub odd : lowest % 2 ≡ 1
+  pub small : lowest ≤ 127
+  pub even : (p v : ℕ) → p < count → HasLevel levels p v → v < lowest → v % 2 ≡ 0
+  pub lowest_found : lowest < 127 → (p : ℕ) × HasLevel levels p lowest
+  pub few : past ≤ 127
+  pub below : (p v : ℕ) → p < count → HasLevel levels p v → v < past
+  pub highest_found : 0 < past → (p : ℕ) × HasLevel levels p (past - 1)
+
 -- a level as a number, 0 where there is none
 abbrev pub number_or_zero : Option ℕ → ℕ
 number_or_zero None = 0

@@ -1,4 +1,4 @@
-ghost use Rattle.std.specs.Prelude.{◌≡◌, ◌<◌, ◌≤◌, ◌+◌, ◌-◌, ◌*◌, ◌^◌, ◌++◌, ◌∷◌, [], length, slice_index, vec_len, vec_capacity};
+ghost use Rattle.std.specs.Prelude.{◌≡◌, ◌<◌, ◌≤◌, ◌+◌, ◌-◌, ◌*◌, ◌^◌, ◌++◌, ◌∷◌, [], length, slice_index, take};
 ghost use Rattle.units.specs.Classes.{classes_of};
 ghost use Rattle.units.specs.Layout.{lines_of};
 ghost use Rattle.units.specs.Reordering.{cuts_of, line_order};
@@ -7,7 +7,7 @@ ghost use Rattle.lines.specs.LineEnds.{EndsAt};
 
 use crate::bounds::Bound;
 use crate::breaks::Breaks;
-use crate::order::append_order;
+use crate::order::write_order;
 use std::sync::ledger::Ledger;
 use units::bracket::Unit;
 use units::level::Level;
@@ -38,77 +38,92 @@ fn end_of_line<L: Ledger>(own: &[Unit], start: usize, limit: usize, steps: &mut 
     limit
 }
 
-/// Appends a line's order to the orders, and its end to the bounds.
-fn append_line<L: Ledger>(
+/// How much of the two columns the lines of a text take.
+#[derive(Clone, Copy)]
+pub struct Filled {
+    /// How many lines there are; there is one bound more.
+    pub lines: usize,
+    /// How many positions their orders have.
+    pub positions: usize,
+}
+
+/// Writes one line more: its order behind those of the lines that are filled, and its end behind their bounds.
+fn write_line<L: Ledger>(
     levels: &[Option<Level>],
     start: usize,
     end: usize,
-    orders: &mut Vec<usize>,
-    bounds: &mut Vec<Bound>,
+    filled: Filled,
+    orders: &mut [usize],
+    bounds: &mut [Bound],
     steps: &mut Steps<L>,
-)
+) -> Filled
     requires line { start ≤ end }
     requires within { end ≤ length levels.now }
     requires small { length levels.now < 2 ^ 32 }
-    requires few { vec_len orders.old ≤ start }
-    requires orders { vec_len orders.old + (end - start) ≤ vec_capacity orders.old }
-    requires bounds { vec_len bounds.old < vec_capacity bounds.old }
-    ensures order { orders.new.items ≡ orders.old.items ++ line_order levels.now start end }
-    ensures count { length orders.new.items ≤ end }
-    ensures bound { bounds.new.items ≡ bounds.old.items ++ record { position = end; order = length orders.new.items } ∷ [] }
-    ensures orders_room { vec_capacity orders.new ≡ vec_capacity orders.old }
-    ensures bounds_room { vec_capacity bounds.new ≡ vec_capacity bounds.old }
-    ensures at_least { steps.old + 3 * (end - start) ≤ steps.new }
-    ensures at_most { steps.new ≤ steps.old + 255 * (end - start) + 126 }
+    requires few { filled.positions ≤ start }
+    requires orders { end ≤ length orders.old }
+    requires bounds { filled.lines + 1 < length bounds.old }
+    ensures order { take result.positions orders.new ≡ take filled.positions orders.old ++ line_order levels.now start end }
+    ensures few { result.positions ≤ end }
+    ensures bound { take (result.lines + 1) bounds.new ≡ take (filled.lines + 1) bounds.old ++ record { position = end; order = result.positions } ∷ [] }
+    ensures lines { result.lines ≡ filled.lines + 1 }
+    ensures at_least { steps.old + 2 * (end - start) ≤ steps.new }
+    ensures at_most { steps.new ≤ steps.old + 254 * (end - start) + 126 }
 {
-    append_order(levels, start, end, orders, steps);
-    bounds.push_reserved(Bound {
+    let lines = filled.lines + 1;
+    let positions = filled.positions
+        + write_order(levels, start, end, &mut orders[filled.positions..], steps);
+    bounds[lines] = Bound {
         position: end as u32,
-        order: orders.len() as u32,
-    });
+        order: positions as u32,
+    };
+    Filled { lines, positions }
 }
 
-/// Cuts a text into lines, at its breaks and behind its paragraph separators, and writes the lines' orders (L2) and bounds over
-/// what the two lists held.
+/// Cuts a text into lines, at its breaks and behind its paragraph separators, and writes the lines' orders (L2) to the front of
+/// `orders` and their bounds to the front of `bounds`. It answers how many there are of each.
 ///
-/// The levels are those of the text after L1. The lists keep their room: no memory is taken. It takes at least `3 * n` and at most
-/// `256 * n + 127 * k` steps for k lines in a text of n positions, so at most `383 * n`.
+/// The levels are those of the text after L1. It takes at least `2 * n` and at most `255 * n + 127 * k` steps for k lines in a text
+/// of n positions, so at most `382 * n`.
 pub fn fill_lines<L: Ledger>(
     own: &[Unit],
     breaks: &Breaks,
     levels: &[Option<Level>],
-    orders: &mut Vec<usize>,
-    bounds: &mut Vec<Bound>,
+    orders: &mut [usize],
+    bounds: &mut [Bound],
     steps: &mut Steps<L>,
-)
+) -> Filled
     requires len { breaks.now.len ≡ length own.now }
     requires levels { length levels.now ≡ length own.now }
     requires small { length own.now < 2 ^ 32 }
-    requires orders { length own.now ≤ vec_capacity orders.old }
-    requires bounds { length own.now < vec_capacity bounds.old }
-    ensures bounds { AreBounds levels.now orders.new.items bounds.new.items }
-    ensures lines { lines_in orders.new.items bounds.new.items ≡ lines_of levels.now (cuts_of (classes_of own.now) breaks.now.positions) }
-    ensures orders_room { vec_capacity orders.new ≡ vec_capacity orders.old }
-    ensures bounds_room { vec_capacity bounds.new ≡ vec_capacity bounds.old }
-    ensures at_least { steps.old + 3 * length own.now ≤ steps.new }
-    ensures at_most { steps.new + 127 ≤ steps.old + 256 * length own.now + 127 * length bounds.new.items }
-    ensures linear { steps.new ≤ steps.old + 383 * length own.now }
+    requires orders { length own.now ≤ length orders.old }
+    requires bounds { length own.now < length bounds.old }
+    ensures bounds { AreBounds levels.now (take result.positions orders.new) (take (result.lines + 1) bounds.new) }
+    ensures lines { lines_in (take result.positions orders.new) (take (result.lines + 1) bounds.new) ≡ lines_of levels.now (cuts_of (classes_of own.now) breaks.now.positions) }
+    ensures few_lines { result.lines ≤ length own.now }
+    ensures few_positions { result.positions ≤ length own.now }
+    ensures at_least { steps.old + 2 * length own.now ≤ steps.new }
+    ensures at_most { steps.new ≤ steps.old + 255 * length own.now + 127 * result.lines }
+    ensures linear { steps.new ≤ steps.old + 382 * length own.now }
 {
     let at = breaks.positions();
-    orders.clear();
-    bounds.clear();
-    bounds.push_reserved(Bound {
+    bounds[0] = Bound {
         position: 0,
         order: 0,
-    });
+    };
+    let mut filled = Filled {
+        lines: 0,
+        positions: 0,
+    };
     let mut passed = 0;
     let mut start = 0;
     while start < own.len() {
         steps.tick();
         let limit = next_break(at, passed, own.len());
         let end = end_of_line(own, start, limit, steps);
-        append_line(levels, start, end, orders, bounds, steps);
+        filled = write_line(levels, start, end, filled, orders, bounds, steps);
         passed += usize::from(end == limit);
         start = end;
     }
+    filled
 }

@@ -1,69 +1,84 @@
-ghost use Rattle.std.specs.Prelude.{◌≡◌, ◌≤◌, ◌<◌, ◌%◌, ◌+◌, ◌-◌, ◌*◌, ◌++◌, ℕ, length, List, IsTrue, ◌↔◌, reverse, vec_len, vec_capacity};
+ghost use Rattle.std.specs.Prelude.{◌≡◌, ◌≤◌, ◌<◌, ◌+◌, ◌-◌, ◌*◌, ℕ, length, IsTrue, ◌↔◌, reverse, take};
 ghost use Rattle.units.specs.Reordering.{line_order};
-ghost use Rattle.lines.specs.Turning.{Has, HasLevel, Holds, IsTurned, Ordered, remaining};
+ghost use Rattle.lines.specs.Turning.{AreTurns, Has, HasLevel, IsTurned, remaining};
 
 use std::marker::Brand;
 use std::sync::ledger::{Blank, Ledger};
 use units::level::Level;
 use units::steps::Steps;
 
-/// Appends the remaining positions from `start` up to `end`, a step for each position.
-fn append_remaining<L: Ledger>(
+/// From which level down to which one a line is turned.
+#[derive(Clone, Copy)]
+struct Turns {
+    /// The lowest odd level, or 127 where none is odd.
+    lowest: u8,
+    /// One more than the highest level, or 0 where there is none.
+    past: u8,
+}
+
+impl Turns {
+    ghost use Rattle.std.specs.Prelude.{◌≡◌, ◌≤◌, ◌+◌, ◌%◌, ◌==◌, if◌then◌else◌, max, min};
+
+    /// With a level more.
+    fn with(self, level: Level) -> Turns
+        ensures lowest { result.lowest ≡ (if level % 2 == 1 then min self.lowest level else self.lowest) }
+        ensures past { result.past ≡ max self.past (level + 1) }
+        ensures within { level ≤ 126 }
+    {
+        let number = level.get();
+        let odd = number % 2 == 1;
+        Turns {
+            lowest: if odd {
+                self.lowest.min(number)
+            } else {
+                self.lowest
+            },
+            past: self.past.max(number + 1),
+        }
+    }
+}
+
+/// Writes the remaining positions from `start` up to `end` to the front of `order`, rising, a step for each position, and answers
+/// how many they are.
+fn write_remaining<L: Ledger>(
     levels: &[Option<Level>],
     start: usize,
     end: usize,
-    orders: &mut Vec<usize>,
+    order: &mut [usize],
     steps: &mut Steps<L>,
-)
+) -> usize
     requires line { start ≤ end }
     requires within { end ≤ length levels.now }
-    requires reserved { vec_len orders.old + (end - start) ≤ vec_capacity orders.old }
-    ensures orders { orders.new.items ≡ orders.old.items ++ remaining levels.now start end }
-    ensures count { vec_len orders.new ≤ vec_len orders.old + (end - start) }
-    ensures capacity { vec_capacity orders.new ≡ vec_capacity orders.old }
+    requires room { end - start ≤ length order.old }
+    ensures order { take result order.new ≡ remaining levels.now start end }
+    ensures count { result ≤ end - start }
     ensures steps { steps.new ≡ steps.old + (end - start) }
 {
+    let mut count = 0;
     for position in start..end {
         steps.tick();
-        if levels[position].is_some() {
-            orders.push_reserved(position);
-        }
+        order[count] = position;
+        count += usize::from(levels[position].is_some());
     }
+    count
 }
 
-/// One more than the highest level, a step for each position.
-fn past_highest<L: Ledger>(levels: &[Option<Level>], steps: &mut Steps<L>) -> u8
-    ensures below { (p v : ℕ) → HasLevel levels.now p v → v < result }
-    ensures small { result ≤ 127 }
+/// The lowest odd level, or 127 where none is odd, and one more than the highest level, in one pass, a step for each position.
+fn turns_of<L: Ledger>(levels: &[Option<Level>], steps: &mut Steps<L>) -> Turns
+    ensures turns { AreTurns levels.now (length levels.now) result.lowest result.past }
     ensures steps { steps.new ≡ steps.old + length levels.now }
 {
-    let mut past = 0;
+    let mut turns = Turns {
+        lowest: 127,
+        past: 0,
+    };
     for level in levels {
         steps.tick();
         if let Some(level) = level {
-            past = past.max(level.get() + 1);
+            turns = turns.with(*level);
         }
     }
-    past
-}
-
-/// The lowest odd level, or 127 where none is odd, a step for each position.
-fn lowest_odd<L: Ledger>(levels: &[Option<Level>], steps: &mut Steps<L>) -> u8
-    ensures odd { result % 2 ≡ 1 }
-    ensures small { result ≤ 127 }
-    ensures even { (p v : ℕ) → HasLevel levels.now p v → v < result → v % 2 ≡ 0 }
-    ensures steps { steps.new ≡ steps.old + length levels.now }
-{
-    let mut lowest = 127;
-    for level in levels {
-        steps.tick();
-        if let Some(level) = level
-            && level.get() % 2 == 1
-        {
-            lowest = lowest.min(level.get());
-        }
-    }
-    lowest
+    turns
 }
 
 /// Whether the position has a level, and it is below `least`.
@@ -118,11 +133,11 @@ fn reorder<L: Ledger>(
     requires within { end ≤ length levels.now }
     requires rising { order.old ≡ remaining levels.now start end }
     ensures order { order.new ≡ line_order levels.now start end }
-    ensures at_least { steps.old + 2 * (end - start) ≤ steps.new }
-    ensures at_most { steps.new ≤ steps.old + 254 * (end - start) + 126 }
+    ensures at_least { steps.old + (end - start) ≤ steps.new }
+    ensures at_most { steps.new ≤ steps.old + 253 * (end - start) + 126 }
 {
-    let lowest = lowest_odd(&levels[start..end], steps);
-    let mut turned = past_highest(&levels[start..end], steps).max(lowest);
+    let Turns { lowest, past } = turns_of(&levels[start..end], steps);
+    let mut turned = past.max(lowest);
     while turned > lowest {
         steps.tick();
         turned -= 1;
@@ -130,66 +145,63 @@ fn reorder<L: Ledger>(
     }
 }
 
-/// Appends the order of a line (L2): the positions of the text from `start` up to `end` that were not removed, from left to right.
+/// Writes the order of a line (L2) to the front of `order`: the positions of the text from `start` up to `end` that were not removed,
+/// from left to right. It answers how many they are.
 ///
-/// `orders` needs spare room for a position of each unit of the line, and keeps its room: no memory is taken. So the orders of all
-/// lines of a text, appended line by line, stand one after another. The levels are those of the whole text after L1.
-/// It takes between `3 * n` and `255 * n + 126` steps on a line of n positions.
-pub fn append_order<L: Ledger>(
+/// `order` needs a place for each unit of the line; those behind the answered ones hold anything. The levels are those of the whole
+/// text after L1. It takes between `2 * n` and `254 * n + 126` steps on a line of n positions.
+pub fn write_order<L: Ledger>(
     levels: &[Option<Level>],
     start: usize,
     end: usize,
-    orders: &mut Vec<usize>,
+    order: &mut [usize],
     steps: &mut Steps<L>,
-)
+) -> usize
     requires line { start ≤ end }
     requires within { end ≤ length levels.now }
-    requires reserved { vec_len orders.old + (end - start) ≤ vec_capacity orders.old }
-    ensures order { orders.new.items ≡ orders.old.items ++ line_order levels.now start end }
-    ensures count { vec_len orders.new ≤ vec_len orders.old + (end - start) }
-    ensures capacity { vec_capacity orders.new ≡ vec_capacity orders.old }
-    ensures at_least { steps.old + 3 * (end - start) ≤ steps.new }
-    ensures at_most { steps.new ≤ steps.old + 255 * (end - start) + 126 }
+    requires room { end - start ≤ length order.old }
+    ensures order { take result order.new ≡ line_order levels.now start end }
+    ensures count { result ≤ end - start }
+    ensures at_least { steps.old + 2 * (end - start) ≤ steps.new }
+    ensures at_most { steps.new ≤ steps.old + 254 * (end - start) + 126 }
 {
-    let from = orders.len();
-    append_remaining(levels, start, end, orders, steps);
-    reorder(levels, start, end, &mut orders[from..], steps);
+    let count = write_remaining(levels, start, end, order, steps);
+    reorder(levels, start, end, &mut order[..count], steps);
+    count
 }
 
-fn append_counting<L: Ledger>(
+fn write_counting<L: Ledger>(
     levels: &[Option<Level>],
     start: usize,
     end: usize,
-    orders: &mut Vec<usize>,
+    order: &mut [usize],
     blank: Blank,
-)
+) -> usize
     requires line { start ≤ end }
     requires within { end ≤ length levels.now }
-    requires reserved { vec_len orders.old + (end - start) ≤ vec_capacity orders.old }
+    requires room { end - start ≤ length order.old }
     requires name { blank.name ≡ L.name }
     requires parts { blank.parts ≡ L.parts }
     requires some { 0 < blank.parts }
-    ensures order { orders.new.items ≡ orders.old.items ++ line_order levels.now start end }
-    ensures count { vec_len orders.new ≤ vec_len orders.old + (end - start) }
-    ensures capacity { vec_capacity orders.new ≡ vec_capacity orders.old }
+    ensures order { take result order.new ≡ line_order levels.now start end }
+    ensures count { result ≤ end - start }
 {
     let mut steps = Steps::<L>::new(blank);
-    append_order(levels, start, end, orders, &mut steps);
+    write_order(levels, start, end, order, &mut steps)
 }
 
-/// What `append_order` does, for a caller that counts no steps.
-pub fn append_order_uncounted(
+/// What `write_order` does, for a caller that counts no steps.
+pub fn write_order_uncounted(
     levels: &[Option<Level>],
     start: usize,
     end: usize,
-    orders: &mut Vec<usize>,
-)
+    order: &mut [usize],
+) -> usize
     requires line { start ≤ end }
     requires within { end ≤ length levels.now }
-    requires reserved { vec_len orders.old + (end - start) ≤ vec_capacity orders.old }
-    ensures order { orders.new.items ≡ orders.old.items ++ line_order levels.now start end }
-    ensures count { vec_len orders.new ≤ vec_len orders.old + (end - start) }
-    ensures capacity { vec_capacity orders.new ≡ vec_capacity orders.old }
+    requires room { end - start ≤ length order.old }
+    ensures order { take result order.new ≡ line_order levels.now start end }
+    ensures count { result ≤ end - start }
 {
-    append_counting::<Brand>(levels, start, end, orders, Blank::new(1));
+    write_counting::<Brand>(levels, start, end, order, Blank::new(1))
 }

@@ -1,5 +1,5 @@
 //! The paragraph levels and the resolved levels of a text (P1 to I2).
-ghost use Rattle.std.specs.Prelude.{◌≡◌, ◌≤◌, ◌+◌, ◌*◌, length, map, take, vec_capacity};
+ghost use Rattle.std.specs.Prelude.{◌≡◌, ◌≤◌, ◌+◌, ◌*◌, length, map, take};
 ghost use Rattle.units.specs.Isolates.{level_of_para};
 ghost use Rattle.units.specs.Layout.{para_levels_of, text_levels};
 
@@ -10,27 +10,27 @@ use units::bracket::Unit;
 use units::level::{Direction, Level, ParaLevel};
 use units::steps::Steps;
 
-/// Writes the levels of a text's paragraphs over what `paras` held, and the resolved levels of its positions to the front of
-/// `levels`, paragraph by paragraph. The lists keep their room: no memory is taken.
+/// Writes the levels of a text's paragraphs to the front of `paras`, and the resolved levels of its positions to the front of
+/// `levels`, paragraph by paragraph. It answers how many paragraphs there are.
 pub(crate) fn resolve_text<L: Ledger>(
     text: &[Unit],
     direction: Direction,
     resolver: &mut Resolver,
-    paras: &mut Vec<ParaLevel>,
+    paras: &mut [ParaLevel],
     levels: &mut [Option<Level>],
     steps: &mut Steps<L>,
-)
+) -> usize
     requires resolver { length text.now ≤ resolver.old }
-    requires paras { length text.now ≤ vec_capacity paras.old }
+    requires paras { length text.now ≤ length paras.old }
     requires levels { length text.now ≤ length levels.old }
     ensures resolver { resolver.new ≡ resolver.old }
-    ensures paras { map level_of_para paras.new.items ≡ para_levels_of text.now direction }
-    ensures paras_room { vec_capacity paras.new ≡ vec_capacity paras.old }
+    ensures paras { map level_of_para (take result paras.new) ≡ para_levels_of text.now direction }
+    ensures few { result ≤ length text.now }
     ensures levels { take (length text.now) levels.new ≡ text_levels text.now direction }
     ensures at_least { steps.old + 3 * length text.now ≤ steps.new }
     ensures at_most { steps.new ≤ steps.old + 194 * length text.now }
 {
-    paras.clear();
+    let mut count = 0;
     let mut start = 0;
     for para in paragraphs(text) {
         steps.tick();
@@ -38,8 +38,9 @@ pub(crate) fn resolve_text<L: Ledger>(
         // P1: the units that the search for the paragraph's end passed.
         steps.add(para.len());
         let end = start + para.len();
-        let level = resolver.resolve(para, direction, &mut levels[start..end], steps);
-        paras.push_reserved(level);
+        paras[count] = resolver.resolve(para, direction, &mut levels[start..end], steps);
+        count += 1;
         start = end;
     }
+    count
 }

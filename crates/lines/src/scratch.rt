@@ -1,15 +1,15 @@
-ghost use Rattle.std.specs.Prelude.{◌≡◌, ◌<◌, ◌≤◌, ◌+◌, ◌*◌, ◌^◌, length, map, take, vec_capacity};
+ghost use Rattle.std.specs.Prelude.{◌≡◌, ◌<◌, ◌≤◌, ◌+◌, ◌*◌, ◌^◌, length, map, take};
 ghost use Rattle.units.specs.Classes.{classes_of};
 ghost use Rattle.units.specs.Isolates.{level_of_para};
 ghost use Rattle.units.specs.Layout.{lines_of};
 ghost use Rattle.units.specs.Paragraphs.{paragraphs_of};
 ghost use Rattle.units.specs.Reordering.{after_resets, cuts_of};
 ghost use Rattle.lines.specs.Bounds.{AreBounds, lines_in};
-ghost use Rattle.lines.specs.Room.{HasRoom};
+ghost use Rattle.lines.specs.Room.{HasRoom, IsWithin};
 
 use crate::bounds::Bound;
 use crate::breaks::Breaks;
-use crate::filling::fill_lines;
+use crate::filling::{Filled, fill_lines};
 use crate::layout::Layout;
 use crate::resets::reset_text;
 use crate::resolving::resolve_text;
@@ -34,47 +34,55 @@ pub enum RoomFault {
     Memory,
 }
 
+/// How much of each column the layout takes that was written last; what stands behind it is of earlier ones.
+#[derive(Clone, Copy)]
+struct Used {
+    units: usize,
+    paragraphs: usize,
+    filled: Filled,
+}
+
 /// Room for the layout of a text, to be used again and again: 59 bytes for each unit of room, and 8 more.
 #[derive(Drop)]
 pub struct Scratch {
     room: usize,
-    size: usize,
+    used: Used,
     resolver: Resolver,
     paras: Vec<ParaLevel>,
     levels: Vec<Option<Level>>,
     orders: Vec<usize>,
     bounds: Vec<Bound>,
-    ghost fits: { HasRoom room resolver (vec_capacity paras) (length levels.items) (vec_capacity orders) (vec_capacity bounds) },
-    ghost in_use: { size ≤ room },
+    ghost fits: { HasRoom room resolver (length paras.items) (length levels.items) (length orders.items) (length bounds.items) },
+    ghost in_use: { IsWithin room used.units used.paragraphs used.filled.lines used.filled.positions },
 }
 
-/// Resets the levels of a text (L1), at the front of the column, and writes its lines (L2).
+/// Resets the levels of a text (L1), at the front of the column, and writes its lines (L2) to the fronts of theirs.
 fn arrange<L: Ledger>(
     text: &[Unit],
     breaks: &Breaks,
     paras: &[ParaLevel],
     levels: &mut [Option<Level>],
-    orders: &mut Vec<usize>,
-    bounds: &mut Vec<Bound>,
+    orders: &mut [usize],
+    bounds: &mut [Bound],
     steps: &mut Steps<L>,
-)
+) -> Filled
     requires len { breaks.now.len ≡ length text.now }
     requires levels { length text.now ≤ length levels.old }
     requires paras { length paras.now ≡ length (paragraphs_of text.now) }
     requires small { length text.now < 2 ^ 32 }
-    requires orders { length text.now ≤ vec_capacity orders.old }
-    requires bounds { length text.now < vec_capacity bounds.old }
+    requires orders { length text.now ≤ length orders.old }
+    requires bounds { length text.now < length bounds.old }
     ensures levels { take (length text.now) levels.new ≡ after_resets (classes_of text.now) breaks.now.positions (map level_of_para paras.now) (take (length text.now) levels.old) }
-    ensures bounds { AreBounds (take (length text.now) levels.new) orders.new.items bounds.new.items }
-    ensures lines { lines_in orders.new.items bounds.new.items ≡ lines_of (take (length text.now) levels.new) (cuts_of (classes_of text.now) breaks.now.positions) }
-    ensures orders_room { vec_capacity orders.new ≡ vec_capacity orders.old }
-    ensures bounds_room { vec_capacity bounds.new ≡ vec_capacity bounds.old }
-    ensures at_least { steps.old + 4 * length text.now ≤ steps.new }
-    ensures at_most { steps.new ≤ steps.old + 384 * length text.now }
+    ensures bounds { AreBounds (take (length text.now) levels.new) (take result.positions orders.new) (take (result.lines + 1) bounds.new) }
+    ensures lines { lines_in (take result.positions orders.new) (take (result.lines + 1) bounds.new) ≡ lines_of (take (length text.now) levels.new) (cuts_of (classes_of text.now) breaks.now.positions) }
+    ensures few_lines { result.lines ≤ length text.now }
+    ensures few_positions { result.positions ≤ length text.now }
+    ensures at_least { steps.old + 3 * length text.now ≤ steps.new }
+    ensures at_most { steps.new ≤ steps.old + 383 * length text.now }
 {
     let levels = &mut levels[..text.len()];
     reset_text(text, breaks, paras, levels, steps);
-    fill_lines(text, breaks, levels, orders, bounds, steps);
+    fill_lines(text, breaks, levels, orders, bounds, steps)
 }
 
 impl Scratch {
@@ -102,12 +110,22 @@ impl Scratch {
     {
         Ok(Scratch {
             room: n,
-            size: 0,
+            used: Used {
+                units: 0,
+                paragraphs: 0,
+                filled: Filled {
+                    lines: 0,
+                    positions: 0,
+                },
+            },
             resolver: Resolver::with_room(alloc, n)?,
-            paras: Vec::with_capacity(alloc, n)?,
+            paras: vec![in alloc; ParaLevel::Zero; n]?,
             levels: vec![in alloc; None; n]?,
-            orders: Vec::with_capacity(alloc, n)?,
-            bounds: Vec::with_capacity(alloc, n + 1)?,
+            orders: vec![in alloc; 0; n]?,
+            bounds: vec![in alloc; Bound {
+                position: 0,
+                order: 0
+            }; n + 1]?,
         })
     }
 
@@ -131,10 +149,10 @@ impl Scratch {
         ensures room { room_of self.new ≡ room_of self.old }
         ensures filled { IsFilled self.new }
         ensures layout { layout_in self.new ≡ layout_of text.now direction breaks.now.positions }
-        ensures at_least { steps.old + 7 * length text.now ≤ steps.new }
+        ensures at_least { steps.old + 6 * length text.now ≤ steps.new }
         ensures at_most { steps.new ≤ steps.old + 578 * length text.now }
     {
-        resolve_text(
+        let paragraphs = resolve_text(
             text,
             direction,
             &mut self.resolver,
@@ -142,16 +160,20 @@ impl Scratch {
             &mut self.levels,
             steps,
         );
-        arrange(
+        let filled = arrange(
             text,
             breaks,
-            &self.paras,
+            &self.paras[..paragraphs],
             &mut self.levels,
             &mut self.orders,
             &mut self.bounds,
             steps,
         );
-        self.size = text.len();
+        self.used = Used {
+            units: text.len(),
+            paragraphs,
+            filled,
+        };
     }
 
     fn fill_counting<L: Ledger>(
@@ -198,11 +220,16 @@ impl Scratch {
         requires { IsFilled self.now }
         ensures { view_of result ≡ layout_in self.now }
     {
+        let Used {
+            units,
+            paragraphs,
+            filled,
+        } = self.used;
         Layout::new(
-            &self.paras,
-            &self.levels[..self.size],
-            &self.orders,
-            &self.bounds,
+            &self.paras[..paragraphs],
+            &self.levels[..units],
+            &self.orders[..filled.positions],
+            &self.bounds[..filled.lines + 1],
         )
     }
 }

@@ -4,7 +4,7 @@ ghost use Rattle.std.specs.Prelude.{◌≡◌, ◌<◌};
 use crate::breaks::{BreakFault, Breaks};
 use crate::lay_out::lay_out_uncounted;
 use crate::layout::Layout;
-use crate::order::append_order_uncounted;
+use crate::order::write_order_uncounted;
 use crate::resets::reset_text;
 use crate::scratch::{RoomFault, Scratch};
 use crate::shown::Shown;
@@ -164,41 +164,18 @@ fn names_the_first_fault(rt: HostRuntime) {
 }
 
 #[test]
-fn orders_lines_one_after_another(rt: HostRuntime) -> Result<(), Fail> {
-    let mut orders = Vec::with_capacity(rt.alloc(), 19)?;
-    let first = [
+fn writes_the_order_of_a_line_in_its_text(rt: HostRuntime) {
+    let levels = [
         Level::new(1),
-        Level::new(0),
+        Level::new(1),
         None,
         Level::new(2),
-        None,
         Level::new(0),
-        Level::new(1),
     ];
-    append_order_uncounted(&first, 0, 7, &mut orders);
-    let second = [
-        Level::new(1),
-        Level::new(1),
-        Level::new(1),
-        Level::new(2),
-        Level::new(1),
-        Level::new(1),
-        Level::new(1),
-    ];
-    append_order_uncounted(&second, 0, 7, &mut orders);
-    let third = [
-        Level::new(1),
-        Level::new(1),
-        Level::new(2),
-        Level::new(1),
-        Level::new(1),
-    ];
-    append_order_uncounted(&third, 0, 5, &mut orders);
-    assert_eq!(rt;
-        orders.as_slice(),
-        [0, 1, 3, 5, 6, 6, 5, 4, 3, 2, 1, 0, 4, 3, 2, 1, 0].as_slice()
-    );
-    Ok(())
+    let mut order = [0; 5];
+    let count = write_order_uncounted(&levels, 1, 5, &mut order);
+    assert_eq!(rt; count, 3);
+    assert_eq!(rt; &order[..3], [3, 1, 4].as_slice());
 }
 
 #[test]

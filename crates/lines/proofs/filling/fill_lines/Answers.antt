@@ -1,13 +1,15 @@
-use Rattle.std.proofs.Common.{◌≡◌, ◌≤◌, ◌+◌, Bool, true, false, cond, length, arith, refl, sym, ap, ◌∙◌, subst, length-append}
+use Rattle.std.proofs.Common.{◌≡◌, ◌≤◌, ◌+◌, ◌++◌, [], ◌∷◌, ℕ, List, Bool, true, false, cond, length, take, set, arith, refl, sym, ap, ◌∙◌, subst}
 use Rattle.std.specs.Prelude.{◌==◌}
-use Rattle.std.proofs.lemmas.List.{length-map}
+use Rattle.std.proofs.lemmas.List.{length-map, length-take-le, take_more_set}
 use mir.Val.{bool_byte}
 use Rattle.units.specs.Classes.{classes_of}
 use Rattle.units.specs.Reordering.{begins_line}
+use Rattle.lines.specs.Bounds.{first_bound}
+use Rattle.lines.specs.declared.bounds.Bound.{Bound}
 use Rattle.lines.specs.LineBreaks.{AreBreaks}
 use Rattle.lines.proofs.Cuts.{Cuts}
-use Rattle.lines.proofs.NextLine.{IsLimit, ends_line, passing_on}
-use Rattle.lines.proofs.LinesWritten.{filling_more}
+use Rattle.lines.proofs.NextLine.{IsLimit, ends_line, passing_none, passing_on}
+use Rattle.lines.proofs.LinesWritten.{filling_start, filling_more}
 use Rattle.lines.proofs.filling.fill_lines.Goals as goal
 
 byte_is : (b : Bool) → bool_byte b ≡ cond b 1 0
@@ -17,6 +19,24 @@ byte_is false = refl
 at_most_one : (b : Bool) → cond b 1 0 ≤ 1
 at_most_one true = omega arith
 at_most_one false = omega arith
+
+-- with a line more, that ends there and has an order up to there
+abbrev ended_at : List Bound → ℕ → ℕ → List Bound
+ended_at bounds position order = bounds ++ record { position = position; order = order } ∷ []
+
+pub loop-start-init : goal.loop-start-init
+loop-start-init g c =
+    let bounds = c.args.bounds.now in
+    let first : take 1 (set bounds 0 first_bound) ≡ first_bound ∷ [] = take_more_set bounds 0 first_bound (omega arith) in
+    record {
+      filling = rw first (filling_start c.args.levels.now (begins_line (classes_of c.args.own.now) c.positions-at.result.now));
+      passing = passing_none c.positions-at.result.now c.args.breaks.now.len c.positions-at.ensures.breaks;
+      few_passed = omega arith;
+      few_lines = omega arith;
+      few_positions = omega arith;
+      at_least = omega arith;
+      at_most = omega arith;
+    }
 
 pub loop-start-preserved : goal.loop-start-preserved
 loop-start-preserved g c =
@@ -36,16 +56,20 @@ loop-start-preserved g c =
     let e = c.end_of_line-end.ensures.end in
     let cuts : Cuts (begins_line own at) l.start end (length own) = ends_line own at l.passed l.start limit end breaks l.invariant.passing is_limit e in
     let step : l.passed + c.from-passed.result ≡ l.passed + cond (end == limit) 1 0 = ap (λ n. l.passed + n) (c.from-passed.ensures ∙ byte_is (end == limit)) in
-    let count : length c.append_line.new.bounds.items ≡ length l.bounds.items + 1 = ap length c.append_line.ensures.bound ∙ length-append l.bounds.items _ in
+    let line = c.write_line-filled in
+    let written : length (take line.result.positions line.new.orders) ≡ line.result.positions =
+    length-take-le line.result.positions line.new.orders (omega (arith, line.ensures.few, line.auto.orders, l.auto.orders, c.requires.orders)) in
+    let bound : take (line.result.lines + 1) line.new.bounds ≡ take (l.filled.lines + 1) l.bounds ++ record { position = end; order = length (take line.result.positions line.new.orders) } ∷ [] =
+    line.ensures.bound ∙ ap (ended_at (take (l.filled.lines + 1) l.bounds) end) (sym written) in
     record {
       filling =
-          filling_more levels (begins_line own at) l.start end l.orders.items c.append_line.new.orders.items l.bounds.items c.append_line.new.bounds.items
+          filling_more levels (begins_line own at) l.start end (take l.filled.positions l.orders) (take line.result.positions line.new.orders) (take (l.filled.lines + 1) l.bounds) (take (line.result.lines + 1) line.new.bounds)
           (subst (Cuts (begins_line own at) l.start end) same cuts)
-          c.append_line.ensures.order c.append_line.ensures.count c.append_line.ensures.bound l.invariant.filling;
+          line.ensures.order (omega (arith, written, line.ensures.few)) bound l.invariant.filling;
       passing = passing_on at (length own) l.passed (l.passed + c.from-passed.result) l.start limit end breaks l.invariant.passing is_limit e.above e.within step;
       few_passed = omega (arith, l.invariant.few_passed, e.above, at_most_one (end == limit), step);
-      orders_room = c.append_line.ensures.orders_room ∙ l.invariant.orders_room;
-      bounds_room = c.append_line.ensures.bounds_room ∙ l.invariant.bounds_room;
-      at_least = omega (arith, l.invariant.at_least, e.above, c.tick.ensures, c.end_of_line-end.ensures.at_least, c.append_line.ensures.at_least);
-      at_most = omega (arith, l.invariant.at_most, e.above, c.tick.ensures, c.end_of_line-end.ensures.at_most, c.append_line.ensures.at_most, count);
+      few_lines = omega (arith, e.above, line.ensures.lines, l.invariant.few_lines);
+      few_positions = line.ensures.few;
+      at_least = omega (arith, l.invariant.at_least, e.above, c.tick.ensures, c.end_of_line-end.ensures.at_least, line.ensures.at_least);
+      at_most = omega (arith, l.invariant.at_most, e.above, c.tick.ensures, c.end_of_line-end.ensures.at_most, line.ensures.at_most, line.ensures.lines);
     }

@@ -1,12 +1,12 @@
-use Rattle.std.proofs.Common.{◌≡◌, ◌≤◌, ◌+◌, ◌*◌, vec_capacity}
+use Rattle.std.proofs.Common.{◌≡◌, ◌≤◌, ◌+◌, ◌*◌, take}
 use Rattle.lines.proofs.TextLevels.{IsWritten}
 use Rattle.lines.proofs.resolving.resolve_text.Given as goal
 
 abbrev pub invariant-loop-para : goal.invariant-loop-para
 invariant-loop-para g l = record {
-  written : IsWritten l.text l.direction l.start l.paras.items l.levels l.para-iterator;
+  written : IsWritten l.text l.direction l.start (take l.count l.paras) l.levels l.para-iterator;
+  few : l.count ≤ l.start;
   resolver : l.resolver ≡ l.initial.resolver;
-  capacity : vec_capacity l.paras ≡ vec_capacity l.initial.paras;
   at_least : l.initial.steps + 3 * l.start ≤ l.steps;
   at_most : l.steps ≤ l.initial.steps + 194 * l.start;
 }

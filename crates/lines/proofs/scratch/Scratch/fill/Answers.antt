@@ -1,4 +1,4 @@
-use Rattle.std.proofs.Common.{rules, ap, ◌∙◌, ◌≡◌, ℕ, List, length, map, take}
+use Rattle.std.proofs.Common.{rules, refl, ◌∙◌, ◌≡◌, ◌+◌, ℕ, List, length, map, take}
 use Rattle.std.specs.Vec.{with_items}
 use Rattle.std.proofs.lemmas.List.{with_items_is}
 use Rattle.units.specs.Classes.{classes_of}
@@ -10,16 +10,26 @@ use Rattle.lines.proofs.scratch.Scratch.fill.Goals as goal
 
 pub returns-clause-layout : goal.returns-clause-layout
 returns-clause-layout g c =
+    let room = c.args.self.now in
     let n : ℕ = length c.args.text.now in
-    let paras : List ℕ = map level_of_para c.resolve_text.new.paras.items in
-    let one : length c.resolve_text.new.levels ≡ c.args.self.now.levels.len = search rules in
-    let held = with_items_is c.args.self.now.levels c.resolve_text.new.levels one in
-    let resolved : c.deref_mut-2.result.now ≡ c.resolve_text.new.levels = c.deref_mut-2.ensures.value ∙ held in
-    let other : length c.arrange.new.levels ≡ c.args.self.now.levels.len = search rules in
-    let written = with_items_is (with_items c.args.self.now.levels c.resolve_text.new.levels) c.arrange.new.levels other in
-    let reset : take n c.arrange.new.levels ≡ after_resets (classes_of c.args.text.now) c.args.breaks.now.positions paras (take n c.resolve_text.new.levels) =
-    rw (← resolved, ← c.deref.ensures.value) c.arrange.ensures.levels in
-    laid_out c.args.text.now c.args.direction c.args.breaks.now.positions paras
-    (take n c.resolve_text.new.levels) (take n c.arrange.new.levels) _ (lines_in c.arrange.new.orders.items c.arrange.new.bounds.items)
-    (ap (take n) written) c.resolve_text.ensures.paras c.resolve_text.ensures.levels
-    reset c.arrange.ensures.lines
+    let found = c.resolve_text-paragraphs in
+    let filled = c.arrange-filled in
+    let as_paras : length found.new.paras ≡ room.paras.len = search rules in
+    let as_levels : length found.new.levels ≡ room.levels.len = search rules in
+    let as_levels_too : length filled.new.levels ≡ room.levels.len = search rules in
+    let as_orders : length filled.new.orders ≡ room.orders.len = search rules in
+    let as_bounds : length filled.new.bounds ≡ room.bounds.len = search rules in
+    let paras_are = with_items_is room.paras found.new.paras as_paras in
+    let levels_were = with_items_is room.levels found.new.levels as_levels in
+    let levels_are = with_items_is (with_items room.levels found.new.levels) filled.new.levels as_levels_too in
+    let orders_are = with_items_is room.orders filled.new.orders as_orders in
+    let bounds_are = with_items_is room.bounds filled.new.bounds as_bounds in
+    let paras : List ℕ = map level_of_para (take found.result found.new.paras) in
+    let held_paras : c.deref.result.now ≡ found.new.paras = c.deref.ensures.value ∙ paras_are in
+    let held_levels : c.deref_mut-3.result.now ≡ found.new.levels = c.deref_mut-3.ensures.value ∙ levels_were in
+    let reset : take n filled.new.levels ≡ after_resets (classes_of c.args.text.now) c.args.breaks.now.positions paras (take n found.new.levels) =
+    rw (← held_levels, ← held_paras) filled.ensures.levels in
+    rw (paras_are, levels_are, orders_are, bounds_are)
+    (laid_out c.args.text.now c.args.direction c.args.breaks.now.positions paras (take n found.new.levels) (take n filled.new.levels) (take n filled.new.levels)
+    (lines_in (take filled.result.positions filled.new.orders) (take (filled.result.lines + 1) filled.new.bounds))
+    refl found.ensures.paras found.ensures.levels reset filled.ensures.lines)
