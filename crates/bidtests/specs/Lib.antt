@@ -1,4 +1,5 @@
 pub mod Verdicts
+pub mod Comparisons
 pub mod ClassesFile
 pub mod CharactersFile
 pub mod FileKinds

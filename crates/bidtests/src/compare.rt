@@ -1,13 +1,15 @@
 // Claims compared with layouts.
-ghost use Rattle.std.specs.Prelude.{◌≡◌, ◌≤◌, ◌+◌, ◌++◌, ℕ, List, None, Some, [], drop, length, map, nat_eq, MatchOption};
+ghost use Rattle.std.specs.Prelude.{◌≡◌, ◌≤◌, ◌+◌, ◌++◌, ℕ, List, None, Some, [], ◌∷◌, drop, length, map, nat_eq, MatchOption, IfSome};
 ghost use Rattle.std.specs.Option.{option_map};
-ghost use Rattle.units.specs.Layout.{layout_of, all_orders};
-ghost use Rattle.units.specs.Isolates.{level_of_para};
+ghost use Rattle.units.specs.Layout.{all_orders};
+ghost use Rattle.units.specs.declared.class.Class.{Class};
+ghost use Rattle.units.specs.Isolates.{level_of_para, para_level_of};
 ghost use Rattle.units.specs.Positions.{is_same};
 ghost use Rattle.lines.specs.Layouts.{view_of};
 ghost use Rattle.lines.specs.Scratches.{room_of};
-ghost use Rattle.bidtests.specs.Verdicts.{agrees, first_of, first_difference, wrong_place, wrong_case, fault_of, Claims};
+ghost use Rattle.bidtests.specs.Verdicts.{agrees, first_of, first_difference, wrong_case, fault_of, Claims};
 ghost use Rattle.bidtests.specs.Readings.{claim_of};
+ghost use Rattle.bidtests.specs.Comparisons.{Compares};
 
 use crate::claim::Claim;
 use crate::verdict::{Place, Verdict};
@@ -85,10 +87,30 @@ fn no_breaks(len: usize) -> Breaks<'static>
     }
 }
 
-/// The first place at which the claim differs from the layout of its text under the direction.
-fn differing_place(scratch: &mut Scratch, claim: Claim<'_>, direction: Direction) -> Option<Place>
+/// How a claim compares with the layout of its text under one direction.
+enum Comparison {
+    /// They differ, first at this place.
+    Differs(Place),
+    /// They agree, and so does the layout under the other direction, if one is named, since it is the same.
+    Agrees { also_under: Option<Direction> },
+}
+
+/// The direction that gives the paragraph of a text of one paragraph the level that it has, whatever its classes are.
+#[tactic(auto, unfolding(units::specs::Isolates::para_level_of))]
+fn direction_of(paras: &[ParaLevel]) -> Option<Direction>
+    ensures { IfSome result (λ direction. (classes : List Class) → map level_of_para paras.now ≡ para_level_of classes direction ∷ []) }
+{
+    match paras {
+        [ParaLevel::Zero] => Some(Direction::Ltr),
+        [ParaLevel::One] => Some(Direction::Rtl),
+        _ => None,
+    }
+}
+
+/// Compares a claim with the layout of its text under a direction.
+fn compare(scratch: &mut Scratch, claim: Claim<'_>, direction: Direction) -> Comparison
     requires { length claim.text.now ≤ room_of scratch.old }
-    ensures place { result ≡ wrong_place (claim_of claim.entry).para claim.entry.levels.now claim.entry.order.now (layout_of claim.entry.text.now direction []) }
+    ensures compares { Compares result (claim_of claim.entry) direction }
     ensures room { room_of scratch.new ≡ room_of scratch.old }
 {
     let breaks = no_breaks(claim.text.len());
@@ -96,24 +118,33 @@ fn differing_place(scratch: &mut Scratch, claim: Claim<'_>, direction: Direction
         unreachable!()
     };
     if !agrees_with(claim.para, layout.para_levels()) {
-        return Some(Place::ParaLevel);
+        return Comparison::Differs(Place::ParaLevel);
     }
     if let Some(at) = differing_level(claim.levels, layout.levels()) {
-        return Some(Place::Levels(at));
+        return Comparison::Differs(Place::Levels(at));
     }
-    let at = differing_order(claim.order, &layout)?;
-    Some(Place::Order(at))
+    match differing_order(claim.order, &layout) {
+        Some(at) => Comparison::Differs(Place::Order(at)),
+        None => Comparison::Agrees {
+            also_under: direction_of(layout.para_levels()),
+        },
+    }
 }
 
-/// The first of the claim's directions under which it differs from the layout, and where.
+/// The first of the claim's directions under which it differs from the layout, and where. A direction is passed over where an earlier one gave the same layout.
 fn first_wrong(scratch: &mut Scratch, claim: Claim<'_>) -> Option<(Direction, Place)>
     requires { length claim.text.now ≤ room_of scratch.old }
     ensures wrong { result ≡ wrong_case (claim_of claim.entry) claim.entry.directions.now }
     ensures room { room_of scratch.new ≡ room_of scratch.old }
 {
+    let mut right = None;
     for direction in claim.directions {
-        if let Some(place) = differing_place(scratch, claim, *direction) {
-            return Some((*direction, place));
+        if right == Some(*direction) {
+            continue;
+        }
+        match compare(scratch, claim, *direction) {
+            Comparison::Differs(place) => return Some((*direction, place)),
+            Comparison::Agrees { also_under } => right = right.or(also_under),
         }
     }
     None

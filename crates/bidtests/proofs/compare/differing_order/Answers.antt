@@ -1,5 +1,5 @@
-use Rattle.std.proofs.Common.{◌≡◌, ◌<◌, ◌≤◌, List, length, drop, arith, sym, ◌∙◌, ap, flat_map, [], length-drop}
-use Rattle.std.specs.Prelude.{nat_eq, Some, None}
+use Rattle.std.proofs.Common.{◌≡◌, drop, arith, sym, ◌∙◌, ap, flat_map, [], length-drop}
+use Rattle.std.specs.Prelude.{nat_eq}
 use Rattle.units.specs.Layout.{LineLayout}
 use Rattle.lines.specs.Layouts.{view_of}
 use Rattle.bidtests.specs.Verdicts.{first_difference}

@@ -1,0 +1,15 @@
+use Rattle.std.proofs.Common.{◌≡◌, map, ap, ◌∙◌, rules}
+use Rattle.units.specs.Isolates.{level_of_para}
+use Rattle.units.specs.Layout.{TextLayout, layout_of, para_levels_of}
+use Rattle.bidtests.specs.Comparisons.{IsRight}
+use Rattle.bidtests.specs.Readings.{claim_of}
+use Rattle.bidtests.proofs.SameLayout.{also-right}
+use Rattle.bidtests.proofs.compare.compare.Goals as goal
+
+pub returns-in-None-clause-compares : goal.returns-in-None-clause-compares
+unfolding layout_of
+returns-in-None-clause-compares c =
+    let right : IsRight (claim_of c.args.claim) c.args.direction = search rules in
+    let paras : map level_of_para c.para_levels-in-None.result.now ≡ para_levels_of c.args.claim.text.now c.args.direction =
+    c.para_levels-in-None.ensures ∙ ap (λ (v : TextLayout). v.paras) c.in-Ok.ensures.laid_out in
+    (right, also-right (claim_of c.args.claim) c.args.direction c.direction_of.result (map level_of_para c.para_levels-in-None.result.now) paras c.direction_of.ensures right)

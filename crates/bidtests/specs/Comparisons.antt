@@ -1,0 +1,16 @@
+-- What comparing a claim with the layout under one direction says.
+use Rattle.std.specs.Prelude.{◌≡◌, Some, None, [], IfSome}
+use Rattle.units.specs.Layout.{layout_of}
+use Rattle.units.specs.declared.level.Direction.{Direction}
+use Rattle.bidtests.specs.declared.compare.Comparison.{Comparison}
+use Rattle.bidtests.specs.declared.compare.Comparison.TheVariants.{Differs, Agrees}
+use Rattle.bidtests.specs.Verdicts.{Claim, wrong_place}
+
+-- the claim is right under the direction
+abbrev pub IsRight : Claim → Direction → Type 0
+IsRight claim direction = wrong_place claim.para claim.levels claim.order (layout_of claim.text direction []) ≡ None
+
+-- the first place at which the claim differs from the layout under the direction, or that it is right, and under which other direction it is
+abbrev pub Compares : Comparison → Claim → Direction → Type 0
+Compares (Differs place) claim direction = wrong_place claim.para claim.levels claim.order (layout_of claim.text direction []) ≡ Some place
+Compares (Agrees also_under) claim direction = IsRight claim direction × IfSome also_under (IsRight claim)
