@@ -1,3 +1,4 @@
+mod arbitrary;
 mod characters;
 
 use crate::judge::Judge;
@@ -194,6 +195,13 @@ fn the_deepest_levels(rt: HostRuntime) -> Result<(), Fail> {
 }
 
 #[test]
+fn the_nearest_lists_are_in_force(rt: HostRuntime) -> Result<(), Fail> {
+    let file = b"@Levels: 1\n@Reorder: 1\n@Levels: 0\n@Reorder: 0\nL; 1\n@Levels: 1\nR; 3\n";
+    expect(&rt, rt.alloc(), file, yes(2, 3))?;
+    Ok(())
+}
+
+#[test]
 fn rows_that_are_wrong(rt: HostRuntime) -> Result<(), Fail> {
     let alloc = rt.alloc();
     expect(&rt, alloc, WRONG_UNDER_RTL, WRONG_UNDER_RTL_VERDICT)?;
@@ -238,6 +246,8 @@ fn lines_that_are_malformed(rt: HostRuntime) -> Result<(), Fail> {
         (b"@Reorder: 65536\n", 1, Cause::OrderItem),
         (b"L", 1, Cause::FieldCount),
         (b" ; 9", 1, Cause::EmptyRow),
+        (b"L; 9", 1, Cause::BitSet),
+        (b"@Levels: 0\n@Reorder: 0\nL; 8\nL; 4\n", 3, Cause::BitSet),
         (b"L l; 9", 1, Cause::ClassItem),
     ] {
         expect(&rt, alloc, bytes, malformed(line, cause))?;
@@ -247,11 +257,13 @@ fn lines_that_are_malformed(rt: HostRuntime) -> Result<(), Fail> {
 
 #[test]
 fn pieces_may_begin_anywhere(rt: HostRuntime) -> Result<(), Fail> {
-    let mut judge = Judge::for_classes(rt.alloc())?;
-    let (first, rest) = WRONG_UNDER_RTL.split_at(4);
-    judge.feed(first);
-    judge.feed(rest);
-    assert_eq!(&rt; judge.finish(), WRONG_UNDER_RTL_VERDICT);
+    for at in 0..=WRONG_UNDER_RTL.len() {
+        let mut judge = Judge::for_classes(rt.alloc())?;
+        let (first, rest) = WRONG_UNDER_RTL.split_at(at);
+        judge.feed(first);
+        judge.feed(rest);
+        assert_eq!(&rt; judge.finish(), WRONG_UNDER_RTL_VERDICT, "cut at {at}");
+    }
     Ok(())
 }
 

@@ -28,7 +28,7 @@ const MIRRORS: &[u8] = b"0028; 0029\n0029; 0028\n003C; 003E\n003E; 003C\n005B; 0
 const PARA_DIFFERS: &[u8] = b"0061;0;1;0;0\n";
 
 /// The tables that these files state.
-fn tables(alloc: Global) -> Result<Tables, TableFault> {
+pub fn tables(alloc: Global) -> Result<Tables, TableFault> {
     let classes = ClassTable::read(alloc, &mut SliceSource::new(CLASSES))?;
     let brackets = BracketTable::read(alloc, &mut SliceSource::new(BRACKETS))?;
     let mirrors = MirrorTable::read(alloc, &mut SliceSource::new(MIRRORS))?;
@@ -100,6 +100,8 @@ fn rows_that_are_wrong(rt: HostRuntime) -> Result<(), Fail> {
     for (line, direction, place) in [
         (PARA_DIFFERS, Direction::Ltr, Place::ParaLevel),
         (b"05D0;1;1;1 1;0\n", Direction::Rtl, Place::Levels(1)),
+        (b"05D0;1;1;;0\n", Direction::Rtl, Place::Levels(0)),
+        (b"0061;0;0;0;0 1\n", Direction::Ltr, Place::Order(1)),
         (b"05D0 05D1;2;1;1 1;0 1\n", Direction::Auto, Place::Order(0)),
     ] {
         expect(&rt, alloc, &tables, line, wrong(1, direction, place))?;
