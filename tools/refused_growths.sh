@@ -23,7 +23,7 @@ cd "$(dirname "$0")/../crates/$crate" || exit 2
 
 for ((n = first; n <= last; n++)); do
     said=$(rt try --test --fail-alloc "$n" 2>&1)
-    if ! grep -q "^test tests::$test_name \.\.\. ok$" <<<"$said"; then
+    if ! grep -qE "^test tests::([a-z_]+::)*$test_name \.\.\. ok\$" <<<"$said"; then
         echo "$crate: allocation $n refused: $test_name did not pass" >&2
         echo "$said" >&2
         exit 1

@@ -1,10 +1,14 @@
 -- What a judged file leaves behind.
 use Rattle.std.specs.Prelude.{◌≡◌, ℕ, List, Option}
 use Rattle.std.specs.Io.KnownBytes.{Appends}
+use Rattle.ucdfiles.specs.Tables.{TablesOf}
 use Rattle.bidtests.specs.declared.verdict.Verdict.{Verdict}
 use Rattle.bidtests.specs.ClassesFile.{classes_verdict}
+use Rattle.bidtests.specs.CharactersFile.{characters_verdict}
+use Rattle.bidtests.specs.FileKinds.{unit_by}
 use Rattle.bidi.specs.declared.fault.Fault.{Fault}
-use Rattle.bidi.specs.declared.fault.Fault.TheVariants.{Refused, WordNotUtf8, CannotRead, CannotWrite, OutOfMemory}
+use Rattle.bidi.specs.declared.fault.Fault.TheVariants.{CannotRead, CannotWrite, OutOfMemory}
+use Rattle.bidi.specs.ReadFiles.{AreTables, most_file_bytes}
 use Rattle.bidi.specs.VerdictText.{verdict_text, verdict_status}
 
 -- the exit status, and what a writer's known bytes grew by, say this verdict
@@ -12,19 +16,26 @@ pub record SaysVerdict (before after : Option (List ℕ)) (verdict : Verdict) (s
   pub status_is : status ≡ verdict_status verdict
   pub line : Appends before after (verdict_text verdict)
 
--- a source handed out bytes to its end, and what was written and the exit status say their verdict
-pub record HasJudged {S : Type 0} (gives : S → List ℕ → S → Type 0) (ended : S → Type 0) (before after : Option (List ℕ)) (status : ℕ) : Type 0 where
-  pub opened : S
-  pub closed : S
+-- the verdict on the bytes of a file whose rows are lists of classes
+abbrev pub IsClassesVerdict : List ℕ → Verdict → Type 0
+IsClassesVerdict bytes verdict = verdict ≡ classes_verdict bytes
+
+-- the verdict on the bytes of a file whose rows are lists of code points, by the tables of a folder that were read
+abbrev pub IsCharactersVerdict : (List ℕ → ℕ → List ℕ → Type 0) → List ℕ → List ℕ → Verdict → Type 0
+IsCharactersVerdict WasRead folder bytes verdict =
+    (tables : TablesOf) × AreTables WasRead folder tables × (verdict ≡ characters_verdict (unit_by tables) bytes)
+
+-- the file of this name was read whole, and what was written and the exit status say the verdict on its bytes
+pub record HasJudged (WasRead : List ℕ → ℕ → List ℕ → Type 0) (IsVerdict : List ℕ → Verdict → Type 0) (file : List ℕ) (before after : Option (List ℕ)) (status : ℕ) : Type 0 where
   pub bytes : List ℕ
-  pub given : gives opened bytes closed
-  pub whole : ended closed
-  pub said : SaysVerdict before after (classes_verdict bytes) status
+  pub read : WasRead file most_file_bytes bytes
+  pub verdict : Verdict
+  pub is : IsVerdict bytes verdict
+  pub said : SaysVerdict before after verdict status
 
 -- when a fault ends the judging of a source of this name: it failed, or it has ended and the verdict was not written, or memory was refused
 abbrev pub EndsJudging : ℕ → Type 0 → List ℕ → Fault → Type 0
-EndsJudging failures ended name (Refused error) = ⊥
-EndsJudging failures ended name WordNotUtf8 = ⊥
 EndsJudging failures ended name (CannotRead unread) = (unread.now ≡ name) × (failures ≡ 1)
 EndsJudging failures ended name CannotWrite = ended
 EndsJudging failures ended name OutOfMemory = Unit {0}
+EndsJudging failures ended name _ = ⊥

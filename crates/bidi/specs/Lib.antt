@@ -4,6 +4,8 @@ pub mod Judged
 pub mod LevelsText
 pub mod Outcomes
 pub mod PrintedTexts
+pub mod ReadFiles
 pub mod ReorderText
 pub mod Rows
+pub mod TableFaults
 pub mod VerdictText

@@ -1,14 +1,17 @@
 -- What a run comes to, by how its words were read.
-use Rattle.std.specs.Prelude.{◌≡◌, ◌≢◌, ◌⊎◌, ℕ, List, Option, Result, Ok, Err}
+use Rattle.std.specs.Prelude.{◌≡◌, ◌≢◌, ◌⊎◌, ℕ, List, Option, Some, None, Result, Ok, Err}
 use Rattle.clap.specs.Values.{kind_of}
 use Rattle.clap.specs.declared.error.Error.{Error}
 use Rattle.clap.specs.declared.error.kind.ErrorKind.TheVariants as kind
+use Rattle.bidi.specs.declared.command_line.FileKind.TheVariants.{Classes, Characters}
 use Rattle.bidi.specs.declared.command_line.Request.{Request}
+use Rattle.bidi.specs.declared.command_line.Request.TheVariants.{Judge}
 use Rattle.bidi.specs.declared.fault.Fault.{Fault}
-use Rattle.bidi.specs.declared.fault.Fault.TheVariants.{Refused, WordNotUtf8, CannotRead, CannotWrite, OutOfMemory}
+use Rattle.bidi.specs.declared.fault.Fault.TheVariants.{Refused, WordNotUtf8, TablesNeeded, CannotRead, FaultyLine, CannotWrite, OutOfMemory}
 use Rattle.bidi.specs.declared.outcome.Outcome.{Outcome}
 use Rattle.bidi.specs.declared.outcome.Outcome.TheVariants.{Judged, Helped}
 use Rattle.bidi.specs.FaultText.{fault_status}
+use Rattle.bidi.specs.Judged.{HasJudged, IsClassesVerdict, IsCharactersVerdict}
 
 -- the exit status: that of the verdict, 0 after help, and that of the fault
 abbrev pub outcome_status : Result Outcome Fault → ℕ
@@ -24,22 +27,35 @@ AsksForHelp error = (kind_of error ≡ kind.DisplayHelp) ⊎ (kind_of error ≡ 
 abbrev pub IsRefusal : Error → Type 0
 IsRefusal error = (kind_of error ≢ kind.OutOfMemory) × (kind_of error ≢ kind.DisplayHelp) × (kind_of error ≢ kind.DisplayVersion)
 
--- words that are a request come to a judged file or a fault of the run; else help is written, or nothing is and the words are refused
-abbrev pub ComesTo : (ℕ → Type 0) → Option (List ℕ) → Option (List ℕ) → Result Request Error → Result Outcome Fault → Type 0
-ComesTo judged before after (Ok request) (Ok (Judged status)) = judged status
-ComesTo judged before after (Ok request) (Ok Helped) = ⊥
-ComesTo judged before after (Ok request) (Err fault) = fault_status fault ≡ 3
-ComesTo judged before after (Err error) (Ok (Judged status)) = ⊥
-ComesTo judged before after (Err error) (Ok Helped) = AsksForHelp error
-ComesTo judged before after (Err error) (Err (Refused refusal)) = (refusal ≡ error) × IsRefusal error × (after ≡ before)
-ComesTo judged before after (Err error) (Err WordNotUtf8) = ⊥
-ComesTo judged before after (Err error) (Err (CannotRead name)) = ⊥
-ComesTo judged before after (Err error) (Err CannotWrite) = AsksForHelp error
-ComesTo judged before after (Err error) (Err OutOfMemory) = (kind_of error ≡ kind.OutOfMemory) ⊎ AsksForHelp error
+-- what was asked for is done: the file was judged, one of characters by the tables of the folder that is named
+abbrev pub IsDone : (List ℕ → ℕ → List ℕ → Type 0) → Option (List ℕ) → Option (List ℕ) → Request → Outcome → Type 0
+IsDone WasRead before after (Judge Classes tables file) (Judged status) =
+    HasJudged WasRead IsClassesVerdict file.now before after status
+IsDone WasRead before after (Judge Characters (Some folder) file) (Judged status) =
+    HasJudged WasRead (IsCharactersVerdict WasRead folder.now) file.now before after status
+IsDone WasRead before after (Judge Characters None file) (Judged status) = ⊥
+IsDone WasRead before after request Helped = ⊥
+
+-- what was asked for ends with this fault: nothing is written where tables are needed and none are named, else the run failed
+abbrev pub Fails : Option (List ℕ) → Option (List ℕ) → Request → Fault → Type 0
+Fails before after (Judge Classes tables file) fault = fault_status fault ≡ 3
+Fails before after (Judge Characters (Some folder) file) fault = fault_status fault ≡ 3
+Fails before after (Judge Characters None file) fault = (fault ≡ TablesNeeded) × (after ≡ before)
+
+-- words that are a request come to what it asks for or fail; else help is written, or nothing is and the words are refused
+abbrev pub ComesTo : (List ℕ → ℕ → List ℕ → Type 0) → Option (List ℕ) → Option (List ℕ) → Result Request Error → Result Outcome Fault → Type 0
+ComesTo WasRead before after (Ok request) (Ok outcome) = IsDone WasRead before after request outcome
+ComesTo WasRead before after (Ok request) (Err fault) = Fails before after request fault
+ComesTo WasRead before after (Err error) (Ok Helped) = AsksForHelp error
+ComesTo WasRead before after (Err error) (Ok (Judged status)) = ⊥
+ComesTo WasRead before after (Err error) (Err (Refused refusal)) = (refusal ≡ error) × IsRefusal error × (after ≡ before)
+ComesTo WasRead before after (Err error) (Err CannotWrite) = AsksForHelp error
+ComesTo WasRead before after (Err error) (Err OutOfMemory) = (kind_of error ≡ kind.OutOfMemory) ⊎ AsksForHelp error
+ComesTo WasRead before after (Err error) (Err _) = ⊥
 
 -- the words were read somehow, and the run came to what that asks for and ended with its status
-pub record HasRun (judged : ℕ → Type 0) (before after : Option (List ℕ)) (status : ℕ) : Type 0 where
+pub record HasRun (WasRead : List ℕ → ℕ → List ℕ → Type 0) (before after : Option (List ℕ)) (status : ℕ) : Type 0 where
   pub read : Result Request Error
   pub outcome : Result Outcome Fault
-  pub comes : ComesTo judged before after read outcome
+  pub comes : ComesTo WasRead before after read outcome
   pub status_is : status ≡ outcome_status outcome

@@ -1,9 +1,12 @@
 // What goes wrong in a run, and how it is said.
 ghost use Rattle.std.specs.Prelude.{◌≡◌, OnOk};
-ghost use Rattle.bidi.specs.FaultText.{SaysFault, fault_status};
+ghost use Rattle.std.specs.Io.KnownBytes.{Appends};
+ghost use Rattle.bidi.specs.FaultText.{SaysFault, fault_status, faulty_line_text};
 
+use std::alloc::AllocError;
 use std::io;
 use std::io::Write;
+use ucdfiles::fault::TableFault;
 use units::memory::Memory;
 
 /// Why a text was not printed whole.
@@ -44,8 +47,16 @@ pub enum Fault<'a> {
     Refused(clap::Error),
     /// A word of the command line is not UTF-8.
     WordNotUtf8,
+    /// A file of characters is to be judged, and no folder of tables was given.
+    TablesNeeded,
     /// The file of this name can't be opened, a read of it failed, or it has more bytes than are allowed.
     CannotRead(&'a str),
+    /// A line of the table's file of this name is faulty.
+    FaultyLine {
+        name: &'a str,
+        line: u64,
+        fault: TableFault,
+    },
     /// A write to the output, or its flush, failed.
     CannotWrite,
     /// Memory was refused.
@@ -77,13 +88,37 @@ impl From<Memory> for Fault<'_> {
     }
 }
 
+impl From<AllocError> for Fault<'_> {
+    ghost use Rattle.std.specs.Prelude.{◌≡◌};
+    ghost use Rattle.bidi.specs.declared.fault.Fault.TheVariants.{OutOfMemory};
+
+    ghost from_gives = { λ _ fault. fault ≡ OutOfMemory };
+
+    fn from(_error: AllocError) -> Self {
+        Fault::OutOfMemory
+    }
+}
+
+/// Writes the line that says what is wrong with a line of a table's file.
+fn print_faulty_line<E: Write>(
+    err: &mut E,
+    name: &str,
+    line: u64,
+    fault: TableFault,
+) -> io::Result<()>
+    ensures { OnOk result (Appends (E.contents err.old) (E.contents err.new) (faulty_line_text name.now line fault)) }
+{
+    let fault = fault.name();
+    writeln!(err, "bidi: {name}: line {line}: {fault}")
+}
+
 impl Fault<'_> {
-    /// The exit status: 2 where the words of the command line are refused, else 3.
+    /// The exit status: 2 where the words of the command line are refused or name no tables, else 3.
     fn status(&self) -> u8
         ensures { result ≡ fault_status self.now }
     {
         match self {
-            Fault::Refused(_) | Fault::WordNotUtf8 => 2,
+            Fault::Refused(_) | Fault::WordNotUtf8 | Fault::TablesNeeded => 2,
             _ => 3,
         }
     }
@@ -95,7 +130,9 @@ impl Fault<'_> {
         match self {
             Fault::Refused(error) => write!(err, "{error}"),
             Fault::WordNotUtf8 => writeln!(err, "bidi: a word is not UTF-8"),
+            Fault::TablesNeeded => writeln!(err, "bidi: --tables is needed"),
             Fault::CannotRead(name) => writeln!(err, "bidi: cannot read {name}"),
+            Fault::FaultyLine { name, line, fault } => print_faulty_line(err, name, *line, *fault),
             Fault::CannotWrite => writeln!(err, "bidi: cannot write"),
             Fault::OutOfMemory => writeln!(err, "bidi: out of memory"),
         }

@@ -1,6 +1,10 @@
 // A source judged, and its verdict printed.
-ghost use Rattle.std.specs.Prelude.{◌≡◌, ◌≤◌, ℕ, List, IfOk, IfErr, IsErr, OnOk};
+ghost use Rattle.std.specs.Prelude.{◌≡◌, ◌≤◌, ℕ, List, [], IfOk, IfErr, IsErr, OnOk};
+ghost use Rattle.bidtests.specs.CharactersFile.{characters_verdict};
 ghost use Rattle.bidtests.specs.ClassesFile.{classes_verdict};
+ghost use Rattle.bidtests.specs.FileKinds.{unit_by, verdict_of};
+ghost use Rattle.bidtests.specs.Standing.{Judges};
+ghost use Rattle.bidtests.specs.declared.kind.Kind.{Kind};
 ghost use Rattle.bidi.specs.Judged.{EndsJudging, SaysVerdict};
 ghost use Rattle.bidi.specs.VerdictText.{verdict_status};
 
@@ -11,6 +15,7 @@ use bidtests::reader::judge_reader;
 use bidtests::verdict::Verdict;
 use std::alloc::Global;
 use std::io::Write;
+use ucdfiles::tables::Tables;
 use units::source::ByteSource;
 
 /// The exit status of a verdict: 0 for a yes, 1 for a no.
@@ -22,6 +27,29 @@ fn status_of(verdict: Verdict) -> u8
         Verdict::Yes { .. } => 0,
         Verdict::Malformed { .. } | Verdict::Wrong { .. } => 1,
     }
+}
+
+/// Judges by a judge that was handed nothing.
+fn judge_source<'a, S: ByteSource, W: Write>(
+    judge: Judge<'_>,
+    source: &mut S,
+    name: &'a str,
+    out: &mut W,
+) -> Result<u8, Fault<'a>>
+    ensures ended { OnOk result (S.ended source.new) }
+    ensures failed { S.failures source.new ≡ 1 → IsErr result }
+    ensures fault { IfErr result (EndsJudging (S.failures source.new) (S.ended source.new) name.now) }
+    ensures verdict { IfOk result (λ status. (given : List ℕ) × S.gives source.old given source.new
+        × ((kind : Kind) → Judges kind judge.entry []
+        → SaysVerdict (W.contents out.old) (W.contents out.new) (verdict_of kind given) status)) }
+    ensures status { IfOk result (λ status. status ≤ 1) }
+{
+    let verdict = match judge_reader(judge, source) {
+        Ok(verdict) => verdict,
+        Err(_) => return Err(Fault::CannotRead(name)),
+    };
+    print_verdict(out, &verdict)?;
+    Ok(status_of(verdict))
 }
 
 /// Judges the bytes that a source hands out to its end, as a file whose rows are lists of classes. Prints the verdict's
@@ -43,10 +71,28 @@ pub fn judge_classes<'a, S: ByteSource, W: Write>(
     ensures status { IfOk result (λ status. status ≤ 1) }
 {
     let judge = Judge::for_classes(alloc)?;
-    let verdict = match judge_reader(judge, source) {
-        Ok(verdict) => verdict,
-        Err(_) => return Err(Fault::CannotRead(name)),
-    };
-    print_verdict(out, &verdict)?;
-    Ok(status_of(verdict))
+    judge_source(judge, source, name, out)
+}
+
+/// Judges the bytes that a source hands out to its end, as a file whose rows are lists of code points, of which the tables
+/// tell the units. Prints the verdict's line and answers its exit status. The faults are a failed read, by the name that
+/// is given, a failed write, and refused memory.
+pub fn judge_characters<'a, S: ByteSource, W: Write>(
+    alloc: Global,
+    tables: &Tables,
+    source: &mut S,
+    name: &'a str,
+    out: &mut W,
+) -> Result<u8, Fault<'a>>
+    // No verdict without the whole of the source.
+    ensures ended { OnOk result (S.ended source.new) }
+    ensures failed { S.failures source.new ≡ 1 → IsErr result }
+    ensures fault { IfErr result (EndsJudging (S.failures source.new) (S.ended source.new) name.now) }
+
+    ensures verdict { IfOk result (λ status. (given : List ℕ) × S.gives source.old given source.new
+        × SaysVerdict (W.contents out.old) (W.contents out.new) (characters_verdict (unit_by tables.now) given) status) }
+    ensures status { IfOk result (λ status. status ≤ 1) }
+{
+    let judge = Judge::for_characters(alloc, tables)?;
+    judge_source(judge, source, name, out)
 }

@@ -7,13 +7,16 @@ mod fault;
 mod files;
 mod judging;
 mod layout_text;
+mod opening;
 mod outcome;
+mod performing;
 mod position_line;
 mod print;
 #[cfg(test)]
 mod reorder_tests;
 mod reorder_text;
 mod run;
+mod table_files;
 #[cfg(test)]
 mod tests;
 mod verdict_line;

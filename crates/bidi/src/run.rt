@@ -1,72 +1,34 @@
 // A run of the command.
-ghost use Rattle.std.specs.Prelude.{◌≡◌, ◌≤◌, Err, IfOk, IfErr};
-ghost use Rattle.bidi.specs.FaultText.{fault_status};
-ghost use Rattle.bidi.specs.Judged.{HasJudged};
-ghost use Rattle.bidi.specs.Outcomes.{ComesTo, HasRun};
+ghost use Rattle.std.specs.Prelude.{◌≡◌, ◌≤◌, ℕ, Err, IfOk, IfErr};
+ghost use Rattle.bidi.specs.Outcomes.{ComesTo, Fails, HasRun, IsDone};
+ghost use Rattle.bidi.specs.ReadFiles.{WasReadWhole};
+ghost use Rattle.bidi.specs.declared.command_line.Request.{Request};
 
 use crate::command_line::{Request, request_of};
 use crate::fault::{Fault, PrintFault};
-use crate::files::{Files, OpenFault};
-use crate::judging::judge_classes;
+use crate::files::Files;
 use crate::outcome::Outcome;
+use crate::performing::perform;
 use clap::error::ErrorKind;
 use std::alloc::Global;
 use std::io::Write;
 
-/// The most bytes that a conformance file may have.
-const MOST_FILE_BYTES: u64 = 1_099_511_627_776;
-
-/// Opens the file of this name.
-fn open<'a, F: Files>(
-    alloc: Global,
-    files: &mut F,
-    name: &'a str,
-    most: u64,
-) -> Result<F::Source, Fault<'a>>
-    ensures { IfErr result (λ fault. fault_status fault ≡ 3) }
-{
-    match files.source(alloc, name, most) {
-        Ok(source) => Ok(source),
-        Err(OpenFault::Cannot) => Err(Fault::CannotRead(name)),
-        Err(OpenFault::Memory) => Err(Fault::OutOfMemory),
-    }
-}
-
-/// Does what is asked for, and answers the verdict's exit status.
-fn perform<'a, F: Files, W: Write>(
-    alloc: Global,
-    request: Request<'a>,
-    files: &mut F,
-    out: &mut W,
-) -> Result<u8, Fault<'a>>
-    ensures judged { IfOk result (HasJudged F.Source.ByteSource.gives F.Source.ByteSource.ended
-        (W.contents out.old) (W.contents out.new)) }
-    ensures fault { IfErr result (λ fault. fault_status fault ≡ 3) }
-{
-    match request {
-        Request::JudgeClasses { file } => {
-            let mut source = open(alloc, files, file, MOST_FILE_BYTES)?;
-            judge_classes(alloc, &mut source, file, out)
-        }
-    }
-}
-
-/// The same, with all that was written handed on.
+/// Does what is asked for, with all that was written handed on.
 fn perform_and_flush<'a, F: Files, W: Write>(
     alloc: Global,
     request: Request<'a>,
     files: &mut F,
     out: &mut W,
-) -> Result<u8, Fault<'a>>
-    ensures judged { IfOk result (HasJudged F.Source.ByteSource.gives F.Source.ByteSource.ended
-        (W.contents out.old) (W.contents out.new)) }
-    ensures fault { IfErr result (λ fault. fault_status fault ≡ 3) }
+) -> Result<Outcome, Fault<'a>>
+    ensures done { IfOk result (IsDone (WasReadWhole F.opens F.Source.ByteSource.gives F.Source.ByteSource.ended)
+        (W.contents out.old) (W.contents out.new) request.entry) }
+    ensures fault { IfErr result (Fails (W.contents out.old) (W.contents out.new) request.entry) }
 {
-    let status = perform(alloc, request, files, out)?;
+    let outcome = perform(alloc, request, files, out)?;
     if out.flush().is_err() {
         return Err(Fault::CannotWrite);
     }
-    Ok(status)
+    Ok(outcome)
 }
 
 /// Writes the text of help.
@@ -78,7 +40,7 @@ fn print_help<W: Write>(out: &mut W, help: &clap::Error) -> Result<(), PrintFaul
 
 /// What words that are no request lead to: help, or the fault that is to be said.
 fn outcome_of_error<'a, W: Write>(error: clap::Error, out: &mut W) -> Result<Outcome, Fault<'a>>
-    ensures { ComesTo (λ _. ⊥) (W.contents out.old) (W.contents out.new) (Err error) result }
+    ensures { ComesTo (λ _ _ _. ⊥) (W.contents out.old) (W.contents out.new) (Err error) result }
 {
     if error.kind() == ErrorKind::OutOfMemory {
         return Err(Fault::OutOfMemory);
@@ -97,19 +59,19 @@ fn outcome_of<'a, F: Files, W: Write>(
     files: &mut F,
     out: &mut W,
 ) -> Result<Outcome, Fault<'a>>
-    ensures { ComesTo
-        (HasJudged F.Source.ByteSource.gives F.Source.ByteSource.ended (W.contents out.old) (W.contents out.new))
+    ensures { ComesTo (WasReadWhole F.opens F.Source.ByteSource.gives F.Source.ByteSource.ended)
         (W.contents out.old) (W.contents out.new) read.entry result }
 {
     match read {
-        Ok(request) => Ok(Outcome::Judged(perform_and_flush(alloc, request, files, out)?)),
+        Ok(request) => perform_and_flush(alloc, request, files, out),
         Err(error) => outcome_of_error(error, out),
     }
 }
 
 /// Does what the words of a command line ask for, the first word being the program's name, and answers the exit status:
-/// 0 after a yes or help, 1 after a no, 2 where the words are refused, 3 where a file can't be read, a write fails or
-/// memory is refused. After 2 and 3 `err` has a line that says so, if it took it.
+/// 0 after a yes or help, 1 after a no, 2 where the words are refused or name no tables though they are needed, 3 where a
+/// file can't be read, a table is faulty, a write fails or memory is refused. After 2 and 3 `err` has a line that says so,
+/// if it took it.
 pub fn run<F: Files, W: Write, E: Write>(
     alloc: Global,
     words: &[&str],
@@ -120,13 +82,13 @@ pub fn run<F: Files, W: Write, E: Write>(
     ensures status { result ≤ 3 }
 
     // The status is that of what the words, as they were read, came to.
-    ensures outcome { HasRun
-        (HasJudged F.Source.ByteSource.gives F.Source.ByteSource.ended (W.contents out.old) (W.contents out.new))
+    ensures outcome { HasRun (WasReadWhole F.opens F.Source.ByteSource.gives F.Source.ByteSource.ended)
         (W.contents out.old) (W.contents out.new) result }
 
     // A no is answered only where all bytes of a source have that verdict and its line was written.
-    ensures no { result ≡ 1 → HasJudged F.Source.ByteSource.gives F.Source.ByteSource.ended
-        (W.contents out.old) (W.contents out.new) 1 }
+    ensures no { result ≡ 1 → (request : Request)
+        × IsDone (WasReadWhole F.opens F.Source.ByteSource.gives F.Source.ByteSource.ended)
+        (W.contents out.old) (W.contents out.new) request (Outcome.Judged 1) }
 {
     match outcome_of(alloc, request_of(alloc, words), files, out) {
         Ok(outcome) => outcome.status(),

@@ -1,10 +1,11 @@
 use Rattle.std.proofs.Common.{◌≡◌, ℕ, List, Option, [], ap, ◌∙◌, subst}
 use Rattle.std.specs.Io.KnownBytes.{Appends}
 use Rattle.bidtests.specs.declared.verdict.Verdict.{Verdict}
-use Rattle.bidtests.specs.declared.kind.Kind.TheVariants.{Classes}
+use Rattle.bidtests.specs.declared.kind.Kind.{Kind}
+use Rattle.bidtests.specs.Standing.{Judges}
 use Rattle.bidi.specs.Judged.{SaysVerdict}
 use Rattle.bidi.specs.VerdictText.{verdict_text, verdict_status}
-use Rattle.bidi.proofs.judging.judge_classes.Goals as goal
+use Rattle.bidi.proofs.judging.judge_source.Goals as goal
 
 says : (before after : Option (List ℕ)) (v w : Verdict) (status : ℕ) → v ≡ w → status ≡ verdict_status v
     → Appends before after (verdict_text v) → SaysVerdict before after w status
@@ -18,5 +19,6 @@ returns-clause-verdict g c =
     let judged = c.in-Ok.ensures.verdict in (
       judged.0,
       judged.1,
-      says _ _ c.in-Ok.verdict _ _ (judged.2 Classes [] c.in_ok-judge.ensures) c.status_of.ensures.status c.in_ok-print_verdict.ensures.text,
+      λ (kind : Kind) (stands : Judges kind c.args.judge []).
+          says _ _ c.in-Ok.verdict _ _ (judged.2 kind [] stands) c.status_of.ensures.status c.in_ok-print_verdict.ensures.text,
     )

@@ -1,0 +1,44 @@
+-- Files that were read, by their names, and the tables that three of them state.
+use Rattle.std.specs.Prelude.{◌≡◌, ℕ, ◌^◌, List, [], ◌∷◌, codes}
+use Rattle.std.specs.List.{concat}
+use Rattle.ucdfiles.specs.ClassFile.{StatesClasses}
+use Rattle.ucdfiles.specs.PairFiles.{StatesBrackets, StatesMirrors}
+use Rattle.ucdfiles.specs.Tables.{TablesOf, class_at, bracket_at, glyph_at}
+
+-- the most bytes that a conformance file or a table's file may have
+abbrev pub most_file_bytes : ℕ
+most_file_bytes = 2 ^ 40
+
+-- a source was opened as the file of this name with at most so many bytes, handed out these bytes, and ended behind them
+pub record WasReadWhole {S : Type 0} (opens : List ℕ → ℕ → S → Type 0) (gives : S → List ℕ → S → Type 0) (ended : S → Type 0) (name : List ℕ) (most : ℕ) (bytes : List ℕ) : Type 0 where
+  pub opened : S
+  pub closed : S
+  pub as_named : opens name most opened
+  pub given : gives opened bytes closed
+  pub whole : ended closed
+
+-- the names of the tables' files
+abbrev pub class_name : List ℕ
+class_name = codes "DerivedBidiClass.txt"
+
+abbrev pub bracket_name : List ℕ
+bracket_name = codes "BidiBrackets.txt"
+
+abbrev pub mirror_name : List ℕ
+mirror_name = codes "BidiMirroring.txt"
+
+-- a file of this name in the folder
+abbrev pub in_folder : List ℕ → List ℕ → List ℕ
+in_folder folder name = concat (folder ∷ codes "/" ∷ name ∷ [])
+
+-- the tables are those that the bytes of the folder's three files state, each of which was read whole
+pub record AreTables (WasRead : List ℕ → ℕ → List ℕ → Type 0) (folder : List ℕ) (tables : TablesOf) : Type 0 where
+  pub class_bytes : List ℕ
+  pub class_file : WasRead (in_folder folder class_name) most_file_bytes class_bytes
+  pub classes : StatesClasses class_bytes (class_at tables.classes)
+  pub bracket_bytes : List ℕ
+  pub bracket_file : WasRead (in_folder folder bracket_name) most_file_bytes bracket_bytes
+  pub brackets : StatesBrackets bracket_bytes (bracket_at tables.brackets)
+  pub mirror_bytes : List ℕ
+  pub mirror_file : WasRead (in_folder folder mirror_name) most_file_bytes mirror_bytes
+  pub mirrors : StatesMirrors mirror_bytes (glyph_at tables.mirrors)

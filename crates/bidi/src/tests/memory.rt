@@ -1,0 +1,228 @@
+// Files and writers in memory.
+use crate::files::{Files, OpenFault};
+use crate::run::run;
+use std::alloc::Global;
+use std::io::{self, Write};
+use units::cut_source::CutSource;
+use units::reader_source::ReaderSource;
+
+/// A file in memory. A read past its first `readable` bytes fails.
+#[derive(Clone, Copy)]
+pub struct MemoryFile<'a> {
+    pub name: &'a str,
+    pub bytes: &'a [u8],
+    pub readable: u64,
+}
+
+/// A file that can be read to its end.
+pub fn whole<'a>(name: &'a str, bytes: &'a [u8]) -> MemoryFile<'a> {
+    MemoryFile {
+        name,
+        bytes,
+        readable: u64::MAX,
+    }
+}
+
+/// A file of which a read past these many bytes fails.
+pub fn cut<'a>(name: &'a str, bytes: &'a [u8], readable: u64) -> MemoryFile<'a> {
+    MemoryFile {
+        name,
+        bytes,
+        readable,
+    }
+}
+
+/// Files in memory.
+#[derive(Drop)]
+pub struct MemoryFiles<'a> {
+    pub files: &'a [MemoryFile<'a>],
+}
+
+impl<'a> Files for MemoryFiles<'a> {
+    type Source = ReaderSource<&'a [u8]>;
+
+    ghost opens = { λ _ _ _. Unit {0} };
+
+    fn source(&mut self, _alloc: Global, name: &str, most: u64) -> Result<Self::Source, OpenFault> {
+        for file in self.files {
+            if file.name == name {
+                return Ok(ReaderSource::new(file.bytes, most.min(file.readable)));
+            }
+        }
+        Err(OpenFault::Cannot)
+    }
+}
+
+/// Files of which each has these bytes, and fails behind the first `readable` of them.
+#[derive(Drop)]
+pub struct FailingFiles<'a> {
+    pub bytes: &'a [u8],
+    pub readable: usize,
+}
+
+impl<'a> Files for FailingFiles<'a> {
+    type Source = CutSource<'a>;
+
+    ghost opens = { λ _ _ _. Unit {0} };
+
+    fn source(
+        &mut self,
+        _alloc: Global,
+        _name: &str,
+        most: u64,
+    ) -> Result<Self::Source, OpenFault> {
+        if self.bytes.len() as u64 > most {
+            return Err(OpenFault::Cannot);
+        }
+        let readable = self.readable.min(self.bytes.len());
+        Ok(CutSource::new(self.bytes, readable))
+    }
+}
+
+/// Files of which none finds memory to be opened.
+#[derive(Drop)]
+pub struct NoMemory;
+
+impl Files for NoMemory {
+    type Source = CutSource<'static>;
+
+    ghost opens = { λ _ _ _. Unit {0} };
+
+    fn source(
+        &mut self,
+        _alloc: Global,
+        _name: &str,
+        _most: u64,
+    ) -> Result<Self::Source, OpenFault> {
+        Err(OpenFault::Memory)
+    }
+}
+
+/// Takes so many bytes and then fails; a flush fails where it is said so.
+#[derive(Drop)]
+pub struct ShortWriter {
+    pub left: usize,
+    pub flushes: bool,
+}
+
+impl Write for ShortWriter {
+    fn write(&mut self, buf: &[u8]) -> io::Result<usize> {
+        let n = self.left.min(buf.len());
+        if n == 0 {
+            return Err(io::Error::from(io::ErrorKind::StorageFull));
+        }
+        self.left -= n;
+        Ok(n)
+    }
+
+    fn flush(&mut self) -> io::Result<()> {
+        if self.flushes {
+            Ok(())
+        } else {
+            Err(io::Error::from(io::ErrorKind::StorageFull))
+        }
+    }
+}
+
+/// As many bytes as each text of the command has at most in these tests.
+const MOST_WRITTEN: usize = 2048;
+
+/// Holds what is written in an array, and takes no memory.
+#[derive(Drop)]
+pub struct FixedWriter {
+    bytes: [u8; MOST_WRITTEN],
+    len: usize,
+}
+
+impl FixedWriter {
+    pub fn new() -> Self {
+        FixedWriter {
+            bytes: [0; MOST_WRITTEN],
+            len: 0,
+        }
+    }
+
+    pub fn written(&self) -> &[u8] {
+        &self.bytes[..self.len.min(MOST_WRITTEN)]
+    }
+}
+
+impl Write for FixedWriter {
+    fn write(&mut self, buf: &[u8]) -> io::Result<usize> {
+        let start = self.len.min(MOST_WRITTEN);
+        let taken = buf.len().min(MOST_WRITTEN - start);
+        self.bytes[start..start + taken].copy_from_slice(&buf[..taken]);
+        self.len = start + taken;
+        Ok(taken)
+    }
+
+    fn flush(&mut self) -> io::Result<()> {
+        Ok(())
+    }
+}
+
+/// What a run answered and wrote.
+#[derive(Drop)]
+pub struct Outcome {
+    pub status: u8,
+    pub out: FixedWriter,
+    pub err: FixedWriter,
+}
+
+/// A run over such files.
+pub fn outcome_over<F: Files + Drop>(alloc: Global, words: &[&str], mut files: F) -> Outcome {
+    let mut out = FixedWriter::new();
+    let mut err = FixedWriter::new();
+    let status = run(alloc, words, &mut files, &mut out, &mut err);
+    Outcome { status, out, err }
+}
+
+/// A run over these files.
+pub fn outcome_of(alloc: Global, words: &[&str], files: &[MemoryFile<'_>]) -> Outcome {
+    outcome_over(alloc, words, MemoryFiles { files })
+}
+
+pub const CLASS_FILE: &[u8] = b"# @missing: 0000..10FFFF; Left_To_Right
+000A ; B
+000D ; B
+0020 ; WS
+0028..0029 ; ON
+002C ; CS
+0031..0032 ; EN
+003C ; ON
+003E ; ON
+005B ; ON
+005D ; ON
+05D0..05D1 ; R
+0627 ; AL
+2329..232A ; ON
+3008..3009 ; ON
+";
+
+pub const BRACKET_FILE: &[u8] = b"0028; 0029; o
+0029; 0028; c
+005B; 005D; o
+005D; 005B; c
+2329; 232A; o
+232A; 2329; c
+3008; 3009; o
+3009; 3008; c
+";
+
+pub const MIRROR_FILE: &[u8] = b"0028; 0029
+0029; 0028
+003C; 003E
+003E; 003C
+005B; 005D
+005D; 005B
+";
+
+/// The tables of the folder `t`, and a file `FILE`.
+pub fn tables_and<'a>(bytes: &'a [u8]) -> [MemoryFile<'a>; 4] {
+    [
+        whole("t/DerivedBidiClass.txt", CLASS_FILE),
+        whole("t/BidiBrackets.txt", BRACKET_FILE),
+        whole("t/BidiMirroring.txt", MIRROR_FILE),
+        whole("FILE", bytes),
+    ]
+}
