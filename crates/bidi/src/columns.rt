@@ -31,11 +31,7 @@ fn add(breaks: &mut Vec<usize>, p: usize) -> Result<(), Memory>
 
 /// The breaks at every so many positions of each paragraph, counted from the paragraph's start, but before no paragraph
 /// separator: positions of the text, rising, such as `Breaks::new` takes. The error is refused memory.
-pub fn column_breaks(
-    alloc: Global,
-    text: &[Unit],
-    columns: NonZeroU16,
-) -> Result<Vec<usize>, Memory>
+fn column_breaks(alloc: Global, text: &[Unit], columns: NonZeroU16) -> Result<Vec<usize>, Memory>
     ensures breaks { IfOk result (λ breaks. breaks.items ≡ column_breaks_of text.now columns.value) }
     ensures are { IfOk result (λ breaks. AreBreaks breaks.items (length text.now)) }
 {

@@ -6,8 +6,7 @@ ghost use Rattle.units.specs.Layout.{layout_of};
 ghost use Rattle.lines.specs.Layouts.{view_of};
 ghost use Rattle.lines.specs.Scratches.{room_of};
 ghost use Rattle.bidi.specs.LevelsText.{levels_text};
-ghost use Rattle.bidi.specs.ReorderText.{reorder_text};
-ghost use Rattle.bidi.specs.PrintedTexts.{units_of, breaks_of, printed_levels, printed_reorder};
+ghost use Rattle.bidi.specs.PrintedTexts.{units_of, printed_levels, printed_reorder};
 
 use crate::columns::breaks_of;
 use crate::fault::PrintFault;
