@@ -8,3 +8,4 @@ pub mod IdleRules
 pub mod Unbracketed
 pub mod Stages
 pub mod Staying
+pub mod Finding

@@ -1,6 +1,7 @@
-//! Laws of paragraphs and lines in which most rules of the bidirectional algorithm have nothing to do.
+//! Paragraphs in which most rules of the bidirectional algorithm have nothing to do: the laws of them, and the scan that knows them.
 #![tactic(auto)]
 
+pub mod contents;
 pub mod paragraphs;
 pub mod rules;
 pub mod uniform;

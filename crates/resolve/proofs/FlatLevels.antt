@@ -13,7 +13,7 @@ use Rattle.flat.specs.Flat.{is_flat, IsFlat}
 use Rattle.flat.specs.IdleRules.{HasNone}
 use Rattle.flat.specs.Uniform.{may_rise}
 use Rattle.flat.proofs.Staying.{resolved_levels-uniform}
-use Rattle.resolve.specs.Contents.{has_none, keeps_level}
+use Rattle.flat.specs.Contents.{has_none, keeps_level}
 use Rattle.resolve.specs.Raised.{resolved_at}
 
 not_true : (b : Bool) → not b ≡ true → b ≡ false

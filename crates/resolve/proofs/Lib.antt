@@ -6,7 +6,6 @@ pub mod Costs
 pub mod CountingPairs
 pub mod Covering
 pub mod Depth
-pub mod Finding
 pub mod FlatLevels
 pub mod Gathered
 pub mod Giving

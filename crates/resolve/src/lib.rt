@@ -1,7 +1,6 @@
 //! The resolution of one isolating run sequence: weak types, bracket pairs, neutrals, implicit levels (W1 to I2).
 #![tactic(auto)]
 
-mod contents;
 pub mod implicit;
 pub mod laws;
 pub mod neutral;

@@ -11,12 +11,12 @@ ghost use Rattle.resolve.specs.Covering.{AreApart, HasLevelsBy, positions_in};
 ghost use Rattle.resolve.specs.Pairs.{MarksAreOwn};
 ghost use Rattle.resolve.specs.Raised.{resolved_at};
 
-use crate::contents::Contents;
 use crate::pairs::Pairs;
 use crate::whole::resolve_sequence;
 use explicit::isolates::IsolateMap;
 use explicit::levels::{Explicit, explicit_levels};
 use explicit::para_level::para_level;
+use flat::contents::Contents;
 use sequences::paragraph::Sequences;
 use std::alloc::Global;
 use std::marker::Model;

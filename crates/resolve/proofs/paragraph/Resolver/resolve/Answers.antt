@@ -4,7 +4,7 @@ use Rattle.units.specs.Isolates.{level_of_para, para_level_of}
 use Rattle.units.specs.Layout.{resolved_levels}
 use Rattle.units.specs.declared.class.Class.{Class}
 use Rattle.flat.proofs.FlatParagraph.{para_level_of-flat}
-use Rattle.resolve.specs.Contents.{keeps_level}
+use Rattle.flat.specs.Contents.{keeps_level}
 use Rattle.resolve.proofs.FlatLevels.{flat_from, flat_where_kept, levels_are_kept}
 use Rattle.resolve.proofs.paragraph.Resolver.resolve.Goals as goal
 

@@ -5,7 +5,7 @@ use Rattle.units.specs.Classes.{is_strong}
 use Rattle.units.specs.declared.class.Class.{Class}
 use Rattle.flat.specs.Flat.{is_flat}
 use Rattle.flat.specs.Uniform.{may_rise, may_rise_at_even, may_rise_at_odd}
-use Rattle.resolve.specs.declared.contents.Contents.{Contents}
+use Rattle.flat.specs.declared.contents.Contents.{Contents}
 
 -- none of the classes passes the test
 abbrev pub has_none : (Class → Bool) → List Class → Bool

@@ -4,8 +4,8 @@ use Rattle.std.specs.List.{list_all}
 use Rattle.units.specs.Classes.{classes_of, is_strong}
 use Rattle.flat.specs.Flat.{is_flat}
 use Rattle.flat.specs.Uniform.{may_rise_at_even, may_rise_at_odd}
-use Rattle.resolve.specs.Contents.{has_none}
-use Rattle.resolve.proofs.contents.Contents.of.Given as goal
+use Rattle.flat.specs.Contents.{has_none}
+use Rattle.flat.proofs.contents.Contents.of.Given as goal
 
 abbrev pub invariant-loop-k : goal.invariant-loop-k
 invariant-loop-k g l = record {

@@ -5,7 +5,7 @@ ghost use Rattle.units.specs.Isolates.{level_of_para};
 ghost use Rattle.units.specs.declared.class.Class.{Class as BidiClass};
 ghost use Rattle.flat.specs.Flat.{flat_para_level, is_flat, level_by_strong};
 ghost use Rattle.flat.specs.Uniform.{may_rise_at_even, may_rise_at_odd};
-ghost use Rattle.resolve.specs.Contents.{Describes, found_or, keeps_level};
+ghost use Rattle.flat.specs.Contents.{Describes, found_or, keeps_level};
 
 use std::sync::ledger::Ledger;
 use units::bracket::Unit;
@@ -15,7 +15,7 @@ use units::steps::Steps;
 
 /// What a paragraph contains.
 #[derive(Clone, Copy)]
-pub(crate) struct Contents {
+pub struct Contents {
     /// No initiator, PDI, PDF or BN: X1 to X9 leave all positions at the paragraph's level.
     pub flat: bool,
     /// No R, AL or AN: where it is flat, nothing rises above an even level.

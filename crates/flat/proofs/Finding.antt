@@ -9,7 +9,7 @@ use Rattle.std.proofs.lemmas.List.{length-map}
 use Rattle.units.specs.Classes.{classes_of}
 use Rattle.units.specs.declared.bracket.Unit.{Unit as BidiUnit}
 use Rattle.units.specs.declared.class.Class.{Class}
-use Rattle.resolve.specs.Contents.{found_or}
+use Rattle.flat.specs.Contents.{found_or}
 
 find_more : (test : Class → Bool) (xs : List Class) (k : ℕ) (d : Class) → k < length xs → find test (take (k + 1) xs) ≡ found_or (find test (take k xs)) (test (get_or xs k d)) (get_or xs k d)
 find_more test [] k d lt = absurd (omega arith)

@@ -4,8 +4,8 @@ use Rattle.units.specs.Classes.{is_strong}
 use Rattle.units.specs.Layout.{no_unit}
 use Rattle.flat.specs.Flat.{is_flat}
 use Rattle.flat.specs.Uniform.{may_rise_at_even, may_rise_at_odd}
-use Rattle.resolve.proofs.Finding.{all_with, first_with}
-use Rattle.resolve.proofs.contents.Contents.of.Goals as goal
+use Rattle.flat.proofs.Finding.{all_with, first_with}
+use Rattle.flat.proofs.contents.Contents.of.Goals as goal
 
 pub loop-k-preserved : goal.loop-k-preserved
 loop-k-preserved g c = record {
