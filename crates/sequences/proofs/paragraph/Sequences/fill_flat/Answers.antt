@@ -3,19 +3,13 @@ use Rattle.std.specs.Prelude.{map, take}
 use Rattle.units.specs.Classes.{classes_of}
 use Rattle.units.specs.Isolates.{level_of_para}
 use Rattle.units.specs.Runs.{LeveledView, leveled_of, size_of}
-use Rattle.units.specs.declared.level.ParaLevel.{ParaLevel}
-use Rattle.units.specs.declared.level.ParaLevel.TheVariants.{Zero, One}
 use Rattle.explicit.proofs.Leveled.{leveled}
 use Rattle.sequences.specs.Heads.{view_of}
 use Rattle.sequences.specs.View.{SequencesView}
 use Rattle.sequences.proofs.Filled.{put_back}
-use Rattle.sequences.proofs.FilledFrom.{size-of_paragraph}
+use Rattle.sequences.proofs.FilledFrom.{level_of_para-low, size-of_paragraph}
 use Rattle.sequences.proofs.Room.{HaveLength, filled_room, filled_views}
 use Rattle.sequences.proofs.paragraph.Sequences.fill_flat.Goals as goal
-
-low : (level : ParaLevel) → level_of_para level ≤ 1
-low Zero = omega arith
-low One = omega arith
 
 pub invariant_of-self : goal.invariant_of-self
 invariant_of-self g c =
@@ -44,7 +38,7 @@ invariant_of-self g c =
       put_back _ f.new.heads old.heads.items d,
       put_back _ f.new.column old.column.items n,
       ← size,
-    ) (filled_room f.ensures.filled (leveled (classes_of c.args.para.now) para (low c.args.level)) old.links.len old.ends.items old.joined.items kept fit)
+    ) (filled_room f.ensures.filled (leveled (classes_of c.args.para.now) para (level_of_para-low c.args.level)) old.links.len old.ends.items old.joined.items kept fit)
 
 pub returns-clause-all : goal.returns-clause-all
 returns-clause-all g c =
