@@ -2,12 +2,12 @@
 use Rattle.std.proofs.Common.{◌≡◌, ◌≢◌, ℕ, ◌+◌, ◌-◌, ◌<◌, ◌≤◌, Bool, true, false, cond, Option, None, Some, List, length, get_or, take, set, zero, suc, refl, sym, ap, ◌∙◌, subst, inl, inr, arith, length-set, ne_eqb}
 use Rattle.std.specs.Prelude.{◌&&◌, ◌||◌, count_by, slice_index, slice_index_or}
 use Rattle.std.specs.Option.{unwrap_or}
-use Rattle.std.proofs.lemmas.List.{ext_get_or, get_or-map, get_or-set_same, get_or-set_other, length-map, take_all}
+use Rattle.std.proofs.lemmas.List.{ext_get_or, get_or-map, get_or-set_same, get_or-set_other, length-map, set-get_or, take_all}
 use Rattle.std.proofs.lemmas.List.Sums.{count_by_more_no, count_by_more_yes}
 use Rattle.std.proofs.lemmas.Bool.{cases_lt, cases_eq}
 use Rattle.units.specs.declared.class.Class.{Class}
-use Rattle.units.specs.declared.class.Class.TheVariants.{L}
-use Rattle.units.specs.Classes.{class_at, is_separator}
+use Rattle.units.specs.declared.class.Class.TheVariants.{L, BN, B, S, WS, LRE, LRO, RLE, RLO, PDF, LRI, RLI, FSI, PDI}
+use Rattle.units.specs.Classes.{class_at, is_line_separator, is_separator}
 use Rattle.units.specs.Positions.{positions_from, first_from}
 use Rattle.lines.specs.LineBreaks.{AreBreaks}
 use Rattle.lines.specs.Spaces.{resets_before}
@@ -225,3 +225,36 @@ resetting_more own at paras old p ahead paragraph para ends broken resets resets
         | inr ne ↦ ap (λ xs. get_or xs k None) is ∙ get_or-set_other levels p k put None ne ∙ r.done k (omega arith) high
       ];
     }
+
+none_separates : (c : Class) → is_line_separator c ≡ false → (false ≡ is_separator c) × (false ≡ resets_before c false)
+none_separates S h = cc
+none_separates B h = cc
+none_separates WS h = (refl, refl)
+none_separates LRI h = (refl, refl)
+none_separates RLI h = (refl, refl)
+none_separates FSI h = (refl, refl)
+none_separates PDI h = (refl, refl)
+none_separates LRE h = (refl, refl)
+none_separates RLE h = (refl, refl)
+none_separates LRO h = (refl, refl)
+none_separates RLO h = (refl, refl)
+none_separates PDF h = (refl, refl)
+none_separates BN h = (refl, refl)
+none_separates _ h = (refl, refl)
+
+reset_to-false : (para : ℕ) (level : Option ℕ) → reset_to false para level ≡ level
+reset_to-false para None = refl
+reset_to-false para (Some n) = refl
+
+-- a position that neither separates lines nor has spaces behind it that are reset is passed over
+pub resetting_on : (own : List Class) (at : List ℕ) (paras : List ℕ) (old : List (Option ℕ)) (p ahead paragraph : ℕ) (levels : List (Option ℕ)) → AreBreaks at (length own) → p < length own → is_line_separator (class_at own p) ≡ false → (Comes at ahead (p + 1) → ⊥) → Resetting own at paras old (p + 1) ahead paragraph false levels → Resetting own at paras old p ahead paragraph false levels
+resetting_on own at paras old p ahead paragraph levels breaks lt solid whole r =
+    let c = none_separates (class_at own p) solid in
+    let level = get_or levels p None in
+    let same : levels ≡ set levels p (reset_to (false && may_reset (class_at own p)) (para_at own paras p) level) =
+    sym (ap (set levels p) (reset_to-false (para_at own paras p) level) ∙ set-get_or levels p None) in
+    let e : ahead - 0 ≡ ahead = omega arith in
+    let f : paragraph - 0 ≡ paragraph = omega arith in
+    let next : Resetting own at paras old p (ahead - 0) (paragraph - 0) false levels =
+    resetting_more own at paras old p ahead paragraph (para_at own paras p) false false false false levels levels breaks lt c.0 (λ h. cc) (λ h. absurd (whole h)) c.1 refl same r in
+    subst (λ n. Resetting own at paras old p n paragraph false levels) e (subst (λ n. Resetting own at paras old p (ahead - 0) n false levels) f next)

@@ -2,7 +2,7 @@
 use Rattle.std.proofs.Common.{◌≡◌, ℕ, ◌+◌, ◌-◌, ◌<◌, ◌≤◌, ◌%◌, Bool, true, false, Option, None, Some, List, refl, ap, sym, ◌∙◌, subst, inl, inr, arith}
 use Rattle.std.specs.Prelude.{◌==◌, if◌then◌else◌, max, min, slice_index_or}
 use Rattle.std.proofs.lemmas.Bool.{cases_lt, eqb-true, eqb-false}
-use Rattle.lines.specs.Turning.{AreTurns, HasLevel}
+use Rattle.lines.specs.Turning.{AreTurns, HasLevel, next_or_zero, odd_or_most}
 
 -- nothing was looked at
 pub turns_none : (levels : List (Option ℕ)) → AreTurns levels 0 127 0
@@ -17,7 +17,7 @@ turns_none levels = record {
 }
 
 -- a removed position more
-pub turns_removed : (levels : List (Option ℕ)) (n lowest past : ℕ) → slice_index_or levels n None ≡ None → AreTurns levels n lowest past → AreTurns levels (n + 1) lowest past
+turns_removed : (levels : List (Option ℕ)) (n lowest past : ℕ) → slice_index_or levels n None ≡ None → AreTurns levels n lowest past → AreTurns levels (n + 1) lowest past
 turns_removed levels n lowest past none t =
     let later : (p v : ℕ) → p < n + 1 → HasLevel levels p v → p < n = λ p v h has.
     elim (cases_lt p n) [
@@ -69,10 +69,11 @@ lowest_new levels n v lowest past has odd below t = record {
   found = λ h. (n, has);
 }
 
-lowest_by : (levels : List (Option ℕ)) (n v lowest past : ℕ) (odd : Bool) → (v % 2 == 1) ≡ odd → HasLevel levels n v → AreTurns levels n lowest past → IsLowest levels (n + 1) (if odd then min lowest v else lowest)
+lowest_by : (levels : List (Option ℕ)) (n v lowest past : ℕ) (odd : Bool) → (v % 2 == 1) ≡ odd → HasLevel levels n v → AreTurns levels n lowest past → IsLowest levels (n + 1) (min lowest (if odd then v else 127))
 lowest_by levels n v lowest past false e has t =
     let even = eqb-false (v % 2) 1 e in
-    lowest_kept levels n v lowest past has (λ l. omega arith) t
+    let m : lowest ≡ min lowest 127 = omega (arith, t.small) in
+    subst (IsLowest levels (n + 1)) m (lowest_kept levels n v lowest past has (λ l. omega arith) t)
 lowest_by levels n v lowest past true e has t =
     let odd : v % 2 ≡ 1 = eqb-true (v % 2) 1 e in
     elim (cases_lt v lowest) [
@@ -87,9 +88,13 @@ highest_by levels n v lowest past has t some =
       | inr l ↦ let m : v ≡ max past (v + 1) - 1 = omega arith in subst (λ k. (p : ℕ) × HasLevel levels p k) m (n, has)
     ]
 
--- a remaining position more
-pub turns_more : (levels : List (Option ℕ)) (n v lowest past lowest2 past2 : ℕ) → v ≤ 126 → HasLevel levels n v → lowest2 ≡ (if v % 2 == 1 then min lowest v else lowest) → past2 ≡ max past (v + 1) → AreTurns levels n lowest past → AreTurns levels (n + 1) lowest2 past2
-turns_more levels n v lowest past lowest2 past2 small has low high t =
+-- a position more
+pub turns_more : (levels : List (Option ℕ)) (n : ℕ) (level : Option ℕ) (lowest past lowest2 past2 : ℕ) → next_or_zero level ≤ 127 → slice_index_or levels n None ≡ level → lowest2 ≡ min lowest (odd_or_most level) → past2 ≡ max past (next_or_zero level) → AreTurns levels n lowest past → AreTurns levels (n + 1) lowest2 past2
+turns_more levels n None lowest past lowest2 past2 small is low high t =
+    let same_low : lowest2 ≡ lowest = omega (arith, t.small) in
+    let same_high : past2 ≡ past = omega arith in
+    subst (λ l. AreTurns levels (n + 1) l past2) (sym same_low) (subst (AreTurns levels (n + 1) lowest) (sym same_high) (turns_removed levels n lowest past is t))
+turns_more levels n (Some v) lowest past lowest2 past2 small has low high t =
     let found : IsLowest levels (n + 1) lowest2 = subst (IsLowest levels (n + 1)) (sym low) (lowest_by levels n v lowest past (v % 2 == 1) refl has t) in
     record {
       odd = found.odd;

@@ -1,5 +1,5 @@
 -- What the list of a line's positions keeps while its levels are turned (L2), from the highest down.
-use Rattle.std.specs.Prelude.{Option, None, Some, ℕ, Bool, ◌+◌, ◌-◌, ◌<◌, ◌≤◌, ◌≡◌, ◌≢◌, ◌⊎◌, ◌%◌, List, [], ◌∷◌, filter, slice_index_or}
+use Rattle.std.specs.Prelude.{Option, None, Some, ℕ, Bool, ◌+◌, ◌-◌, ◌<◌, ◌≤◌, ◌≡◌, ◌≢◌, ◌⊎◌, ◌%◌, ◌==◌, if◌then◌else◌, List, [], ◌∷◌, filter, slice_index_or}
 use Rattle.std.specs.Option.{is_some}
 use Rattle.units.specs.Positions.{positions_from}
 use Rattle.units.specs.Reordering.{least_level}
@@ -15,6 +15,16 @@ remaining levels start end = filter (is_remaining levels) (positions_from start 
 -- BD2: the position has the level
 abbrev pub HasLevel : List (Option ℕ) → ℕ → ℕ → Type 0
 HasLevel levels p v = slice_index_or levels p None ≡ Some v
+
+-- an odd level as a number, else one that is above them all
+abbrev pub odd_or_most : Option ℕ → ℕ
+odd_or_most None = 127
+odd_or_most (Some n) = if n % 2 == 1 then n else 127
+
+-- one more than a level, 0 where there is none
+abbrev pub next_or_zero : Option ℕ → ℕ
+next_or_zero None = 0
+next_or_zero (Some n) = n + 1
 
 -- L2: among the first count positions, the lowest odd level, or 127 where none is odd, and one more than the highest level, or 0 where there is none
 pub record AreTurns (levels : List (Option ℕ)) (count lowest past : ℕ) : Type 0 where

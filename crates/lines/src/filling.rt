@@ -29,13 +29,15 @@ fn end_of_line<L: Ledger>(own: &[Unit], start: usize, limit: usize, steps: &mut 
     ensures at_least { steps.old ≤ steps.new }
     ensures at_most { steps.new ≤ steps.old + (result - start) }
 {
-    for position in start + 1..limit {
+    let mut end = start;
+    for unit in &own[start..limit] {
         steps.tick();
-        if own[position - 1].class.is_separator() {
-            return position;
+        end += 1;
+        if unit.class.is_separator() {
+            return end;
         }
     }
-    limit
+    end
 }
 
 /// How much of the two columns the lines of a text take.

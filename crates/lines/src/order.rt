@@ -1,6 +1,6 @@
 ghost use Rattle.std.specs.Prelude.{◌≡◌, ◌≤◌, ◌<◌, ◌+◌, ◌-◌, ◌*◌, ℕ, length, IsTrue, ◌↔◌, reverse, take};
 ghost use Rattle.units.specs.Reordering.{line_order};
-ghost use Rattle.lines.specs.Turning.{AreTurns, Has, HasLevel, IsTurned, remaining};
+ghost use Rattle.lines.specs.Turning.{AreTurns, Has, HasLevel, IsTurned, next_or_zero, odd_or_most, remaining};
 
 use std::marker::Brand;
 use std::sync::ledger::{Blank, Ledger};
@@ -16,25 +16,24 @@ struct Turns {
     past: u8,
 }
 
-impl Turns {
-    ghost use Rattle.std.specs.Prelude.{◌≡◌, ◌≤◌, ◌+◌, ◌%◌, ◌==◌, if◌then◌else◌, max, min};
+/// The number of an odd level, or 127.
+fn odd_number(level: Option<Level>) -> u8
+    ensures { result ≡ odd_or_most level }
+{
+    match level {
+        Some(level) if level.get() % 2 == 1 => level.get(),
+        _ => 127,
+    }
+}
 
-    /// With a level more.
-    fn with(self, level: Level) -> Turns
-        ensures lowest { result.lowest ≡ (if level % 2 == 1 then min self.lowest level else self.lowest) }
-        ensures past { result.past ≡ max self.past (level + 1) }
-        ensures within { level ≤ 126 }
-    {
-        let number = level.get();
-        let odd = number % 2 == 1;
-        Turns {
-            lowest: if odd {
-                self.lowest.min(number)
-            } else {
-                self.lowest
-            },
-            past: self.past.max(number + 1),
-        }
+/// One more than the level's number, or 0 where there is none.
+fn next_number(level: Option<Level>) -> u8
+    ensures next { result ≡ next_or_zero level }
+    ensures small { result ≤ 127 }
+{
+    match level {
+        Some(level) => level.get() + 1,
+        None => 0,
     }
 }
 
@@ -68,17 +67,14 @@ fn turns_of<L: Ledger>(levels: &[Option<Level>], steps: &mut Steps<L>) -> Turns
     ensures turns { AreTurns levels.now (length levels.now) result.lowest result.past }
     ensures steps { steps.new ≡ steps.old + length levels.now }
 {
-    let mut turns = Turns {
-        lowest: 127,
-        past: 0,
-    };
+    let mut lowest = 127;
+    let mut past = 0;
     for level in levels {
         steps.tick();
-        if let Some(level) = level {
-            turns = turns.with(*level);
-        }
+        lowest = lowest.min(odd_number(*level));
+        past = past.max(next_number(*level));
     }
-    turns
+    Turns { lowest, past }
 }
 
 /// Whether the position has a level, and it is below `least`.

@@ -1,5 +1,5 @@
 ghost use Rattle.std.specs.Prelude.{◌≡◌, ◌<◌, ◌≤◌, ◌+◌, ◌-◌, ◌↔◌, ◌||◌, ℕ, IsTrue, length, slice_index, take, count_by, map};
-ghost use Rattle.units.specs.Classes.{classes_of, is_line_separator, is_separator};
+ghost use Rattle.units.specs.Classes.{classes_of, is_line_separator as separates_line, is_separator};
 ghost use Rattle.units.specs.Isolates.{level_of_para};
 ghost use Rattle.units.specs.Paragraphs.{paragraphs_of};
 ghost use Rattle.units.specs.Reordering.{after_resets, is_trailing_space, reset_to};
@@ -24,9 +24,16 @@ fn resets_spaces_before(class: Class, later: bool) -> bool
     }
 }
 
+/// Whether a class is reset wherever it stands.
+fn is_line_separator(class: Class) -> bool
+    ensures { result ≡ separates_line class }
+{
+    matches!(class, Class::S | Class::B)
+}
+
 /// Whether positions of the class can be reset.
 fn may_be_reset(class: Class) -> bool
-    ensures { result ≡ (is_line_separator class || is_trailing_space class) }
+    ensures { result ≡ (separates_line class || is_trailing_space class) }
 {
     matches!(
         class,
@@ -64,7 +71,7 @@ fn count_separators(own: &[Unit], paragraphs: usize) -> usize
 }
 
 /// Gives separators, and white space and isolate formatting characters before them or at a line's end, the level of their paragraph
-/// (L1), in one pass from the text's end.
+/// (L1), in one pass from the text's end, which passes over the positions that nothing behind them in their line resets.
 ///
 /// `own` are the units of the text with their own classes, `paras` the levels of its paragraphs in order, and `levels` the resolved
 /// levels of its positions, none where a position was removed. It takes a step for each position.
@@ -88,12 +95,14 @@ pub fn reset_text<L: Ledger>(
     for position in (0..levels.len()).rev() {
         steps.tick();
         let class = own[position].class;
-        let ends = class.is_separator();
-        paragraph -= usize::from(ends);
         let broken = comes_last(at, ahead, position + 1);
-        ahead -= usize::from(broken);
-        resets = resets_spaces_before(class, ends | broken | resets);
-        let reset = resets & may_be_reset(class);
-        levels[position] = reset_level(reset, paras[paragraph], levels[position]);
+        if resets | broken | is_line_separator(class) {
+            let ends = class.is_separator();
+            paragraph -= usize::from(ends);
+            ahead -= usize::from(broken);
+            resets = resets_spaces_before(class, ends | broken | resets);
+            let reset = resets & may_be_reset(class);
+            levels[position] = reset_level(reset, paras[paragraph], levels[position]);
+        }
     }
 }

@@ -454,11 +454,12 @@ fn lays_out_broken(rt: &impl Abort, room: &mut Scratch, text: &[Unit]) -> Result
 }
 
 #[test]
-fn lays_out_again_and_again(rt: HostRuntime) -> Result<(), Fail> {
-    let alloc = rt.alloc();
-    let text = units(alloc, "R WS R")?;
-    let whole = levels(alloc, "1 1 1")?;
-    let mut room = Scratch::with_room(alloc, 64)?;
+fn no_growth_comes_after_making(rt: HostRuntime) -> Result<(), Fail> {
+    let Ok(mut room) = Scratch::with_room(rt.alloc(), 64) else {
+        return Ok(());
+    };
+    let text = [R, WS, R];
+    let whole = [Level::new(1), Level::new(1), Level::new(1)];
     for _ in 0..1_000 {
         lays_out_broken(&rt, &mut room, &text)?;
         shows(&rt, &mut room, &text, Direction::Ltr, &whole, &[2, 1, 0])?;
@@ -546,18 +547,20 @@ fn gives(rt: &impl Abort, mut shown: Shown<MirrorTable>, expected: &[char]) {
     assert_eq!(rt; shown.next(), None);
 }
 
-/// Lays out a text from left to right on one line, and compares what is shown of its characters.
+/// Lays out a text from left to right on one line, and compares its levels and what is shown of its characters.
 fn is_shown(
     rt: &impl Abort,
     room: &mut Scratch,
     text: &[Unit],
     mirrors: &MirrorTable,
     chars: &[char],
+    levels: &[Option<Level>],
     expected: &[char],
 ) -> Result<(), Fail> {
     let breaks = Breaks::new(&[], text.len())?;
     let layout = lay_out_uncounted(room, text, Direction::Ltr, &breaks)?;
     assert_eq!(rt; layout.line_count(), 1);
+    assert_eq!(rt; layout.levels(), levels);
     assert_eq!(rt; layout.levels().len(), chars.len());
     gives(rt, layout.shown(mirrors, chars, 0), expected);
     Ok(())
@@ -568,24 +571,40 @@ fn text_is_shown(
     rt: &impl Abort,
     alloc: Global,
     chars: &[char],
+    numbers: &str,
     expected: &[char],
 ) -> Result<(), Fail> {
     let tables = tables(alloc)?;
     let text = units_of_chars(alloc, &tables, chars)?;
+    let levels = levels(alloc, numbers)?;
     let mut room = Scratch::with_room(alloc, 4)?;
-    is_shown(rt, &mut room, &text, tables.mirrors(), chars, expected)
+    is_shown(
+        rt,
+        &mut room,
+        &text,
+        tables.mirrors(),
+        chars,
+        &levels,
+        expected,
+    )
 }
 
 #[test]
 fn mirrors_at_odd_levels(rt: HostRuntime) -> Result<(), Fail> {
     let chars = ['\u{5D0}', '<', '\u{5D1}'];
-    text_is_shown(&rt, rt.alloc(), &chars, &['\u{5D1}', '>', '\u{5D0}'])
+    text_is_shown(
+        &rt,
+        rt.alloc(),
+        &chars,
+        "1 1 1",
+        &['\u{5D1}', '>', '\u{5D0}'],
+    )
 }
 
 #[test]
 fn mirrors_nothing_at_even_levels(rt: HostRuntime) -> Result<(), Fail> {
     let chars = ['a', '(', '\u{5D0}', ')'];
-    text_is_shown(&rt, rt.alloc(), &chars, &chars)
+    text_is_shown(&rt, rt.alloc(), &chars, "0 0 1 0", &chars)
 }
 
 #[test]

@@ -1,48 +1,47 @@
-use Rattle.std.proofs.Common.{◌≡◌, ◌<◌, ◌+◌, ◌-◌, ℕ, false, List, arith, sym, ap, ◌∙◌, inl, inr}
+use Rattle.std.proofs.Common.{◌≡◌, ◌<◌, ◌≤◌, ◌+◌, ◌-◌, ℕ, Bool, false, List, get_or, length, arith, sym, ap, ◌∙◌, inl, inr}
+use Rattle.std.specs.Prelude.{slice_range}
 use Rattle.std.proofs.lemmas.Bool.{cases_lt}
+use Rattle.std.proofs.lemmas.List.Edits.{get_or-between, length-between}
 use Rattle.units.specs.Classes.{class_at, classes_of, is_separator}
+use Rattle.units.specs.declared.bracket.Unit.{Unit as TextUnit}
 use Rattle.units.specs.declared.class.Class.{Class}
 use Rattle.lines.proofs.LineEnd.{class_read}
 use Rattle.lines.proofs.filling.end_of_line.Goals as goal
 
-joined_more : (own : List Class) (start position : ℕ) → is_separator (class_at own (position - 1)) ≡ false → ((p : ℕ) → start < p → p < position → is_separator (class_at own (p - 1)) ≡ false) → (p : ℕ) → start < p → p < position + 1 → is_separator (class_at own (p - 1)) ≡ false
-joined_more own start position here joined p low high =
-    elim (cases_lt p position) [
-      | inl l ↦ joined p low l
-      | inr l ↦ let e : p ≡ position = omega arith in ap (λ n. is_separator (class_at own (n - 1))) e ∙ here
+joined_more : (own : List Class) (start end : ℕ) → is_separator (class_at own end) ≡ false → ((p : ℕ) → start < p → p ≤ end → is_separator (class_at own (p - 1)) ≡ false) → (p : ℕ) → start < p → p ≤ end + 1 → is_separator (class_at own (p - 1)) ≡ false
+joined_more own start end here joined p low high =
+    elim (cases_lt end p) [
+      | inl l ↦ let e : p - 1 ≡ end = omega arith in ap (λ n. is_separator (class_at own n)) e ∙ here
+      | inr l ↦ joined p low l
     ]
 
-pub loop-position-preserved : goal.loop-position-preserved
-loop-position-preserved g c =
-    let l = c.loop-position in
-    let own = classes_of c.args.own.now in
-    let here : is_separator (class_at own (l.position - 1)) ≡ false =
-    sym (ap is_separator (class_read c.args.own.now (l.position - 1) _ (omega arith))) ∙ sym c.is_separator.ensures ∙ c.if-is_separator.false in
+-- what was read of a unit of the line says it of its position in the text
+read_at : (own : List TextUnit) (start limit k end : ℕ) (d : TextUnit) (b : Bool) → k < length (slice_range own start limit) → limit ≤ length own → end ≡ start + k → b ≡ is_separator (get_or (slice_range own start limit) k d).class → is_separator (class_at (classes_of own) end) ≡ b
+read_at own start limit k end d b there within e is =
+    let long : length (slice_range own start limit) ≡ limit - start = length-between own start limit within in
+    ap (λ n. is_separator (class_at (classes_of own) n)) e
+    ∙ sym (is ∙ ap (λ (u : TextUnit). is_separator u.class) (get_or-between own start limit k d (omega arith)) ∙ ap is_separator (class_read own (start + k) d (omega arith)))
+
+pub loop-unit-preserved : goal.loop-unit-preserved
+loop-unit-preserved g c =
+    let l = c.loop-unit in
+    let here = read_at c.args.own.now c.args.start c.args.limit l.unit-index l.end _ _ c.loop-unit-test.true c.requires.within l.invariant.end c.is_separator.ensures ∙ c.if-is_separator.false in
     record {
-      joined = joined_more own c.args.start l.position here l.invariant.joined;
-      at_least = omega arith;
-      at_most = omega arith;
+      end = omega arith;
+      joined = joined_more (classes_of c.args.own.now) c.args.start l.end here l.invariant.joined;
+      steps = omega arith;
     }
 
-pub returns-then-is_separator : goal.returns-then-is_separator
-returns-then-is_separator g c =
-    let l = c.loop-position in
+pub returns-then-is_separator-clause-end : goal.returns-then-is_separator-clause-end
+returns-then-is_separator-clause-end g c =
+    let l = c.loop-unit in
+    let long : length (slice_range c.args.own.now c.args.start c.args.limit) ≡ c.args.limit - c.args.start = length-between c.args.own.now c.args.start c.args.limit c.requires.within in
+    let last : l.end + 1 - 1 ≡ l.end = omega arith in
     record {
-      end = record {
-        above = omega arith;
-        within = omega arith;
-        joined = l.invariant.joined;
-        closed = λ h. sym (ap is_separator (class_read c.args.own.now (l.position - 1) _ (omega arith))) ∙ sym c.is_separator.ensures ∙ c.if-is_separator.true;
-      };
-      at_least = omega arith;
-      at_most = omega arith;
-    }
-
-pub returns-clause-end : goal.returns-clause-end
-returns-clause-end g c =
-    record {
-      above = c.requires.some;
-      within = omega arith;
-      joined = λ p low high. c.loop-position.invariant.joined p low (omega arith);
-      closed = λ h. absurd (omega arith);
+      above = omega (arith, l.invariant.end);
+      within = omega (arith, l.invariant.end, c.loop-unit-test.true);
+      joined = λ p low high. l.invariant.joined p low (omega arith);
+      closed = λ h.
+          ap (λ n. is_separator (class_at (classes_of c.args.own.now) n)) last
+          ∙ read_at c.args.own.now c.args.start c.args.limit l.unit-index l.end _ _ c.loop-unit-test.true c.requires.within l.invariant.end c.is_separator.ensures ∙ c.if-is_separator.true;
     }

@@ -5,6 +5,6 @@ use Rattle.lines.proofs.order.turns_of.Given as goal
 abbrev pub invariant-loop-level : goal.invariant-loop-level
 invariant-loop-level g l =
     record {
-      turns : AreTurns l.levels l.level-index l.turns.lowest l.turns.past;
+      turns : AreTurns l.levels l.level-index l.lowest l.past;
       steps : l.steps ≡ l.initial.steps + l.level-index;
     }

@@ -3,7 +3,7 @@ use Rattle.std.specs.Prelude.{◌||◌, ◌&&◌, slice_index_or, map}
 use Rattle.std.proofs.lemmas.List.{length-map, get_or-map, get_or_default}
 use mir.Val.{bool_byte}
 use Rattle.units.specs.declared.level.ParaLevel.TheVariants.{Zero}
-use Rattle.units.specs.Classes.{is_separator, class_at}
+use Rattle.units.specs.Classes.{is_line_separator, is_separator, class_at}
 use Rattle.lines.specs.LineBreaks.{AreBreaks}
 use Rattle.units.specs.Classes.{classes_of}
 use Rattle.units.specs.Isolates.{level_of_para}
@@ -11,7 +11,7 @@ use Rattle.lines.specs.Spaces.{resets_before}
 use Rattle.units.specs.Reordering.{para_at, reset_to, after_resets}
 use Rattle.lines.proofs.Separators.{paragraph_at}
 use Rattle.lines.proofs.LineEnd.{class_read, may_reset}
-use Rattle.lines.proofs.TextEnd.{Resetting, resetting_start, resetting_more, resetting_end, counted_step}
+use Rattle.lines.proofs.TextEnd.{Comes, Resetting, resetting_start, resetting_more, resetting_on, resetting_end, counted_step}
 use Rattle.lines.proofs.resets.reset_text.Goals as goal
 
 byte_is : (b : Bool) → bool_byte b ≡ cond b 1 0
@@ -58,8 +58,8 @@ bounds-paras-paragraph g c =
     let bound : count_by is_separator (take p own) < length c.args.paras.now = paragraph_at c.args.own.now (length c.args.paras.now) p c.requires.paras (omega arith) in
     omega arith
 
-pub loop-position-preserved : goal.loop-position-preserved
-loop-position-preserved g c =
+pub loop-position-preserved-then-resets-broken : goal.loop-position-preserved-then-resets-broken
+loop-position-preserved-then-resets-broken g c =
     let l = c.loop-position in
     let own = classes_of c.args.own.now in
     let at = c.positions-at.result.now in
@@ -97,6 +97,38 @@ loop-position-preserved g c =
       text =
           subst (λ a. Resetting own at paras old p (l.ahead - a) (l.paragraph - c.from-paragraph.result) resets2 (set l.levels p c.reset_level.result)) (sym (c.from-ahead.ensures ∙ byte_is broken))
           (subst (λ a. Resetting own at paras old p (l.ahead - cond broken 1 0) (l.paragraph - a) resets2 (set l.levels p c.reset_level.result)) (sym (c.from-paragraph.ensures ∙ byte_is ends)) more);
+      steps = omega (arith, c.tick.ensures, l.invariant.steps);
+    }
+
+none_holds : (a b d : Bool) → ((a || b) || d) ≡ false → (a ≡ false) × (b ≡ false) × (d ≡ false)
+none_holds false false false h = (refl, refl, refl)
+none_holds false false true h = cc
+none_holds false true d h = cc
+none_holds true b d h = cc
+
+pub loop-position-preserved : goal.loop-position-preserved
+loop-position-preserved g c =
+    let l = c.loop-position in
+    let own = classes_of c.args.own.now in
+    let at = c.positions-at.result.now in
+    let old = c.args.levels.now in
+    let paras = map level_of_para c.args.paras.now in
+    let p = l.position - 1 in
+    let len : length own ≡ length c.args.own.now = length-map c.args.own.now (λ u. u.class) in
+    let breaks : AreBreaks at (length own) = subst (AreBreaks at) (c.requires.len ∙ sym len) c.positions-at.ensures.breaks in
+    let there : p + 1 ≡ l.position = omega arith in
+    let in_text : p < length own = omega (arith, l.invariant.text.all) in
+    let none = none_holds l.resets c.comes_last-broken.result c.is_line_separator.result c.if-resets-broken.false in
+    let solid : is_line_separator (class_at own p) ≡ false =
+    sym (c.is_line_separator.ensures ∙ ap is_line_separator (class_read c.args.own.now p _ (omega arith))) ∙ none.2 in
+    let whole : Comes at l.ahead (p + 1) → ⊥ = λ comes. let broken : c.comes_last-broken.result ≡ true = c.comes_last-broken.ensures.1 comes in let off : c.comes_last-broken.result ≡ false = none.1 in let z : false ≡ true = sym off ∙ broken in cc in
+    let before : Resetting own at paras old (p + 1) l.ahead l.paragraph false l.levels =
+    subst (λ n. Resetting own at paras old n l.ahead l.paragraph false l.levels) (sym there)
+    (subst (λ b. Resetting own at paras old l.position l.ahead l.paragraph b l.levels) none.0 l.invariant.text) in
+    record {
+      text =
+          subst (λ b. Resetting own at paras old p l.ahead l.paragraph b l.levels) (sym none.0)
+          (resetting_on own at paras old p l.ahead l.paragraph l.levels breaks in_text solid whole before);
       steps = omega (arith, c.tick.ensures, l.invariant.steps);
     }
 
