@@ -8,7 +8,7 @@ use Rattle.ucdfiles.specs.Faults.{name_of}
 use Rattle.bidi.specs.declared.fault.PrintFault.{PrintFault}
 use Rattle.bidi.specs.declared.fault.PrintFault.TheVariants.{Write, Memory}
 use Rattle.bidi.specs.declared.fault.Fault.{Fault}
-use Rattle.bidi.specs.declared.fault.Fault.TheVariants.{Refused, WordNotUtf8, TablesNeeded, CannotRead, FaultyLine, CannotWrite, OutOfMemory}
+use Rattle.bidi.specs.declared.fault.Fault.TheVariants.{Refused, WordNotUtf8, TablesNeeded, CannotRead, FaultyLine, NotUtf8, CannotWrite, OutOfMemory}
 use Rattle.bidi.specs.VerdictText.{line_feed}
 
 -- the line that says what is wrong with a line of a table's file: the file's name, the line's number from 1, and the fault's name
@@ -24,6 +24,7 @@ SaysFault before after TablesNeeded = Appends before after (concat (codes "bidi:
 SaysFault before after (CannotRead name) =
     Appends before after (concat (codes "bidi: cannot read " ∷ name.now ∷ line_feed ∷ []))
 SaysFault before after (FaultyLine name line fault) = Appends before after (faulty_line_text name.now line fault)
+SaysFault before after (NotUtf8 name) = Appends before after (concat (codes "bidi: " ∷ name.now ∷ codes ": not UTF-8" ∷ line_feed ∷ []))
 SaysFault before after CannotWrite = Appends before after (concat (codes "bidi: cannot write" ∷ line_feed ∷ []))
 SaysFault before after OutOfMemory = Appends before after (concat (codes "bidi: out of memory" ∷ line_feed ∷ []))
 
@@ -34,6 +35,7 @@ fault_status WordNotUtf8 = 2
 fault_status TablesNeeded = 2
 fault_status (CannotRead name) = 3
 fault_status (FaultyLine name line fault) = 3
+fault_status (NotUtf8 name) = 3
 fault_status CannotWrite = 3
 fault_status OutOfMemory = 3
 

@@ -3,6 +3,7 @@ pub mod FaultText
 pub mod Judged
 pub mod LevelsText
 pub mod Outcomes
+pub mod Printed
 pub mod PrintedTexts
 pub mod ReadFiles
 pub mod ReorderText

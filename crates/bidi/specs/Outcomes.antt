@@ -5,17 +5,20 @@ use Rattle.clap.specs.declared.error.Error.{Error}
 use Rattle.clap.specs.declared.error.kind.ErrorKind.TheVariants as kind
 use Rattle.bidi.specs.declared.command_line.FileKind.TheVariants.{Classes, Characters}
 use Rattle.bidi.specs.declared.command_line.Request.{Request}
-use Rattle.bidi.specs.declared.command_line.Request.TheVariants.{Judge}
+use Rattle.bidi.specs.declared.command_line.Request.TheVariants.{Levels, Reorder, Judge}
 use Rattle.bidi.specs.declared.fault.Fault.{Fault}
-use Rattle.bidi.specs.declared.fault.Fault.TheVariants.{Refused, WordNotUtf8, TablesNeeded, CannotRead, FaultyLine, CannotWrite, OutOfMemory}
+use Rattle.bidi.specs.declared.fault.Fault.TheVariants.{Refused, TablesNeeded, CannotWrite, OutOfMemory}
 use Rattle.bidi.specs.declared.outcome.Outcome.{Outcome}
-use Rattle.bidi.specs.declared.outcome.Outcome.TheVariants.{Judged, Helped}
+use Rattle.bidi.specs.declared.outcome.Outcome.TheVariants.{Judged, Printed, Helped}
 use Rattle.bidi.specs.FaultText.{fault_status}
 use Rattle.bidi.specs.Judged.{HasJudged, IsClassesVerdict, IsCharactersVerdict}
+use Rattle.bidi.specs.Printed.{HasPrinted}
+use Rattle.bidi.specs.PrintedTexts.{printed_levels, printed_reorder}
 
--- the exit status: that of the verdict, 0 after help, and that of the fault
+-- the exit status: that of the verdict, 0 after a text or help, and that of the fault
 abbrev pub outcome_status : Result Outcome Fault → ℕ
 outcome_status (Ok (Judged status)) = status
+outcome_status (Ok Printed) = 0
 outcome_status (Ok Helped) = 0
 outcome_status (Err fault) = fault_status fault
 
@@ -27,27 +30,29 @@ AsksForHelp error = (kind_of error ≡ kind.DisplayHelp) ⊎ (kind_of error ≡ 
 abbrev pub IsRefusal : Error → Type 0
 IsRefusal error = (kind_of error ≢ kind.OutOfMemory) × (kind_of error ≢ kind.DisplayHelp) × (kind_of error ≢ kind.DisplayVersion)
 
--- what was asked for is done: the file was judged, one of characters by the tables of the folder that is named
+-- what was asked for is done: the text is printed, or the file is judged, by the tables of the folder that is named
 abbrev pub IsDone : (List ℕ → ℕ → List ℕ → Type 0) → Option (List ℕ) → Option (List ℕ) → Request → Outcome → Type 0
+IsDone WasRead before after (Levels folder direction file) Printed =
+    HasPrinted WasRead (λ tables text. printed_levels tables text direction) folder.now file.now before after
+IsDone WasRead before after (Reorder folder direction columns file) Printed =
+    HasPrinted WasRead (λ tables text. printed_reorder tables text direction columns) folder.now file.now before after
 IsDone WasRead before after (Judge Classes tables file) (Judged status) =
     HasJudged WasRead IsClassesVerdict file.now before after status
 IsDone WasRead before after (Judge Characters (Some folder) file) (Judged status) =
     HasJudged WasRead (IsCharactersVerdict WasRead folder.now) file.now before after status
-IsDone WasRead before after (Judge Characters None file) (Judged status) = ⊥
-IsDone WasRead before after request Helped = ⊥
+IsDone WasRead before after _ _ = ⊥
 
 -- what was asked for ends with this fault: nothing is written where tables are needed and none are named, else the run failed
 abbrev pub Fails : Option (List ℕ) → Option (List ℕ) → Request → Fault → Type 0
-Fails before after (Judge Classes tables file) fault = fault_status fault ≡ 3
-Fails before after (Judge Characters (Some folder) file) fault = fault_status fault ≡ 3
 Fails before after (Judge Characters None file) fault = (fault ≡ TablesNeeded) × (after ≡ before)
+Fails before after _ fault = fault_status fault ≡ 3
 
 -- words that are a request come to what it asks for or fail; else help is written, or nothing is and the words are refused
 abbrev pub ComesTo : (List ℕ → ℕ → List ℕ → Type 0) → Option (List ℕ) → Option (List ℕ) → Result Request Error → Result Outcome Fault → Type 0
 ComesTo WasRead before after (Ok request) (Ok outcome) = IsDone WasRead before after request outcome
 ComesTo WasRead before after (Ok request) (Err fault) = Fails before after request fault
 ComesTo WasRead before after (Err error) (Ok Helped) = AsksForHelp error
-ComesTo WasRead before after (Err error) (Ok (Judged status)) = ⊥
+ComesTo WasRead before after (Err error) (Ok _) = ⊥
 ComesTo WasRead before after (Err error) (Err (Refused refusal)) = (refusal ≡ error) × IsRefusal error × (after ≡ before)
 ComesTo WasRead before after (Err error) (Err CannotWrite) = AsksForHelp error
 ComesTo WasRead before after (Err error) (Err OutOfMemory) = (kind_of error ≡ kind.OutOfMemory) ⊎ AsksForHelp error

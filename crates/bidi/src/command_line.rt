@@ -2,6 +2,8 @@
 use clap::error::ErrorKind;
 use clap::{Arg, ArgMatches, Command, Error};
 use std::alloc::{AllocError, Global};
+use std::num::NonZeroU16;
+use units::level::Direction;
 
 /// The kinds of conformance files.
 #[derive(Clone, Copy, Debug, PartialEq, Eq)]
@@ -15,6 +17,19 @@ pub enum FileKind {
 /// What the words of a command line ask for. Files and folders are named as they were given.
 #[derive(Clone, Copy, Debug, PartialEq, Eq)]
 pub enum Request<'a> {
+    /// Print the levels of the file's text, by the tables of the folder.
+    Levels {
+        tables: &'a str,
+        direction: Direction,
+        file: &'a str,
+    },
+    /// Print the file's text as it is shown, by the tables of the folder, with a break at every so many columns.
+    Reorder {
+        tables: &'a str,
+        direction: Direction,
+        columns: Option<NonZeroU16>,
+        file: &'a str,
+    },
     /// Judge a conformance file. The folder of the tables, where it is given, is needed for files of characters alone.
     Judge {
         kind: FileKind,
@@ -23,7 +38,47 @@ pub enum Request<'a> {
     },
 }
 
+const DIRECTIONS: [&str; 3] = ["auto", "ltr", "rtl"];
+
 const KINDS: [&str; 2] = ["classes", "characters"];
+
+const BIDI_ABOUT: &str =
+    "Lays out texts by the Unicode Bidirectional Algorithm (UAX #9), and judges conformance files";
+
+const BIDI_LONG_ABOUT: &str =
+    "Lays out texts by the Unicode Bidirectional Algorithm (UAX #9), and judges its
+conformance files.
+
+Ends with status 0 where it is done or the verdict is yes, 1 where the verdict is no,
+2 where the command line is refused, and 3 where a file can't be read, a line of a
+table is faulty, a text is not UTF-8, a write fails or memory is refused.";
+
+const BIDI_EXAMPLE: &str = "Example:\n  bidi levels --tables ucd text.txt";
+
+const LEVELS_LONG_ABOUT: &str = "Prints the levels of a text, in UTF-8.
+
+For each paragraph prints a line `paragraph K level P`, K counted from 0, and for
+each of its positions a line `POSITION CODE CLASS LEVEL`: the position in the text,
+counted from 0, the code point, the class, and the level after rule L1, or `x` where
+rule X9 removes the position.
+
+Ends with status 0, 2 where the command line is refused, and 3 where a file can't be
+read, a line of a table is faulty, the text is not UTF-8, a write fails or memory is
+refused.";
+
+const LEVELS_EXAMPLE: &str = "Example:\n  bidi levels --tables ucd --direction rtl text.txt";
+
+const REORDER_LONG_ABOUT: &str = "Prints the lines of a text, in UTF-8, as they are shown.
+
+Each paragraph is a line, and with --columns each N characters of it are one. A line
+is printed from left to right, with the mirror images of rule L4, and without what
+rule X9 removes and without paragraph separators.
+
+Ends with status 0, 2 where the command line is refused, and 3 where a file can't be
+read, a line of a table is faulty, the text is not UTF-8, a write fails or memory is
+refused.";
+
+const REORDER_EXAMPLE: &str = "Example:\n  bidi reorder --tables ucd --columns 80 text.txt";
 
 const JUDGE_LONG_ABOUT: &str = "Judges a conformance file.
 
@@ -53,6 +108,23 @@ fn tables_argument<'a>(alloc: Global) -> Arg<'a> {
         .help("The folder of DerivedBidiClass.txt, BidiBrackets.txt and BidiMirroring.txt")
 }
 
+fn direction_argument<'a>(alloc: Global) -> Arg<'a> {
+    Arg::new(alloc, "direction")
+        .long("direction")
+        .value_name("DIRECTION")
+        .default_value("auto")
+        .value_parser(DIRECTIONS.as_slice())
+        .help("The direction of each paragraph, which `auto` finds by rules P2 and P3")
+}
+
+fn columns_argument<'a>(alloc: Global) -> Arg<'a> {
+    Arg::new(alloc, "columns")
+        .long("columns")
+        .value_name("N")
+        .value_parser(clap::value_parser!(u16).range(1..))
+        .help("Breaks each paragraph's lines at every N characters, 1 to 65535")
+}
+
 fn kind_argument<'a>(alloc: Global) -> Arg<'a> {
     Arg::new(alloc, "kind")
         .long("kind")
@@ -62,6 +134,27 @@ fn kind_argument<'a>(alloc: Global) -> Arg<'a> {
         .help(
             "The file's form: that of BidiTest.txt, or that of BidiCharacterTest.txt, which needs --tables",
         )
+}
+
+fn levels_command<'a>(alloc: Global) -> Result<Command<'a>, AllocError> {
+    Command::new(alloc, "levels")
+        .about("Prints the levels of a text")
+        .long_about(LEVELS_LONG_ABOUT)
+        .after_help(LEVELS_EXAMPLE)
+        .arg(tables_argument(alloc).required(true))?
+        .arg(direction_argument(alloc))?
+        .arg(file_argument(alloc))
+}
+
+fn reorder_command<'a>(alloc: Global) -> Result<Command<'a>, AllocError> {
+    Command::new(alloc, "reorder")
+        .about("Prints the lines of a text as they are shown")
+        .long_about(REORDER_LONG_ABOUT)
+        .after_help(REORDER_EXAMPLE)
+        .arg(tables_argument(alloc).required(true))?
+        .arg(direction_argument(alloc))?
+        .arg(columns_argument(alloc))?
+        .arg(file_argument(alloc))
 }
 
 fn judge_command<'a>(alloc: Global) -> Result<Command<'a>, AllocError> {
@@ -76,9 +169,21 @@ fn judge_command<'a>(alloc: Global) -> Result<Command<'a>, AllocError> {
 
 fn bidi_command<'a>(alloc: Global) -> Result<Command<'a>, AllocError> {
     Command::new(alloc, "bidi")
-        .about("Judges conformance files of the Unicode Bidirectional Algorithm (UAX #9)")
+        .about(BIDI_ABOUT)
+        .long_about(BIDI_LONG_ABOUT)
+        .after_help(BIDI_EXAMPLE)
         .subcommand_required(true)
+        .subcommand(levels_command(alloc)?)?
+        .subcommand(reorder_command(alloc)?)?
         .subcommand(judge_command(alloc)?)
+}
+
+fn direction_in(matches: &ArgMatches<'_>) -> Direction {
+    match matches.get_str("direction") {
+        Some("ltr") => Direction::Ltr,
+        Some("rtl") => Direction::Rtl,
+        _ => Direction::Auto,
+    }
 }
 
 fn kind_in(matches: &ArgMatches<'_>) -> Option<FileKind> {
@@ -93,6 +198,17 @@ fn kind_in(matches: &ArgMatches<'_>) -> Option<FileKind> {
 fn request_in<'a>(name: &str, matches: &ArgMatches<'a>) -> Option<Request<'a>> {
     let file = matches.get_str("file")?;
     match name {
+        "levels" => Some(Request::Levels {
+            tables: matches.get_str("tables")?,
+            direction: direction_in(matches),
+            file,
+        }),
+        "reorder" => Some(Request::Reorder {
+            tables: matches.get_str("tables")?,
+            direction: direction_in(matches),
+            columns: matches.get_one::<NonZeroU16>("columns"),
+            file,
+        }),
         "judge" => Some(Request::Judge {
             kind: kind_in(matches)?,
             tables: matches.get_str("tables"),

@@ -57,6 +57,8 @@ pub enum Fault<'a> {
         line: u64,
         fault: TableFault,
     },
+    /// The text in the file of this name is not UTF-8.
+    NotUtf8(&'a str),
     /// A write to the output, or its flush, failed.
     CannotWrite,
     /// Memory was refused.
@@ -133,6 +135,7 @@ impl Fault<'_> {
             Fault::TablesNeeded => writeln!(err, "bidi: --tables is needed"),
             Fault::CannotRead(name) => writeln!(err, "bidi: cannot read {name}"),
             Fault::FaultyLine { name, line, fault } => print_faulty_line(err, name, *line, *fault),
+            Fault::NotUtf8(name) => writeln!(err, "bidi: {name}: not UTF-8"),
             Fault::CannotWrite => writeln!(err, "bidi: cannot write"),
             Fault::OutOfMemory => writeln!(err, "bidi: out of memory"),
         }

@@ -1,4 +1,4 @@
-//! The command `bidi`: judges conformance files of the bidirectional algorithm.
+//! The command `bidi`: lays out bidirectional text, and judges conformance files of the bidirectional algorithm.
 #![tactic(auto)]
 
 mod columns;
@@ -12,6 +12,7 @@ mod outcome;
 mod performing;
 mod position_line;
 mod print;
+mod reading;
 #[cfg(test)]
 mod reorder_tests;
 mod reorder_text;

@@ -7,18 +7,20 @@ ghost use Rattle.bidi.specs.Outcomes.{outcome_status};
 pub enum Outcome {
     /// A file was judged and its verdict printed: the verdict's exit status.
     Judged(u8),
+    /// A text was printed, by its levels or as it is shown.
+    Printed,
     /// Help was printed, as the words asked.
     Helped,
 }
 
 impl Outcome {
-    /// The exit status: that of the verdict, and 0 after help.
+    /// The exit status: that of the verdict, and 0 after a text or help.
     pub fn status(self) -> u8
         ensures { result ≡ outcome_status (Ok self) }
     {
         match self {
             Outcome::Judged(status) => status,
-            Outcome::Helped => 0,
+            Outcome::Printed | Outcome::Helped => 0,
         }
     }
 }

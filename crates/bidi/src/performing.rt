@@ -1,19 +1,26 @@
 // What a request asks for, done.
-ghost use Rattle.std.specs.Prelude.{◌≡◌, IfOk, IfErr};
+ghost use Rattle.std.specs.Prelude.{◌≡◌, ◌≤◌, ℕ, List, length, IfOk, IfErr, OnOk};
+ghost use Rattle.std.specs.Str.{chars, IsUtf8};
 ghost use Rattle.bidi.specs.FaultText.{fault_status};
 ghost use Rattle.bidi.specs.Judged.{HasJudged, IsCharactersVerdict, IsClassesVerdict};
 ghost use Rattle.bidi.specs.Outcomes.{Fails, IsDone};
+ghost use Rattle.bidi.specs.Printed.{HasPrinted, most_text_bytes};
+ghost use Rattle.bidi.specs.PrintedTexts.{printed_levels, printed_reorder};
 ghost use Rattle.bidi.specs.ReadFiles.{WasReadWhole};
 
 use crate::command_line::{FileKind, Request};
 use crate::fault::Fault;
 use crate::files::Files;
 use crate::judging::{judge_characters, judge_classes};
-use crate::opening::{MOST_FILE_BYTES, open};
+use crate::opening::{MOST_FILE_BYTES, MOST_TEXT_BYTES, open};
 use crate::outcome::Outcome;
+use crate::print::{print_levels, print_reorder};
+use crate::reading::read_text;
 use crate::table_files::read_tables;
 use std::alloc::Global;
 use std::io::Write;
+use std::num::NonZeroU16;
+use units::level::Direction;
 
 /// Judges the file of this name, whose rows are lists of classes, and answers the verdict's exit status.
 fn judge_file_of_classes<'a, F: Files, W: Write>(
@@ -49,6 +56,64 @@ fn judge_file_of_characters<'a, F: Files, W: Write>(
     judge_characters(alloc, &tables, &mut source, file, out)
 }
 
+/// The text in the file of this name.
+fn text_in_file<'a, F: Files>(
+    alloc: Global,
+    file: &'a str,
+    files: &mut F,
+) -> Result<Vec<char>, Fault<'a>>
+    ensures text { IfOk result (λ text. (bytes : List ℕ)
+        × WasReadWhole F.opens F.Source.ByteSource.gives F.Source.ByteSource.ended file.now most_text_bytes bytes
+        × IsUtf8 bytes × (text.items ≡ chars bytes)) }
+    ensures bound { IfOk result (λ text. length text.items ≤ 16777216) }
+    ensures fault { IfErr result (λ fault. fault_status fault ≡ 3) }
+{
+    let mut source = open(alloc, files, file, file, MOST_TEXT_BYTES)?;
+    read_text(alloc, &mut source, file)
+}
+
+/// Prints the levels of the text in the file of this name, by the tables of the folder, which are read first.
+fn print_levels_of_file<'a, F: Files, W: Write>(
+    alloc: Global,
+    folder: &str,
+    direction: Direction,
+    file: &'a str,
+    files: &mut F,
+    out: &mut W,
+) -> Result<(), Fault<'a>>
+    ensures printed { OnOk result (HasPrinted (WasReadWhole F.opens F.Source.ByteSource.gives F.Source.ByteSource.ended)
+        (λ tables text. printed_levels tables text direction) folder.now file.now
+        (W.contents out.old) (W.contents out.new)) }
+    ensures fault { IfErr result (λ fault. fault_status fault ≡ 3) }
+{
+    let tables = read_tables(alloc, files, folder)?;
+    let text = text_in_file(alloc, file, files)?;
+    print_levels(alloc, out, &tables, &text, direction)?;
+    Ok(())
+}
+
+/// Prints the text in the file of this name as it is shown, with breaks at the columns, by the tables of the folder, which
+/// are read first.
+fn print_reorder_of_file<'a, F: Files, W: Write>(
+    alloc: Global,
+    folder: &str,
+    direction: Direction,
+    columns: Option<NonZeroU16>,
+    file: &'a str,
+    files: &mut F,
+    out: &mut W,
+) -> Result<(), Fault<'a>>
+    ensures printed { OnOk result (HasPrinted (WasReadWhole F.opens F.Source.ByteSource.gives F.Source.ByteSource.ended)
+        (λ tables text. printed_reorder tables text direction columns) folder.now file.now
+        (W.contents out.old) (W.contents out.new)) }
+    ensures fault { IfErr result (λ fault. fault_status fault ≡ 3) }
+{
+    let tables = read_tables(alloc, files, folder)?;
+    let text = text_in_file(alloc, file, files)?;
+    print_reorder(alloc, out, &tables, &text, direction, columns)?;
+    Ok(())
+}
+
 /// Does what is asked for. Where tables are needed and none are named, no file is opened.
 pub fn perform<'a, F: Files, W: Write>(
     alloc: Global,
@@ -61,6 +126,23 @@ pub fn perform<'a, F: Files, W: Write>(
     ensures fault { IfErr result (Fails (W.contents out.old) (W.contents out.new) request.entry) }
 {
     match request {
+        Request::Levels {
+            tables,
+            direction,
+            file,
+        } => {
+            print_levels_of_file(alloc, tables, direction, file, files, out)?;
+            Ok(Outcome::Printed)
+        }
+        Request::Reorder {
+            tables,
+            direction,
+            columns,
+            file,
+        } => {
+            print_reorder_of_file(alloc, tables, direction, columns, file, files, out)?;
+            Ok(Outcome::Printed)
+        }
         Request::Judge {
             kind: FileKind::Classes,
             file,

@@ -1,6 +1,8 @@
 // Runs of the command over files and writers in memory.
 mod faults;
 mod judge;
+mod levels;
 mod memory;
 mod printing;
+mod reorder;
 mod words;

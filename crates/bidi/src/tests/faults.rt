@@ -74,6 +74,35 @@ fn needs_tables_for_characters_before_it_opens_a_file(rt: HostRuntime) {
     );
 }
 
+const LEVELS: [&str; 5] = ["bidi", "levels", "--tables", "t", "FILE"];
+
+const REORDER: [&str; 5] = ["bidi", "reorder", "--tables", "t", "FILE"];
+
+#[test]
+fn says_that_a_text_was_not_read(rt: HostRuntime) {
+    let [classes, brackets, mirrors, _] = tables_and(b"");
+    let rows: [(MemoryFile<'_>, &[u8]); 4] = [
+        (whole("FILE", b"\xff"), b"bidi: FILE: not UTF-8\n"),
+        (whole("FILE", b"a\xd7"), b"bidi: FILE: not UTF-8\n"),
+        (cut("FILE", b"\xff\xff", 1), b"bidi: cannot read FILE\n"),
+        (whole("other", b""), b"bidi: cannot read FILE\n"),
+    ];
+    for (file, line) in rows {
+        let files = [classes, brackets, mirrors, file];
+        for words in [LEVELS, REORDER] {
+            let mut out = ShortWriter {
+                left: 0,
+                flushes: false,
+            };
+            let mut err = FixedWriter::new();
+            let mut files = MemoryFiles { files: &files };
+            let status = run(rt.alloc(), &words, &mut files, &mut out, &mut err);
+            assert_eq!(rt; status, 3);
+            assert_eq!(rt; err.written(), line);
+        }
+    }
+}
+
 /// The names of the tables' files in the folder `t`.
 const NAMES: [&str; 3] = [
     "t/DerivedBidiClass.txt",
@@ -132,10 +161,16 @@ fn says_the_first_faulty_line_of_the_tables(rt: HostRuntime) {
         ([b"", b"", b""], b"bidi: cannot read FILE\n"),
     ];
     for (bytes, line) in rows {
-        let outcome = outcome_of(rt.alloc(), &CHARACTERS_FILE, &table_files(bytes));
-        assert_eq!(rt; outcome.status, 3);
-        assert!(rt; outcome.out.written().is_empty());
-        assert_eq!(rt; outcome.err.written(), line);
+        for words in [
+            CHARACTERS_FILE.as_slice(),
+            LEVELS.as_slice(),
+            REORDER.as_slice(),
+        ] {
+            let outcome = outcome_of(rt.alloc(), words, &table_files(bytes));
+            assert_eq!(rt; outcome.status, 3);
+            assert!(rt; outcome.out.written().is_empty());
+            assert_eq!(rt; outcome.err.written(), line);
+        }
     }
 }
 
@@ -199,14 +234,18 @@ fn says_that_a_write_failed(rt: HostRuntime) {
     assert_eq!(rt; print_verdict(&mut short, &verdict), Err(PrintFault::Write));
 
     let help: [&str; 2] = ["bidi", "--help"];
-    let rows: [(&[&str], usize, bool); 5] = [
+    let rows: [(&[&str], usize, bool); 9] = [
         (&CLASSES_FILE, 5, true),
         (&CLASSES_FILE, 100, false),
         (&CHARACTERS_FILE, 5, true),
         (&CHARACTERS_FILE, 100, false),
+        (&LEVELS, 5, true),
+        (&LEVELS, 100, false),
+        (&REORDER, 1, true),
+        (&REORDER, 100, false),
         (&help, 5, true),
     ];
-    let files = tables_and(b"");
+    let files = tables_and(b"#1");
     for (words, left, flushes) in rows {
         let mut out = ShortWriter { left, flushes };
         let mut err = FixedWriter::new();
@@ -252,7 +291,9 @@ fn says_that_a_file_found_no_memory(rt: HostRuntime) {
 // To be run with each allocation failing in turn.
 #[test]
 fn answers_as_ever_or_says_that_memory_was_refused(rt: HostRuntime) {
-    let rows: [(&[&str], u8, &[u8], &[u8]); 4] = [
+    let rows: [(&[&str], u8, &[u8], &[u8]); 6] = [
+        (&LEVELS, 0, b"paragraph 0 level 0\n0 0040 L 0\n", b""),
+        (&REORDER, 0, b"@Levels: 0\n@Reorder: 0\nL; 7\n", b""),
         (&CLASSES_FILE, 1, b"no: line 3: rtl: levels at 0\n", b""),
         (
             &CHARACTERS_FILE,

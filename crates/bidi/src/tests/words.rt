@@ -2,10 +2,34 @@ use crate::tests::memory::outcome_of;
 
 #[test]
 fn refuses_command_lines(rt: HostRuntime) {
-    let rows: [&[&str]; 11] = [
+    let rows: [&[&str]; 19] = [
         &[],
         &["bidi"],
         &["bidi", "other"],
+        &["bidi", "levels", "FILE"],
+        &["bidi", "levels", "--tables", "t"],
+        &[
+            "bidi",
+            "levels",
+            "--tables",
+            "t",
+            "--direction",
+            "LTR",
+            "FILE",
+        ],
+        &["bidi", "levels", "--tables", "t", "--columns", "2", "FILE"],
+        &["bidi", "reorder", "FILE"],
+        &["bidi", "reorder", "--tables", "t", "--columns", "0", "FILE"],
+        &[
+            "bidi",
+            "reorder",
+            "--tables",
+            "t",
+            "--columns",
+            "65536",
+            "FILE",
+        ],
+        &["bidi", "reorder", "--tables", "t", "--columns", "x", "FILE"],
         &["bidi", "judge", "FILE"],
         &["bidi", "judge", "--kind", "classes"],
         &["bidi", "judge", "--kind", "Classes", "FILE"],
@@ -34,25 +58,37 @@ fn refuses_command_lines(rt: HostRuntime) {
 }
 
 #[test]
-fn names_the_kind_that_is_refused(rt: HostRuntime) {
-    let words = ["bidi", "judge", "--kind", "other", "FILE"];
-    let outcome = outcome_of(rt.alloc(), &words, &[]);
-    let text =
-        b"error: invalid value 'other' for '--kind <KIND>'\n  [possible values: classes, characters]\n\nFor more information, try '--help'.\n";
-    assert_eq!(rt; outcome.err.written(), text.as_slice());
+fn names_the_value_that_is_refused(rt: HostRuntime) {
+    let rows: [(&[&str], &[u8]); 2] = [
+        (
+            &["bidi", "judge", "--kind", "other", "FILE"],
+            b"error: invalid value 'other' for '--kind <KIND>'\n  [possible values: classes, characters]\n\nFor more information, try '--help'.\n",
+        ),
+        (
+            &["bidi", "reorder", "--tables", "t", "--columns", "0", "FILE"],
+            b"error: invalid value '0' for '--columns <N>': 0 is not in 1..=65535\n\nFor more information, try '--help'.\n",
+        ),
+    ];
+    for (words, text) in rows {
+        let outcome = outcome_of(rt.alloc(), words, &[]);
+        assert_eq!(rt; outcome.status, 2, "{words:?}");
+        assert_eq!(rt; outcome.err.written(), text, "{words:?}");
+    }
 }
 
 #[test]
 fn prints_help(rt: HostRuntime) {
-    let rows: [&[&str]; 3] = [
-        &["bidi", "--help"],
-        &["bidi", "judge", "-h"],
-        &["bidi", "judge", "--help"],
+    let rows: [(&[&str], &[u8]); 5] = [
+        (&["bidi", "--help"], b"Lays out texts "),
+        (&["bidi", "levels", "--help"], b"Prints the levels "),
+        (&["bidi", "reorder", "--help"], b"Prints the lines "),
+        (&["bidi", "judge", "-h"], b"Judges "),
+        (&["bidi", "judge", "--help"], b"Judges "),
     ];
-    for words in rows {
+    for (words, text) in rows {
         let outcome = outcome_of(rt.alloc(), words, &[]);
         assert_eq!(rt; outcome.status, 0, "{words:?}");
-        assert!(rt; outcome.out.written().starts_with(b"Judges "), "{words:?}");
+        assert!(rt; outcome.out.written().starts_with(text), "{words:?}");
         assert!(rt; outcome.err.written().is_empty(), "{words:?}");
     }
 }

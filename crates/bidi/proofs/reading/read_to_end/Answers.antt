@@ -1,0 +1,11 @@
+use Rattle.std.proofs.Common.{◌≡◌, ℕ, List, ◌++◌, take, append-nil, subst}
+use Rattle.bidi.proofs.reading.read_to_end.Goals as goal
+
+none-more : (n : ℕ) (xs buf : List ℕ) → n ≡ 0 → xs ++ take n buf ≡ xs
+none-more n xs buf e = rw e (append-nil xs)
+
+pub returns-in-Ok-eq0-clause-given : goal.returns-in-Ok-eq0-clause-given
+returns-in-Ok-eq0-clause-given g c =
+    subst (λ (xs : List ℕ). g.S.ByteSource.gives c.args.source.now xs c.read.new.self)
+    (none-more c.in-Ok-eq0.field-0 c.loop-bytes.bytes.items c.read.new.buf c.in-Ok-eq0.field-0-test)
+    (g.met.S.ByteSource.gives_joined _ _ _ _ _ c.loop-bytes.invariant.given c.in-Ok-eq0.ensures.given)
