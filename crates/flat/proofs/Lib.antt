@@ -9,3 +9,4 @@ pub mod Unbracketed
 pub mod Stages
 pub mod Staying
 pub mod Finding
+pub mod Absences
