@@ -10,3 +10,5 @@ pub mod Stages
 pub mod Staying
 pub mod Finding
 pub mod Absences
+pub mod LeftOut
+pub mod TargetScan

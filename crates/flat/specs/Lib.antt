@@ -2,3 +2,4 @@ pub mod Flat
 pub mod IdleRules
 pub mod Uniform
 pub mod Contents
+pub mod Targets

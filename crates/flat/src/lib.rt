@@ -4,4 +4,5 @@
 pub mod contents;
 pub mod paragraphs;
 pub mod rules;
+pub mod targets;
 pub mod uniform;
