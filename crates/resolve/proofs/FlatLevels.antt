@@ -1,5 +1,5 @@
 -- Flat paragraphs: what the scan of their classes tells.
-use Rattle.std.specs.Prelude.{Option, Some, None, ℕ, Bool, true, false, ◌<◌, ◌≡◌, not, List, length, map, refl}
+use Rattle.std.specs.Prelude.{Option, Some, None, ℕ, Bool, true, false, ◌<◌, ◌≡◌, not, List, [], ◌∷◌, length, map, refl}
 use Rattle.std.specs.List.{list_all}
 use Rattle.std.proofs.Common.{arith, sym, ◌∙◌, get_or}
 use Rattle.std.proofs.lemmas.Bool.{and_parts}
@@ -40,3 +40,8 @@ levels_are_kept us para levels keeps n each =
 -- and it is flat
 pub flat_where_kept : (para : ℕ) (cs : List Class) → keeps_level para cs ≡ true → IsFlat cs
 flat_where_kept para cs keeps = let both = and_parts (list_all is_flat cs) (has_none (may_rise para) cs) keeps in flat_from cs both.0
+
+-- an empty paragraph keeps its level
+pub some_unless_kept : (para : ℕ) (us : List BidiUnit) → keeps_level para (classes_of us) ≡ false → 0 < length us
+some_unless_kept para [] kept = absurd (cc)
+some_unless_kept para (u ∷ us) kept = omega arith

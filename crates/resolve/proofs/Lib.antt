@@ -12,6 +12,7 @@ pub mod Giving
 pub mod Insides
 pub mod Light
 pub mod Nesting
+pub mod OneWhole
 pub mod OwnMarks
 pub mod PairInOrder
 pub mod PairResolving

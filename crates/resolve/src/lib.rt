@@ -10,6 +10,7 @@ pub mod pairs;
 pub mod paragraph;
 mod rules;
 mod runs;
+mod targeted;
 #[cfg(test)]
 mod tests;
 pub mod weak;

@@ -1,23 +1,27 @@
 //! The resolved levels of a paragraph (P2 to I2).
-ghost use Rattle.std.specs.Prelude.{◌≡◌, ◌+◌, ◌*◌, ◌<◌, ◌≤◌, ℕ, Some, None, IfOk, length, slice_set, take};
+ghost use Rattle.std.specs.Prelude.{◌≡◌, ◌+◌, ◌*◌, ◌<◌, ◌≤◌, ℕ, Some, None, IfOk, length, map, slice_set, take};
 ghost use Rattle.std.specs.Option.{option_map_or};
 ghost use Rattle.units.specs.Classes.{classes_of};
 ghost use Rattle.units.specs.Isolates.{level_of_para, para_level_of};
-ghost use Rattle.units.specs.Layout.{current_of, resolved_levels};
+ghost use Rattle.units.specs.Layout.{current_of, levels_of_sequence, resolved_levels};
 ghost use Rattle.units.specs.Paragraphs.{SeparatorOnlyLast};
 ghost use Rattle.units.specs.declared.class.Class.TheVariants.{BN};
-ghost use Rattle.flat.specs.Flat.{IsFlat};
+ghost use Rattle.flat.specs.Flat.{IsFlat, whole_sequence};
 ghost use Rattle.resolve.specs.Covering.{AreApart, HasLevelsBy, positions_in};
 ghost use Rattle.resolve.specs.Pairs.{MarksAreOwn};
 ghost use Rattle.resolve.specs.Raised.{resolved_at};
+ghost use Rattle.flat.specs.Targets.{AreTargetsIn};
 
 use crate::pairs::Pairs;
+use crate::targeted::resolve_whole;
 use crate::whole::resolve_sequence;
 use explicit::isolates::IsolateMap;
 use explicit::levels::{Explicit, explicit_levels};
 use explicit::para_level::para_level;
 use flat::contents::Contents;
+use flat::targets::Targets;
 use sequences::paragraph::Sequences;
+use sequences::sequence::Sequence;
 use std::alloc::Global;
 use std::marker::Model;
 use std::sync::ledger::Ledger;
@@ -102,26 +106,29 @@ fn begin<L: Ledger>(
     }
 }
 
-/// Writes the classes of a paragraph's units into both columns, and no levels.
+/// Writes the classes of a paragraph's units into both columns, and answers what they have that the rules look for.
 fn begin_flat<L: Ledger>(
     para: &[Unit],
     before: &mut [Class],
     classes: &mut [Class],
-    levels: &mut [Option<Level>],
     steps: &mut Steps<L>,
-)
+) -> Targets
     requires before { length before.old ≡ length para.now }
     requires classes { length classes.old ≡ length para.now }
-    requires levels { length levels.old ≡ length para.now }
+    ensures targets { AreTargetsIn result para.now }
     ensures before { before.new ≡ classes_of para.now }
     ensures copy { classes.new ≡ before.new }
-    ensures none { (p : ℕ) → resolved_at levels.new p ≡ None }
     ensures steps { steps.new ≡ steps.old + length para.now }
 {
+    let mut targets = Targets::none();
     for p in 0..para.len() {
         steps.tick();
-        begin_at(p, para[p].class, before, classes, levels);
+        let unit = para[p];
+        targets = targets.with(unit);
+        before[p] = unit.class;
+        classes[p] = unit.class;
     }
+    targets
 }
 
 /// W1 to I2 over all sequences of a paragraph, in their order. `before` are the current classes of the paragraph (X1 to X8),
@@ -183,31 +190,30 @@ fn resolve_found<L: Ledger>(
     resolve_each(sequences, para, before, pairs, classes, levels, steps);
 }
 
-/// W1 to I2 over a paragraph whose sequences were found, and whose current classes are its units'. It takes the fronts of the
-/// class columns.
+/// W1 to I2 over a flat paragraph whose one sequence was found. It takes the fronts of the class columns.
 fn resolve_own<L: Ledger>(
+    s: &Sequence,
     para: &[Unit],
-    sequences: &Sequences,
     pairs: &mut Pairs,
     before: &mut [Class],
     classes: &mut [Class],
     levels: &mut [Option<Level>],
     steps: &mut Steps<L>,
 )
-    requires apart { AreApart (length para.now) sequences.now.all }
+    requires whole { s.now ≡ whole_sequence s.now.level (length para.now) }
     requires pairs { length para.now ≤ length pairs.old }
     requires before { length para.now ≤ length before.old }
     requires classes { length para.now ≤ length classes.old }
     requires levels { length levels.old ≡ length para.now }
-    ensures levels { HasLevelsBy para.now (classes_of para.now) sequences.now.all levels.new }
+    ensures levels { levels.new ≡ map Some (levels_of_sequence s.now para.now (classes_of para.now)) }
     ensures room { length pairs.new ≡ length pairs.old }
-    ensures at_least { steps.old + length para.now ≤ steps.new }
-    ensures at_most { steps.new ≤ steps.old + 146 * length para.now }
+    ensures at_least { steps.old + 3 * length para.now ≤ steps.new }
+    ensures at_most { steps.new ≤ steps.old + 145 * length para.now }
 {
     let before = &mut before[..para.len()];
     let classes = &mut classes[..para.len()];
-    begin_flat(para, before, classes, levels, steps);
-    resolve_each(sequences, para, before, pairs, classes, levels, steps);
+    let targets = begin_flat(para, before, classes, steps);
+    resolve_whole(s, para, targets, before, pairs, classes, levels, steps);
 }
 
 /// Gives all positions this level, a step for each.
@@ -282,18 +288,19 @@ impl Resolver {
         steps: &mut Steps<L>,
     )
         requires room { length para.now ≤ self.old }
-        requires separators { SeparatorOnlyLast para.now }
+        requires some { 0 < length para.now }
         requires flat { IsFlat (classes_of para.now) }
         requires levels { length levels.old ≡ length para.now }
         ensures levels { levels.new ≡ resolved_levels para.now (level_of_para level) }
         ensures room { self.new ≡ self.old }
-        ensures at_least { steps.old + 2 * length para.now ≤ steps.new }
-        ensures at_most { steps.new ≤ steps.old + 147 * length para.now }
+        ensures at_least { steps.old + 4 * length para.now ≤ steps.new }
+        ensures at_most { steps.new ≤ steps.old + 146 * length para.now }
     {
         self.sequences.fill_flat(para, level, steps);
+        let sequence = self.sequences.get(0);
         resolve_own(
+            &sequence,
             para,
-            &self.sequences,
             &mut self.pairs,
             &mut self.before,
             &mut self.classes,

@@ -13,7 +13,12 @@ use units::class::Class;
 use units::steps::Steps;
 
 /// W1: a nonspacing mark takes the class before it.
-fn marks<L: Ledger>(positions: &[u32], sos: Class, classes: &mut [Class], steps: &mut Steps<L>)
+pub(crate) fn marks<L: Ledger>(
+    positions: &[u32],
+    sos: Class,
+    classes: &mut [Class],
+    steps: &mut Steps<L>,
+)
     requires { ArePositions positions.now (length classes.old) }
     ensures classes { Rewrites (after_w1 sos) positions.now classes.old classes.new }
     ensures steps { steps.new ≡ steps.old + length positions.now }
@@ -31,7 +36,7 @@ fn marks<L: Ledger>(positions: &[u32], sos: Class, classes: &mut [Class], steps:
 }
 
 /// W2: a European number after an Arabic letter becomes an Arabic number.
-fn arabic_numbers<L: Ledger>(
+pub(crate) fn arabic_numbers<L: Ledger>(
     positions: &[u32],
     sos: Class,
     classes: &mut [Class],
@@ -54,7 +59,11 @@ fn arabic_numbers<L: Ledger>(
 }
 
 /// W3: an Arabic letter becomes R.
-fn arabic_letters<L: Ledger>(positions: &[u32], classes: &mut [Class], steps: &mut Steps<L>)
+pub(crate) fn arabic_letters<L: Ledger>(
+    positions: &[u32],
+    classes: &mut [Class],
+    steps: &mut Steps<L>,
+)
     requires { ArePositions positions.now (length classes.old) }
     ensures classes { Rewrites after_w3 positions.now classes.old classes.new }
     ensures steps { steps.new ≡ steps.old + length positions.now }
@@ -80,7 +89,7 @@ fn class_after(positions: &[u32], k: usize, classes: &[Class]) -> Class
 }
 
 /// W4: a separator between numbers becomes a number.
-fn separators<L: Ledger>(positions: &[u32], classes: &mut [Class], steps: &mut Steps<L>)
+pub(crate) fn separators<L: Ledger>(positions: &[u32], classes: &mut [Class], steps: &mut Steps<L>)
     requires { ArePositions positions.now (length classes.old) }
     ensures classes { Rewrites after_w4 positions.now classes.old classes.new }
     ensures steps { steps.new ≡ steps.old + length positions.now }
@@ -96,7 +105,7 @@ fn separators<L: Ledger>(positions: &[u32], classes: &mut [Class], steps: &mut S
 }
 
 /// W6: the separators and terminators that are left become ON.
-fn leftovers<L: Ledger>(positions: &[u32], classes: &mut [Class], steps: &mut Steps<L>)
+pub(crate) fn leftovers<L: Ledger>(positions: &[u32], classes: &mut [Class], steps: &mut Steps<L>)
     requires { ArePositions positions.now (length classes.old) }
     ensures classes { Rewrites after_w6 positions.now classes.old classes.new }
     ensures steps { steps.new ≡ steps.old + length positions.now }
@@ -109,7 +118,7 @@ fn leftovers<L: Ledger>(positions: &[u32], classes: &mut [Class], steps: &mut St
 }
 
 /// W7: a European number after L becomes L.
-fn latin_numbers<L: Ledger>(
+pub(crate) fn latin_numbers<L: Ledger>(
     positions: &[u32],
     sos: Class,
     classes: &mut [Class],

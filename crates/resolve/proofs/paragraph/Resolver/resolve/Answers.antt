@@ -5,7 +5,7 @@ use Rattle.units.specs.Layout.{resolved_levels}
 use Rattle.units.specs.declared.class.Class.{Class}
 use Rattle.flat.proofs.FlatParagraph.{para_level_of-flat}
 use Rattle.flat.specs.Contents.{keeps_level}
-use Rattle.resolve.proofs.FlatLevels.{flat_from, flat_where_kept, levels_are_kept}
+use Rattle.resolve.proofs.FlatLevels.{flat_from, flat_where_kept, levels_are_kept, some_unless_kept}
 use Rattle.resolve.proofs.paragraph.Resolver.resolve.Goals as goal
 
 pub returns-then-keeps-clause-level : goal.returns-then-keeps-clause-level
@@ -23,6 +23,11 @@ returns-then-keeps-clause-levels g c =
     levels_are_kept c.args.para.now (level_of_para c.para_level-level.result) c.write_level.new.levels kept (search rules)
     (λ p lt. c.write_level.ensures.levels p (omega (arith, lt, c.requires.levels)) ∙ ap Some c.level.ensures.value)
     ∙ ap (resolved_levels c.args.para.now) level
+
+pub resolve_flat-requires-clause-some : goal.resolve_flat-requires-clause-some
+resolve_flat-requires-clause-some g c =
+    let cs : List Class = classes_of c.args.para.now in
+    some_unless_kept (level_of_para c.para_level-level.result) c.args.para.now (sym (c.keeps.ensures cs c.of-contents.ensures.contents) ∙ c.if-keeps.false)
 
 pub resolve_flat-requires-clause-flat : goal.resolve_flat-requires-clause-flat
 resolve_flat-requires-clause-flat g c =
