@@ -1,22 +1,18 @@
-use Rattle.std.proofs.Common.{arith, rules, ap, sym, ◌∙◌, subst, ◌≤◌, List, length}
+use Rattle.std.proofs.Common.{rules, ap, sym, ◌∙◌, subst, List, length}
 use Rattle.units.specs.Isolates.{level_of_para}
 use Rattle.units.specs.Layout.{resolved_levels}
 use Rattle.units.specs.Runs.{SequenceView}
 use Rattle.units.specs.declared.level.ParaLevel.{ParaLevel}
-use Rattle.units.specs.declared.level.ParaLevel.TheVariants.{Zero, One}
 use Rattle.resolve.specs.Covering.{AreApart, positions_in}
+use Rattle.sequences.proofs.FilledFrom.{level_of_para-low}
 use Rattle.resolve.proofs.AllSequences.{sequences_are_apart, found_marks, found_levels}
 use Rattle.resolve.proofs.paragraph.Resolver.resolve_sequences.Goals as goal
-
-low : (level : ParaLevel) → level_of_para level ≤ 1
-low Zero = omega arith
-low One = omega arith
 
 pub resolve_found-requires-clause-apart : goal.resolve_found-requires-clause-apart
 resolve_found-requires-clause-apart g c =
     let level : ParaLevel = c.para_level-level.result in
     let P : List SequenceView → Type 0 = λ all. AreApart (length c.args.para.now) all in
-    subst P (sym c.fill-2.ensures.all) (sequences_are_apart c.args.para.now (level_of_para level) (low level) c.requires.separators)
+    subst P (sym c.fill-2.ensures.all) (sequences_are_apart c.args.para.now (level_of_para level) (level_of_para-low level) c.requires.separators)
 
 pub resolve_found-requires-clause-marks : goal.resolve_found-requires-clause-marks
 resolve_found-requires-clause-marks g c =
