@@ -10,8 +10,8 @@ use Rattle.bidtests.specs.declared.kind.Kind.TheVariants.{Classes, Characters}
 use Rattle.bidtests.specs.declared.verdict.Verdict.{Verdict}
 use Rattle.bidtests.specs.declared.verdict.Verdict.TheVariants.{Yes, Malformed}
 use Rattle.bidtests.specs.declared.verdict.Cause.TheVariants.{LineTooLong}
-use Rattle.bidtests.specs.Verdicts.{Finding, Silent, Claims, Faulty, first_fault, fault_of, rows_in, cases_in, most_counted}
-use Rattle.bidtests.specs.ClassesFile.{ClassesLine, Nothing, LevelsAre, OrderIs, RowOf, Broken, classes_line, finding, levels_in_force, order_in_force}
+use Rattle.bidtests.specs.Verdicts.{Finding, Claims, first_fault, fault_of, rows_in, cases_in, most_counted}
+use Rattle.bidtests.specs.ClassesFile.{ClassesLine, LevelsAre, OrderIs, classes_line, finding, levels_in_force, order_in_force}
 use Rattle.bidtests.specs.CharactersFile.{characters_line}
 use Rattle.bidtests.specs.FileKinds.{unit_by, findings_by, verdict_of}
 

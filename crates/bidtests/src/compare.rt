@@ -131,7 +131,8 @@ fn compare(scratch: &mut Scratch, claim: Claim<'_>, direction: Direction) -> Com
     }
 }
 
-/// The first of the claim's directions under which it differs from the layout, and where. A direction is passed over where an earlier one gave the same layout.
+/// The first of the claim's directions under which it differs from the layout, and where. A direction is passed over where an
+/// earlier one gave the same layout.
 fn first_wrong(scratch: &mut Scratch, claim: Claim<'_>) -> Option<(Direction, Place)>
     requires { length claim.text.now ≤ room_of scratch.old }
     ensures wrong { result ≡ wrong_case (claim_of claim.entry) claim.entry.directions.now }
@@ -150,7 +151,7 @@ fn first_wrong(scratch: &mut Scratch, claim: Claim<'_>) -> Option<(Direction, Pl
     None
 }
 
-/// The no that a row of this line gives.
+/// The fault of a row at this line: the no that it gives if its claim is wrong.
 pub fn row_fault(scratch: &mut Scratch, number: u64, claim: Claim<'_>) -> Option<Verdict>
     requires { length claim.text.now ≤ room_of scratch.old }
     ensures fault { result ≡ fault_of number (Claims (claim_of claim.entry)) }

@@ -33,15 +33,15 @@ impl<'t> Model for Judge<'t> {
     ghost view = { λ s. record { kind = s.kind; cutting = s.cutter; standing = s.sheet; decided = s.decided } };
 }
 
-// Judges the line that a step ends, if it ends one.
-fn answer(kind: Kind<'_>, sheet: &mut Sheet, step: Step<'_>) -> Option<Verdict>
+/// Judges the line that a step ends, if it ends one.
+fn judge_step(kind: Kind<'_>, sheet: &mut Sheet, step: Step<'_>) -> Option<Verdict>
     requires { StepIsShort step }
     ensures fault { result ≡ fault_by kind.entry sheet.old step.entry }
     ensures standing { IsNone result → sheet.new ≡ after_step kind.entry step.entry sheet.old }
 {
     match step {
         Step::More => None,
-        Step::Line { number, text } => sheet.line(kind, number, text),
+        Step::Line { number, text } => sheet.judge_line(kind, number, text),
         Step::TooLong { number } => Some(Verdict::Malformed {
             line: number,
             cause: Cause::LineTooLong,
@@ -49,17 +49,17 @@ fn answer(kind: Kind<'_>, sheet: &mut Sheet, step: Step<'_>) -> Option<Verdict>
     }
 }
 
-// Judges the line that has begun, if one has.
-fn answer_last(kind: Kind<'_>, sheet: &mut Sheet, last: Option<(u64, &[u8])>) -> Verdict
+/// Judges the line that has begun, if one has.
+fn judge_last(kind: Kind<'_>, sheet: &mut Sheet, last: Option<(u64, &[u8])>) -> Verdict
     requires { IfSome last (λ line. length line.1.now ≤ longest_line) }
     ensures { result ≡ verdict_behind kind.entry sheet.old last.entry }
 {
     if let Some((number, text)) = last {
-        if let Some(verdict) = sheet.line(kind, number, text) {
+        if let Some(verdict) = sheet.judge_line(kind, number, text) {
             return verdict;
         }
     }
-    sheet.verdict()
+    sheet.yes()
 }
 
 impl<'t> Judge<'t> {
@@ -100,7 +100,7 @@ impl<'t> Judge<'t> {
                 return;
             }
             let (used, step) = self.cutter.take(&piece[at..]);
-            self.decided = answer(self.kind, &mut self.sheet, step);
+            self.decided = judge_step(self.kind, &mut self.sheet, step);
             at += used;
         }
     }
@@ -115,7 +115,7 @@ impl<'t> Judge<'t> {
             None => {
                 let judge = &mut self;
                 let last = judge.cutter.finish();
-                answer_last(judge.kind, &mut judge.sheet, last)
+                judge_last(judge.kind, &mut judge.sheet, last)
             }
         }
     }

@@ -2,7 +2,7 @@
 ghost use Rattle.std.specs.Prelude.{◌≡◌, ◌≤◌, None, Some, IfOk, IsNone, length};
 ghost use Rattle.units.specs.Text.{items_of, each_read, fields_of, longest_line};
 ghost use Rattle.bidtests.specs.Verdicts.{fault_of};
-ghost use Rattle.bidtests.specs.ClassesFile.{classes_line, directive as directive_said, levels_directive, order_directive, data_line, level_item, order_item};
+ghost use Rattle.bidtests.specs.ClassesFile.{classes_line, directive, levels_directive, order_directive, data_line, level_item, order_item};
 ghost use Rattle.bidtests.specs.CharactersFile.{characters_line, row_of_fields};
 ghost use Rattle.bidtests.specs.FileKinds.{unit_by};
 ghost use Rattle.lines.specs.Scratches.{room_of};
@@ -27,7 +27,8 @@ use units::text::trim::content;
 /// The units that a text may have: as many as a line has room for, since an item takes two bytes with the blank before it.
 const MOST_UNITS: usize = 32_768;
 
-/// The room for layouts, a row's text, the lists in force or those of a row, and the counts.
+/// The room for layouts, a row's text, the lists in force or those of a row, and the counts. What judges a line answers its fault: the
+/// no that it gives if it is malformed or wrong.
 #[derive(Drop)]
 pub struct Sheet {
     scratch: Scratch,
@@ -93,7 +94,8 @@ impl Sheet {
         })
     }
 
-    fn levels(&mut self, number: u64, field: &[u8]) -> Option<Verdict>
+    /// Puts the levels in force that `@Levels:` lists.
+    fn set_levels(&mut self, number: u64, field: &[u8]) -> Option<Verdict>
         requires { length field.now ≤ longest_line }
         ensures fault { result ≡ fault_in self.old number (levels_directive (each_read level_item (items_of field.now))) }
         ensures standing { IsNone result → self.new ≡ after_said (levels_directive (each_read level_item (items_of field.now))) self.old }
@@ -106,7 +108,8 @@ impl Sheet {
         }
     }
 
-    fn order(&mut self, number: u64, field: &[u8]) -> Option<Verdict>
+    /// Puts the order in force that `@Reorder:` lists.
+    fn set_order(&mut self, number: u64, field: &[u8]) -> Option<Verdict>
         requires { length field.now ≤ longest_line }
         ensures fault { result ≡ fault_in self.old number (order_directive (each_read order_item (items_of field.now))) }
         ensures standing { IsNone result → self.new ≡ after_said (order_directive (each_read order_item (items_of field.now))) self.old }
@@ -119,23 +122,25 @@ impl Sheet {
         }
     }
 
-    fn directive(&mut self, number: u64, content: &[u8]) -> Option<Verdict>
+    /// Judges a content that begins with `@`.
+    fn judge_directive(&mut self, number: u64, content: &[u8]) -> Option<Verdict>
         requires { length content.now ≤ longest_line }
-        ensures fault { result ≡ fault_in self.old number (directive_said content.now) }
-        ensures standing { IsNone result → self.new ≡ after_said (directive_said content.now) self.old }
+        ensures fault { result ≡ fault_in self.old number (directive content.now) }
+        ensures standing { IsNone result → self.new ≡ after_said (directive content.now) self.old }
     {
         if content.starts_with(b"@Type:") {
             None
         } else if content.starts_with(b"@Levels:") {
-            self.levels(number, &content[8..])
+            self.set_levels(number, &content[8..])
         } else if content.starts_with(b"@Reorder:") {
-            self.order(number, &content[9..])
+            self.set_order(number, &content[9..])
         } else {
             malformed(number, Cause::Directive)
         }
     }
 
-    fn row(&mut self, number: u64, content: &[u8]) -> Option<Verdict>
+    /// Judges a row of classes by the lists in force.
+    fn judge_row(&mut self, number: u64, content: &[u8]) -> Option<Verdict>
         requires { length content.now ≤ longest_line }
         ensures fault { result ≡ fault_in self.old number (data_line (fields_of content.now)) }
         ensures standing { IsNone result → self.new ≡ after_said (data_line (fields_of content.now)) self.old }
@@ -160,7 +165,8 @@ impl Sheet {
         fault
     }
 
-    fn characters(&mut self, number: u64, content: &[u8], tables: &Tables) -> Option<Verdict>
+    /// Judges a row of characters by its own lists.
+    fn judge_characters(&mut self, number: u64, content: &[u8], tables: &Tables) -> Option<Verdict>
         requires short { length content.now ≤ longest_line }
         requires lists { HasNoLists self.old }
         ensures fault { result ≡ fault_of number (row_of_fields (unit_by tables.now) (fields_of content.now)) }
@@ -189,8 +195,8 @@ impl Sheet {
         fault
     }
 
-    // Judges a line of a classes file.
-    fn classes_line(&mut self, number: u64, line: &[u8]) -> Option<Verdict>
+    /// Judges a line of a classes file.
+    fn judge_classes_line(&mut self, number: u64, line: &[u8]) -> Option<Verdict>
         requires { length line.now ≤ longest_line }
         ensures fault { result ≡ fault_in self.old number (classes_line line.now) }
         ensures standing { IsNone result → self.new ≡ after_said (classes_line line.now) self.old }
@@ -199,14 +205,19 @@ impl Sheet {
         if content.is_empty() {
             None
         } else if content[0] == b'@' {
-            self.directive(number, content)
+            self.judge_directive(number, content)
         } else {
-            self.row(number, content)
+            self.judge_row(number, content)
         }
     }
 
-    // Judges a line of a characters file.
-    fn characters_line(&mut self, number: u64, line: &[u8], tables: &Tables) -> Option<Verdict>
+    /// Judges a line of a characters file, in which no list is in force.
+    fn judge_characters_line(
+        &mut self,
+        number: u64,
+        line: &[u8],
+        tables: &Tables,
+    ) -> Option<Verdict>
         requires { length line.now ≤ longest_line }
         ensures fault { result ≡ fault_of number (characters_line (unit_by tables.now) line.now) }
         ensures standing { IsNone result → self.new ≡ counted (characters_line (unit_by tables.now) line.now) (unlisted self.old) }
@@ -217,24 +228,24 @@ impl Sheet {
         if content.is_empty() {
             None
         } else {
-            self.characters(number, content, tables)
+            self.judge_characters(number, content, tables)
         }
     }
 
     /// Judges a line of a file of this kind by what the lines before it said.
-    pub fn line(&mut self, kind: Kind<'_>, number: u64, line: &[u8]) -> Option<Verdict>
+    pub fn judge_line(&mut self, kind: Kind<'_>, number: u64, line: &[u8]) -> Option<Verdict>
         requires { length line.now ≤ longest_line }
         ensures fault { result ≡ fault_at kind.entry self.old number line.now }
         ensures standing { IsNone result → self.new ≡ after_line kind.entry line.now self.old }
     {
         match kind {
-            Kind::Classes => self.classes_line(number, line),
-            Kind::Characters(tables) => self.characters_line(number, line, tables),
+            Kind::Classes => self.judge_classes_line(number, line),
+            Kind::Characters(tables) => self.judge_characters_line(number, line, tables),
         }
     }
 
     /// The yes that this is where no line is left.
-    pub fn verdict(&self) -> Verdict
+    pub fn yes(&self) -> Verdict
         ensures { result ≡ Verdict.Yes self.now.rows self.now.cases }
     {
         Verdict::Yes {

@@ -20,7 +20,7 @@ loop-at-preserved c =
       within = within at used piece c.loop-at.invariant.within c.take.ensures.used;
       judges = λ kind b s.
           rw (joined at used piece b)
-          (feeds-on j c.take.follows.lender-at-none c.answer-self-inside.new.sheet c.answer-self-inside.result rest used c.take.result.1
+          (feeds-on j c.take.follows.lender-at-none c.judge_step-self-inside.new.sheet c.judge_step-self-inside.result rest used c.take.result.1
           (none-from self.decided (sym c.is_some.ensures ∙ c.if-is_some.false)) c.take.ensures.used c.take.ensures.through c.take.ensures.answer c.take.follows.holds-at-none
-          c.answer-self-inside.ensures.fault c.answer-self-inside.ensures.standing kind (b ++ take at piece) (c.loop-at.invariant.judges kind b s));
+          c.judge_step-self-inside.ensures.fault c.judge_step-self-inside.ensures.standing kind (b ++ take at piece) (c.loop-at.invariant.judges kind b s));
     }

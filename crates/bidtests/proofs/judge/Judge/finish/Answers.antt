@@ -13,4 +13,4 @@ returns c = λ kind b judges.
     let P : Judging → Type 0 = λ k. Judges kind k b in
     let undecided : inside.decided ≡ None =
     ap (λ (k : Judging). k.decided) c.judge.view_is ∙ sym (ap (λ (k : Judging). k.decided) c.self.view_is) ∙ c.in-None.is in
-    c.answer_last.ensures ∙ finishes j c.finish-last.result undecided c.finish-last.ensures.last kind b (subst P (sym c.judge.view_is) judges)
+    c.judge_last.ensures ∙ finishes j c.finish-last.result undecided c.finish-last.ensures.last kind b (subst P (sym c.judge.view_is) judges)

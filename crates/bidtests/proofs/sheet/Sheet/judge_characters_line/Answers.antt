@@ -1,11 +1,11 @@
-use Rattle.std.proofs.Common.{◌≡◌, ◌<◌, length, rules, refl, ap, sym, ◌∙◌}
+use Rattle.std.proofs.Common.{◌≡◌, ◌<◌, length, rules, refl, ap, ◌∙◌}
 use Rattle.units.specs.Text.{fields_of}
 use Rattle.bidtests.specs.Verdicts.{Silent}
 use Rattle.bidtests.specs.Standing.{Standing, counted, unlisted}
 use Rattle.bidtests.specs.CharactersFile.{characters_line, row_of_fields}
 use Rattle.bidtests.specs.FileKinds.{unit_by}
 use Rattle.bidtests.proofs.LineSays.{not_empty, comes-silent, comes-row}
-use Rattle.bidtests.proofs.sheet.Sheet.characters_line.Goals as goal
+use Rattle.bidtests.proofs.sheet.Sheet.judge_characters_line.Goals as goal
 
 -- the sheet as it was, with no list in force
 unlisted-is : (s t : Standing) → s ≡ t → unlisted s ≡ unlisted t
@@ -23,6 +23,6 @@ returns-else-is_empty c =
     let e : characters_line (unit_by c.args.tables.now) c.args.line.now ≡ row_of_fields (unit_by c.args.tables.now) (fields_of c.content-content.result.now) =
     comes-row _ c.args.line.now _ c.content-content.ensures.content c.requires some in
     record {
-      fault = rw e c.characters.ensures.fault;
-      standing = λ h. rw e (c.characters.ensures.standing h ∙ ap (counted (row_of_fields (unit_by c.args.tables.now) (fields_of c.content-content.result.now))) (unlisted-is _ _ c.self.view_is));
+      fault = rw e c.judge_characters.ensures.fault;
+      standing = λ h. rw e (c.judge_characters.ensures.standing h ∙ ap (counted (row_of_fields (unit_by c.args.tables.now) (fields_of c.content-content.result.now))) (unlisted-is _ _ c.self.view_is));
     }
