@@ -1,5 +1,5 @@
 // Claims compared with layouts.
-ghost use Rattle.std.specs.Prelude.{◌≡◌, ◌≤◌, ◌+◌, ◌++◌, ℕ, List, None, Some, [], ◌∷◌, drop, length, map, nat_eq, MatchOption, IfSome};
+ghost use Rattle.std.specs.Prelude.{◌≡◌, ◌≤◌, ◌+◌, ◌++◌, ℕ, List, None, Some, [], ◌∷◌, drop, length, map, nat_eq, MatchOption, IfSome, IsSome};
 ghost use Rattle.std.specs.Option.{option_map};
 ghost use Rattle.units.specs.Layout.{all_orders};
 ghost use Rattle.units.specs.declared.class.Class.{Class};
@@ -98,7 +98,8 @@ enum Comparison {
 /// The direction that gives the paragraph of a text of one paragraph the level that it has, whatever its classes are.
 #[tactic(auto, unfolding(units::specs::Isolates::para_level_of))]
 fn direction_of(paras: &[ParaLevel]) -> Option<Direction>
-    ensures { IfSome result (λ direction. (classes : List Class) → map level_of_para paras.now ≡ para_level_of classes direction ∷ []) }
+    ensures level { IfSome result (λ direction. (classes : List Class) → map level_of_para paras.now ≡ para_level_of classes direction ∷ []) }
+    ensures one { length paras.now ≡ 1 → IsSome result }
 {
     match paras {
         [ParaLevel::Zero] => Some(Direction::Ltr),

@@ -12,4 +12,4 @@ returns-in-None-clause-compares c =
     let right : IsRight (claim_of c.args.claim) c.args.direction = search rules in
     let paras : map level_of_para c.para_levels-in-None.result.now ≡ para_levels_of c.args.claim.text.now c.args.direction =
     c.para_levels-in-None.ensures ∙ ap (λ (v : TextLayout). v.paras) c.in-Ok.ensures.laid_out in
-    (right, also-right (claim_of c.args.claim) c.args.direction c.direction_of.result (map level_of_para c.para_levels-in-None.result.now) paras c.direction_of.ensures right)
+    (right, also-right (claim_of c.args.claim) c.args.direction c.direction_of.result (map level_of_para c.para_levels-in-None.result.now) paras c.direction_of.ensures.level right)
