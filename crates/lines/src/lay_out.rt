@@ -20,7 +20,7 @@ pub struct TooLong;
 /// Lays out a text under a direction (P1 to L2), broken into lines. No memory is taken.
 ///
 /// `TooLong` is answered exactly if the text is longer than the room; the scratch can then be used as before. It takes at least
-/// `6 * n` steps on a text of n units that it lays out, and at most `578 * n`, whatever the text, the direction and the breaks
+/// `6 * n` steps on a text of n units that it lays out, and at most `577 * n`, whatever the text, the direction and the breaks
 /// are, and whatever was laid out or refused before.
 pub fn lay_out<'s, L: Ledger>(
     room: &'s mut Scratch,
@@ -34,7 +34,7 @@ pub fn lay_out<'s, L: Ledger>(
     ensures too_long { IsErr result ↔ (room_of room.old < length text.now) }
     ensures laid_out { IfOk result (λ layout. view_of layout ≡ layout_of text.now direction breaks.now.positions) }
     ensures at_least { IfOk result (λ layout. steps.old + 6 * length text.now ≤ steps.new) }
-    ensures at_most { steps.new ≤ steps.old + 578 * length text.now }
+    ensures at_most { steps.new ≤ steps.old + 577 * length text.now }
 {
     if text.len() > room.room() {
         return Err(TooLong);

@@ -95,7 +95,7 @@ impl Scratch {
 
     /// Room for texts of up to `n` units, which must not be more than `MOST`.
     pub fn with_room(alloc: Global, n: usize) -> Result<Scratch, RoomFault>
-        ensures too_big { (result ≡ Err RoomFault.TooBig) ↔ (MOST < n) }
+        ensures too_big { (result ≡ Err RoomFault.TooBig) ↔ (16777216 < n) }
         ensures made { IfOk result (λ scratch. room_of scratch ≡ n) }
     {
         if n > MOST {
@@ -150,7 +150,7 @@ impl Scratch {
         ensures filled { IsFilled self.new }
         ensures layout { layout_in self.new ≡ layout_of text.now direction breaks.now.positions }
         ensures at_least { steps.old + 6 * length text.now ≤ steps.new }
-        ensures at_most { steps.new ≤ steps.old + 578 * length text.now }
+        ensures at_most { steps.new ≤ steps.old + 577 * length text.now }
     {
         let paragraphs = resolve_text(
             text,
