@@ -6,6 +6,7 @@ ghost use Rattle.units.specs.declared.class.Class.{Class};
 ghost use Rattle.explicit.specs.IsolateMaps.{room, HasPartners, HasSides, IsFilledFrom};
 
 use std::alloc::Global;
+use std::boxed::BoxedSlice;
 use std::marker::Model;
 use std::sync::ledger::Ledger;
 use units::bracket::Unit;
@@ -17,23 +18,24 @@ use units::steps::Steps;
 /// class directly inside each isolate, and outside of all, is R or AL. Its room is made once and filled in place.
 #[derive(Drop)]
 pub struct IsolateMap {
-    partners: Vec<OptionalPosition>,
+    partners: BoxedSlice<OptionalPosition>,
     // The stack of open initiators, in use while partners are matched.
-    openers: Vec<u32>,
+    openers: BoxedSlice<u32>,
     // Behind each position, whether the next strong class of the isolate there is R or AL.
-    sides: Vec<bool>,
+    sides: BoxedSlice<bool>,
     outside: bool,
 }
 
 impl Model for IsolateMap {
     ghost use Rattle.std.specs.Prelude.{◌≡◌, ◌≤◌, length};
+    ghost use Rattle.std.specs.Box.{boxed_slice_items};
     ghost use Rattle.explicit.specs.IsolateMaps.{Isolates, FitsTogether};
 
     ghost Value = { Isolates };
 
-    ghost view = { λ map. record { partners = map.partners.items; sides = map.sides.items; outside = map.outside } };
+    ghost view = { λ map. record { partners = boxed_slice_items map.partners; sides = boxed_slice_items map.sides; outside = map.outside } };
 
-    ghost invariant = { λ map. FitsTogether (length map.partners.items) (length map.openers.items) (length map.sides.items) };
+    ghost invariant = { λ map. FitsTogether (length (boxed_slice_items map.partners)) (length (boxed_slice_items map.openers)) (length (boxed_slice_items map.sides)) };
 }
 
 impl IsolateMap {
@@ -45,9 +47,9 @@ impl IsolateMap {
         if n >= u32::MAX as usize {
             return Err(Memory);
         }
-        let partners = vec![in alloc; OptionalPosition::none(); n]?;
-        let openers = vec![in alloc; 0; n]?;
-        let sides = vec![in alloc; false; n]?;
+        let partners = vec![in alloc; OptionalPosition::none(); n]?.into_boxed_slice();
+        let openers = vec![in alloc; 0; n]?.into_boxed_slice();
+        let sides = vec![in alloc; false; n]?.into_boxed_slice();
         Ok(IsolateMap {
             partners,
             openers,

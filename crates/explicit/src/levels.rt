@@ -12,6 +12,7 @@ ghost use Rattle.explicit.specs.StatusStacks.{size_of};
 use crate::isolates::IsolateMap;
 use crate::status::StatusStack;
 use std::alloc::Global;
+use std::boxed::BoxedSlice;
 use std::marker::Model;
 use std::sync::ledger::Ledger;
 use units::bracket::Unit;
@@ -25,18 +26,19 @@ use units::steps::Steps;
 /// which is empty between calls.
 #[derive(Drop)]
 pub struct Explicit {
-    places: Vec<Option<(Level, Class)>>,
+    places: BoxedSlice<Option<(Level, Class)>>,
     stack: StatusStack,
 }
 
 impl Model for Explicit {
     ghost use Rattle.std.specs.Prelude.{◌≡◌, ℕ, List, Option};
+    ghost use Rattle.std.specs.Box.{boxed_slice_items};
     ghost use Rattle.units.specs.declared.class.Class.{Class};
     ghost use Rattle.explicit.specs.StatusStacks.{size_of};
 
     ghost Value = { List (Option (ℕ × Class)) };
 
-    ghost view = { λ explicit. explicit.places.items };
+    ghost view = { λ explicit. boxed_slice_items explicit.places };
 
     ghost invariant = { λ explicit. size_of explicit.stack ≡ 0 };
 }
@@ -46,7 +48,7 @@ impl Explicit {
     pub fn with_room(alloc: Global, n: usize) -> Result<Explicit, Memory>
         ensures { IfOk result (λ explicit. length explicit ≡ n) }
     {
-        let places = vec![in alloc; None; n]?;
+        let places = vec![in alloc; None; n]?.into_boxed_slice();
         Ok(Explicit {
             places,
             stack: StatusStack::empty(),

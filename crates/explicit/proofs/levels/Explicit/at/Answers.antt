@@ -1,5 +1,6 @@
 use Rattle.std.proofs.Common.{◌≡◌, ◌≤◌, length, get_or, ap, sym, subst, ◌∙◌, arith}
 use Rattle.std.specs.Prelude.{Option, ℕ, None, IfSome}
+use Rattle.std.specs.Box.{boxed_slice_items}
 use Rattle.std.proofs.lemmas.List.{get_or_read}
 use Rattle.units.specs.Explicit.{explicit_at}
 use Rattle.units.specs.declared.class.Class.{Class}
@@ -8,8 +9,8 @@ use Rattle.explicit.proofs.levels.Explicit.at.Goals as goal
 
 pub returns-clause-within : goal.returns-clause-within
 returns-clause-within c = λ cs para h low inside.
-    let n : length c.self.inside.places.items ≡ length c.args.self.now = ap length c.self.view_is in
-    let read : c.index.result.now ≡ get_or c.self.inside.places.items c.args.p None = get_or_read c.self.inside.places.items c.args.p c.index.result.now (omega (arith, n, c.requires)) c.index.ensures None in
+    let n : length (boxed_slice_items c.self.inside.places) ≡ length c.args.self.now = ap length c.self.view_is in
+    let read : c.index.result.now ≡ get_or (boxed_slice_items c.self.inside.places) c.args.p None = get_or_read (boxed_slice_items c.self.inside.places) c.args.p c.index.result.now (omega (arith, n, c.requires)) c.index.ensures None in
     let found : c.index.result.now ≡ explicit_at cs para c.args.p = read ∙ ap (λ places. get_or places c.args.p None) c.self.view_is ∙ h.at c.args.p inside in
     let P : Option (ℕ × Class) → Type 0 = λ place. IfSome place (λ x. x.0 ≤ 125) in
     subst P (sym found) (level-at_most cs para c.args.p (omega (arith, low)))
