@@ -1,4 +1,5 @@
-ghost use Rattle.std.specs.Prelude.{◌≡◌, ◌+◌, ◌*◌, ◌<◌, ◌≤◌, [], Some, map, take, length, slice_get, vec_len, IfOk, sum_by};
+ghost use Rattle.std.specs.Prelude.{◌≡◌, ◌+◌, ◌*◌, ◌<◌, ◌≤◌, [], Some, map, take, length, slice_get, IfOk, sum_by};
+ghost use Rattle.std.specs.Box.{boxed_slice_items, boxed_slice_len};
 ghost use Rattle.units.specs.Classes.{classes_of};
 ghost use Rattle.units.specs.Isolates.{level_of_para};
 ghost use Rattle.units.specs.Paragraphs.{SeparatorOnlyLast};
@@ -19,6 +20,7 @@ use crate::whole::fill_whole;
 use explicit::isolates::IsolateMap;
 use explicit::levels::Explicit;
 use std::alloc::Global;
+use std::boxed::BoxedSlice;
 use std::marker::Model;
 use std::sync::ledger::Ledger;
 use units::bracket::Unit;
@@ -33,11 +35,11 @@ use units::steps::Steps;
 /// `count` heads are in use, and so are the first `size` of what is kept for each position.
 #[derive(Drop)]
 pub struct Sequences {
-    links: Vec<OptionalPosition>,
-    ends: Vec<Class>,
-    joined: Vec<bool>,
-    heads: Vec<Head>,
-    column: Vec<u32>,
+    links: BoxedSlice<OptionalPosition>,
+    ends: BoxedSlice<Class>,
+    joined: BoxedSlice<bool>,
+    heads: BoxedSlice<Head>,
+    column: BoxedSlice<u32>,
     count: usize,
     size: usize,
 }
@@ -45,9 +47,9 @@ pub struct Sequences {
 impl Model for Sequences {
     ghost Value = { SequencesView };
 
-    ghost view = { λ s. record { all = map (view_of s.column.items s.size) (take s.count s.heads.items); extent = s.size; room = vec_len s.links } };
+    ghost view = { λ s. record { all = map (view_of (boxed_slice_items s.column) s.size) (take s.count (boxed_slice_items s.heads)); extent = s.size; room = boxed_slice_len s.links } };
 
-    ghost invariant = { λ s. HasRoom s.links.items s.ends.items s.joined.items s.heads.items s.column.items s.count s.size };
+    ghost invariant = { λ s. HasRoom (boxed_slice_items s.links) (boxed_slice_items s.ends) (boxed_slice_items s.joined) (boxed_slice_items s.heads) (boxed_slice_items s.column) s.count s.size };
 }
 
 /// Fills the columns, of which the paragraph takes the fronts. Answers how many sequences there are.
@@ -92,11 +94,11 @@ impl Sequences {
             eos: Class::L,
         };
         Ok(Sequences {
-            links: vec![in alloc; OptionalPosition::none(); n]?,
-            ends: vec![in alloc; Class::L; n]?,
-            joined: vec![in alloc; false; n]?,
-            heads: vec![in alloc; unused; n]?,
-            column: vec![in alloc; 0; n]?,
+            links: vec![in alloc; OptionalPosition::none(); n]?.into_boxed_slice(),
+            ends: vec![in alloc; Class::L; n]?.into_boxed_slice(),
+            joined: vec![in alloc; false; n]?.into_boxed_slice(),
+            heads: vec![in alloc; unused; n]?.into_boxed_slice(),
+            column: vec![in alloc; 0; n]?.into_boxed_slice(),
             count: 0,
             size: 0,
         })

@@ -1,5 +1,6 @@
 use Rattle.std.proofs.Common.{arith, ◌≡◌, ◌≤◌, ◌∙◌, ap, sym, length, ℕ}
 use Rattle.std.specs.Prelude.{map, take}
+use Rattle.std.specs.Box.{boxed_slice_items, boxed_slice_len}
 use Rattle.units.specs.Classes.{classes_of}
 use Rattle.units.specs.Isolates.{level_of_para}
 use Rattle.units.specs.Runs.{LeveledView, leveled_of, size_of}
@@ -18,13 +19,13 @@ invariant_of-self g c =
     let size : size_of t ≡ length c.args.para.now = size-of_paragraph c.args.para.now para in
     let f = c.fill_whole-self-inside in
     let old = c.self.inside in
-    let l : length f.new.links ≡ old.links.len = f.auto.links ∙ c.deref_mut.ensures.len in
-    let d : length f.new.heads ≡ old.heads.len = f.auto.heads ∙ c.deref_mut-2.ensures.len in
-    let n : length f.new.column ≡ old.column.len = f.auto.column ∙ c.deref_mut-3.ensures.len in
-    let l' : length old.links.items ≡ old.links.len = sym (ap length c.deref_mut.ensures.value) ∙ c.deref_mut.ensures.len in
-    let d' : length old.heads.items ≡ old.heads.len = sym (ap length c.deref_mut-2.ensures.value) ∙ c.deref_mut-2.ensures.len in
-    let n' : length old.column.items ≡ old.column.len = sym (ap length c.deref_mut-3.ensures.value) ∙ c.deref_mut-3.ensures.len in
-    let kept : HaveLength old.links.len f.new.links old.ends.items old.joined.items f.new.heads f.new.column = record {
+    let l : length f.new.links ≡ boxed_slice_len old.links = f.auto.links ∙ c.deref_mut.ensures.len in
+    let d : length f.new.heads ≡ boxed_slice_len old.heads = f.auto.heads ∙ c.deref_mut-2.ensures.len in
+    let n : length f.new.column ≡ boxed_slice_len old.column = f.auto.column ∙ c.deref_mut-3.ensures.len in
+    let l' : length (boxed_slice_items old.links) ≡ boxed_slice_len old.links = sym (ap length c.deref_mut.ensures.value) ∙ c.deref_mut.ensures.len in
+    let d' : length (boxed_slice_items old.heads) ≡ boxed_slice_len old.heads = sym (ap length c.deref_mut-2.ensures.value) ∙ c.deref_mut-2.ensures.len in
+    let n' : length (boxed_slice_items old.column) ≡ boxed_slice_len old.column = sym (ap length c.deref_mut-3.ensures.value) ∙ c.deref_mut-3.ensures.len in
+    let kept : HaveLength (boxed_slice_len old.links) f.new.links (boxed_slice_items old.ends) (boxed_slice_items old.joined) f.new.heads f.new.column = record {
       small = omega (arith, c.self.invariant.small);
       links_fit = l;
       ends_fit = omega (arith, c.self.invariant.ends_fit);
@@ -32,13 +33,13 @@ invariant_of-self g c =
       heads_fit = omega (arith, c.self.invariant.heads_fit);
       column_fit = omega (arith, c.self.invariant.column_fit);
     } in
-    let fit : size_of t ≤ old.links.len = omega (arith, size, c.requires.room, ap (λ (s : SequencesView). s.room) c.self.view_is) in
+    let fit : size_of t ≤ boxed_slice_len old.links = omega (arith, size, c.requires.room, ap (λ (s : SequencesView). s.room) c.self.view_is) in
     rw (
-      put_back _ f.new.links old.links.items l,
-      put_back _ f.new.heads old.heads.items d,
-      put_back _ f.new.column old.column.items n,
+      put_back _ f.new.links (boxed_slice_items old.links) l,
+      put_back _ f.new.heads (boxed_slice_items old.heads) d,
+      put_back _ f.new.column (boxed_slice_items old.column) n,
       ← size,
-    ) (filled_room f.ensures.filled (leveled (classes_of c.args.para.now) para (level_of_para-low c.args.level)) old.links.len old.ends.items old.joined.items kept fit)
+    ) (filled_room f.ensures.filled (leveled (classes_of c.args.para.now) para (level_of_para-low c.args.level)) (boxed_slice_len old.links) (boxed_slice_items old.ends) (boxed_slice_items old.joined) kept fit)
 
 pub returns-clause-all : goal.returns-clause-all
 returns-clause-all g c =
@@ -46,6 +47,6 @@ returns-clause-all g c =
     let old = c.self.inside in
     let size : size_of (leveled_of (classes_of c.args.para.now) (level_of_para c.args.level)) ≡ length c.args.para.now = size-of_paragraph c.args.para.now (level_of_para c.args.level) in
     rw (
-      put_back _ f.new.heads old.heads.items (f.auto.heads ∙ c.deref_mut-2.ensures.len),
-      put_back _ f.new.column old.column.items (f.auto.column ∙ c.deref_mut-3.ensures.len),
+      put_back _ f.new.heads (boxed_slice_items old.heads) (f.auto.heads ∙ c.deref_mut-2.ensures.len),
+      put_back _ f.new.column (boxed_slice_items old.column) (f.auto.column ∙ c.deref_mut-3.ensures.len),
     ) (ap (λ (k : ℕ). map (view_of f.new.column k) (take f.result f.new.heads)) (sym size) ∙ filled_views f.ensures.filled)
