@@ -1,4 +1,5 @@
 ghost use Rattle.std.specs.Prelude.{◌≡◌, ◌<◌, ◌≤◌, ◌+◌, ◌*◌, ◌^◌, length, map, take};
+ghost use Rattle.std.specs.Box.{boxed_slice_items};
 ghost use Rattle.units.specs.Classes.{classes_of};
 ghost use Rattle.units.specs.Isolates.{level_of_para};
 ghost use Rattle.units.specs.Layout.{lines_of};
@@ -15,6 +16,7 @@ use crate::resets::reset_text;
 use crate::resolving::resolve_text;
 use resolve::paragraph::Resolver;
 use std::alloc::Global;
+use std::boxed::BoxedSlice;
 use std::marker::Brand;
 use std::sync::ledger::{Blank, Ledger};
 use units::bracket::Unit;
@@ -42,17 +44,18 @@ struct Used {
     filled: Filled,
 }
 
-/// Room for the layout of a text, to be used again and again: 59 bytes for each unit of room, and 8 more.
+/// Room for the layout of a text, to be used again and again: 59 bytes for each unit of room, and 8 more. Its columns are boxed slices,
+/// which don't grow.
 #[derive(Drop)]
 pub struct Scratch {
     room: usize,
     used: Used,
     resolver: Resolver,
-    paras: Vec<ParaLevel>,
-    levels: Vec<Option<Level>>,
-    orders: Vec<usize>,
-    bounds: Vec<Bound>,
-    ghost fits: { HasRoom room resolver (length paras.items) (length levels.items) (length orders.items) (length bounds.items) },
+    paras: BoxedSlice<ParaLevel>,
+    levels: BoxedSlice<Option<Level>>,
+    orders: BoxedSlice<usize>,
+    bounds: BoxedSlice<Bound>,
+    ghost fits: { HasRoom room resolver (length (boxed_slice_items paras)) (length (boxed_slice_items levels)) (length (boxed_slice_items orders)) (length (boxed_slice_items bounds)) },
     ghost in_use: { IsWithin room used.units used.paragraphs used.filled.lines used.filled.positions },
 }
 
@@ -119,13 +122,14 @@ impl Scratch {
                 },
             },
             resolver: Resolver::with_room(alloc, n)?,
-            paras: vec![in alloc; ParaLevel::Zero; n]?,
-            levels: vec![in alloc; None; n]?,
-            orders: vec![in alloc; 0; n]?,
+            paras: vec![in alloc; ParaLevel::Zero; n]?.into_boxed_slice(),
+            levels: vec![in alloc; None; n]?.into_boxed_slice(),
+            orders: vec![in alloc; 0; n]?.into_boxed_slice(),
             bounds: vec![in alloc; Bound {
                 position: 0,
                 order: 0
-            }; n + 1]?,
+            }; n + 1]?
+            .into_boxed_slice(),
         })
     }
 
