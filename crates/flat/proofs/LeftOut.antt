@@ -10,7 +10,7 @@ use Rattle.units.specs.declared.class.Class.{Class}
 use Rattle.units.specs.declared.class.Class.TheVariants.{EN, AN}
 use Rattle.flat.specs.IdleRules.{is_arabic_letter, is_direction, is_european_number, is_number, is_number_separator, FailsForBrought, HasNone}
 use Rattle.flat.proofs.IdleRules.{after_w1-idle, after_w2-idle, after_w3-idle, after_w4-idle, after_w5-idle, after_w6-idle, after_w7-idle}
-use Rattle.flat.proofs.Absences.{after_w1-none, after_w2-none, after_w3-none, after_w4-none, after_w5-none, after_w6-none, after_w2-letterless, after_w4-numberless, after_w5-numberless}
+use Rattle.flat.proofs.Absences.{letters_fail, after_w1-none, after_w2-none, after_w3-none, after_w4-none, after_w5-none, after_w6-none, after_w2-letterless, after_w4-numberless, after_w5-numberless}
 use Rattle.flat.specs.declared.targets.Targets.{Targets}
 use Rattle.flat.specs.Targets.{AreTargetsOf, by_targets, only_if}
 
@@ -72,9 +72,6 @@ numbers_fail = record { left = refl; right = refl; neutral = refl }
 
 european_fail : FailsForBrought is_european_number
 european_fail = record { left = refl; right = refl; neutral = refl }
-
-letters_fail : FailsForBrought is_arabic_letter
-letters_fail = record { left = refl; right = refl; neutral = refl }
 
 separators_fail : FailsForBrought is_number_separator
 separators_fail = record { left = refl; right = refl; neutral = refl }
