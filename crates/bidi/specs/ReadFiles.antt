@@ -1,5 +1,5 @@
 -- Files that were read, by their names, and the tables that three of them state.
-use Rattle.std.specs.Prelude.{◌≡◌, ℕ, ◌^◌, List, [], ◌∷◌, codes}
+use Rattle.std.specs.Prelude.{ℕ, ◌^◌, List, [], ◌∷◌, codes}
 use Rattle.std.specs.List.{concat}
 use Rattle.ucdfiles.specs.ClassFile.{StatesClasses}
 use Rattle.ucdfiles.specs.PairFiles.{StatesBrackets, StatesMirrors}

@@ -1,4 +1,4 @@
-use Rattle.std.proofs.Common.{◌≡◌, ℕ, List, Option, Result, Ok, Err, IfOk, OnOk, refl}
+use Rattle.std.proofs.Common.{ℕ, List, Option, Result, Ok, Err, IfOk, OnOk, refl}
 use Rattle.ucdfiles.specs.Tables.{TablesOf}
 use Rattle.bidtests.specs.CharactersFile.{characters_verdict}
 use Rattle.bidtests.specs.FileKinds.{unit_by}
