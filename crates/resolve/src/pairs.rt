@@ -9,6 +9,7 @@ use crate::openers::{Opener, STACK_SIZE, close};
 use arrayvec::ArrayVec;
 use sequences::sequence::Sequence;
 use std::alloc::Global;
+use std::boxed::BoxedSlice;
 use std::marker::Model;
 use std::sync::ledger::Ledger;
 use units::bracket::{Bracket, Unit};
@@ -32,19 +33,20 @@ fn bracket_of(class: Class, unit: Unit) -> Bracket
 /// Contracts see that table. Beside it stands the stack of open brackets, which is empty between calls.
 #[derive(Drop)]
 pub struct Pairs {
-    closers: Vec<OptionalPosition>,
+    closers: BoxedSlice<OptionalPosition>,
     stack: ArrayVec<Opener, STACK_SIZE>,
 }
 
 impl Model for Pairs {
     ghost use Rattle.std.specs.Prelude.{Option, List, ℕ};
+    ghost use Rattle.std.specs.Box.{boxed_slice_items};
     ghost use Rattle.resolve.specs.Pairs.{HasRoomForPairs};
 
     ghost Value = { List (Option ℕ) };
 
-    ghost view = { λ pairs. pairs.closers.items };
+    ghost view = { λ pairs. boxed_slice_items pairs.closers };
 
-    ghost invariant = { λ pairs. HasRoomForPairs pairs.closers.items pairs.stack.items };
+    ghost invariant = { λ pairs. HasRoomForPairs (boxed_slice_items pairs.closers) pairs.stack.items };
 }
 
 impl Pairs {
@@ -56,7 +58,7 @@ impl Pairs {
         if n >= u32::MAX as usize {
             return Err(Memory);
         }
-        let closers = vec![in alloc; OptionalPosition::none(); n]?;
+        let closers = vec![in alloc; OptionalPosition::none(); n]?.into_boxed_slice();
         Ok(Pairs {
             closers,
             stack: ArrayVec::new(),

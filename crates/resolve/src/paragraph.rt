@@ -23,6 +23,7 @@ use flat::targets::Targets;
 use sequences::paragraph::Sequences;
 use sequences::sequence::Sequence;
 use std::alloc::Global;
+use std::boxed::BoxedSlice;
 use std::marker::Model;
 use std::sync::ledger::Ledger;
 use units::bracket::Unit;
@@ -38,20 +39,21 @@ pub struct Resolver {
     explicit: Explicit,
     sequences: Sequences,
     pairs: Pairs,
-    before: Vec<Class>,
-    classes: Vec<Class>,
+    before: BoxedSlice<Class>,
+    classes: BoxedSlice<Class>,
 }
 
 impl Model for Resolver {
     ghost use Rattle.std.specs.Prelude.{ℕ, length};
+    ghost use Rattle.std.specs.Box.{boxed_slice_items};
     ghost use Rattle.explicit.specs.IsolateMaps.{room};
     ghost use Rattle.resolve.specs.Resolvers.{HasRoom};
 
     ghost Value = { ℕ };
 
-    ghost view = { λ r. length r.before.items };
+    ghost view = { λ r. length (boxed_slice_items r.before) };
 
-    ghost invariant = { λ r. HasRoom (length r.before.items) (room r.isolates) (length r.explicit) r.sequences.room (length r.pairs) (length r.classes.items) };
+    ghost invariant = { λ r. HasRoom (length (boxed_slice_items r.before)) (room r.isolates) (length r.explicit) r.sequences.room (length r.pairs) (length (boxed_slice_items r.classes)) };
 }
 
 /// The class that the weak rules begin with: the current one, or BN where X9 removes the position.
@@ -238,8 +240,8 @@ impl Resolver {
             explicit: Explicit::with_room(alloc, n)?,
             sequences: Sequences::with_room(alloc, n)?,
             pairs: Pairs::with_room(alloc, n)?,
-            before: vec![in alloc; Class::BN; n]?,
-            classes: vec![in alloc; Class::BN; n]?,
+            before: vec![in alloc; Class::BN; n]?.into_boxed_slice(),
+            classes: vec![in alloc; Class::BN; n]?.into_boxed_slice(),
         })
     }
 
