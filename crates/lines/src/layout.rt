@@ -1,8 +1,8 @@
 ghost use Rattle.lines.specs.Bounds.{AreBounds};
 
 use crate::bounds::Bound;
-use crate::mirror::Mirrors;
 use crate::shown::Shown;
+use ucdfiles::mirror_table::MirrorTable;
 use units::level::{Level, ParaLevel};
 
 /// One line of a text.
@@ -33,6 +33,7 @@ impl<'s> Layout<'s> {
     ghost use Rattle.std.specs.List.{All};
     ghost use Rattle.units.specs.Isolates.{level_of_para};
     ghost use Rattle.units.specs.Reordering.{shown_of};
+    ghost use Rattle.ucdfiles.specs.Tables.{glyph_at};
     ghost use Rattle.lines.specs.Bounds.{AreBounds, Follows, line_between, lines_in};
     ghost use Rattle.lines.specs.Layouts.{view_of, no_line, IsLineAt};
     ghost use Rattle.lines.specs.Showing.{shown_left};
@@ -108,15 +109,10 @@ impl<'s> Layout<'s> {
 
     /// The characters of the line with the number `k` from left to right, each whose level is odd as its mirror image, where it has
     /// one (L4); `chars` are the characters of the whole text.
-    pub fn shown<'a, M: Mirrors>(
-        &'a self,
-        mirrors: &'a M,
-        chars: &'a [char],
-        k: usize,
-    ) -> Shown<'a, M>
+    pub fn shown<'a>(&'a self, mirrors: &'a MirrorTable, chars: &'a [char], k: usize) -> Shown<'a>
         requires line { k < length (view_of self.now).lines }
         requires chars { length chars.now ≡ length (view_of self.now).levels }
-        ensures { shown_left M.images result ≡ shown_of (M.images mirrors.now) (view_of self.now).levels chars.now (slice_index_or (view_of self.now).lines k no_line).order }
+        ensures { shown_left result ≡ shown_of (glyph_at mirrors.now) (view_of self.now).levels chars.now (slice_index_or (view_of self.now).lines k no_line).order }
     {
         let line = self.line(k);
         Shown::new(mirrors, self.levels, chars, line.order)

@@ -7,7 +7,6 @@ pub mod filling;
 pub mod laws;
 pub mod lay_out;
 pub mod layout;
-pub mod mirror;
 pub mod order;
 pub mod resets;
 mod resolving;

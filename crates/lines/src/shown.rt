@@ -2,13 +2,13 @@ ghost use Rattle.std.specs.Prelude.{◌≡◌, ◌<◌, length};
 ghost use Rattle.std.specs.List.{All};
 ghost use Rattle.units.specs.Reordering.{is_odd_level, shown_at, shown_of};
 
-use crate::mirror::Mirrors;
+use ucdfiles::mirror_table::MirrorTable;
 use units::level::Level;
 
 /// The characters of a line from left to right, mirrored where their level is odd.
 #[derive(Drop)]
-pub struct Shown<'a, M> {
-    mirrors: &'a M,
+pub struct Shown<'a> {
+    mirrors: &'a MirrorTable,
     levels: &'a [Option<Level>],
     chars: &'a [char],
     order: &'a [usize],
@@ -25,18 +25,19 @@ fn is_odd(level: Option<Level>) -> bool
     }
 }
 
-impl<'a, M: Mirrors> Shown<'a, M> {
+impl<'a> Shown<'a> {
+    ghost use Rattle.ucdfiles.specs.Tables.{glyph_at};
     ghost use Rattle.lines.specs.Showing.{shown_left};
 
     pub(crate) fn new(
-        mirrors: &'a M,
+        mirrors: &'a MirrorTable,
         levels: &'a [Option<Level>],
         chars: &'a [char],
         order: &'a [usize],
-    ) -> Shown<'a, M>
+    ) -> Shown<'a>
         requires leveled { All (λ p. p < length levels.now) order.now }
         requires written { length chars.now ≡ length levels.now }
-        ensures { shown_left M.images result ≡ shown_of (M.images mirrors.now) levels.now chars.now order.now }
+        ensures { shown_left result ≡ shown_of (glyph_at mirrors.now) levels.now chars.now order.now }
     {
         Shown {
             mirrors,
@@ -49,26 +50,26 @@ impl<'a, M: Mirrors> Shown<'a, M> {
     /// The character at a position as it is shown.
     fn char_at(&self, position: usize) -> char
         requires { position < length self.now.levels.now }
-        ensures { result ≡ shown_at (M.images self.now.mirrors.now) self.now.levels.now self.now.chars.now position }
+        ensures { result ≡ shown_at (glyph_at self.now.mirrors.now) self.now.levels.now self.now.chars.now position }
     {
         let c = self.chars[position];
         if is_odd(self.levels[position]) {
-            self.mirrors.mirror(c).unwrap_or(c)
+            self.mirrors.glyph(c).unwrap_or(c)
         } else {
             c
         }
     }
 }
 
-impl<'a, M: Mirrors> Iterator for Shown<'a, M> {
+impl<'a> Iterator for Shown<'a> {
     ghost use Rattle.std.specs.Iterator.{YieldsFirst, item_count};
     ghost use Rattle.lines.specs.Showing.{shown_left};
 
     type Item = char;
 
-    ghost next_gives = { YieldsFirst (shown_left M.images) };
+    ghost next_gives = { YieldsFirst shown_left };
 
-    ghost remaining = { item_count (shown_left M.images) };
+    ghost remaining = { item_count shown_left };
 
     fn next(&mut self) -> Option<char> {
         let (first, others) = self.order.split_first()?;

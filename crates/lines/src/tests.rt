@@ -540,7 +540,7 @@ fn units_of_chars(alloc: Global, tables: &Tables, chars: &[char]) -> Result<Vec<
 }
 
 /// Compares what is shown.
-fn gives(rt: &impl Abort, mut shown: Shown<MirrorTable>, expected: &[char]) {
+fn gives(rt: &impl Abort, mut shown: Shown, expected: &[char]) {
     for c in expected {
         assert_eq!(rt; shown.next(), Some(*c));
     }

@@ -11,4 +11,4 @@ abbrev pub invariant-loop-position : goal.invariant-loop-position
 invariant-loop-position g l =
     let view = view_of l.fn.layout in
     HasShown (glyph_at l.fn.mirrors) view.levels l.fn.chars l.fn.text (g.W.Write.contents l.initial.w) (g.W.Write.contents l.w)
-    (slice_index_or view.lines l.fn.k no_line).order (iter_rest (zip_first l.position-iterator)) (shown_left glyph_at (zip_second l.position-iterator))
+    (slice_index_or view.lines l.fn.k no_line).order (iter_rest (zip_first l.position-iterator)) (shown_left (zip_second l.position-iterator))
