@@ -122,6 +122,14 @@ fn sources_are_read_to_the_end(rt: HostRuntime) -> Result<(), Fail> {
     Ok(())
 }
 
+#[test]
+fn making_a_judge_succeeds(rt: HostRuntime) -> Result<(), Fail> {
+    let alloc = rt.alloc();
+    let tables = tables(alloc)?;
+    assert!(&rt; Judge::for_characters(alloc, &tables).is_ok());
+    Ok(())
+}
+
 /// Passes whichever growth is refused: in making the judge it is answered as memory, and later there is none.
 #[test]
 fn no_growth_comes_after_making(rt: HostRuntime) {
