@@ -61,7 +61,7 @@ fn expect(rt: &impl Abort, alloc: Global, bytes: &[u8], verdict: Verdict) -> Res
     Ok(())
 }
 
-/// The third line has 65,535 bytes: 32,767 times `L`, with single blanks between, then `;2`.
+/// The third line has 65,535 bytes: 32,767 times `L`, with single blanks between, then `;2`, and LF.
 fn feed_long_row(judge: &mut Judge<'_>) {
     for byte in b"@Levels: 0\n@Reorder: 0\n" {
         judge.feed(&[*byte]);
@@ -70,7 +70,7 @@ fn feed_long_row(judge: &mut Judge<'_>) {
         judge.feed(b"L");
         judge.feed(b" ");
     }
-    for byte in b"L;2" {
+    for byte in b"L;2\n" {
         judge.feed(&[*byte]);
     }
 }
