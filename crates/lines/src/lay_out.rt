@@ -8,7 +8,8 @@ ghost use Rattle.lines.specs.Scratches.{room_of};
 use crate::breaks::Breaks;
 use crate::layout::Layout;
 use crate::scratch::Scratch;
-use std::sync::ledger::Ledger;
+use std::marker::Brand;
+use std::sync::ledger::{Blank, Ledger};
 use units::bracket::Unit;
 use units::level::Direction;
 use units::steps::Steps;
@@ -58,6 +59,6 @@ pub fn lay_out_uncounted<'s>(
     if room.room() < text.len() {
         return Err(TooLong);
     }
-    room.fill_uncounted(text, direction, breaks);
+    room.fill_counting::<Brand>(text, direction, breaks, Blank::new(1));
     Ok(room.frozen().layout())
 }

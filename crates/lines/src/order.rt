@@ -2,8 +2,7 @@ ghost use Rattle.std.specs.Prelude.{◌≡◌, ◌≤◌, ◌<◌, ◌+◌, ◌-
 ghost use Rattle.units.specs.Reordering.{line_order};
 ghost use Rattle.lines.specs.Turning.{AreTurns, Has, HasLevel, IsTurned, next_or_zero, odd_or_most, remaining};
 
-use std::marker::Brand;
-use std::sync::ledger::{Blank, Ledger};
+use std::sync::ledger::Ledger;
 use units::level::Level;
 use units::steps::Steps;
 
@@ -164,40 +163,4 @@ pub fn write_order<L: Ledger>(
     let count = write_remaining(levels, start, end, order, steps);
     reorder(levels, start, end, &mut order[..count], steps);
     count
-}
-
-fn write_counting<L: Ledger>(
-    levels: &[Option<Level>],
-    start: usize,
-    end: usize,
-    order: &mut [usize],
-    blank: Blank,
-) -> usize
-    requires line { start ≤ end }
-    requires within { end ≤ length levels.now }
-    requires room { end - start ≤ length order.old }
-    requires name { blank.name ≡ L.name }
-    requires parts { blank.parts ≡ L.parts }
-    requires some { 0 < blank.parts }
-    ensures order { take result order.new ≡ line_order levels.now start end }
-    ensures count { result ≤ end - start }
-{
-    let mut steps = Steps::<L>::new(blank);
-    write_order(levels, start, end, order, &mut steps)
-}
-
-/// What `write_order` does, for a caller that counts no steps.
-pub fn write_order_uncounted(
-    levels: &[Option<Level>],
-    start: usize,
-    end: usize,
-    order: &mut [usize],
-) -> usize
-    requires line { start ≤ end }
-    requires within { end ≤ length levels.now }
-    requires room { end - start ≤ length order.old }
-    ensures order { take result order.new ≡ line_order levels.now start end }
-    ensures count { result ≤ end - start }
-{
-    write_counting::<Brand>(levels, start, end, order, Blank::new(1))
 }

@@ -17,7 +17,6 @@ use crate::resolving::resolve_text;
 use resolve::paragraph::Resolver;
 use std::alloc::Global;
 use std::boxed::BoxedSlice;
-use std::marker::Brand;
 use std::sync::ledger::{Blank, Ledger};
 use units::bracket::Unit;
 use units::level::{Direction, Level, ParaLevel};
@@ -180,7 +179,8 @@ impl Scratch {
         };
     }
 
-    fn fill_counting<L: Ledger>(
+    /// What `fill` does, by a count that ends with the call.
+    pub(crate) fn fill_counting<L: Ledger>(
         &mut self,
         text: &[Unit],
         direction: Direction,
@@ -198,17 +198,6 @@ impl Scratch {
     {
         let mut steps = Steps::<L>::new(blank);
         self.fill(text, direction, breaks, &mut steps);
-    }
-
-    /// What `fill` does, for a caller that counts no steps.
-    pub(crate) fn fill_uncounted(&mut self, text: &[Unit], direction: Direction, breaks: &Breaks)
-        requires len { breaks.now.len ≡ length text.now }
-        requires fits { length text.now ≤ room_of self.old }
-        ensures room { room_of self.new ≡ room_of self.old }
-        ensures filled { IsFilled self.new }
-        ensures layout { layout_in self.new ≡ layout_of text.now direction breaks.now.positions }
-    {
-        self.fill_counting::<Brand>(text, direction, breaks, Blank::new(1));
     }
 
     /// The scratch as it is, for as long as it is lent.

@@ -4,7 +4,7 @@ ghost use Rattle.std.specs.Prelude.{◌≡◌, ◌<◌};
 use crate::breaks::{BreakFault, Breaks};
 use crate::lay_out::lay_out_uncounted;
 use crate::layout::Layout;
-use crate::order::write_order_uncounted;
+use crate::order::write_order;
 use crate::resets::reset_text;
 use crate::scratch::{RoomFault, Scratch};
 use crate::shown::Shown;
@@ -165,6 +165,15 @@ fn names_the_first_fault(rt: HostRuntime) {
 
 #[test]
 fn writes_the_order_of_a_line_in_its_text(rt: HostRuntime) {
+    orders_a_line::<Brand>(&rt, Blank::new(1));
+}
+
+fn orders_a_line<K: Ledger>(rt: &impl Abort, blank: Blank)
+    requires name { blank.name ≡ K.name }
+    requires parts { blank.parts ≡ K.parts }
+    requires some { 0 < blank.parts }
+{
+    let mut steps = Steps::<K>::new(blank);
     let levels = [
         Level::new(1),
         Level::new(1),
@@ -173,7 +182,7 @@ fn writes_the_order_of_a_line_in_its_text(rt: HostRuntime) {
         Level::new(0),
     ];
     let mut order = [0; 5];
-    let count = write_order_uncounted(&levels, 1, 5, &mut order);
+    let count = write_order(&levels, 1, 5, &mut order, &mut steps);
     assert_eq!(rt; count, 3);
     assert_eq!(rt; &order[..3], [3, 1, 4].as_slice());
 }
