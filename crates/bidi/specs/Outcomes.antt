@@ -47,7 +47,7 @@ abbrev pub Fails : Option (List ℕ) → Option (List ℕ) → Request → Fault
 Fails before after (Judge Characters None file) fault = (fault ≡ TablesNeeded) × (after ≡ before)
 Fails before after _ fault = fault_status fault ≡ 3
 
--- words that are a request come to what it asks for or fail; else help is written, or nothing is and the words are refused
+-- words that are a request come to what it asks for or fail; else help was asked for, or the words are refused and nothing is written
 abbrev pub ComesTo : (List ℕ → ℕ → List ℕ → Type 0) → Option (List ℕ) → Option (List ℕ) → Result Request Error → Result Outcome Fault → Type 0
 ComesTo WasRead before after (Ok request) (Ok outcome) = IsDone WasRead before after request outcome
 ComesTo WasRead before after (Ok request) (Err fault) = Fails before after request fault
