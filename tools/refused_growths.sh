@@ -7,6 +7,7 @@
 # The tests that matter, one for each crate (others fail as they will, since they take no refused memory for an answer):
 #   bidi      answers_as_ever_or_says_that_memory_was_refused
 #   bidtests  no_growth_comes_after_making
+#   lines     no_growth_comes_after_making
 #   ucdfiles  says_that_memory_was_refused
 # Each N takes some ten seconds and more. Not part of `rt ci`. It ends with 0 where every run that was tried passed.
 set -u
@@ -18,6 +19,7 @@ only=()
 case $crate in
     bidi) test_name=answers_as_ever_or_says_that_memory_was_refused ;;
     bidtests) test_name=no_growth_comes_after_making only=(-- making) ;;
+    lines) test_name=no_growth_comes_after_making ;;
     ucdfiles) test_name=says_that_memory_was_refused ;;
     *) echo "$crate has no test made for refused memory" >&2; exit 2 ;;
 esac
