@@ -1,6 +1,0 @@
-use Rattle.std.proofs.Common.{◌≡◌, ◌+◌}
-use Rattle.resolve.proofs.Separators.{SeparatorPass}
-use Rattle.resolve.proofs.weak.separators.Given as goal
-
-abbrev pub invariant-loop-k : goal.invariant-loop-k
-invariant-loop-k g l = SeparatorPass l.positions l.initial.classes l.classes l.before l.k × (l.steps ≡ l.initial.steps + l.k)
