@@ -23,9 +23,9 @@ use Rattle.sequences.proofs.Fits.{length-flat, sequences_fit}
 use Rattle.sequences.proofs.Forward.{successor_later}
 use Rattle.sequences.proofs.Links.{followed_rises, rising_positions}
 use Rattle.sequences.proofs.Once.{sequences_hold_once}
-use Rattle.resolve.proofs.OwnMarks.{current-own}
+use Rattle.resolve.proofs.OwnClasses.{current-own}
 use Rattle.resolve.specs.Covering.{AreApart, HasLevelsBy}
-use Rattle.resolve.specs.Pairs.{MarksAreOwn}
+use Rattle.resolve.specs.Sought.{AreOwn}
 
 at_most_one : (b : Bool) → (if b then 1 else 0) ≤ 1
 at_most_one true = omega arith
@@ -73,9 +73,9 @@ module _ (us : List BidiUnit) (para : ℕ) (low : para ≤ 1) (only : SeparatorO
         fit = omega (arith, length-flat (sequences_of leveled_here), sequences_fit leveled_here l (nested us para only), size_here);
       }
 
--- no override makes a mark
-pub marks_are_kept : (us : List BidiUnit) (para : ℕ) (ps : List ℕ) → MarksAreOwn ps us (current_of (explicit_of (classes_of us) para))
-marks_are_kept us para ps = λ p within. current-own (classes_of us) para p
+-- but for overrides and what is removed, the current classes are the own ones
+pub classes_are_kept : (us : List BidiUnit) (para : ℕ) (ps : List ℕ) → AreOwn ps us (current_of (explicit_of (classes_of us) para))
+classes_are_kept us para ps = λ p within. current-own (classes_of us) para p
 
 -- the front of what was found is what the rules give
 pub found_front : (places : List (Option (ℕ × Class))) (cs : List Class) (para : ℕ) → HoldsLevels places cs para → take (length cs) places ≡ explicit_of cs para
@@ -105,8 +105,8 @@ module _ (us : List BidiUnit) (para : ℕ) (places : List (Option (ℕ × Class)
       let n : length (classes_of us) ≡ length us = length-map us (λ (u : BidiUnit). u.class) in
       ap current_of (ap (λ (k : ℕ). take k places) (sym n) ∙ found_front places (classes_of us) para holds)
 
-  pub found_marks : (ps : List ℕ) → MarksAreOwn ps us (current_of (take (length us) places))
-  found_marks ps = subst (MarksAreOwn ps us) (sym front) (marks_are_kept us para ps)
+  pub found_own : (ps : List ℕ) → AreOwn ps us (current_of (take (length us) places))
+  found_own ps = subst (AreOwn ps us) (sym front) (classes_are_kept us para ps)
 
   pub found_levels : (all : List SequenceView) (levels : List (Option ℕ)) → all ≡ sequences_of (leveled_of (classes_of us) para) → length levels ≡ length us →
       HasLevelsBy us (current_of (take (length us) places)) all levels → levels ≡ resolved_levels us para

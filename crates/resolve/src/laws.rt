@@ -1,11 +1,12 @@
 //! Laws for the layers above: of bracket pairs (BD16), and of the classes before W1.
-ghost use Rattle.std.specs.Prelude.{◌≡◌, ℕ, List, true};
+ghost use Rattle.std.specs.Prelude.{◌≡◌, ℕ, List, false, true};
 ghost use Rattle.units.specs.Classes.{class_at, is_nonspacing};
 ghost use Rattle.units.specs.Explicit.{explicit_of};
 ghost use Rattle.units.specs.Layout.{current_of};
 ghost use Rattle.units.specs.declared.bracket.Bracket.{Bracket};
 ghost use Rattle.units.specs.declared.class.Class.{Class};
 ghost use Rattle.resolve.specs.PairLaws.{PairsAreOrdered, PairsNest, PairsAreShallow, InsidesAreFew, InsidesAreFewByOpener};
+ghost use Rattle.resolve.specs.Sought.{is_imposed};
 
 /// A pair that counts ends after it begins, within the sequence.
 pub fn pairs_are_ordered()
@@ -26,6 +27,11 @@ pub fn pairs_are_shallow()
 pub fn insides_are_few()
     ensures by_pair { (bs : List Bracket) → InsidesAreFew bs }
     ensures by_opener { (bs : List Bracket) → InsidesAreFewByOpener bs }
+{}
+
+/// The classes after X1 to X8 are the own ones, but for the L or R of an override and the BN of a position that is removed.
+pub fn classes_are_own()
+    ensures { (cs : List Class) (para p : ℕ) → is_imposed (class_at (current_of (explicit_of cs para)) p) ≡ false → class_at (current_of (explicit_of cs para)) p ≡ class_at cs p }
 {}
 
 /// What is a mark after X1 to X8 is one by its own class: no override makes a mark.

@@ -1,5 +1,8 @@
-use Rattle.resolve.proofs.OwnMarks.{current-own}
+use Rattle.units.specs.Classes.{class_at}
+use Rattle.units.specs.Explicit.{explicit_of}
+use Rattle.units.specs.Layout.{current_of}
+use Rattle.resolve.proofs.OwnClasses.{current-own, mark-own}
 use Rattle.resolve.proofs.laws.marks_are_own.Goals as goal
 
 pub returns : goal.returns
-returns c = current-own
+returns c = λ cs para p. mark-own (class_at (current_of (explicit_of cs para)) p) (class_at cs p) (current-own cs para p)

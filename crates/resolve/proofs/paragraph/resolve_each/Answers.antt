@@ -14,8 +14,8 @@ pub resolve_sequence-requires-clause-copy : goal.resolve_sequence-requires-claus
 resolve_sequence-requires-clause-copy g c =
     copied c.requires.apart c.get-sequence.ensures.value (omega arith) c.loop-k.classes c.args.before.now c.loop-k.invariant.covered.kept
 
-pub resolve_sequence-requires-clause-marks : goal.resolve_sequence-requires-clause-marks
-resolve_sequence-requires-clause-marks g c = λ p h. c.requires.marks p (stands_in_all c.requires.apart c.get-sequence.ensures.value (omega arith) p h)
+pub resolve_sequence-requires-clause-own : goal.resolve_sequence-requires-clause-own
+resolve_sequence-requires-clause-own g c = λ p h. c.requires.own p (stands_in_all c.requires.apart c.get-sequence.ensures.value (omega arith) p h)
 
 pub loop-k-preserved : goal.loop-k-preserved
 loop-k-preserved g c = record {

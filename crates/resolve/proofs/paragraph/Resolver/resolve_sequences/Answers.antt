@@ -5,7 +5,7 @@ use Rattle.units.specs.Runs.{SequenceView}
 use Rattle.units.specs.declared.level.ParaLevel.{ParaLevel}
 use Rattle.resolve.specs.Covering.{AreApart, positions_in}
 use Rattle.sequences.proofs.FilledFrom.{level_of_para-low}
-use Rattle.resolve.proofs.AllSequences.{sequences_are_apart, found_marks, found_levels}
+use Rattle.resolve.proofs.AllSequences.{sequences_are_apart, found_own, found_levels}
 use Rattle.resolve.proofs.paragraph.Resolver.resolve_sequences.Goals as goal
 
 pub resolve_found-requires-clause-apart : goal.resolve_found-requires-clause-apart
@@ -14,9 +14,9 @@ resolve_found-requires-clause-apart g c =
     let P : List SequenceView → Type 0 = λ all. AreApart (length c.args.para.now) all in
     subst P (sym c.fill-2.ensures.all) (sequences_are_apart c.args.para.now (level_of_para level) (level_of_para-low level) c.requires.separators)
 
-pub resolve_found-requires-clause-marks : goal.resolve_found-requires-clause-marks
-resolve_found-requires-clause-marks g c =
-    found_marks c.args.para.now (level_of_para c.para_level-level.result) c.explicit_levels.new.out c.explicit_levels.ensures.found (positions_in c.fill-2.new.self.all)
+pub resolve_found-requires-clause-own : goal.resolve_found-requires-clause-own
+resolve_found-requires-clause-own g c =
+    found_own c.args.para.now (level_of_para c.para_level-level.result) c.explicit_levels.new.out c.explicit_levels.ensures.found (positions_in c.fill-2.new.self.all)
 
 pub returns-clause-levels : goal.returns-clause-levels
 returns-clause-levels g c =

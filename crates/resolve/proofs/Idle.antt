@@ -1,0 +1,104 @@
+-- Where no class is one that W1 to W7 can change, they change nothing.
+use Rattle.std.specs.Prelude.{ℕ, Bool, true, false, ◌||◌, ◌<◌, ◌≤◌, ◌≡◌, List, [], ◌∷◌, length, Contains, slice_index, refl}
+use Rattle.std.specs.List.{All, list_any}
+use Rattle.std.proofs.Common.{arith, ap, sym, ◌∙◌, inl, inr, get_or}
+use Rattle.std.proofs.lemmas.Bool.{cases_Bool, cases_lt, or_parts}
+use Rattle.std.proofs.lemmas.List.{length-map, get_or-map, get_or_past}
+use Rattle.std.proofs.lemmas.List.Folds.{list_any_at, list_any_none}
+use Rattle.units.specs.Classes.{class_at, classes_at, classes_of}
+use Rattle.units.specs.Weak.{by_w1, by_w2, by_w3, by_w6, by_w7, is_any, after_weak}
+use Rattle.units.specs.declared.bracket.Unit.{Unit as BidiUnit}
+use Rattle.units.specs.declared.class.Class.{Class}
+use Rattle.units.specs.declared.class.Class.TheVariants.{L, R, AL, EN, ES, ET, CS, NSM, BN, ON}
+use Rattle.resolve.specs.Ahead.{first_class}
+use Rattle.resolve.specs.Contexts.{context_of, by_w4_w5, settled_by, context_past, by_context}
+use Rattle.resolve.specs.Fronts.{by_front, front_past, by_fronts, is_no_terminator}
+use Rattle.resolve.specs.Sought.{may_weaken, is_imposed, AreOwn}
+use Rattle.resolve.specs.declared.front.Front.{Front}
+use Rattle.resolve.specs.declared.weak.Context.{Context}
+use Rattle.resolve.proofs.Gathered.{contains_index, length-classes_at}
+use Rattle.resolve.proofs.Walked.{walked}
+use Rattle.resolve.proofs.Walks.{after_weak-walked}
+
+by_w1-idle : (base c : Class) → may_weaken c ≡ false → by_w1 base c ≡ c
+by_w1-idle base NSM h = cc
+by_w1-idle base c h = refl
+
+by_w2-idle : (strong c : Class) → may_weaken c ≡ false → by_w2 strong c ≡ c
+by_w2-idle AL EN h = cc
+by_w2-idle AL c h = refl
+by_w2-idle strong c h = refl
+
+by_w3-idle : (c : Class) → may_weaken c ≡ false → by_w3 c ≡ c
+by_w3-idle AL h = cc
+by_w3-idle c h = refl
+
+by_w4_w5-idle : (before settled c next ahead : Class) → may_weaken c ≡ false → by_w4_w5 before settled c next ahead ≡ c
+by_w4_w5-idle before settled ES next ahead h = cc
+by_w4_w5-idle before settled CS next ahead h = cc
+by_w4_w5-idle before settled ET next ahead h = cc
+by_w4_w5-idle before settled c next ahead h = refl
+
+by_w6-idle : (c : Class) → may_weaken c ≡ false → by_w6 c ≡ c
+by_w6-idle ES h = cc
+by_w6-idle ET h = cc
+by_w6-idle CS h = cc
+by_w6-idle c h = refl
+
+by_w7-idle : (strong c : Class) → may_weaken c ≡ false → by_w7 strong c ≡ c
+by_w7-idle L EN h = cc
+by_w7-idle L c h = refl
+by_w7-idle strong c h = refl
+
+by_context-idle : (x : Context) (c : Class) (cs : List Class) → may_weaken c ≡ false → by_context x c cs ≡ c
+by_context-idle x c cs h =
+    let ds : List Class = by_fronts (front_past x.front c) cs in
+    let next : Class = first_class is_any ds ON in
+    let ahead : Class = first_class is_no_terminator ds ON in
+    let strong : Class = (front_past x.front c).strong in
+    let front : by_front x.front c ≡ c =
+    ap (λ (d : Class). by_w3 (by_w2 x.front.strong d)) (by_w1-idle x.front.base c h) ∙ ap by_w3 (by_w2-idle x.front.strong c h) ∙ by_w3-idle c h in
+    ap (λ (d : Class). by_w7 strong (by_w6 (by_w4_w5 x.before x.settled d next ahead))) front
+    ∙ ap (λ (d : Class). by_w7 strong (by_w6 d)) (by_w4_w5-idle x.before x.settled c next ahead h)
+    ∙ ap (by_w7 strong) (by_w6-idle c h)
+    ∙ by_w7-idle strong c h
+
+walked-idle : (x : Context) (cs : List Class) → list_any may_weaken cs ≡ false → walked by_context context_past x cs ≡ cs
+walked-idle x [] none = refl
+walked-idle x (c ∷ cs) none =
+    let both = or_parts (may_weaken c) (list_any may_weaken cs) none in
+    ap (λ (d : Class). d ∷ walked by_context context_past (context_past x c cs) cs) (by_context-idle x c cs both.0)
+    ∙ ap (λ (ds : List Class). c ∷ ds) (walked-idle (context_past x c cs) cs both.1)
+
+-- W1 to W7 over such classes
+pub after_weak-idle : (sos : Class) (cs : List Class) → list_any may_weaken cs ≡ false → after_weak sos cs ≡ cs
+after_weak-idle sos cs none = after_weak-walked sos cs ∙ walked-idle (context_of sos) cs none
+
+-- what is imposed is no such class
+imposed-idle : (c : Class) → is_imposed c ≡ true → may_weaken c ≡ false
+imposed-idle L h = refl
+imposed-idle R h = refl
+imposed-idle BN h = refl
+imposed-idle c h = cc
+
+own-idle : (cs : List Class) (p : ℕ) → list_any may_weaken cs ≡ false → may_weaken (class_at cs p) ≡ false
+own-idle cs p none =
+    elim (cases_lt p (length cs)) [
+      | inl within ↦ elim (cases_Bool (may_weaken (class_at cs p))) [
+        | inl here ↦ (let some : list_any may_weaken cs ≡ true = list_any_at may_weaken cs p L within here in absurd (cc))
+        | inr fails ↦ fails
+      ]
+      | inr past ↦ ap may_weaken (get_or_past cs p L past)
+    ]
+
+-- the current classes at a sequence's positions, where no own class of the paragraph is such a one
+pub current-idle : (us : List BidiUnit) (before : List Class) (ps : List ℕ) → AreOwn ps us before → list_any may_weaken (classes_of us) ≡ false →
+    list_any may_weaken (classes_at before ps) ≡ false
+current-idle us before ps own none = list_any_none may_weaken (classes_at before ps) (λ k d lt.
+    let h : k < length ps = omega (arith, length-classes_at before ps) in
+    let p : ℕ = slice_index ps k in
+    let here : may_weaken (class_at before p) ≡ false = elim (cases_Bool (is_imposed (class_at before p))) [
+      | inl imposed ↦ imposed-idle (class_at before p) imposed
+      | inr not_imposed ↦ ap may_weaken (own p (contains_index ps k h) not_imposed) ∙ own-idle (classes_of us) p none
+    ] in
+    ap may_weaken (get_or-map (class_at before) ps k 0 d h) ∙ here)
