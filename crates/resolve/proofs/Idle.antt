@@ -12,9 +12,9 @@ use Rattle.units.specs.declared.class.Class.{Class}
 use Rattle.units.specs.declared.class.Class.TheVariants.{L, R, AL, EN, ES, ET, CS, NSM, BN, ON}
 use Rattle.resolve.specs.Ahead.{first_class}
 use Rattle.resolve.specs.Contexts.{context_of, by_w4_w5, settled_by, context_past, by_context}
-use Rattle.resolve.specs.Fronts.{by_front, front_past, by_fronts, is_no_terminator}
+use Rattle.resolve.specs.ThroughW3.{by_w1_to_w3, preceding_past, all_by_w1_to_w3, is_no_terminator}
 use Rattle.resolve.specs.Sought.{may_weaken, is_imposed, AreOwn}
-use Rattle.resolve.specs.declared.front.Front.{Front}
+use Rattle.resolve.specs.declared.preceding.Preceding.{Preceding}
 use Rattle.resolve.specs.declared.weak.Context.{Context}
 use Rattle.resolve.proofs.Gathered.{contains_index, length-classes_at}
 use Rattle.resolve.proofs.Walked.{walked}
@@ -52,13 +52,13 @@ by_w7-idle strong c h = refl
 
 by_context-idle : (x : Context) (c : Class) (cs : List Class) → may_weaken c ≡ false → by_context x c cs ≡ c
 by_context-idle x c cs h =
-    let ds : List Class = by_fronts (front_past x.front c) cs in
+    let ds : List Class = all_by_w1_to_w3 (preceding_past x.preceding c) cs in
     let next : Class = first_class is_any ds ON in
     let ahead : Class = first_class is_no_terminator ds ON in
-    let strong : Class = (front_past x.front c).strong in
-    let front : by_front x.front c ≡ c =
-    ap (λ (d : Class). by_w3 (by_w2 x.front.strong d)) (by_w1-idle x.front.base c h) ∙ ap by_w3 (by_w2-idle x.front.strong c h) ∙ by_w3-idle c h in
-    ap (λ (d : Class). by_w7 strong (by_w6 (by_w4_w5 x.before x.settled d next ahead))) front
+    let strong : Class = (preceding_past x.preceding c).strong in
+    let preceding : by_w1_to_w3 x.preceding c ≡ c =
+    ap (λ (d : Class). by_w3 (by_w2 x.preceding.strong d)) (by_w1-idle x.preceding.base c h) ∙ ap by_w3 (by_w2-idle x.preceding.strong c h) ∙ by_w3-idle c h in
+    ap (λ (d : Class). by_w7 strong (by_w6 (by_w4_w5 x.before x.settled d next ahead))) preceding
     ∙ ap (λ (d : Class). by_w7 strong (by_w6 d)) (by_w4_w5-idle x.before x.settled c next ahead h)
     ∙ ap (by_w7 strong) (by_w6-idle c h)
     ∙ by_w7-idle strong c h

@@ -48,7 +48,7 @@ placed-own : (removed separator : Bool) (para level : ℕ) (own : Class) (overri
 placed-own true separator para level own override h m = cc
 placed-own false true para level own override h m = refl
 placed-own false false para level own None h m = refl
-placed-own false false para level own (Some c) h m = absurd (both_ways (is_imposed c) h m)
+placed-own false false para level own (Some c) h m = absurd (both_ways (is_imposed c) m h)
 
 explicit-own : (cs : List Class) (para p : ℕ) → is_imposed (placed (explicit_at cs para p)) ≡ false → placed (explicit_at cs para p) ≡ class_at cs p
 unfolding explicit_at

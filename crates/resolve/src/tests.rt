@@ -4,6 +4,8 @@ ghost use Rattle.std.specs.List.{list_any};
 ghost use Rattle.units.specs.Classes.{is_separator};
 ghost use Rattle.units.specs.Paragraphs.{SeparatorOnlyLast};
 
+use crate::implicit::implicit;
+use crate::neutral::neutral;
 use crate::pairs::{Pairs, bracket_pairs};
 use crate::paragraph::Resolver;
 use crate::weak::weak;
@@ -75,7 +77,19 @@ fn levels_from<L: Ledger>(
     Ok(levels)
 }
 
-/// Checks the levels of a paragraph: a digit for each position, `x` where it is removed.
+/// Checks levels: a digit for each position, `x` where it is removed.
+fn assert_shown(rt: &impl Abort, levels: &[Option<Level>], shown: &[u8]) {
+    assert_eq!(rt; levels.len(), shown.len());
+    for p in 0..shown.len() {
+        let digit = match levels[p] {
+            Some(level) => b'0' + level.get(),
+            None => b'x',
+        };
+        assert_eq!(rt; digit, shown[p]);
+    }
+}
+
+/// Checks the levels of a paragraph.
 fn assert_levels(
     rt: &impl Abort,
     alloc: Global,
@@ -85,22 +99,21 @@ fn assert_levels(
 ) -> Result<(), Memory> {
     assert!(rt; is_paragraph(para));
     let levels = levels_from::<Brand>(alloc, para, direction, Blank::new(1))?;
-    assert_eq!(rt; levels.len(), shown.len());
-    for p in 0..shown.len() {
-        let digit = match levels[p] {
-            Some(level) => b'0' + level.get(),
-            None => b'x',
-        };
-        assert_eq!(rt; digit, shown[p]);
-    }
+    assert_shown(rt, &levels, shown);
     Ok(())
 }
 
-/// What W1 to W7 and the search for pairs find of the first sequence of a paragraph.
+/// What the rules, one after the other, find of the first sequence of a paragraph.
 #[derive(Drop)]
 struct Found {
+    /// The classes after W7.
     after_weak: Vec<Class>,
+
+    /// The closing brackets of the pairs.
     closers: Vec<Option<usize>>,
+
+    /// The levels after I2, where there is no pair.
+    levels: Vec<Option<Level>>,
 }
 
 /// The same of a paragraph without overrides, from left to right: its current classes are its own.
@@ -133,9 +146,14 @@ fn found_from<L: Ledger>(
     for p in 0..para.len() {
         closers[p] = pairs.closer(p);
     }
+    let mut resolved = classes.clone()?;
+    neutral(&sequence, &mut resolved, &mut steps);
+    let mut levels = vec![in alloc; None; para.len()]?;
+    implicit(&sequence, &resolved, &mut levels, &mut steps);
     Ok(Found {
         after_weak: classes,
         closers,
+        levels,
     })
 }
 
@@ -151,6 +169,7 @@ fn assert_weak(
     assert!(rt; is_paragraph(&para));
     let found = found_from::<Brand>(rt, alloc, &para, Blank::new(1))?;
     assert_eq!(rt; found.after_weak.as_slice(), after_weak);
+    assert_shown(rt, &found.levels, shown);
     assert_levels(rt, alloc, &para, Direction::Ltr, shown)
 }
 

@@ -1,7 +1,7 @@
 use Rattle.std.proofs.Common.{◌≡◌, ◌+◌, ◌==◌, length, slice_index_or}
 use Rattle.resolve.specs.Stack.{topmost_of, blank}
 use Rattle.units.specs.Positions.{last_below}
-use Rattle.resolve.proofs.openers.topmost.Given as goal
+use Rattle.resolve.proofs.bracket_stack.topmost.Given as goal
 
 -- none from i on has the key
 abbrev pub invariant-loop-i : goal.invariant-loop-i
