@@ -10,7 +10,7 @@ use units::bracket::Unit;
 use units::level::Direction;
 
 /// How many lines the layout of a text has, 0 where there is no room for it.
-fn line_count(text: &[Unit], room: &mut Scratch) -> usize {
+pub fn line_count(text: &[Unit], room: &mut Scratch) -> usize {
     let Ok(breaks) = Breaks::new(&[], text.len()) else {
         return 0;
     };

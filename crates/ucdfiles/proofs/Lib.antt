@@ -13,5 +13,6 @@ pub mod PairLines
 pub mod PairValues
 pub mod Numbers
 pub mod Keyed
+pub mod Neutral
 pub mod Painting
 pub mod Staging

@@ -1,10 +1,13 @@
 -- What the tables give a code point.
-use Rattle.std.specs.Prelude.{Option, None, ℕ}
+use Rattle.std.specs.Prelude.{Option, None, ℕ, List, ◌≡◌, ◌≢◌, ◌≤◌}
+use Rattle.std.specs.List.{find}
 use Rattle.units.specs.declared.class.Class.{Class}
-use Rattle.units.specs.declared.class.Class.TheVariants.{L}
+use Rattle.units.specs.declared.class.Class.TheVariants.{L, ON}
 use Rattle.units.specs.declared.bracket.Bracket.{Bracket}
 use Rattle.units.specs.declared.bracket.Bracket.TheVariants.{No}
 use Rattle.units.specs.declared.bracket.Unit.{Unit as BidiUnit}
+use Rattle.ucdfiles.specs.declared.span.Span.{Span}
+use Rattle.ucdfiles.specs.Spans.{holds}
 use Rattle.ucdfiles.specs.Stages.{Stages, stage_at}
 
 -- the class that a table gives a code point
@@ -28,3 +31,11 @@ pub record TablesOf : Type 0 where
 -- what the algorithm knows of a code point by the tables
 abbrev pub unit_at : TablesOf → ℕ → BidiUnit
 unit_at tables c = record { class = class_at tables.classes c; bracket = bracket_at tables.brackets c }
+
+-- a code point that none of these spans holds is no bracket
+abbrev pub AreAllBrackets : List (Span Bracket) → Stages Bracket → Type 0
+AreAllBrackets spans table = (c : ℕ) → c ≤ 0x10FFFF → find (holds c) spans ≡ None → bracket_at table c ≡ No
+
+-- a code point whose class is another than ON is no bracket
+abbrev pub AreNeutral : Stages Class → Stages Bracket → Type 0
+AreNeutral classes brackets = (c : ℕ) → c ≤ 0x10FFFF → class_at classes c ≢ ON → bracket_at brackets c ≡ No

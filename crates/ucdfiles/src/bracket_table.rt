@@ -6,6 +6,7 @@ use crate::keys::keyed;
 use crate::pair_line::bracket_line;
 use crate::reading::{LineTable, read_lines};
 use crate::sided_bracket::SidedBracket;
+use crate::span::Span;
 use crate::statements::Statements;
 use crate::two_stage::TwoStage;
 use std::alloc::Global;
@@ -33,21 +34,25 @@ impl LineTable for Statements<SidedBracket> {
 #[derive(Drop)]
 pub struct BracketTable {
     brackets: TwoStage<Bracket>,
+    spans: Vec<Span<Bracket>>,
 }
 
 impl Model for BracketTable {
     ghost use Rattle.ucdfiles.specs.Stages.{Stages};
+    ghost use Rattle.ucdfiles.specs.Tables.{AreAllBrackets};
     ghost use Rattle.units.specs.declared.bracket.Bracket.{Bracket as BracketOf};
 
     ghost Value = { Stages BracketOf };
 
     ghost view = { λ t. t.brackets };
+
+    ghost invariant = { λ t. AreAllBrackets t.spans.items t.brackets };
 }
 
 impl BracketTable {
     ghost use Rattle.ucdfiles.specs.PairFiles.{bracket_fault, StatesBrackets};
     ghost use Rattle.ucdfiles.specs.Reading.{IsFault};
-    ghost use Rattle.ucdfiles.specs.Tables.{bracket_at};
+    ghost use Rattle.ucdfiles.specs.Tables.{bracket_at, AreAllBrackets};
 
     /// The bracket table that the source's bytes state, read to the source's end; or the fault of the least faulty line. `Read` is answered
     /// exactly if the source has failed, and then no line that is complete is faulty, and none that has begun is over-long. `Memory` comes only
@@ -63,7 +68,7 @@ impl BracketTable {
             return Err(TableFault::Memory);
         };
         match TwoStage::new(alloc, &spans, &[], Bracket::No) {
-            Ok(brackets) => Ok(BracketTable { brackets }),
+            Ok(brackets) => Ok(BracketTable { brackets, spans }),
             Err(_) => Err(TableFault::Memory),
         }
     }
@@ -74,5 +79,11 @@ impl BracketTable {
         ensures { result ≡ bracket_at self.now c }
     {
         self.brackets.value(c)
+    }
+    /// The brackets, in the order of their code points: a character that none of them holds is no bracket.
+    pub fn spans(&self) -> &[Span<Bracket>]
+        ensures { AreAllBrackets result.now self.now }
+    {
+        &self.spans
     }
 }

@@ -1,11 +1,16 @@
 // The three tables together.
-ghost use Rattle.std.specs.Prelude.{◌≡◌};
+ghost use Rattle.std.specs.Prelude.{◌≡◌, true, ℕ};
+ghost use Rattle.ucdfiles.specs.Spans.{holds};
+ghost use Rattle.ucdfiles.specs.Tables.{class_at, AreNeutral};
+ghost use Rattle.units.specs.declared.class.Class.TheVariants.{ON};
 
 use crate::bracket_table::BracketTable;
 use crate::class_table::ClassTable;
 use crate::mirror_table::MirrorTable;
+use crate::span::Span;
 use std::marker::Model;
-use units::bracket::Unit;
+use units::bracket::{Bracket, Unit};
+use units::class::Class;
 
 /// The tables of the three property files.
 #[derive(Drop)]
@@ -13,14 +18,40 @@ pub struct Tables {
     classes: ClassTable,
     brackets: BracketTable,
     mirrors: MirrorTable,
+    brackets_are_neutral: bool,
 }
 
 impl Model for Tables {
-    ghost use Rattle.ucdfiles.specs.Tables.{TablesOf};
+    ghost use Rattle.std.specs.Prelude.{◌≡◌, true};
+    ghost use Rattle.ucdfiles.specs.Tables.{TablesOf, AreNeutral};
 
     ghost Value = { TablesOf };
 
     ghost view = { λ t. record { classes = t.classes; brackets = t.brackets; mirrors = t.mirrors } };
+
+    ghost invariant = { λ t. t.brackets_are_neutral ≡ true → AreNeutral t.classes t.brackets };
+}
+
+// Whether the span is one character, whose class is ON.
+fn is_neutral(classes: &ClassTable, span: &Span<Bracket>) -> bool
+    ensures { result ≡ true → (c : ℕ) → holds c span.now ≡ true → class_at classes.now c ≡ ON }
+{
+    match char::from_u32(span.first) {
+        Some(c) => span.first == span.last && matches!(classes.class(c), Class::ON),
+        None => false,
+    }
+}
+
+// Whether the class of each bracket is known to be ON, as it is in the published files.
+fn are_neutral(classes: &ClassTable, brackets: &BracketTable) -> bool
+    ensures { result ≡ true → AreNeutral classes.now brackets.now }
+{
+    for span in brackets.spans() {
+        if !is_neutral(classes, span) {
+            return false;
+        }
+    }
+    true
 }
 
 impl Tables {
@@ -30,10 +61,12 @@ impl Tables {
     pub fn new(classes: ClassTable, brackets: BracketTable, mirrors: MirrorTable) -> Self
         ensures { result ≡ record { classes = classes; brackets = brackets; mirrors = mirrors } }
     {
+        let brackets_are_neutral = are_neutral(&classes, &brackets);
         Tables {
             classes,
             brackets,
             mirrors,
+            brackets_are_neutral,
         }
     }
 
@@ -41,8 +74,15 @@ impl Tables {
     pub fn unit(&self, c: char) -> Unit
         ensures { result ≡ unit_at self.now c }
     {
+        let class = self.classes.class(c);
+        if self.brackets_are_neutral && !matches!(class, Class::ON) {
+            return Unit {
+                class,
+                bracket: Bracket::No,
+            };
+        }
         Unit {
-            class: self.classes.class(c),
+            class,
             bracket: self.brackets.bracket(c),
         }
     }

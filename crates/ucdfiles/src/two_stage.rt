@@ -1,5 +1,5 @@
 // A value for each code point, found by two loads.
-ghost use Rattle.std.specs.Prelude.{◌≡◌, ◌<◌, ◌≤◌, ◌+◌, ◌*◌, ◌%◌, ℕ, length, true, IfOk, OnOk, slice_index_or, List, ◌++◌};
+ghost use Rattle.std.specs.Prelude.{◌≡◌, false, ◌<◌, ◌≤◌, ◌+◌, ◌*◌, ◌%◌, ℕ, length, true, IfOk, OnOk, slice_index_or, List, ◌++◌};
 ghost use Rattle.std.specs.List.{find};
 ghost use Rattle.std.specs.Option.{unwrap_or};
 ghost use Rattle.ucdfiles.specs.Spans.{holds, IsRising, value_in};
@@ -33,16 +33,30 @@ impl<V> Model for TwoStage<V> {
     ghost invariant = { λ t. AreStages (record { places = t.places.items; values = t.values.items }) };
 }
 
+// Which of so many code points, from `first` on, the span holds: those from the first place that is answered up to the second.
+fn held_places<V>(span: &Span<V>, first: u32, len: usize) -> (usize, usize)
+    ensures bound { result.1 ≤ len }
+    ensures before { (k : ℕ) → k < result.0 → holds (first + k) span.now ≡ false }
+    ensures inside { (k : ℕ) → result.0 ≤ k → k < result.1 → holds (first + k) span.now ≡ true }
+    ensures behind { (k : ℕ) → result.1 ≤ k → k < len → holds (first + k) span.now ≡ false }
+{
+    if span.last < first {
+        return (0, 0);
+    }
+    let from = span.first.saturating_sub(first) as usize;
+    let to = (span.last - first) as usize + 1;
+    (from, to.min(len))
+}
+
 // Lays a span over the values of the code points from `first` on.
 fn paint<V: Copy>(block: &mut [V], first: u32, span: &Span<V>)
     requires { first + length block.old ≤ 0x110000 }
     ensures len { length block.new ≡ length block.old }
     ensures values { (k : ℕ) (d : V) → k < length block.old → slice_index_or block.new k d ≡ value_over (first + k) span.now (slice_index_or block.old k d) }
 {
-    for k in 0..block.len() {
-        if span.holds(first + k as u32) {
-            block[k] = span.value;
-        }
+    let (from, to) = held_places(span, first, block.len());
+    for k in from..to {
+        block[k] = span.value;
     }
 }
 

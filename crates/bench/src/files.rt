@@ -1,0 +1,62 @@
+//! The tables of a folder, and a text.
+
+use std::alloc::Global;
+use std::fs;
+use std::io::{self, Read};
+use ucdfiles::bracket_table::BracketTable;
+use ucdfiles::class_table::ClassTable;
+use ucdfiles::mirror_table::MirrorTable;
+use ucdfiles::tables::Tables;
+use units::reader_source::ReaderSource;
+
+/// The most bytes that are read of a table's file.
+const MOST_FILE_BYTES: u64 = 16_777_216;
+
+/// A source of the bytes of the file of this name in the folder.
+fn source<R: std::rt::Files>(
+    rt: &R,
+    alloc: Global,
+    folder: &str,
+    name: &str,
+) -> io::Result<ReaderSource<R::File>> {
+    let path = format!(in alloc; "{folder}/{name}")?;
+    Ok(ReaderSource::new(fs::open(rt, path.as_str())?, MOST_FILE_BYTES))
+}
+
+/// The tables of the three property files in the folder. A fault of any of them is said as invalid data.
+pub fn read_tables<R: std::rt::Files>(rt: &R, alloc: Global, folder: &str) -> io::Result<Tables> {
+    let mut classes = source(rt, alloc, folder, "DerivedBidiClass.txt")?;
+    let mut brackets = source(rt, alloc, folder, "BidiBrackets.txt")?;
+    let mut mirrors = source(rt, alloc, folder, "BidiMirroring.txt")?;
+    let (Ok(classes), Ok(brackets), Ok(mirrors)) = (
+        ClassTable::read(alloc, &mut classes),
+        BracketTable::read(alloc, &mut brackets),
+        MirrorTable::read(alloc, &mut mirrors),
+    ) else {
+        return Err(io::ErrorKind::InvalidData.into());
+    };
+    Ok(Tables::new(classes, brackets, mirrors))
+}
+
+/// The bytes of a file.
+fn read_bytes<R: std::rt::Files>(rt: &R, alloc: Global, file: &str) -> io::Result<Vec<u8>> {
+    let mut file = fs::open(rt, file)?;
+    let mut bytes = Vec::new(alloc);
+    let mut piece = [0; 4096];
+    for _ in 0..u64::MAX {
+        match file.read(&mut piece)? {
+            0 => break,
+            n => bytes.extend_from_slice(&piece[..n])?,
+        }
+    }
+    Ok(bytes)
+}
+
+/// The characters of a file in UTF-8.
+pub fn read_text<R: std::rt::Files>(rt: &R, alloc: Global, file: &str) -> io::Result<Vec<char>> {
+    let bytes = read_bytes(rt, alloc, file)?;
+    match str::from_utf8(&bytes) {
+        Ok(text) => Ok(text.chars().collect(alloc)?),
+        Err(_) => Err(io::ErrorKind::InvalidData.into()),
+    }
+}
