@@ -1,0 +1,4 @@
+pub mod RulePasses
+pub mod Separators
+pub mod Settles
+pub mod StepCounts
