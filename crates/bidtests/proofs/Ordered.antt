@@ -106,7 +106,7 @@ directive-ordered content =
     let second = if starts_with nat_eq content (codes "@Levels:") then levels else third in
     if-either RowOrdered (starts_with nat_eq content (codes "@Type:")) Nothing second tt
     (if-either RowOrdered (starts_with nat_eq content (codes "@Levels:")) levels third (levels-ordered (each_read level_item (items_of (drop 8 content))))
-      (if-either RowOrdered (starts_with nat_eq content (codes "@Reorder:")) order (Broken Directive) (order-ordered (each_read order_item (items_of (drop 9 content)))) tt))
+    (if-either RowOrdered (starts_with nat_eq content (codes "@Reorder:")) order (Broken Directive) (order-ordered (each_read order_item (items_of (drop 9 content)))) tt))
 
 content-ordered : (content : List ℕ) → RowOrdered (line_of_content content)
 content-ordered [] = tt

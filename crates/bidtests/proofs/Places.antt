@@ -50,8 +50,9 @@ compared same alike apart (x ∷ xs) (y ∷ ys) at =
 
 difference_unique : {A : Type 0} (xs ys : List A) (i j : ℕ) → IsFirstDifference xs ys i → IsFirstDifference xs ys j → i ≡ j
 difference_unique xs ys i j d e = elim (cases_order i j) [
-      inl same ↦ same
-    | inr other ↦ elim other [ inl less ↦ absurd (d.there (e.before i less)) | inr more ↦ absurd (e.there (d.before j more)) ] ]
+  | inl same ↦ same
+  | inr other ↦ elim other [ inl less ↦ absurd (d.there (e.before i less)) | inr more ↦ absurd (e.there (d.before j more)) ]
+]
 
 no_difference : {A : Type 0} (xs ys : List A) (i : ℕ) → xs ≡ ys → IsFirstDifference xs ys i → ⊥
 no_difference xs ys i e d = d.there (ap (λ zs. slice_get zs i) e)

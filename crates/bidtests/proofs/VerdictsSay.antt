@@ -110,13 +110,15 @@ module _ (claim : Claim) (ordered : AllPairs ComesBefore claim.directions) where
   before-wrong j e at right d has before =
       let here = contained-at claim.directions d has in
       elim (cases_order here.0 j) [
-          inl same ↦
+        | inl same ↦
             let is : d ≡ e = head_of (sym here.1 ∙ ap (λ n. slice_get claim.directions n) same ∙ at) in
             let P : Direction → Type 0 = λ x. ComesBefore x d in
             absurd (never-behind d e before (subst P is (subst (ComesBefore d) (sym is) before)))
         | inr other ↦ elim other [
-            inl less ↦ right here.0 d less here.1
-          | inr more ↦ absurd (never-behind d e before (earlier-before claim.directions ordered j here.0 e d more at here.1)) ] ]
+          | inl less ↦ right here.0 d less here.1
+          | inr more ↦ absurd (never-behind d e before (earlier-before claim.directions ordered j here.0 e d more at here.1))
+        ]
+      ]
 
   same-case : (d e : Direction) (p q : Place) → Contains claim.directions d → Contains claim.directions e
       → ((x : Direction) → Contains claim.directions x → ComesBefore x d → IsCaseRight claim x) → ((x : Direction) → Contains claim.directions x → ComesBefore x e → IsCaseRight claim x)
@@ -125,13 +127,15 @@ module _ (claim : Claim) (ordered : AllPairs ComesBefore claim.directions) where
       let i = contained-at claim.directions d hd in
       let j = contained-at claim.directions e he in
       elim (cases_order i.0 j.0) [
-          inl same ↦
+        | inl same ↦
             let is : d ≡ e = head_of (sym i.1 ∙ ap (λ n. slice_get claim.directions n) same ∙ j.1) in
             let P : Direction → Type 0 = λ x. IsWrongAt claim x q in
             (is, place-unique claim d p q wd (subst P (sym is) we))
         | inr other ↦ elim other [
-            inl less ↦ absurd (right-wrong claim d p (be d hd (earlier-before claim.directions ordered i.0 j.0 d e less i.1 j.1)) wd)
-          | inr more ↦ absurd (right-wrong claim e q (bd e he (earlier-before claim.directions ordered j.0 i.0 e d more j.1 i.1)) we) ] ]
+          | inl less ↦ absurd (right-wrong claim d p (be d hd (earlier-before claim.directions ordered i.0 j.0 d e less i.1 j.1)) wd)
+          | inr more ↦ absurd (right-wrong claim e q (bd e he (earlier-before claim.directions ordered j.0 i.0 e d more j.1 i.1)) we)
+        ]
+      ]
 
 module _ (fs : List Finding) (ordered : (k : ℕ) (f : Finding) → slice_get fs k ≡ Some f → IsOrdered f) where
   row-says : (k n : ℕ) (claim : Claim) → IsRow fs k claim → AreRight fs k → n ≡ line_number k
