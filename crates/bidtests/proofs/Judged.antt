@@ -27,7 +27,7 @@ use Rattle.bidtests.specs.Standing.{Standing, at_start, Judging, Judges, IsBehin
 use Rattle.bidtests.proofs.LineByLine.{verdict-fault, verdict-yes, behind-line, behind-none}
 use Rattle.bidtests.proofs.Lines.{lines_of-more, lines_of-empty, lines_of-rest, lines_of-over}
 
-verdict-of : (kind : Kind) (bytes : List ℕ) → verdict_of kind bytes ≡ verdict_on (findings_by kind (lines_of bytes))
+pub verdict-of : (kind : Kind) (bytes : List ℕ) → verdict_of kind bytes ≡ verdict_on (findings_by kind (lines_of bytes))
 unfolding classes_verdict characters_verdict
 verdict-of Classes bytes = refl
 verdict-of (Characters tables) bytes = refl

@@ -74,7 +74,7 @@ findings-last : (kind : Kind) (s : Standing) (lines : List (List ℕ)) (line : L
 findings-last Classes s lines line h = findings_of-last lines line ∙ ap (λ x. findings_of lines ++ x ∷ []) (said-is s lines line h.0 h.1)
 findings-last (Characters tables) s lines line h = map-append (characters_line (unit_by tables.now)) lines (line ∷ [])
 
-length-findings : (kind : Kind) (lines : List (List ℕ)) → length (findings_by kind lines) ≡ length lines
+pub length-findings : (kind : Kind) (lines : List (List ℕ)) → length (findings_by kind lines) ≡ length lines
 length-findings Classes lines = length-findings_of lines
 length-findings (Characters tables) lines = length-map lines (characters_line (unit_by tables.now))
 

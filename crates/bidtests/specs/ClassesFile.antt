@@ -33,9 +33,13 @@ names_direction bits Auto = bits % 2 == 1
 names_direction bits Ltr = bits / 2 % 2 == 1
 names_direction bits Rtl = bits / 4 == 1
 
--- the directions that a number of 1 to 7 names, in the order auto, LTR, RTL
+-- the directions in the order in which a row is judged under them
+abbrev pub directions_in_order : List Direction
+directions_in_order = Auto ∷ Ltr ∷ Rtl ∷ []
+
+-- the directions that a number of 1 to 7 names, in that order
 abbrev pub directions_of : ℕ → List Direction
-directions_of bits = filter (names_direction bits) (Auto ∷ Ltr ∷ Rtl ∷ [])
+directions_of bits = filter (names_direction bits) directions_in_order
 
 -- the directions that a bit set names: exactly one digit of 1 to 7
 abbrev pub bit_set : List ℕ → Option (List Direction)

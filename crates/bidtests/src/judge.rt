@@ -2,8 +2,9 @@
 ghost use Rattle.std.specs.Prelude.{◌≡◌, ◌≤◌, ◌++◌, ℕ, List, [], IfOk, IfSome, IsNone, length};
 ghost use Rattle.bidtests.specs.Standing.{Judges, fault_by, after_step, verdict_behind};
 ghost use Rattle.units.specs.LineAnswers.{StepIsShort};
-ghost use Rattle.units.specs.Text.{longest_line};
-ghost use Rattle.bidtests.specs.FileKinds.{verdict_of};
+ghost use Rattle.units.specs.Text.{longest_line, lines_of};
+ghost use Rattle.bidtests.specs.FileKinds.{findings_by, verdict_of};
+ghost use Rattle.bidtests.specs.Headline.{Says};
 ghost use Rattle.bidtests.specs.declared.kind.Kind.{Kind as FileKind};
 
 use crate::kind::Kind;
@@ -106,9 +107,11 @@ impl<'t> Judge<'t> {
     }
 
     /// The verdict on all bytes that were handed over, as the whole file: that of the least line that is malformed or holds a wrong
-    /// case, or yes with the numbers of rows and cases. It takes no memory and always succeeds.
+    /// case, or yes with the numbers of rows and cases. What it says of the file is so, and no other verdict would be
+    /// (`laws::verdict_law`). It takes no memory and always succeeds.
     pub fn finish(mut self) -> Verdict
-        ensures { (kind : FileKind) (b : List ℕ) → Judges kind self.entry b → result ≡ verdict_of kind b }
+        ensures verdict { (kind : FileKind) (b : List ℕ) → Judges kind self.entry b → result ≡ verdict_of kind b }
+        ensures says { (kind : FileKind) (b : List ℕ) → Judges kind self.entry b → Says (findings_by kind (lines_of b)) result }
     {
         match self.decided {
             Some(verdict) => verdict,

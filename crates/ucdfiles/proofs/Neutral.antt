@@ -1,7 +1,7 @@
 -- Brackets of class ON: no other code point is a bracket.
-use Rattle.std.proofs.Common.{◌≡◌, ◌≢◌, ◌∙◌, ◌+◌, ◌<◌, ◌≤◌, ℕ, true, None, List, [], length, get_or, refl, ap, inl, inr, arith}
+use Rattle.std.proofs.Common.{◌≡◌, ◌∙◌, ◌<◌, ◌≤◌, ℕ, true, None, List, [], length, get_or, refl, inl, inr}
+use Rattle.std.specs.List.{find}
 use Rattle.std.specs.Option.{unwrap_or}
-use Rattle.std.proofs.lemmas.Bool.{cases_lt}
 use Rattle.units.specs.declared.bracket.Bracket.{Bracket}
 use Rattle.units.specs.declared.bracket.Bracket.TheVariants.{No}
 use Rattle.units.specs.declared.class.Class.{Class}
@@ -9,22 +9,23 @@ use Rattle.units.specs.declared.class.Class.TheVariants.{ON}
 use Rattle.ucdfiles.specs.declared.span.Span.{Span}
 use Rattle.ucdfiles.specs.Spans.{holds, value_in}
 use Rattle.ucdfiles.specs.Stages.{Stages, stage_at}
-use Rattle.ucdfiles.specs.Tables.{class_at, bracket_at, AreAllBrackets, AreNeutral}
+use Rattle.ucdfiles.specs.Tables.{class_at, bracket_at, IsTableOf, AreNeutral}
 use Rattle.ucdfiles.proofs.Bools.{known}
 use Rattle.ucdfiles.proofs.Rising.{find-none}
 
--- a table made of spans has no bracket aside from them
-pub all-brackets : (spans : List (Span Bracket)) (table : Stages Bracket) → ((c : ℕ) (d : Bracket) → c ≤ 0x10FFFF → stage_at table c d ≡ unwrap_or (value_in spans [] c) No) → AreAllBrackets spans table
+-- a table made of spans
+pub is-table : (spans : List (Span Bracket)) (table : Stages Bracket) → ((c : ℕ) (d : Bracket) → c ≤ 0x10FFFF → stage_at table c d ≡ unwrap_or (value_in spans [] c) No) → IsTableOf spans table
 unfolding bracket_at
-all-brackets spans table looks c le none = looks c No le ∙ rw none refl
+is-table spans table looks c le = looks c No le
 
 -- what the spans before a place hold has class ON
 abbrev pub HoldsNeutrals : Stages Class → List (Span Bracket) → ℕ → Type 0
 HoldsNeutrals classes spans n = (k : ℕ) (d : Span Bracket) → k < n → (c : ℕ) → holds c (get_or spans k d) ≡ true → class_at classes c ≡ ON
 
-pub neutrals-all : (classes : Stages Class) (spans : List (Span Bracket)) (table : Stages Bracket) → AreAllBrackets spans table → HoldsNeutrals classes spans (length spans) → AreNeutral classes table
-neutrals-all classes spans table all neutral c le other =
-    all c le (find-none (holds c) spans (λ k d lt. elim (known (holds c (get_or spans k d))) [
+pub neutrals-all : (classes : Stages Class) (spans : List (Span Bracket)) (table : Stages Bracket) → IsTableOf spans table → HoldsNeutrals classes spans (length spans) → AreNeutral classes table
+neutrals-all classes spans table is neutral c le other =
+    let none : find (holds c) spans ≡ None = find-none (holds c) spans (λ k d lt. elim (known (holds c (get_or spans k d))) [
       | inl held ↦ absurd (other (neutral k d lt c held))
       | inr aside ↦ aside
-    ]))
+    ]) in
+    is c le ∙ rw none refl

@@ -39,20 +39,20 @@ pub struct BracketTable {
 
 impl Model for BracketTable {
     ghost use Rattle.ucdfiles.specs.Stages.{Stages};
-    ghost use Rattle.ucdfiles.specs.Tables.{AreAllBrackets};
+    ghost use Rattle.ucdfiles.specs.Tables.{IsTableOf};
     ghost use Rattle.units.specs.declared.bracket.Bracket.{Bracket as BracketOf};
 
     ghost Value = { Stages BracketOf };
 
     ghost view = { λ t. t.brackets };
 
-    ghost invariant = { λ t. AreAllBrackets t.spans.items t.brackets };
+    ghost invariant = { λ t. IsTableOf t.spans.items t.brackets };
 }
 
 impl BracketTable {
     ghost use Rattle.ucdfiles.specs.PairFiles.{bracket_fault, StatesBrackets};
     ghost use Rattle.ucdfiles.specs.Reading.{IsFault};
-    ghost use Rattle.ucdfiles.specs.Tables.{bracket_at, AreAllBrackets};
+    ghost use Rattle.ucdfiles.specs.Tables.{bracket_at, IsTableOf};
 
     /// The bracket table that the source's bytes state, read to the source's end; or the fault of the least faulty line. `Read` is answered
     /// exactly if the source has failed, and then no line that is complete is faulty, and none that has begun is over-long. `Memory` comes only
@@ -80,9 +80,9 @@ impl BracketTable {
     {
         self.brackets.value(c)
     }
-    /// The brackets, in the order of their code points: a character that none of them holds is no bracket.
-    pub fn spans(&self) -> &[Span<Bracket>]
-        ensures { AreAllBrackets result.now self.now }
+    /// The brackets, in the order of their code points: a character has the bracket of the span that holds it, and none where none does.
+    pub(crate) fn spans(&self) -> &[Span<Bracket>]
+        ensures { IsTableOf result.now self.now }
     {
         &self.spans
     }

@@ -1,4 +1,4 @@
-use Rattle.std.proofs.Common.{◌≡◌, ◌<◌, length, arith}
+use Rattle.std.proofs.Common.{arith}
 use Rattle.ucdfiles.proofs.Neutral.{neutrals-all}
 use Rattle.ucdfiles.proofs.tables.are_neutral.Goals as goal
 

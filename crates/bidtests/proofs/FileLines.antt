@@ -1,0 +1,95 @@
+-- What a line of a file comes to, by its place.
+use Rattle.std.proofs.Common.{◌≡◌, ℕ, zero, suc, ◌+◌, ◌<◌, Option, None, Some, List, [], ◌∷◌, ◌++◌, length, take, map, reverse, refl, sym, ap, subst, ◌∙◌, arith, append_assoc, append-nil}
+use Rattle.std.specs.Prelude.{if◌then◌else◌, nat_lt, slice_index_or}
+use Rattle.std.specs.List.{slice_get}
+use Rattle.std.specs.Option.{option_map}
+use Rattle.std.proofs.lemmas.List.{reverse-append, length-map}
+use Rattle.std.proofs.lemmas.Option.{slice_get-get_or, slice_get-map, slice_get_within}
+use Rattle.units.specs.Text.{longest_line, content_of, fields_of, items_of, each_read}
+use Rattle.units.specs.declared.bracket.Unit.{Unit as BidiUnit}
+use Rattle.units.specs.declared.level.Direction.{Direction}
+use Rattle.units.specs.declared.level.ParaLevel.{ParaLevel}
+use Rattle.bidtests.specs.declared.kind.Kind.{Kind}
+use Rattle.bidtests.specs.declared.kind.Kind.TheVariants.{Classes, Characters}
+use Rattle.bidtests.specs.declared.verdict.Cause.TheVariants.{LineTooLong}
+use Rattle.bidtests.specs.Verdicts.{Finding, Faulty}
+use Rattle.bidtests.specs.ClassesFile.{ClassesLine, classes_line, finding, findings_behind, levels_in_force, order_in_force, level_item, order_item}
+use Rattle.bidtests.specs.CharactersFile.{character_item, direction_field, para_field, row_claims, row_with, row_of_fields, line_of_content, characters_line}
+use Rattle.bidtests.specs.FileKinds.{unit_by, findings_by}
+use Rattle.bidtests.specs.Headline.{line_comes_to}
+use Rattle.bidtests.proofs.LineByLine.{length-findings}
+use Rattle.bidtests.proofs.Ordered.{IsOrdered, one-direction, if-either, classes-ordered}
+
+-- the lines before, the nearest of them first, and those before these
+earlier-lines : (line : ClassesLine) (lines earlier : List ClassesLine) → reverse lines ++ (line ∷ earlier) ≡ reverse (line ∷ lines) ++ earlier
+earlier-lines line lines earlier =
+    sym (ap (λ (l : List ClassesLine). l ++ earlier) (reverse-append (line ∷ []) lines) ∙ append_assoc (reverse lines) (line ∷ []) earlier)
+
+-- what a line of a classes file comes to behind those before it, the nearest of them first
+abbrev behind : List ClassesLine → List ℕ → Finding
+behind earlier line = finding (levels_in_force earlier) (order_in_force earlier) (classes_line line)
+
+found-behind : (earlier : List ClassesLine) (lines : List (List ℕ)) (k : ℕ) → k < length lines
+    → slice_get (findings_behind earlier (map classes_line lines)) k ≡ Some (behind (reverse (map classes_line (take k lines)) ++ earlier) (slice_index_or lines k []))
+found-behind earlier [] k lt = absurd (omega arith)
+found-behind earlier (line ∷ lines) zero lt = refl
+found-behind earlier (line ∷ lines) (suc k) lt =
+    found-behind (classes_line line ∷ earlier) lines k (omega arith)
+    ∙ ap (λ (l : List ClassesLine). Some (behind l (slice_index_or lines k []))) (earlier-lines (classes_line line) (map classes_line (take k lines)) earlier)
+
+pub line-found : (kind : Kind) (lines : List (List ℕ)) (k : ℕ) → k < length lines → slice_get (findings_by kind lines) k ≡ Some (line_comes_to kind lines k)
+line-found Classes lines k lt =
+    found-behind [] lines k lt
+    ∙ ap (λ (l : List ClassesLine). Some (behind l (slice_index_or lines k []))) (append-nil (reverse (map classes_line (take k lines))))
+line-found (Characters tables) lines k lt =
+    let reading = characters_line (unit_by tables.now) in
+    slice_get-map reading lines k ∙ ap (option_map reading) (slice_get-get_or lines k [] lt)
+
+module _ (unit_of : ℕ → BidiUnit) where
+  claims-ordered : (text : Option (List BidiUnit)) (direction : Option Direction) (para : Option ParaLevel) (levels : Option (List (Option ℕ))) (order : Option (List ℕ))
+      → IsOrdered (row_claims text direction para levels order)
+  claims-ordered None direction para levels order = tt
+  claims-ordered (Some text) None para levels order = tt
+  claims-ordered (Some text) (Some direction) None levels order = tt
+  claims-ordered (Some text) (Some direction) (Some para) None order = tt
+  claims-ordered (Some text) (Some direction) (Some para) (Some levels) None = tt
+  claims-ordered (Some text) (Some direction) (Some para) (Some levels) (Some order) = one-direction direction
+
+  items-ordered : (items : List (List ℕ)) (direction para levels order : List ℕ) → IsOrdered (row_with unit_of items direction para levels order)
+  items-ordered [] direction para levels order = tt
+  items-ordered (item ∷ items) direction para levels order =
+      claims-ordered (each_read (character_item unit_of) (item ∷ items)) (direction_field direction) (para_field para)
+      (each_read level_item (items_of levels)) (each_read order_item (items_of order))
+
+  fields-ordered : (fields : List (List ℕ)) → IsOrdered (row_of_fields unit_of fields)
+  fields-ordered [] = tt
+  fields-ordered (a ∷ []) = tt
+  fields-ordered (a ∷ b ∷ []) = tt
+  fields-ordered (a ∷ b ∷ c ∷ []) = tt
+  fields-ordered (a ∷ b ∷ c ∷ d ∷ []) = tt
+  fields-ordered (characters ∷ direction ∷ para ∷ levels ∷ order ∷ []) = items-ordered (items_of characters) direction para levels order
+  fields-ordered (a ∷ b ∷ c ∷ d ∷ e ∷ f ∷ fields) = tt
+
+  content-ordered : (content : List ℕ) → IsOrdered (line_of_content unit_of content)
+  content-ordered [] = tt
+  content-ordered (b ∷ bs) = fields-ordered (fields_of (b ∷ bs))
+
+  characters-ordered : (line : List ℕ) → IsOrdered (characters_line unit_of line)
+  unfolding characters_line
+  characters-ordered line =
+      if-either IsOrdered (nat_lt longest_line (length line)) (Faulty LineTooLong) (line_of_content unit_of (content_of line)) tt (content-ordered (content_of line))
+
+line-ordered : (kind : Kind) (lines : List (List ℕ)) (k : ℕ) → IsOrdered (line_comes_to kind lines k)
+line-ordered Classes lines k =
+    let earlier = reverse (map classes_line (take k lines)) in
+    classes-ordered (levels_in_force earlier) (order_in_force earlier) (slice_index_or lines k [])
+line-ordered (Characters tables) lines k = characters-ordered (unit_by tables.now) (slice_index_or lines k [])
+
+there : {A : Type 0} {x y : A} → Some x ≡ Some y → x ≡ y
+there e = cc
+
+-- each row of a file names its directions in order
+pub findings-ordered : (kind : Kind) (lines : List (List ℕ)) (k : ℕ) (f : Finding) → slice_get (findings_by kind lines) k ≡ Some f → IsOrdered f
+findings-ordered kind lines k f e =
+    let within : k < length lines = omega (arith, slice_get_within (findings_by kind lines) k f e, length-findings kind lines) in
+    subst IsOrdered (there (sym (line-found kind lines k within) ∙ e)) (line-ordered kind lines k)

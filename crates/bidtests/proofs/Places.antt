@@ -1,0 +1,135 @@
+-- Where the lists of a claim and of a layout differ, and at which place the claim is wrong.
+use Rattle.std.proofs.Common.{◌≡◌, ◌≢◌, ℕ, zero, suc, ◌+◌, ◌<◌, Bool, true, false, Option, None, Some, List, [], ◌∷◌, length, refl, sym, ap, subst, ◌∙◌, arith, inl, inr, eqb}
+use Rattle.std.specs.Prelude.{if◌then◌else◌, nat_eq, IfSome, MatchBool}
+use Rattle.std.specs.List.{slice_get}
+use Rattle.std.proofs.lemmas.Bool.{eqb-true, eqb-false, cases_order, false≢true}
+use Rattle.units.specs.Positions.{is_same}
+use Rattle.units.specs.Layout.{layout_of, all_orders}
+use Rattle.units.specs.declared.level.Direction.{Direction}
+use Rattle.bidtests.specs.declared.verdict.Place.{Place}
+use Rattle.bidtests.specs.declared.verdict.Place.TheVariants.{ParaLevel, Levels, Order}
+use Rattle.bidtests.specs.Verdicts.{Claim, first_difference, first_of, agrees, or_else, placed_in, wrong_place}
+use Rattle.bidtests.specs.Headline.{layout_under, IsParaRight, AreLevelsRight, IsOrderRight, IsCaseRight, IsFirstDifference, IsWrongAt}
+
+-- the lists are one, or n is their first difference, counted from `at`
+abbrev Compared : {A : Type 0} → List A → List A → ℕ → Option ℕ → Type 0
+Compared xs ys at None = xs ≡ ys
+Compared xs ys at (Some n) = (i : ℕ) × (n ≡ at + i) × IsFirstDifference xs ys i
+
+later_before : {A : Type 0} (x y : A) (xs ys : List A) (i : ℕ) → x ≡ y → ((p : ℕ) → p < i → slice_get xs p ≡ slice_get ys p)
+    → (p : ℕ) → p < suc i → slice_get (x ∷ xs) p ≡ slice_get (y ∷ ys) p
+later_before x y xs ys i e h zero lt = ap (λ z. Some z) e
+later_before x y xs ys i e h (suc p) lt = h p (omega arith)
+
+here : {A : Type 0} (xs ys : List A) (at : ℕ) → slice_get xs 0 ≢ slice_get ys 0 → Compared xs ys at (Some at)
+here xs ys at ne = (0, omega arith, record { before = λ p lt. absurd (omega arith); there = ne })
+
+one_on : {A : Type 0} (x y : A) (xs ys : List A) (at : ℕ) (o : Option ℕ) → x ≡ y → Compared xs ys (at + 1) o → Compared (x ∷ xs) (y ∷ ys) at o
+one_on x y xs ys at None e c = cc
+one_on x y xs ys at (Some n) e c =
+    (suc c.0, omega (arith, c.1), record { before = later_before x y xs ys c.0 e c.2.before; there = c.2.there })
+
+head_of : {A : Type 0} {x y : A} → Some x ≡ Some y → x ≡ y
+head_of e = cc
+
+by_heads : {A : Type 0} (x y : A) (xs ys : List A) (at : ℕ) (o : Option ℕ) (same : Bool) → (same ≡ true → x ≡ y) → (same ≡ false → x ≢ y)
+    → Compared xs ys (at + 1) o → Compared (x ∷ xs) (y ∷ ys) at (if same then o else Some at)
+by_heads x y xs ys at o true alike apart c = one_on x y xs ys at o (alike refl) c
+by_heads x y xs ys at o false alike apart c = here (x ∷ xs) (y ∷ ys) at (λ e. apart refl (head_of e))
+
+some_none : {A : Type 0} {x : A} → Some x ≢ None
+some_none e = cc
+
+compared : {A : Type 0} (same : A → A → Bool) → ((x y : A) → same x y ≡ true → x ≡ y) → ((x y : A) → same x y ≡ false → x ≢ y)
+    → (xs ys : List A) (at : ℕ) → Compared xs ys at (first_difference same xs ys at)
+compared same alike apart [] [] at = refl
+compared same alike apart [] (y ∷ ys) at = here [] (y ∷ ys) at (λ e. some_none (sym e))
+compared same alike apart (x ∷ xs) [] at = here (x ∷ xs) [] at (λ e. some_none e)
+compared same alike apart (x ∷ xs) (y ∷ ys) at =
+    by_heads x y xs ys at (first_difference same xs ys (at + 1)) (same x y) (alike x y) (apart x y) (compared same alike apart xs ys (at + 1))
+
+difference_unique : {A : Type 0} (xs ys : List A) (i j : ℕ) → IsFirstDifference xs ys i → IsFirstDifference xs ys j → i ≡ j
+difference_unique xs ys i j d e = elim (cases_order i j) [
+  | inl same ↦ same
+  | inr other ↦ elim other [ inl less ↦ absurd (d.there (e.before i less)) | inr more ↦ absurd (e.there (d.before j more)) ]
+]
+
+no_difference : {A : Type 0} (xs ys : List A) (i : ℕ) → xs ≡ ys → IsFirstDifference xs ys i → ⊥
+no_difference xs ys i e d = d.there (ap (λ zs. slice_get zs i) e)
+
+same_levels : (x y : Option ℕ) → is_same x y ≡ true → x ≡ y
+same_levels None None e = refl
+same_levels (Some p) (Some q) e = ap (λ n. Some n) (eqb-true p q e)
+same_levels None (Some q) e = absurd (false≢true e)
+same_levels (Some p) None e = absurd (false≢true e)
+
+other_levels : (x y : Option ℕ) → is_same x y ≡ false → x ≢ y
+other_levels None None e = λ _. false≢true (sym e)
+other_levels (Some p) (Some q) e = λ s. eqb-false p q e (head_of s)
+other_levels None (Some q) e = λ s. some_none (sym s)
+other_levels (Some p) None e = λ s. some_none s
+
+-- the level of the first paragraph
+first_is : (xs : List ℕ) → first_of xs ≡ slice_get xs 0
+first_is [] = refl
+first_is (x ∷ xs) = refl
+
+-- the case is right, or wrong at this place
+abbrev pub CaseIs : Claim → Direction → Option Place → Type 0
+CaseIs claim d None = IsCaseRight claim d
+CaseIs claim d (Some place) = IsWrongAt claim d place
+
+para-is : (para first : Option ℕ) → MatchBool (agrees para first) (IfSome para (λ level. first ≡ Some level)) (¬ IfSome para (λ level. first ≡ Some level))
+para-is None first = tt
+para-is (Some level) None = λ e. some_none (sym e)
+para-is (Some level) (Some first) = by (eqb level first) refl where
+  by : (b : Bool) → eqb level first ≡ b → MatchBool b (Some first ≡ Some level) (¬ (Some first ≡ Some level))
+  by true e = ap (λ n. Some n) (sym (eqb-true level first e))
+  by false e = λ s. eqb-false level first e (sym (head_of s))
+
+module _ (claim : Claim) (d : Direction) where
+  from-start : {A : Type 0} (xs ys : List A) (i n : ℕ) → n ≡ 0 + i → IsFirstDifference xs ys i → IsFirstDifference xs ys n
+  from-start xs ys i n e w =
+      let at : i ≡ n = omega (arith, e) in
+      subst (λ m. IsFirstDifference xs ys m) at w
+
+  chosen : (right : Bool) (l o : Option ℕ) → MatchBool right (IsParaRight claim d) (¬ IsParaRight claim d)
+      → Compared claim.levels (layout_under claim d).levels 0 l → Compared claim.order (all_orders (layout_under claim d)) 0 o
+      → CaseIs claim d (if right then or_else (placed_in Levels l) (placed_in Order o) else Some ParaLevel)
+  chosen false l o p c e = p
+  chosen true None None p c e = record { para = p; levels = c; order = e }
+  chosen true (Some n) o p c e = (p, from-start claim.levels (layout_under claim d).levels c.0 n c.1 c.2)
+  chosen true None (Some n) p c e = (p, c, from-start claim.order (all_orders (layout_under claim d)) e.0 n e.1 e.2)
+
+  para-right : MatchBool (agrees claim.para (first_of (layout_under claim d).paras)) (IsParaRight claim d) (¬ IsParaRight claim d)
+  para-right =
+      let paras = (layout_under claim d).paras in
+      let P : Option ℕ → Type 0 = λ s. MatchBool (agrees claim.para (first_of paras)) (IfSome claim.para (λ level. s ≡ Some level)) (¬ IfSome claim.para (λ level. s ≡ Some level)) in
+      subst P (first_is paras) (para-is claim.para (first_of paras))
+
+  -- what the search says
+  pub case-is : CaseIs claim d (wrong_place claim.para claim.levels claim.order (layout_of claim.text d []))
+  case-is =
+      let layout = layout_under claim d in
+      chosen (agrees claim.para (first_of layout.paras)) (first_difference is_same claim.levels layout.levels 0) (first_difference nat_eq claim.order (all_orders layout) 0)
+      para-right
+      (compared is_same same_levels other_levels claim.levels layout.levels 0)
+      (compared nat_eq (λ x y e. eqb-true x y e) (λ x y e. eqb-false x y e) claim.order (all_orders layout) 0)
+
+  -- no case is both right and wrong
+  pub right-wrong : (place : Place) → IsCaseRight claim d → IsWrongAt claim d place → ⊥
+  right-wrong ParaLevel r w = w r.para
+  right-wrong (Levels i) r w = no_difference claim.levels (layout_under claim d).levels i r.levels w.1
+  right-wrong (Order i) r w = no_difference claim.order (all_orders (layout_under claim d)) i r.order w.2
+
+  -- there is one first wrong place
+  pub place-unique : (p q : Place) → IsWrongAt claim d p → IsWrongAt claim d q → p ≡ q
+  place-unique ParaLevel ParaLevel w v = refl
+  place-unique ParaLevel (Levels j) w v = absurd (w v.0)
+  place-unique ParaLevel (Order j) w v = absurd (w v.0)
+  place-unique (Levels i) ParaLevel w v = absurd (v w.0)
+  place-unique (Levels i) (Levels j) w v = ap (λ n. Levels n) (difference_unique claim.levels (layout_under claim d).levels i j w.1 v.1)
+  place-unique (Levels i) (Order j) w v = absurd (no_difference claim.levels (layout_under claim d).levels i v.1 w.1)
+  place-unique (Order i) ParaLevel w v = absurd (v w.0)
+  place-unique (Order i) (Levels j) w v = absurd (no_difference claim.levels (layout_under claim d).levels j w.1 v.1)
+  place-unique (Order i) (Order j) w v = ap (λ n. Order n) (difference_unique claim.order (all_orders (layout_under claim d)) i j w.2 v.2)
