@@ -1,9 +1,9 @@
 -- Where no class is one that W1 to W7 can change, they change nothing.
-use Rattle.std.specs.Prelude.{ℕ, Bool, true, false, ◌||◌, ◌<◌, ◌≤◌, ◌≡◌, List, [], ◌∷◌, length, Contains, slice_index, refl}
-use Rattle.std.specs.List.{All, list_any}
-use Rattle.std.proofs.Common.{arith, ap, sym, ◌∙◌, inl, inr, get_or}
+use Rattle.std.specs.Prelude.{ℕ, true, false, ◌<◌, ◌≡◌, List, [], ◌∷◌, length, slice_index, refl}
+use Rattle.std.specs.List.{list_any}
+use Rattle.std.proofs.Common.{arith, ap, ◌∙◌, inl, inr}
 use Rattle.std.proofs.lemmas.Bool.{cases_Bool, cases_lt, or_parts}
-use Rattle.std.proofs.lemmas.List.{length-map, get_or-map, get_or_past}
+use Rattle.std.proofs.lemmas.List.{get_or-map, get_or_past}
 use Rattle.std.proofs.lemmas.List.Folds.{list_any_at, list_any_none}
 use Rattle.units.specs.Classes.{class_at, classes_at, classes_of}
 use Rattle.units.specs.Weak.{by_w1, by_w2, by_w3, by_w6, by_w7, is_any, after_weak}
@@ -11,10 +11,9 @@ use Rattle.units.specs.declared.bracket.Unit.{Unit as BidiUnit}
 use Rattle.units.specs.declared.class.Class.{Class}
 use Rattle.units.specs.declared.class.Class.TheVariants.{L, R, AL, EN, ES, ET, CS, NSM, BN, ON}
 use Rattle.resolve.specs.Ahead.{first_class}
-use Rattle.resolve.specs.Contexts.{context_of, by_w4_w5, settled_by, context_past, by_context}
+use Rattle.resolve.specs.Contexts.{context_of, by_w4_w5, context_past, by_context}
 use Rattle.resolve.specs.ThroughW3.{by_w1_to_w3, preceding_past, all_by_w1_to_w3, is_no_terminator}
 use Rattle.resolve.specs.Sought.{may_weaken, is_imposed, AreOwn}
-use Rattle.resolve.specs.declared.preceding.Preceding.{Preceding}
 use Rattle.resolve.specs.declared.weak.Context.{Context}
 use Rattle.resolve.proofs.Gathered.{contains_index, length-classes_at}
 use Rattle.resolve.proofs.Walked.{walked}

@@ -2,7 +2,7 @@
 use Rattle.std.specs.Prelude.{Option, Some, None, ℕ, Bool, true, false, ◌&&◌, nat_le, ◌≡◌, List, [], ◌∷◌, length, fold, refl, IfSome, unwrap_or, if◌then◌else◌}
 use Rattle.std.specs.Option.{option_map_or}
 use Rattle.std.proofs.Common.{arith, ap, sym, ◌∙◌, inl, inr}
-use Rattle.std.proofs.lemmas.Bool.{cases_lt, cases_Bool, both_ways}
+use Rattle.std.proofs.lemmas.Bool.{cases_lt, both_ways}
 use Rattle.std.proofs.lemmas.List.{get_or-map, get_or_past, length-map}
 use Rattle.units.specs.Classes.{class_at, classes_of, is_nonspacing, is_removed, is_separator}
 use Rattle.units.specs.Explicit.{State, entered, state_of, override_of, wanted_level, max_depth, chain, explicit_at, explicit_of}
