@@ -1,26 +1,21 @@
 -- The first strong classes of the isolates, noted from the paragraph's start on.
-use Rattle.std.proofs.Common.{◌≡◌, ℕ, zero, suc, ◌+◌, ◌<◌, ◌≤◌, Bool, true, false, cond, List, length, get_or, set, Option, Some, None, inl, inr, refl, sym, ap, ◌∙◌, arith}
+use Rattle.std.proofs.Common.{◌≡◌, ℕ, zero, suc, ◌+◌, ◌<◌, ◌≤◌, true, false, cond, List, length, get_or, set, Option, Some, None, inl, inr, refl, sym, ap, ◌∙◌, arith}
 use Rattle.std.proofs.lemmas.Bool.{cases_eq, cases_Bool, true≢false, and_from, and_left, false_from_ne_true}
 use Rattle.std.proofs.lemmas.List.{get_or-set_same, get_or-set_other, length-set}
-use Rattle.units.specs.Positions.{first_from, is_same}
+use Rattle.units.specs.Positions.{first_from}
 use Rattle.units.specs.Classes.{class_at, is_isolate_initiator, is_pdi, is_strong}
 use Rattle.units.specs.Classes.{is_right_to_left as is_class_right_to_left}
-use Rattle.units.specs.Isolates.{isolate_around, first_strong, begins_right_to_left}
+use Rattle.units.specs.Isolates.{isolate_around, first_strong}
 use Rattle.units.specs.declared.class.Class.{Class}
 use Rattle.units.specs.declared.class.Class.TheVariants.{L, R, AL}
-use Rattle.explicit.specs.Sides.{HasSides, side_of, noted, noted_at, is_right_to_left, side_at}
+use Rattle.explicit.specs.Sides.{HasSides, side_of, noted, noted_at, side_at}
 use Rattle.explicit.specs.declared.side.Side.{Side}
-use Rattle.explicit.specs.declared.side.Side.TheVariants.{Unknown, LeftToRight, RightToLeft}
+use Rattle.explicit.specs.declared.side.Side.TheVariants.{Unknown}
 use Rattle.explicit.proofs.Positions.{or_else, first_from_more, first_from_nowhere, is_same_refl}
 use Rattle.explicit.proofs.Around.{around_holds}
 use Rattle.explicit.proofs.Matching.{IsOpenStack}
 use Rattle.explicit.proofs.InnermostOpen.{around_none_open, around_last_open}
 use Rattle.explicit.proofs.StrongInside.{is_strong_in, elsewhere}
-
--- what is asked of a side
-pub side_is : (cs : List Class) (at : Option ℕ) → is_right_to_left (side_at cs at) ≡ begins_right_to_left cs at
-side_is cs None = refl
-side_is cs (Some p) = elim (cases_Bool (is_class_right_to_left (class_at cs p))) [ inl t ↦ rw t refl | inr f ↦ rw f refl ]
 
 -- a strong class is neither an isolate initiator nor a PDI
 pub strong_is_other : (c : Class) → is_strong c ≡ true → (is_isolate_initiator c ≡ false) × (is_pdi c ≡ false)
