@@ -1,6 +1,6 @@
 -- Isolates nest or are apart.
 use Rattle.std.proofs.Common.{◌≡◌, ℕ, ◌<◌, ◌≤◌, true, List, length, Option, Some, None, ◌⊎◌, inl, inr, refl, sym, ◌∙◌, subst, arith}
-use Rattle.std.proofs.lemmas.Bool.{cases_Bool, cases_order, false≢true, and_parts, and_from, ltb-true, lt-ltb}
+use Rattle.std.proofs.lemmas.Bool.{cases_Bool, false≢true, and_parts, and_from, ltb-true, lt-ltb}
 use Rattle.units.specs.Positions.{is_before}
 use Rattle.units.specs.Classes.{class_at, is_isolate_initiator, is_pdi}
 use Rattle.units.specs.Isolates.{matching_pdi, isolate_holds}
@@ -70,32 +70,6 @@ holds_down cs i p q h lt le = record { opener = h.opener; after = lt; before = �
 -- of two isolates that hold a position, the outer one holds the beginning of the inner one
 pub holds_nested : (cs : List Class) (i j p : ℕ) → IsHeld cs i p → IsHeld cs j p → i < j → IsHeld cs i j
 holds_nested cs i j p hi hj lt = holds_down cs i p j hi lt (omega (arith, hj.after))
-
--- a matched initiator and its PDI lie in the same isolates
-pub pair_together_down : (cs : List Class) (i p a : ℕ) → matching_pdi cs p ≡ Some a → IsHeld cs i a → IsHeld cs i p
-pair_together_down cs i p a e h =
-    let b = match_bounds cs p a e in
-    elim (cases_order i p) [
-      | inl same ↦ let e' : matching_pdi cs i ≡ Some a = rw same e in absurd (omega (arith, h.before a e'))
-      | inr apart ↦ elim apart [
-        | inl lt ↦ holds_down cs i a p h lt (omega (arith, b.0))
-        | inr gt ↦
-            let m = inner_match cs p i a e gt h.after h.opener in
-            absurd (omega (arith, h.before m.0 m.1, m.2))
-      ]
-    ]
-
-pub pair_together_up : (cs : List Class) (i p a : ℕ) → matching_pdi cs p ≡ Some a → IsHeld cs i p → IsHeld cs i a
-pair_together_up cs i p a e h =
-    let b = match_bounds cs p a e in
-    record {
-      opener = h.opener;
-      after = omega (arith, h.after, b.0);
-      before = λ c e'.
-          let m = inner_match cs i p c e' h.after (h.before c e') (matching_pdi_opens cs p a e) in
-          let same : a ≡ m.0 = grind (arith, m.1) in
-          omega (arith, m.2);
-    }
 
 -- of two isolates the one that begins later lies within the other, or they are apart
 pub nest_or_apart : (cs : List Class) (outer inner : ℕ) → outer < inner → IsWithin cs inner outer ⊎ AreApart cs inner outer

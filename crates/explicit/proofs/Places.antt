@@ -1,16 +1,17 @@
 -- Explicit levels from the initiators that are open.
-use Rattle.std.proofs.Common.{◌≡◌, ℕ, zero, suc, ◌+◌, ◌<◌, ◌≤◌, Bool, true, List, [], ◌∷◌, ◌++◌, length, arith, refl, sym, ap, subst, ◌∙◌, inl, inr, zero-add, append-nil, get_or, set, Option, ◌^◌, reverse}
+use Rattle.std.proofs.Common.{◌≡◌, ℕ, zero, suc, ◌+◌, ◌<◌, ◌≤◌, Bool, true, false, List, [], ◌∷◌, ◌++◌, length, arith, refl, sym, ap, subst, ◌∙◌, inl, inr, zero-add, append-nil, get_or, set, Option, ◌^◌, reverse}
 use Rattle.std.proofs.lemmas.List.{length-map, reverse-append, get_or-set_same, get_or-set_other}
-use Rattle.std.specs.Prelude.{None, filter, fold}
+use Rattle.std.specs.Prelude.{None, filter, fold, is_none}
 use Rattle.std.proofs.lemmas.Bool.{cases_Bool, cases_eq}
 use Rattle.std.proofs.lemmas.List.Elements.{filter-append}
 use Rattle.units.specs.Positions.{positions_from}
-use Rattle.units.specs.Classes.{class_at, classes_of, is_pdi, is_pdf}
+use Rattle.units.specs.Classes.{class_at, classes_of, is_initiator, is_pdi, is_pdf, is_removed, is_separator}
 use Rattle.units.specs.declared.bracket.Unit.{Unit}
 use Rattle.units.specs.Explicit.{State, entered, state_of, chain, explicit_at}
 use Rattle.units.specs.declared.class.Class.{Class}
 use Rattle.explicit.specs.OpenInitiators.{opened, left_open}
-use Rattle.explicit.specs.StatusStacks.{state_within, placed, Represents, IsKept}
+use Rattle.units.specs.declared.class.Class.TheVariants.{L, R, AL, EN, ES, ET, AN, CS, NSM, S, WS, ON}
+use Rattle.explicit.specs.StatusStacks.{state_within, placed, is_ordinary, Represents, IsKept}
 use Rattle.explicit.specs.declared.status.StatusStack.{StatusStack}
 use Rattle.explicit.proofs.Positions.{positions_from-next}
 use Rattle.explicit.proofs.Open.{below, holders, holds}
@@ -102,3 +103,46 @@ places-more cs base p places place room found below k h =
       | inl here ↦ rw here (get_or-set_same places p place None room ∙ found)
       | inr other ↦ get_or-set_other places p k place None other ∙ below k (omega arith)
     ]
+
+-- X6: what an ordinary class leaves as it was
+pub record IsPassedOver (c : Class) : Type 0 where
+  pub pdi_is : is_pdi c ≡ false
+  pub pdf_is : is_pdf c ≡ false
+  pub initiator_is : is_initiator c ≡ false
+  pub removed_is : is_removed c ≡ false
+  pub separator_is : is_separator c ≡ false
+
+over : (c : Class) → is_pdi c ≡ false → is_pdf c ≡ false → is_initiator c ≡ false → is_removed c ≡ false → is_separator c ≡ false → IsPassedOver c
+over c a b d e f = record { pdi_is = a; pdf_is = b; initiator_is = d; removed_is = e; separator_is = f }
+
+pub ordinary_is : (c : Class) → is_ordinary c ≡ true → IsPassedOver c
+ordinary_is L h = over L refl refl refl refl refl
+ordinary_is R h = over R refl refl refl refl refl
+ordinary_is AL h = over AL refl refl refl refl refl
+ordinary_is EN h = over EN refl refl refl refl refl
+ordinary_is ES h = over ES refl refl refl refl refl
+ordinary_is ET h = over ET refl refl refl refl refl
+ordinary_is AN h = over AN refl refl refl refl refl
+ordinary_is CS h = over CS refl refl refl refl refl
+ordinary_is NSM h = over NSM refl refl refl refl refl
+ordinary_is S h = over S refl refl refl refl refl
+ordinary_is WS h = over WS refl refl refl refl refl
+ordinary_is ON h = over ON refl refl refl refl refl
+ordinary_is c h = absurd (cc)
+
+pub ordinary_left : (cs : List Class) (c : Class) (qs : List ℕ) → is_ordinary c ≡ true → left_open cs c qs ≡ qs
+ordinary_left cs c qs h = let o = ordinary_is c h in rw (o.pdi_is, o.pdf_is) refl
+
+pub ordinary_opened : (cs : List Class) (p : ℕ) (qs : List ℕ) → is_ordinary (class_at cs p) ≡ true → opened cs p qs ≡ qs
+ordinary_opened cs p qs h = let o = ordinary_is (class_at cs p) h in rw o.initiator_is refl
+
+-- X9: none stands exactly where the position is removed
+placed-none : (s : State) (para : ℕ) (own : Class) → is_none (placed s para own) ≡ is_removed own
+placed-none s para own =
+    elim (cases_Bool (is_removed own)) [
+      | inl removed ↦ rw removed refl
+      | inr kept ↦ elim (cases_Bool (is_separator own)) [ inl last ↦ rw (kept, last) refl | inr other ↦ rw (kept, other) refl ]
+    ]
+
+pub explicit-none : (cs : List Class) (para p : ℕ) → is_none (explicit_at cs para p) ≡ is_removed (class_at cs p)
+explicit-none cs para p = ap is_none (sym (explicit-placed cs para p)) ∙ placed-none (state_within cs para (holders cs p)) para (class_at cs p)

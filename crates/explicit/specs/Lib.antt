@@ -1,4 +1,5 @@
 pub mod FirstParagraph
+pub mod Sides
 pub mod IsolateMaps
 pub mod OpenInitiators
 pub mod StatusStacks

@@ -2,7 +2,7 @@
 use Rattle.std.specs.List.{list_any, suffix_len}
 use Rattle.std.specs.Prelude.{count_by, not, Option, None, Some, unwrap_or, if◌then◌else◌, ◌≡◌, ℕ, ◌+◌, ◌<◌, ◌≤◌, ◌^◌, length, cond, Bool, true, false, ◌||◌, List, [], ◌∷◌, ◌++◌, nat_lt}
 use Rattle.units.specs.Explicit.{State, entered}
-use Rattle.units.specs.Classes.{is_removed, is_separator}
+use Rattle.units.specs.Classes.{is_initiator, is_pdi, is_removed, is_separator}
 use Rattle.units.specs.declared.class.Class.{Class}
 use Rattle.explicit.specs.OpenInitiators.{is_isolate}
 use Rattle.explicit.specs.declared.status.Status.{Status}
@@ -71,6 +71,10 @@ pub record IsKept (n : StatusStack) : Type 0 where
   pub represents : Represents classes para initiators n
   pub base : para ≤ 1
   pub few : length initiators < 2 ^ 63
+
+-- X6: a class that neither begins nor ends anything, and isn't removed
+abbrev pub is_ordinary : Class → Bool
+is_ordinary c = not (is_initiator c || (is_pdi c || (is_removed c || is_separator c)))
 
 -- X5a to X9: the level and the current class of a position of this class in this state, or none where it is removed
 abbrev pub placed : State → ℕ → Class → Option (ℕ × Class)

@@ -1,7 +1,7 @@
 //! Laws of isolates and of explicit levels, for the layers above.
-ghost use Rattle.std.specs.Prelude.{◌≡◌, ◌<◌, ◌≤◌, ◌++◌, ◌⊎◌, ℕ, List, Some, IfSome, reverse};
+ghost use Rattle.std.specs.Prelude.{◌≡◌, ◌<◌, ◌≤◌, ◌++◌, ◌⊎◌, ℕ, List, Some, IfSome, is_none, reverse};
 ghost use Rattle.std.specs.Option.{option_map};
-ghost use Rattle.units.specs.Classes.{classes_of};
+ghost use Rattle.units.specs.Classes.{class_at, classes_of, is_removed};
 ghost use Rattle.units.specs.Explicit.{chain, explicit_at};
 ghost use Rattle.units.specs.Isolates.{matching_pdi};
 ghost use Rattle.units.specs.Paragraphs.{SeparatorOnlyLast};
@@ -19,6 +19,11 @@ pub fn isolates_nest()
 /// No position has an explicit level above 125 (BD2).
 pub fn levels_are_bounded()
     ensures { (cs : List Class) (para p : ℕ) → para ≤ 1 → IfSome (explicit_at cs para p) (λ place. place.0 ≤ 125) }
+{}
+
+/// A position has no explicit level exactly where it is removed (X9).
+pub fn removed_have_no_level()
+    ensures { (cs : List Class) (para p : ℕ) → is_none (explicit_at cs para p) ≡ is_removed (class_at cs p) }
 {}
 
 /// A matched isolate initiator and its PDI have one explicit level (X5a to X6a).

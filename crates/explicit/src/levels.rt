@@ -10,7 +10,7 @@ ghost use Rattle.explicit.specs.ExplicitLevels.{HoldsLevels};
 ghost use Rattle.explicit.specs.StatusStacks.{size_of};
 
 use crate::isolates::IsolateMap;
-use crate::status::StatusStack;
+use crate::status::{StatusStack, is_ordinary};
 use std::alloc::Global;
 use std::boxed::BoxedSlice;
 use std::marker::Model;
@@ -99,9 +99,13 @@ fn find_places<L: Ledger>(
     stack.begin(base);
     for (p, unit) in para.iter().enumerate() {
         steps.tick();
-        stack.close(unit.class, steps);
-        places[p] = stack.place(unit.class, base);
-        stack.open(unit.class, asks_odd(unit.class, map.is_right_to_left(p)));
+        if is_ordinary(unit.class) {
+            places[p] = Some(stack.place_inside(unit.class));
+        } else {
+            stack.close(unit.class, steps);
+            places[p] = stack.place(unit.class, base);
+            stack.open(unit.class, asks_odd(unit.class, map.is_right_to_left(p)));
+        }
     }
     stack.clear(steps);
 }

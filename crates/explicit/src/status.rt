@@ -1,10 +1,10 @@
 //! The initiators that are open, as one pass over a paragraph keeps them (X1 to X8).
-ghost use Rattle.std.specs.Prelude.{◌≡◌, ◌<◌, ◌≤◌, ◌+◌, ◌-◌, ◌==◌, ◌&&◌, nat_le, true, false, ℕ, List, [], ◌∷◌, slice_index_or, if◌then◌else◌};
-ghost use Rattle.units.specs.Classes.{class_at, is_isolate_initiator};
+ghost use Rattle.std.specs.Prelude.{◌≡◌, ◌<◌, ◌≤◌, ◌+◌, ◌-◌, ◌==◌, ◌&&◌, nat_le, true, false, ℕ, List, [], ◌∷◌, Some, slice_index_or, if◌then◌else◌};
+ghost use Rattle.units.specs.Classes.{class_at, is_isolate_initiator, is_removed, is_separator};
 ghost use Rattle.units.specs.Explicit.{next_odd, next_even, override_of, wants_odd};
 ghost use Rattle.units.specs.declared.class.Class.{Class};
 ghost use Rattle.explicit.specs.OpenInitiators.{after_pdi, after_pdf, left_open, opened};
-ghost use Rattle.explicit.specs.StatusStacks.{Represents, IsKept, before_isolate, is_taken, entry_at, state_within, placed, size_of};
+ghost use Rattle.explicit.specs.StatusStacks.{Represents, IsKept, before_isolate, is_taken, entry_at, state_within, placed, size_of, is_ordinary};
 
 use arrayvec::ArrayVec;
 use std::sync::ledger::Ledger;
@@ -42,6 +42,27 @@ pub struct StatusStack {
     overflow_isolates: usize,
     overflow_embeddings: usize,
     valid_isolates: usize,
+}
+
+/// X6: a class that neither begins nor ends anything, and isn't removed.
+pub fn is_ordinary(class: Class) -> bool
+    ensures { result ≡ is_ordinary class }
+{
+    matches!(
+        class,
+        Class::L
+            | Class::R
+            | Class::AL
+            | Class::EN
+            | Class::ES
+            | Class::ET
+            | Class::AN
+            | Class::CS
+            | Class::NSM
+            | Class::S
+            | Class::WS
+            | Class::ON
+    )
 }
 
 // X2 to X5c: how far the least odd or the least even level above this one is.
@@ -113,6 +134,15 @@ impl StatusStack {
         self.entries[self.entries.len() - 1]
     }
 
+    /// X5a to X6a: the level and the current class of a position of this class, which is neither removed nor a separator.
+    pub fn place_inside(&self, class: Class) -> (Level, Class)
+        requires { IsKept self.now }
+        ensures { (cs : List Class) (base : ℕ) (qs : List ℕ) → is_removed class ≡ false → is_separator class ≡ false → Represents cs base qs self.now → Some result ≡ placed (state_within cs base qs) base class }
+    {
+        let current = self.current();
+        (current.level, current.override_class.unwrap_or(class))
+    }
+
     /// X5a to X9: the level and the current class of a position of this class, or none where it is removed.
     pub fn place(&self, class: Class, base: Level) -> Option<(Level, Class)>
         requires { IsKept self.now }
@@ -124,8 +154,7 @@ impl StatusStack {
         if class.is_separator() {
             return Some((base, class));
         }
-        let current = self.current();
-        Some((current.level, current.override_class.unwrap_or(class)))
+        Some(self.place_inside(class))
     }
 
     // X6a: drops the entries from the last isolate's on.

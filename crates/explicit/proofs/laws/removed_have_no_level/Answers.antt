@@ -1,0 +1,5 @@
+use Rattle.explicit.proofs.Places.{explicit-none}
+use Rattle.explicit.proofs.laws.removed_have_no_level.Goals as goal
+
+pub returns : goal.returns
+returns c = explicit-none
