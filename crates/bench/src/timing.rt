@@ -2,7 +2,7 @@
 ghost use Rattle.std.specs.Prelude.{◌≡◌};
 
 use lines::breaks::Breaks;
-use lines::lay_out::lay_out_uncounted;
+use lines::lay_out::lay_in;
 use lines::scratch::Scratch;
 use std::io;
 use std::time::{Duration, Instant};
@@ -14,8 +14,8 @@ pub fn line_count(text: &[Unit], room: &mut Scratch) -> usize {
     let Ok(breaks) = Breaks::new(&[], text.len()) else {
         return 0;
     };
-    match lay_out_uncounted(room, text, Direction::Auto, &breaks) {
-        Ok(layout) => layout.line_count(),
+    match lay_in(room, text, Direction::Auto, &breaks) {
+        Ok(()) => room.layout().line_count(),
         Err(_) => 0,
     }
 }

@@ -1,27 +1,33 @@
 // What `levels` and `reorder` print of a text.
-ghost use Rattle.std.specs.Prelude.{◌≡◌, ◌≤◌, ℕ, [], length, map, slice_index_or, IfOk, OnOk};
+ghost use Rattle.std.specs.Prelude.{◌≡◌, ◌<◌, ◌≤◌, ℕ, [], length, map, slice_index_or, IfOk, OnOk};
 ghost use Rattle.std.specs.Io.KnownBytes.{Appends};
 ghost use Rattle.units.specs.Isolates.{level_of_para};
 ghost use Rattle.units.specs.Layout.{layout_of};
 ghost use Rattle.lines.specs.Layouts.{view_of};
 ghost use Rattle.lines.specs.Scratches.{room_of};
+ghost use Rattle.ucdfiles.specs.Tables.{glyph_at};
 ghost use Rattle.bidi.specs.LevelsText.{levels_text};
 ghost use Rattle.bidi.specs.PrintedTexts.{units_of, printed_levels, printed_reorder};
+ghost use Rattle.bidi.specs.ReorderText.{reorder_text};
 
 use crate::columns::breaks_of;
 use crate::fault::PrintFault;
 use crate::layout_text::print_paragraphs;
 use crate::reorder_text::print_lines;
 use lines::breaks::Breaks;
-use lines::lay_out::lay_out_uncounted;
+use lines::lay_out::lay_out;
 use lines::scratch::Scratch;
 use std::alloc::Global;
 use std::io::Write;
+use std::marker::Brand;
 use std::num::NonZeroU16;
+use std::sync::ledger::{Blank, Ledger};
+use ucdfiles::mirror_table::MirrorTable;
 use ucdfiles::tables::Tables;
 use units::bracket::Unit;
 use units::level::Direction;
 use units::memory::Memory;
+use units::steps::Steps;
 
 /// What the tables know of each character of a text.
 fn units_of(alloc: Global, tables: &Tables, chars: &[char]) -> Result<Vec<Unit>, Memory>
@@ -49,6 +55,56 @@ fn room_for(alloc: Global, n: usize) -> Result<Scratch, Memory>
     }
 }
 
+/// Writes the levels of a text of these units, laid out by a count of steps that begins with the blank.
+fn print_levels_of<W: Write, L: Ledger>(
+    w: &mut W,
+    room: &mut Scratch,
+    text: &[char],
+    units: &[Unit],
+    direction: Direction,
+    blank: Blank,
+) -> Result<(), PrintFault>
+    requires units { length units.now ≡ length text.now }
+    requires fits { length units.now ≤ room_of room.old }
+    requires name { blank.name ≡ L.name }
+    requires parts { blank.parts ≡ L.parts }
+    requires some { 0 < blank.parts }
+    ensures { OnOk result (Appends (W.contents w.old) (W.contents w.new)
+        (levels_text text.now units.now (layout_of units.now direction []))) }
+{
+    let mut steps = Steps::<L>::new(blank);
+    let breaks = Breaks::new(&[], units.len()).unwrap();
+    let layout = lay_out(room, units, direction, &breaks, &mut steps).unwrap();
+    print_paragraphs(w, text, units, &layout)?;
+    Ok(())
+}
+
+/// Writes the lines of a text of these units, laid out by a count of steps that begins with the blank.
+fn print_lines_of<W: Write, L: Ledger>(
+    w: &mut W,
+    room: &mut Scratch,
+    mirrors: &MirrorTable,
+    text: &[char],
+    units: &[Unit],
+    direction: Direction,
+    breaks: &Breaks,
+    blank: Blank,
+) -> Result<(), PrintFault>
+    requires units { length units.now ≡ length text.now }
+    requires breaks { breaks.now.len ≡ length units.now }
+    requires fits { length units.now ≤ room_of room.old }
+    requires name { blank.name ≡ L.name }
+    requires parts { blank.parts ≡ L.parts }
+    requires some { 0 < blank.parts }
+    ensures { OnOk result (Appends (W.contents w.old) (W.contents w.new)
+        (reorder_text (glyph_at mirrors.now) text.now units.now (layout_of units.now direction breaks.now.positions))) }
+{
+    let mut steps = Steps::<L>::new(blank);
+    let layout = lay_out(room, units, direction, breaks, &mut steps).unwrap();
+    print_lines(w, mirrors, text, units, &layout)?;
+    Ok(())
+}
+
 /// Writes the levels of a text: for each paragraph a line with its number, counted from 0, and its level (P2, P3); then
 /// for each of its positions a line with the position in the whole text, the code point, the original class and the level
 /// after L1, or `x` where the position was removed (X9). The text may have 16,777,216 characters. The fault is `Write`
@@ -66,10 +122,7 @@ pub fn print_levels<W: Write>(
 {
     let units = units_of(alloc, tables, text)?;
     let mut room = room_for(alloc, text.len())?;
-    let breaks = Breaks::new(&[], text.len()).unwrap();
-    let layout = lay_out_uncounted(&mut room, &units, direction, &breaks).unwrap();
-    print_paragraphs(w, text, &units, &layout)?;
-    Ok(())
+    print_levels_of::<W, Brand>(w, &mut room, text, &units, direction, Blank::new(1))
 }
 
 /// Writes a text as it is shown: each line from left to right (L2), in UTF-8, with mirror images at odd levels (L4), without
@@ -93,7 +146,14 @@ pub fn print_reorder<W: Write>(
     let mut room = room_for(alloc, text.len())?;
     let positions = breaks_of(alloc, &units, columns)?;
     let at_columns = Breaks::new(&positions, text.len()).unwrap();
-    let layout = lay_out_uncounted(&mut room, &units, direction, &at_columns).unwrap();
-    print_lines(w, tables.mirrors(), text, &units, &layout)?;
-    Ok(())
+    print_lines_of::<W, Brand>(
+        w,
+        &mut room,
+        tables.mirrors(),
+        text,
+        &units,
+        direction,
+        &at_columns,
+        Blank::new(1),
+    )
 }

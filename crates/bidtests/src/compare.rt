@@ -1,8 +1,9 @@
 // Claims compared with layouts.
-ghost use Rattle.std.specs.Prelude.{◌≡◌, ◌≤◌, ◌+◌, ◌++◌, ℕ, List, None, Some, [], ◌∷◌, drop, length, map, nat_eq, MatchOption, IfSome, IsSome};
+ghost use Rattle.std.specs.Prelude.{◌≡◌, ◌<◌, ◌≤◌, ◌+◌, ◌++◌, ℕ, List, None, Some, [], ◌∷◌, drop, length, map, nat_eq, MatchOption, IfSome, IsSome};
 ghost use Rattle.std.specs.Option.{option_map};
-ghost use Rattle.units.specs.Layout.{all_orders};
+ghost use Rattle.units.specs.Layout.{all_orders, layout_of};
 ghost use Rattle.units.specs.declared.class.Class.{Class};
+ghost use Rattle.units.specs.declared.level.Direction.{Direction};
 ghost use Rattle.units.specs.Isolates.{level_of_para, para_level_of};
 ghost use Rattle.units.specs.Positions.{is_same};
 ghost use Rattle.lines.specs.Layouts.{view_of};
@@ -14,10 +15,13 @@ ghost use Rattle.bidtests.specs.Comparisons.{Compares};
 use crate::claim::Claim;
 use crate::verdict::{Place, Verdict};
 use lines::breaks::Breaks;
-use lines::lay_out::lay_out_uncounted;
+use lines::lay_out::lay_out;
 use lines::layout::Layout;
 use lines::scratch::Scratch;
+use std::marker::Brand;
+use std::sync::ledger::{Blank, Ledger};
 use units::level::{Direction, Level, ParaLevel};
+use units::steps::Steps;
 
 /// No level is claimed, or that of the first paragraph.
 fn agrees_with(claimed: Option<ParaLevel>, defined: &[ParaLevel]) -> bool
@@ -108,28 +112,53 @@ fn direction_of(paras: &[ParaLevel]) -> Option<Direction>
     }
 }
 
-/// Compares a claim with the layout of its text under a direction.
-fn compare(scratch: &mut Scratch, claim: Claim<'_>, direction: Direction) -> Comparison
-    requires { length claim.text.now ≤ room_of scratch.old }
-    ensures compares { Compares result (claim_of claim.entry) direction }
-    ensures room { room_of scratch.new ≡ room_of scratch.old }
+/// Compares a claim with a layout of its text, under whichever direction it is.
+fn compare_with(claim: Claim<'_>, layout: &Layout<'_>) -> Comparison
+    ensures { (direction : Direction) → view_of layout.now ≡ layout_of claim.entry.text.now direction [] → Compares result (claim_of claim.entry) direction }
 {
-    let breaks = no_breaks(claim.text.len());
-    let Ok(layout) = lay_out_uncounted(scratch, claim.text, direction, &breaks) else {
-        unreachable!()
-    };
     if !agrees_with(claim.para, layout.para_levels()) {
         return Comparison::Differs(Place::ParaLevel);
     }
     if let Some(at) = differing_level(claim.levels, layout.levels()) {
         return Comparison::Differs(Place::Levels(at));
     }
-    match differing_order(claim.order, &layout) {
+    match differing_order(claim.order, layout) {
         Some(at) => Comparison::Differs(Place::Order(at)),
         None => Comparison::Agrees {
             also_under: direction_of(layout.para_levels()),
         },
     }
+}
+
+/// Compares a claim with the layout of its text under a direction, by a count of steps that begins with the blank.
+fn compare_counting<L: Ledger>(
+    scratch: &mut Scratch,
+    claim: Claim<'_>,
+    direction: Direction,
+    blank: Blank,
+) -> Comparison
+    requires fits { length claim.text.now ≤ room_of scratch.old }
+    requires name { blank.name ≡ L.name }
+    requires parts { blank.parts ≡ L.parts }
+    requires some { 0 < blank.parts }
+    ensures compares { Compares result (claim_of claim.entry) direction }
+    ensures room { room_of scratch.new ≡ room_of scratch.old }
+{
+    let mut steps = Steps::<L>::new(blank);
+    let breaks = no_breaks(claim.text.len());
+    let Ok(layout) = lay_out(scratch, claim.text, direction, &breaks, &mut steps) else {
+        unreachable!()
+    };
+    compare_with(claim, &layout)
+}
+
+/// Compares a claim with the layout of its text under a direction.
+fn compare(scratch: &mut Scratch, claim: Claim<'_>, direction: Direction) -> Comparison
+    requires { length claim.text.now ≤ room_of scratch.old }
+    ensures compares { Compares result (claim_of claim.entry) direction }
+    ensures room { room_of scratch.new ≡ room_of scratch.old }
+{
+    compare_counting::<Brand>(scratch, claim, direction, Blank::new(1))
 }
 
 /// The first of the claim's directions under which it differs from the layout, and where. A direction is passed over where an

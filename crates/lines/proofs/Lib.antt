@@ -1,13 +1,9 @@
 pub mod Least
 pub mod Lists
 pub mod TextLevels
-pub mod Turning
-pub mod Stretches
 pub mod Remaining
 pub mod LineOrder
 pub mod Levels
-pub mod Turns
-pub mod TurnsFound
 pub mod Separators
 pub mod BreakAt
 pub mod LineEnd
@@ -15,7 +11,13 @@ pub mod TextEnd
 pub mod KeptLevels
 pub mod Cuts
 pub mod NextLine
+pub mod ParagraphLines
 pub mod LinesWritten
 pub mod LinesRead
 pub mod Law
 pub mod Uniform
+pub mod Whole
+pub mod Joining
+pub mod RunChains
+pub mod RunLinking
+pub mod RunWriting

@@ -1,8 +1,9 @@
 -- The remaining positions of a line, rising.
-use Rattle.std.proofs.Common.{◌≡◌, ℕ, ◌+◌, ◌-◌, ◌<◌, ◌≤◌, Bool, true, false, cond, Option, None, Some, List, [], ◌∷◌, ◌++◌, length, zero, suc, refl, ap, ◌∙◌, inl, inr, arith}
-use Rattle.std.specs.Prelude.{filter, slice_index_or}
+use Rattle.std.proofs.Common.{◌≡◌, ℕ, ◌+◌, ◌-◌, ◌<◌, ◌≤◌, Bool, true, false, cond, Option, None, Some, List, [], ◌∷◌, ◌++◌, length, zero, suc, refl, sym, ap, ◌∙◌, inl, inr, arith}
+use Rattle.std.specs.Prelude.{filter, reverse, slice_index_or}
 use Rattle.std.specs.Option.{is_some}
 use Rattle.std.proofs.lemmas.Bool.{cases_lt}
+use Rattle.std.proofs.lemmas.List.{append-nil, reverse-append}
 use Rattle.std.proofs.lemmas.List.Elements.{filter-append}
 use Rattle.units.specs.Positions.{positions_from}
 use Rattle.lines.specs.Turning.{Holds, Ordered, is_remaining, remaining}
@@ -89,3 +90,19 @@ length-filter_from test start (suc count) = length_if (test start) start (filter
 -- they are no more than the positions
 pub length-remaining : (levels : List (Option ℕ)) (start end : ℕ) → length (remaining levels start end) ≤ end - start
 length-remaining levels start end = length-filter_from (is_remaining levels) start (end - start)
+
+reverse_if : (b : Bool) (x : ℕ) (xs : List ℕ) → reverse (cond b (x ∷ xs) xs) ≡ reverse xs ++ cond b (x ∷ []) []
+reverse_if true x xs = reverse-append (x ∷ []) xs
+reverse_if false x xs = sym (append-nil (reverse xs))
+
+-- those of one position more before them, falling
+pub remaining-before : (levels : List (Option ℕ)) (position end : ℕ) → position < end → reverse (remaining levels position end) ≡ reverse (remaining levels (position + 1) end) ++ cond (is_remaining levels position) (position ∷ []) []
+remaining-before levels position end lt =
+    let e : end - position ≡ suc (end - (position + 1)) = omega arith in
+    ap (λ n. reverse (filter (is_remaining levels) (positions_from position n))) e
+    ∙ reverse_if (is_remaining levels position) position (remaining levels (position + 1) end)
+
+-- none remain at the end
+pub remaining-none : (levels : List (Option ℕ)) (position : ℕ) → remaining levels position position ≡ []
+remaining-none levels position =
+    let e : position - position ≡ 0 = omega arith in ap (λ n. filter (is_remaining levels) (positions_from position n)) e

@@ -16,26 +16,6 @@ remaining levels start end = filter (is_remaining levels) (positions_from start 
 abbrev pub HasLevel : List (Option ℕ) → ℕ → ℕ → Type 0
 HasLevel levels p v = slice_index_or levels p None ≡ Some v
 
--- an odd level as a number, else one that is above them all
-abbrev pub odd_or_most : Option ℕ → ℕ
-odd_or_most None = 127
-odd_or_most (Some n) = if n % 2 == 1 then n else 127
-
--- one more than a level, 0 where there is none
-abbrev pub next_or_zero : Option ℕ → ℕ
-next_or_zero None = 0
-next_or_zero (Some n) = n + 1
-
--- L2: among the first count positions, the lowest odd level, or 127 where none is odd, and one more than the highest level, or 0 where there is none
-pub record AreTurns (levels : List (Option ℕ)) (count lowest past : ℕ) : Type 0 where
-  pub odd : lowest % 2 ≡ 1
-  pub small : lowest ≤ 127
-  pub even : (p v : ℕ) → p < count → HasLevel levels p v → v < lowest → v % 2 ≡ 0
-  pub lowest_found : lowest < 127 → (p : ℕ) × HasLevel levels p lowest
-  pub few : past ≤ 127
-  pub below : (p v : ℕ) → p < count → HasLevel levels p v → v < past
-  pub highest_found : 0 < past → (p : ℕ) × HasLevel levels p (past - 1)
-
 -- a level as a number, 0 where there is none
 abbrev pub number_or_zero : Option ℕ → ℕ
 number_or_zero None = 0
@@ -69,11 +49,6 @@ Ordered r (x ∷ xs) = ((y : ℕ) → Has xs y → r x y) × Ordered r xs
 pub record Holds (levels : List (Option ℕ)) (start end : ℕ) (xs : List ℕ) : Type 0 where
   pub sound : (p : ℕ) → Has xs p → (start ≤ p) × (p < end) × ((v : ℕ) × HasLevel levels p v)
   pub complete : (p v : ℕ) → start ≤ p → p < end → HasLevel levels p v → Has xs p
-
--- L2: such a list, in order once the levels from k on were turned
-pub record IsTurned (levels : List (Option ℕ)) (k start end : ℕ) (xs : List ℕ) : Type 0 where
-  pub holds : Holds levels start end xs
-  pub before : Ordered (Before levels k) xs
 
 -- L2: all remaining positions of the line have one level
 pub record IsUniform (levels : List (Option ℕ)) (start end level : ℕ) : Type 0 where

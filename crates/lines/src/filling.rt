@@ -1,16 +1,21 @@
-ghost use Rattle.std.specs.Prelude.{◌≡◌, ◌<◌, ◌≤◌, ◌+◌, ◌-◌, ◌*◌, ◌^◌, ◌++◌, ◌∷◌, [], length, slice_index, take};
+ghost use Rattle.std.specs.Prelude.{◌≡◌, ◌<◌, ◌≤◌, ◌+◌, ◌-◌, ◌*◌, ◌^◌, ◌++◌, ◌∷◌, [], IfSome, IsTrue, length, map, slice_index, take};
 ghost use Rattle.units.specs.Classes.{classes_of};
+ghost use Rattle.units.specs.Isolates.{level_of_para};
 ghost use Rattle.units.specs.Layout.{lines_of};
-ghost use Rattle.units.specs.Reordering.{cuts_of, line_order};
+ghost use Rattle.units.specs.Paragraphs.{paragraphs_of};
+ghost use Rattle.units.specs.Reordering.{cuts_of, line_order, para_at};
 ghost use Rattle.lines.specs.Bounds.{AreBounds, lines_in};
 ghost use Rattle.lines.specs.LineEnds.{EndsAt};
+ghost use Rattle.lines.specs.Spaces.{AreAtParas};
+ghost use Rattle.lines.specs.Turning.{IsUniform};
 
 use crate::bounds::Bound;
 use crate::breaks::Breaks;
 use crate::order::write_order;
+use crate::runs::Run;
 use std::sync::ledger::Ledger;
 use units::bracket::Unit;
-use units::level::Level;
+use units::level::{Level, ParaLevel};
 use units::steps::Steps;
 
 /// The first break that was not passed, or the text's end.
@@ -21,14 +26,25 @@ fn next_break(at: &[usize], passed: usize, len: usize) -> usize
     if passed < at.len() { at[passed] } else { len }
 }
 
-/// Where the line from `start` on ends: behind its first paragraph separator, or at `limit`.
-fn end_of_line<L: Ledger>(own: &[Unit], start: usize, limit: usize, steps: &mut Steps<L>) -> usize
+/// Where the line from `start` on ends: behind its first paragraph separator, or at `limit`. In a text of one paragraph a separator
+/// stands nowhere but in last place, and isn't looked for.
+fn end_of_line<L: Ledger>(
+    own: &[Unit],
+    paragraphs: usize,
+    start: usize,
+    limit: usize,
+    steps: &mut Steps<L>,
+) -> usize
+    requires paragraphs { paragraphs ≡ length (paragraphs_of own.now) }
     requires some { start < limit }
     requires within { limit ≤ length own.now }
     ensures end { EndsAt (classes_of own.now) start limit result }
     ensures at_least { steps.old ≤ steps.new }
     ensures at_most { steps.new ≤ steps.old + (result - start) }
 {
+    if paragraphs == 1 {
+        return limit;
+    }
     let mut end = start;
     for unit in &own[start..limit] {
         steps.tick();
@@ -54,7 +70,9 @@ fn write_line<L: Ledger>(
     levels: &[Option<Level>],
     start: usize,
     end: usize,
+    uniform: Option<ParaLevel>,
     filled: Filled,
+    runs: &mut [Run],
     orders: &mut [usize],
     bounds: &mut [Bound],
     steps: &mut Steps<L>,
@@ -62,19 +80,29 @@ fn write_line<L: Ledger>(
     requires line { start ≤ end }
     requires within { end ≤ length levels.now }
     requires small { length levels.now < 2 ^ 32 }
+    requires uniform { IfSome uniform (λ para. IsUniform levels.now start end (level_of_para para)) }
     requires few { filled.positions ≤ start }
+    requires runs { end ≤ length runs.old }
     requires orders { end ≤ length orders.old }
     requires bounds { filled.lines + 1 < length bounds.old }
     ensures order { take result.positions orders.new ≡ take filled.positions orders.old ++ line_order levels.now start end }
     ensures few { result.positions ≤ end }
     ensures bound { take (result.lines + 1) bounds.new ≡ take (filled.lines + 1) bounds.old ++ record { position = end; order = result.positions } ∷ [] }
     ensures lines { result.lines ≡ filled.lines + 1 }
-    ensures at_least { steps.old + 2 * (end - start) ≤ steps.new }
-    ensures at_most { steps.new ≤ steps.old + 254 * (end - start) + 126 }
+    ensures at_least { steps.old + (end - start) ≤ steps.new }
+    ensures at_most { steps.new ≤ steps.old + 6 * (end - start) }
 {
     let lines = filled.lines + 1;
     let positions = filled.positions
-        + write_order(levels, start, end, &mut orders[filled.positions..], steps);
+        + write_order(
+            levels,
+            start,
+            end,
+            uniform,
+            runs,
+            &mut orders[filled.positions..],
+            steps,
+        );
     bounds[lines] = Bound {
         position: end as u32,
         order: positions as u32,
@@ -85,28 +113,34 @@ fn write_line<L: Ledger>(
 /// Cuts a text into lines, at its breaks and behind its paragraph separators, and writes the lines' orders (L2) to the front of
 /// `orders` and their bounds to the front of `bounds`. It answers how many there are of each.
 ///
-/// The levels are those of the text after L1. It takes at least `2 * n` and at most `255 * n + 127 * k` steps for k lines in a text
-/// of n positions, so at most `382 * n`.
+/// `paras` are the levels of the text's paragraphs, and the levels are those of its positions after L1; `uniform` says that each one
+/// that remains is known to have its paragraph's. `runs` is room for the order of a line. It takes at least n and at most `8 * n` steps
+/// for a text of n positions, however many lines it has.
 pub fn fill_lines<L: Ledger>(
     own: &[Unit],
     breaks: &Breaks,
+    paras: &[ParaLevel],
+    uniform: bool,
     levels: &[Option<Level>],
+    runs: &mut [Run],
     orders: &mut [usize],
     bounds: &mut [Bound],
     steps: &mut Steps<L>,
 ) -> Filled
     requires len { breaks.now.len ≡ length own.now }
+    requires paras { length paras.now ≡ length (paragraphs_of own.now) }
     requires levels { length levels.now ≡ length own.now }
+    requires uniform { IsTrue uniform → AreAtParas (classes_of own.now) (map level_of_para paras.now) levels.now }
     requires small { length own.now < 2 ^ 32 }
+    requires runs { length own.now ≤ length runs.old }
     requires orders { length own.now ≤ length orders.old }
     requires bounds { length own.now < length bounds.old }
     ensures bounds { AreBounds levels.now (take result.positions orders.new) (take (result.lines + 1) bounds.new) }
     ensures lines { lines_in (take result.positions orders.new) (take (result.lines + 1) bounds.new) ≡ lines_of levels.now (cuts_of (classes_of own.now) breaks.now.positions) }
     ensures few_lines { result.lines ≤ length own.now }
     ensures few_positions { result.positions ≤ length own.now }
-    ensures at_least { steps.old + 2 * length own.now ≤ steps.new }
-    ensures at_most { steps.new ≤ steps.old + 255 * length own.now + 127 * result.lines }
-    ensures linear { steps.new ≤ steps.old + 382 * length own.now }
+    ensures at_least { steps.old + length own.now ≤ steps.new }
+    ensures at_most { steps.new ≤ steps.old + 8 * length own.now }
 {
     let at = breaks.positions();
     bounds[0] = Bound {
@@ -118,13 +152,16 @@ pub fn fill_lines<L: Ledger>(
         positions: 0,
     };
     let mut passed = 0;
+    let mut paragraph = 0;
     let mut start = 0;
     while start < own.len() {
         steps.tick();
         let limit = next_break(at, passed, own.len());
-        let end = end_of_line(own, start, limit, steps);
-        filled = write_line(levels, start, end, filled, orders, bounds, steps);
+        let end = end_of_line(own, paras.len(), start, limit, steps);
+        let level = uniform.then_some(paras[paragraph]);
+        filled = write_line(levels, start, end, level, filled, runs, orders, bounds, steps);
         passed += usize::from(end == limit);
+        paragraph += usize::from(own[end - 1].class.is_separator());
         start = end;
     }
     filled

@@ -8,8 +8,10 @@ pub mod laws;
 pub mod lay_out;
 pub mod layout;
 pub mod order;
+mod positions;
 pub mod resets;
 mod resolving;
+pub mod runs;
 pub mod scratch;
 pub mod shown;
 #[cfg(test)]

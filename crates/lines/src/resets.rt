@@ -3,7 +3,7 @@ ghost use Rattle.units.specs.Classes.{classes_of, is_line_separator as separates
 ghost use Rattle.units.specs.Isolates.{level_of_para};
 ghost use Rattle.units.specs.Paragraphs.{paragraphs_of};
 ghost use Rattle.units.specs.Reordering.{after_resets, is_trailing_space, reset_to};
-ghost use Rattle.lines.specs.Spaces.{resets_before};
+ghost use Rattle.lines.specs.Spaces.{AreAtParas, resets_before};
 
 use crate::breaks::Breaks;
 use std::sync::ledger::Ledger;
@@ -105,4 +105,29 @@ pub fn reset_text<L: Ledger>(
             levels[position] = reset_level(reset, paras[paragraph], levels[position]);
         }
     }
+}
+
+/// What `reset_text` does, where it may change a level: not where each position that remains is known to have its paragraph's, as
+/// `uniform` says.
+pub(crate) fn reset_unless_uniform<L: Ledger>(
+    own: &[Unit],
+    breaks: &Breaks,
+    paras: &[ParaLevel],
+    uniform: bool,
+    levels: &mut [Option<Level>],
+    steps: &mut Steps<L>,
+)
+    requires len { breaks.now.len ≡ length own.now }
+    requires levels { length levels.old ≡ length own.now }
+    requires paras { length paras.now ≡ length (paragraphs_of own.now) }
+    requires uniform { IsTrue uniform → AreAtParas (classes_of own.now) (map level_of_para paras.now) levels.old }
+    ensures levels { levels.new ≡ after_resets (classes_of own.now) breaks.now.positions (map level_of_para paras.now) levels.old }
+    ensures uniform { IsTrue uniform → AreAtParas (classes_of own.now) (map level_of_para paras.now) levels.new }
+    ensures at_least { steps.old ≤ steps.new }
+    ensures at_most { steps.new ≤ steps.old + length own.now }
+{
+    if uniform {
+        return;
+    }
+    reset_text(own, breaks, paras, levels, steps);
 }

@@ -2,10 +2,11 @@
 ghost use Rattle.std.specs.Prelude.{◌≡◌, ◌<◌};
 
 use crate::breaks::{BreakFault, Breaks};
-use crate::lay_out::lay_out_uncounted;
+use crate::lay_out::{lay_in, lay_out};
 use crate::layout::Layout;
 use crate::order::write_order;
 use crate::resets::reset_text;
+use crate::runs::Run;
 use crate::scratch::{RoomFault, Scratch};
 use crate::shown::Shown;
 use std::alloc::Global;
@@ -106,8 +107,26 @@ fn shows(
     levels: &[Option<Level>],
     order: &[usize],
 ) -> Result<(), Fail> {
+    shows_counting::<Brand>(rt, room, text, direction, levels, order, Blank::new(1))
+}
+
+/// The same, by a count of steps that begins with the blank.
+fn shows_counting<K: Ledger>(
+    rt: &impl Abort,
+    room: &mut Scratch,
+    text: &[Unit],
+    direction: Direction,
+    levels: &[Option<Level>],
+    order: &[usize],
+    blank: Blank,
+) -> Result<(), Fail>
+    requires name { blank.name ≡ K.name }
+    requires parts { blank.parts ≡ K.parts }
+    requires some { 0 < blank.parts }
+{
+    let mut steps = Steps::<K>::new(blank);
     let breaks = Breaks::new(&[], text.len())?;
-    let layout = lay_out_uncounted(room, text, direction, &breaks)?;
+    let layout = lay_out(room, text, direction, &breaks, &mut steps)?;
     assert_eq!(rt; layout.levels(), levels);
     assert_eq!(rt; layout.line_count(), 1);
     assert_eq!(rt; layout.line(0).order, order);
@@ -182,9 +201,40 @@ fn orders_a_line<K: Ledger>(rt: &impl Abort, blank: Blank)
         Level::new(0),
     ];
     let mut order = [0; 5];
-    let count = write_order(&levels, 1, 5, &mut order, &mut steps);
+    let mut runs = [Run::default(); 5];
+    let count = write_order(&levels, 1, 5, None, &mut runs, &mut order, &mut steps);
     assert_eq!(rt; count, 3);
     assert_eq!(rt; &order[..3], [3, 1, 4].as_slice());
+}
+
+#[test]
+fn links_runs_inside_runs(rt: HostRuntime) {
+    orders_nested_runs::<Brand>(&rt, Blank::new(1));
+}
+
+fn orders_nested_runs<K: Ledger>(rt: &impl Abort, blank: Blank)
+    requires name { blank.name ≡ K.name }
+    requires parts { blank.parts ≡ K.parts }
+    requires some { 0 < blank.parts }
+{
+    let mut steps = Steps::<K>::new(blank);
+    let levels = [
+        None,
+        Level::new(1),
+        Level::new(2),
+        None,
+        Level::new(1),
+        Level::new(3),
+        Level::new(4),
+        Level::new(3),
+        Level::new(0),
+        Level::new(0),
+    ];
+    let mut runs = [Run::default(); 9];
+    let mut order = [0; 9];
+    let count = write_order(&levels, 0, 9, None, &mut runs, &mut order, &mut steps);
+    assert_eq!(rt; count, 7);
+    assert_eq!(rt; &order[..7], [7, 6, 5, 4, 2, 1, 8].as_slice());
 }
 
 #[test]
@@ -455,7 +505,8 @@ fn nests_isolates_deeply(rt: HostRuntime) -> Result<(), Fail> {
 fn lays_out_broken(rt: &impl Abort, room: &mut Scratch, text: &[Unit]) -> Result<(), Fail> {
     let at = [2];
     let breaks = Breaks::new(&at, text.len())?;
-    let layout = lay_out_uncounted(room, text, Direction::Ltr, &breaks)?;
+    lay_in(room, text, Direction::Ltr, &breaks)?;
+    let layout = room.layout();
     assert_eq!(rt; layout.line_count(), 2);
     line_shows(rt, &layout, 0, &[Level::new(1), Level::new(0)], &[0, 1]);
     line_shows(rt, &layout, 1, &[Level::new(1)], &[2]);
@@ -484,7 +535,7 @@ fn lays_out_after_too_long(rt: HostRuntime) -> Result<(), Fail> {
     let expected = levels(alloc, "0 0")?;
     let mut room = Scratch::with_room(alloc, 2)?;
     let breaks = Breaks::new(&[], long.len())?;
-    assert!(&rt; lay_out_uncounted(&mut room, &long, Direction::Ltr, &breaks).is_err());
+    assert!(&rt; lay_in(&mut room, &long, Direction::Ltr, &breaks).is_err());
     shows(&rt, &mut room, &text, Direction::Ltr, &expected, &[0, 1])
 }
 
@@ -513,7 +564,8 @@ fn a_break_behind_a_separator_adds_nothing(rt: HostRuntime) -> Result<(), Fail> 
     let mut room = Scratch::with_room(rt.alloc(), 4)?;
     let at = [3];
     let breaks = Breaks::new(&at, text.len())?;
-    let layout = lay_out_uncounted(&mut room, &text, Direction::Auto, &breaks)?;
+    lay_in(&mut room, &text, Direction::Auto, &breaks)?;
+    let layout = room.layout();
     assert_eq!(&rt;
         layout.para_levels(),
         [ParaLevel::One, ParaLevel::Zero].as_slice()
@@ -531,7 +583,8 @@ fn a_break_begins_a_line(rt: HostRuntime) -> Result<(), Fail> {
     let mut room = Scratch::with_room(rt.alloc(), 4)?;
     let at = [1];
     let breaks = Breaks::new(&at, text.len())?;
-    let layout = lay_out_uncounted(&mut room, &text, Direction::Auto, &breaks)?;
+    lay_in(&mut room, &text, Direction::Auto, &breaks)?;
+    let layout = room.layout();
     assert_eq!(&rt; layout.line_count(), 3);
     line_shows(&rt, &layout, 0, &[Level::new(1)], &[0]);
     line_shows(&rt, &layout, 1, &[Level::new(2), Level::new(1)], &[2, 1]);
@@ -567,7 +620,8 @@ fn is_shown(
     expected: &[char],
 ) -> Result<(), Fail> {
     let breaks = Breaks::new(&[], text.len())?;
-    let layout = lay_out_uncounted(room, text, Direction::Ltr, &breaks)?;
+    lay_in(room, text, Direction::Ltr, &breaks)?;
+    let layout = room.layout();
     assert_eq!(rt; layout.line_count(), 1);
     assert_eq!(rt; layout.levels(), levels);
     assert_eq!(rt; layout.levels().len(), chars.len());

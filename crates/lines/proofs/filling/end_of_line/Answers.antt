@@ -6,6 +6,7 @@ use Rattle.units.specs.Classes.{class_at, classes_of, is_separator}
 use Rattle.units.specs.declared.bracket.Unit.{Unit as TextUnit}
 use Rattle.units.specs.declared.class.Class.{Class}
 use Rattle.lines.proofs.LineEnd.{class_read}
+use Rattle.lines.proofs.ParagraphLines.{ends_at_limit}
 use Rattle.lines.proofs.filling.end_of_line.Goals as goal
 
 joined_more : (own : List Class) (start end : ℕ) → is_separator (class_at own end) ≡ false → ((p : ℕ) → start < p → p ≤ end → is_separator (class_at own (p - 1)) ≡ false) → (p : ℕ) → start < p → p ≤ end + 1 → is_separator (class_at own (p - 1)) ≡ false
@@ -21,6 +22,10 @@ read_at own start limit k end d b there within e is =
     let long : length (slice_range own start limit) ≡ limit - start = length-between own start limit within in
     ap (λ n. is_separator (class_at (classes_of own) n)) e
     ∙ sym (is ∙ ap (λ (u : TextUnit). is_separator u.class) (get_or-between own start limit k d (omega arith)) ∙ ap is_separator (class_read own (start + k) d (omega arith)))
+
+pub returns-then-paragraphs-eq1-clause-end : goal.returns-then-paragraphs-eq1-clause-end
+returns-then-paragraphs-eq1-clause-end g c =
+    ends_at_limit c.args.own.now c.args.start c.args.limit (omega arith) c.requires.some c.requires.within
 
 pub loop-unit-preserved : goal.loop-unit-preserved
 loop-unit-preserved g c =

@@ -1,15 +1,24 @@
-use Rattle.std.proofs.Common.{◌≡◌, ◌≤◌, ◌+◌, ◌++◌, [], ◌∷◌, ℕ, List, Bool, true, false, cond, length, take, set, arith, refl, sym, ap, ◌∙◌, subst}
-use Rattle.std.specs.Prelude.{◌==◌}
+use Rattle.std.proofs.Common.{◌≡◌, ◌<◌, ◌≤◌, ◌+◌, ◌-◌, ◌++◌, [], ◌∷◌, ℕ, List, Option, Bool, true, false, cond, length, take, set, arith, refl, sym, ap, ◌∙◌, subst}
+use Rattle.std.specs.Prelude.{◌==◌, IfSome, count_by, map, slice_index_or}
+use Rattle.std.specs.Bool.{then_some}
 use Rattle.std.proofs.lemmas.List.{length-map, length-take-le, take_more_set}
 use mir.Val.{bool_byte}
-use Rattle.units.specs.Classes.{classes_of}
-use Rattle.units.specs.Reordering.{begins_line}
+use Rattle.units.specs.Classes.{class_at, classes_of, is_separator}
+use Rattle.units.specs.Isolates.{level_of_para}
+use Rattle.units.specs.declared.level.ParaLevel.{ParaLevel}
+use Rattle.units.specs.declared.level.ParaLevel.TheVariants.{Zero}
+use Rattle.units.specs.Reordering.{begins_line, para_at}
 use Rattle.lines.specs.Bounds.{first_bound}
 use Rattle.lines.specs.declared.bounds.Bound.{Bound}
 use Rattle.lines.specs.LineBreaks.{AreBreaks}
+use Rattle.lines.specs.Spaces.{AreAtParas}
+use Rattle.lines.specs.Turning.{IsUniform}
 use Rattle.lines.proofs.Cuts.{Cuts}
-use Rattle.lines.proofs.NextLine.{IsLimit, ends_line, passing_none, passing_on}
+use Rattle.lines.proofs.NextLine.{IsLimit, ends_line, limit_within, passing_none, passing_on}
+use Rattle.lines.proofs.LineEnd.{class_read}
 use Rattle.lines.proofs.LinesWritten.{filling_start, filling_more}
+use Rattle.lines.proofs.ParagraphLines.{counted_on, line_uniform, para_read}
+use Rattle.lines.proofs.Separators.{paragraph_at, paragraphs-few}
 use Rattle.lines.proofs.filling.fill_lines.Goals as goal
 
 byte_is : (b : Bool) → bool_byte b ≡ cond b 1 0
@@ -20,9 +29,52 @@ at_most_one : (b : Bool) → cond b 1 0 ≤ 1
 at_most_one true = omega arith
 at_most_one false = omega arith
 
+byte_small : (b : Bool) → bool_byte b ≤ 1
+byte_small true = omega arith
+byte_small false = omega arith
+
 -- with a line more, that ends there and has an order up to there
 abbrev ended_at : List Bound → ℕ → ℕ → List Bound
 ended_at bounds position order = bounds ++ record { position = position; order = order } ∷ []
+
+-- where the level is known, it is the line's
+known_level : (known : Bool) (levels : List (Option ℕ)) (start end level : ℕ) (para : ParaLevel) → level_of_para para ≡ level → (known ≡ true → IsUniform levels start end level) → IfSome (then_some known para) (λ p. IsUniform levels start end (level_of_para p))
+known_level true levels start end level para e u = subst (IsUniform levels start end) (sym e) (u refl)
+known_level false levels start end level para e u = tt
+
+pub bounds-paras-paragraph : goal.bounds-paras-paragraph
+bounds-paras-paragraph g c =
+    let l = c.loop-start in
+    omega (arith, l.invariant.counted, paragraph_at c.args.own.now (length c.args.paras.now) l.start c.requires.paras (omega arith))
+
+pub overflow_add-paragraph : goal.overflow_add-paragraph
+overflow_add-paragraph g c =
+    let l = c.loop-start in
+    let bound = paragraph_at c.args.own.now (length c.args.paras.now) l.start c.requires.paras (omega arith) in
+    omega (arith, l.invariant.counted, bound, c.requires.paras, paragraphs-few c.args.own.now, c.from-paragraph.ensures, byte_small c.is_separator.result)
+
+pub write_line-filled-requires-clause-uniform : goal.write_line-filled-requires-clause-uniform
+write_line-filled-requires-clause-uniform g c =
+    let l = c.loop-start in
+    let own = classes_of c.args.own.now in
+    let at = c.positions-at.result.now in
+    let levels = c.args.levels.now in
+    let paras = c.args.paras.now in
+    let end = c.end_of_line-end.result in
+    let limit = c.next_break-limit.result in
+    let e = c.end_of_line-end.ensures.end in
+    let len : length own ≡ length c.args.own.now = length-map c.args.own.now (λ u. u.class) in
+    let breaks : AreBreaks at (length own) = subst (AreBreaks at) (c.requires.len ∙ sym len) c.positions-at.ensures.breaks in
+    let is_limit : IsLimit at l.passed (length own) limit = record {
+      coming = c.next_break-limit.ensures.coming;
+      last = λ h. c.next_break-limit.ensures.last h ∙ sym len;
+    } in
+    let within : end ≤ length own = omega (arith, e.within, limit_within at l.passed (length own) limit breaks is_limit) in
+    let bound = paragraph_at c.args.own.now (length paras) l.start c.requires.paras (omega arith) in
+    let para = para_read own paras l.start l.paragraph l.invariant.counted (omega (arith, bound, l.invariant.counted)) in
+    subst (λ o. IfSome o (λ p. IsUniform levels l.start end (level_of_para p))) (sym c.then_some-level.ensures)
+    (known_level c.args.uniform levels l.start end (para_at own (map level_of_para paras) l.start) (slice_index_or paras l.paragraph Zero) para
+    (λ known. line_uniform own (map level_of_para paras) levels l.start limit end (c.requires.uniform known) e within))
 
 pub loop-start-init : goal.loop-start-init
 loop-start-init g c =
@@ -34,6 +86,7 @@ loop-start-init g c =
       few_passed = omega arith;
       few_lines = omega arith;
       few_positions = omega arith;
+      counted = refl;
       at_least = omega arith;
       at_most = omega arith;
     }
@@ -54,6 +107,7 @@ loop-start-preserved g c =
       last = λ h. c.next_break-limit.ensures.last h ∙ sym len;
     } in
     let e = c.end_of_line-end.ensures.end in
+    let within : end ≤ length own = omega (arith, e.within, limit_within at l.passed (length own) limit breaks is_limit) in
     let cuts : Cuts (begins_line own at) l.start end (length own) = ends_line own at l.passed l.start limit end breaks l.invariant.passing is_limit e in
     let step : l.passed + c.from-passed.result ≡ l.passed + cond (end == limit) 1 0 = ap (λ n. l.passed + n) (c.from-passed.ensures ∙ byte_is (end == limit)) in
     let line = c.write_line-filled in
@@ -70,6 +124,10 @@ loop-start-preserved g c =
       few_passed = omega (arith, l.invariant.few_passed, e.above, at_most_one (end == limit), step);
       few_lines = omega (arith, e.above, line.ensures.lines, l.invariant.few_lines);
       few_positions = line.ensures.few;
+      counted =
+          ap (λ n. l.paragraph + n) (c.from-paragraph.ensures ∙ byte_is c.is_separator.result)
+          ∙ counted_on own l.start limit end l.paragraph c.is_separator.result e within l.invariant.counted
+          (c.is_separator.ensures ∙ ap is_separator (class_read c.args.own.now (end - 1) _ (omega (arith, e.above, within, len))));
       at_least = omega (arith, l.invariant.at_least, e.above, c.tick.ensures, c.end_of_line-end.ensures.at_least, line.ensures.at_least);
       at_most = omega (arith, l.invariant.at_most, e.above, c.tick.ensures, c.end_of_line-end.ensures.at_most, line.ensures.at_most, line.ensures.lines);
     }

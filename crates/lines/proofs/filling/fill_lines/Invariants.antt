@@ -1,5 +1,6 @@
-use Rattle.std.proofs.Common.{length, take, ◌-◌, ◌≤◌, ◌+◌, ◌*◌}
-use Rattle.units.specs.Classes.{classes_of}
+use Rattle.std.proofs.Common.{length, take, ◌≡◌, ◌-◌, ◌≤◌, ◌+◌, ◌*◌}
+use Rattle.std.specs.Prelude.{count_by}
+use Rattle.units.specs.Classes.{classes_of, is_separator}
 use Rattle.units.specs.Reordering.{begins_line}
 use Rattle.lines.proofs.LinesWritten.{Filling}
 use Rattle.lines.proofs.NextLine.{Passing}
@@ -13,8 +14,9 @@ invariant-loop-start g l =
       few_passed : l.passed ≤ l.start;
       few_lines : l.filled.lines ≤ l.start;
       few_positions : l.filled.positions ≤ l.start;
-      at_least : l.initial.steps + 2 * l.start ≤ l.steps;
-      at_most : l.steps ≤ l.initial.steps + 255 * l.start + 127 * l.filled.lines;
+      counted : l.paragraph ≡ count_by is_separator (take l.start (classes_of l.own));
+      at_least : l.initial.steps + l.start ≤ l.steps;
+      at_most : l.steps ≤ l.initial.steps + 8 * l.start;
     }
 
 abbrev pub decreases-loop-start : goal.decreases-loop-start

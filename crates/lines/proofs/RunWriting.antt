@@ -1,0 +1,100 @@
+-- The runs of a line as they are written, from left to right.
+use Rattle.std.proofs.Common.{◌≡◌, ℕ, ◌+◌, ◌-◌, ◌*◌, ◌<◌, ◌≤◌, ◌%◌, Option, List, [], ◌∷◌, ◌++◌, length, take, append_assoc, refl, sym, ap, ◌∙◌, inl, inr, arith, subst}
+use Rattle.std.specs.Prelude.{reverse}
+use Rattle.std.proofs.lemmas.List.{append-nil}
+use Rattle.units.specs.Reordering.{line_order}
+use Rattle.lines.specs.declared.runs.Chain.{Chain}
+use Rattle.lines.specs.declared.runs.Run.{Run}
+use Rattle.lines.specs.Turning.{Has, remaining}
+use Rattle.lines.specs.RunLinks.{IsChainOf, IsLevelRun, Leads, run_at, spelled, units_in}
+use Rattle.lines.proofs.Lists.{has_right}
+use Rattle.lines.proofs.LineOrder.{line_order-in_order}
+use Rattle.lines.proofs.RunChains.{has_spelled, once}
+use Rattle.lines.proofs.Uniform.{uniform-falling, uniform-rising}
+
+pub run-rising : (levels : List (Option ℕ)) (start end : ℕ) (r : IsLevelRun levels start end) → r.level % 2 ≡ 0 → remaining levels start end ≡ line_order levels start end
+run-rising levels start end r even = sym (uniform-rising levels start end r.level (omega (arith, r.rises)) even r.uniform)
+
+pub run-falling : (levels : List (Option ℕ)) (start end : ℕ) (r : IsLevelRun levels start end) → r.level % 2 ≡ 1 → reverse (remaining levels start end) ≡ line_order levels start end
+run-falling levels start end r odd = sym (uniform-falling levels start end r.level (omega (arith, r.rises)) odd r.uniform)
+
+-- a run has a position
+none_has : (xs : List ℕ) (x : ℕ) → Has xs x → 0 < length xs
+none_has [] x h = absurd h
+none_has (y ∷ ys) x h = omega arith
+
+pub run-some : (levels : List (Option ℕ)) (start end : ℕ) → IsLevelRun levels start end → 0 < length (line_order levels start end)
+run-some levels start end r =
+    none_has (line_order levels start end) start ((line_order-in_order levels start end (omega (arith, r.rises))).holds.complete start r.level (omega arith) r.rises r.has)
+
+-- the positions of a line are those that are written and those of the runs that are left; there are places and steps for these
+pub record Writes (levels : List (Option ℕ)) (runs : List Run) (positions : List ℕ) (last places most : ℕ) (order : List ℕ) (count position steps : ℕ) : Type 0 where
+  pub rest : List ℕ
+  pub leads : Leads runs position rest last
+  pub are_runs : (x : ℕ) → Has (rest ++ last ∷ []) x → IsLevelRun levels x (run_at runs x).end
+  pub is : positions ≡ take count order ++ spelled levels runs (rest ++ last ∷ [])
+  pub apart : Has rest last → ⊥
+  pub room : count + units_in runs (rest ++ last ∷ []) ≤ places
+  pub budget : steps + 2 * units_in runs (rest ++ last ∷ []) ≤ most
+
+pub writes_start : (levels : List (Option ℕ)) (runs : List Run) (start end most : ℕ) (chain : Chain) (order : List ℕ) (steps : ℕ) → start ≤ end → IsChainOf levels runs (end - start) (line_order levels start end) chain → steps + 2 * (end - start) ≤ most → Writes levels runs (line_order levels start end) chain.last (end - start) most order 0 chain.first steps
+writes_start levels runs start end most chain order steps le h budget =
+    record {
+      rest = h.front;
+      leads = h.leads;
+      are_runs = h.are_runs;
+      is = h.is;
+      apart = once levels runs (end - start) (line_order levels start end) chain h (line_order-in_order levels start end le).ordered;
+      room = omega (arith, h.units);
+      budget = omega (arith, h.units);
+    }
+
+-- the run that is written next, and what is left then
+pub record Next (levels : List (Option ℕ)) (runs : List Run) (positions : List ℕ) (last places most : ℕ) (order : List ℕ) (count position steps : ℕ) : Type 0 where
+  pub run : IsLevelRun levels position (run_at runs position).end
+  pub has : Has positions position
+  pub room : count + ((run_at runs position).end - position) ≤ places
+  pub budget : steps + 2 * ((run_at runs position).end - position) ≤ most
+  pub ends : position ≡ last → positions ≡ take count order ++ line_order levels position (run_at runs position).end
+  pub goes_on : (order2 : List ℕ) (count2 steps2 : ℕ) → (position ≡ last → ⊥) → take count2 order2 ≡ take count order ++ line_order levels position (run_at runs position).end → count2 ≤ count + ((run_at runs position).end - position) → steps2 ≤ steps + 1 + ((run_at runs position).end - position) → Writes levels runs positions last places most order2 count2 (run_at runs position).next steps2
+
+next_from : (levels : List (Option ℕ)) (runs : List Run) (positions : List ℕ) (last places most : ℕ) (order : List ℕ) (count position steps : ℕ) (rest : List ℕ) → Leads runs position rest last → ((x : ℕ) → Has (rest ++ last ∷ []) x → IsLevelRun levels x (run_at runs x).end) → positions ≡ take count order ++ spelled levels runs (rest ++ last ∷ []) → (Has rest last → ⊥) → count + units_in runs (rest ++ last ∷ []) ≤ places → steps + 2 * units_in runs (rest ++ last ∷ []) ≤ most → Next levels runs positions last places most order count position steps
+next_from levels runs positions last places most order count position steps [] leads all is apart room budget =
+    subst (λ n. Next levels runs positions last places most order count n steps) (sym leads) (record {
+      run = all last (inl refl);
+      has = subst (λ ps. Has ps last) (sym is) (has_right (take count order) (spelled levels runs (last ∷ [])) last (has_spelled levels runs (last ∷ []) all last (inl refl)));
+      room = omega arith;
+      budget = omega (arith, (all last (inl refl)).rises);
+      ends = λ e. is ∙ ap (λ ps. take count order ++ ps) (append-nil (line_order levels last (run_at runs last).end));
+      goes_on = λ order2 count2 steps2 ne written few quick. absurd (ne refl);
+    })
+next_from levels runs positions last places most order count position steps (x ∷ xs) leads all is apart room budget =
+    let r = all x (inl refl) in
+    subst (λ n. Next levels runs positions last places most order count n steps) (sym leads.0) (record {
+      run = r;
+      has = subst (λ ps. Has ps x) (sym is) (has_right (take count order) (spelled levels runs (x ∷ (xs ++ last ∷ []))) x (has_spelled levels runs (x ∷ (xs ++ last ∷ [])) all x (inl refl)));
+      room = omega arith;
+      budget = omega arith;
+      ends = λ e. absurd (apart (inl (sym e)));
+      goes_on = λ order2 count2 steps2 ne written few quick. record {
+        rest = xs;
+        leads = leads.1;
+        are_runs = λ y h. all y (inr h);
+        is =
+            is
+            ∙ sym (append_assoc (take count order) (line_order levels x (run_at runs x).end) (spelled levels runs (xs ++ last ∷ [])))
+            ∙ ap (λ ps. ps ++ spelled levels runs (xs ++ last ∷ [])) (sym written);
+        apart = λ h. apart (inr h);
+        room = omega arith;
+        budget = omega (arith, r.rises);
+      };
+    })
+
+pub next_run : (levels : List (Option ℕ)) (runs : List Run) (positions : List ℕ) (last places most : ℕ) (order : List ℕ) (count position steps : ℕ) → Writes levels runs positions last places most order count position steps → Next levels runs positions last places most order count position steps
+next_run levels runs positions last places most order count position steps w =
+    next_from levels runs positions last places most order count position steps w.rest w.leads w.are_runs w.is w.apart w.room w.budget
+
+-- it begins in the line
+pub next-within : (levels : List (Option ℕ)) (runs : List Run) (start end last places most : ℕ) (order : List ℕ) (count position steps : ℕ) → start ≤ end → Next levels runs (line_order levels start end) last places most order count position steps → position < end
+next-within levels runs start end last places most order count position steps le n =
+    let s = (line_order-in_order levels start end le).holds.sound position n.has in s.1

@@ -1,0 +1,10 @@
+use Rattle.std.specs.Prelude.{map}
+use Rattle.std.proofs.Common.{sym}
+use Rattle.units.specs.Classes.{classes_of}
+use Rattle.units.specs.Isolates.{level_of_para}
+use Rattle.lines.proofs.KeptLevels.{levels_kept}
+use Rattle.lines.proofs.resets.reset_unless_uniform.Goals as goal
+
+pub returns-then-uniform-clause-levels : goal.returns-then-uniform-clause-levels
+returns-then-uniform-clause-levels g c =
+    sym (levels_kept (classes_of c.args.own.now) c.args.breaks.now.positions (map level_of_para c.args.paras.now) c.args.levels.now (c.requires.uniform c.if-uniform.true))

@@ -1,0 +1,45 @@
+//! Stretches of a text from which nothing was removed (X9): their positions, written in order.
+ghost use Rattle.std.specs.Prelude.{◌≡◌, ◌<◌, ◌≤◌, ◌+◌, ◌-◌, ◌^◌, ℕ, IsTrue, None, length, reverse, slice_index_or, true};
+ghost use Rattle.std.specs.Option.{is_some};
+ghost use Rattle.units.specs.Positions.{positions_from};
+
+use std::sync::ledger::Ledger;
+use units::level::Level;
+use units::steps::Steps;
+
+/// Whether none of the positions was removed, in a step for each.
+pub(crate) fn all_remain<L: Ledger>(levels: &[Option<Level>], steps: &mut Steps<L>) -> bool
+    ensures remain { IsTrue result → (p : ℕ) → p < length levels.now → is_some (slice_index_or levels.now p None) ≡ true }
+    ensures steps { steps.new ≡ steps.old + length levels.now }
+{
+    steps.add(levels.len());
+    let mut removed = false;
+    for level in levels {
+        removed |= level.is_none();
+    }
+    !removed
+}
+
+/// Writes the positions from `start` on, rising, a step for each place.
+pub(crate) fn count_up<L: Ledger>(start: usize, places: &mut [usize], steps: &mut Steps<L>)
+    requires { start + length places.old < 2 ^ 64 }
+    ensures order { places.new ≡ positions_from start (length places.old) }
+    ensures steps { steps.new ≡ steps.old + length places.old }
+{
+    steps.add(places.len());
+    for (index, place) in places.iter_mut().enumerate() {
+        *place = start + index;
+    }
+}
+
+/// Writes the positions before `end`, falling, a step for each place.
+pub(crate) fn count_down<L: Ledger>(end: usize, places: &mut [usize], steps: &mut Steps<L>)
+    requires { length places.old ≤ end }
+    ensures order { places.new ≡ reverse (positions_from (end - length places.old) (length places.old)) }
+    ensures steps { steps.new ≡ steps.old + length places.old }
+{
+    steps.add(places.len());
+    for (index, place) in places.iter_mut().enumerate() {
+        *place = end - 1 - index;
+    }
+}

@@ -1,0 +1,198 @@
+//! The runs of a line (L2): stretches of one level, linked as they stand on the line from left to right.
+ghost use Rattle.std.specs.Prelude.{◌≡◌, ◌≢◌, ◌≤◌, ◌<◌, ◌+◌, ◌-◌, ◌*◌, ◌^◌, ◌⊎◌, ℕ, [], MatchOption, length};
+ghost use Rattle.units.specs.Reordering.{line_order};
+ghost use Rattle.lines.specs.RunLinks.{BeginsRun, IsChainOf, IsFollowed, IsJoined, IsLinked, StopsBelow, run_at};
+ghost use Rattle.lines.specs.Turning.{HasLevel, IsUniform};
+
+use std::sync::ledger::Ledger;
+use units::level::Level;
+use units::steps::Steps;
+
+/// A run of a line: a stretch of the text in which what remains has one level. It stands in its column at its first position.
+#[derive(Clone, Copy, Default)]
+pub struct Run {
+    /// Where it ends in the text.
+    pub(crate) end: u32,
+    /// Where the run begins that stands right of it.
+    pub(crate) next: u32,
+}
+
+/// Runs that are linked from left to right, each by where it begins.
+#[derive(Clone, Copy)]
+pub(crate) struct Chain {
+    pub(crate) first: u32,
+    pub(crate) last: u32,
+}
+
+impl Chain {
+    /// Links the last run of this chain to the first of the one that comes right of it.
+    fn followed_by(self, right: Chain, runs: &mut [Run]) -> Chain
+        requires { self.last < length runs.old }
+        ensures { IsFollowed self right result runs.old runs.new }
+    {
+        runs[self.last as usize].next = right.first;
+        Chain {
+            first: self.first,
+            last: right.last,
+        }
+    }
+}
+
+/// A stretch of the text that ends before `end`.
+#[derive(Clone, Copy)]
+struct Stretch {
+    end: usize,
+    /// The least level in it.
+    level: Level,
+    /// Its runs.
+    chain: Chain,
+}
+
+impl Stretch {
+    /// Links the stretch and the one that comes after it in the text to one. The earlier stands left of the later where the lesser of
+    /// their levels is even.
+    fn joined(self, later: Stretch, runs: &mut [Run]) -> Stretch
+        requires earlier { self.chain.last < length runs.old }
+        requires later { later.chain.last < length runs.old }
+        ensures { IsJoined self later result runs.old runs.new }
+    {
+        let level = self.level.min(later.level);
+        let chain = if level.get() % 2 == 0 {
+            self.chain.followed_by(later.chain, runs)
+        } else {
+            later.chain.followed_by(self.chain, runs)
+        };
+        Stretch {
+            end: later.end,
+            level,
+            chain,
+        }
+    }
+}
+
+/// Where the run of this level ends that begins at the position, in at most a step for each of its positions.
+fn end_of_run<L: Ledger>(
+    levels: &[Option<Level>],
+    position: usize,
+    level: Level,
+    end: usize,
+    steps: &mut Steps<L>,
+) -> usize
+    requires position { position < end }
+    requires within { end ≤ length levels.now }
+    requires level { HasLevel levels.now position level }
+    ensures rises { position < result }
+    ensures within { result ≤ end }
+    ensures uniform { IsUniform levels.now position result level }
+    ensures stops { (result ≡ end) ⊎ ((v : ℕ) × HasLevel levels.now result v × (v ≢ level)) }
+    ensures at_least { steps.old + (result - position) ≤ steps.new + 1 }
+    ensures at_most { steps.new ≤ steps.old + (result - position) }
+{
+    for next in position + 1..end {
+        steps.tick();
+        if levels[next].is_some_and(|other| other.get() != level.get()) {
+            return next;
+        }
+    }
+    end
+}
+
+/// The stretch of the run of this level that begins at the position, in at most a step for each of its positions.
+fn link_run<L: Ledger>(
+    levels: &[Option<Level>],
+    position: usize,
+    level: Level,
+    end: usize,
+    runs: &mut [Run],
+    steps: &mut Steps<L>,
+) -> Stretch
+    requires position { position < end }
+    requires within { end ≤ length levels.now }
+    requires room { end ≤ length runs.old }
+    requires small { end < 2 ^ 32 }
+    requires level { HasLevel levels.now position level }
+    ensures begins { BeginsRun levels.now position level end result runs.old runs.new }
+    ensures at_least { steps.old + (result.end - position) ≤ steps.new + 1 }
+    ensures at_most { steps.new ≤ steps.old + (result.end - position) }
+{
+    let run_end = end_of_run(levels, position, level, end, steps);
+    runs[position].end = run_end as u32;
+    Stretch {
+        end: run_end,
+        level,
+        chain: Chain {
+            first: position as u32,
+            last: position as u32,
+        },
+    }
+}
+
+/// Links the longest stretch from the position on whose levels are at `least` or higher, in at most four steps for each position.
+fn link_from<L: Ledger>(
+    levels: &[Option<Level>],
+    position: usize,
+    level: Level,
+    least: u8,
+    end: usize,
+    runs: &mut [Run],
+    steps: &mut Steps<L>,
+) -> Stretch
+    requires position { position < end }
+    requires within { end ≤ length levels.now }
+    requires room { end ≤ length runs.old }
+    requires small { end < 2 ^ 32 }
+    requires level { HasLevel levels.now position level }
+    requires least { least ≤ level }
+    ensures linked { IsLinked levels.now runs.new position result }
+    ensures within { result.end ≤ end }
+    ensures least { least ≤ result.level }
+    ensures stops { StopsBelow levels.now least result.end end }
+    ensures kept { (p : ℕ) → p < position → run_at runs.new p ≡ run_at runs.old p }
+    ensures at_least { steps.old + (result.end - position) ≤ steps.new }
+    ensures at_most { steps.new + 1 ≤ steps.old + 4 * (result.end - position) }
+{
+    steps.tick();
+    let mut stretch = link_run(levels, position, level, end, runs, steps);
+    while stretch.end < end {
+        steps.tick();
+        let Some(level) = levels[stretch.end] else {
+            unreachable!("a run ends where one of another level begins");
+        };
+        if level.get() < least {
+            break;
+        }
+        let least_above = stretch.level.get() + 1;
+        let later = if level.get() >= least_above {
+            link_from(levels, stretch.end, level, least_above, end, runs, steps)
+        } else {
+            link_run(levels, stretch.end, level, end, runs, steps)
+        };
+        stretch = stretch.joined(later, runs);
+    }
+    stretch
+}
+
+/// Links the runs of the line from left to right, where any position remains.
+pub(crate) fn link_line<L: Ledger>(
+    levels: &[Option<Level>],
+    start: usize,
+    end: usize,
+    runs: &mut [Run],
+    steps: &mut Steps<L>,
+) -> Option<Chain>
+    requires line { start ≤ end }
+    requires within { end ≤ length levels.now }
+    requires room { end ≤ length runs.old }
+    requires small { end < 2 ^ 32 }
+    ensures linked { MatchOption result (line_order levels.now start end ≡ []) (λ chain. IsChainOf levels.now runs.new (end - start) (line_order levels.now start end) chain) }
+    ensures at_least { steps.old + (end - start) ≤ steps.new }
+    ensures at_most { steps.new ≤ steps.old + 4 * (end - start) }
+{
+    for position in start..end {
+        steps.tick();
+        if let Some(level) = levels[position] {
+            return Some(link_from(levels, position, level, 0, end, runs, steps).chain);
+        }
+    }
+    None
+}
