@@ -3,6 +3,7 @@ pub mod Comparisons
 pub mod ClassesFile
 pub mod CharactersFile
 pub mod FileKinds
+pub mod ThreeDirections
 pub mod Readings
 pub mod Standing
 pub mod Rows

@@ -2,8 +2,8 @@
 use Rattle.std.proofs.Common.{◌≡◌, ℕ, zero, suc, ◌+◌, ◌-◌, ◌<◌, ◌≤◌, Bool, true, false, List, length, get_or, set, Option, Some, None, inl, inr, refl, sym, ap, ◌∙◌, arith}
 use Rattle.std.proofs.lemmas.Bool.{cases_eq, true≢false, and_from, and_left, false_from_ne_true, cond-true, cond-false}
 use Rattle.units.specs.Positions.{first_from}
-use Rattle.units.specs.Classes.{class_at, is_isolate_initiator, is_pdi, is_strong, is_right_to_left}
-use Rattle.units.specs.Isolates.{matching_pdi, partner_of, isolate_around, first_strong, begins_right_to_left}
+use Rattle.units.specs.Classes.{class_at, is_isolate_initiator, is_pdi, is_strong}
+use Rattle.units.specs.Isolates.{matching_pdi, partner_of, isolate_around, first_strong}
 use Rattle.units.specs.declared.class.Class.{Class}
 use Rattle.units.specs.declared.class.Class.TheVariants.{L, R, AL}
 use Rattle.explicit.proofs.Positions.{first_from_is, first_from_nowhere, is_same_refl}
@@ -13,7 +13,10 @@ use Rattle.explicit.proofs.Nesting.{match_bounds, match_is_pdi}
 use Rattle.explicit.proofs.Around.{around_holds, around_zero, around_pair, inside_after, IsUnmatched, around_more, unmatched_other, closes_innermost}
 use Rattle.std.proofs.lemmas.List.{length-set, get_or-set_same, get_or-set_other}
 use Rattle.explicit.proofs.PartnerOf.{partner_of_other, partner_forward, partner_back, partner_nobody}
-use Rattle.explicit.specs.IsolateMaps.{HasPartners, HasSides}
+use Rattle.explicit.specs.IsolateMaps.{HasPartners}
+use Rattle.explicit.specs.Sides.{HasSides, side_at, side_of}
+use Rattle.explicit.specs.declared.side.Side.{Side}
+use Rattle.explicit.specs.declared.side.Side.TheVariants.{Unknown}
 use Rattle.explicit.proofs.StrongInside.{is_strong_in, elsewhere, nested_passed}
 
 -- the isolate in which the place before p lies
@@ -22,11 +25,11 @@ isolate_before cs zero = None
 isolate_before cs (suc p) = inside_after cs p
 
 -- the side of the first strong class there from p on
-unfoldable pub side_from : List Class → Option ℕ → ℕ → Bool
-side_from cs isolate p = begins_right_to_left cs (first_from (is_strong_in cs isolate) p (length cs - p))
+unfoldable pub side_from : List Class → Option ℕ → ℕ → Side
+side_from cs isolate p = side_at cs (first_from (is_strong_in cs isolate) p (length cs - p))
 
-unfoldable pub side_at : List Class → ℕ → Bool
-side_at cs p = side_from cs (isolate_before cs p) p
+unfoldable pub side_behind : List Class → ℕ → Side
+side_behind cs p = side_from cs (isolate_before cs p) p
 
 -- what does not pass may be skipped
 pub first_from_skip : (test : ℕ → Bool) (a b n : ℕ) → a ≤ b → b ≤ n → ((q : ℕ) → a ≤ q → q < b → test q ≡ false) → first_from test a (n - a) ≡ first_from test b (n - b)
@@ -42,15 +45,15 @@ first_from_skip test a b n h h' fails = let e : a + (b - a) ≡ b = omega arith 
 
 pub side_skip : (cs : List Class) (isolate : Option ℕ) (a b : ℕ) → a ≤ b → b ≤ length cs → ((q : ℕ) → a ≤ q → q < b → is_strong_in cs isolate q ≡ false) → side_from cs isolate a ≡ side_from cs isolate b
 unfolding side_from
-side_skip cs isolate a b h h' fails = ap (begins_right_to_left cs) (first_from_skip (is_strong_in cs isolate) a b (length cs) h h' fails)
+side_skip cs isolate a b h h' fails = ap (side_at cs) (first_from_skip (is_strong_in cs isolate) a b (length cs) h h' fails)
 
-pub side_nowhere : (cs : List Class) (isolate : Option ℕ) (a : ℕ) → a ≤ length cs → ((q : ℕ) → a ≤ q → q < length cs → is_strong_in cs isolate q ≡ false) → side_from cs isolate a ≡ false
+pub side_nowhere : (cs : List Class) (isolate : Option ℕ) (a : ℕ) → a ≤ length cs → ((q : ℕ) → a ≤ q → q < length cs → is_strong_in cs isolate q ≡ false) → side_from cs isolate a ≡ Unknown
 unfolding side_from
 side_nowhere cs isolate a h fails =
     let e : first_from (is_strong_in cs isolate) a (length cs - a) ≡ None = first_from_nowhere _ a _ (λ q x y. fails q x (omega arith)) in
     rw e refl
 
-pub side_here : (cs : List Class) (isolate : Option ℕ) (p : ℕ) → p < length cs → is_strong_in cs isolate p ≡ true → side_from cs isolate p ≡ is_right_to_left (class_at cs p)
+pub side_here : (cs : List Class) (isolate : Option ℕ) (p : ℕ) → p < length cs → is_strong_in cs isolate p ≡ true → side_from cs isolate p ≡ side_of (class_at cs p)
 unfolding side_from
 side_here cs isolate p h holds =
     let e : first_from (is_strong_in cs isolate) p (length cs - p) ≡ Some p = first_from_is (is_strong_in cs isolate) p (length cs - p) p (omega arith) (omega arith) holds (λ q x y. absurd (omega arith)) in
@@ -72,19 +75,19 @@ isolate_before_unmatched cs (suc p) free =
     sym (rw e at more)
 
 -- the steps of the pass, from p + 1 to p
-pub side_at_end : (cs : List Class) → side_at cs (length cs) ≡ false
-unfolding side_at
+pub side_at_end : (cs : List Class) → side_behind cs (length cs) ≡ Unknown
+unfolding side_behind
 side_at_end cs = side_nowhere cs _ (length cs) (omega arith) (λ q a b. absurd (omega arith))
 
-pub side_at_strong : (cs : List Class) (p : ℕ) → p < length cs → is_strong (class_at cs p) ≡ true → side_at cs p ≡ is_right_to_left (class_at cs p)
-unfolding side_at
+pub side_at_strong : (cs : List Class) (p : ℕ) → p < length cs → is_strong (class_at cs p) ≡ true → side_behind cs p ≡ side_of (class_at cs p)
+unfolding side_behind
 side_at_strong cs p h strong =
     let plain = strong_is_other (class_at cs p) strong in
     let same = isolate_before_unmatched cs p (unmatched_other cs p plain.1) in
     side_here cs _ p h (and_from _ _ strong (rw same (is_same_refl (isolate_around cs p))))
 
-pub side_at_matched_pdi : (cs : List Class) (p i : ℕ) → p < length cs → matching_pdi cs i ≡ Some p → side_at cs p ≡ false
-unfolding side_at
+pub side_at_matched_pdi : (cs : List Class) (p i : ℕ) → p < length cs → matching_pdi cs i ≡ Some p → side_behind cs p ≡ Unknown
+unfolding side_behind
 side_at_matched_pdi cs zero i h e = let b = match_bounds cs i zero e in absurd (omega (arith, b.0))
 side_at_matched_pdi cs (suc p) i h e =
     let n : p + 1 ≡ suc p = omega arith in
@@ -92,8 +95,8 @@ side_at_matched_pdi cs (suc p) i h e =
     rw inner (side_nowhere cs (Some i) (suc p) (omega arith) (λ q a b. elsewhere cs (Some i) q (λ here. let lt = (around_holds cs q i here).before (suc p) e in absurd (omega arith))))
 
 -- a position that is no initiator and no matched PDI
-pub side_at_plain : (cs : List Class) (p : ℕ) → p < length cs → is_strong (class_at cs p) ≡ false → is_isolate_initiator (class_at cs p) ≡ false → IsUnmatched cs p → side_at cs p ≡ side_at cs (p + 1)
-unfolding side_at inside_after
+pub side_at_plain : (cs : List Class) (p : ℕ) → p < length cs → is_strong (class_at cs p) ≡ false → is_isolate_initiator (class_at cs p) ≡ false → IsUnmatched cs p → side_behind cs p ≡ side_behind cs (p + 1)
+unfolding side_behind inside_after
 side_at_plain cs p h weak plain free =
     let n : p + 1 ≡ suc p = omega arith in
     let same = isolate_before_unmatched cs p free in
@@ -101,8 +104,8 @@ side_at_plain cs p h weak plain free =
     let skip = side_skip cs (isolate_around cs p) p (p + 1) (omega arith) (omega arith) (λ q a b. let here : q ≡ p = omega arith in rw here (and_left _ _ weak)) in
     rw same (skip ∙ (rw (n, next) refl))
 
-pub side_at_matched : (cs : List Class) (p a : ℕ) → matching_pdi cs p ≡ Some a → is_strong (class_at cs p) ≡ false → side_at cs p ≡ side_at cs (a + 1)
-unfolding side_at inside_after
+pub side_at_matched : (cs : List Class) (p a : ℕ) → matching_pdi cs p ≡ Some a → is_strong (class_at cs p) ≡ false → side_behind cs p ≡ side_behind cs (a + 1)
+unfolding side_behind inside_after
 side_at_matched cs p a e weak =
     let b = match_bounds cs p a e in
     let opener = matching_pdi_opens cs p a e in
@@ -133,8 +136,8 @@ side_at_matched cs p a e weak =
     second (closing x y) c = x
     second (other x y) c = x
 
-pub side_at_unmatched : (cs : List Class) (p : ℕ) → p < length cs → is_isolate_initiator (class_at cs p) ≡ true → is_pdi (class_at cs p) ≡ false → is_strong (class_at cs p) ≡ false → matching_pdi cs p ≡ None → side_at cs p ≡ false
-unfolding side_at
+pub side_at_unmatched : (cs : List Class) (p : ℕ) → p < length cs → is_isolate_initiator (class_at cs p) ≡ true → is_pdi (class_at cs p) ≡ false → is_strong (class_at cs p) ≡ false → matching_pdi cs p ≡ None → side_behind cs p ≡ Unknown
+unfolding side_behind
 side_at_unmatched cs p h opener not_pdi weak e =
     let same = isolate_before_unmatched cs p (unmatched_other cs p not_pdi) in
     rw same (side_nowhere cs (isolate_around cs p) p (omega arith) (λ q x y.
@@ -144,8 +147,8 @@ side_at_unmatched cs p h opener not_pdi weak e =
     ]))
 
 -- what the pass finds: the side of an isolate, and of what lies outside of all
-pub side_of_isolate : (cs : List Class) (i : ℕ) → i < length cs → is_isolate_initiator (class_at cs i) ≡ true → side_at cs (i + 1) ≡ begins_right_to_left cs (first_strong cs (Some i))
-unfolding side_at side_from inside_after first_strong
+pub side_of_isolate : (cs : List Class) (i : ℕ) → i < length cs → is_isolate_initiator (class_at cs i) ≡ true → side_behind cs (i + 1) ≡ side_at cs (first_strong cs (Some i))
+unfolding side_behind side_from inside_after first_strong
 side_of_isolate cs i h opener =
     let n : i + 1 ≡ suc i = omega arith in
     let inner : inside_after cs i ≡ Some i = cond-true _ (Some i) (isolate_around cs i) opener in
@@ -154,19 +157,19 @@ side_of_isolate cs i h opener =
     let skip' = rw zero_off at skip in
     rw (n, inner) (sym (rw n at skip'))
 
-pub side_outside : (cs : List Class) → side_at cs 0 ≡ begins_right_to_left cs (first_strong cs None)
-unfolding side_at side_from first_strong
+pub side_outside : (cs : List Class) → side_behind cs 0 ≡ side_at cs (first_strong cs None)
+unfolding side_behind side_from first_strong
 side_outside cs = let zero_off : length cs - 0 ≡ length cs = omega arith in rw zero_off refl
 
 -- the pass has come back to k
-pub record IsCarrying (cs : List Class) (k : ℕ) (partners : List (Option ℕ)) (sides : List Bool) (carried : Bool) : Type 0 where
+pub record IsCarrying (cs : List Class) (k : ℕ) (partners : List (Option ℕ)) (sides : List Side) (carried : Side) : Type 0 where
   pub partner : HasPartners partners cs
   pub within : k ≤ length cs
   pub same_room : length sides ≡ length partners
-  pub carried_is : carried ≡ side_at cs k
-  pub behind : (q : ℕ) → k ≤ q → q < length cs → get_or sides q false ≡ side_at cs (q + 1)
+  pub carried_is : carried ≡ side_behind cs k
+  pub behind : (q : ℕ) → k ≤ q → q < length cs → get_or sides q Unknown ≡ side_behind cs (q + 1)
 
-pub carrying_none : (cs : List Class) (partners : List (Option ℕ)) (sides : List Bool) → HasPartners partners cs → length sides ≡ length partners → IsCarrying cs (length cs) partners sides false
+pub carrying_none : (cs : List Class) (partners : List (Option ℕ)) (sides : List Side) → HasPartners partners cs → length sides ≡ length partners → IsCarrying cs (length cs) partners sides Unknown
 carrying_none cs partners sides partner same_room = record {
   partner = partner;
   within = omega arith;
@@ -176,7 +179,7 @@ carrying_none cs partners sides partner same_room = record {
 }
 
 -- what stands behind k is written, and what is carried over k is the side there
-pub carrying_more : (cs : List Class) (k : ℕ) (partners : List (Option ℕ)) (sides : List Bool) (carried next : Bool) → IsCarrying cs (k + 1) partners sides carried → next ≡ side_at cs k → IsCarrying cs k partners (set sides k carried) next
+pub carrying_more : (cs : List Class) (k : ℕ) (partners : List (Option ℕ)) (sides : List Side) (carried next : Side) → IsCarrying cs (k + 1) partners sides carried → next ≡ side_behind cs k → IsCarrying cs k partners (set sides k carried) next
 carrying_more cs k partners sides carried next now e =
     let enough = now.partner.enough in
     let within = now.within in
@@ -187,32 +190,32 @@ carrying_more cs k partners sides carried next now e =
       same_room = length-set sides k carried ∙ same;
       carried_is = e;
       behind = λ q a b. elim (cases_eq q k) [
-        | inl here ↦ rw here (get_or-set_same sides k carried false (omega arith) ∙ now.carried_is)
-        | inr ne ↦ get_or-set_other sides k q carried false (λ s. absurd (ne s)) ∙ now.behind q (omega arith) b
+        | inl here ↦ rw here (get_or-set_same sides k carried Unknown (omega arith) ∙ now.carried_is)
+        | inr ne ↦ get_or-set_other sides k q carried Unknown (λ s. absurd (ne s)) ∙ now.behind q (omega arith) b
       ];
     }
 
 -- what is carried over a class that is not strong, by its partner
-pub over_pdi : (cs : List Class) (k a : ℕ) (partners : List (Option ℕ)) (sides : List Bool) (carried : Bool) → IsCarrying cs (k + 1) partners sides carried → is_strong (class_at cs k) ≡ false → get_or partners k None ≡ Some a → k < a → get_or (set sides k carried) a false ≡ side_at cs k
+pub over_pdi : (cs : List Class) (k a : ℕ) (partners : List (Option ℕ)) (sides : List Side) (carried : Side) → IsCarrying cs (k + 1) partners sides carried → is_strong (class_at cs k) ≡ false → get_or partners k None ≡ Some a → k < a → get_or (set sides k carried) a Unknown ≡ side_behind cs k
 over_pdi cs k a partners sides carried now weak e lt =
     let within = now.within in
     let m = partner_forward cs k a (sym (now.partner.at k (omega arith)) ∙ e) lt in
     let b = match_bounds cs k a m in
-    get_or-set_other sides k a carried false (λ s. absurd (omega arith)) ∙ now.behind a (omega arith) b.1 ∙ sym (side_at_matched cs k a m weak)
+    get_or-set_other sides k a carried Unknown (λ s. absurd (omega arith)) ∙ now.behind a (omega arith) b.1 ∙ sym (side_at_matched cs k a m weak)
 
-pub pdi_within : (cs : List Class) (k a : ℕ) (partners : List (Option ℕ)) (sides : List Bool) (carried : Bool) → IsCarrying cs (k + 1) partners sides carried → get_or partners k None ≡ Some a → k < a → a < length cs
+pub pdi_within : (cs : List Class) (k a : ℕ) (partners : List (Option ℕ)) (sides : List Side) (carried : Side) → IsCarrying cs (k + 1) partners sides carried → get_or partners k None ≡ Some a → k < a → a < length cs
 pdi_within cs k a partners sides carried now e lt =
     let within = now.within in
     let m = partner_forward cs k a (sym (now.partner.at k (omega arith)) ∙ e) lt in
     let b = match_bounds cs k a m in b.1
 
-pub over_matched_pdi : (cs : List Class) (k a : ℕ) (partners : List (Option ℕ)) (sides : List Bool) (carried : Bool) → IsCarrying cs (k + 1) partners sides carried → get_or partners k None ≡ Some a → a ≤ k → false ≡ side_at cs k
+pub over_matched_pdi : (cs : List Class) (k a : ℕ) (partners : List (Option ℕ)) (sides : List Side) (carried : Side) → IsCarrying cs (k + 1) partners sides carried → get_or partners k None ≡ Some a → a ≤ k → Unknown ≡ side_behind cs k
 over_matched_pdi cs k a partners sides carried now e le =
     let within = now.within in
     let m = partner_back cs k a (sym (now.partner.at k (omega arith)) ∙ e) le in
     sym (side_at_matched_pdi cs k a (omega arith) m)
 
-pub over_lost : (cs : List Class) (k : ℕ) (partners : List (Option ℕ)) (sides : List Bool) (carried : Bool) → IsCarrying cs (k + 1) partners sides carried → is_strong (class_at cs k) ≡ false → get_or partners k None ≡ None → is_isolate_initiator (class_at cs k) ≡ true → false ≡ side_at cs k
+pub over_lost : (cs : List Class) (k : ℕ) (partners : List (Option ℕ)) (sides : List Side) (carried : Side) → IsCarrying cs (k + 1) partners sides carried → is_strong (class_at cs k) ≡ false → get_or partners k None ≡ None → is_isolate_initiator (class_at cs k) ≡ true → Unknown ≡ side_behind cs k
 over_lost cs k partners sides carried now weak e opener =
     let within = now.within in
     let not_pdi : is_pdi (class_at cs k) ≡ false = go (kind_of (class_at cs k)) in
@@ -224,22 +227,22 @@ over_lost cs k partners sides carried now weak e opener =
     go (closing x y) = absurd (true≢false (sym opener ∙ x))
     go (other x y) = y
 
-pub over_plain : (cs : List Class) (k : ℕ) (partners : List (Option ℕ)) (sides : List Bool) (carried : Bool) → IsCarrying cs (k + 1) partners sides carried → is_strong (class_at cs k) ≡ false → get_or partners k None ≡ None → is_isolate_initiator (class_at cs k) ≡ false → carried ≡ side_at cs k
+pub over_plain : (cs : List Class) (k : ℕ) (partners : List (Option ℕ)) (sides : List Side) (carried : Side) → IsCarrying cs (k + 1) partners sides carried → is_strong (class_at cs k) ≡ false → get_or partners k None ≡ None → is_isolate_initiator (class_at cs k) ≡ false → carried ≡ side_behind cs k
 over_plain cs k partners sides carried now weak e plain =
     let within = now.within in
     let nobody : partner_of cs k ≡ None = sym (now.partner.at k (omega arith)) ∙ e in
     now.carried_is ∙ sym (side_at_plain cs k (omega arith) weak plain (partner_nobody cs k nobody))
 
-pub over_strong : (cs : List Class) (k : ℕ) (partners : List (Option ℕ)) (sides : List Bool) (carried : Bool) → IsCarrying cs (k + 1) partners sides carried → is_strong (class_at cs k) ≡ true → is_right_to_left (class_at cs k) ≡ side_at cs k
+pub over_strong : (cs : List Class) (k : ℕ) (partners : List (Option ℕ)) (sides : List Side) (carried : Side) → IsCarrying cs (k + 1) partners sides carried → is_strong (class_at cs k) ≡ true → side_of (class_at cs k) ≡ side_behind cs k
 over_strong cs k partners sides carried now strong = let within = now.within in sym (side_at_strong cs k (omega arith) strong)
 
 -- the bound of a loop that counts down, and the position before it
-pub carrying_at : (cs : List Class) (p : ℕ) (partners : List (Option ℕ)) (sides : List Bool) (carried : Bool) → IsCarrying cs p partners sides carried → 0 < p → IsCarrying cs (p - 1 + 1) partners sides carried
+pub carrying_at : (cs : List Class) (p : ℕ) (partners : List (Option ℕ)) (sides : List Side) (carried : Side) → IsCarrying cs p partners sides carried → 0 < p → IsCarrying cs (p - 1 + 1) partners sides carried
 carrying_at cs p partners sides carried now h = let e : p - 1 + 1 ≡ p = omega arith in rw e now
 
 -- the pass is over
-pub carried_outside : (cs : List Class) (partners : List (Option ℕ)) (sides : List Bool) (carried : Bool) → IsCarrying cs 0 partners sides carried → carried ≡ begins_right_to_left cs (first_strong cs None)
+pub carried_outside : (cs : List Class) (partners : List (Option ℕ)) (sides : List Side) (carried : Side) → IsCarrying cs 0 partners sides carried → carried ≡ side_at cs (first_strong cs None)
 carried_outside cs partners sides carried now = now.carried_is ∙ side_outside cs
 
-pub carried_sides : (cs : List Class) (partners : List (Option ℕ)) (sides : List Bool) (carried : Bool) → IsCarrying cs 0 partners sides carried → HasSides sides cs
+pub carried_sides : (cs : List Class) (partners : List (Option ℕ)) (sides : List Side) (carried : Side) → IsCarrying cs 0 partners sides carried → HasSides sides cs
 carried_sides cs partners sides carried now = λ p h opener. now.behind p (omega arith) h ∙ side_of_isolate cs p h opener

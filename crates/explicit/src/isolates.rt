@@ -1,10 +1,12 @@
-//! The isolates of a paragraph (BD9), and which direction each begins with (P2, P3).
+//! The isolates of a paragraph (BD9), and which side each begins on (P2, P3).
 ghost use Rattle.std.specs.Prelude.{◌≡◌, ◌+◌, ◌*◌, ◌<◌, ◌≤◌, length, List, true, false, Option, Some, None, IfOk, slice_index_or};
 ghost use Rattle.units.specs.Classes.{class_at, classes_of, is_isolate_initiator};
 ghost use Rattle.units.specs.Isolates.{partner_of, first_strong, begins_right_to_left};
 ghost use Rattle.units.specs.declared.class.Class.{Class};
-ghost use Rattle.explicit.specs.IsolateMaps.{room, HasPartners, HasSides, IsFilledFrom};
+ghost use Rattle.explicit.specs.IsolateMaps.{room, HasPartners, IsFilledFrom};
+ghost use Rattle.explicit.specs.Sides.{HasSides, side_at};
 
+use crate::side::Side;
 use std::alloc::Global;
 use std::boxed::BoxedSlice;
 use std::marker::Model;
@@ -14,16 +16,16 @@ use units::memory::Memory;
 use units::optional_position::OptionalPosition;
 use units::steps::Steps;
 
-/// The isolates of a paragraph: the partner of each isolate initiator and of each PDI, and whether the first strong
-/// class directly inside each isolate, and outside of all, is R or AL. Its room is made once and filled in place.
+/// The isolates of a paragraph: the partner of each isolate initiator and of each PDI, and the side of the first strong
+/// class directly inside each isolate, and outside of all. Its room is made once and filled in place.
 #[derive(Drop)]
 pub struct IsolateMap {
     partners: BoxedSlice<OptionalPosition>,
     // The stack of open initiators, in use while partners are matched.
     openers: BoxedSlice<u32>,
-    // Behind each position, whether the next strong class of the isolate there is R or AL.
-    sides: BoxedSlice<bool>,
-    outside: bool,
+    // Behind each position, the side of the next strong class of the isolate there.
+    sides: BoxedSlice<Side>,
+    outside: Side,
 }
 
 impl Model for IsolateMap {
@@ -49,12 +51,12 @@ impl IsolateMap {
         }
         let partners = vec![in alloc; OptionalPosition::none(); n]?.into_boxed_slice();
         let openers = vec![in alloc; 0; n]?.into_boxed_slice();
-        let sides = vec![in alloc; false; n]?.into_boxed_slice();
+        let sides = vec![in alloc; Side::Unknown; n]?.into_boxed_slice();
         Ok(IsolateMap {
             partners,
             openers,
             sides,
-            outside: false,
+            outside: Side::Unknown,
         })
     }
 
@@ -84,11 +86,11 @@ impl IsolateMap {
         requires { p < room self.now }
         ensures { (cs : List Class) → IsFilledFrom self.now cs → p < length cs → is_isolate_initiator (class_at cs p) ≡ true → result ≡ begins_right_to_left cs (first_strong cs (Some p)) }
     {
-        self.sides[p]
+        self.sides[p].is_right_to_left()
     }
 
-    // P2, P3: whether the first strong class outside of all isolates is R or AL.
-    pub(crate) fn is_right_to_left_outside(&self) -> bool
+    // P2, P3: the side of the first strong class outside of all isolates.
+    pub(crate) fn outside(&self) -> Side
         ensures { result ≡ self.now.outside }
     {
         self.outside
@@ -129,27 +131,27 @@ fn match_partners<L: Ledger>(
 fn carry_sides<L: Ledger>(
     para: &[Unit],
     partners: &[OptionalPosition],
-    sides: &mut [bool],
+    sides: &mut [Side],
     steps: &mut Steps<L>,
-) -> bool
+) -> Side
     requires matched { HasPartners partners.now (classes_of para.now) }
     requires fits { length sides.old ≡ length partners.now }
-    ensures outside { result ≡ begins_right_to_left (classes_of para.now) (first_strong (classes_of para.now) None) }
+    ensures outside { result ≡ side_at (classes_of para.now) (first_strong (classes_of para.now) None) }
     ensures sides { HasSides sides.new (classes_of para.now) }
     ensures steps { steps.new ≡ steps.old + length para.now }
 {
-    let mut carried = false;
+    let mut carried = Side::Unknown;
     for p in (0..para.len()).rev() {
         steps.tick();
         sides[p] = carried;
         let class = para[p].class;
         carried = if class.is_strong() {
-            class.is_right_to_left()
+            Side::Unknown.noting(class)
         } else {
             match partners[p].get() {
                 Some(pdi) if p < pdi => sides[pdi],
-                Some(_) => false,
-                None if class.is_isolate_initiator() => false,
+                Some(_) => Side::Unknown,
+                None if class.is_isolate_initiator() => Side::Unknown,
                 None => carried,
             }
         };

@@ -1,7 +1,8 @@
 use Rattle.std.proofs.Common.{◌≡◌, ◌-◌, ◌<◌, length, true, false, get_or, None, arith, sym, ap, ◌∙◌}
 use Rattle.std.proofs.lemmas.List.{length-map, length-set, get_or_read}
-use Rattle.units.specs.Classes.{class_at, classes_of, is_isolate_initiator, is_strong, is_right_to_left}
+use Rattle.units.specs.Classes.{class_at, classes_of, is_isolate_initiator, is_strong}
 use Rattle.explicit.proofs.Roles.{class_read}
+use Rattle.explicit.specs.Sides.{side_of}
 use Rattle.explicit.proofs.Sides.{carrying_none, carrying_more, carrying_at, carried_outside, carried_sides, over_pdi, pdi_within, over_matched_pdi, over_lost, over_plain, over_strong}
 use Rattle.explicit.proofs.isolates.carry_sides.Goals as goal
 
@@ -11,8 +12,8 @@ loop-p-init g c =
     let n : length (classes_of para) ≡ length para = length-map _ _ in
     record { carrying = rw (← n) (carrying_none (classes_of para) _ _ c.requires.matched c.requires.fits); taken = omega arith }
 
-pub bounds-sides-pdi : goal.bounds-sides-pdi
-bounds-sides-pdi g c =
+pub slice_copy_out-carried : goal.slice_copy_out-carried
+slice_copy_out-carried g c =
     let para = c.args.para.now in
     let cs = classes_of para in
     let n : length cs ≡ length para = length-map _ _ in
@@ -36,7 +37,7 @@ loop-p-preserved-then-is_strong g c =
     let inside : c.loop-p.p - 1 < length para = omega arith in
     let now = carrying_at cs c.loop-p.p _ _ c.loop-p.carried c.loop-p.invariant.carrying (omega (arith, start)) in
     let strong : is_strong (class_at cs (c.loop-p.p - 1)) ≡ true = ap is_strong (class_read para _ _ inside) ∙ sym c.is_strong.ensures ∙ c.if-is_strong.true in
-    let side : is_right_to_left (class_at cs (c.loop-p.p - 1)) ≡ c.is_right_to_left-carried.result = ap is_right_to_left (class_read para _ _ inside) ∙ sym c.is_right_to_left-carried.ensures in
+    let side : side_of (class_at cs (c.loop-p.p - 1)) ≡ c.noting-carried.result = ap side_of (class_read para _ _ inside) ∙ sym c.noting-carried.ensures in
     record { carrying = carrying_more cs _ _ _ _ _ now (sym side ∙ over_strong cs _ _ _ _ now strong); taken = omega (arith, c.loop-p.invariant.taken, start) }
 
 pub loop-p-preserved-in-Some : goal.loop-p-preserved-in-Some
