@@ -1,5 +1,5 @@
 -- P2, P3: which side the first strong class has, directly inside an isolate or outside of all.
-use Rattle.std.specs.Prelude.{◌≡◌, ◌<◌, ℕ, Bool, true, false, if◌then◌else◌, List, Option, Some, None, length, slice_index_or}
+use Rattle.std.specs.Prelude.{◌≡◌, ◌<◌, ℕ, Bool, true, false, if◌then◌else◌, List, Option, Some, None, length, slice_index_or, slice_set}
 use Rattle.units.specs.Classes.{class_at, is_isolate_initiator}
 use Rattle.units.specs.Classes.{is_right_to_left as is_class_right_to_left}
 use Rattle.units.specs.Isolates.{first_strong}
@@ -32,3 +32,7 @@ side_at cs (Some p) = side_of (class_at cs p)
 abbrev pub HasSides : List Side → List Class → Type 0
 HasSides sides cs =
     (p : ℕ) → p < length cs → is_isolate_initiator (class_at cs p) ≡ true → slice_index_or sides p Unknown ≡ side_at cs (first_strong cs (Some p))
+
+-- what was found, with this strong class noted at a position
+abbrev pub noted_at : List Side → ℕ → Class → List Side
+noted_at sides i c = slice_set sides i (noted (slice_index_or sides i Unknown) c)

@@ -9,7 +9,7 @@ pub mod laws;
 pub mod levels;
 pub mod para_level;
 pub mod paragraph;
-pub mod side;
+mod side;
 mod status;
 #[cfg(test)]
 mod tests;
