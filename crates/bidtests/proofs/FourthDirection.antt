@@ -2,7 +2,7 @@
 use Rattle.std.proofs.Common.{◌≡◌, ℕ, ◌<◌, ◌≤◌, ◌==◌, Bool, true, false, Option, None, Some, List, [], ◌∷◌, map, length, inl, inr, refl, sym, ap, ◌∙◌, arith, codes}
 use Rattle.std.specs.Prelude.{◌⊎◌, ◌&&◌, nat_le, nat_lt}
 use Rattle.std.specs.Str.{bytes_eq}
-use Rattle.std.proofs.lemmas.Bool.{cases_Bool, cases_eq, and_parts}
+use Rattle.std.proofs.lemmas.Bool.{cases_Bool, cases_eq, and_parts, leb-true}
 use Rattle.units.specs.Text.{content_of, each_read, fields_of, items_of, lines_of, longest_line}
 use Rattle.units.specs.declared.bracket.Unit.{Unit as BidiUnit}
 use Rattle.units.specs.declared.level.Direction.{Direction}
@@ -20,7 +20,7 @@ use Rattle.bidtests.specs.ThreeDirections.{one_digit, zero_to_two, three_classes
 use Rattle.bidtests.proofs.SameUpTo.{AreSameUpTo, verdict-same}
 
 -- one is none, or both are the same
-IsSameOrNone : {A : Type 0} → Option A → Option A → Type 0
+abbrev IsSameOrNone : {A : Type 0} → Option A → Option A → Type 0
 IsSameOrNone few all = (few ≡ None) ⊎ (few ≡ all)
 
 digit-names : (d : ℕ) → 49 ≤ d → d ≤ 55 → one_digit (d ∷ []) ≡ bit_set (d ∷ [])
@@ -49,7 +49,7 @@ bit_sets : (bits : List ℕ) → IsSameOrNone (one_digit bits) (bit_set bits)
 bit_sets [] = inl refl
 bit_sets (d ∷ e ∷ bits) = inl refl
 bit_sets (d ∷ []) = elim (cases_Bool (nat_le 49 d && nat_le d 55)) [
-  | inl within ↦ let both = and_parts _ _ within in inr (digit-names d (omega (arith, both)) (omega (arith, both)))
+  | inl within ↦ let both = and_parts (nat_le 49 d) (nat_le d 55) within in inr (digit-names d (leb-true 49 d both.0) (leb-true d 55 both.1))
   | inr without ↦ inl (rw without refl)
 ]
 
@@ -67,7 +67,7 @@ direction_fields field = elim (cases_Bool (bytes_eq field (codes "0"))) [
 
 -- Files of classes
 
-IsLineAlike : ClassesLine → ClassesLine → Type 0
+abbrev IsLineAlike : ClassesLine → ClassesLine → Type 0
 IsLineAlike few all = (few ≡ Broken BitSet) ⊎ (few ≡ all)
 
 row_of-alike : (text : Option (List BidiUnit)) (few all : Option (List Direction)) → IsSameOrNone few all → IsLineAlike (row_of text few) (row_of text all)
@@ -108,7 +108,7 @@ lines-alike earlier (line ∷ lines) = elim (line-alike line) [
 
 -- Files of characters
 
-IsRowAlike : Finding → Finding → Type 0
+abbrev IsRowAlike : Finding → Finding → Type 0
 IsRowAlike few all = (few ≡ Faulty DirectionField) ⊎ (few ≡ all)
 
 claims-alike : (text : Option (List BidiUnit)) (few all : Option Direction) (para : Option ParaLevel) (levels : Option (List (Option ℕ))) (order : Option (List ℕ)) → IsSameOrNone few all
