@@ -1,5 +1,5 @@
 -- The grammar of BidiTest.txt, line by line, and the verdict on such a file.
-use Rattle.std.specs.Prelude.{Option, ℕ, ◌-◌, ◌/◌, ◌%◌, Bool, ◌&&◌, ◌==◌, nat_lt, nat_le, nat_eq, if◌then◌else◌, List, [], ◌∷◌, length, filter, map, Some, None, drop, codes}
+use Rattle.std.specs.Prelude.{Option, ℕ, ◌/◌, ◌%◌, Bool, ◌==◌, nat_lt, nat_eq, if◌then◌else◌, List, [], ◌∷◌, length, filter, map, Some, None, drop, codes}
 use Rattle.std.specs.List.{starts_with}
 use Rattle.std.specs.Option.{option_map}
 use Rattle.std.specs.Str.{bytes_eq}
@@ -9,7 +9,7 @@ use Rattle.units.specs.declared.class.Class.{Class}
 use Rattle.units.specs.declared.bracket.Bracket.TheVariants.{No}
 use Rattle.units.specs.declared.bracket.Unit.{Unit as BidiUnit}
 use Rattle.units.specs.declared.level.Direction.{Direction}
-use Rattle.units.specs.declared.level.Direction.TheVariants.{Auto, Ltr, Rtl}
+use Rattle.units.specs.declared.level.Direction.TheVariants.{Auto, Ltr, Rtl, AutoRtl}
 use Rattle.bidtests.specs.declared.verdict.Cause.{Cause}
 use Rattle.bidtests.specs.declared.verdict.Cause.TheVariants.{LineTooLong, Directive, LevelItem, OrderItem, ClassItem, BitSet, NoExpectation, FieldCount, EmptyRow}
 use Rattle.bidtests.specs.declared.verdict.Verdict.{Verdict}
@@ -27,24 +27,29 @@ level_item item = if bytes_eq item removed_item then Some None else option_map S
 abbrev pub order_item : List ℕ → Option ℕ
 order_item item = number_up_to 65535 item
 
--- bit 1 names auto, bit 2 LTR, bit 4 RTL
+-- bit 1 names auto, bit 2 LTR, bit 4 RTL, bit 8 AutoRtl
 abbrev pub names_direction : ℕ → Direction → Bool
 names_direction bits Auto = bits % 2 == 1
 names_direction bits Ltr = bits / 2 % 2 == 1
-names_direction bits Rtl = bits / 4 == 1
+names_direction bits Rtl = bits / 4 % 2 == 1
+names_direction bits AutoRtl = bits / 8 == 1
 
 -- the directions in the order in which a row is judged under them
 abbrev pub directions_in_order : List Direction
-directions_in_order = Auto ∷ Ltr ∷ Rtl ∷ []
+directions_in_order = Auto ∷ Ltr ∷ Rtl ∷ AutoRtl ∷ []
 
--- the directions that a number of 1 to 7 names, in that order
+-- the directions that a number of 1 to 15 names, in that order
 abbrev pub directions_of : ℕ → List Direction
 directions_of bits = filter (names_direction bits) directions_in_order
 
--- the directions that a bit set names: exactly one digit of 1 to 7
+-- the directions that this number names: 0 names none
+abbrev pub directions_by : Option ℕ → Option (List Direction)
+directions_by None = None
+directions_by (Some bits) = if bits == 0 then None else Some (directions_of bits)
+
+-- the directions that a bit set names: a number of 1 to 15
 abbrev pub bit_set : List ℕ → Option (List Direction)
-bit_set (d ∷ []) = if nat_le 49 d && nat_le d 55 then Some (directions_of (d - 48)) else None
-bit_set _ = None
+bit_set field = directions_by (number_up_to 15 field)
 
 -- the unit of a class, which is no bracket
 abbrev pub unit_of_class : Class → BidiUnit
@@ -86,24 +91,30 @@ row_of None directions = Broken ClassItem
 row_of (Some text) None = Broken BitSet
 row_of (Some text) (Some directions) = RowOf text directions
 
--- what a row of these items says: it has at least one
-abbrev pub row_with : List (List ℕ) → List ℕ → ClassesLine
-row_with [] bits = Broken EmptyRow
-row_with (name ∷ names) bits = row_of (each_read unit_item (name ∷ names)) (bit_set bits)
+-- what a row of these items says: it has at least one; and by how bit sets are read
+abbrev pub row_with : (List ℕ → Option (List Direction)) → List (List ℕ) → List ℕ → ClassesLine
+row_with reads [] bits = Broken EmptyRow
+row_with reads (name ∷ names) bits = row_of (each_read unit_item (name ∷ names)) (reads bits)
 
 -- what a row of these fields says: it has exactly two
+abbrev pub data_line_by : (List ℕ → Option (List Direction)) → List (List ℕ) → ClassesLine
+data_line_by reads (names ∷ bits ∷ []) = row_with reads (items_of names) bits
+data_line_by reads _ = Broken FieldCount
+
 abbrev pub data_line : List (List ℕ) → ClassesLine
-data_line (names ∷ bits ∷ []) = row_with (items_of names) bits
-data_line _ = Broken FieldCount
+data_line fields = data_line_by bit_set fields
 
 -- what a content says: nothing if it is empty, a directive if it begins with `@`, else a row
-abbrev pub line_of_content : List ℕ → ClassesLine
-line_of_content [] = Nothing
-line_of_content (b ∷ bs) = if b == 64 then directive (b ∷ bs) else data_line (fields_of (b ∷ bs))
+abbrev pub line_of_content : (List ℕ → Option (List Direction)) → List ℕ → ClassesLine
+line_of_content reads [] = Nothing
+line_of_content reads (b ∷ bs) = if b == 64 then directive (b ∷ bs) else data_line_by reads (fields_of (b ∷ bs))
 
 -- what a line says by itself
+abbrev pub classes_line_by : (List ℕ → Option (List Direction)) → List ℕ → ClassesLine
+classes_line_by reads line = if nat_lt longest_line (length line) then Broken LineTooLong else line_of_content reads (content_of line)
+
 unfoldable pub classes_line : List ℕ → ClassesLine
-classes_line line = if nat_lt longest_line (length line) then Broken LineTooLong else line_of_content (content_of line)
+classes_line line = classes_line_by bit_set line
 
 -- the levels in force behind these lines, the nearest of them first: those of the nearest line that lists levels
 abbrev pub levels_in_force : List ClassesLine → Option (List (Option ℕ))

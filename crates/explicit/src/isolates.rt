@@ -4,7 +4,7 @@ ghost use Rattle.units.specs.Classes.{class_at, classes_of, is_isolate_initiator
 ghost use Rattle.units.specs.Isolates.{partner_of, first_strong, begins_right_to_left};
 ghost use Rattle.units.specs.declared.class.Class.{Class};
 ghost use Rattle.explicit.specs.IsolateMaps.{room, HasPartners, IsFilledFrom};
-ghost use Rattle.explicit.specs.Sides.{HasSides, side_at, noted, noted_at, is_right_to_left};
+ghost use Rattle.explicit.specs.Sides.{HasSides, side_at, noted, noted_at};
 
 use crate::side::Side;
 use std::alloc::Global;
@@ -95,11 +95,11 @@ impl IsolateMap {
         self.sides[p].is_right_to_left()
     }
 
-    // P2, P3: whether the first strong class outside of all isolates is R or AL.
-    pub(crate) fn is_right_to_left_outside(&self) -> bool
-        ensures { result ≡ is_right_to_left self.now.outside }
+    // P2, P3: the side of the first strong class outside of all isolates.
+    pub(crate) fn outside(&self) -> Side
+        ensures { result ≡ self.now.outside }
     {
-        self.outside.is_right_to_left()
+        self.outside
     }
 }
 
