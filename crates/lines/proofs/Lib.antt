@@ -1,6 +1,7 @@
 pub mod Least
 pub mod Lists
 pub mod TextLevels
+pub mod AtParas
 pub mod Turning
 pub mod Stretches
 pub mod Remaining

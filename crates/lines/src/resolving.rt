@@ -1,17 +1,28 @@
 //! The paragraph levels and the resolved levels of a text (P1 to I2).
-ghost use Rattle.std.specs.Prelude.{◌≡◌, ◌≤◌, ◌+◌, ◌*◌, length, map, take};
+ghost use Rattle.std.specs.Prelude.{◌≡◌, ◌≤◌, ◌+◌, ◌*◌, length, map, take, true};
+ghost use Rattle.units.specs.Classes.{classes_of};
 ghost use Rattle.units.specs.Isolates.{level_of_para};
 ghost use Rattle.units.specs.Layout.{para_levels_of, text_levels};
+ghost use Rattle.lines.specs.Spaces.{AreAtParas};
 
-use explicit::paragraphs;
-use resolve::paragraph::Resolver;
+use paragraph::contents::FirstParagraph;
+use paragraph::resolver::Resolver;
 use std::sync::ledger::Ledger;
 use units::bracket::Unit;
 use units::level::{Direction, Level, ParaLevel};
 use units::steps::Steps;
 
+/// What is known of a text that was resolved.
+#[derive(Clone, Copy)]
+pub struct ResolvedText {
+    /// How many paragraphs it has.
+    pub paragraphs: usize,
+    /// Known to be at the level of its paragraph at each position that remains (X9).
+    pub uniform: bool,
+}
+
 /// Writes the levels of a text's paragraphs to the front of `paras`, and the resolved levels of its positions to the front of
-/// `levels`, paragraph by paragraph. It answers how many paragraphs there are.
+/// `levels`, paragraph by paragraph.
 pub(crate) fn resolve_text<L: Ledger>(
     text: &[Unit],
     direction: Direction,
@@ -19,28 +30,43 @@ pub(crate) fn resolve_text<L: Ledger>(
     paras: &mut [ParaLevel],
     levels: &mut [Option<Level>],
     steps: &mut Steps<L>,
-) -> usize
+) -> ResolvedText
     requires resolver { length text.now ≤ resolver.old }
     requires paras { length text.now ≤ length paras.old }
     requires levels { length text.now ≤ length levels.old }
     ensures resolver { resolver.new ≡ resolver.old }
-    ensures paras { map level_of_para (take result paras.new) ≡ para_levels_of text.now direction }
-    ensures few { result ≤ length text.now }
+    ensures paras { map level_of_para (take result.paragraphs paras.new) ≡ para_levels_of text.now direction }
+    ensures few { result.paragraphs ≤ length text.now }
     ensures levels { take (length text.now) levels.new ≡ text_levels text.now direction }
-    ensures at_least { steps.old + 3 * length text.now ≤ steps.new }
-    ensures at_most { steps.new ≤ steps.old + 194 * length text.now }
+    ensures uniform { result.uniform ≡ true → AreAtParas (classes_of text.now) (map level_of_para (take result.paragraphs paras.new)) (take (length text.now) levels.new) }
+    ensures at_least { steps.old + 2 * length text.now ≤ steps.new }
+    ensures at_most { steps.new ≤ steps.old + 193 * length text.now }
 {
-    let mut count = 0;
+    let mut paragraphs = 0;
+    let mut uniform = true;
     let mut start = 0;
-    for para in paragraphs(text) {
+    while start < text.len() {
         steps.tick();
 
-        // P1: the units that the search for the paragraph's end passed.
-        steps.add(para.len());
-        let end = start + para.len();
-        paras[count] = resolver.resolve(para, direction, &mut levels[start..end], steps);
-        count += 1;
+        // P1.
+        let first = FirstParagraph::of(&text[start..], steps);
+        let end = start + first.length;
+
+        // P2 to I2.
+        let resolved = resolver.resolve_known(
+            &text[start..end],
+            first.contents,
+            direction,
+            &mut levels[start..end],
+            steps,
+        );
+        paras[paragraphs] = resolved.level;
+        uniform &= resolved.uniform;
+        paragraphs += 1;
         start = end;
     }
-    count
+    ResolvedText {
+        paragraphs,
+        uniform,
+    }
 }

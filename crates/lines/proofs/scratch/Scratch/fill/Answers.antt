@@ -12,7 +12,7 @@ pub returns-clause-layout : goal.returns-clause-layout
 returns-clause-layout g c =
     let room = c.args.self.now in
     let n : ℕ = length c.args.text.now in
-    let found = c.resolve_text-paragraphs in
+    let found = c.resolve_text-resolved in
     let filled = c.arrange-filled in
     let as_paras : length found.new.paras ≡ room.paras.items.len = search rules in
     let as_levels : length found.new.levels ≡ room.levels.items.len = search rules in
@@ -24,7 +24,7 @@ returns-clause-layout g c =
     let levels_are = with_items_is (with_items room.levels.items found.new.levels) filled.new.levels as_levels_too in
     let orders_are = with_items_is room.orders.items filled.new.orders as_orders in
     let bounds_are = with_items_is room.bounds.items filled.new.bounds as_bounds in
-    let paras : List ℕ = map level_of_para (take found.result found.new.paras) in
+    let paras : List ℕ = map level_of_para (take found.result.paragraphs found.new.paras) in
     let held_paras : c.deref.result.now ≡ found.new.paras = c.deref.ensures.value ∙ paras_are in
     let held_levels : c.deref_mut-3.result.now ≡ found.new.levels = c.deref_mut-3.ensures.value ∙ levels_were in
     let reset : take n filled.new.levels ≡ after_resets (classes_of c.args.text.now) c.args.breaks.now.positions paras (take n found.new.levels) =
