@@ -8,7 +8,5 @@ pub mod IdleRules
 pub mod Unbracketed
 pub mod Stages
 pub mod Staying
-pub mod Finding
 pub mod Absences
 pub mod LeftOut
-pub mod TargetScan

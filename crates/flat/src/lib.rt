@@ -1,8 +1,6 @@
-//! Paragraphs in which most rules of the bidirectional algorithm have nothing to do: the laws of them, and the scan that knows them.
+//! Laws of paragraphs in which most rules of the bidirectional algorithm have nothing to do.
 #![tactic(auto)]
 
-pub mod contents;
 pub mod paragraphs;
 pub mod rules;
-pub mod targets;
 pub mod uniform;

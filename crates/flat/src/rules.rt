@@ -8,8 +8,6 @@ ghost use Rattle.units.specs.Weak.{by_w3, after_w1, after_w2, after_w3, after_w4
 ghost use Rattle.units.specs.declared.bracket.Unit.{Unit as BidiUnit};
 ghost use Rattle.units.specs.declared.class.Class.{Class};
 ghost use Rattle.units.specs.declared.class.Class.TheVariants.{AN};
-ghost use Rattle.flat.specs.declared.targets.Targets.{Targets};
-ghost use Rattle.flat.specs.Targets.{AreTargetsOf, by_targets};
 ghost use Rattle.flat.specs.IdleRules.{is_direction, is_european_number, is_arabic_letter, is_number, is_number_separator, is_number_mark, is_weak_target, FailsForBrought, HasNone, HasNoOpening};
 
 /// A rule without a class or a bracket that it can change changes nothing;
@@ -43,9 +41,4 @@ pub fn absences()
     ensures w4 { (test : Class → Bool) → FailsForBrought test → (cs : List Class) → HasNone test cs → HasNone test (after_w4 cs) }
     ensures w5 { (test : Class → Bool) → FailsForBrought test → (cs : List Class) → HasNone test cs → HasNone test (after_w5 cs) }
     ensures w6 { (test : Class → Bool) → FailsForBrought test → (cs : List Class) → HasNone test cs → HasNone test (after_w6 cs) }
-{}
-
-/// W1 to W7 come to those of them that have a target in the sequence.
-pub fn rules_by_targets()
-    ensures { (targets : Targets) → (sos : Class) → is_direction sos ≡ true → (cs : List Class) → AreTargetsOf targets cs → by_targets targets sos cs ≡ after_weak sos cs }
 {}

@@ -1,6 +1,7 @@
 pub mod Least
 pub mod Lists
 pub mod TextLevels
+pub mod AtParas
 pub mod Remaining
 pub mod LineOrder
 pub mod Levels

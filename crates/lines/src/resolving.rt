@@ -5,8 +5,8 @@ ghost use Rattle.units.specs.Isolates.{level_of_para};
 ghost use Rattle.units.specs.Layout.{para_levels_of, text_levels};
 ghost use Rattle.lines.specs.Spaces.{AreAtParas};
 
-use explicit::paragraphs;
-use resolve::paragraph::Resolver;
+use paragraph::contents::FirstParagraph;
+use paragraph::resolver::Resolver;
 use std::sync::ledger::Ledger;
 use units::bracket::Unit;
 use units::level::{Direction, Level, ParaLevel};
@@ -39,23 +39,34 @@ pub(crate) fn resolve_text<L: Ledger>(
     ensures few { result.paragraphs ≤ length text.now }
     ensures levels { take (length text.now) levels.new ≡ text_levels text.now direction }
     ensures uniform { result.uniform ≡ true → AreAtParas (classes_of text.now) (map level_of_para (take result.paragraphs paras.new)) (take (length text.now) levels.new) }
-    ensures at_least { steps.old + 3 * length text.now ≤ steps.new }
-    ensures at_most { steps.new ≤ steps.old + 194 * length text.now }
+    ensures at_least { steps.old + 2 * length text.now ≤ steps.new }
+    ensures at_most { steps.new ≤ steps.old + 84 * length text.now }
 {
-    let mut count = 0;
+    let mut paragraphs = 0;
+    let mut uniform = true;
     let mut start = 0;
-    for para in paragraphs(text) {
+    while start < text.len() {
         steps.tick();
 
-        // P1: the units that the search for the paragraph's end passed.
-        steps.add(para.len());
-        let end = start + para.len();
-        paras[count] = resolver.resolve(para, direction, &mut levels[start..end], steps);
-        count += 1;
+        // P1.
+        let first = FirstParagraph::of(&text[start..], steps);
+        let end = start + first.length;
+
+        // P2 to I2.
+        let resolved = resolver.resolve_known(
+            &text[start..end],
+            first.contents,
+            direction,
+            &mut levels[start..end],
+            steps,
+        );
+        paras[paragraphs] = resolved.level;
+        uniform &= resolved.uniform;
+        paragraphs += 1;
         start = end;
     }
     ResolvedText {
-        paragraphs: count,
-        uniform: false,
+        paragraphs,
+        uniform,
     }
 }

@@ -1,46 +1,36 @@
-use Rattle.std.proofs.Common.{arith, rules, ap, ◌∙◌, subst, ◌≡◌, ◌<◌, ◌+◌, ◌++◌, ◌∷◌, ℕ, List, Option, length, take}
-use Rattle.std.proofs.lemmas.List.{take_more_set}
+use Rattle.std.proofs.Common.{arith, rules, ap, sym, ◌∙◌, subst, ◌≡◌, ◌<◌, ◌+◌, ◌-◌, ◌++◌, ◌∷◌, [], ℕ, List, Option, length, take, drop, refl}
+use Rattle.std.specs.List.{All}
+use Rattle.std.proofs.lemmas.List.{drop-drop, length-drop, take_more_set}
+use Rattle.std.proofs.lemmas.List.Elements.{All-nil}
 use Rattle.std.proofs.lemmas.Slice.{take-put_mid}
 use Rattle.units.specs.declared.bracket.Unit.{Unit as BidiUnit}
-use Rattle.units.specs.Paragraphs.{paragraphs_of}
-use Rattle.lines.proofs.TextLevels.{IsWritten, written_none, some_units, within_text, written_next}
+use Rattle.units.specs.Paragraphs.{paragraphs_of, SeparatorOnlyLast}
+use Rattle.units.specs.Isolates.{level_of_para}
+use Rattle.units.specs.declared.level.Direction.{Direction}
+use Rattle.units.specs.declared.level.ParaLevel.{ParaLevel}
+use Rattle.explicit.specs.FirstParagraph.{first_length}
+use Rattle.explicit.proofs.OneCutting.{paragraphs_of_split}
+use Rattle.paragraph.specs.Resolvers.{StaysAt}
+use Rattle.lines.proofs.AtParas.{Stays, staying_more, text_at_paras}
+use Rattle.lines.proofs.TextLevels.{IsWritten, para_level, para_levels, written_none, separator_last, within_text, written_next, all_written, written_paras, written_levels}
 use Rattle.lines.proofs.resolving.resolve_text.Goals as goal
 
-pub loop-para-init : goal.loop-para-init
-loop-para-init g c =
-    let pieces : c.into_iter-para-iterator.result ≡ paragraphs_of c.args.text.now =
-    c.into_iter-para-iterator.ensures.into_iter_gives ∙ c.paragraphs-para-items.ensures.pieces in
-    record {
-      written = rw pieces (written_none c.args.text.now c.args.direction c.args.levels.now);
-      few = omega arith;
-      resolver = search rules;
-      at_least = omega arith;
-      at_most = omega arith;
-    }
+-- the first paragraph of what is left, and what is left behind it
+next_piece : (text : List BidiUnit) (start n : ℕ) → start < length text → n ≡ first_length (drop start text) →
+    paragraphs_of (drop start text) ≡ take n (drop start text) ∷ paragraphs_of (drop (start + n) text)
+next_piece text start n lt e =
+    let rest : List BidiUnit = drop start text in
+    paragraphs_of_split rest (omega (arith, length-drop start text))
+    ∙ ap (λ (k : ℕ). take k rest ∷ paragraphs_of (drop k rest)) (sym e)
+    ∙ ap (λ (us : List BidiUnit). take n rest ∷ paragraphs_of us) (drop-drop n start text)
 
-pub bounds-paras-count : goal.bounds-paras-count
-bounds-paras-count g c =
-    let l = c.loop-para in
-    let P : List (List BidiUnit) → Type 0 = λ rest. IsWritten c.args.text.now c.args.direction l.start (take l.count l.paras) l.levels rest in
-    let w : P (c.in-Some.para.now ∷ c.next.new.self) = subst P c.in-Some.ensures.steps l.invariant.written in
-    let some = some_units w in
-    let within = within_text w in
-    omega (arith, l.auto.paras, l.invariant.few, c.requires.paras)
-
-pub loop-para-preserved : goal.loop-para-preserved
-loop-para-preserved g c =
-    let l = c.loop-para in
-    let P : List (List BidiUnit) → Type 0 = λ rest. IsWritten c.args.text.now c.args.direction l.start (take l.count l.paras) l.levels rest in
-    let w : P (c.in-Some.para.now ∷ c.next.new.self) = subst P c.in-Some.ensures.steps l.invariant.written in
-    let some = some_units w in
-    let within = within_text w in
-    let room : l.count < length l.paras = omega (arith, l.auto.paras, l.invariant.few, c.requires.paras) in
-    record {
-      written = rw (take_more_set l.paras l.count c.resolve.result room) (written_next w c.resolve.result _ c.resolve.ensures.level
-          (take-put_mid l.start _ l.levels c.resolve.new.levels (l.start + length c.in-Some.para.now) (omega arith) (omega arith)
-          ∙ ap (λ (xs : List (Option ℕ)). take l.start l.levels ++ xs) c.resolve.ensures.levels));
-      few = omega (arith, l.invariant.few);
-      resolver = search rules;
-      at_least = omega arith;
-      at_most = omega arith;
-    }
+pub loop-start-init : goal.loop-start-init
+loop-start-init g c = record {
+  written = written_none c.args.text.now c.args.direction c.args.levels.now;
+  staying = λ e all. all;
+  few = omega arith;
+  inside = omega arith;
+  resolver = search rules;
+  at_least = omega arith;
+  at_most = omega arith;
+}

@@ -1,12 +1,20 @@
-use Rattle.std.proofs.Common.{◌≡◌, ◌≤◌, ◌+◌, ◌*◌, take}
+use Rattle.std.proofs.Common.{◌≡◌, ◌≤◌, ◌+◌, ◌-◌, ◌*◌, drop, length, take, true}
+use Rattle.std.specs.List.{All}
+use Rattle.units.specs.Paragraphs.{paragraphs_of}
+use Rattle.lines.proofs.AtParas.{Stays}
 use Rattle.lines.proofs.TextLevels.{IsWritten}
 use Rattle.lines.proofs.resolving.resolve_text.Given as goal
 
-abbrev pub invariant-loop-para : goal.invariant-loop-para
-invariant-loop-para g l = record {
-  written : IsWritten l.text l.direction l.start (take l.count l.paras) l.levels l.para-iterator;
-  few : l.count ≤ l.start;
+abbrev pub invariant-loop-start : goal.invariant-loop-start
+invariant-loop-start g l = record {
+  written : IsWritten l.text l.direction l.start (take l.paragraphs l.paras) l.levels (paragraphs_of (drop l.start l.text));
+  staying : l.uniform ≡ true → All (Stays l.direction) (paragraphs_of (drop l.start l.text)) → All (Stays l.direction) (paragraphs_of l.text);
+  few : l.paragraphs ≤ l.start;
+  inside : l.start ≤ length l.text;
   resolver : l.resolver ≡ l.initial.resolver;
-  at_least : l.initial.steps + 3 * l.start ≤ l.steps;
-  at_most : l.steps ≤ l.initial.steps + 194 * l.start;
+  at_least : l.initial.steps + 2 * l.start ≤ l.steps;
+  at_most : l.steps ≤ l.initial.steps + 84 * l.start;
 }
+
+abbrev pub decreases-loop-start : goal.decreases-loop-start
+decreases-loop-start g l = length l.text - l.start

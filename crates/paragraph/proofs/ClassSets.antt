@@ -1,0 +1,36 @@
+-- Whether a set of classes has one of some.
+use Rattle.std.proofs.Common.{◌≡◌, Bool, true, false, List, [], ◌∷◌, refl, ap, sym, ◌∙◌}
+use Rattle.std.specs.Prelude.{◌||◌}
+use Rattle.std.specs.List.{list_any}
+use Rattle.units.specs.declared.class.Class.{Class}
+use Rattle.paragraph.specs.ClassSets.{is_class}
+
+or_false : (a b : Bool) → (b ≡ false) → (a || b) ≡ a
+or_false true b e = refl
+or_false false b e = e
+
+-- a test that passes for some of the 23 classes passes for a list that has one of these
+abbrev pub any_of : List Class → List Class → Bool
+any_of [] cs = false
+any_of (d ∷ ds) cs = list_any (is_class d) cs || any_of ds cs
+
+or_swap : (a b c d : Bool) → ((a || b) || (c || d)) ≡ ((a || c) || (b || d))
+or_swap true b c d = refl
+or_swap false true true d = refl
+or_swap false true false d = refl
+or_swap false false c d = refl
+
+any_of-nil : (ds : List Class) → any_of ds [] ≡ false
+any_of-nil [] = refl
+any_of-nil (d ∷ ds) = any_of-nil ds
+
+any_of-cons : (ds cs : List Class) (c : Class) → any_of ds (c ∷ cs) ≡ (any_of ds (c ∷ []) || any_of ds cs)
+any_of-cons [] cs c = refl
+any_of-cons (d ∷ ds) cs c =
+    ap (λ b. (is_class d c || list_any (is_class d) cs) || b) (any_of-cons ds cs c)
+    ∙ or_swap (is_class d c) (list_any (is_class d) cs) (any_of ds (c ∷ [])) (any_of ds cs)
+    ∙ ap (λ b. (b || any_of ds (c ∷ [])) || any_of (d ∷ ds) cs) (sym (or_false (is_class d c) false refl))
+
+pub found_by : (test : Class → Bool) (ds : List Class) → ((c : Class) → test c ≡ any_of ds (c ∷ [])) → (cs : List Class) → any_of ds cs ≡ list_any test cs
+found_by test ds e [] = any_of-nil ds
+found_by test ds e (c ∷ cs) = any_of-cons ds cs c ∙ ap (λ b. b || any_of ds cs) (sym (e c)) ∙ ap (λ b. test c || b) (found_by test ds e cs)

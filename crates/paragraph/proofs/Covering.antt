@@ -1,0 +1,199 @@
+-- Sequence by sequence, each position gets the level that its sequence gives it.
+use Rattle.std.specs.Prelude.{Option, Some, None, ℕ, zero, suc, ◌==◌, ◌+◌, ◌<◌, ◌≤◌, ◌≡◌, List, [], ◌∷◌, ◌++◌, length, map, take, drop, Contains, slice_index, slice_get, refl}
+use Rattle.std.specs.List.{All, flat_map, find, zip}
+use Rattle.std.specs.Option.{option_map}
+use Rattle.std.proofs.Common.{arith, ap, sym, ◌∙◌, subst, inl, inr, get_or}
+use Rattle.std.proofs.lemmas.Bool.{cases_Bool, cases_lt, cond-true, cond-false, eqb-true}
+use Rattle.std.proofs.lemmas.List.{length-append, length-map, take-append-drop, take_more, append_assoc, append-nil}
+use Rattle.std.proofs.lemmas.List.Elements.{All-contains, All-get_or, Contains-append_left, Contains-append_right}
+use Rattle.std.proofs.lemmas.Option.{get_or_from_slice_get}
+use Rattle.units.specs.Classes.{class_at, classes_at}
+use Rattle.units.specs.Layout.{levels_in, level_found, levels_of_sequence}
+use Rattle.units.specs.Runs.{SequenceView}
+use Rattle.units.proofs.Lengths.{length-levels_of_sequence}
+use Rattle.units.specs.declared.bracket.Unit.{Unit as BidiUnit}
+use Rattle.units.specs.declared.class.Class.{Class}
+use Rattle.sequences.specs.Once.{times}
+use Rattle.sequences.proofs.Once.{one_if, one_if-same, times-append, times-cons}
+use Rattle.paragraph.specs.Covering.{positions_in, AreApart, HasLevelsBy}
+use Rattle.resolve.specs.Raised.{resolved_at}
+use Rattle.resolve.specs.Resolved.{HasLevels, KeepsOtherLevels}
+use Rattle.resolve.specs.Rewritten.{KeepsOthers}
+
+-- a position that a list holds stands in it
+pub times_some : (ps : List ℕ) (p : ℕ) → Contains ps p → 0 < times ps p
+times_some [] p c = absurd (omega (arith, c.1))
+times_some (x ∷ ps) p (zero, within, e) = omega (arith, times-cons x ps p, one_if-same x p e)
+times_some (x ∷ ps) p (suc k, within, e) = omega (arith, times-cons x ps p, times_some ps p (k, omega arith, e))
+
+-- what is found for a position that the list does not hold
+pub found_none : (ps vs : List ℕ) (p : ℕ) → times ps p ≡ 0 → level_found (zip ps vs) p ≡ None
+found_none [] vs p e = refl
+found_none (x ∷ ps) [] p e = refl
+found_none (x ∷ ps) (v ∷ vs) p e =
+    elim (cases_Bool (x == p)) [
+      | inl same ↦ absurd (omega (arith, e, times-cons x ps p, one_if-same x p (eqb-true x p same)))
+      | inr other ↦
+          ap (option_map (λ (y : ℕ × ℕ). y.1)) (cond-false (x == p) (Some (x, v)) (find (λ (y : ℕ × ℕ). y.0 == p) (zip ps vs)) other)
+          ∙ found_none ps vs p (omega (arith, e, times-cons x ps p))
+    ]
+
+-- what is found for a position that stands in the list: the level beside it
+pub found_some : (ps vs : List ℕ) (p : ℕ) → length vs ≡ length ps → 0 < times ps p →
+    (k : ℕ) × (k < length ps) × (slice_index ps k ≡ p) × (level_found (zip ps vs) p ≡ Some (slice_index vs k))
+found_some [] vs p n l = absurd (omega arith)
+found_some (x ∷ ps) [] p n l = absurd (omega arith)
+found_some (x ∷ ps) (v ∷ vs) p n l =
+    elim (cases_Bool (x == p)) [
+      | inl same ↦
+          (0, omega arith, eqb-true x p same, ap (option_map (λ (y : ℕ × ℕ). y.1)) (cond-true (x == p) (Some (x, v)) (find (λ (y : ℕ × ℕ). y.0 == p) (zip ps vs)) same))
+      | inr other ↦
+          (let zero : one_if x p ≡ 0 = cond-false (x == p) 1 0 other in
+          let w = found_some ps vs p (omega arith) (omega (arith, times-cons x ps p)) in (
+            suc w.0,
+            omega (arith, w.1),
+            w.2,
+            ap (option_map (λ (y : ℕ × ℕ). y.1)) (cond-false (x == p) (Some (x, v)) (find (λ (y : ℕ × ℕ). y.0 == p) (zip ps vs)) other) ∙ w.3,
+          ))
+    ]
+
+found-append : (xs ys : List (ℕ × ℕ)) (p : ℕ) → level_found xs p ≡ None → level_found (xs ++ ys) p ≡ level_found ys p
+found-append [] ys p e = refl
+found-append (x ∷ xs) ys p e =
+    elim (cases_Bool (x.0 == p)) [
+      | inl same ↦ absurd (let f : Some x.1 ≡ None = ap (option_map (λ (y : ℕ × ℕ). y.1)) (sym (cond-true (x.0 == p) (Some x) (find (λ (y : ℕ × ℕ). y.0 == p) xs) same)) ∙ e in cc)
+      | inr other ↦
+          ap (option_map (λ (y : ℕ × ℕ). y.1)) (cond-false (x.0 == p) (Some x) (find (λ (y : ℕ × ℕ). y.0 == p) (xs ++ ys)) other)
+          ∙ found-append xs ys p (ap (option_map (λ (y : ℕ × ℕ). y.1)) (sym (cond-false (x.0 == p) (Some x) (find (λ (y : ℕ × ℕ). y.0 == p) xs) other)) ∙ e)
+    ]
+
+found-append_none : (xs ys : List (ℕ × ℕ)) (p : ℕ) → level_found ys p ≡ None → level_found (xs ++ ys) p ≡ level_found xs p
+found-append_none [] ys p e = e
+found-append_none (x ∷ xs) ys p e =
+    elim (cases_Bool (x.0 == p)) [
+      | inl same ↦
+          ap (option_map (λ (y : ℕ × ℕ). y.1)) (cond-true (x.0 == p) (Some x) (find (λ (y : ℕ × ℕ). y.0 == p) (xs ++ ys)) same
+          ∙ sym (cond-true (x.0 == p) (Some x) (find (λ (y : ℕ × ℕ). y.0 == p) xs) same))
+      | inr other ↦
+          ap (option_map (λ (y : ℕ × ℕ). y.1)) (cond-false (x.0 == p) (Some x) (find (λ (y : ℕ × ℕ). y.0 == p) (xs ++ ys)) other)
+          ∙ found-append_none xs ys p e
+          ∙ ap (option_map (λ (y : ℕ × ℕ). y.1)) (sym (cond-false (x.0 == p) (Some x) (find (λ (y : ℕ × ℕ). y.0 == p) xs) other))
+    ]
+
+module _ (us : List BidiUnit) (before : List Class) where
+  -- sequences that do not hold a position give it no level
+  unfound : (all : List SequenceView) (p : ℕ) → times (positions_in all) p ≡ 0 → level_found (flat_map (levels_in us before) all) p ≡ None
+  unfound [] p e = refl
+  unfound (s ∷ all) p e =
+      let t = times-append s.positions (positions_in all) p in
+      found-append (levels_in us before s) (flat_map (levels_in us before) all) p (found_none s.positions (levels_of_sequence s us (classes_at before s.positions)) p (omega arith))
+      ∙ unfound all p (omega arith)
+
+-- what these sequences leave: their positions have their levels, and the classes at all others are those before W1
+pub record IsCovered (us : List BidiUnit) (before : List Class) (done : List SequenceView) (classes : List Class) (levels : List (Option ℕ)) : Type 0 where
+  pub found : HasLevelsBy us before done levels
+  pub kept : (p : ℕ) → times (positions_in done) p ≡ 0 → class_at classes p ≡ class_at before p
+
+pub covered_none : (us : List BidiUnit) (before : List Class) (levels : List (Option ℕ)) → ((p : ℕ) → resolved_at levels p ≡ None) → IsCovered us before [] before levels
+covered_none us before levels fresh = record { found = λ p h. fresh p; kept = λ p h. refl }
+
+times_in-append : (xs ys : List SequenceView) (p : ℕ) → times (positions_in (xs ++ ys)) p ≡ times (positions_in xs) p + times (positions_in ys) p
+times_in-append [] ys p = omega arith
+times_in-append (x ∷ xs) ys p =
+    omega (arith, times-append x.positions (positions_in (xs ++ ys)) p, times-append x.positions (positions_in xs) p, times_in-append xs ys p)
+
+times_in-push : (xs : List SequenceView) (s : SequenceView) (p : ℕ) → times (positions_in (xs ++ (s ∷ []))) p ≡ times (positions_in xs) p + times s.positions p
+times_in-push xs s p = omega (arith, times_in-append xs (s ∷ []) p, times-append s.positions [] p)
+
+length_in-push : (xs : List SequenceView) (s : SequenceView) → length (positions_in (xs ++ (s ∷ []))) ≡ length (positions_in xs) + length s.positions
+length_in-push [] s = omega (arith, length-append s.positions [])
+length_in-push (x ∷ xs) s =
+    omega (arith, length-append x.positions (positions_in (xs ++ (s ∷ []))), length-append x.positions (positions_in xs), length_in-push xs s)
+
+times_in-take : (xs : List SequenceView) (k : ℕ) (p : ℕ) → times (positions_in (take k xs)) p ≤ times (positions_in xs) p
+times_in-take xs k p =
+    let whole : times (positions_in (take k xs ++ drop k xs)) p ≡ times (positions_in xs) p = ap (λ (ys : List SequenceView). times (positions_in ys) p) (take-append-drop k xs) in
+    omega (arith, whole, times_in-append (take k xs) (drop k xs) p)
+
+flat-append : (f : SequenceView → List (ℕ × ℕ)) (xs ys : List SequenceView) → flat_map f (xs ++ ys) ≡ flat_map f xs ++ flat_map f ys
+flat-append f [] ys = refl
+flat-append f (x ∷ xs) ys = ap (λ (zs : List (ℕ × ℕ)). f x ++ zs) (flat-append f xs ys) ∙ sym (append_assoc (f x) (flat_map f xs) (flat_map f ys))
+
+-- what two functions make of the elements of a list, where they agree on them
+map_where : {B : Type 0} (f g : ℕ → B) (ps : List ℕ) → ((p : ℕ) → Contains ps p → f p ≡ g p) → map f ps ≡ map g ps
+map_where f g [] same = refl
+map_where {B} f g (p ∷ ps) same =
+    let here : f p ≡ g p = same p (0, omega arith, refl) in
+    let rest : map f ps ≡ map g ps = map_where f g ps (λ q c. same q (suc c.0, omega (arith, c.1), c.2)) in
+    ap (λ (x : B). x ∷ map f ps) here ∙ ap (λ (xs : List B). g p ∷ xs) rest
+
+contained : (all : List SequenceView) (k : ℕ) (d : SequenceView) → k < length all → (p : ℕ) → Contains (get_or all k d).positions p → Contains (positions_in all) p
+contained [] k d h p c = absurd (omega arith)
+contained (s ∷ all) zero d h p c = Contains-append_left s.positions (positions_in all) p c
+contained (s ∷ all) (suc k) d h p c = Contains-append_right s.positions (positions_in all) p (contained all k d (omega arith) p c)
+
+-- no position of the sequence stands in an earlier one
+module _ {extent : ℕ} {all : List SequenceView} (apart : AreApart extent all) {k : ℕ} {s : SequenceView} (at : slice_get all k ≡ Some s) (inside : k < length all) where
+  pub take_next : take (k + 1) all ≡ take k all ++ (s ∷ [])
+  take_next = take_more all k s inside ∙ ap (λ (x : SequenceView). take k all ++ (x ∷ [])) (get_or_from_slice_get all k s s at)
+
+  times_next : (p : ℕ) → times (positions_in (take (k + 1) all)) p ≡ times (positions_in (take k all)) p + times s.positions p
+  times_next p = ap (λ (xs : List SequenceView). times (positions_in xs) p) take_next ∙ times_in-push (take k all) s p
+
+  -- the positions that come before its own
+  pub length_next : length (positions_in (take (k + 1) all)) ≡ length (positions_in (take k all)) + length s.positions
+  length_next = ap (λ (xs : List SequenceView). length (positions_in xs)) take_next ∙ length_in-push (take k all) s
+
+  pub apart_from_earlier : (p : ℕ) → p < extent → 0 < times s.positions p → times (positions_in (take k all)) p ≡ 0
+  apart_from_earlier p h l = omega (arith, times_next p, times_in-take all (k + 1) p, apart.once p h)
+
+  pub within_extent : (p : ℕ) → Contains s.positions p → p < extent
+  within_extent p c =
+      All-contains (λ q. q < extent) s.positions p
+      (let P : SequenceView → Type 0 = λ x. All (λ q. q < extent) x.positions in
+      subst P (get_or_from_slice_get all k s s at) (All-get_or P all k s inside apart.within)) c
+
+  pub stands_in_all : (p : ℕ) → Contains s.positions p → Contains (positions_in all) p
+  stands_in_all p c =
+      let P : SequenceView → Type 0 = λ x. Contains x.positions p in
+      contained all k s inside p (subst P (sym (get_or_from_slice_get all k s s at)) c)
+
+  pub extent_of : s.extent ≡ extent
+  extent_of =
+      let P : SequenceView → Type 0 = λ x. x.extent ≡ extent in
+      subst P (get_or_from_slice_get all k s s at) (All-get_or P all k s inside apart.extents)
+
+  pub copied : (classes before : List Class) → ((p : ℕ) → times (positions_in (take k all)) p ≡ 0 → class_at classes p ≡ class_at before p) →
+      classes_at classes s.positions ≡ classes_at before s.positions
+  copied classes before same =
+      let one : (p : ℕ) → Contains s.positions p → class_at classes p ≡ class_at before p =
+      λ p c. same p (apart_from_earlier p (within_extent p c) (times_some s.positions p c)) in
+      map_where (class_at classes) (class_at before) s.positions one
+
+  pub covered_next : (us : List BidiUnit) (before classes now_classes : List Class) (levels now_levels : List (Option ℕ)) → length us ≡ extent →
+      IsCovered us before (take k all) classes levels →
+      HasLevels s us before now_levels → KeepsOtherLevels s.positions levels now_levels → KeepsOthers s.positions classes now_classes →
+      IsCovered us before (take (k + 1) all) now_classes now_levels
+  covered_next us before classes now_classes levels now_levels n covered has keeps_levels keeps_classes =
+      let own : List (ℕ × ℕ) = levels_in us before s in
+      let earlier : List (ℕ × ℕ) = flat_map (levels_in us before) (take k all) in
+      let joined : flat_map (levels_in us before) (take (k + 1) all) ≡ earlier ++ own =
+      ap (flat_map (levels_in us before)) take_next ∙ flat-append (levels_in us before) (take k all) (s ∷ []) ∙ ap (λ (xs : List (ℕ × ℕ)). earlier ++ xs) (append-nil own) in
+      let values : List ℕ = levels_of_sequence s us (classes_at before s.positions) in
+      let long : length values ≡ length s.positions = length-levels_of_sequence s us (classes_at before s.positions) ∙ length-map s.positions (class_at before) in
+      record {
+        found = λ p h.
+            elim (cases_lt 0 (times s.positions p)) [
+              | inl some ↦
+                  (let w = found_some s.positions values p long some in
+                  let none : level_found earlier p ≡ None = unfound us before (take k all) p (apart_from_earlier p (omega (arith, h, n)) some) in
+                  ap (resolved_at now_levels) (sym w.2) ∙ has w.0 w.1 ∙ sym w.3 ∙ sym (found-append earlier own p none))
+              | inr others ↦
+                  (let none : times s.positions p ≡ 0 = omega arith in
+                  keeps_levels p (λ c. let t = times_some s.positions p c in absurd (omega arith))
+                  ∙ covered.found p h
+                  ∙ sym (found-append_none earlier own p (found_none s.positions values p none)))
+            ]
+            ∙ sym (ap (λ (xs : List (ℕ × ℕ)). level_found xs p) joined);
+        kept = λ p e. keeps_classes p (λ c. let t = times_some s.positions p c in absurd (omega (arith, times_next p))) ∙ covered.kept p (omega (arith, times_next p));
+      }

@@ -1,0 +1,94 @@
+-- Flat paragraphs: what the scan of their classes tells.
+use Rattle.std.specs.Prelude.{Option, None, Some, ℕ, Bool, true, false, ◌<◌, ◌≤◌, ◌≡◌, not, List, length, map, slice_index, refl}
+use Rattle.std.specs.List.{flat_map, list_all}
+use Rattle.std.proofs.Common.{arith, ap, sym, ◌∙◌, cond, get_or, inl, inr}
+use Rattle.std.proofs.lemmas.Bool.{and_parts, cases_lt}
+use Rattle.std.proofs.lemmas.Option.{none-some, same_Some}
+use Rattle.std.proofs.lemmas.List.{length-map, get_or-map, get_or_past, ext_get_or}
+use Rattle.std.proofs.lemmas.List.Sums.{AllPass-from_list_all, count_by-le-length, length-filter}
+use Rattle.units.specs.Classes.{class_at, classes_of, is_removed}
+use Rattle.units.specs.Layout.{no_unit, level_found, levels_in, resolved_levels}
+use Rattle.units.specs.Positions.{positions_of}
+use Rattle.units.specs.Runs.{SequenceView, leveled_of, sequences_of}
+use Rattle.units.specs.declared.bracket.Unit.{Unit as BidiUnit}
+use Rattle.units.specs.declared.class.Class.{Class}
+use Rattle.units.specs.declared.class.Class.TheVariants.{L}
+use Rattle.flat.specs.Flat.{is_flat, is_kept, IsFlat, remaining_of, flat_sequences}
+use Rattle.flat.specs.IdleRules.{HasNone}
+use Rattle.flat.specs.Uniform.{kept_level, may_rise}
+use Rattle.flat.proofs.Listed.{length-positions_from, get_or-positions_from}
+use Rattle.flat.proofs.OneSequence.{sequences_of-flat}
+use Rattle.flat.proofs.Staying.{resolved_levels-uniform}
+use Rattle.flat.proofs.WholeLevels.{resolved_levels-flat}
+use Rattle.paragraph.specs.Contents.{has_none, keeps_level}
+use Rattle.paragraph.specs.Covering.{HasLevelsBy}
+use Rattle.paragraph.specs.Resolvers.{StaysAt}
+
+not_true : (b : Bool) → not b ≡ true → b ≡ false
+not_true true h = cc
+not_true false h = refl
+
+pub flat_from : (cs : List Class) → list_all is_flat cs ≡ true → IsFlat cs
+flat_from cs h = AllPass-from_list_all is_flat cs h
+
+pub none_from : (test : Class → Bool) (cs : List Class) → has_none test cs ≡ true → HasNone test cs
+none_from test cs h = λ k d lt. not_true (test (get_or cs k d)) (AllPass-from_list_all (λ c. not (test c)) cs h k d lt)
+
+-- where it keeps its level, that level at each position that remains is what the rules resolve
+pub levels_are_kept : (us : List BidiUnit) (para : ℕ) → keeps_level para (classes_of us) ≡ true → map (λ (u : BidiUnit). kept_level para u.class) us ≡ resolved_levels us para
+levels_are_kept us para keeps =
+    let cs : List Class = classes_of us in
+    let both = and_parts (list_all is_flat cs) (has_none (may_rise para) cs) keeps in
+    sym (resolved_levels-uniform us para (flat_from cs both.0) (none_from (may_rise para) cs both.1))
+
+-- and it is flat
+pub flat_where_kept : (para : ℕ) (cs : List Class) → keeps_level para cs ≡ true → IsFlat cs
+flat_where_kept para cs keeps = let both = and_parts (list_all is_flat cs) (has_none (may_rise para) cs) keeps in flat_from cs both.0
+
+-- what the sequences of a flat paragraph give, by the own classes, is what the rules resolve
+pub flat_levels : (us : List BidiUnit) (para : ℕ) (all : List SequenceView) (levels : List (Option ℕ)) → IsFlat (classes_of us) → all ≡ sequences_of (leveled_of (classes_of us) para) →
+    length levels ≡ length us → HasLevelsBy us (classes_of us) all levels → levels ≡ resolved_levels us para
+flat_levels us para all levels flat are n has =
+    let cs : List Class = classes_of us in
+    let found : ℕ → Option ℕ = level_found (flat_map (levels_in us cs) (flat_sequences para cs)) in
+    let m : length (positions_of us) ≡ length us = length-positions_from 0 (length us) in
+    let k : length (map found (positions_of us)) ≡ length (positions_of us) = length-map (positions_of us) found in
+    let one : all ≡ flat_sequences para cs = are ∙ sequences_of-flat cs para flat in
+    ext_get_or None levels (map found (positions_of us)) (omega arith)
+    (λ i h.
+    let at : slice_index (positions_of us) i ≡ i = get_or-positions_from 0 (length us) i 0 (omega arith) ∙ omega arith in
+    has i (omega arith)
+    ∙ ap (λ (ss : List SequenceView). level_found (flat_map (levels_in us cs) ss) i) one
+    ∙ ap found (sym at)
+    ∙ sym (get_or-map found (positions_of us) i 0 None (omega arith)))
+    ∙ sym (resolved_levels-flat us para flat)
+
+-- what is removed nowhere is not removed here
+pub unit_kept : (us : List BidiUnit) (p : ℕ) → p < length us → HasNone is_removed (classes_of us) → is_removed (get_or us p no_unit).class ≡ false
+unit_kept us p lt none =
+    let e : get_or (classes_of us) p L ≡ (get_or us p no_unit).class = get_or-map (λ (u : BidiUnit). u.class) us p no_unit L lt in
+    ap is_removed (sym e) ∙ none p L (omega (arith, length-map us (λ (u : BidiUnit). u.class)))
+
+-- no more remain than there are
+pub remaining_few : (us : List BidiUnit) → length (remaining_of (classes_of us)) ≤ length us
+remaining_few us =
+    let cs : List Class = classes_of us in
+    let n : length cs ≡ length us = length-map us (λ (u : BidiUnit). u.class) in
+    let m : length (positions_of cs) ≡ length cs = length-positions_from 0 (length cs) in
+    omega (arith, length-filter (λ p. is_kept (class_at cs p)) (positions_of cs), count_by-le-length (λ p. is_kept (class_at cs p)) (positions_of cs))
+
+-- what keeps the level stays at it
+pub kept_stays : (us : List BidiUnit) (level : ℕ) (levels : List (Option ℕ)) → levels ≡ map (λ (u : BidiUnit). kept_level level u.class) us → StaysAt level levels
+kept_stays us level levels e p v found =
+    let keep : BidiUnit → Option ℕ = λ u. kept_level level u.class in
+    let here : get_or (map keep us) p None ≡ Some v = ap (λ (xs : List (Option ℕ)). get_or xs p None) (sym e) ∙ found in
+    elim (cases_lt p (length us)) [
+      | inl inside ↦
+          let kept : keep (get_or us p no_unit) ≡ Some v = sym (get_or-map keep us p no_unit None inside) ∙ here in
+          one_level (is_removed (get_or us p no_unit).class) kept
+      | inr past ↦ absurd (none-some v (sym (get_or_past (map keep us) p None (omega (arith, length-map us keep))) ∙ here))
+    ]
+  where
+    one_level : (removed : Bool) → cond removed None (Some level) ≡ Some v → v ≡ level
+    one_level true h = absurd (none-some v h)
+    one_level false h = sym (same_Some level v h)

@@ -1,0 +1,6 @@
+pub mod AllSequences
+pub mod ClassSets
+pub mod Covering
+pub mod FlatLevels
+pub mod ClassKinds
+pub mod Scan

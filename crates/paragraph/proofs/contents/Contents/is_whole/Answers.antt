@@ -1,0 +1,8 @@
+use Rattle.std.proofs.Common.{ap, ◌∙◌}
+use Rattle.std.specs.Prelude.{not}
+use Rattle.units.specs.Classes.{is_removed}
+use Rattle.paragraph.proofs.ClassKinds.{none_where_not_any}
+use Rattle.paragraph.proofs.contents.Contents.is_whole.Goals as goal
+
+pub returns : goal.returns
+returns c = λ cs is. ap not (c.has_removed.ensures cs is) ∙ none_where_not_any is_removed cs

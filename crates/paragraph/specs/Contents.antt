@@ -1,0 +1,34 @@
+-- What a paragraph contains, as far as it tells which rules have something to do.
+use Rattle.std.specs.Prelude.{Option, ℕ, Bool, ◌≡◌, ◌&&◌, not, if◌then◌else◌, List, Some, None, take}
+use Rattle.std.specs.List.{list_all, list_any}
+use Rattle.units.specs.Classes.{classes_of}
+use Rattle.units.specs.declared.bracket.Unit.{Unit as BidiUnit}
+use Rattle.units.specs.declared.class.Class.{Class}
+use Rattle.explicit.specs.FirstParagraph.{first_length}
+use Rattle.flat.specs.Flat.{is_flat}
+use Rattle.flat.specs.Uniform.{may_rise}
+use Rattle.paragraph.specs.ClassSets.{IsSetOf}
+use Rattle.paragraph.specs.declared.contents.Contents.{Contents}
+use Rattle.paragraph.specs.declared.contents.FirstParagraph.{FirstParagraph}
+
+-- none of the classes passes the test
+abbrev pub has_none : (Class → Bool) → List Class → Bool
+has_none test cs = list_all (λ c. not (test c)) cs
+
+-- X1 to I2: these classes leave each position at the paragraph's level
+abbrev pub keeps_level : ℕ → List Class → Bool
+keeps_level para cs = list_all is_flat cs && has_none (may_rise para) cs
+
+-- what the paragraph of these classes contains
+abbrev pub Describes : Contents → List Class → Type 0
+Describes contents cs = IsSetOf contents.classes cs
+
+-- P1: the first paragraph of a text, and what it contains
+pub record IsFirstOf (first : FirstParagraph) (text : List BidiUnit) : Type 0 where
+  pub length : first.length ≡ first_length text
+  pub contents : Describes first.contents (classes_of (take first.length text))
+
+-- P2: the class that was found, or else this one, if it passes
+abbrev pub found_or : Option Class → Bool → Class → Option Class
+found_or (Some found) passes c = Some found
+found_or None passes c = if passes then Some c else None

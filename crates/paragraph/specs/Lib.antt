@@ -1,0 +1,4 @@
+pub mod ClassSets
+pub mod Contents
+pub mod Covering
+pub mod Resolvers

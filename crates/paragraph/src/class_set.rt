@@ -1,0 +1,45 @@
+//! Sets of classes.
+ghost use Rattle.std.specs.Prelude.{◌≡◌, ◌++◌, ◌∷◌, [], ℕ, List};
+ghost use Rattle.std.specs.List.{list_any};
+ghost use Rattle.units.specs.declared.class.Class.{Class as BidiClass};
+ghost use Rattle.paragraph.specs.ClassSets.{IsSetOf, bit_of, is_class};
+
+use units::class::Class;
+
+/// A set of classes.
+#[derive(Clone, Copy)]
+pub struct ClassSet {
+    bits: u32,
+}
+
+/// The bit of a class.
+fn bit_of(class: Class) -> u32
+    ensures { result ≡ bit_of class }
+{
+    1 << (class as u32)
+}
+
+impl ClassSet {
+    /// No class.
+    pub fn none() -> ClassSet
+        ensures { IsSetOf result [] }
+    {
+        ClassSet { bits: 0 }
+    }
+
+    /// This class too.
+    pub fn with(self, class: Class) -> ClassSet
+        ensures { (cs : List BidiClass) → IsSetOf self cs → IsSetOf result (cs ++ class ∷ []) }
+    {
+        ClassSet {
+            bits: self.bits | bit_of(class),
+        }
+    }
+
+    /// Whether it has this class.
+    pub fn has(self, class: Class) -> bool
+        ensures { (cs : List BidiClass) → IsSetOf self cs → result ≡ list_any (is_class class) cs }
+    {
+        self.bits & bit_of(class) != 0
+    }
+}

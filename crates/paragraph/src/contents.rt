@@ -1,0 +1,124 @@
+//! What a paragraph contains, which tells the rules that have nothing to do in it; and where it ends.
+ghost use Rattle.std.specs.Prelude.{◌≡◌, ◌+◌, ◌<◌, ◌≤◌, List, length, find};
+ghost use Rattle.std.specs.List.{list_all, list_any};
+ghost use Rattle.units.specs.Classes.{classes_of, is_initiator, is_removed, is_strong};
+ghost use Rattle.units.specs.Isolates.{level_of_para};
+ghost use Rattle.units.specs.declared.class.Class.{Class as BidiClass};
+ghost use Rattle.flat.specs.Flat.{is_flat};
+ghost use Rattle.flat.specs.Uniform.{may_rise_at_even, may_rise_at_odd};
+ghost use Rattle.paragraph.specs.ClassSets.{IsSetOf};
+ghost use Rattle.paragraph.specs.Contents.{Describes, IsFirstOf, has_none, keeps_level};
+
+use crate::class_set::ClassSet;
+use std::sync::ledger::Ledger;
+use units::bracket::Unit;
+use units::class::Class;
+use units::level::ParaLevel;
+use units::steps::Steps;
+
+/// The classes that a paragraph has.
+#[derive(Clone, Copy)]
+pub struct Contents {
+    classes: ClassSet,
+}
+
+/// The first paragraph of a text.
+#[derive(Clone, Copy)]
+pub struct FirstParagraph {
+    /// How many units it has, its separator among them.
+    pub length: usize,
+    /// What it contains.
+    pub contents: Contents,
+}
+
+/// BD5, BD8: an initiator of an embedding, an override or an isolate.
+fn has_initiator(classes: ClassSet) -> bool
+    ensures { (cs : List BidiClass) → IsSetOf classes cs → result ≡ list_any is_initiator cs }
+{
+    classes.has(Class::LRE)
+        | classes.has(Class::RLE)
+        | classes.has(Class::LRO)
+        | classes.has(Class::RLO)
+        | classes.has(Class::LRI)
+        | classes.has(Class::RLI)
+        | classes.has(Class::FSI)
+}
+
+/// X9: a class that is removed.
+fn has_removed(classes: ClassSet) -> bool
+    ensures { (cs : List BidiClass) → IsSetOf classes cs → result ≡ list_any is_removed cs }
+{
+    classes.has(Class::LRE)
+        | classes.has(Class::RLE)
+        | classes.has(Class::LRO)
+        | classes.has(Class::RLO)
+        | classes.has(Class::PDF)
+        | classes.has(Class::BN)
+}
+
+/// I1: a class that can bring a position above an even level; EN counts as L there.
+fn may_rise_at_even(classes: ClassSet) -> bool
+    ensures { (cs : List BidiClass) → IsSetOf classes cs → result ≡ list_any may_rise_at_even cs }
+{
+    classes.has(Class::R) | classes.has(Class::AL) | classes.has(Class::AN)
+}
+
+/// I2: a class that can bring a position above an odd level.
+fn may_rise_at_odd(classes: ClassSet) -> bool
+    ensures { (cs : List BidiClass) → IsSetOf classes cs → result ≡ list_any may_rise_at_odd cs }
+{
+    classes.has(Class::L) | classes.has(Class::EN) | classes.has(Class::AN)
+}
+
+impl Contents {
+    /// No initiator: X1 to X9 leave all positions that remain at the paragraph's level.
+    pub fn is_flat(&self) -> bool
+        ensures { (cs : List BidiClass) → Describes self.now cs → result ≡ list_all is_flat cs }
+    {
+        !has_initiator(self.classes)
+    }
+
+    /// No BN, PDF or initiator of an embedding: X9 removes nothing.
+    pub fn is_whole(&self) -> bool
+        ensures { (cs : List BidiClass) → Describes self.now cs → result ≡ has_none is_removed cs }
+    {
+        !has_removed(self.classes)
+    }
+
+    /// X1 to I2: whether each position that remains keeps the paragraph's level, if it is this one.
+    pub fn keeps(&self, para: ParaLevel) -> bool
+        ensures { (cs : List BidiClass) → Describes self.now cs → result ≡ keeps_level (level_of_para para) cs }
+    {
+        match para {
+            ParaLevel::Zero => !has_initiator(self.classes) & !may_rise_at_even(self.classes),
+            ParaLevel::One => !has_initiator(self.classes) & !may_rise_at_odd(self.classes),
+        }
+    }
+}
+
+impl FirstParagraph {
+    /// P1: the first paragraph of a text, and what it contains, a step for each of its units.
+    pub fn of<L: Ledger>(text: &[Unit], steps: &mut Steps<L>) -> FirstParagraph
+        ensures first { IsFirstOf result text.now }
+        ensures within { result.length ≤ length text.now }
+        ensures some { 0 < length text.now → 0 < result.length }
+        ensures steps { steps.new ≡ steps.old + result.length }
+    {
+        let mut classes = ClassSet::none();
+        for k in 0..text.len() {
+            steps.tick();
+            let class = text[k].class;
+            classes = classes.with(class);
+            if class.is_separator() {
+                return FirstParagraph {
+                    length: k + 1,
+                    contents: Contents { classes },
+                };
+            }
+        }
+        FirstParagraph {
+            length: text.len(),
+            contents: Contents { classes },
+        }
+    }
+}

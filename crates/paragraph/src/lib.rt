@@ -1,0 +1,8 @@
+//! A paragraph, from its units to its resolved levels (P1 to I2).
+#![tactic(auto)]
+
+pub mod class_set;
+pub mod contents;
+pub mod resolver;
+#[cfg(test)]
+mod tests;
