@@ -8,5 +8,5 @@ invariant-loop-k g l = record {
   covered : IsCovered l.para l.before (take l.k l.sequences.all) l.classes l.levels;
   room : length l.pairs ≡ length l.initial.pairs;
   at_least : l.initial.steps ≤ l.steps;
-  at_most : l.steps ≤ l.initial.steps + 144 * length (positions_in (take l.k l.sequences.all)) + l.k;
+  at_most : l.steps ≤ l.initial.steps + 73 * length (positions_in (take l.k l.sequences.all)) + l.k;
 }
