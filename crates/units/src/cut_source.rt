@@ -14,11 +14,14 @@ pub struct CutSource<'a> {
 }
 
 impl<'a> Model for CutSource<'a> {
+    ghost use Rattle.std.specs.Prelude.{◌≡◌, [], true};
     ghost use Rattle.units.specs.CutSources.{CutSource as CutView};
 
     ghost Value = { CutView };
 
     ghost view = { λ s. record { left = s.left.now; has_failed = s.has_failed } };
+
+    ghost invariant = { λ s. s.has_failed ≡ true → s.left.now ≡ [] };
 }
 
 impl<'a> CutSource<'a> {

@@ -1,0 +1,32 @@
+use Rattle.std.proofs.Common.{rules, ◌≡◌}
+use Rattle.units.specs.declared.reader_source.State.TheVariants.{Open}
+use Rattle.units.specs.HandsOut.{HandsOut-nothing, HandsOut-taken, HandsOut-failed}
+use Rattle.units.proofs.reader_source.ReaderSourceByteSource.read.Goals as goal
+
+pub returns-in-Ended-clause-given : goal.returns-in-Ended-clause-given
+returns-in-Ended-clause-given g c = HandsOut-nothing _ _ _
+
+pub returns-in-Failed-clause-none_given : goal.returns-in-Failed-clause-none_given
+returns-in-Failed-clause-none_given g c = HandsOut-nothing _ _ _
+
+pub returns-then-n-self-clause-none_given : goal.returns-then-n-self-clause-none_given
+returns-then-n-self-clause-none_given g c =
+    let is : c.args.self.now.state ≡ Open = search rules in
+    let left : c.args.self.now.left ≡ c.self.inside.left = search rules in
+    rw left (HandsOut-failed _ _ c.self.inside.left _ is)
+
+pub returns-in-Err-clause-none_given : goal.returns-in-Err-clause-none_given
+returns-in-Err-clause-none_given g c =
+    let is : c.args.self.now.state ≡ Open = search rules in
+    let left : c.args.self.now.left ≡ c.self.inside.left = search rules in
+    rw left (HandsOut-failed _ _ c.self.inside.left _ is)
+
+pub returns-in-Ok-eq0-clause-given : goal.returns-in-Ok-eq0-clause-given
+returns-in-Ok-eq0-clause-given g c =
+    let is : c.args.self.now.state ≡ Open = search rules in
+    HandsOut-taken _ _ _ _ _ _ _ is (search rules) (search rules)
+
+pub returns-else-n-self-clause-given : goal.returns-else-n-self-clause-given
+returns-else-n-self-clause-given g c =
+    let is : c.args.self.now.state ≡ Open = search rules in
+    HandsOut-taken _ _ _ _ _ _ _ is (search rules) (search rules)
