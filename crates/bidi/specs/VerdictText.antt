@@ -3,7 +3,7 @@ use Rattle.std.specs.Prelude.{ℕ, List, [], ◌∷◌, ◌++◌, codes}
 use Rattle.std.specs.List.{concat}
 use Rattle.std.specs.Fmt.{decimal}
 use Rattle.units.specs.declared.level.Direction.{Direction}
-use Rattle.units.specs.declared.level.Direction.TheVariants.{Auto, Ltr, Rtl}
+use Rattle.units.specs.declared.level.Direction.TheVariants.{Auto, Ltr, Rtl, AutoRtl}
 use Rattle.bidtests.specs.declared.verdict.Cause.{Cause}
 use Rattle.bidtests.specs.declared.verdict.Cause.TheVariants.{LineTooLong, Directive, LevelItem, OrderItem, ClassItem, BitSet, NoExpectation, FieldCount, CodePoint, DirectionField, ParaField, EmptyRow}
 use Rattle.bidtests.specs.declared.verdict.Place.{Place}
@@ -35,6 +35,7 @@ abbrev pub direction_word : Direction → List ℕ
 direction_word Auto = codes "auto"
 direction_word Ltr = codes "ltr"
 direction_word Rtl = codes "rtl"
+direction_word AutoRtl = codes "auto-rtl"
 
 -- where a claim is wrong, indices counted from 0, and the end of the line
 abbrev pub place_text : Place → List ℕ

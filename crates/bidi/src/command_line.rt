@@ -38,7 +38,7 @@ pub enum Request<'a> {
     },
 }
 
-const DIRECTIONS: [&str; 3] = ["auto", "ltr", "rtl"];
+const DIRECTIONS: [&str; 4] = ["auto", "ltr", "rtl", "auto-rtl"];
 
 const KINDS: [&str; 2] = ["classes", "characters"];
 
@@ -114,7 +114,10 @@ fn direction_argument<'a>(alloc: Global) -> Arg<'a> {
         .value_name("DIRECTION")
         .default_value("auto")
         .value_parser(DIRECTIONS.as_slice())
-        .help("The direction of each paragraph, which `auto` finds by rules P2 and P3")
+        .help(
+            "The direction of each paragraph, which `auto` finds by rules P2 and P3; \
+             `auto-rtl` takes right to left where they find none",
+        )
 }
 
 fn columns_argument<'a>(alloc: Global) -> Arg<'a> {
@@ -182,6 +185,7 @@ fn direction_in(matches: &ArgMatches<'_>) -> Direction {
     match matches.get_str("direction") {
         Some("ltr") => Direction::Ltr,
         Some("rtl") => Direction::Rtl,
+        Some("auto-rtl") => Direction::AutoRtl,
         _ => Direction::Auto,
     }
 }

@@ -37,6 +37,7 @@ fn word_of_direction(direction: Direction) -> &'static str
         Direction::Auto => "auto",
         Direction::Ltr => "ltr",
         Direction::Rtl => "rtl",
+        Direction::AutoRtl => "auto-rtl",
     }
 }
 

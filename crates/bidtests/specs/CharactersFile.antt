@@ -6,7 +6,7 @@ use Rattle.units.specs.Text.{lines_of, longest_line, content_of, fields_of, item
 use Rattle.units.specs.Isolates.{level_of_para}
 use Rattle.units.specs.declared.bracket.Unit.{Unit as BidiUnit}
 use Rattle.units.specs.declared.level.Direction.{Direction}
-use Rattle.units.specs.declared.level.Direction.TheVariants.{Auto, Ltr, Rtl}
+use Rattle.units.specs.declared.level.Direction.TheVariants.{Auto, Ltr, Rtl, AutoRtl}
 use Rattle.units.specs.declared.level.ParaLevel.{ParaLevel}
 use Rattle.units.specs.declared.level.ParaLevel.TheVariants.{Zero, One}
 use Rattle.ucdfiles.specs.PairFiles.{char_of}
@@ -22,7 +22,8 @@ character_item unit_of item = option_map unit_of (char_of item)
 -- the second field: the direction that is asked for
 abbrev pub direction_field : List ℕ → Option Direction
 direction_field field =
-    if bytes_eq field (codes "0") then Some Ltr else if bytes_eq field (codes "1") then Some Rtl else if bytes_eq field (codes "2") then Some Auto else None
+    if bytes_eq field (codes "0") then Some Ltr else if bytes_eq field (codes "1") then Some Rtl else if bytes_eq field (codes "2") then Some Auto
+    else if bytes_eq field (codes "3") then Some AutoRtl else None
 
 -- the third field: the paragraph's level
 abbrev pub para_field : List ℕ → Option ParaLevel
@@ -38,27 +39,34 @@ row_claims (Some text) (Some direction) (Some para) (Some levels) None = Faulty 
 row_claims (Some text) (Some direction) (Some para) (Some levels) (Some order) =
     Claims (record { text = text; directions = direction ∷ []; para = Some (level_of_para para); levels = levels; order = order })
 
--- what a row of these items claims: it has at least one
-abbrev pub row_with : (ℕ → BidiUnit) → List (List ℕ) → List ℕ → List ℕ → List ℕ → List ℕ → Finding
-row_with unit_of [] direction para levels order = Faulty EmptyRow
-row_with unit_of (item ∷ items) direction para levels order =
-    row_claims (each_read (character_item unit_of) (item ∷ items)) (direction_field direction) (para_field para)
+-- what a row of these items claims: it has at least one; and by how direction fields are read
+abbrev pub row_with : (List ℕ → Option Direction) → (ℕ → BidiUnit) → List (List ℕ) → List ℕ → List ℕ → List ℕ → List ℕ → Finding
+row_with reads unit_of [] direction para levels order = Faulty EmptyRow
+row_with reads unit_of (item ∷ items) direction para levels order =
+    row_claims (each_read (character_item unit_of) (item ∷ items)) (reads direction) (para_field para)
     (each_read level_item (items_of levels)) (each_read order_item (items_of order))
 
 -- what a row of these fields claims: it has exactly five
+abbrev pub row_of_fields_by : (List ℕ → Option Direction) → (ℕ → BidiUnit) → List (List ℕ) → Finding
+row_of_fields_by reads unit_of (characters ∷ direction ∷ para ∷ levels ∷ order ∷ []) =
+    row_with reads unit_of (items_of characters) direction para levels order
+row_of_fields_by reads unit_of _ = Faulty FieldCount
+
 abbrev pub row_of_fields : (ℕ → BidiUnit) → List (List ℕ) → Finding
-row_of_fields unit_of (characters ∷ direction ∷ para ∷ levels ∷ order ∷ []) = row_with unit_of (items_of characters) direction para levels order
-row_of_fields unit_of _ = Faulty FieldCount
+row_of_fields unit_of fields = row_of_fields_by direction_field unit_of fields
 
 -- what a content comes to: nothing if it is empty, else a row, also where it begins with `@`
-abbrev pub line_of_content : (ℕ → BidiUnit) → List ℕ → Finding
-line_of_content unit_of [] = Silent
-line_of_content unit_of (b ∷ bs) = row_of_fields unit_of (fields_of (b ∷ bs))
+abbrev pub line_of_content : (List ℕ → Option Direction) → (ℕ → BidiUnit) → List ℕ → Finding
+line_of_content reads unit_of [] = Silent
+line_of_content reads unit_of (b ∷ bs) = row_of_fields_by reads unit_of (fields_of (b ∷ bs))
 
 -- what a line comes to, by the unit of each code point
+abbrev pub characters_line_by : (List ℕ → Option Direction) → (ℕ → BidiUnit) → List ℕ → Finding
+characters_line_by reads unit_of line =
+    if nat_lt longest_line (length line) then Faulty LineTooLong else line_of_content reads unit_of (content_of line)
+
 unfoldable pub characters_line : (ℕ → BidiUnit) → List ℕ → Finding
-characters_line unit_of line =
-    if nat_lt longest_line (length line) then Faulty LineTooLong else line_of_content unit_of (content_of line)
+characters_line unit_of line = characters_line_by direction_field unit_of line
 
 -- the verdict on the bytes of a BidiCharacterTest.txt, by the unit of each code point
 unfoldable pub characters_verdict : (ℕ → BidiUnit) → List ℕ → Verdict

@@ -12,7 +12,7 @@ use Rattle.units.specs.declared.bracket.Bracket.TheVariants.{No, Open, Close}
 use Rattle.units.specs.declared.bracket.Unit.{Unit as BidiUnit}
 use Rattle.units.specs.declared.class.Class.{Class}
 use Rattle.units.specs.declared.class.Class.TheVariants.{L, R, AL, EN, CS, B, WS, ON}
-use Rattle.units.specs.declared.level.Direction.TheVariants.{Ltr}
+use Rattle.units.specs.declared.level.Direction.TheVariants.{Ltr, AutoRtl}
 use Rattle.bidtests.specs.Verdicts.{verdict_on}
 use Rattle.bidtests.specs.CharactersFile.{characters_line, characters_verdict}
 use Rattle.bidtests.specs.declared.verdict.Place.TheVariants.{ParaLevel}
@@ -68,10 +68,19 @@ pub surrogate : characters_verdict unit_of_few (written (codes "D800;0;0;0;0" �
 unfolding characters_verdict verdict_on characters_line
 surrogate = refl
 
--- a direction above 2
-pub direction_three : characters_verdict unit_of_few (written (codes "0061;3;0;0;0" ∷ [])) ≡ Malformed 1 DirectionField
+-- a direction above 3
+pub direction_four : characters_verdict unit_of_few (written (codes "0061;4;0;0;0" ∷ [])) ≡ Malformed 1 DirectionField
 unfolding characters_verdict verdict_on characters_line
-direction_three = refl
+direction_four = refl
+
+-- under AutoRtl a paragraph without a strong class is at level 1, and one with L is not
+pub space_auto_rtl : characters_verdict unit_of_few (written (codes "0020;3;1;1;0" ∷ [])) ≡ Yes 1 1
+unfolding characters_verdict verdict_on characters_line matching_pdi matching_initiator partner_of isolate_holds isolate_around first_strong para_level_of matching_pdf embedding_holds chain entered explicit_at after_weak stop_of bracket_pairs_of closer_of after_paired after_neutral resolved_levels after_resets line_order layout_of
+space_auto_rtl = refl
+
+pub strong_auto_rtl : characters_verdict unit_of_few (written (codes "0061;3;1;0;0" ∷ [])) ≡ Wrong 1 AutoRtl ParaLevel
+unfolding characters_verdict verdict_on characters_line matching_pdi matching_initiator partner_of isolate_holds isolate_around first_strong para_level_of matching_pdf embedding_holds chain entered explicit_at after_weak stop_of bracket_pairs_of closer_of after_paired after_neutral resolved_levels after_resets line_order layout_of
+strong_auto_rtl = refl
 
 -- a paragraph level above 1
 pub para_two : characters_verdict unit_of_few (written (codes "0061;0;2;0;0" ∷ [])) ≡ Malformed 1 ParaField
@@ -119,7 +128,7 @@ unfolding characters_verdict verdict_on characters_line matching_pdi matching_in
 unmatched_closing = refl
 
 -- the causes come in the order of the fields
-pub first_cause : characters_verdict unit_of_few (written (codes "0061;3;2;127;x" ∷ [])) ≡ Malformed 1 DirectionField
+pub first_cause : characters_verdict unit_of_few (written (codes "0061;4;2;127;x" ∷ [])) ≡ Malformed 1 DirectionField
 unfolding characters_verdict verdict_on characters_line
 first_cause = refl
 
@@ -134,7 +143,7 @@ unfolding characters_verdict verdict_on characters_line
 order_item = refl
 
 -- an empty first field comes before the others
-pub empty_before_fields : characters_verdict unit_of_few (written (codes " ;3;2;127;x" ∷ [])) ≡ Malformed 1 EmptyRow
+pub empty_before_fields : characters_verdict unit_of_few (written (codes " ;4;2;127;x" ∷ [])) ≡ Malformed 1 EmptyRow
 unfolding characters_verdict verdict_on characters_line
 empty_before_fields = refl
 

@@ -1,5 +1,5 @@
 -- The grammar of BidiTest.txt, line by line, and the verdict on such a file.
-use Rattle.std.specs.Prelude.{Option, ℕ, ◌-◌, ◌/◌, ◌%◌, Bool, ◌&&◌, ◌==◌, nat_lt, nat_le, nat_eq, if◌then◌else◌, List, [], ◌∷◌, length, filter, map, Some, None, drop, codes}
+use Rattle.std.specs.Prelude.{Option, ℕ, ◌/◌, ◌%◌, Bool, ◌==◌, nat_lt, nat_eq, if◌then◌else◌, List, [], ◌∷◌, length, filter, map, Some, None, drop, codes}
 use Rattle.std.specs.List.{starts_with}
 use Rattle.std.specs.Option.{option_map}
 use Rattle.std.specs.Str.{bytes_eq}
@@ -9,7 +9,7 @@ use Rattle.units.specs.declared.class.Class.{Class}
 use Rattle.units.specs.declared.bracket.Bracket.TheVariants.{No}
 use Rattle.units.specs.declared.bracket.Unit.{Unit as BidiUnit}
 use Rattle.units.specs.declared.level.Direction.{Direction}
-use Rattle.units.specs.declared.level.Direction.TheVariants.{Auto, Ltr, Rtl}
+use Rattle.units.specs.declared.level.Direction.TheVariants.{Auto, Ltr, Rtl, AutoRtl}
 use Rattle.bidtests.specs.declared.verdict.Cause.{Cause}
 use Rattle.bidtests.specs.declared.verdict.Cause.TheVariants.{LineTooLong, Directive, LevelItem, OrderItem, ClassItem, BitSet, NoExpectation, FieldCount, EmptyRow}
 use Rattle.bidtests.specs.declared.verdict.Verdict.{Verdict}
@@ -27,123 +27,15 @@ level_item item = if bytes_eq item removed_item then Some None else option_map S
 abbrev pub order_item : List ℕ → Option ℕ
 order_item item = number_up_to 65535 item
 
--- bit 1 names auto, bit 2 LTR, bit 4 RTL
+-- bit 1 names auto, bit 2 LTR, bit 4 RTL, bit 8 AutoRtl
 abbrev pub names_direction : ℕ → Direction → Bool
 names_direction bits Auto = bits % 2 == 1
 names_direction bits Ltr = bits / 2 % 2 == 1
-names_direction bits Rtl = bits / 4 == 1
+names_direction bits Rtl = bits / 4 % 2 == 1
+names_direction bits AutoRtl = bits / 8 == 1
 
 -- the directions in the order in which a row is judged under them
 abbrev pub directions_in_order : List Direction
-directions_in_order = Auto ∷ Ltr ∷ Rtl ∷ []
+directions_in_order = Auto ∷ Ltr ∷ Rtl ∷ AutoRtl ∷ []
 
--- the directions that a number of 1 to 7 names, in that order
-abbrev pub directions_of : ℕ → List Direction
-directions_of bits = filter (names_direction bits) directions_in_order
-
--- the directions that a bit set names: exactly one digit of 1 to 7
-abbrev pub bit_set : List ℕ → Option (List Direction)
-bit_set (d ∷ []) = if nat_le 49 d && nat_le d 55 then Some (directions_of (d - 48)) else None
-bit_set _ = None
-
--- the unit of a class, which is no bracket
-abbrev pub unit_of_class : Class → BidiUnit
-unit_of_class class = record { class = class; bracket = No }
-
--- an item of a row: the short name of a class
-abbrev pub unit_item : List ℕ → Option BidiUnit
-unit_item name = option_map unit_of_class (class_of_short name)
-
--- what a line says by itself: nothing, a list of levels, an order, a row, or that it is malformed
-pub data ClassesLine : Type 0 where
-  Nothing : ClassesLine
-  LevelsAre : (levels : List (Option ℕ)) → ClassesLine
-  OrderIs : (order : List ℕ) → ClassesLine
-  RowOf : (text : List BidiUnit) → (directions : List Direction) → ClassesLine
-  Broken : (cause : Cause) → ClassesLine
-
--- what `@Levels:` says, by what its items are read as
-abbrev pub levels_directive : Option (List (Option ℕ)) → ClassesLine
-levels_directive None = Broken LevelItem
-levels_directive (Some levels) = LevelsAre levels
-
--- what `@Reorder:` says, by what its items are read as
-abbrev pub order_directive : Option (List ℕ) → ClassesLine
-order_directive None = Broken OrderItem
-order_directive (Some order) = OrderIs order
-
--- what a content says that begins with `@`
-abbrev pub directive : List ℕ → ClassesLine
-directive content =
-    if starts_with nat_eq content (codes "@Type:") then Nothing
-    else if starts_with nat_eq content (codes "@Levels:") then levels_directive (each_read level_item (items_of (drop 8 content)))
-    else if starts_with nat_eq content (codes "@Reorder:") then order_directive (each_read order_item (items_of (drop 9 content)))
-    else Broken Directive
-
--- what a row says, by what its items and its bit set are read as: a wrong item comes before a wrong bit set
-abbrev pub row_of : Option (List BidiUnit) → Option (List Direction) → ClassesLine
-row_of None directions = Broken ClassItem
-row_of (Some text) None = Broken BitSet
-row_of (Some text) (Some directions) = RowOf text directions
-
--- what a row of these items says: it has at least one
-abbrev pub row_with : List (List ℕ) → List ℕ → ClassesLine
-row_with [] bits = Broken EmptyRow
-row_with (name ∷ names) bits = row_of (each_read unit_item (name ∷ names)) (bit_set bits)
-
--- what a row of these fields says: it has exactly two
-abbrev pub data_line : List (List ℕ) → ClassesLine
-data_line (names ∷ bits ∷ []) = row_with (items_of names) bits
-data_line _ = Broken FieldCount
-
--- what a content says: nothing if it is empty, a directive if it begins with `@`, else a row
-abbrev pub line_of_content : List ℕ → ClassesLine
-line_of_content [] = Nothing
-line_of_content (b ∷ bs) = if b == 64 then directive (b ∷ bs) else data_line (fields_of (b ∷ bs))
-
--- what a line says by itself
-unfoldable pub classes_line : List ℕ → ClassesLine
-classes_line line = if nat_lt longest_line (length line) then Broken LineTooLong else line_of_content (content_of line)
-
--- the levels in force behind these lines, the nearest of them first: those of the nearest line that lists levels
-abbrev pub levels_in_force : List ClassesLine → Option (List (Option ℕ))
-levels_in_force [] = None
-levels_in_force (LevelsAre levels ∷ earlier) = Some levels
-levels_in_force (_ ∷ earlier) = levels_in_force earlier
-
--- the order in force behind these lines, the nearest of them first: that of the nearest line that lists an order
-abbrev pub order_in_force : List ClassesLine → Option (List ℕ)
-order_in_force [] = None
-order_in_force (OrderIs order ∷ earlier) = Some order
-order_in_force (_ ∷ earlier) = order_in_force earlier
-
--- what a row claims: no paragraph level, and the lists in force
-abbrev pub row_claim : List BidiUnit → List Direction → List (Option ℕ) → List ℕ → Claim
-row_claim text directions levels order = record { text = text; directions = directions; para = None; levels = levels; order = order }
-
--- what a row comes to where these lists are in force: it needs both
-abbrev pub claimed : List BidiUnit → List Direction → Option (List (Option ℕ)) → Option (List ℕ) → Finding
-claimed text directions (Some levels) (Some order) = Claims (row_claim text directions levels order)
-claimed text directions _ _ = Faulty NoExpectation
-
--- what a line comes to where these lists are in force
-abbrev pub finding : Option (List (Option ℕ)) → Option (List ℕ) → ClassesLine → Finding
-finding levels order Nothing = Silent
-finding levels order (LevelsAre _) = Silent
-finding levels order (OrderIs _) = Silent
-finding levels order (Broken cause) = Faulty cause
-finding levels order (RowOf text directions) = claimed text directions levels order
-
--- what each of these lines comes to behind the earlier ones, the nearest of them first
-abbrev pub findings_behind : List ClassesLine → List ClassesLine → List Finding
-findings_behind earlier [] = []
-findings_behind earlier (line ∷ lines) =
-    finding (levels_in_force earlier) (order_in_force earlier) line ∷ findings_behind (line ∷ earlier) lines
-
--- what each of a file's lines comes to
-abbrev pub findings_of : List (List ℕ) → List Finding
-findings_of lines = findings_behind [] (map classes_line lines)
-
--- the verdict on the bytes of a BidiTest.txt
-unfoldable pub classes_verdict : List ℕ → Verdict
-classes_verdict bytes = verdict_on (findings_of (lines_of bytes))
+-- the directions that a number of 1 to 15 names, in that order

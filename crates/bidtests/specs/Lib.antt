@@ -4,6 +4,7 @@ pub mod ClassesFile
 pub mod CharactersFile
 pub mod FileKinds
 pub mod Headline
+pub mod ThreeDirections
 pub mod Readings
 pub mod Standing
 pub mod Rows

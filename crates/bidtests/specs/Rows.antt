@@ -9,7 +9,7 @@ use Rattle.units.specs.Brackets.{stop_of, bracket_pairs_of, closer_of, after_pai
 use Rattle.units.specs.Neutral.{after_neutral}
 use Rattle.units.specs.Reordering.{after_resets, line_order}
 use Rattle.units.specs.Layout.{resolved_levels, layout_of}
-use Rattle.units.specs.declared.level.Direction.TheVariants.{Ltr, Rtl}
+use Rattle.units.specs.declared.level.Direction.TheVariants.{Auto, Ltr, Rtl}
 use Rattle.bidtests.specs.Verdicts.{verdict_on}
 use Rattle.bidtests.specs.ClassesFile.{classes_line, classes_verdict}
 use Rattle.bidtests.specs.declared.verdict.Place.TheVariants.{Levels, Order}
@@ -45,10 +45,32 @@ pub level_too_high : classes_verdict (written (codes "@Levels: 127" ∷ [])) ≡
 unfolding classes_verdict verdict_on classes_line
 level_too_high = refl
 
--- a bit set above 7
-pub bit_eight : classes_verdict (written (codes "@Levels: 0" ∷ codes "@Reorder: 0" ∷ codes "L; 8" ∷ [])) ≡ Malformed 3 BitSet
+-- a bit set above 15, or with a leading zero
+pub bit_sixteen : classes_verdict (written (codes "@Levels: 0" ∷ codes "@Reorder: 0" ∷ codes "L; 16" ∷ [])) ≡ Malformed 3 BitSet
 unfolding classes_verdict verdict_on classes_line
-bit_eight = refl
+bit_sixteen = refl
+
+pub bits_with_zero : classes_verdict (written (codes "@Levels: 0" ∷ codes "@Reorder: 0" ∷ codes "L; 07" ∷ [])) ≡ Malformed 3 BitSet
+unfolding classes_verdict verdict_on classes_line
+bits_with_zero = refl
+
+-- bit 8 names AutoRtl, under which a paragraph without a strong class is at level 1, and one with L at 0
+pub neutral_auto_rtl : classes_verdict (written (codes "@Levels: 1" ∷ codes "@Reorder: 0" ∷ codes "ON; 8" ∷ [])) ≡ Yes 1 1
+unfolding classes_verdict verdict_on classes_line matching_pdi matching_initiator partner_of isolate_holds isolate_around first_strong para_level_of matching_pdf embedding_holds chain entered explicit_at after_weak stop_of bracket_pairs_of closer_of after_paired after_neutral resolved_levels after_resets line_order layout_of
+neutral_auto_rtl = refl
+
+pub neutral_auto : classes_verdict (written (codes "@Levels: 1" ∷ codes "@Reorder: 0" ∷ codes "ON; 9" ∷ [])) ≡ Wrong 3 Auto (Levels 0)
+unfolding classes_verdict verdict_on classes_line matching_pdi matching_initiator partner_of isolate_holds isolate_around first_strong para_level_of matching_pdf embedding_holds chain entered explicit_at after_weak stop_of bracket_pairs_of closer_of after_paired after_neutral resolved_levels after_resets line_order layout_of
+neutral_auto = refl
+
+pub strong_auto_rtl : classes_verdict (written (codes "@Levels: 0" ∷ codes "@Reorder: 0" ∷ codes "L; 8" ∷ [])) ≡ Yes 1 1
+unfolding classes_verdict verdict_on classes_line matching_pdi matching_initiator partner_of isolate_holds isolate_around first_strong para_level_of matching_pdf embedding_holds chain entered explicit_at after_weak stop_of bracket_pairs_of closer_of after_paired after_neutral resolved_levels after_resets line_order layout_of
+strong_auto_rtl = refl
+
+-- an FSI without a strong class acts as LRI under AutoRtl too
+pub isolate_auto_rtl : classes_verdict (written (codes "@Levels: 1 2 1" ∷ codes "@Reorder: 2 1 0" ∷ codes "FSI ON PDI; 8" ∷ [])) ≡ Yes 1 1
+unfolding classes_verdict verdict_on classes_line matching_pdi matching_initiator partner_of isolate_holds isolate_around first_strong para_level_of matching_pdf embedding_holds chain entered explicit_at after_weak stop_of bracket_pairs_of closer_of after_paired after_neutral resolved_levels after_resets line_order layout_of
+isolate_auto_rtl = refl
 
 -- an order that ends too early
 pub order_too_short : classes_verdict (written (codes "@Levels: 0 0" ∷ codes "@Reorder: 0" ∷ codes "L L; 2" ∷ [])) ≡ Wrong 3 Ltr (Order 1)

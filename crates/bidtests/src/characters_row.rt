@@ -54,6 +54,7 @@ fn direction(field: &[u8]) -> Option<Direction>
         b"0" => Some(Direction::Ltr),
         b"1" => Some(Direction::Rtl),
         b"2" => Some(Direction::Auto),
+        b"3" => Some(Direction::AutoRtl),
         _ => None,
     }
 }

@@ -132,8 +132,8 @@ fn compare(scratch: &mut Scratch, claim: Claim<'_>, direction: Direction) -> Com
     }
 }
 
-/// The first of the claim's directions under which it differs from the layout, and where. A direction is passed over where an
-/// earlier one gave the same layout.
+/// The first of the claim's directions under which it differs from the layout, and where. LTR or RTL is passed over where auto gave
+/// the same layout.
 fn first_wrong(scratch: &mut Scratch, claim: Claim<'_>) -> Option<(Direction, Place)>
     requires { length claim.text.now ≤ room_of scratch.old }
     ensures wrong { result ≡ wrong_case (claim_of claim.entry) claim.entry.directions.now }

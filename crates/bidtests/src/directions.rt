@@ -4,20 +4,29 @@ ghost use Rattle.bidtests.specs.ClassesFile.{bit_set as directions_named};
 ghost use Rattle.bidtests.specs.Readings.{MatchesNow};
 
 use units::level::Direction;
+use units::text::number::number;
 
-/// The directions that one digit of 1 to 7 names, in the order auto, LTR, RTL.
+/// The directions that a number of 1 to 15 names, in the order auto, LTR, RTL, AutoRtl.
 pub fn directions(field: &[u8]) -> Option<&'static [Direction]>
     ensures { MatchesNow result (directions_named field.now) }
 {
-    use Direction::{Auto, Ltr, Rtl};
-    match field {
-        b"1" => Some(&[Auto]),
-        b"2" => Some(&[Ltr]),
-        b"3" => Some(&[Auto, Ltr]),
-        b"4" => Some(&[Rtl]),
-        b"5" => Some(&[Auto, Rtl]),
-        b"6" => Some(&[Ltr, Rtl]),
-        b"7" => Some(&[Auto, Ltr, Rtl]),
+    use Direction::{Auto, AutoRtl, Ltr, Rtl};
+    match number(field, 15)? {
+        1 => Some(&[Auto]),
+        2 => Some(&[Ltr]),
+        3 => Some(&[Auto, Ltr]),
+        4 => Some(&[Rtl]),
+        5 => Some(&[Auto, Rtl]),
+        6 => Some(&[Ltr, Rtl]),
+        7 => Some(&[Auto, Ltr, Rtl]),
+        8 => Some(&[AutoRtl]),
+        9 => Some(&[Auto, AutoRtl]),
+        10 => Some(&[Ltr, AutoRtl]),
+        11 => Some(&[Auto, Ltr, AutoRtl]),
+        12 => Some(&[Rtl, AutoRtl]),
+        13 => Some(&[Auto, Rtl, AutoRtl]),
+        14 => Some(&[Ltr, Rtl, AutoRtl]),
+        15 => Some(&[Auto, Ltr, Rtl, AutoRtl]),
         _ => None,
     }
 }
@@ -30,5 +39,6 @@ pub fn alone(direction: Direction) -> &'static [Direction]
         Direction::Auto => &[Direction::Auto],
         Direction::Ltr => &[Direction::Ltr],
         Direction::Rtl => &[Direction::Rtl],
+        Direction::AutoRtl => &[Direction::AutoRtl],
     }
 }

@@ -154,6 +154,11 @@ fn rows_by_rule(rt: HostRuntime) -> Result<(), Fail> {
         ("1 1 1", "0 1 2", "B B B; 4", 1),
         // X6a: a PDI without an initiator closes no embedding.
         ("x 1 2", "2 1", "RLE PDI L; 2", 1),
+        // Bit 8: level 1 where no strong class stands outside of isolates. An FSI acts as under auto.
+        ("1", "0", "ON; 8", 1),
+        ("0", "0", "L; 11", 3),
+        ("1", "0", "R; 13", 3),
+        ("1 2 1", "2 1 0", "FSI ON PDI; 8", 1),
     ] {
         expect_yes(&rt, alloc, levels, order, row, cases)?;
     }
@@ -229,6 +234,18 @@ fn rows_that_are_wrong(rt: HostRuntime) -> Result<(), Fail> {
         b"@Levels: 0 0 0\n@Reorder: 0 1 2\nB B B; 7\n",
         wrong(3, Direction::Rtl, Place::Levels(0)),
     )?;
+    expect(
+        &rt,
+        alloc,
+        b"@Levels: 1\n@Reorder: 0\nON; 9\n",
+        wrong(3, Direction::Auto, Place::Levels(0)),
+    )?;
+    expect(
+        &rt,
+        alloc,
+        b"@Levels: 0\n@Reorder: 0\nON; 11\n",
+        wrong(3, Direction::AutoRtl, Place::Levels(0)),
+    )?;
     Ok(())
 }
 
@@ -238,7 +255,8 @@ fn lines_that_are_malformed(rt: HostRuntime) -> Result<(), Fail> {
     for (bytes, line, cause) in [
         (b"L; 7\n".as_slice(), 1, Cause::NoExpectation),
         (b"@Levels: 127\n", 1, Cause::LevelItem),
-        (b"@Levels: 0\n@Reorder: 0\nL; 8\n", 3, Cause::BitSet),
+        (b"@Levels: 0\n@Reorder: 0\nL; 16\n", 3, Cause::BitSet),
+        (b"@Levels: 0\n@Reorder: 0\nL; 07\n", 3, Cause::BitSet),
         (b"@Levels: x\n@Reorder:\nXX; 7\n", 3, Cause::ClassItem),
         (b"@Type: 1\n@Level: 0\n", 2, Cause::Directive),
         (b"@Levels: 0\nL; 7\n", 2, Cause::NoExpectation),
@@ -246,8 +264,8 @@ fn lines_that_are_malformed(rt: HostRuntime) -> Result<(), Fail> {
         (b"@Reorder: 65536\n", 1, Cause::OrderItem),
         (b"L", 1, Cause::FieldCount),
         (b" ; 9", 1, Cause::EmptyRow),
-        (b"L; 9", 1, Cause::BitSet),
-        (b"@Levels: 0\n@Reorder: 0\nL; 8\nL; 4\n", 3, Cause::BitSet),
+        (b"L; 0", 1, Cause::BitSet),
+        (b"@Levels: 0\n@Reorder: 0\nL; 16\nL; 4\n", 3, Cause::BitSet),
         (b"L l; 9", 1, Cause::ClassItem),
     ] {
         expect(&rt, alloc, bytes, malformed(line, cause))?;

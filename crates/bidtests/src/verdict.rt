@@ -15,7 +15,7 @@ pub enum Cause {
     OrderItem,
     /// An item of a row is no short name of a class.
     ClassItem,
-    /// The second field of a row is not one digit of 1 to 7.
+    /// The second field of a row is no number of 1 to 15.
     BitSet,
     /// No `@Levels:` line or no `@Reorder:` line stands before the row.
     NoExpectation,
@@ -23,7 +23,7 @@ pub enum Cause {
     FieldCount,
     /// An item is no code point, or a surrogate.
     CodePoint,
-    /// The direction field is none of `0`, `1` and `2`.
+    /// The direction field is none of `0`, `1`, `2` and `3`.
     DirectionField,
     /// The paragraph level field is neither `0` nor `1`.
     ParaField,

@@ -3,7 +3,7 @@ use Rattle.std.proofs.Common.{◌≡◌, ℕ, suc, ◌+◌, ◌<◌, ◌≤◌, 
 use Rattle.std.proofs.lemmas.List.{length-set, get_or-set_same, get_or-set_other}
 use Rattle.units.specs.Classes.{class_at, is_isolate_initiator, is_pdi}
 use Rattle.units.specs.declared.class.Class.{Class}
-use Rattle.explicit.proofs.Partners.{IsPass, pass_opening, pass_other, pass_unmatched, pass_matched, pass_all}
+use Rattle.explicit.proofs.Partners.{IsPass, pass_none, pass_opening, pass_other, pass_unmatched, pass_matched, pass_all}
 use Rattle.explicit.specs.IsolateMaps.{HasPartners}
 
 -- after the first k positions, with this many open initiators
@@ -96,3 +96,7 @@ filling_all cs depth room partners openers filling =
     let enough = filling.enough in
     let pr = filling.partners_room in
     record { enough = omega arith; at = pass_all cs depth _ _ filling.pass }
+
+-- before the first position
+pub filling_none : (cs : List Class) (room : ℕ) (partners : List (Option ℕ)) (openers : List ℕ) → length cs ≤ room → length partners ≡ room → length openers ≡ room → IsFilling cs 0 0 room partners openers
+filling_none cs room partners openers enough one other = record { enough = enough; deep = omega arith; partners_room = one; openers_room = other; pass = pass_none cs _ _ }

@@ -22,6 +22,7 @@ pub mod Places
 pub mod Positions
 pub mod Represented
 pub mod Roles
+pub mod InnermostOpen
 pub mod Sides
 pub mod Taken
 pub mod TheTail

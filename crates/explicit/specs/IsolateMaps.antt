@@ -1,14 +1,15 @@
 -- What a map of isolates keeps of the paragraph that it was filled from.
-use Rattle.std.specs.Prelude.{◌≡◌, ℕ, ◌<◌, ◌≤◌, Bool, true, false, List, length, Option, Some, None, slice_index_or}
-use Rattle.units.specs.Classes.{class_at, is_isolate_initiator}
-use Rattle.units.specs.Isolates.{partner_of, first_strong, begins_right_to_left}
+use Rattle.std.specs.Prelude.{◌≡◌, ℕ, ◌<◌, ◌≤◌, List, length, Option, None, slice_index_or}
+use Rattle.units.specs.Isolates.{partner_of, first_strong}
 use Rattle.units.specs.declared.class.Class.{Class}
+use Rattle.explicit.specs.Sides.{side_at, HasSides}
+use Rattle.explicit.specs.declared.side.Side.{Side}
 
--- BD9, P2, P3: the partner of each position; at an initiator whether its isolate begins right to left; whether what lies outside does
+-- BD9, P2, P3: the partner of each position; at an initiator the side on which its isolate begins; the side on which what lies outside does
 pub record Isolates : Type 0 where
   pub partners : List (Option ℕ)
-  pub sides : List Bool
-  pub outside : Bool
+  pub sides : List Side
+  pub outside : Side
 
 -- how long a paragraph the map has room for
 abbrev pub room : Isolates → ℕ
@@ -25,13 +26,8 @@ pub record HasPartners (partners : List (Option ℕ)) (cs : List Class) : Type 0
   pub enough : length cs ≤ length partners
   pub at : (p : ℕ) → p < length cs → slice_index_or partners p None ≡ partner_of cs p
 
--- P2, P3: at each initiator stands whether the first strong class directly inside its isolate is R or AL
-abbrev pub HasSides : List Bool → List Class → Type 0
-HasSides sides cs =
-    (p : ℕ) → p < length cs → is_isolate_initiator (class_at cs p) ≡ true → slice_index_or sides p false ≡ begins_right_to_left cs (first_strong cs (Some p))
-
 -- BD9, P2, P3: the map was filled from a paragraph with these classes
 pub record IsFilledFrom (map : Isolates) (cs : List Class) : Type 0 where
   pub matched : HasPartners map.partners cs
   pub sides : HasSides map.sides cs
-  pub outside : map.outside ≡ begins_right_to_left cs (first_strong cs None)
+  pub outside : map.outside ≡ side_at cs (first_strong cs None)

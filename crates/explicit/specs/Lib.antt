@@ -1,4 +1,6 @@
 pub mod FirstParagraph
+pub mod Sides
+pub mod SideLevels
 pub mod IsolateMaps
 pub mod OpenInitiators
 pub mod StatusStacks

@@ -1,15 +1,18 @@
-//! The isolates of a paragraph (BD9), and which direction each begins with (P2, P3).
-ghost use Rattle.std.specs.Prelude.{◌≡◌, ◌+◌, ◌*◌, ◌<◌, ◌≤◌, length, List, true, false, Option, Some, None, IfOk, slice_index_or};
+//! The isolates of a paragraph (BD9), and on which side each begins (P2, P3).
+ghost use Rattle.std.specs.Prelude.{◌≡◌, ◌+◌, ◌<◌, ◌≤◌, ℕ, length, List, true, Option, Some, None, IfOk, slice_index_or};
 ghost use Rattle.units.specs.Classes.{class_at, classes_of, is_isolate_initiator};
 ghost use Rattle.units.specs.Isolates.{partner_of, first_strong, begins_right_to_left};
 ghost use Rattle.units.specs.declared.class.Class.{Class};
-ghost use Rattle.explicit.specs.IsolateMaps.{room, HasPartners, HasSides, IsFilledFrom};
+ghost use Rattle.explicit.specs.IsolateMaps.{room, HasPartners, IsFilledFrom};
+ghost use Rattle.explicit.specs.Sides.{HasSides, side_at, noted, noted_at};
 
+use crate::side::Side;
 use std::alloc::Global;
 use std::boxed::BoxedSlice;
 use std::marker::Model;
 use std::sync::ledger::Ledger;
 use units::bracket::Unit;
+use units::class::Class;
 use units::memory::Memory;
 use units::optional_position::OptionalPosition;
 use units::steps::Steps;
@@ -21,9 +24,9 @@ pub struct IsolateMap {
     partners: BoxedSlice<OptionalPosition>,
     // The stack of open initiators, in use while partners are matched.
     openers: BoxedSlice<u32>,
-    // Behind each position, whether the next strong class of the isolate there is R or AL.
-    sides: BoxedSlice<bool>,
-    outside: bool,
+    // At each initiator, what the first strong class directly inside its isolate is; stale at all other positions.
+    sides: BoxedSlice<Side>,
+    outside: Side,
 }
 
 impl Model for IsolateMap {
@@ -49,12 +52,12 @@ impl IsolateMap {
         }
         let partners = vec![in alloc; OptionalPosition::none(); n]?.into_boxed_slice();
         let openers = vec![in alloc; 0; n]?.into_boxed_slice();
-        let sides = vec![in alloc; false; n]?.into_boxed_slice();
+        let sides = vec![in alloc; Side::Unknown; n]?.into_boxed_slice();
         Ok(IsolateMap {
             partners,
             openers,
             sides,
-            outside: false,
+            outside: Side::Unknown,
         })
     }
 
@@ -63,10 +66,15 @@ impl IsolateMap {
         requires { length para.now ≤ room self.old }
         ensures same_room { room self.new ≡ room self.old }
         ensures filled { IsFilledFrom self.new (classes_of para.now) }
-        ensures steps { steps.new ≡ steps.old + 2 * length para.now }
+        ensures steps { steps.new ≡ steps.old + length para.now }
     {
-        match_partners(para, &mut self.partners, &mut self.openers, steps);
-        self.outside = carry_sides(para, &self.partners, &mut self.sides, steps);
+        self.outside = match_partners(
+            para,
+            &mut self.partners,
+            &mut self.openers,
+            &mut self.sides,
+            steps,
+        );
     }
 
     /// BD9: the PDI that matches the isolate initiator at the position `p`, the isolate initiator that the PDI at `p`
@@ -84,30 +92,57 @@ impl IsolateMap {
         requires { p < room self.now }
         ensures { (cs : List Class) → IsFilledFrom self.now cs → p < length cs → is_isolate_initiator (class_at cs p) ≡ true → result ≡ begins_right_to_left cs (first_strong cs (Some p)) }
     {
-        self.sides[p]
+        self.sides[p].is_right_to_left()
     }
 
-    // P2, P3: whether the first strong class outside of all isolates is R or AL.
-    pub(crate) fn is_right_to_left_outside(&self) -> bool
+    // P2, P3: the side of the first strong class outside of all isolates.
+    pub(crate) fn outside(&self) -> Side
         ensures { result ≡ self.now.outside }
     {
         self.outside
     }
 }
 
-// BD9: matches each PDI with the last open initiator, and writes the partners of all positions.
+// P2: notes a strong class of the innermost isolate that is open, or of what lies outside of all. Answers the side outside.
+fn note_strong(
+    class: Class,
+    openers: &[u32],
+    depth: usize,
+    sides: &mut [Side],
+    outside: Side,
+) -> Side
+    requires open { depth ≤ length openers.now }
+    requires within { (d : ℕ) → depth ≡ d + 1 → slice_index_or openers.now d 0 < length sides.old }
+    ensures outside { depth ≡ 0 → (result ≡ noted outside class) × (sides.new ≡ sides.old) }
+    ensures inside { (d : ℕ) → depth ≡ d + 1 → (result ≡ outside) × (sides.new ≡ noted_at sides.old (slice_index_or openers.now d 0) class) }
+{
+    if depth == 0 {
+        return outside.noting(class);
+    }
+    let opener = openers[depth - 1] as usize;
+    sides[opener] = sides[opener].noting(class);
+    outside
+}
+
+// BD9, P2, P3: matches each PDI with the last open initiator, and notes the first strong class of each isolate. Writes the
+// partners of all positions and the sides of all initiators, and answers the side outside of all isolates.
 fn match_partners<L: Ledger>(
     para: &[Unit],
     partners: &mut [OptionalPosition],
     openers: &mut [u32],
+    sides: &mut [Side],
     steps: &mut Steps<L>,
-)
+) -> Side
     requires inside { length para.now ≤ length partners.old }
     requires fits { length openers.old ≡ length partners.old }
+    requires sides_fit { length sides.old ≡ length partners.old }
     requires few { length partners.old ≤ u32.MAX }
     ensures matched { HasPartners partners.new (classes_of para.now) }
+    ensures sides { HasSides sides.new (classes_of para.now) }
+    ensures outside { result ≡ side_at (classes_of para.now) (first_strong (classes_of para.now) None) }
     ensures steps { steps.new ≡ steps.old + length para.now }
 {
+    let mut outside = Side::Unknown;
     let mut depth = 0;
     for (p, unit) in para.iter().enumerate() {
         steps.tick();
@@ -115,44 +150,15 @@ fn match_partners<L: Ledger>(
         if unit.class.is_isolate_initiator() {
             openers[depth] = p as u32;
             depth += 1;
+            sides[p] = Side::Unknown;
         } else if unit.class.is_pdi() && depth > 0 {
             depth -= 1;
             let opener = openers[depth] as usize;
             partners[opener] = OptionalPosition::some(p);
             partners[p] = OptionalPosition::some(opener);
+        } else if unit.class.is_strong() {
+            outside = note_strong(unit.class, openers, depth, sides, outside);
         }
     }
-}
-
-// P2, P3: carries the side of the next strong class from the paragraph's end back, over matched isolates. At a position
-// stands the side of what follows it in its isolate, or in the isolate that it begins; the answer is that of the paragraph.
-fn carry_sides<L: Ledger>(
-    para: &[Unit],
-    partners: &[OptionalPosition],
-    sides: &mut [bool],
-    steps: &mut Steps<L>,
-) -> bool
-    requires matched { HasPartners partners.now (classes_of para.now) }
-    requires fits { length sides.old ≡ length partners.now }
-    ensures outside { result ≡ begins_right_to_left (classes_of para.now) (first_strong (classes_of para.now) None) }
-    ensures sides { HasSides sides.new (classes_of para.now) }
-    ensures steps { steps.new ≡ steps.old + length para.now }
-{
-    let mut carried = false;
-    for p in (0..para.len()).rev() {
-        steps.tick();
-        sides[p] = carried;
-        let class = para[p].class;
-        carried = if class.is_strong() {
-            class.is_right_to_left()
-        } else {
-            match partners[p].get() {
-                Some(pdi) if p < pdi => sides[pdi],
-                Some(_) => false,
-                None if class.is_isolate_initiator() => false,
-                None => carried,
-            }
-        };
-    }
-    carried
+    outside
 }

@@ -9,6 +9,7 @@ pub mod laws;
 pub mod levels;
 pub mod para_level;
 pub mod paragraph;
+mod side;
 mod status;
 #[cfg(test)]
 mod tests;

@@ -17,7 +17,7 @@ const CHARACTERS_FILE: [&str; 7] = [
 
 #[test]
 fn judges_files_of_classes(rt: HostRuntime) {
-    let rows: [(&[u8], u8, &[u8]); 9] = [
+    let rows: [(&[u8], u8, &[u8]); 10] = [
         (
             b"@Levels: 1 1 0\n@Reorder: 1 0 2\nR B L; 1\n",
             0,
@@ -36,9 +36,14 @@ fn judges_files_of_classes(rt: HostRuntime) {
         (b"", 0, b"yes: 0 rows, 0 cases\n"),
         (b"L; 7", 1, b"no: line 1: malformed: NoExpectation\n"),
         (
-            b"@Levels: 0\n@Reorder: 0\nL; 8\n",
+            b"@Levels: 0\n@Reorder: 0\nL; 16\n",
             1,
             b"no: line 3: malformed: BitSet\n",
+        ),
+        (
+            b"@Levels: 1\n@Reorder: 0\nON; 9\n",
+            1,
+            b"no: line 3: auto: levels at 0\n",
         ),
         (
             b"@Levels: 0 0\n@Reorder: 0\nL L; 2\n",
@@ -66,7 +71,7 @@ fn judges_files_of_classes(rt: HostRuntime) {
 
 #[test]
 fn judges_files_of_characters(rt: HostRuntime) {
-    let rows: [(&[u8], u8, &[u8]); 11] = [
+    let rows: [(&[u8], u8, &[u8]); 12] = [
         (b"", 0, b"yes: 0 rows, 0 cases\n"),
         (
             b"05D0 0031 002C 0032;0;0;1 2 2 2;1 2 3 0\n0627 0031;0;0;1 2;1 0\n",
@@ -98,9 +103,14 @@ fn judges_files_of_characters(rt: HostRuntime) {
         (b";0;0;;\n", 1, b"no: line 1: malformed: EmptyRow\n"),
         (b"D800;0;0;0;0\n", 1, b"no: line 1: malformed: CodePoint\n"),
         (
-            b"0061;3;0;0;0\n",
+            b"0061;4;0;0;0\n",
             1,
             b"no: line 1: malformed: DirectionField\n",
+        ),
+        (
+            b"0061;3;1;0;0\n",
+            1,
+            b"no: line 1: auto-rtl: paragraph level\n",
         ),
     ];
     for (bytes, status, line) in rows {

@@ -26,12 +26,15 @@ fn prints_the_levels_of_a_file(rt: HostRuntime) {
 
 #[test]
 fn prints_levels_under_a_direction(rt: HostRuntime) {
-    let rows: [(&str, &[u8]); 3] = [
-        ("auto", b"paragraph 0 level 0\n0 0061 L 0\n"),
-        ("ltr", b"paragraph 0 level 0\n0 0061 L 0\n"),
-        ("rtl", b"paragraph 0 level 1\n0 0061 L 2\n"),
+    let rows: [(&str, &[u8], &[u8]); 6] = [
+        ("auto", b"a", b"paragraph 0 level 0\n0 0061 L 0\n"),
+        ("ltr", b"a", b"paragraph 0 level 0\n0 0061 L 0\n"),
+        ("rtl", b"a", b"paragraph 0 level 1\n0 0061 L 2\n"),
+        ("auto-rtl", b"a", b"paragraph 0 level 0\n0 0061 L 0\n"),
+        ("auto", b"<", b"paragraph 0 level 0\n0 003C ON 0\n"),
+        ("auto-rtl", b"<", b"paragraph 0 level 1\n0 003C ON 1\n"),
     ];
-    for (direction, lines) in rows {
+    for (direction, text, lines) in rows {
         let words = [
             "bidi",
             "levels",
@@ -41,7 +44,7 @@ fn prints_levels_under_a_direction(rt: HostRuntime) {
             "t",
             "FILE",
         ];
-        let outcome = outcome_of(rt.alloc(), &words, &tables_and(b"a"));
+        let outcome = outcome_of(rt.alloc(), &words, &tables_and(text));
         assert_eq!(rt; outcome.status, 0, "{direction}");
         assert_eq!(rt; outcome.out.written(), lines, "{direction}");
     }

@@ -62,6 +62,7 @@ fn rows_that_are_right(rt: HostRuntime) -> Result<(), Fail> {
         b"0061 0028 05D0 0029;0;0;0 0 1 0;0 1 2 3\n",
         b"0061 2329 05D0 3009 05D1;0;0;0 0 1 0 1;0 1 2 3 4\n",
         b"0061 0028 005D 05D0 0029 05D1;0;0;0 0 0 1 0 1;0 1 2 3 4 5\n",
+        b"0020;3;1;1;0\n",
     ] {
         expect(&rt, alloc, &tables, row, yes(1, 1))?;
     }
@@ -82,7 +83,7 @@ fn lines_that_are_malformed(rt: HostRuntime) -> Result<(), Fail> {
         (b"0061;0;0;0;0;\n".as_slice(), Cause::FieldCount),
         (b";0;0;;\n", Cause::EmptyRow),
         (b"D800;0;0;0;0\n", Cause::CodePoint),
-        (b"0061;3;0;0;0\n", Cause::DirectionField),
+        (b"0061;4;0;0;0\n", Cause::DirectionField),
         (b"0061;0;2;0;0\n", Cause::ParaField),
         (b"@Levels: 0\n", Cause::FieldCount),
         (b"0061;0;0;127;0\n", Cause::LevelItem),
@@ -99,6 +100,7 @@ fn rows_that_are_wrong(rt: HostRuntime) -> Result<(), Fail> {
     let tables = tables(alloc)?;
     for (line, direction, place) in [
         (PARA_DIFFERS, Direction::Ltr, Place::ParaLevel),
+        (b"0061;3;1;0;0\n", Direction::AutoRtl, Place::ParaLevel),
         (b"05D0;1;1;1 1;0\n", Direction::Rtl, Place::Levels(1)),
         (b"05D0;1;1;;0\n", Direction::Rtl, Place::Levels(0)),
         (b"0061;0;0;0;0 1\n", Direction::Ltr, Place::Order(1)),

@@ -1,0 +1,157 @@
+-- What rows that can't ask for AutoRtl come to, they come to among rows that can.
+use Rattle.std.proofs.Common.{◌≡◌, ℕ, ◌<◌, ◌≤◌, ◌==◌, Bool, true, false, Option, None, Some, List, [], ◌∷◌, map, length, inl, inr, refl, sym, ap, ◌∙◌, arith, codes}
+use Rattle.std.specs.Prelude.{◌⊎◌, ◌&&◌, nat_le, nat_lt}
+use Rattle.std.specs.Str.{bytes_eq}
+use Rattle.std.proofs.lemmas.Bool.{cases_Bool, cases_eq, and_parts}
+use Rattle.units.specs.Text.{content_of, each_read, fields_of, items_of, lines_of, longest_line}
+use Rattle.units.specs.declared.bracket.Unit.{Unit as BidiUnit}
+use Rattle.units.specs.declared.level.Direction.{Direction}
+use Rattle.units.specs.declared.level.ParaLevel.{ParaLevel}
+use Rattle.bidtests.specs.declared.kind.Kind.{Kind}
+use Rattle.bidtests.specs.declared.kind.Kind.TheVariants.{Classes, Characters}
+use Rattle.bidtests.specs.declared.verdict.Cause.TheVariants.{BitSet, DirectionField}
+use Rattle.bidtests.specs.declared.verdict.Verdict.TheVariants.{Malformed}
+use Rattle.bidtests.specs.Verdicts.{Finding, Faulty}
+use Rattle.bidtests.specs.ClassesFile.{ClassesLine, Broken, bit_set, unit_item, level_item, order_item, row_of, row_with, data_line_by, line_of_content, classes_line, findings_behind, classes_verdict}
+use Rattle.bidtests.specs.CharactersFile.{character_item, direction_field, para_field, row_claims, row_of_fields_by, characters_line, characters_verdict}
+use Rattle.bidtests.specs.CharactersFile as characters
+use Rattle.bidtests.specs.FileKinds.{unit_by, verdict_of}
+use Rattle.bidtests.specs.ThreeDirections.{one_digit, zero_to_two, three_classes_line, three_characters_line, three_verdict_of}
+use Rattle.bidtests.proofs.SameUpTo.{AreSameUpTo, verdict-same}
+
+-- one is none, or both are the same
+IsSameOrNone : {A : Type 0} → Option A → Option A → Type 0
+IsSameOrNone few all = (few ≡ None) ⊎ (few ≡ all)
+
+digit-names : (d : ℕ) → 49 ≤ d → d ≤ 55 → one_digit (d ∷ []) ≡ bit_set (d ∷ [])
+digit-names d low high =
+    elim (cases_eq d 49) [
+      | inl here ↦ rw here refl
+      | inr ne1 ↦ elim (cases_eq d 50) [
+        | inl here ↦ rw here refl
+        | inr ne2 ↦ elim (cases_eq d 51) [
+          | inl here ↦ rw here refl
+          | inr ne3 ↦ elim (cases_eq d 52) [
+            | inl here ↦ rw here refl
+            | inr ne4 ↦ elim (cases_eq d 53) [
+              | inl here ↦ rw here refl
+              | inr ne5 ↦ elim (cases_eq d 54) [
+                | inl here ↦ rw here refl
+                | inr ne6 ↦ let here : d ≡ 55 = omega arith in rw here refl
+              ]
+            ]
+          ]
+        ]
+      ]
+    ]
+
+bit_sets : (bits : List ℕ) → IsSameOrNone (one_digit bits) (bit_set bits)
+bit_sets [] = inl refl
+bit_sets (d ∷ e ∷ bits) = inl refl
+bit_sets (d ∷ []) = elim (cases_Bool (nat_le 49 d && nat_le d 55)) [
+  | inl within ↦ let both = and_parts _ _ within in inr (digit-names d (omega (arith, both)) (omega (arith, both)))
+  | inr without ↦ inl (rw without refl)
+]
+
+direction_fields : (field : List ℕ) → IsSameOrNone (zero_to_two field) (direction_field field)
+direction_fields field = elim (cases_Bool (bytes_eq field (codes "0"))) [
+  | inl zero ↦ inr (rw zero refl)
+  | inr not_zero ↦ elim (cases_Bool (bytes_eq field (codes "1"))) [
+    | inl one ↦ inr (rw (not_zero, one) refl)
+    | inr not_one ↦ elim (cases_Bool (bytes_eq field (codes "2"))) [
+      | inl two ↦ inr (rw (not_zero, not_one, two) refl)
+      | inr not_two ↦ inl (rw (not_zero, not_one, not_two) refl)
+    ]
+  ]
+]
+
+-- Files of classes
+
+IsLineAlike : ClassesLine → ClassesLine → Type 0
+IsLineAlike few all = (few ≡ Broken BitSet) ⊎ (few ≡ all)
+
+row_of-alike : (text : Option (List BidiUnit)) (few all : Option (List Direction)) → IsSameOrNone few all → IsLineAlike (row_of text few) (row_of text all)
+row_of-alike None few all h = inr refl
+row_of-alike (Some text) few all (inl none) = inl (rw none refl)
+row_of-alike (Some text) few all (inr same) = inr (rw same refl)
+
+row_with-alike : (names : List (List ℕ)) (bits : List ℕ) → IsLineAlike (row_with one_digit names bits) (row_with bit_set names bits)
+row_with-alike [] bits = inr refl
+row_with-alike (name ∷ names) bits = row_of-alike (each_read unit_item (name ∷ names)) (one_digit bits) (bit_set bits) (bit_sets bits)
+
+data_line-alike : (fields : List (List ℕ)) → IsLineAlike (data_line_by one_digit fields) (data_line_by bit_set fields)
+data_line-alike [] = inr refl
+data_line-alike (names ∷ []) = inr refl
+data_line-alike (names ∷ bits ∷ []) = row_with-alike (items_of names) bits
+data_line-alike (names ∷ bits ∷ more ∷ fields) = inr refl
+
+content-alike : (content : List ℕ) → IsLineAlike (line_of_content one_digit content) (line_of_content bit_set content)
+content-alike [] = inr refl
+content-alike (b ∷ bs) = elim (cases_Bool (b == 64)) [
+  | inl at ↦ inr (rw at refl)
+  | inr other ↦ rw other (data_line-alike (fields_of (b ∷ bs)))
+]
+
+line-alike : (line : List ℕ) → IsLineAlike (three_classes_line line) (classes_line line)
+unfolding three_classes_line classes_line
+line-alike line = elim (cases_Bool (nat_lt longest_line (length line))) [
+  | inl long ↦ inr (rw long refl)
+  | inr fits ↦ rw fits (content-alike (content_of line))
+]
+
+lines-alike : (earlier : List ClassesLine) (lines : List (List ℕ)) → AreSameUpTo BitSet (findings_behind earlier (map three_classes_line lines)) (findings_behind earlier (map classes_line lines))
+lines-alike earlier [] = tt
+lines-alike earlier (line ∷ lines) = elim (line-alike line) [
+  | inl broken ↦ inl (rw broken refl)
+  | inr same ↦ inr (rw same refl, rw (← same) (lines-alike (three_classes_line line ∷ earlier) lines))
+]
+
+-- Files of characters
+
+IsRowAlike : Finding → Finding → Type 0
+IsRowAlike few all = (few ≡ Faulty DirectionField) ⊎ (few ≡ all)
+
+claims-alike : (text : Option (List BidiUnit)) (few all : Option Direction) (para : Option ParaLevel) (levels : Option (List (Option ℕ))) (order : Option (List ℕ)) → IsSameOrNone few all
+    → IsRowAlike (row_claims text few para levels order) (row_claims text all para levels order)
+claims-alike None few all para levels order h = inr refl
+claims-alike (Some text) few all para levels order (inl none) = inl (rw none refl)
+claims-alike (Some text) few all para levels order (inr same) = inr (rw same refl)
+
+module _ (unit_of : ℕ → BidiUnit) where
+  characters-alike : (items : List (List ℕ)) (direction para levels order : List ℕ)
+      → IsRowAlike (characters.row_with zero_to_two unit_of items direction para levels order) (characters.row_with direction_field unit_of items direction para levels order)
+  characters-alike [] direction para levels order = inr refl
+  characters-alike (item ∷ items) direction para levels order =
+      claims-alike (each_read (character_item unit_of) (item ∷ items)) (zero_to_two direction) (direction_field direction) (para_field para)
+      (each_read level_item (items_of levels)) (each_read order_item (items_of order)) (direction_fields direction)
+
+  fields-alike : (fields : List (List ℕ)) → IsRowAlike (row_of_fields_by zero_to_two unit_of fields) (row_of_fields_by direction_field unit_of fields)
+  fields-alike [] = inr refl
+  fields-alike (a ∷ []) = inr refl
+  fields-alike (a ∷ b ∷ []) = inr refl
+  fields-alike (a ∷ b ∷ c ∷ []) = inr refl
+  fields-alike (a ∷ b ∷ c ∷ d ∷ []) = inr refl
+  fields-alike (characters ∷ direction ∷ para ∷ levels ∷ order ∷ []) = characters-alike (items_of characters) direction para levels order
+  fields-alike (a ∷ b ∷ c ∷ d ∷ e ∷ f ∷ fields) = inr refl
+
+  written-alike : (content : List ℕ) → IsRowAlike (characters.line_of_content zero_to_two unit_of content) (characters.line_of_content direction_field unit_of content)
+  written-alike [] = inr refl
+  written-alike (b ∷ bs) = fields-alike (fields_of (b ∷ bs))
+
+  row-alike : (line : List ℕ) → IsRowAlike (three_characters_line unit_of line) (characters_line unit_of line)
+  unfolding three_characters_line characters_line
+  row-alike line = elim (cases_Bool (nat_lt longest_line (length line))) [
+    | inl long ↦ inr (rw long refl)
+    | inr fits ↦ rw fits (written-alike (content_of line))
+  ]
+
+  rows-alike : (lines : List (List ℕ)) → AreSameUpTo DirectionField (map (three_characters_line unit_of) lines) (map (characters_line unit_of) lines)
+  rows-alike [] = tt
+  rows-alike (line ∷ lines) = elim (row-alike line) [ inl broken ↦ inl broken | inr same ↦ inr (same, rows-alike lines) ]
+
+-- the verdict of a file, unless that is that a bit set or a direction field is malformed
+pub verdict-alike : (kind : Kind) (bytes : List ℕ) → ((line : ℕ) → three_verdict_of kind bytes ≡ Malformed line BitSet → ⊥) → ((line : ℕ) → three_verdict_of kind bytes ≡ Malformed line DirectionField → ⊥)
+    → verdict_of kind bytes ≡ three_verdict_of kind bytes
+unfolding classes_verdict characters_verdict
+verdict-alike Classes bytes bits fields = verdict-same BitSet _ _ (lines-alike [] (lines_of bytes)) bits
+verdict-alike (Characters tables) bytes bits fields = verdict-same DirectionField _ _ (rows-alike (unit_by tables.now) (lines_of bytes)) fields

@@ -1,0 +1,5 @@
+use Rattle.bidtests.proofs.FourthDirection.{verdict-alike}
+use Rattle.bidtests.proofs.three_directions.three_directions_are_judged_alike.Goals as goal
+
+pub returns : goal.returns
+returns c = verdict-alike

@@ -1,0 +1,37 @@
+-- The verdict as it is where no row can ask for AutoRtl: a bit set is one digit of 1 to 7, and a direction field `0`, `1` or `2`.
+use Rattle.std.specs.Prelude.{Option, ℕ, ◌-◌, ◌&&◌, nat_le, if◌then◌else◌, List, [], ◌∷◌, filter, map, Some, None, codes}
+use Rattle.std.specs.Str.{bytes_eq}
+use Rattle.units.specs.Text.{lines_of}
+use Rattle.units.specs.declared.bracket.Unit.{Unit as BidiUnit}
+use Rattle.units.specs.declared.level.Direction.{Direction}
+use Rattle.units.specs.declared.level.Direction.TheVariants.{Auto, Ltr, Rtl}
+use Rattle.bidtests.specs.declared.kind.Kind.{Kind}
+use Rattle.bidtests.specs.declared.kind.Kind.TheVariants.{Classes, Characters}
+use Rattle.bidtests.specs.declared.verdict.Verdict.{Verdict}
+use Rattle.bidtests.specs.Verdicts.{Finding, verdict_on}
+use Rattle.bidtests.specs.ClassesFile.{ClassesLine, names_direction, classes_line_by, findings_behind}
+use Rattle.bidtests.specs.CharactersFile.{characters_line_by}
+use Rattle.bidtests.specs.FileKinds.{unit_by}
+
+-- the directions that a bit set names: exactly one digit of 1 to 7
+abbrev pub one_digit : List ℕ → Option (List Direction)
+one_digit (d ∷ []) = if nat_le 49 d && nat_le d 55 then Some (filter (names_direction (d - 48)) (Auto ∷ Ltr ∷ Rtl ∷ [])) else None
+one_digit _ = None
+
+-- the direction that a direction field asks for
+abbrev pub zero_to_two : List ℕ → Option Direction
+zero_to_two field =
+    if bytes_eq field (codes "0") then Some Ltr else if bytes_eq field (codes "1") then Some Rtl else if bytes_eq field (codes "2") then Some Auto else None
+
+-- what a line of a BidiTest.txt says by itself
+unfoldable pub three_classes_line : List ℕ → ClassesLine
+three_classes_line line = classes_line_by one_digit line
+
+-- what a line of a BidiCharacterTest.txt comes to
+unfoldable pub three_characters_line : (ℕ → BidiUnit) → List ℕ → Finding
+three_characters_line unit_of line = characters_line_by zero_to_two unit_of line
+
+-- the verdict on the bytes of a file of this kind
+abbrev pub three_verdict_of : Kind → List ℕ → Verdict
+three_verdict_of Classes bytes = verdict_on (findings_behind [] (map three_classes_line (lines_of bytes)))
+three_verdict_of (Characters tables) bytes = verdict_on (map (three_characters_line (unit_by tables.now)) (lines_of bytes))

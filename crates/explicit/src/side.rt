@@ -1,0 +1,33 @@
+//! The side of the first strong class directly inside an isolate, or outside of all (P2, P3).
+ghost use Rattle.std.specs.Prelude.{◌≡◌};
+ghost use Rattle.explicit.specs.Sides.{noted, is_right_to_left};
+
+use units::class::Class;
+
+/// Whether the first strong class is L, or R or AL, or none was found.
+#[derive(Clone, Copy, Debug, PartialEq, Eq)]
+pub enum Side {
+    Unknown,
+    LeftToRight,
+    RightToLeft,
+}
+
+impl Side {
+    /// What was found, or the side of this strong class where nothing was.
+    pub fn noting(self, class: Class) -> Side
+        ensures { result ≡ noted self class }
+    {
+        match self {
+            Side::Unknown if class.is_right_to_left() => Side::RightToLeft,
+            Side::Unknown => Side::LeftToRight,
+            found => found,
+        }
+    }
+
+    /// R or AL was found.
+    pub fn is_right_to_left(self) -> bool
+        ensures { result ≡ is_right_to_left self }
+    {
+        matches!(self, Side::RightToLeft)
+    }
+}
