@@ -18,6 +18,7 @@ use Rattle.bidtests.specs.CharactersFile.{character_item, direction_field, para_
 use Rattle.bidtests.specs.FileKinds.{unit_by, findings_by}
 use Rattle.bidtests.specs.Headline.{line_comes_to}
 use Rattle.bidtests.proofs.LineByLine.{length-findings}
+use Rattle.bidtests.proofs.Places.{same-held}
 use Rattle.bidtests.proofs.Ordered.{IsOrdered, one-direction, if-either, classes-ordered}
 
 -- the lines before, the nearest of them first, and those before these
@@ -55,7 +56,7 @@ module _ (unit_of : ℕ → BidiUnit) where
   claims-ordered (Some text) (Some direction) (Some para) (Some levels) None = tt
   claims-ordered (Some text) (Some direction) (Some para) (Some levels) (Some order) = one-direction direction
 
-  items-ordered : (items : List (List ℕ)) (direction para levels order : List ℕ) → IsOrdered (row_with unit_of items direction para levels order)
+  items-ordered : (items : List (List ℕ)) (direction para levels order : List ℕ) → IsOrdered (row_with direction_field unit_of items direction para levels order)
   items-ordered [] direction para levels order = tt
   items-ordered (item ∷ items) direction para levels order =
       claims-ordered (each_read (character_item unit_of) (item ∷ items)) (direction_field direction) (para_field para)
@@ -70,14 +71,14 @@ module _ (unit_of : ℕ → BidiUnit) where
   fields-ordered (characters ∷ direction ∷ para ∷ levels ∷ order ∷ []) = items-ordered (items_of characters) direction para levels order
   fields-ordered (a ∷ b ∷ c ∷ d ∷ e ∷ f ∷ fields) = tt
 
-  content-ordered : (content : List ℕ) → IsOrdered (line_of_content unit_of content)
+  content-ordered : (content : List ℕ) → IsOrdered (line_of_content direction_field unit_of content)
   content-ordered [] = tt
   content-ordered (b ∷ bs) = fields-ordered (fields_of (b ∷ bs))
 
   characters-ordered : (line : List ℕ) → IsOrdered (characters_line unit_of line)
   unfolding characters_line
   characters-ordered line =
-      if-either IsOrdered (nat_lt longest_line (length line)) (Faulty LineTooLong) (line_of_content unit_of (content_of line)) tt (content-ordered (content_of line))
+      if-either IsOrdered (nat_lt longest_line (length line)) (Faulty LineTooLong) (line_of_content direction_field unit_of (content_of line)) tt (content-ordered (content_of line))
 
 line-ordered : (kind : Kind) (lines : List (List ℕ)) (k : ℕ) → IsOrdered (line_comes_to kind lines k)
 line-ordered Classes lines k =
@@ -85,11 +86,8 @@ line-ordered Classes lines k =
     classes-ordered (levels_in_force earlier) (order_in_force earlier) (slice_index_or lines k [])
 line-ordered (Characters tables) lines k = characters-ordered (unit_by tables.now) (slice_index_or lines k [])
 
-there : {A : Type 0} {x y : A} → Some x ≡ Some y → x ≡ y
-there e = cc
-
 -- each row of a file names its directions in order
 pub findings-ordered : (kind : Kind) (lines : List (List ℕ)) (k : ℕ) (f : Finding) → slice_get (findings_by kind lines) k ≡ Some f → IsOrdered f
 findings-ordered kind lines k f e =
     let within : k < length lines = omega (arith, slice_get_within (findings_by kind lines) k f e, length-findings kind lines) in
-    subst IsOrdered (there (sym (line-found kind lines k within) ∙ e)) (line-ordered kind lines k)
+    subst IsOrdered (same-held (sym (line-found kind lines k within) ∙ e)) (line-ordered kind lines k)

@@ -1,32 +1,32 @@
 -- The directions that a row names stand in order.
 use Rattle.std.proofs.Common.{◌≡◌, ◌≢◌, ℕ, zero, suc, ◌<◌, Bool, true, false, Option, None, Some, List, [], ◌∷◌, length, refl, sym, ap, subst, ◌∙◌, arith, get_or}
-use Rattle.std.specs.Prelude.{⊤, if◌then◌else◌, IfSome, nat_eq, nat_lt, nat_le, ◌&&◌, ◌==◌, ◌-◌, codes, drop}
+use Rattle.std.specs.Prelude.{⊤, if◌then◌else◌, IfSome, nat_eq, nat_lt, ◌==◌, codes, drop}
 use Rattle.std.specs.List.{slice_get, Contains, AllPairs, starts_with}
 use Rattle.std.proofs.lemmas.Option.{slice_get-get_or, get_or_from_slice_get, slice_get_within}
 use Rattle.std.proofs.lemmas.List.Kept.{AllPairs-filter}
-use Rattle.units.specs.Text.{longest_line, content_of, fields_of, items_of, each_read}
+use Rattle.units.specs.Text.{longest_line, content_of, fields_of, items_of, each_read, number_up_to}
 use Rattle.units.specs.declared.bracket.Unit.{Unit as BidiUnit}
 use Rattle.units.specs.declared.level.Direction.{Direction}
-use Rattle.units.specs.declared.level.Direction.TheVariants.{Auto, Ltr, Rtl}
+use Rattle.units.specs.declared.level.Direction.TheVariants.{Auto, Ltr, Rtl, AutoRtl}
 use Rattle.bidtests.specs.declared.verdict.Cause.TheVariants.{LineTooLong, Directive}
 use Rattle.bidtests.specs.Verdicts.{Finding, Silent, Claims, Faulty}
-use Rattle.bidtests.specs.ClassesFile.{ClassesLine, Nothing, LevelsAre, OrderIs, RowOf, Broken, directions_in_order, directions_of, names_direction, bit_set, levels_directive, order_directive, directive, level_item, order_item, row_of, row_with, unit_item, data_line, line_of_content, classes_line, claimed, finding, findings_behind, levels_in_force, order_in_force}
+use Rattle.bidtests.specs.ClassesFile.{ClassesLine, Nothing, LevelsAre, OrderIs, RowOf, Broken, directions_in_order, directions_of, directions_by, names_direction, bit_set, levels_directive, order_directive, directive, level_item, order_item, row_of, row_with, unit_item, data_line, line_of_content, classes_line, claimed, finding, findings_behind, levels_in_force, order_in_force}
 use Rattle.bidtests.specs.Headline.{ComesBefore}
+use Rattle.bidtests.proofs.Places.{same-held}
 
 -- how many directions stand before one
 abbrev turn : Direction → ℕ
 turn Auto = 0
 turn Ltr = 1
 turn Rtl = 2
-
-head_of : {A : Type 0} {x y : A} → Some x ≡ Some y → x ≡ y
-head_of e = cc
+turn AutoRtl = 3
 
 turn-at : (i : ℕ) (d : Direction) → slice_get directions_in_order i ≡ Some d → i ≡ turn d
-turn-at zero d e = ap turn (head_of e)
-turn-at (suc zero) d e = ap turn (head_of e)
-turn-at (suc (suc zero)) d e = ap turn (head_of e)
-turn-at (suc (suc (suc i))) d e = absurd (cc)
+turn-at zero d e = ap turn (same-held e)
+turn-at (suc zero) d e = ap turn (same-held e)
+turn-at (suc (suc zero)) d e = ap turn (same-held e)
+turn-at (suc (suc (suc zero))) d e = ap turn (same-held e)
+turn-at (suc (suc (suc (suc i)))) d e = absurd (cc)
 
 -- no direction comes before itself, nor two before one another
 pub never-behind : (d e : Direction) → ComesBefore d e → ComesBefore e d → ⊥
@@ -68,21 +68,20 @@ pub if-either : {A : Type 0} (P : A → Type 0) (t : Bool) (a b : A) → P a →
 if-either P true a b h k = h
 if-either P false a b h k = k
 
-bits-ordered : (bits : List ℕ) → IfSome (bit_set bits) (AllPairs ComesBefore)
-bits-ordered [] = tt
-bits-ordered (d ∷ []) =
+bits-ordered : (bits : Option ℕ) → IfSome (directions_by bits) (AllPairs ComesBefore)
+bits-ordered None = tt
+bits-ordered (Some bits) =
     let P : Option (List Direction) → Type 0 = λ o. IfSome o (AllPairs ComesBefore) in
-    if-either P (nat_le 49 d && nat_le d 55) (Some (directions_of (d - 48))) None (AllPairs-filter ComesBefore (names_direction (d - 48)) directions_in_order in_order) tt
-bits-ordered (d ∷ e ∷ ds) = tt
+    if-either P (bits == 0) None (Some (directions_of bits)) tt (AllPairs-filter ComesBefore (names_direction bits) directions_in_order in_order)
 
 row-ordered : (text : Option (List BidiUnit)) (directions : Option (List Direction)) → IfSome directions (AllPairs ComesBefore) → RowOrdered (row_of text directions)
 row-ordered None directions h = tt
 row-ordered (Some text) None h = tt
 row-ordered (Some text) (Some directions) h = h
 
-items-ordered : (names : List (List ℕ)) (bits : List ℕ) → RowOrdered (row_with names bits)
+items-ordered : (names : List (List ℕ)) (bits : List ℕ) → RowOrdered (row_with bit_set names bits)
 items-ordered [] bits = tt
-items-ordered (name ∷ names) bits = row-ordered (each_read unit_item (name ∷ names)) (bit_set bits) (bits-ordered bits)
+items-ordered (name ∷ names) bits = row-ordered (each_read unit_item (name ∷ names)) (bit_set bits) (bits-ordered (number_up_to 15 bits))
 
 data-ordered : (fields : List (List ℕ)) → RowOrdered (data_line fields)
 data-ordered [] = tt
@@ -108,13 +107,13 @@ directive-ordered content =
     (if-either RowOrdered (starts_with nat_eq content (codes "@Levels:")) levels third (levels-ordered (each_read level_item (items_of (drop 8 content))))
     (if-either RowOrdered (starts_with nat_eq content (codes "@Reorder:")) order (Broken Directive) (order-ordered (each_read order_item (items_of (drop 9 content)))) tt))
 
-content-ordered : (content : List ℕ) → RowOrdered (line_of_content content)
+content-ordered : (content : List ℕ) → RowOrdered (line_of_content bit_set content)
 content-ordered [] = tt
 content-ordered (b ∷ bs) = if-either RowOrdered (b == 64) (directive (b ∷ bs)) (data_line (fields_of (b ∷ bs))) (directive-ordered (b ∷ bs)) (data-ordered (fields_of (b ∷ bs)))
 
 line-ordered : (line : List ℕ) → RowOrdered (classes_line line)
 unfolding classes_line
-line-ordered line = if-either RowOrdered (nat_lt longest_line (length line)) (Broken LineTooLong) (line_of_content (content_of line)) tt (content-ordered (content_of line))
+line-ordered line = if-either RowOrdered (nat_lt longest_line (length line)) (Broken LineTooLong) (line_of_content bit_set (content_of line)) tt (content-ordered (content_of line))
 
 claimed-ordered : (text : List BidiUnit) (directions : List Direction) (levels : Option (List (Option ℕ))) (order : Option (List ℕ)) → AllPairs ComesBefore directions
     → IsOrdered (claimed text directions levels order)

@@ -3,6 +3,7 @@ use Rattle.std.proofs.Common.{◌≡◌, ◌≢◌, ℕ, zero, suc, ◌+◌, ◌
 use Rattle.std.specs.Prelude.{if◌then◌else◌, nat_eq, IfSome, MatchBool}
 use Rattle.std.specs.List.{slice_get}
 use Rattle.std.proofs.lemmas.Bool.{eqb-true, eqb-false, cases_order, false≢true}
+use Rattle.std.proofs.lemmas.Option.{none-some}
 use Rattle.units.specs.Positions.{is_same}
 use Rattle.units.specs.Layout.{layout_of, all_orders}
 use Rattle.units.specs.declared.level.Direction.{Direction}
@@ -24,27 +25,25 @@ later_before x y xs ys i e h (suc p) lt = h p (omega arith)
 here : {A : Type 0} (xs ys : List A) (at : ℕ) → slice_get xs 0 ≢ slice_get ys 0 → Compared xs ys at (Some at)
 here xs ys at ne = (0, omega arith, record { before = λ p lt. absurd (omega arith); there = ne })
 
+-- two that are there hold the same
+pub same-held : {A : Type 0} {x y : A} → Some x ≡ Some y → x ≡ y
+same-held e = cc
+
 one_on : {A : Type 0} (x y : A) (xs ys : List A) (at : ℕ) (o : Option ℕ) → x ≡ y → Compared xs ys (at + 1) o → Compared (x ∷ xs) (y ∷ ys) at o
 one_on x y xs ys at None e c = cc
 one_on x y xs ys at (Some n) e c =
     (suc c.0, omega (arith, c.1), record { before = later_before x y xs ys c.0 e c.2.before; there = c.2.there })
 
-head_of : {A : Type 0} {x y : A} → Some x ≡ Some y → x ≡ y
-head_of e = cc
-
 by_heads : {A : Type 0} (x y : A) (xs ys : List A) (at : ℕ) (o : Option ℕ) (same : Bool) → (same ≡ true → x ≡ y) → (same ≡ false → x ≢ y)
     → Compared xs ys (at + 1) o → Compared (x ∷ xs) (y ∷ ys) at (if same then o else Some at)
 by_heads x y xs ys at o true alike apart c = one_on x y xs ys at o (alike refl) c
-by_heads x y xs ys at o false alike apart c = here (x ∷ xs) (y ∷ ys) at (λ e. apart refl (head_of e))
-
-some_none : {A : Type 0} {x : A} → Some x ≢ None
-some_none e = cc
+by_heads x y xs ys at o false alike apart c = here (x ∷ xs) (y ∷ ys) at (λ e. apart refl (same-held e))
 
 compared : {A : Type 0} (same : A → A → Bool) → ((x y : A) → same x y ≡ true → x ≡ y) → ((x y : A) → same x y ≡ false → x ≢ y)
     → (xs ys : List A) (at : ℕ) → Compared xs ys at (first_difference same xs ys at)
 compared same alike apart [] [] at = refl
-compared same alike apart [] (y ∷ ys) at = here [] (y ∷ ys) at (λ e. some_none (sym e))
-compared same alike apart (x ∷ xs) [] at = here (x ∷ xs) [] at (λ e. some_none e)
+compared same alike apart [] (y ∷ ys) at = here [] (y ∷ ys) at (none-some y)
+compared same alike apart (x ∷ xs) [] at = here (x ∷ xs) [] at (λ e. none-some x (sym e))
 compared same alike apart (x ∷ xs) (y ∷ ys) at =
     by_heads x y xs ys at (first_difference same xs ys (at + 1)) (same x y) (alike x y) (apart x y) (compared same alike apart xs ys (at + 1))
 
@@ -65,9 +64,9 @@ same_levels (Some p) None e = absurd (false≢true e)
 
 other_levels : (x y : Option ℕ) → is_same x y ≡ false → x ≢ y
 other_levels None None e = λ _. false≢true (sym e)
-other_levels (Some p) (Some q) e = λ s. eqb-false p q e (head_of s)
-other_levels None (Some q) e = λ s. some_none (sym s)
-other_levels (Some p) None e = λ s. some_none s
+other_levels (Some p) (Some q) e = λ s. eqb-false p q e (same-held s)
+other_levels None (Some q) e = none-some q
+other_levels (Some p) None e = λ s. none-some p (sym s)
 
 -- the level of the first paragraph
 first_is : (xs : List ℕ) → first_of xs ≡ slice_get xs 0
@@ -81,11 +80,11 @@ CaseIs claim d (Some place) = IsWrongAt claim d place
 
 para-is : (para first : Option ℕ) → MatchBool (agrees para first) (IfSome para (λ level. first ≡ Some level)) (¬ IfSome para (λ level. first ≡ Some level))
 para-is None first = tt
-para-is (Some level) None = λ e. some_none (sym e)
+para-is (Some level) None = none-some level
 para-is (Some level) (Some first) = by (eqb level first) refl where
   by : (b : Bool) → eqb level first ≡ b → MatchBool b (Some first ≡ Some level) (¬ (Some first ≡ Some level))
   by true e = ap (λ n. Some n) (sym (eqb-true level first e))
-  by false e = λ s. eqb-false level first e (sym (head_of s))
+  by false e = λ s. eqb-false level first e (sym (same-held s))
 
 module _ (claim : Claim) (d : Direction) where
   from-start : {A : Type 0} (xs ys : List A) (i n : ℕ) → n ≡ 0 + i → IsFirstDifference xs ys i → IsFirstDifference xs ys n

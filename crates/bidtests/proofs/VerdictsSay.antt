@@ -2,7 +2,7 @@
 use Rattle.std.proofs.Common.{◌≡◌, ◌≢◌, ◌↔◌, ℕ, zero, suc, ◌+◌, ◌<◌, Option, None, Some, List, [], ◌∷◌, length, refl, sym, ap, subst, ◌∙◌, arith, inl, inr}
 use Rattle.std.specs.List.{slice_get, Contains, AllPairs}
 use Rattle.std.proofs.lemmas.Bool.{cases_order}
-use Rattle.std.proofs.lemmas.Option.{slice_get_within}
+use Rattle.std.proofs.lemmas.Option.{slice_get_within, none-some}
 use Rattle.units.specs.Layout.{layout_of}
 use Rattle.units.specs.declared.level.Direction.{Direction}
 use Rattle.bidtests.specs.declared.verdict.Cause.{Cause}
@@ -11,14 +11,8 @@ use Rattle.bidtests.specs.declared.verdict.Verdict.{Verdict}
 use Rattle.bidtests.specs.declared.verdict.Verdict.TheVariants.{Yes, Malformed, Wrong}
 use Rattle.bidtests.specs.Verdicts.{Claim, Finding, Silent, Claims, Faulty, or_else, wrong_place, wrong_case, with_place, wrong_at, fault_of, first_fault, line_number, or_yes, verdict_on}
 use Rattle.bidtests.specs.Headline.{IsMalformed, IsRow, IsCaseRight, IsWrongAt, ComesBefore, AreRight, FirstIsMalformed, FirstIsWrong, Says}
-use Rattle.bidtests.proofs.Places.{CaseIs, case-is, right-wrong, place-unique}
+use Rattle.bidtests.proofs.Places.{same-held, CaseIs, case-is, right-wrong, place-unique}
 use Rattle.bidtests.proofs.Ordered.{IsOrdered, never-behind, earlier-before, contained-at, at-contained}
-
-head_of : {A : Type 0} {x y : A} → Some x ≡ Some y → x ≡ y
-head_of e = cc
-
-some_none : {A : Type 0} {x : A} → Some x ≢ None
-some_none e = cc
 
 -- all cases are right, or this one is the first that is wrong, at this place
 abbrev CasesAre : Claim → List Direction → Option (Direction × Place) → Type 0
@@ -27,13 +21,13 @@ CasesAre claim ds (Some x) =
     (j : ℕ) × (slice_get ds j ≡ Some x.0) × ((i : ℕ) (d : Direction) → i < j → slice_get ds i ≡ Some d → IsCaseRight claim d) × IsWrongAt claim x.0 x.1
 
 all-right : (claim : Claim) (d : Direction) (ds : List Direction) → IsCaseRight claim d → CasesAre claim ds None → CasesAre claim (d ∷ ds) None
-all-right claim d ds right rest zero e h = subst (IsCaseRight claim) (head_of h) right
+all-right claim d ds right rest zero e h = subst (IsCaseRight claim) (same-held h) right
 all-right claim d ds right rest (suc i) e h = rest i e h
 
 earlier-right : (claim : Claim) (d : Direction) (ds : List Direction) (j : ℕ) → IsCaseRight claim d
     → ((i : ℕ) (e : Direction) → i < j → slice_get ds i ≡ Some e → IsCaseRight claim e)
     → (i : ℕ) (e : Direction) → i < suc j → slice_get (d ∷ ds) i ≡ Some e → IsCaseRight claim e
-earlier-right claim d ds j right rest zero e lt h = subst (IsCaseRight claim) (head_of h) right
+earlier-right claim d ds j right rest zero e lt h = subst (IsCaseRight claim) (same-held h) right
 earlier-right claim d ds j right rest (suc i) e lt h = rest i e (omega arith) h
 
 cases-more : (claim : Claim) (d : Direction) (ds : List Direction) (place : Option Place) (rest : Option (Direction × Place))
@@ -43,7 +37,7 @@ cases-more claim d ds None (Some x) right are = (suc are.0, are.1, earlier-right
 cases-more claim d ds (Some place) rest wrong are = (0, refl, (λ i e lt h. absurd (omega arith)), wrong)
 
 cases-are : (claim : Claim) (ds : List Direction) → CasesAre claim ds (wrong_case claim ds)
-cases-are claim [] = λ i d e. absurd (some_none (sym e))
+cases-are claim [] = λ i d e. absurd (none-some d e)
 cases-are claim (d ∷ ds) =
     cases-more claim d ds (wrong_place claim.para claim.levels claim.order (layout_of claim.text d [])) (wrong_case claim ds) (case-is claim d) (cases-are claim ds)
 
@@ -55,14 +49,14 @@ record IsLineRight (f : Finding) : Type 0 where
 claims-right : (n : ℕ) (claim : Claim) (o : Option (Direction × Place)) → wrong_at n o ≡ None → CasesAre claim claim.directions o
     → (d : Direction) → Contains claim.directions d → IsCaseRight claim d
 claims-right n claim None e are d h = let at = contained-at claim.directions d h in are at.0 d at.1
-claims-right n claim (Some x) e are d h = absurd (some_none e)
+claims-right n claim (Some x) e are d h = absurd (none-some _ (sym e))
 
 same-claim : (a b : Claim) → Claims a ≡ Claims b → a ≡ b
 same-claim a b e = cc
 
 line-right : (n : ℕ) (f : Finding) → fault_of n f ≡ None → IsLineRight f
 line-right n Silent e = record { well_formed = λ cause h. absurd (cc); right = λ claim d h k. absurd (cc) }
-line-right n (Faulty cause) e = absurd (some_none e)
+line-right n (Faulty cause) e = absurd (none-some _ (sym e))
 line-right n (Claims claim) e =
     let all : (d : Direction) → Contains claim.directions d → IsCaseRight claim d = claims-right n claim (wrong_case claim claim.directions) e (cases-are claim claim.directions) in
     let P : Claim → Type 0 = λ c. (d : Direction) → Contains c.directions d → IsCaseRight c d in
@@ -73,11 +67,11 @@ none-right fs = record { well_formed = λ k cause lt. absurd (omega arith); righ
 
 module _ (f : Finding) (fs : List Finding) (n : ℕ) (first : IsLineRight f) (rest : AreRight fs n) where
   formed-more : (k : ℕ) (cause : Cause) → k < suc n → ¬ IsMalformed (f ∷ fs) k cause
-  formed-more zero cause lt e = first.well_formed cause (head_of e)
+  formed-more zero cause lt e = first.well_formed cause (same-held e)
   formed-more (suc k) cause lt e = rest.well_formed k cause (omega arith) e
 
   rows-more : (k : ℕ) (claim : Claim) (d : Direction) → k < suc n → IsRow (f ∷ fs) k claim → Contains claim.directions d → IsCaseRight claim d
-  rows-more zero claim d lt e h = first.right claim d (head_of e) h
+  rows-more zero claim d lt e h = first.right claim d (same-held e) h
   rows-more (suc k) claim d lt e h = rest.right k claim d (omega arith) e h
 
   right-more : AreRight (f ∷ fs) (suc n)
@@ -111,7 +105,7 @@ module _ (claim : Claim) (ordered : AllPairs ComesBefore claim.directions) where
       let here = contained-at claim.directions d has in
       elim (cases_order here.0 j) [
         | inl same ↦
-            let is : d ≡ e = head_of (sym here.1 ∙ ap (λ n. slice_get claim.directions n) same ∙ at) in
+            let is : d ≡ e = same-held (sym here.1 ∙ ap (λ n. slice_get claim.directions n) same ∙ at) in
             let P : Direction → Type 0 = λ x. ComesBefore x d in
             absurd (never-behind d e before (subst P is (subst (ComesBefore d) (sym is) before)))
         | inr other ↦ elim other [
@@ -128,7 +122,7 @@ module _ (claim : Claim) (ordered : AllPairs ComesBefore claim.directions) where
       let j = contained-at claim.directions e he in
       elim (cases_order i.0 j.0) [
         | inl same ↦
-            let is : d ≡ e = head_of (sym i.1 ∙ ap (λ n. slice_get claim.directions n) same ∙ j.1) in
+            let is : d ≡ e = same-held (sym i.1 ∙ ap (λ n. slice_get claim.directions n) same ∙ j.1) in
             let P : Direction → Type 0 = λ x. IsWrongAt claim x q in
             (is, place-unique claim d p q wd (subst P (sym is) we))
         | inr other ↦ elim other [
@@ -140,7 +134,7 @@ module _ (claim : Claim) (ordered : AllPairs ComesBefore claim.directions) where
 module _ (fs : List Finding) (ordered : (k : ℕ) (f : Finding) → slice_get fs k ≡ Some f → IsOrdered f) where
   row-says : (k n : ℕ) (claim : Claim) → IsRow fs k claim → AreRight fs k → n ≡ line_number k
       → (o : Option (Direction × Place)) → CasesAre claim claim.directions o → (v : Verdict) → wrong_at n o ≡ Some v → Says fs v
-  row-says k n claim row right number None are v e = absurd (some_none (sym e))
+  row-says k n claim row right number None are v e = absurd (none-some v e)
   row-says k n claim row right number (Some x) are v e =
       let says : FirstIsWrong fs n x.0 x.1 = record {
         k = k;
@@ -152,13 +146,13 @@ module _ (fs : List Finding) (ordered : (k : ℕ) (f : Finding) → slice_get fs
         before = before-wrong claim (ordered k (Claims claim) row) are.0 x.0 are.1 are.2;
         wrong = are.3;
       } in
-      subst (Says fs) (head_of e) says
+      subst (Says fs) (same-held e) says
 
   fault-says : (k n : ℕ) (f : Finding) → slice_get fs k ≡ Some f → AreRight fs k → n ≡ line_number k → (v : Verdict) → fault_of n f ≡ Some v → Says fs v
-  fault-says k n Silent at right number v e = absurd (some_none (sym e))
+  fault-says k n Silent at right number v e = absurd (none-some v e)
   fault-says k n (Faulty cause) at right number v e =
       let says : FirstIsMalformed fs n cause = record { k = k; numbered = number; earlier = right; malformed = at } in
-      subst (Says fs) (head_of e) says
+      subst (Says fs) (same-held e) says
   fault-says k n (Claims claim) at right number v e =
       row-says k n claim at right number (wrong_case claim claim.directions) (cases-are claim claim.directions) v e
 
@@ -180,14 +174,14 @@ module _ (fs : List Finding) (ordered : (k : ℕ) (f : Finding) → slice_get fs
   malformed-unique n m c e a b =
       let same : a.k ≡ b.k = same-line a.k b.k (λ lt. b.earlier.well_formed a.k c lt a.malformed) (λ lt. a.earlier.well_formed b.k e lt b.malformed) in
       let number : n ≡ m = a.numbered ∙ ap (λ k. line_number k) same ∙ sym b.numbered in
-      let faults : Faulty c ≡ Faulty e = head_of (sym a.malformed ∙ ap (λ k. slice_get fs k) same ∙ b.malformed) in
+      let faults : Faulty c ≡ Faulty e = same-held (sym a.malformed ∙ ap (λ k. slice_get fs k) same ∙ b.malformed) in
       cc
 
   not-both : (n m : ℕ) (c : Cause) (d : Direction) (p : Place) → FirstIsMalformed fs n c → FirstIsWrong fs m d p → ⊥
   not-both n m c d p a b =
       let same : a.k ≡ b.k = same-line a.k b.k (λ lt. b.earlier.well_formed a.k c lt a.malformed)
       (λ lt. right-wrong b.claim d p (a.earlier.right b.k b.claim d lt b.row b.names) b.wrong) in
-      let faults : Faulty c ≡ Claims b.claim = head_of (sym a.malformed ∙ ap (λ k. slice_get fs k) same ∙ b.row) in
+      let faults : Faulty c ≡ Claims b.claim = same-held (sym a.malformed ∙ ap (λ k. slice_get fs k) same ∙ b.row) in
       absurd (cc)
 
   wrong-unique : (n m : ℕ) (d e : Direction) (p q : Place) → FirstIsWrong fs n d p → FirstIsWrong fs m e q → Wrong n d p ≡ Wrong m e q
@@ -195,7 +189,7 @@ module _ (fs : List Finding) (ordered : (k : ℕ) (f : Finding) → slice_get fs
       let same : a.k ≡ b.k = same-line a.k b.k (λ lt. right-wrong a.claim d p (b.earlier.right a.k a.claim d lt a.row a.names) a.wrong)
       (λ lt. right-wrong b.claim e q (a.earlier.right b.k b.claim e lt b.row b.names) b.wrong) in
       let number : n ≡ m = a.numbered ∙ ap (λ k. line_number k) same ∙ sym b.numbered in
-      let claim : b.claim ≡ a.claim = same-claim b.claim a.claim (head_of (sym b.row ∙ ap (λ k. slice_get fs k) (sym same) ∙ a.row)) in
+      let claim : b.claim ≡ a.claim = same-claim b.claim a.claim (same-held (sym b.row ∙ ap (λ k. slice_get fs k) (sym same) ∙ a.row)) in
       let Names : Claim → Type 0 = λ c. Contains c.directions e in
       let Before : Claim → Type 0 = λ c. (x : Direction) → Contains c.directions x → ComesBefore x e → IsCaseRight c x in
       let Wrongly : Claim → Type 0 = λ c. IsWrongAt c e q in

@@ -17,7 +17,7 @@ ghost use Rattle.bidtests.specs.Headline.{line_comes_to, AllAreRight, FirstIsMal
 /// levels, and the orders of the lines, joined. `malformed`: with this line's number and cause exactly if the line is malformed for this
 /// cause, and no earlier line is malformed or wrong. `wrong`: with this line's number, direction and place exactly if the line is a row
 /// that is well formed and names the direction, the place is the first of the paragraph's level, the levels and the order at which its
-/// claim differs from the layout, and neither an earlier line nor an earlier one of its directions, in the order auto, LTR, RTL, is
+/// claim differs from the layout, and neither an earlier line nor an earlier one of its directions, in the order auto, LTR, RTL, AutoRtl, is
 /// malformed or wrong. `line`: what these say of a line is what it comes to by itself and, in a BidiTest.txt, by the lists in force
 /// behind the lines before it.
 pub fn verdict_law()
