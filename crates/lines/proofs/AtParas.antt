@@ -29,20 +29,26 @@ length-resolved us para = length-map (positions_of us) _ ∙ length-positions_fr
 count-cons : (u : BidiUnit) (cs : List Class) → count_by is_separator (u.class ∷ cs) ≡ cond (is_separator u.class) 1 0 + count_by is_separator cs
 count-cons u cs = sum_by-cons (λ c. cond (is_separator c) 1 0) u.class cs
 
+zero_more : (n : ℕ) → 0 + n ≡ n
+zero_more n = omega arith
+
+count-other : (u : BidiUnit) (cs : List Class) → is_separator u.class ≡ false → count_by is_separator (u.class ∷ cs) ≡ count_by is_separator cs
+count-other u cs plain = count-cons u cs ∙ ap (λ b. cond b 1 0 + count_by is_separator cs) plain ∙ zero_more (count_by is_separator cs)
+
 -- no separator stands before a position of a paragraph
 none_before : (us : List BidiUnit) (p : ℕ) → SeparatorOnlyLast us → p < length us → count_by is_separator (take p (classes_of us)) ≡ 0
 none_before [] p only lt = absurd (omega arith)
 none_before (u ∷ us) zero only lt = refl
 none_before (u ∷ []) (suc p) only lt = absurd (omega arith)
 none_before (u ∷ v ∷ us) (suc p) only lt =
-    count-cons u (take p (classes_of (v ∷ us))) ∙ ap (λ b. cond b 1 0 + count_by is_separator (take p (classes_of (v ∷ us)))) only.0 ∙ none_before (v ∷ us) p only.1 (omega arith)
+    count-other u (take p (classes_of (v ∷ us))) only.0 ∙ none_before (v ∷ us) p only.1 (omega arith)
 
 -- one is in it, where another follows
 one_within : (us : List BidiUnit) → SeparatorOnlyLast us → EndsWithSeparator us → count_by is_separator (classes_of us) ≡ 1
 one_within [] only ends = absurd ends
 one_within (u ∷ []) only ends = count-cons u [] ∙ ap (λ b. cond b 1 0 + 0) ends
 one_within (u ∷ v ∷ us) only ends =
-    count-cons u (classes_of (v ∷ us)) ∙ ap (λ b. cond b 1 0 + count_by is_separator (classes_of (v ∷ us))) only.0 ∙ one_within (v ∷ us) only.1 ends
+    count-other u (classes_of (v ∷ us)) only.0 ∙ one_within (v ∷ us) only.1 ends
 
 -- the paragraph stays at its level
 abbrev pub Stays : Direction → List BidiUnit → Type 0
@@ -96,9 +102,9 @@ module _ (direction : Direction) where
   }
 
   -- one paragraph more
-  pub staying_more : {all us : List BidiUnit} {others : List (List BidiUnit)} {before now : Bool} →
+  pub staying_more : (all us : List BidiUnit) (others : List (List BidiUnit)) (before now : Bool) →
       (before ≡ true → All (Stays direction) (us ∷ others) → All (Stays direction) (paragraphs_of all)) → (now ≡ true → Stays direction us) →
       (before && now) ≡ true → All (Stays direction) others → All (Stays direction) (paragraphs_of all)
-  staying_more {us = us} {others = others} {before = before} {now = now} earlier here both rest =
+  staying_more all us others before now earlier here both rest =
       let parts = and_parts before now both in
       earlier parts.0 (All-cons (Stays direction) us others (here parts.1) rest)

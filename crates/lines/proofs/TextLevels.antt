@@ -1,7 +1,7 @@
 -- The levels of a text, written paragraph by paragraph.
 use Rattle.std.specs.Prelude.{Option, ℕ, ◌+◌, ◌<◌, ◌≤◌, ◌≡◌, List, [], ◌∷◌, ◌++◌, length, map, take, refl}
 use Rattle.std.specs.List.{flat_map}
-use Rattle.std.proofs.Common.{arith, ap, sym, ◌∙◌}
+use Rattle.std.proofs.Common.{arith, ap, sym, subst, ◌∙◌}
 use Rattle.std.proofs.lemmas.List.{append_assoc, append-nil, length-append}
 use Rattle.units.specs.Classes.{classes_of}
 use Rattle.units.specs.Isolates.{level_of_para, para_level_of}
@@ -70,6 +70,14 @@ module _ {text : List BidiUnit} {direction : Direction} {start : ℕ} {paras : L
           ∙ append_assoc (take start levels) (para_levels direction para) (flat_map (para_levels direction) rest)
           ∙ w.found_levels;
     }
+
+    -- the same, where it ends there
+    pub written_to : (end : ℕ) (level : ParaLevel) (now : List (Option ℕ)) → end ≡ start + length para → level_of_para level ≡ para_level direction para →
+        take end now ≡ take start levels ++ para_levels direction para →
+        IsWritten text direction end (paras ++ (level ∷ [])) now rest
+    written_to end level now e at put =
+        let P : ℕ → Type 0 = λ k. IsWritten text direction k (paras ++ (level ∷ [])) now rest in
+        subst P (sym e) (written_next level now at (ap (λ k. take k now) (sym e) ∙ put))
 
   module _ (w : IsWritten text direction start paras levels []) where
     pub all_written : start ≡ length text

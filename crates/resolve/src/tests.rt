@@ -146,12 +146,7 @@ fn weak_types(rt: HostRuntime) -> Result<(), Fail> {
     let marks = [nsm, en, es, en, et, cs, an];
     assert_weak(&rt, alloc, &marks, &[l, l, l, l, l, on, an])?;
     let terminators = [r, en, cs, en, et, et, nsm];
-    assert_weak(
-        &rt,
-        alloc,
-        &terminators,
-        &[r, en, en, en, en, en, en],
-    )?;
+    assert_weak(&rt, alloc, &terminators, &[r, en, en, en, en, en, en])?;
     assert_weak(&rt, alloc, &[al, en, cs, en], &[r, an, an, an])?;
     assert_weak(&rt, alloc, &[en], &[l])?;
     Ok(())

@@ -1,6 +1,7 @@
-use Rattle.std.proofs.Common.{arith, rules, ap, sym, ◌∙◌, subst, ◌≡◌, ◌<◌, ◌+◌, ◌-◌, ◌++◌, ◌∷◌, [], ℕ, List, Option, length, take, drop, refl}
+use Rattle.std.proofs.Common.{arith, rules, ap, sym, ◌∙◌, subst, ◌≡◌, ◌<◌, ◌≤◌, ◌+◌, ◌-◌, ◌++◌, ◌∷◌, [], ℕ, List, Option, length, take, drop, refl}
 use Rattle.std.specs.List.{All}
-use Rattle.std.proofs.lemmas.List.{drop-drop, length-drop, take_more_set}
+use Rattle.std.specs.Prelude.{slice_range}
+use Rattle.std.proofs.lemmas.List.{drop_all, drop-drop, length-drop, length-take-le, take_all, take_more_set}
 use Rattle.std.proofs.lemmas.List.Elements.{All-nil}
 use Rattle.std.proofs.lemmas.Slice.{take-put_mid}
 use Rattle.units.specs.declared.bracket.Unit.{Unit as BidiUnit}
@@ -12,7 +13,7 @@ use Rattle.explicit.specs.FirstParagraph.{first_length}
 use Rattle.explicit.proofs.OneCutting.{paragraphs_of_split}
 use Rattle.paragraph.specs.Resolvers.{StaysAt}
 use Rattle.lines.proofs.AtParas.{Stays, staying_more, text_at_paras}
-use Rattle.lines.proofs.TextLevels.{IsWritten, para_level, para_levels, written_none, separator_last, within_text, written_next, all_written, written_paras, written_levels}
+use Rattle.lines.proofs.TextLevels.{IsWritten, para_level, para_levels, written_none, separator_last, written_to, written_paras, written_levels}
 use Rattle.lines.proofs.resolving.resolve_text.Goals as goal
 
 -- the first paragraph of what is left, and what is left behind it
@@ -34,3 +35,68 @@ loop-start-init g c = record {
   at_least = omega arith;
   at_most = omega arith;
 }
+
+-- what is left, as a slice of the text
+rest_is : (text : List BidiUnit) (start : ℕ) → take (length text - start) (drop start text) ≡ drop start text
+rest_is text start = take_all (length text - start) (drop start text) (omega (arith, length-drop start text))
+
+-- the first paragraph, as a slice of the text
+piece_is : (text : List BidiUnit) (start n end : ℕ) → end ≡ start + n → slice_range text start end ≡ take n (drop start text)
+piece_is text start n end e = let m : end - start ≡ n = omega arith in ap (λ (k : ℕ). take k (drop start text)) m
+
+pub resolve_known-resolved-requires-clause-separators : goal.resolve_known-resolved-requires-clause-separators
+resolve_known-resolved-requires-clause-separators g c =
+    let l = c.loop-start in
+    let text : List BidiUnit = c.args.text.now in
+    let n : ℕ = c.of-first.result.length in
+    let P : List (List BidiUnit) → Type 0 = λ pieces. IsWritten text c.args.direction l.start (take l.paragraphs l.paras) l.levels pieces in
+    let w : P (take n (drop l.start text) ∷ paragraphs_of (drop (l.start + n) text)) = subst P (next_piece text l.start n c.loop-start-test.true (c.of-first.ensures.first.length ∙ ap first_length (rest_is text l.start))) l.invariant.written in
+    subst SeparatorOnlyLast (sym (piece_is text l.start n (l.start + n) refl)) (separator_last w)
+
+pub loop-start-preserved : goal.loop-start-preserved
+loop-start-preserved g c =
+    let l = c.loop-start in
+    let text : List BidiUnit = c.args.text.now in
+    let direction : Direction = c.args.direction in
+    let n : ℕ = c.of-first.result.length in
+    let end : ℕ = l.start + n in
+    let para : List BidiUnit = slice_range text l.start end in
+    let known = c.resolve_known-resolved in
+    let some : 0 < n = c.of-first.ensures.some (omega (arith, length-drop l.start text, ap length (rest_is text l.start))) in
+    let within : n ≤ length text - l.start = omega (arith, c.of-first.ensures.within, length-drop l.start text, ap length (rest_is text l.start)) in
+    let split : paragraphs_of (drop l.start text) ≡ para ∷ paragraphs_of (drop end text) =
+    next_piece text l.start n c.loop-start-test.true (c.of-first.ensures.first.length ∙ ap first_length (rest_is text l.start))
+    ∙ ap (λ (us : List BidiUnit). us ∷ paragraphs_of (drop end text)) (sym (piece_is text l.start n end refl)) in
+    let long : length para ≡ n = ap length (piece_is text l.start n end refl) ∙ length-take-le n (drop l.start text) (omega (arith, length-drop l.start text)) in
+    let P : List (List BidiUnit) → Type 0 = λ pieces. IsWritten text direction l.start (take l.paragraphs l.paras) l.levels pieces in
+    let w : P (para ∷ paragraphs_of (drop end text)) = subst P split l.invariant.written in
+    let room : l.paragraphs < length l.paras = omega (arith, l.auto.paras, l.invariant.few, c.requires.paras) in
+    let A : List (List BidiUnit) → Type 0 = λ pieces. All (Stays direction) pieces in
+    let Q : ℕ → Type 0 = λ level. StaysAt level (para_levels direction para) in
+    let R : List (Option ℕ) → Type 0 = λ levels. StaysAt (level_of_para known.result.level) levels in
+    record {
+      written =
+          rw (take_more_set l.paras l.paragraphs known.result.level room)
+          (written_to w end known.result.level _ (omega (arith, long)) known.ensures.level
+          (take-put_mid l.start _ l.levels known.new.levels end (omega arith) (omega arith)
+          ∙ ap (λ (xs : List (Option ℕ)). take l.start l.levels ++ xs) known.ensures.levels));
+      staying = λ e all.
+          staying_more direction text para (paragraphs_of (drop end text)) l.uniform known.result.uniform (λ b whole. l.invariant.staying b (subst A (sym split) whole))
+          (λ u. subst Q known.ensures.level (subst R known.ensures.levels (known.ensures.uniform u))) e all;
+      few = omega (arith, l.invariant.few);
+      inside = omega arith;
+      resolver = search rules;
+      at_least = omega (arith, long);
+      at_most = omega (arith, long);
+    }
+
+pub returns-clause-uniform : goal.returns-clause-uniform
+returns-clause-uniform g c = λ e.
+    let l = c.loop-start in
+    let text : List BidiUnit = c.args.text.now in
+    let direction : Direction = c.args.direction in
+    let done : drop l.start text ≡ [] = drop_all l.start text (omega arith) in
+    let P : List (List BidiUnit) → Type 0 = λ pieces. IsWritten text direction l.start (take l.paragraphs l.paras) l.levels pieces in
+    let A : List (List BidiUnit) → Type 0 = λ pieces. All (Stays direction) pieces in
+    let w : P [] = subst P (ap paragraphs_of done) l.invariant.written in
+    rw (written_paras w, written_levels w) (text_at_paras direction text (l.invariant.staying e (subst A (sym (ap paragraphs_of done)) (All-nil (Stays direction)))))
