@@ -4,8 +4,9 @@ use Rattle.std.specs.Prelude.{◌||◌, ◌&&◌, not}
 use Rattle.std.specs.List.{list_all, list_any}
 use Rattle.units.specs.Classes.{is_initiator, is_removed}
 use Rattle.units.specs.declared.class.Class.{Class}
-use Rattle.units.specs.declared.class.Class.TheVariants.{L, R, AL, EN, AN, BN, LRE, LRO, RLE, RLO, PDF, LRI, RLI, FSI}
+use Rattle.units.specs.declared.class.Class.TheVariants.{L, R, AL, EN, ES, ET, CS, AN, NSM, BN, LRE, LRO, RLE, RLO, PDF, LRI, RLI, FSI}
 use Rattle.flat.specs.Uniform.{may_rise_at_even, may_rise_at_odd}
+use Rattle.resolve.specs.Sought.{may_weaken}
 use Rattle.paragraph.specs.ClassSets.{is_class}
 use Rattle.paragraph.proofs.ClassSets.{any_of, found_by}
 
@@ -39,6 +40,10 @@ removed_is : (c : Class) → is_removed c ≡ any_of (LRE ∷ RLE ∷ LRO ∷ RL
 removed_is LRE = refl
 removed_is _ = refl
 
+weak_is : (c : Class) → may_weaken c ≡ any_of (AL ∷ EN ∷ ES ∷ ET ∷ CS ∷ NSM ∷ []) (c ∷ [])
+weak_is AL = refl
+weak_is _ = refl
+
 rising_at_even_is : (c : Class) → may_rise_at_even c ≡ any_of (R ∷ AL ∷ AN ∷ []) (c ∷ [])
 rising_at_even_is R = refl
 rising_at_even_is _ = refl
@@ -57,6 +62,11 @@ module _ (cs : List Class) where
       e ≡ list_any (is_class PDF) cs → f ≡ list_any (is_class BN) cs → (((((a || b) || c) || d) || e) || f) ≡ list_any is_removed cs
   any_removed a b c d e f ha hb hc hd he hf =
       or_6 a b c d e f ∙ rw (ha, hb, hc, hd, he, hf) (found_by is_removed (LRE ∷ RLE ∷ LRO ∷ RLO ∷ PDF ∷ BN ∷ []) removed_is cs)
+
+  pub any_weak : (a b c d e f : Bool) → a ≡ list_any (is_class AL) cs → b ≡ list_any (is_class EN) cs → c ≡ list_any (is_class ES) cs → d ≡ list_any (is_class ET) cs →
+      e ≡ list_any (is_class CS) cs → f ≡ list_any (is_class NSM) cs → (((((a || b) || c) || d) || e) || f) ≡ list_any may_weaken cs
+  any_weak a b c d e f ha hb hc hd he hf =
+      or_6 a b c d e f ∙ rw (ha, hb, hc, hd, he, hf) (found_by may_weaken (AL ∷ EN ∷ ES ∷ ET ∷ CS ∷ NSM ∷ []) weak_is cs)
 
   pub any_rising_at_even : (a b c : Bool) → a ≡ list_any (is_class R) cs → b ≡ list_any (is_class AL) cs → c ≡ list_any (is_class AN) cs → ((a || b) || c) ≡ list_any may_rise_at_even cs
   any_rising_at_even a b c ha hb hc = or_3 a b c ∙ rw (ha, hb, hc) (found_by may_rise_at_even (R ∷ AL ∷ AN ∷ []) rising_at_even_is cs)

@@ -8,6 +8,7 @@ ghost use Rattle.flat.specs.Flat.{is_flat};
 ghost use Rattle.flat.specs.Uniform.{may_rise_at_even, may_rise_at_odd};
 ghost use Rattle.paragraph.specs.ClassSets.{IsSetOf};
 ghost use Rattle.paragraph.specs.Contents.{Describes, IsFirstOf, has_none, keeps_level};
+ghost use Rattle.resolve.specs.Sought.{may_weaken};
 
 use crate::class_set::ClassSet;
 use std::sync::ledger::Ledger;
@@ -83,6 +84,18 @@ impl Contents {
         ensures { (cs : List BidiClass) → Describes self.now cs → result ≡ has_none is_removed cs }
     {
         !has_removed(self.classes)
+    }
+
+    /// W1 to W7: whether there is a class that one of these rules can change.
+    pub fn has_weak(&self) -> bool
+        ensures { (cs : List BidiClass) → Describes self.now cs → result ≡ list_any may_weaken cs }
+    {
+        self.classes.has(Class::AL)
+            | self.classes.has(Class::EN)
+            | self.classes.has(Class::ES)
+            | self.classes.has(Class::ET)
+            | self.classes.has(Class::CS)
+            | self.classes.has(Class::NSM)
     }
 
     /// X1 to I2: whether each position that remains keeps the paragraph's level, if it is this one.

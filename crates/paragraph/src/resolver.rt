@@ -15,7 +15,7 @@ ghost use Rattle.paragraph.specs.Contents.{Describes, found_or};
 ghost use Rattle.paragraph.specs.Covering.{AreApart, HasLevelsBy, positions_in};
 ghost use Rattle.paragraph.specs.Resolvers.{StaysAt};
 ghost use Rattle.resolve.specs.Raised.{resolved_at};
-ghost use Rattle.resolve.specs.Sought.{AreOwn, IsSoughtIn};
+ghost use Rattle.resolve.specs.Sought.{AreOwn, IsSoughtIn, may_weaken};
 
 use crate::contents::{Contents, FirstParagraph};
 use explicit::isolates::IsolateMap;
@@ -234,9 +234,11 @@ fn resolve_each<L: Ledger>(
     }
 }
 
-/// W1 to I2 over a paragraph whose explicit levels and sequences were found. It takes the fronts of the class columns.
+/// W1 to I2 over a paragraph whose explicit levels and sequences were found; `weak` is false only where W1 to W7 can change
+/// none of its classes. It takes the fronts of the class columns.
 fn resolve_found<L: Ledger>(
     para: &[Unit],
+    weak: bool,
     explicit: &Explicit,
     sequences: &Sequences,
     pairs: &mut Pairs,
@@ -245,6 +247,7 @@ fn resolve_found<L: Ledger>(
     levels: &mut [Option<Level>],
     steps: &mut Steps<L>,
 )
+    requires weak { weak ≡ false → list_any may_weaken (classes_of para.now) ≡ false }
     requires found { length para.now ≤ length explicit.now }
     requires apart { AreApart (length para.now) sequences.now.all }
     requires own { AreOwn (positions_in sequences.now.all) para.now (current_of (take (length para.now) explicit.now)) }
@@ -260,18 +263,17 @@ fn resolve_found<L: Ledger>(
     let before = &mut before[..para.len()];
     let classes = &mut classes[..para.len()];
     let openings = begin(para, explicit, before, classes, levels, steps);
-    let sought = Sought {
-        weak: true,
-        openings,
-    };
+    let sought = Sought { weak, openings };
     resolve_each(
         sequences, para, sought, before, pairs, classes, levels, steps,
     );
 }
 
-/// W1 to I2 over a flat paragraph whose sequences were found: one, or none. It takes the fronts of the class columns.
+/// W1 to I2 over a flat paragraph whose sequences were found: one, or none; `weak` is false only where W1 to W7 can change
+/// none of its classes. It takes the fronts of the class columns.
 fn resolve_own<L: Ledger>(
     para: &[Unit],
+    weak: bool,
     sequences: &Sequences,
     pairs: &mut Pairs,
     before: &mut [Class],
@@ -279,6 +281,7 @@ fn resolve_own<L: Ledger>(
     levels: &mut [Option<Level>],
     steps: &mut Steps<L>,
 )
+    requires weak { weak ≡ false → list_any may_weaken (classes_of para.now) ≡ false }
     requires apart { AreApart (length para.now) sequences.now.all }
     requires pairs { length para.now ≤ length pairs.old }
     requires before { length para.now ≤ length before.old }
@@ -292,10 +295,7 @@ fn resolve_own<L: Ledger>(
     let before = &mut before[..para.len()];
     let classes = &mut classes[..para.len()];
     let openings = begin_flat(para, before, classes, levels, steps);
-    let sought = Sought {
-        weak: true,
-        openings,
-    };
+    let sought = Sought { weak, openings };
     resolve_each(
         sequences, para, sought, before, pairs, classes, levels, steps,
     );
@@ -412,6 +412,7 @@ impl Resolver {
         // W1 to I2.
         resolve_found(
             para,
+            contents.has_weak(),
             &self.explicit,
             &self.sequences,
             &mut self.pairs,
@@ -466,6 +467,7 @@ impl Resolver {
         // W1 to I2.
         resolve_own(
             para,
+            contents.has_weak(),
             &self.sequences,
             &mut self.pairs,
             &mut self.before,

@@ -47,3 +47,6 @@ returns-clause-levels g c =
 
 pub returns-clause-at_most : goal.returns-clause-at_most
 returns-clause-at_most g c = omega (arith, remaining_few c.args.para.now)
+
+pub resolve_own-requires-clause-weak : goal.resolve_own-requires-clause-weak
+resolve_own-requires-clause-weak g c = λ e. sym (c.has_weak.ensures (classes_of c.args.para.now) c.requires.contents) ∙ e

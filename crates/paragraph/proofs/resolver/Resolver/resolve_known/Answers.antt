@@ -41,3 +41,6 @@ returns-clause-levels g c =
     found_levels c.args.para.now (level_of_para c.para_level-level.result) c.explicit_levels.new.out c.explicit_levels.ensures.found c.fill-2.new.self.all c.resolve_found.new.levels c.fill-2.ensures.all
     (search rules) c.resolve_found.ensures.levels
     ∙ ap (resolved_levels c.args.para.now) c.para_level-level.ensures.level
+
+pub resolve_found-requires-clause-weak : goal.resolve_found-requires-clause-weak
+resolve_found-requires-clause-weak g c = λ e. sym (c.has_weak.ensures (classes_of c.args.para.now) c.requires.contents) ∙ e
