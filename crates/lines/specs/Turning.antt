@@ -1,5 +1,5 @@
 -- What the list of a line's positions keeps while its levels are turned (L2), from the highest down.
-use Rattle.std.specs.Prelude.{Option, None, Some, ℕ, Bool, ◌+◌, ◌-◌, ◌<◌, ◌≤◌, ◌≡◌, ◌≢◌, ◌⊎◌, ◌%◌, ◌==◌, if◌then◌else◌, List, [], ◌∷◌, filter, slice_index_or}
+use Rattle.std.specs.Prelude.{Option, None, Some, ℕ, Bool, ◌+◌, ◌-◌, ◌<◌, ◌≤◌, ◌≡◌, ◌≢◌, ◌⊎◌, ◌%◌, List, [], ◌∷◌, filter, slice_index_or}
 use Rattle.std.specs.Option.{is_some}
 use Rattle.units.specs.Positions.{positions_from}
 use Rattle.units.specs.Reordering.{least_level}

@@ -159,7 +159,9 @@ pub fn fill_lines<L: Ledger>(
         let limit = next_break(at, passed, own.len());
         let end = end_of_line(own, paras.len(), start, limit, steps);
         let level = uniform.then_some(paras[paragraph]);
-        filled = write_line(levels, start, end, level, filled, runs, orders, bounds, steps);
+        filled = write_line(
+            levels, start, end, level, filled, runs, orders, bounds, steps,
+        );
         passed += usize::from(end == limit);
         paragraph += usize::from(own[end - 1].class.is_separator());
         start = end;

@@ -1,9 +1,9 @@
-use Rattle.std.proofs.Common.{◌≡◌, ◌<◌, ◌≤◌, ◌+◌, ◌-◌, ◌++◌, [], ◌∷◌, ℕ, List, Option, Bool, true, false, cond, length, take, set, arith, refl, sym, ap, ◌∙◌, subst}
-use Rattle.std.specs.Prelude.{◌==◌, IfSome, count_by, map, slice_index_or}
+use Rattle.std.proofs.Common.{◌≡◌, ◌≤◌, ◌+◌, ◌-◌, ◌++◌, [], ◌∷◌, ℕ, List, Option, Bool, true, false, cond, length, take, set, arith, refl, sym, ap, ◌∙◌, subst}
+use Rattle.std.specs.Prelude.{◌==◌, IfSome, map, slice_index_or}
 use Rattle.std.specs.Bool.{then_some}
 use Rattle.std.proofs.lemmas.List.{length-map, length-take-le, take_more_set}
 use mir.Val.{bool_byte}
-use Rattle.units.specs.Classes.{class_at, classes_of, is_separator}
+use Rattle.units.specs.Classes.{classes_of, is_separator}
 use Rattle.units.specs.Isolates.{level_of_para}
 use Rattle.units.specs.declared.level.ParaLevel.{ParaLevel}
 use Rattle.units.specs.declared.level.ParaLevel.TheVariants.{Zero}
@@ -11,7 +11,6 @@ use Rattle.units.specs.Reordering.{begins_line, para_at}
 use Rattle.lines.specs.Bounds.{first_bound}
 use Rattle.lines.specs.declared.bounds.Bound.{Bound}
 use Rattle.lines.specs.LineBreaks.{AreBreaks}
-use Rattle.lines.specs.Spaces.{AreAtParas}
 use Rattle.lines.specs.Turning.{IsUniform}
 use Rattle.lines.proofs.Cuts.{Cuts}
 use Rattle.lines.proofs.NextLine.{IsLimit, ends_line, limit_within, passing_none, passing_on}

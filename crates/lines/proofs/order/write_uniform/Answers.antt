@@ -1,4 +1,4 @@
-use Rattle.std.proofs.Common.{ℕ, refl, sym, ap, subst, take, ◌-◌, ◌∙◌}
+use Rattle.std.proofs.Common.{refl, sym, ap, subst, take, ◌-◌, ◌∙◌}
 use Rattle.units.specs.Isolates.{level_of_para}
 use Rattle.lines.specs.Turning.{IsUniform}
 use Rattle.lines.proofs.Uniform.{uniform-falling, uniform-rising}

@@ -1,4 +1,4 @@
-use Rattle.std.proofs.Common.{◌≡◌, ◌<◌, ◌∙◌, length, sym, arith}
+use Rattle.std.proofs.Common.{◌<◌, ◌∙◌, length, sym, arith}
 use Rattle.std.proofs.lemmas.List.{ext_get_or}
 use Rattle.units.specs.Positions.{positions_from}
 use Rattle.lines.proofs.LineEnd.{get_or-positions_from, length-positions_from}
