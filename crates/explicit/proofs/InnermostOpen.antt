@@ -59,16 +59,16 @@ module _ (cs : List Class) (k : ℕ) (inside : k < length cs) where
       let later = stack_stays (opens_at cs) (closes_at cs) k (suc n) s stack o c in
       let unclosed = (later.still n lt).unmatched in
       around_is cs k (s n)
-          (record {
-            opener = stack.opener n lt;
-            after = stack.before n lt;
-            before = λ a e. elim (cases_lt k a) [
-              | inl after ↦ after
-              | inr le ↦ absurd (let again : matching_before cs (k + 1) (s n) ≡ Some a = match_within (opens_at cs) (closes_at cs) (k + 1) (length cs) (s n) a (omega arith) (matching_pdi_before cs (s n) a e) in cc)
-            ];
-          })
-          (λ j after h.
-          let at = stack.complete j h.after h.opener (held_is_open j h) in
-          let le = last_is_last (opens_at cs) (closes_at cs) k n s (isolates_exclude cs) stack at.0 at.1 in
-          let here = at.2 in
-          omega (arith, here, le))
+      (record {
+        opener = stack.opener n lt;
+        after = stack.before n lt;
+        before = λ a e. elim (cases_lt k a) [
+          | inl after ↦ after
+          | inr le ↦ absurd (let again : matching_before cs (k + 1) (s n) ≡ Some a = match_within (opens_at cs) (closes_at cs) (k + 1) (length cs) (s n) a (omega arith) (matching_pdi_before cs (s n) a e) in cc)
+        ];
+      })
+      (λ j after h.
+      let at = stack.complete j h.after h.opener (held_is_open j h) in
+      let le = last_is_last (opens_at cs) (closes_at cs) k n s (isolates_exclude cs) stack at.0 at.1 in
+      let here = at.2 in
+      omega (arith, here, le))

@@ -4,17 +4,17 @@
 ghost use Rattle.std.specs.Prelude.{◌≡◌, ◌≤◌, length};
 ghost use Rattle.units.specs.Paragraphs.{paragraphs_of};
 
+pub mod cutting;
 pub mod isolates;
 pub mod laws;
 pub mod levels;
 pub mod para_level;
-pub mod paragraph;
 mod side;
 mod status;
 #[cfg(test)]
 mod tests;
 
-use paragraph::Paragraphs;
+use cutting::Paragraphs;
 use units::bracket::Unit;
 
 /// Cuts a text into its paragraphs (P1), in order: each is a piece of the text, has its only unit of class B in

@@ -58,13 +58,13 @@ loop-p-preserved g c =
           let strong : is_strong (class_at (classes_of para) c.loop-p.p) ≡ true = ap is_strong read ∙ sym w.is_strong.ensures ∙ w.if-is_strong.true in
           let plain = strong_is_other _ strong in
           rw (w.depth-is, w.partners-is, w.openers-is, w.sides-is, w.outside-is, c.none.ensures) (
-            let noted' = noted_strong _ _ _ _ _ _ w.note_strong-outside.new.sides _ w.note_strong-outside.result before inside' (omega (arith, fit, enough, inside')) now.pass.stack read strong w.note_strong-outside.ensures.outside w.note_strong-outside.ensures.inside in
-            record {
-              filling = filling_other _ _ _ _ _ _ now inside' plain.0 plain.1;
-              sides_fit = sides_kept c.loop-p.depth _ _ c.loop-p.sides _ _ _ w.note_strong-outside.ensures.outside w.note_strong-outside.ensures.inside ∙ fit;
-              noted = noted';
-              taken = taken';
-            })
+          let noted' = noted_strong _ _ _ _ _ _ w.note_strong-outside.new.sides _ w.note_strong-outside.result before inside' (omega (arith, fit, enough, inside')) now.pass.stack read strong w.note_strong-outside.ensures.outside w.note_strong-outside.ensures.inside in
+          record {
+            filling = filling_other _ _ _ _ _ _ now inside' plain.0 plain.1;
+            sides_fit = sides_kept c.loop-p.depth _ _ c.loop-p.sides _ _ _ w.note_strong-outside.ensures.outside w.note_strong-outside.ensures.inside ∙ fit;
+            noted = noted';
+            taken = taken';
+          })
       | else-is_isolate_initiator+else-is_pdi+else-is_strong w ↦
           let read = class_read para c.loop-p.p _ inside in
           let o : is_isolate_initiator (class_at (classes_of para) c.loop-p.p) ≡ false = ap is_isolate_initiator read ∙ sym c.is_isolate_initiator.ensures ∙ w.if-is_isolate_initiator.false in

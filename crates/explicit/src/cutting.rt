@@ -1,4 +1,4 @@
-//! The paragraphs of a text (P1).
+//! The cutting of a text into its paragraphs (P1).
 ghost use Rattle.std.specs.Prelude.{◌≡◌, ◌≤◌, ◌↔◌, List, length, position};
 ghost use Rattle.std.specs.Iterator.{YieldsFirstRef, item_count};
 ghost use Rattle.units.specs.Classes.{is_separator};
