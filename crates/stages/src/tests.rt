@@ -4,12 +4,12 @@ ghost use Rattle.std.specs.List.{list_any};
 ghost use Rattle.units.specs.Classes.{is_separator};
 ghost use Rattle.units.specs.Paragraphs.{SeparatorOnlyLast};
 
-use crate::implicit::levels;
 use crate::neutral::neutrals;
 use crate::weak::{w1, w2, w3, w4, w5, w6, w7, weak_types};
 use explicit::isolates::IsolateMap;
 use explicit::levels::{Explicit, explicit_levels};
 use explicit::para_level::para_level;
+use resolve::implicit::implicit;
 use resolve::weak::weak;
 use sequences::paragraph::Sequences;
 use sequences::sequence::Sequence;
@@ -141,7 +141,7 @@ fn levels_after<L: Ledger>(
     let sequences = sequences_of(alloc, &para, direction, &mut steps)?;
     assert_eq!(rt; sequences.count(), 1);
     let mut column = vec![in alloc; None; classes.len()]?;
-    levels(&sequences.get(0), classes, &mut column, &mut steps);
+    implicit(&sequences.get(0), classes, &mut column, &mut steps);
     Ok(column)
 }
 
