@@ -27,5 +27,6 @@ pub mod Sides
 pub mod Taken
 pub mod TheTail
 pub mod StrongInside
+pub mod LevelUnder
 pub mod Leveled
 pub mod InsideIsolates

@@ -9,7 +9,7 @@ pub mod isolates;
 pub mod laws;
 pub mod levels;
 pub mod para_level;
-mod side;
+pub mod side;
 mod status;
 #[cfg(test)]
 mod tests;

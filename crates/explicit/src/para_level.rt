@@ -3,7 +3,7 @@ ghost use Rattle.std.specs.Prelude.{◌≡◌};
 ghost use Rattle.units.specs.Classes.{classes_of};
 ghost use Rattle.units.specs.Isolates.{para_level_of, level_of_para};
 ghost use Rattle.explicit.specs.IsolateMaps.{IsFilledFrom};
-ghost use Rattle.explicit.specs.SideLevels.{level_by_side};
+ghost use Rattle.explicit.specs.SideLevels.{level_by_side, level_under};
 
 use crate::isolates::IsolateMap;
 use crate::side::Side;
@@ -23,10 +23,21 @@ fn level_by(side: Side, otherwise: ParaLevel) -> ParaLevel
     }
 }
 
-/// The level of a paragraph: 1 where the first strong class outside of all isolates is R or AL and 0 elsewhere (P2, P3),
-/// under `AutoRtl` 1 also where there is none, or the level that is asked for. `map` was filled from the paragraph, and
-/// knows the answer: no step is taken.
-#[tactic(auto, unfolding(units::specs::Isolates::para_level_of))]
+/// P3: the level of a paragraph under a direction, by the side of its first strong class outside of all isolates (P2): 1 where
+/// that is R or AL, 0 where it is L, and where there is none 0 under `Auto` and 1 under `AutoRtl`; `Ltr` asks for 0 and `Rtl` for 1.
+pub fn level_under(direction: Direction, side: Side) -> ParaLevel
+    ensures { level_of_para result ≡ level_under direction side }
+{
+    match direction {
+        Direction::Auto => level_by(side, ParaLevel::Zero),
+        Direction::Ltr => ParaLevel::Zero,
+        Direction::Rtl => ParaLevel::One,
+        Direction::AutoRtl => level_by(side, ParaLevel::One),
+    }
+}
+
+/// The level of a paragraph under a direction (P2, P3). `map` was filled from the paragraph, and knows its first strong class
+/// outside of all isolates: no step is taken.
 pub fn para_level<L: Ledger>(
     para: &[Unit],
     map: &IsolateMap,
@@ -37,10 +48,5 @@ pub fn para_level<L: Ledger>(
     ensures level { level_of_para result ≡ para_level_of (classes_of para.now) direction }
     ensures no_steps { steps.new ≡ steps.old }
 {
-    match direction {
-        Direction::Auto => level_by(map.outside(), ParaLevel::Zero),
-        Direction::AutoRtl => level_by(map.outside(), ParaLevel::One),
-        Direction::Ltr => ParaLevel::Zero,
-        Direction::Rtl => ParaLevel::One,
-    }
+    level_under(direction, map.outside())
 }

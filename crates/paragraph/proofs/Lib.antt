@@ -4,3 +4,4 @@ pub mod Covering
 pub mod FlatLevels
 pub mod ClassKinds
 pub mod Scan
+pub mod FirstSides

@@ -2,3 +2,4 @@ pub mod ClassSets
 pub mod Contents
 pub mod Covering
 pub mod Resolvers
+pub mod FirstSides

@@ -8,10 +8,11 @@ ghost use Rattle.units.specs.Isolates.{level_of_para, para_level_of};
 ghost use Rattle.units.specs.Layout.{current_of, resolved_levels};
 ghost use Rattle.units.specs.Paragraphs.{SeparatorOnlyLast};
 ghost use Rattle.units.specs.declared.class.Class.TheVariants.{BN};
-ghost use Rattle.flat.specs.Flat.{IsFlat, flat_para_level, level_by_strong};
+ghost use Rattle.flat.specs.Flat.{IsFlat, flat_para_level};
 ghost use Rattle.flat.specs.IdleRules.{HasNone};
 ghost use Rattle.flat.specs.Uniform.{kept_level};
-ghost use Rattle.paragraph.specs.Contents.{Describes, found_or};
+ghost use Rattle.paragraph.specs.Contents.{Describes};
+ghost use Rattle.paragraph.specs.FirstSides.{side_by};
 ghost use Rattle.paragraph.specs.Covering.{AreApart, HasLevelsBy, positions_in};
 ghost use Rattle.paragraph.specs.Resolvers.{StaysAt};
 ghost use Rattle.resolve.specs.Raised.{resolved_at};
@@ -20,7 +21,8 @@ ghost use Rattle.resolve.specs.Sought.{AreOwn, IsSoughtIn, may_weaken};
 use crate::contents::{Contents, FirstParagraph};
 use explicit::isolates::IsolateMap;
 use explicit::levels::{Explicit, explicit_levels};
-use explicit::para_level::para_level;
+use explicit::para_level::{level_under, para_level};
+use explicit::side::Side;
 use resolve::pairs::Pairs;
 use resolve::sequence::{Sought, resolve_sequence};
 use sequences::paragraph::Sequences;
@@ -67,9 +69,9 @@ pub struct Resolved {
     pub uniform: bool,
 }
 
-/// P2: the first strong class, where nothing stands in an isolate.
-fn first_strong<L: Ledger>(para: &[Unit], steps: &mut Steps<L>) -> Option<Class>
-    ensures value { result ≡ find is_strong (classes_of para.now) }
+/// P2: the side of the first strong class, where nothing stands in an isolate.
+fn first_side<L: Ledger>(para: &[Unit], steps: &mut Steps<L>) -> Side
+    ensures value { result ≡ side_by (find is_strong (classes_of para.now)) }
     ensures at_least { steps.old ≤ steps.new }
     ensures at_most { steps.new ≤ steps.old + length para.now }
 {
@@ -77,21 +79,10 @@ fn first_strong<L: Ledger>(para: &[Unit], steps: &mut Steps<L>) -> Option<Class>
         steps.tick();
         let class = para[k].class;
         if class.is_strong() {
-            return Some(class);
+            return Side::Unknown.noting(class);
         }
     }
-    None
-}
-
-/// P3: the level that the first strong class gives, or this one, where there is none.
-fn level_by_strong(class: Option<Class>, otherwise: ParaLevel) -> ParaLevel
-    ensures { level_of_para result ≡ level_by_strong (level_of_para otherwise) class }
-{
-    match class {
-        Some(class) if class.is_right_to_left() => ParaLevel::One,
-        Some(_) => ParaLevel::Zero,
-        None => otherwise,
-    }
+    Side::Unknown
 }
 
 /// P2, P3: the level of a paragraph without initiators.
@@ -100,12 +91,7 @@ fn flat_level<L: Ledger>(para: &[Unit], direction: Direction, steps: &mut Steps<
     ensures at_least { steps.old ≤ steps.new }
     ensures at_most { steps.new ≤ steps.old + length para.now }
 {
-    match direction {
-        Direction::Auto => level_by_strong(first_strong(para, steps), ParaLevel::Zero),
-        Direction::AutoRtl => level_by_strong(first_strong(para, steps), ParaLevel::One),
-        Direction::Ltr => ParaLevel::Zero,
-        Direction::Rtl => ParaLevel::One,
-    }
+    level_under(direction, first_side(para, steps))
 }
 
 /// The class that the weak rules begin with: the current one, or BN where X9 removes the position.

@@ -1,7 +1,8 @@
-use Rattle.std.proofs.Common.{arith, sym, ◌∙◌}
+use Rattle.std.proofs.Common.{arith, ap, sym, ◌∙◌}
 use Rattle.units.specs.Layout.{no_unit}
+use Rattle.paragraph.specs.FirstSides.{side_by}
 use Rattle.paragraph.proofs.Scan.{none_found, strong_found}
-use Rattle.paragraph.proofs.resolver.first_strong.Goals as goal
+use Rattle.paragraph.proofs.resolver.first_side.Goals as goal
 
 pub loop-k-preserved : goal.loop-k-preserved
 loop-k-preserved g c = record {
@@ -11,4 +12,4 @@ loop-k-preserved g c = record {
 
 pub returns-then-is_strong-clause-value : goal.returns-then-is_strong-clause-value
 returns-then-is_strong-clause-value g c =
-    sym (strong_found c.args.para.now c.loop-k.k no_unit c.loop-k-test.true (sym c.is_strong.ensures ∙ c.if-is_strong.true) c.loop-k.invariant.passed)
+    c.noting.ensures ∙ sym (ap side_by (strong_found c.args.para.now c.loop-k.k no_unit c.loop-k-test.true (sym c.is_strong.ensures ∙ c.if-is_strong.true) c.loop-k.invariant.passed))
