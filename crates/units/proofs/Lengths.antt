@@ -1,6 +1,6 @@
 -- Each rule over a sequence gives as many classes as there were (W1 to I2).
-use Rattle.std.specs.Prelude.{Option, ℕ, zero, suc, Some, None, ◌+◌, ◌≡◌, List, [], ◌∷◌, length, map, fold, refl}
-use Rattle.std.proofs.Common.{ap, ◌∙◌, arith}
+use Rattle.std.specs.Prelude.{Option, ℕ, zero, suc, Some, None, ◌+◌, ◌≡◌, List, [], ◌∷◌, length, fold, refl}
+use Rattle.std.proofs.Common.{◌∙◌, arith}
 use Rattle.std.proofs.lemmas.List.{length-map}
 use Rattle.units.specs.Positions.{positions_from, positions_of}
 use Rattle.units.specs.Runs.{SequenceView, direction_of}
