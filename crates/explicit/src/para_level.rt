@@ -23,9 +23,9 @@ fn level_by(side: Side, otherwise: ParaLevel) -> ParaLevel
     }
 }
 
-/// The level of a paragraph: 1 where the first strong class outside of all isolates is R or AL and 0 elsewhere (P2, P3),
-/// under `AutoRtl` 1 also where there is none, or the level that is asked for. `map` was filled from the paragraph, and
-/// knows the answer: no step is taken.
+/// The level of a paragraph: 1 where the first strong class outside of all isolates is R or AL and 0 elsewhere (P2,
+/// P3), under `AutoRtl` 1 also where there is none, or the level that is asked for. `map` was filled from the
+/// paragraph, and knows the answer: no step is taken.
 #[tactic(auto, unfolding(units::specs::Isolates::para_level_of))]
 pub fn para_level<L: Ledger>(
     para: &[Unit],
