@@ -1,6 +1,6 @@
 -- What a paragraph contains, as far as it tells which rules have something to do.
-use Rattle.std.specs.Prelude.{Option, ℕ, Bool, ◌≡◌, ◌&&◌, not, if◌then◌else◌, List, Some, None, take}
-use Rattle.std.specs.List.{list_all, list_any}
+use Rattle.std.specs.Prelude.{ℕ, Bool, ◌≡◌, ◌&&◌, not, List, take}
+use Rattle.std.specs.List.{list_all}
 use Rattle.units.specs.Classes.{classes_of}
 use Rattle.units.specs.declared.bracket.Unit.{Unit as BidiUnit}
 use Rattle.units.specs.declared.class.Class.{Class}
@@ -27,8 +27,3 @@ Describes contents cs = IsSetOf contents.classes cs
 pub record IsFirstOf (first : FirstParagraph) (text : List BidiUnit) : Type 0 where
   pub length : first.length ≡ first_length text
   pub contents : Describes first.contents (classes_of (take first.length text))
-
--- P2: the class that was found, or else this one, if it passes
-abbrev pub found_or : Option Class → Bool → Class → Option Class
-found_or (Some found) passes c = Some found
-found_or None passes c = if passes then Some c else None

@@ -11,7 +11,7 @@ ghost use Rattle.units.specs.declared.class.Class.TheVariants.{BN};
 ghost use Rattle.flat.specs.Flat.{IsFlat, flat_para_level, level_by_strong};
 ghost use Rattle.flat.specs.IdleRules.{HasNone};
 ghost use Rattle.flat.specs.Uniform.{kept_level};
-ghost use Rattle.paragraph.specs.Contents.{Describes, found_or};
+ghost use Rattle.paragraph.specs.Contents.{Describes};
 ghost use Rattle.paragraph.specs.Covering.{AreApart, HasLevelsBy, positions_in};
 ghost use Rattle.paragraph.specs.Resolvers.{StaysAt};
 ghost use Rattle.resolve.specs.Raised.{resolved_at};
