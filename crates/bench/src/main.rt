@@ -1,10 +1,13 @@
-//! Times layouts of texts, and prints the nanoseconds that a unit takes to standard error, so that its output stays empty.
+//! Times layouts of texts, and prints the nanoseconds that a unit takes to standard error, so that its output stays
+//! empty.
 //!
-//! Without a word the texts are the built-in ones, all short, and it ends in about a second. With words, the built-in texts that they
-//! name have their full lengths: `bench English mixed` times the two of these names, and `bench all` times all.
+//! Without a word the texts are the built-in ones, all short, and it ends in about a second. With words, the built-in
+//! texts that they name have their full lengths: `bench English mixed` times the two of these names, and `bench all`
+//! times all.
 //!
-//! `bench --tables DIR FILE ROUNDS` reads the tables of the folder and the text in the file (UTF-8), and then ROUNDS + 1 times looks the
-//! text's units up and lays it out, in direction auto and without breaks, of which all but the first are timed.
+//! `bench --tables DIR FILE ROUNDS` reads the tables of the folder and the text in the file (UTF-8), and then
+//! ROUNDS + 1 times looks the text's units up and lays it out, in direction auto and without breaks, of which all
+//! but the first are timed.
 #![tactic(auto)]
 
 mod cases;

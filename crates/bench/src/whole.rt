@@ -12,7 +12,8 @@ use units::class::Class;
 /// How often the clock is read while a text is laid out again and again.
 const BATCHES: usize = 10;
 
-/// A text, the tables that its units are looked up in, and what is used again and again: the list of its units, and the room.
+/// A text, the tables that its units are looked up in, and what is used again and again: the list of its units, and
+/// the room.
 #[derive(Drop)]
 pub struct Whole {
     tables: Tables,

@@ -74,9 +74,9 @@ pub fn judge_classes<'a, S: ByteSource, W: Write>(
     judge_source(judge, source, name, out)
 }
 
-/// Judges the bytes that a source hands out to its end, as a file whose rows are lists of code points, of which the tables
-/// tell the units. Prints the verdict's line and answers its exit status. The faults are a failed read, by the name that
-/// is given, a failed write, and refused memory.
+/// Judges the bytes that a source hands out to its end, as a file whose rows are lists of code points, of which the
+/// tables tell the units. Prints the verdict's line and answers its exit status. The faults are a failed read, by the
+/// name that is given, a failed write, and refused memory.
 pub fn judge_characters<'a, S: ByteSource, W: Write>(
     alloc: Global,
     tables: &Tables,

@@ -12,8 +12,8 @@ pub const MOST_FILE_BYTES: u64 = 1_099_511_627_776;
 /// The most bytes that a text may have.
 pub const MOST_TEXT_BYTES: u64 = 16_777_216;
 
-/// Opens the file at this path, of which a read past the first `most` bytes fails. The faults are that it can't be opened,
-/// said by the name that is given, and refused memory.
+/// Opens the file at this path, of which a read past the first `most` bytes fails. The faults are that it can't be
+/// opened, said by the name that is given, and refused memory.
 pub fn open<'a, F: Files>(
     alloc: Global,
     files: &mut F,

@@ -37,8 +37,8 @@ fn judge_file_of_classes<'a, F: Files, W: Write>(
     judge_classes(alloc, &mut source, file, out)
 }
 
-/// Judges the file of this name, whose rows are lists of code points, by the tables of the folder, which are read first.
-/// Answers the verdict's exit status.
+/// Judges the file of this name, whose rows are lists of code points, by the tables of the folder, which are read
+/// first. Answers the verdict's exit status.
 fn judge_file_of_characters<'a, F: Files, W: Write>(
     alloc: Global,
     folder: &str,
@@ -92,8 +92,8 @@ fn print_levels_of_file<'a, F: Files, W: Write>(
     Ok(())
 }
 
-/// Prints the text in the file of this name as it is shown, with breaks at the columns, by the tables of the folder, which
-/// are read first.
+/// Prints the text in the file of this name as it is shown, with breaks at the columns, by the tables of the folder,
+/// which are read first.
 fn print_reorder_of_file<'a, F: Files, W: Write>(
     alloc: Global,
     folder: &str,

@@ -105,10 +105,10 @@ fn print_lines_of<W: Write, L: Ledger>(
     Ok(())
 }
 
-/// Writes the levels of a text: for each paragraph a line with its number, counted from 0, and its level (P2, P3); then
-/// for each of its positions a line with the position in the whole text, the code point, the original class and the level
-/// after L1, or `x` where the position was removed (X9). The text may have 16,777,216 characters. The fault is `Write`
-/// where the writer fails, when it is not known how much it took, and `Memory` where memory is refused.
+/// Writes the levels of a text: for each paragraph a line with its number, counted from 0, and its level (P2, P3);
+/// then for each of its positions a line with the position in the whole text, the code point, the original class and
+/// the level after L1, or `x` where the position was removed (X9). The text may have 16,777,216 characters. The fault
+/// is `Write` where the writer fails, when it is not known how much it took, and `Memory` where memory is refused.
 pub fn print_levels<W: Write>(
     alloc: Global,
     w: &mut W,
@@ -125,11 +125,11 @@ pub fn print_levels<W: Write>(
     print_levels_of::<W, Brand>(w, &mut room, text, &units, direction, Blank::new(1))
 }
 
-/// Writes a text as it is shown: each line from left to right (L2), in UTF-8, with mirror images at odd levels (L4), without
-/// paragraph separators and without what was removed (X9), and LF behind it. With `columns` a line breaks at every so many
-/// positions, counted from the paragraph's start, unless a paragraph separator stands there; removed positions count too.
-/// Without, each paragraph is a line. The text may have 16,777,216 characters. The fault is `Write` where the writer fails,
-/// when it is not known how much it took, and `Memory` where memory is refused.
+/// Writes a text as it is shown: each line from left to right (L2), in UTF-8, with mirror images at odd levels (L4),
+/// without paragraph separators and without what was removed (X9), and LF behind it. With `columns` a line breaks at
+/// every so many positions, counted from the paragraph's start, unless a paragraph separator stands there; removed
+/// positions count too. Without, each paragraph is a line. The text may have 16,777,216 characters. The fault is
+/// `Write` where the writer fails, when it is not known how much it took, and `Memory` where memory is refused.
 pub fn print_reorder<W: Write>(
     alloc: Global,
     w: &mut W,

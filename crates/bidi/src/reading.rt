@@ -30,7 +30,8 @@ fn read_to_end<'a, S: ByteSource>(
     }
 }
 
-/// The characters of these bytes. The faults are bytes that are not UTF-8, by the name that is given, and refused memory.
+/// The characters of these bytes. The faults are bytes that are not UTF-8, by the name that is given, and refused
+/// memory.
 fn characters_of<'a>(alloc: Global, bytes: &[u8], name: &'a str) -> Result<Vec<char>, Fault<'a>>
     ensures utf8 { OnOk result (IsUtf8 bytes.now) }
     ensures text { IfOk result (λ text. text.items ≡ chars bytes.now) }

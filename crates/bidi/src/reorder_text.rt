@@ -24,8 +24,8 @@ fn print_shown<W: Write>(w: &mut W, class: Class, character: char) -> io::Result
     write!(w, "{character}")
 }
 
-/// Writes the line with the number `k` from left to right, and LF. Whether a position holds a paragraph separator is asked
-/// of its own unit, not of the character that it is shown by.
+/// Writes the line with the number `k` from left to right, and LF. Whether a position holds a paragraph separator is
+/// asked of its own unit, not of the character that it is shown by.
 fn print_line<W: Write>(
     w: &mut W,
     mirrors: &MirrorTable,

@@ -161,8 +161,8 @@ fn compare(scratch: &mut Scratch, claim: Claim<'_>, direction: Direction) -> Com
     compare_counting::<Brand>(scratch, claim, direction, Blank::new(1))
 }
 
-/// The first of the claim's directions under which it differs from the layout, and where. LTR or RTL is passed over where auto gave
-/// the same layout.
+/// The first of the claim's directions under which it differs from the layout, and where. LTR or RTL is passed over
+/// where auto gave the same layout.
 fn first_wrong(scratch: &mut Scratch, claim: Claim<'_>) -> Option<(Direction, Place)>
     requires { length claim.text.now ≤ room_of scratch.old }
     ensures wrong { result ≡ wrong_case (claim_of claim.entry) claim.entry.directions.now }

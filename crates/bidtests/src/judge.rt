@@ -16,8 +16,9 @@ use ucdfiles::tables::Tables;
 use units::line_cut::{LineCut, Step};
 use units::memory::Memory;
 
-/// Judges the bytes of a test file, in whatever pieces they come. It holds one line, one row's text and the lists in force, and
-/// stops judging at the first no. Contracts say which bytes it stands for: those that were handed over, joined.
+/// Judges the bytes of a test file, in whatever pieces they come. It holds one line, one row's text and the lists in
+/// force, and stops judging at the first no. Contracts say which bytes it stands for: those that were handed over,
+/// joined.
 #[derive(Drop)]
 pub struct Judge<'t> {
     kind: Kind<'t>,
@@ -64,15 +65,16 @@ fn judge_last(kind: Kind<'_>, sheet: &mut Sheet, last: Option<(u64, &[u8])>) -> 
 }
 
 impl<'t> Judge<'t> {
-    /// A judge of a BidiTest.txt, before its first byte. All memory is taken here: `Memory` is answered where some of it was refused.
+    /// A judge of a BidiTest.txt, before its first byte. All memory is taken here: `Memory` is answered where some of
+    /// it was refused.
     pub fn for_classes(alloc: Global) -> Result<Judge<'static>, Memory>
         ensures { IfOk result (λ judge. Judges FileKind.Classes judge []) }
     {
         Judge::of_kind(alloc, Kind::Classes)
     }
 
-    /// A judge of a BidiCharacterTest.txt, before its first byte; the units of its code points come from the tables. All memory is
-    /// taken here: `Memory` is answered where some of it was refused.
+    /// A judge of a BidiCharacterTest.txt, before its first byte; the units of its code points come from the tables.
+    /// All memory is taken here: `Memory` is answered where some of it was refused.
     pub fn for_characters(alloc: Global, tables: &'t Tables) -> Result<Judge<'t>, Memory>
         ensures { IfOk result (λ judge. Judges (FileKind.Characters tables.entry) judge []) }
     {
@@ -90,8 +92,8 @@ impl<'t> Judge<'t> {
         })
     }
 
-    /// Hands over the next bytes of the file, as many or as few as there are: where pieces begin and end changes nothing. Once a no is
-    /// decided, further bytes change nothing. It takes no memory and always succeeds.
+    /// Hands over the next bytes of the file, as many or as few as there are: where pieces begin and end changes
+    /// nothing. Once a no is decided, further bytes change nothing. It takes no memory and always succeeds.
     pub fn feed(&mut self, piece: &[u8])
         ensures { (kind : FileKind) (b : List ℕ) → Judges kind self.old b → Judges kind self.new (b ++ piece.now) }
     {
@@ -106,9 +108,9 @@ impl<'t> Judge<'t> {
         }
     }
 
-    /// The verdict on all bytes that were handed over, as the whole file: that of the least line that is malformed or holds a wrong
-    /// case, or yes with the numbers of rows and cases. What it says of the file is so, and no other verdict would be
-    /// (`laws::verdict_law`). It takes no memory and always succeeds.
+    /// The verdict on all bytes that were handed over, as the whole file: that of the least line that is malformed or
+    /// holds a wrong case, or yes with the numbers of rows and cases. What it says of the file is so, and no other
+    /// verdict would be (`laws::verdict_law`). It takes no memory and always succeeds.
     pub fn finish(mut self) -> Verdict
         ensures verdict { (kind : FileKind) (b : List ℕ) → Judges kind self.entry b → result ≡ verdict_of kind b }
         ensures says { (kind : FileKind) (b : List ℕ) → Judges kind self.entry b → Says (findings_by kind (lines_of b)) result }

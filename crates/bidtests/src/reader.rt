@@ -12,9 +12,9 @@ use units::source::ByteSource;
 #[derive(Clone, Copy, Debug, PartialEq, Eq)]
 pub struct ReadFault;
 
-/// Reads the source to its end and judges what it handed out, behind what the judge was handed before. It reads on behind a no. The
-/// fault comes exactly if the source has failed, in this call or before it; no verdict on part of a file is given. It reads 4,096
-/// bytes at a time and takes no memory.
+/// Reads the source to its end and judges what it handed out, behind what the judge was handed before. It reads on
+/// behind a no. The fault comes exactly if the source has failed, in this call or before it; no verdict on part of a
+/// file is given. It reads 4,096 bytes at a time and takes no memory.
 pub fn judge_reader<S: ByteSource>(
     mut judge: Judge<'_>,
     source: &mut S,

@@ -24,11 +24,12 @@ use units::level::Level;
 use units::memory::Memory;
 use units::text::trim::content;
 
-/// The units that a text may have: as many as a line has room for, since an item takes two bytes with the blank before it.
+/// The units that a text may have: as many as a line has room for, since an item takes two bytes with the blank
+/// before it.
 const MOST_UNITS: usize = 32_768;
 
-/// The room for layouts, a row's text, the lists in force or those of a row, and the counts. What judges a line answers its fault: the
-/// no that it gives if it is malformed or wrong.
+/// The room for layouts, a row's text, the lists in force or those of a row, and the counts. What judges a line
+/// answers its fault: the no that it gives if it is malformed or wrong.
 #[derive(Drop)]
 pub struct Sheet {
     scratch: Scratch,

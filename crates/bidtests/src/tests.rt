@@ -165,7 +165,8 @@ fn rows_by_rule(rt: HostRuntime) -> Result<(), Fail> {
     Ok(())
 }
 
-/// A file of one row under LTR: 62 times `RLE LRE`, then these items, of which only the last remains, at this place and level.
+/// A file of one row under LTR: 62 times `RLE LRE`, then these items, of which only the last remains, at this place
+/// and level.
 fn deep_row(alloc: Global, items: &str, place: usize, level: u8) -> Result<Vec<u8>, Fail> {
     let mut file = Vec::new(alloc);
     write!(file, "@Levels:")?;
@@ -180,7 +181,8 @@ fn deep_row(alloc: Global, items: &str, place: usize, level: u8) -> Result<Vec<u
     Ok(file)
 }
 
-/// BD2, X2 to X5, X7: initiators beyond level 125 overflow, all those behind one that did, too, and a PDF closes such a one first.
+/// BD2, X2 to X5, X7: initiators beyond level 125 overflow, all those behind one that did, too, and a PDF closes such
+/// a one first.
 #[test]
 fn the_deepest_levels(rt: HostRuntime) -> Result<(), Fail> {
     let alloc = rt.alloc();

@@ -6,8 +6,8 @@ ghost use Rattle.bidtests.specs.declared.kind.Kind.{Kind as FileKind};
 ghost use Rattle.bidtests.specs.declared.verdict.Cause.TheVariants.{BitSet, DirectionField};
 ghost use Rattle.bidtests.specs.declared.verdict.Verdict.TheVariants.{Malformed};
 
-/// A file that asks for three directions has the verdict that it has where no row can ask for the fourth: they differ only
-/// where that one is that a bit set or a direction field is malformed.
+/// A file that asks for three directions has the verdict that it has where no row can ask for the fourth: they differ
+/// only where that one is that a bit set or a direction field is malformed.
 pub fn three_directions_are_judged_alike()
     ensures { (kind : FileKind) (bytes : List ℕ) → ((line : ℕ) → three_verdict_of kind bytes ≢ Malformed line BitSet) → ((line : ℕ) → three_verdict_of kind bytes ≢ Malformed line DirectionField) → verdict_of kind bytes ≡ three_verdict_of kind bytes }
 {}

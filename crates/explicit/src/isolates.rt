@@ -103,7 +103,8 @@ impl IsolateMap {
     }
 }
 
-// P2: notes a strong class of the innermost isolate that is open, or of what lies outside of all. Answers the side outside.
+// P2: notes a strong class of the innermost isolate that is open, or of what lies outside of all. Answers the side
+// outside.
 fn note_strong(
     class: Class,
     openers: &[u32],
@@ -124,8 +125,8 @@ fn note_strong(
     outside
 }
 
-// BD9, P2, P3: matches each PDI with the last open initiator, and notes the first strong class of each isolate. Writes the
-// partners of all positions and the sides of all initiators, and answers the side outside of all isolates.
+// BD9, P2, P3: matches each PDI with the last open initiator, and notes the first strong class of each isolate.
+// Writes the partners of all positions and the sides of all initiators, and answers the side outside of all isolates.
 fn match_partners<L: Ledger>(
     para: &[Unit],
     partners: &mut [OptionalPosition],

@@ -23,8 +23,9 @@ fn level_by(side: Side, otherwise: ParaLevel) -> ParaLevel
     }
 }
 
-/// P3: the level of a paragraph under a direction, by the side of its first strong class outside of all isolates (P2): 1 where
-/// that is R or AL, 0 where it is L, and where there is none 0 under `Auto` and 1 under `AutoRtl`; `Ltr` asks for 0 and `Rtl` for 1.
+/// P3: the level of a paragraph under a direction, by the side of its first strong class outside of all isolates (P2):
+/// 1 where that is R or AL, 0 where it is L, and where there is none 0 under `Auto` and 1 under `AutoRtl`; `Ltr` asks
+/// for 0 and `Rtl` for 1.
 pub fn level_under(direction: Direction, side: Side) -> ParaLevel
     ensures { level_of_para result ≡ level_under direction side }
 {
@@ -36,8 +37,8 @@ pub fn level_under(direction: Direction, side: Side) -> ParaLevel
     }
 }
 
-/// The level of a paragraph under a direction (P2, P3). `map` was filled from the paragraph, and knows its first strong class
-/// outside of all isolates: no step is taken.
+/// The level of a paragraph under a direction (P2, P3). `map` was filled from the paragraph, and knows its first
+/// strong class outside of all isolates: no step is taken.
 pub fn para_level<L: Ledger>(
     para: &[Unit],
     map: &IsolateMap,

@@ -33,7 +33,8 @@ pub fn idle_by_neighbors()
     ensures w5 { (cs : List Class) → HasNone is_european_number cs → after_w5 cs ≡ cs }
 {}
 
-/// What no class of a sequence is, none becomes by W1 to W6, if it is no L, R or ON, which they bring; nor AN, which W2 brings.
+/// What no class of a sequence is, none becomes by W1 to W6, if it is no L, R or ON, which they bring; nor AN, which
+/// W2 brings.
 pub fn absences()
     ensures w1 { (test : Class → Bool) → FailsForBrought test → (sos : Class) → is_direction sos ≡ true → (cs : List Class) → HasNone test cs → HasNone test (after_w1 sos cs) }
     ensures w2 { (test : Class → Bool) → test AN ≡ false → (sos : Class) → (cs : List Class) → HasNone test cs → HasNone test (after_w2 sos cs) }

@@ -26,8 +26,8 @@ fn next_break(at: &[usize], passed: usize, len: usize) -> usize
     if passed < at.len() { at[passed] } else { len }
 }
 
-/// Where the line from `start` on ends: behind its first paragraph separator, or at `limit`. In a text of one paragraph a separator
-/// stands nowhere but in last place, and isn't looked for.
+/// Where the line from `start` on ends: behind its first paragraph separator, or at `limit`. In a text of one
+/// paragraph a separator stands nowhere but in last place, and isn't looked for.
 fn end_of_line<L: Ledger>(
     own: &[Unit],
     paragraphs: usize,
@@ -110,12 +110,12 @@ fn write_line<L: Ledger>(
     Filled { lines, positions }
 }
 
-/// Cuts a text into lines, at its breaks and behind its paragraph separators, and writes the lines' orders (L2) to the front of
-/// `orders` and their bounds to the front of `bounds`. It answers how many there are of each.
+/// Cuts a text into lines, at its breaks and behind its paragraph separators, and writes the lines' orders (L2) to
+/// the front of `orders` and their bounds to the front of `bounds`. It answers how many there are of each.
 ///
-/// `paras` are the levels of the text's paragraphs, and the levels are those of its positions after L1; `uniform` says that each one
-/// that remains is known to have its paragraph's. `runs` is room for the order of a line. It takes at least n and at most `8 * n` steps
-/// for a text of n positions, however many lines it has.
+/// `paras` are the levels of the text's paragraphs, and the levels are those of its positions after L1; `uniform`
+/// says that each one that remains is known to have its paragraph's. `runs` is room for the order of a line. It takes
+/// at least n and at most `8 * n` steps for a text of n positions, however many lines it has.
 pub fn fill_lines<L: Ledger>(
     own: &[Unit],
     breaks: &Breaks,

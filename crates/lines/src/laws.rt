@@ -10,8 +10,8 @@ use crate::breaks::Breaks;
 use units::bracket::Unit;
 use units::level::{Level, ParaLevel};
 
-/// The order of a line is the only list of its remaining positions in which, of two, the one that comes first in the text stands
-/// first exactly if the least level between them is even.
+/// The order of a line is the only list of its remaining positions in which, of two, the one that comes first in the
+/// text stands first exactly if the least level between them is even.
 pub fn order_law(levels: &[Option<Level>], start: usize, end: usize)
     requires line { start ≤ end }
     requires within { end ≤ length levels.now }
@@ -20,8 +20,8 @@ pub fn order_law(levels: &[Option<Level>], start: usize, end: usize)
     ensures places { All (λ p. p < length levels.now) (line_order levels.now start end) }
 {}
 
-/// Where the remaining positions of a line all have one level, they stand as in the text if it is even, and turned round if it is
-/// odd.
+/// Where the remaining positions of a line all have one level, they stand as in the text if it is even, and turned
+/// round if it is odd.
 pub fn uniform_law(levels: &[Option<Level>], start: usize, end: usize, level: Level)
     requires line { start ≤ end }
     requires uniform { IsUniform levels.now start end level }

@@ -107,8 +107,8 @@ impl<'s> Layout<'s> {
         }
     }
 
-    /// The characters of the line with the number `k` from left to right, each whose level is odd as its mirror image, where it has
-    /// one (L4); `chars` are the characters of the whole text.
+    /// The characters of the line with the number `k` from left to right, each whose level is odd as its mirror
+    /// image, where it has one (L4); `chars` are the characters of the whole text.
     pub fn shown<'a>(&'a self, mirrors: &'a MirrorTable, chars: &'a [char], k: usize) -> Shown<'a>
         requires line { k < length (view_of self.now).lines }
         requires chars { length chars.now ≡ length (view_of self.now).levels }

@@ -11,8 +11,8 @@ use std::sync::ledger::Ledger;
 use units::level::{Level, ParaLevel};
 use units::steps::Steps;
 
-/// Writes the remaining positions from `start` up to `end` to the front of `order`, rising, a step for each position, and answers
-/// how many they are.
+/// Writes the remaining positions from `start` up to `end` to the front of `order`, rising, a step for each position,
+/// and answers how many they are.
 fn write_rising<L: Ledger>(
     levels: &[Option<Level>],
     start: usize,
@@ -60,7 +60,8 @@ fn write_falling<L: Ledger>(
     count
 }
 
-/// Writes all positions from `start` up to `end` to the front of `order`, from left to right at this level, a step for each.
+/// Writes all positions from `start` up to `end` to the front of `order`, from left to right at this level, a step
+/// for each.
 fn write_all<L: Ledger>(
     start: usize,
     end: usize,
@@ -81,8 +82,8 @@ fn write_all<L: Ledger>(
     }
 }
 
-/// Writes the remaining positions of a line that all have this level from left to right to the front of `order`, in at most two steps
-/// for each of its positions. It answers how many they are.
+/// Writes the remaining positions of a line that all have this level from left to right to the front of `order`, in
+/// at most two steps for each of its positions. It answers how many they are.
 fn write_uniform<L: Ledger>(
     levels: &[Option<Level>],
     start: usize,
@@ -110,7 +111,8 @@ fn write_uniform<L: Ledger>(
     }
 }
 
-/// Writes the positions of a run from left to right to the front of `order`, a step for each. It answers how many they are.
+/// Writes the positions of a run from left to right to the front of `order`, a step for each. It answers how many
+/// they are.
 fn write_run<L: Ledger>(
     levels: &[Option<Level>],
     start: usize,
@@ -132,8 +134,8 @@ fn write_run<L: Ledger>(
     }
 }
 
-/// Writes the positions of a run behind the first `count` places of `order`, a step for each. It answers how many places are written
-/// then.
+/// Writes the positions of a run behind the first `count` places of `order`, a step for each. It answers how many
+/// places are written then.
 fn append_run<L: Ledger>(
     levels: &[Option<Level>],
     start: usize,
@@ -194,12 +196,13 @@ fn write_runs<L: Ledger>(
     }
 }
 
-/// Writes the order of a line (L2) to the front of `order`: the positions of the text from `start` up to `end` that were not removed,
-/// from left to right. It answers how many they are.
+/// Writes the order of a line (L2) to the front of `order`: the positions of the text from `start` up to `end` that
+/// were not removed, from left to right. It answers how many they are.
 ///
-/// `order` needs a place for each unit of the line; those behind the answered ones hold anything. `runs` needs a place for each unit
-/// of the text up to the line's end. The levels are those of the whole text after L1; `uniform` is the one that all remaining positions
-/// of the line have, where that is known. It takes between n and `6 * n` steps on a line of n positions.
+/// `order` needs a place for each unit of the line; those behind the answered ones hold anything. `runs` needs a
+/// place for each unit of the text up to the line's end. The levels are those of the whole text after L1; `uniform`
+/// is the one that all remaining positions of the line have, where that is known. It takes between n and `6 * n`
+/// steps on a line of n positions.
 pub fn write_order<L: Ledger>(
     levels: &[Option<Level>],
     start: usize,

@@ -70,11 +70,13 @@ fn count_separators(own: &[Unit], paragraphs: usize) -> usize
     paragraphs - usize::from(!closed)
 }
 
-/// Gives separators, and white space and isolate formatting characters before them or at a line's end, the level of their paragraph
-/// (L1), in one pass from the text's end, which passes over the positions that nothing behind them in their line resets.
+/// Gives separators, and white space and isolate formatting characters before them or at a line's end, the level of
+/// their paragraph (L1), in one pass from the text's end, which passes over the positions that nothing behind them in
+/// their line resets.
 ///
-/// `own` are the units of the text with their own classes, `paras` the levels of its paragraphs in order, and `levels` the resolved
-/// levels of its positions, none where a position was removed. It takes a step for each position.
+/// `own` are the units of the text with their own classes, `paras` the levels of its paragraphs in order, and
+/// `levels` the resolved levels of its positions, none where a position was removed. It takes a step for each
+/// position.
 pub fn reset_text<L: Ledger>(
     own: &[Unit],
     breaks: &Breaks,
@@ -107,8 +109,8 @@ pub fn reset_text<L: Ledger>(
     }
 }
 
-/// What `reset_text` does, where it may change a level: not where each position that remains is known to have its paragraph's, as
-/// `uniform` says.
+/// What `reset_text` does, where it may change a level: not where each position that remains is known to have its
+/// paragraph's, as `uniform` says.
 pub(crate) fn reset_unless_uniform<L: Ledger>(
     own: &[Unit],
     breaks: &Breaks,

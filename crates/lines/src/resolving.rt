@@ -21,8 +21,8 @@ pub struct ResolvedText {
     pub uniform: bool,
 }
 
-/// Writes the levels of a text's paragraphs to the front of `paras`, and the resolved levels of its positions to the front of
-/// `levels`, paragraph by paragraph.
+/// Writes the levels of a text's paragraphs to the front of `paras`, and the resolved levels of its positions to the
+/// front of `levels`, paragraph by paragraph.
 pub(crate) fn resolve_text<L: Ledger>(
     text: &[Unit],
     direction: Direction,

@@ -8,7 +8,8 @@ use std::sync::ledger::Ledger;
 use units::level::Level;
 use units::steps::Steps;
 
-/// A run of a line: a stretch of the text in which what remains has one level. It stands in its column at its first position.
+/// A run of a line: a stretch of the text in which what remains has one level. It stands in its column at its first
+/// position.
 #[derive(Clone, Copy, Default)]
 pub struct Run {
     /// Where it ends in the text.
@@ -49,8 +50,8 @@ struct Stretch {
 }
 
 impl Stretch {
-    /// Links the stretch and the one that comes after it in the text to one. The earlier stands left of the later where the lesser of
-    /// their levels is even.
+    /// Links the stretch and the one that comes after it in the text to one. The earlier stands left of the later
+    /// where the lesser of their levels is even.
     fn joined(self, later: Stretch, runs: &mut [Run]) -> Stretch
         requires earlier { self.chain.last < length runs.old }
         requires later { later.chain.last < length runs.old }
@@ -127,7 +128,8 @@ fn link_run<L: Ledger>(
     }
 }
 
-/// Links the longest stretch from the position on whose levels are at `least` or higher, in at most four steps for each position.
+/// Links the longest stretch from the position on whose levels are at `least` or higher, in at most four steps for
+/// each position.
 fn link_from<L: Ledger>(
     levels: &[Option<Level>],
     position: usize,

@@ -17,10 +17,6 @@ or_3 false true c = refl
 or_3 false false true = refl
 or_3 false false false = refl
 
-or_first : (a b c d : Bool) → (((a || b) || c) || d) ≡ (a || ((b || c) || d))
-or_first true b c d = refl
-or_first false b c d = refl
-
 or_6 : (a b c d e f : Bool) → (((((a || b) || c) || d) || e) || f) ≡ (a || (b || (c || (d || (e || (f || false))))))
 or_6 true b c d e f = refl
 or_6 false true c d e f = refl

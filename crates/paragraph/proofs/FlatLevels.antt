@@ -41,10 +41,6 @@ levels_are_kept us para keeps =
     let both = and_parts (list_all is_flat cs) (has_none (may_rise para) cs) keeps in
     sym (resolved_levels-uniform us para (flat_from cs both.0) (none_from (may_rise para) cs both.1))
 
--- and it is flat
-pub flat_where_kept : (para : ℕ) (cs : List Class) → keeps_level para cs ≡ true → IsFlat cs
-flat_where_kept para cs keeps = let both = and_parts (list_all is_flat cs) (has_none (may_rise para) cs) keeps in flat_from cs both.0
-
 -- what the sequences of a flat paragraph give, by the own classes, is what the rules resolve
 pub flat_levels : (us : List BidiUnit) (para : ℕ) (all : List SequenceView) (levels : List (Option ℕ)) → IsFlat (classes_of us) → all ≡ sequences_of (leveled_of (classes_of us) para) →
     length levels ≡ length us → HasLevelsBy us (classes_of us) all levels → levels ≡ resolved_levels us para

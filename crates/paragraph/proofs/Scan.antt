@@ -29,12 +29,6 @@ goes_on us k d lt plain e =
     let next = length_from us k d lt ∙ first_length_other (get_or us k d) (drop (k + 1) us) plain in
     omega (arith, e, next)
 
-pub ends_here : (us : List BidiUnit) (k : ℕ) (d : BidiUnit) → k < length us → is_separator (get_or us k d).class ≡ true → first_length us ≡ k + first_length (drop k us) →
-    first_length us ≡ k + 1
-ends_here us k d lt separates e =
-    let last = length_from us k d lt ∙ first_length_separator (get_or us k d) (drop (k + 1) us) separates in
-    omega (arith, e, last)
-
 -- a paragraph is its own first one
 pub first_of_one : (us : List BidiUnit) → SeparatorOnlyLast us → first_length us ≡ length us
 first_of_one [] only = refl

@@ -1,5 +1,5 @@
 //! Sets of classes.
-ghost use Rattle.std.specs.Prelude.{◌≡◌, ◌++◌, ◌∷◌, [], ℕ, List};
+ghost use Rattle.std.specs.Prelude.{◌≡◌, ◌++◌, ◌∷◌, [], List};
 ghost use Rattle.std.specs.List.{list_any};
 ghost use Rattle.units.specs.declared.class.Class.{Class as BidiClass};
 ghost use Rattle.paragraph.specs.ClassSets.{IsSetOf, bit_of, is_class};

@@ -1,7 +1,7 @@
 //! What a paragraph contains, which tells the rules that have nothing to do in it; and where it ends.
-ghost use Rattle.std.specs.Prelude.{◌≡◌, ◌+◌, ◌<◌, ◌≤◌, List, length, find};
+ghost use Rattle.std.specs.Prelude.{◌≡◌, ◌+◌, ◌<◌, ◌≤◌, List, length};
 ghost use Rattle.std.specs.List.{list_all, list_any};
-ghost use Rattle.units.specs.Classes.{classes_of, is_initiator, is_removed, is_strong};
+ghost use Rattle.units.specs.Classes.{is_initiator, is_removed};
 ghost use Rattle.units.specs.Isolates.{level_of_para};
 ghost use Rattle.units.specs.declared.class.Class.{Class as BidiClass};
 ghost use Rattle.flat.specs.Flat.{is_flat};

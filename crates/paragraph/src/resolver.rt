@@ -131,7 +131,8 @@ fn begin_at(
     levels[p] = None;
 }
 
-/// Writes the current classes of a paragraph into both columns, and no levels. Answers whether it has an opening bracket.
+/// Writes the current classes of a paragraph into both columns, and no levels. Answers whether it has an opening
+/// bracket.
 fn begin<L: Ledger>(
     para: &[Unit],
     explicit: &Explicit,
@@ -159,7 +160,8 @@ fn begin<L: Ledger>(
     opened
 }
 
-/// Writes the classes of a paragraph's units into both columns, and no levels. Answers whether it has an opening bracket.
+/// Writes the classes of a paragraph's units into both columns, and no levels. Answers whether it has an opening
+/// bracket.
 fn begin_flat<L: Ledger>(
     para: &[Unit],
     before: &mut [Class],
@@ -186,8 +188,9 @@ fn begin_flat<L: Ledger>(
     opened
 }
 
-/// W1 to I2 over all sequences of a paragraph, in their order. `before` are the current classes of the paragraph (X1 to X8),
-/// `classes` a copy of them to work on, and `levels` hold none yet. `sought` is what of the paragraph the rules look for.
+/// W1 to I2 over all sequences of a paragraph, in their order. `before` are the current classes of the paragraph (X1
+/// to X8), `classes` a copy of them to work on, and `levels` hold none yet. `sought` is what of the paragraph the
+/// rules look for.
 fn resolve_each<L: Ledger>(
     sequences: &Sequences,
     para: &[Unit],
@@ -220,8 +223,8 @@ fn resolve_each<L: Ledger>(
     }
 }
 
-/// W1 to I2 over a paragraph whose explicit levels and sequences were found; `weak` is false only where W1 to W7 can change
-/// none of its classes. It takes the fronts of the class columns.
+/// W1 to I2 over a paragraph whose explicit levels and sequences were found; `weak` is false only where W1 to W7 can
+/// change none of its classes. It takes the fronts of the class columns.
 fn resolve_found<L: Ledger>(
     para: &[Unit],
     weak: bool,
@@ -255,8 +258,8 @@ fn resolve_found<L: Ledger>(
     );
 }
 
-/// W1 to I2 over a flat paragraph whose sequences were found: one, or none; `weak` is false only where W1 to W7 can change
-/// none of its classes. It takes the fronts of the class columns.
+/// W1 to I2 over a flat paragraph whose sequences were found: one, or none; `weak` is false only where W1 to W7 can
+/// change none of its classes. It takes the fronts of the class columns.
 fn resolve_own<L: Ledger>(
     para: &[Unit],
     weak: bool,
@@ -299,8 +302,8 @@ fn kept_level(whole: bool, level: Level, class: Class) -> Option<Level>
     }
 }
 
-/// Gives the positions that remain (X9) this level, and the others none, a step for each. All remain if the paragraph is
-/// `whole`.
+/// Gives the positions that remain (X9) this level, and the others none, a step for each. All remain if the paragraph
+/// is `whole`.
 fn write_level<L: Ledger>(
     para: &[Unit],
     whole: bool,

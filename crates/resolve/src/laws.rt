@@ -29,7 +29,8 @@ pub fn insides_are_few()
     ensures by_opener { (bs : List Bracket) → InsidesAreFewByOpener bs }
 {}
 
-/// The classes after X1 to X8 are the own ones, but for the L or R of an override and the BN of a position that is removed.
+/// The classes after X1 to X8 are the own ones, but for the L or R of an override and the BN of a position that is
+/// removed.
 pub fn classes_are_own()
     ensures { (cs : List Class) (para p : ℕ) → is_imposed (class_at (current_of (explicit_of cs para)) p) ≡ false → class_at (current_of (explicit_of cs para)) p ≡ class_at cs p }
 {}

@@ -31,7 +31,8 @@ fn begins(t: &Leveled, joined: &[bool], p: usize) -> bool
     t.level(p).is_some() && !joined[p]
 }
 
-/// Writes the position that is given, and what its links lead to, into the column from `start` on. Answers where they end.
+/// Writes the position that is given, and what its links lead to, into the column from `start` on. Answers where they
+/// end.
 fn write_linked<L: Ledger>(
     links: &[OptionalPosition],
     first: usize,
@@ -87,8 +88,8 @@ fn make_head(
     }
 }
 
-/// Writes the heads of the sequences in the order of their first positions, and the positions of each in one column, both
-/// from the front on. Answers how many sequences there are.
+/// Writes the heads of the sequences in the order of their first positions, and the positions of each in one column,
+/// both from the front on. Answers how many sequences there are.
 pub fn fill_heads<L: Ledger>(
     t: &Leveled,
     links: &[OptionalPosition],

@@ -11,9 +11,9 @@ use units::class::Class;
 use units::steps::Steps;
 
 /// N1: a run of neutrals and isolate formatting characters takes the direction of the text on its two sides, if they
-/// agree; European and Arabic numbers act as R, and at the ends of the sequence stand sos and eos. N2: any other takes the
-/// embedding direction. `classes` are those of the sequence's paragraph, by position; the ones at positions outside the
-/// sequence stay.
+/// agree; European and Arabic numbers act as R, and at the ends of the sequence stand sos and eos. N2: any other
+/// takes the embedding direction. `classes` are those of the sequence's paragraph, by position; the ones at positions
+/// outside the sequence stay.
 pub fn neutrals<L: Ledger>(s: &Sequence, classes: &mut [Class], steps: &mut Steps<L>)
     requires { length classes.old ≡ s.now.extent }
     ensures classes { Rewrites (after_neutral (direction_of s.now.level) s.now.sos s.now.eos) s.now.positions classes.old classes.new }

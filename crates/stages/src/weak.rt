@@ -1,5 +1,5 @@
-//! The weak types (W1 to W7), a pass for each rule. `classes` are those of the sequence's paragraph, by position; the ones
-//! at positions outside the sequence stay.
+//! The weak types (W1 to W7), a pass for each rule. `classes` are those of the sequence's paragraph, by position; the
+//! ones at positions outside the sequence stay.
 ghost use Rattle.std.specs.Prelude.{◌≡◌, ℕ, ◌+◌, ◌*◌, ◌<◌, ◌≤◌, length, slice_get};
 ghost use Rattle.units.specs.Weak.{after_w1, after_w2, after_w3, after_w4, after_w5, after_w6, after_w7, after_weak, class_or};
 ghost use Rattle.units.specs.declared.class.Class.TheVariants.{ON};
@@ -14,8 +14,8 @@ use std::sync::ledger::Ledger;
 use units::class::Class;
 use units::steps::Steps;
 
-/// W1: each nonspacing mark takes the class of the character before it, or ON where that is an isolate initiator or PDI;
-/// at the start of the sequence it takes sos.
+/// W1: each nonspacing mark takes the class of the character before it, or ON where that is an isolate initiator or
+/// PDI; at the start of the sequence it takes sos.
 pub fn w1<L: Ledger>(s: &Sequence, classes: &mut [Class], steps: &mut Steps<L>)
     requires { length classes.old ≡ s.now.extent }
     ensures classes { Rewrites (after_w1 s.now.sos) s.now.positions classes.old classes.new }
@@ -34,7 +34,8 @@ pub fn w1<L: Ledger>(s: &Sequence, classes: &mut [Class], steps: &mut Steps<L>)
     }
 }
 
-/// W2: a European number becomes an Arabic number if the first strong class found backward from it (R, L, AL or sos) is AL.
+/// W2: a European number becomes an Arabic number if the first strong class found backward from it (R, L, AL or sos)
+/// is AL.
 pub fn w2<L: Ledger>(s: &Sequence, classes: &mut [Class], steps: &mut Steps<L>)
     requires { length classes.old ≡ s.now.extent }
     ensures classes { Rewrites (after_w2 s.now.sos) s.now.positions classes.old classes.new }

@@ -54,9 +54,10 @@ impl BracketTable {
     ghost use Rattle.ucdfiles.specs.Reading.{IsFault};
     ghost use Rattle.ucdfiles.specs.Tables.{bracket_at, IsTableOf};
 
-    /// The bracket table that the source's bytes state, read to the source's end; or the fault of the least faulty line. `Read` is answered
-    /// exactly if the source has failed, and then no line that is complete is faulty, and none that has begun is over-long. `Memory` comes only
-    /// behind a read that did not fail, so it hides no failure from before the call. How far the source was read after a fault is not said.
+    /// The bracket table that the source's bytes state, read to the source's end; or the fault of the least faulty
+    /// line. `Read` is answered exactly if the source has failed, and then no line that is complete is faulty, and
+    /// none that has begun is over-long. `Memory` comes only behind a read that did not fail, so it hides no failure
+    /// from before the call. How far the source was read after a fault is not said.
     pub fn read<S: ByteSource>(alloc: Global, source: &mut S) -> Result<BracketTable, TableFault>
         ensures read { (result ≡ Err TableFault.Read) ↔ (S.failures source.new ≡ 1) }
         ensures ok { IfOk result (λ table. (given : List ℕ) × S.gives source.old given source.new × S.ended source.new × StatesBrackets given (bracket_at table)) }
@@ -74,13 +75,15 @@ impl BracketTable {
     }
 
     #[tactic(auto, unfolding(crate::specs::Tables::bracket_at))]
-    /// The bracket of a character: `No` without a line, else `Open` with the key of its second field or `Close` with the key of its first.
+    /// The bracket of a character: `No` without a line, else `Open` with the key of its second field or `Close` with
+    /// the key of its first.
     pub fn bracket(&self, c: char) -> Bracket
         ensures { result ≡ bracket_at self.now c }
     {
         self.brackets.value(c)
     }
-    /// The brackets, in the order of their code points: a character has the bracket of the span that holds it, and none where none does.
+    /// The brackets, in the order of their code points: a character has the bracket of the span that holds it, and
+    /// none where none does.
     pub(crate) fn spans(&self) -> &[Span<Bracket>]
         ensures { IsTableOf result.now self.now }
     {

@@ -47,9 +47,10 @@ impl ClassTable {
     ghost use Rattle.ucdfiles.specs.Reading.{IsFault};
     ghost use Rattle.ucdfiles.specs.Tables.{class_at};
 
-    /// The class table that the source's bytes state, read to the source's end; or the fault of the least faulty line. `Read` is answered
-    /// exactly if the source has failed, and then no line that is complete is faulty, and none that has begun is over-long. `Memory` comes only
-    /// behind a read that did not fail, so it hides no failure from before the call. How far the source was read after a fault is not said.
+    /// The class table that the source's bytes state, read to the source's end; or the fault of the least faulty
+    /// line. `Read` is answered exactly if the source has failed, and then no line that is complete is faulty, and
+    /// none that has begun is over-long. `Memory` comes only behind a read that did not fail, so it hides no failure
+    /// from before the call. How far the source was read after a fault is not said.
     pub fn read<S: ByteSource>(alloc: Global, source: &mut S) -> Result<ClassTable, TableFault>
         ensures read { (result ≡ Err TableFault.Read) ↔ (S.failures source.new ≡ 1) }
         ensures ok { IfOk result (λ table. (given : List ℕ) × S.gives source.old given source.new × S.ended source.new × StatesClasses given (class_at table)) }
@@ -64,7 +65,8 @@ impl ClassTable {
     }
 
     #[tactic(auto, unfolding(crate::specs::Tables::class_at))]
-    /// The class of a character: that of the one data line that holds it, else that of the last `@missing` line that holds it, else L.
+    /// The class of a character: that of the one data line that holds it, else that of the last `@missing` line that
+    /// holds it, else L.
     pub fn class(&self, c: char) -> Class
         ensures { result ≡ class_at self.now c }
     {

@@ -18,11 +18,12 @@ pub enum Fault {
     TooMany,
 }
 
-/// Why a property file states no table. A fault of a line has the line's number, counted from 1; it is the fault of the least faulty line,
-/// and the first of that line in the order in which its parts are looked at.
+/// Why a property file states no table. A fault of a line has the line's number, counted from 1; it is the fault of
+/// the least faulty line, and the first of that line in the order in which its parts are looked at.
 #[derive(Clone, Copy, Debug, PartialEq, Eq, Error)]
 pub enum TableFault {
-    /// A field is not 4 to 6 upper-case hex digits, or above 10FFFF, or a surrogate in a file of brackets or of mirror images.
+    /// A field is not 4 to 6 upper-case hex digits, or above 10FFFF, or a surrogate in a file of brackets or of
+    /// mirror images.
     #[error("line {0}: not a code point")]
     CodePoint(u64),
     /// A range ends below its start.

@@ -65,9 +65,10 @@ impl MirrorTable {
     ghost use Rattle.ucdfiles.specs.Reading.{IsFault};
     ghost use Rattle.ucdfiles.specs.Tables.{glyph_at};
 
-    /// The mirror table that the source's bytes state, read to the source's end; or the fault of the least faulty line. `Read` is answered
-    /// exactly if the source has failed, and then no line that is complete is faulty, and none that has begun is over-long. `Memory` comes only
-    /// behind a read that did not fail, so it hides no failure from before the call. How far the source was read after a fault is not said.
+    /// The mirror table that the source's bytes state, read to the source's end; or the fault of the least faulty
+    /// line. `Read` is answered exactly if the source has failed, and then no line that is complete is faulty, and
+    /// none that has begun is over-long. `Memory` comes only behind a read that did not fail, so it hides no failure
+    /// from before the call. How far the source was read after a fault is not said.
     pub fn read<S: ByteSource>(alloc: Global, source: &mut S) -> Result<MirrorTable, TableFault>
         ensures read { (result ≡ Err TableFault.Read) ↔ (S.failures source.new ≡ 1) }
         ensures ok { IfOk result (λ table. (given : List ℕ) × S.gives source.old given source.new × S.ended source.new × StatesMirrors given (glyph_at table)) }

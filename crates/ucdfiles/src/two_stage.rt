@@ -16,7 +16,8 @@ pub const BLOCK: usize = 128;
 /// How many blocks the code points have.
 pub const BLOCKS: u32 = 8_704;
 
-/// The place of each block of 128 code points, and the values of the blocks; blocks that follow one another with the same values share them.
+/// The place of each block of 128 code points, and the values of the blocks; blocks that follow one another with the
+/// same values share them.
 #[derive(Drop)]
 pub struct TwoStage<V> {
     places: Vec<u16>,
@@ -33,7 +34,8 @@ impl<V> Model for TwoStage<V> {
     ghost invariant = { λ t. AreStages (record { places = t.places.items; values = t.values.items }) };
 }
 
-// Which of so many code points, from `first` on, the span holds: those from the first place that is answered up to the second.
+// Which of so many code points, from `first` on, the span holds: those from the first place that is answered up to
+// the second.
 fn held_places<V>(span: &Span<V>, first: u32, len: usize) -> (usize, usize)
     ensures bound { result.1 ≤ len }
     ensures before { (k : ℕ) → k < result.0 → holds (first + k) span.now ≡ false }

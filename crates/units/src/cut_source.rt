@@ -6,7 +6,8 @@ ghost use Rattle.units.specs.CutSources.{failures_when};
 use crate::source::{ByteSource, SourceFault};
 use std::marker::Model;
 
-/// Hands out the first bytes of a slice and then fails, for tests. Contracts see the bytes that are left, and whether it has failed.
+/// Hands out the first bytes of a slice and then fails, for tests. Contracts see the bytes that are left, and whether
+/// it has failed.
 #[derive(Drop)]
 pub struct CutSource<'a> {
     left: &'a [u8],

@@ -30,8 +30,9 @@ pub enum Step<'c> {
     TooLong { number: u64 },
 }
 
-/// Cuts a stream of bytes, in whatever pieces it comes, into lines that LF ends. Takes no memory: the line that has begun
-/// is held in a buffer of its own. Contracts see the byte lists that it stands for: those that were handed over, joined.
+/// Cuts a stream of bytes, in whatever pieces it comes, into lines that LF ends. Takes no memory: the line that has
+/// begun is held in a buffer of its own. Contracts see the byte lists that it stands for: those that were handed
+/// over, joined.
 #[derive(Drop)]
 pub struct LineCut {
     buffer: [u8; 65536],
@@ -151,8 +152,9 @@ impl LineCut {
         &self.buffer[..self.len]
     }
 
-    /// Takes the piece through its first LF, or whole where it has none, and answers how many of its bytes were used and
-    /// what they brought. Once a line has been over-long, each piece is used whole and the same `TooLong` is answered.
+    /// Takes the piece through its first LF, or whole where it has none, and answers how many of its bytes were used
+    /// and what they brought. Once a line has been over-long, each piece is used whole and the same `TooLong` is
+    /// answered.
     pub fn take(&mut self, piece: &[u8]) -> (usize, Step<'_>)
         ensures used { result.0 ≤ length piece.now }
         ensures some { 0 < length piece.now → 0 < result.0 }
@@ -178,7 +180,8 @@ impl LineCut {
         }
     }
 
-    /// The number and the bytes of the line that has begun and not ended, if it has a byte. None after an over-long line.
+    /// The number and the bytes of the line that has begun and not ended, if it has a byte. None after an over-long
+    /// line.
     pub fn finish(&self) -> Option<(u64, &[u8])>
         ensures last { (b : List ℕ) → StandsFor self.now b → Finishes b result }
         ensures short { IfSome result (λ last. length last.1.now ≤ 65536) }

@@ -17,8 +17,8 @@ pub enum State {
     Failed,
 }
 
-/// Hands out what a reader gives, at most so many bytes of it. Each error of the reader is a failure, `Interrupted` too,
-/// and so is a byte past the limit.
+/// Hands out what a reader gives, at most so many bytes of it. Each error of the reader is a failure, `Interrupted`
+/// too, and so is a byte past the limit.
 #[derive(Drop)]
 pub struct ReaderSource<R: Read + Drop> {
     reader: R,

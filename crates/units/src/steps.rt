@@ -20,7 +20,8 @@ impl<L: Ledger> Model for Steps<L> {
 }
 
 impl<L: Ledger> Steps<L> {
-    /// No step yet. The blank gives the count its name (`Blank::new(1)`, in a function over `L: Ledger` that is called with `Brand`).
+    /// No step yet. The blank gives the count its name (`Blank::new(1)`, in a function over `L: Ledger` that is
+    /// called with `Brand`).
     pub fn new(blank: Blank) -> Self
         requires name { blank.name ≡ L.name }
         requires parts { blank.parts ≡ L.parts }

@@ -9,7 +9,8 @@ use std::test::Fail;
 use ucdfiles::tables::Tables;
 use units::memory::Memory;
 
-/// 4,096 bytes: behind this one, each is 197 times the one before it, plus the index of that one, in the last eight bits.
+/// 4,096 bytes: behind this one, each is 197 times the one before it, plus the index of that one, in the last eight
+/// bits.
 fn arbitrary(first: u8) -> [u8; 4096] {
     let mut bytes = [0; 4096];
     let mut byte = first;

@@ -3,7 +3,7 @@ use Rattle.units.specs.Classes.{classes_of}
 use Rattle.units.specs.Layout.{no_unit}
 use Rattle.units.specs.declared.class.Class.{Class}
 use Rattle.paragraph.specs.ClassSets.{IsSetOf}
-use Rattle.paragraph.proofs.Scan.{classes_more, ends_here, goes_on}
+use Rattle.paragraph.proofs.Scan.{classes_more, goes_on}
 use Rattle.paragraph.proofs.contents.FirstParagraph.of.Goals as goal
 
 pub loop-k-preserved : goal.loop-k-preserved
