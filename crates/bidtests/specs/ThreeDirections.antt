@@ -1,21 +1,28 @@
 -- The verdict as it is where no row can ask for AutoRtl: a bit set is one digit of 1 to 7, and a direction field `0`, `1` or `2`.
-use Rattle.std.specs.Prelude.{Option, ℕ, ◌-◌, ◌&&◌, nat_le, if◌then◌else◌, List, [], ◌∷◌, filter, map, Some, None, codes}
+use Rattle.std.specs.Prelude.{Option, ℕ, Bool, false, ◌-◌, ◌%◌, ◌/◌, ◌==◌, ◌&&◌, nat_le, if◌then◌else◌, List, [], ◌∷◌, filter, map, Some, None, codes}
 use Rattle.std.specs.Str.{bytes_eq}
 use Rattle.units.specs.Text.{lines_of}
 use Rattle.units.specs.declared.bracket.Unit.{Unit as BidiUnit}
 use Rattle.units.specs.declared.level.Direction.{Direction}
-use Rattle.units.specs.declared.level.Direction.TheVariants.{Auto, Ltr, Rtl}
+use Rattle.units.specs.declared.level.Direction.TheVariants.{Auto, Ltr, Rtl, AutoRtl}
 use Rattle.bidtests.specs.declared.kind.Kind.{Kind}
 use Rattle.bidtests.specs.declared.kind.Kind.TheVariants.{Classes, Characters}
 use Rattle.bidtests.specs.declared.verdict.Verdict.{Verdict}
 use Rattle.bidtests.specs.Verdicts.{Finding, verdict_on}
-use Rattle.bidtests.specs.ClassesFile.{ClassesLine, names_direction, classes_line_by, findings_behind}
+use Rattle.bidtests.specs.ClassesFile.{ClassesLine, classes_line_by, findings_behind}
 use Rattle.bidtests.specs.CharactersFile.{characters_line_by}
 use Rattle.bidtests.specs.FileKinds.{unit_by}
 
+-- bit 1 names auto, bit 2 LTR, bit 4 RTL
+abbrev pub names_one_of_three : ℕ → Direction → Bool
+names_one_of_three bits Auto = bits % 2 == 1
+names_one_of_three bits Ltr = bits / 2 % 2 == 1
+names_one_of_three bits Rtl = bits / 4 == 1
+names_one_of_three bits AutoRtl = false
+
 -- the directions that a bit set names: exactly one digit of 1 to 7
 abbrev pub one_digit : List ℕ → Option (List Direction)
-one_digit (d ∷ []) = if nat_le 49 d && nat_le d 55 then Some (filter (names_direction (d - 48)) (Auto ∷ Ltr ∷ Rtl ∷ [])) else None
+one_digit (d ∷ []) = if nat_le 49 d && nat_le d 55 then Some (filter (names_one_of_three (d - 48)) (Auto ∷ Ltr ∷ Rtl ∷ [])) else None
 one_digit _ = None
 
 -- the direction that a direction field asks for

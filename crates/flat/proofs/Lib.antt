@@ -8,5 +8,4 @@ pub mod IdleRules
 pub mod Unbracketed
 pub mod Stages
 pub mod Staying
-pub mod Absences
 pub mod LeftOut

@@ -2,11 +2,13 @@
 ghost use Rattle.std.specs.Prelude.{◌≡◌, ℕ, List, false, true};
 ghost use Rattle.units.specs.Classes.{class_at, is_nonspacing};
 ghost use Rattle.units.specs.Explicit.{explicit_of};
+ghost use Rattle.std.specs.List.{list_any};
 ghost use Rattle.units.specs.Layout.{current_of};
+ghost use Rattle.units.specs.Weak.{after_weak};
 ghost use Rattle.units.specs.declared.bracket.Bracket.{Bracket};
 ghost use Rattle.units.specs.declared.class.Class.{Class};
 ghost use Rattle.resolve.specs.PairLaws.{PairsAreOrdered, PairsNest, PairsAreShallow, InsidesAreFew, InsidesAreFewByOpener};
-ghost use Rattle.resolve.specs.Sought.{is_imposed};
+ghost use Rattle.resolve.specs.Sought.{is_imposed, may_weaken};
 
 /// A pair that counts ends after it begins, within the sequence.
 pub fn pairs_are_ordered()
@@ -38,4 +40,9 @@ pub fn classes_are_own()
 /// What is a mark after X1 to X8 is one by its own class: no override makes a mark.
 pub fn marks_are_own()
     ensures { (cs : List Class) (para p : ℕ) → is_nonspacing (class_at (current_of (explicit_of cs para)) p) ≡ true → is_nonspacing (class_at cs p) ≡ true }
+{}
+
+/// Where no class of a sequence is AL, EN, ES, ET, CS or NSM, W1 to W7 change nothing.
+pub fn weak_rules_are_idle()
+    ensures { (sos : Class) → (cs : List Class) → list_any may_weaken cs ≡ false → after_weak sos cs ≡ cs }
 {}

@@ -1,4 +1,6 @@
 use Rattle.std.proofs.Common.{arith, rules}
+use Rattle.units.specs.Classes.{class_at, classes_of}
+use Rattle.resolve.proofs.OwnClasses.{mark-own}
 use Rattle.paragraph.proofs.Covering.{covered_none, covered_next, copied, length_next, stands_in_all}
 use Rattle.paragraph.proofs.resolver.resolve_each.Goals as goal
 
@@ -15,7 +17,11 @@ resolve_sequence-requires-clause-copy g c =
     copied c.requires.apart c.get-sequence.ensures.value (omega arith) c.loop-k.classes c.args.before.now c.loop-k.invariant.covered.kept
 
 pub resolve_sequence-requires-clause-own : goal.resolve_sequence-requires-clause-own
-resolve_sequence-requires-clause-own g c = λ p h. c.requires.own p (stands_in_all c.requires.apart c.get-sequence.ensures.value (omega arith) p h)
+resolve_sequence-requires-clause-own g c = λ e p h. c.requires.own p (stands_in_all c.requires.apart c.get-sequence.ensures.value (omega arith) p h)
+
+pub resolve_sequence-requires-clause-marks : goal.resolve_sequence-requires-clause-marks
+resolve_sequence-requires-clause-marks g c = λ p h.
+    mark-own (class_at c.args.before.now p) (class_at (classes_of c.args.para.now) p) (c.requires.own p (stands_in_all c.requires.apart c.get-sequence.ensures.value (omega arith) p h))
 
 pub loop-k-preserved : goal.loop-k-preserved
 loop-k-preserved g c = record {
