@@ -123,12 +123,13 @@ fn found_from<L: Ledger>(
     })
 }
 
-/// Checks the classes after W7 of units without brackets and overrides, from left to right.
+/// Checks the classes after W7 and the levels of units without brackets and overrides, from left to right.
 fn assert_weak(
     rt: &impl Abort,
     alloc: Global,
     classes: &[Class],
     after_weak: &[Class],
+    shown: &[u8],
 ) -> Result<(), Memory> {
     let para: Vec<Unit> = classes.iter().map(|class| plain(*class)).collect(alloc)?;
     assert!(rt; is_paragraph(&para));
@@ -144,11 +145,17 @@ fn weak_types(rt: HostRuntime) -> Result<(), Fail> {
     let (l, r, al, en, an) = (Class::L, Class::R, Class::AL, Class::EN, Class::AN);
     let (es, et, cs, nsm, on) = (Class::ES, Class::ET, Class::CS, Class::NSM, Class::ON);
     let marks = [nsm, en, es, en, et, cs, an];
-    assert_weak(&rt, alloc, &marks, &[l, l, l, l, l, on, an])?;
+    assert_weak(&rt, alloc, &marks, &[l, l, l, l, l, on, an], b"0000002")?;
     let terminators = [r, en, cs, en, et, et, nsm];
-    assert_weak(&rt, alloc, &terminators, &[r, en, en, en, en, en, en])?;
-    assert_weak(&rt, alloc, &[al, en, cs, en], &[r, an, an, an])?;
-    assert_weak(&rt, alloc, &[en], &[l])?;
+    assert_weak(
+        &rt,
+        alloc,
+        &terminators,
+        &[r, en, en, en, en, en, en],
+        b"1222222",
+    )?;
+    assert_weak(&rt, alloc, &[al, en, cs, en], &[r, an, an, an], b"1222")?;
+    assert_weak(&rt, alloc, &[en], &[l], b"0")?;
     Ok(())
 }
 
