@@ -4,6 +4,7 @@ pub mod Classes
 pub mod ClassNames
 pub mod Paragraphs
 pub mod Isolates
+pub mod Limits
 pub mod Explicit
 pub mod Runs
 pub mod Weak
@@ -12,6 +13,7 @@ pub mod Neutral
 pub mod Implicit
 pub mod Reordering
 pub mod Layout
+pub mod StandardLimits
 pub mod Rows
 pub mod Text
 pub mod Cuts

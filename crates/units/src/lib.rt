@@ -5,6 +5,7 @@ pub mod bracket;
 pub mod class;
 pub mod cut_source;
 pub mod level;
+pub mod limits;
 pub mod line_cut;
 pub mod memory;
 pub mod optional_position;
