@@ -66,11 +66,11 @@ pub length-after_neutral : (embedding sos eos : Class) (cs : List Class) → len
 unfolding after_neutral
 length-after_neutral embedding sos eos cs = length-at_each _ cs
 
-pub length-levels_of_sequence : (s : SequenceView) (us : List BidiUnit) (before : List Class) → length (levels_of_sequence s us before) ≡ length before
-length-levels_of_sequence s us before =
+pub length-levels_of_sequence : (room : ℕ) (s : SequenceView) (us : List BidiUnit) (before : List Class) → length (levels_of_sequence room s us before) ≡ length before
+length-levels_of_sequence room s us before =
     let weak : List Class = after_weak s.sos before in
-    let paired : List Class = after_brackets s us before weak in
-    length-map (after_rules s us before) (implicit_level s.level)
+    let paired : List Class = after_brackets room s us before weak in
+    length-map (after_rules room s us before) (implicit_level s.level)
     ∙ length-after_neutral (direction_of s.level) s.sos s.eos paired
-    ∙ length-after_paired (direction_of s.level) s.sos before (closer_of (bracket_pairs_of (acting_brackets (units_at us s.positions) weak))) weak
+    ∙ length-after_paired (direction_of s.level) s.sos before (closer_of (bracket_pairs_of room (acting_brackets (units_at us s.positions) weak))) weak
     ∙ length-after_weak s.sos before
