@@ -28,13 +28,13 @@ pub length-of_positions : {A : Type 0} (cs : List Class) (f : ℕ → A) → len
 length-of_positions cs f = length-map (positions_of cs) f ∙ length-positions_from 0 (length cs)
 
 -- the level that the sequences see
-pub level-read : (cs : List Class) (para p : ℕ) → p < length cs → level_of (leveled_of cs para) p ≡ option_map (λ place. place.0) (explicit_at cs para p)
-level-read cs para p h =
-    let n : length (explicit_of cs para) ≡ length cs = length-of_positions cs (explicit_at cs para) in
-    get_or-map (option_map (λ place. place.0)) (explicit_of cs para) p None None (omega (arith, n)) ∙ ap (option_map (λ place. place.0)) (get_or-of_positions cs (explicit_at cs para) p None h)
+pub level-read : (depth : ℕ) (cs : List Class) (para p : ℕ) → p < length cs → level_of (leveled_of depth cs para) p ≡ option_map (λ place. place.0) (explicit_at depth cs para p)
+level-read depth cs para p h =
+    let n : length (explicit_of depth cs para) ≡ length cs = length-of_positions cs (explicit_at depth cs para) in
+    get_or-map (option_map (λ place. place.0)) (explicit_of depth cs para) p None None (omega (arith, n)) ∙ ap (option_map (λ place. place.0)) (get_or-of_positions cs (explicit_at depth cs para) p None h)
 
-pub size-is : (cs : List Class) (para : ℕ) → size_of (leveled_of cs para) ≡ length cs
-size-is cs para = length-map (explicit_of cs para) (option_map (λ place. place.0)) ∙ length-of_positions cs (explicit_at cs para)
+pub size-is : (depth : ℕ) (cs : List Class) (para : ℕ) → size_of (leveled_of depth cs para) ≡ length cs
+size-is depth cs para = length-map (explicit_of depth cs para) (option_map (λ place. place.0)) ∙ length-of_positions cs (explicit_at depth cs para)
 
 -- past the end stands no initiator
 pub opener_within : (cs : List Class) (i : ℕ) → is_isolate_initiator (class_at cs i) ≡ true → i < length cs
@@ -45,8 +45,8 @@ opener_within cs i h =
     ]
 
 -- the matching PDI that the sequences see
-pub matched-is : (cs : List Class) (para i : ℕ) → matched_pdi (leveled_of cs para) i ≡ matching_pdi cs i
-matched-is cs para i =
+pub matched-is : (depth : ℕ) (cs : List Class) (para i : ℕ) → matched_pdi (leveled_of depth cs para) i ≡ matching_pdi cs i
+matched-is depth cs para i =
     elim (cases_Bool (is_isolate_initiator (class_at cs i))) [
       | inl opener ↦ rw opener (get_or-of_positions cs (partner_of cs) i None (opener_within cs i opener) ∙ partner_of_other cs i (opener_is_no_pdi (class_at cs i) opener))
       | inr plain ↦ rw plain (sym (matching_pdi_none cs i plain))
@@ -56,9 +56,9 @@ if_some_level : (place : Option (ℕ × Class)) → IfSome place (λ x. x.0 ≤ 
 if_some_level None h = tt
 if_some_level (Some x) h = h
 
-pub leveled : (cs : List Class) (para : ℕ) → para ≤ 1 → IsLeveled (leveled_of cs para)
-leveled cs para low =
-    let n = size-is cs para in
+pub leveled : (depth : ℕ) (cs : List Class) (para : ℕ) → depth ≤ 125 → para ≤ 1 → IsLeveled (leveled_of depth cs para)
+leveled depth cs para deep low =
+    let n = size-is depth cs para in
     record {
       classes_fit = sym n;
       partners_fit = length-of_positions cs (partner_of cs) ∙ sym n;
@@ -66,16 +66,16 @@ leveled cs para low =
       levels_within = λ p. elim (cases_lt p (length cs)) [
         | inl lt ↦
             let P : Option ℕ → Type 0 = λ o. IfSome o (λ l. l ≤ 125) in
-            subst P (sym (level-read cs para p lt)) (if_some_level (explicit_at cs para p) (level-at_most cs para p (omega arith)))
+            subst P (sym (level-read depth cs para p lt)) (if_some_level (explicit_at depth cs para p) (level-at_most depth cs para p 125 deep (omega arith)))
         | inr past ↦
             let P : Option ℕ → Type 0 = λ o. IfSome o (λ l. l ≤ 125) in
-            subst P (sym (get_or_past (leveled_of cs para).levels p None (omega (arith, n)))) tt
+            subst P (sym (get_or_past (leveled_of depth cs para).levels p None (omega (arith, n)))) tt
       ];
-      later = λ i. later i (matched_pdi (leveled_of cs para) i) refl;
+      later = λ i. later i (matched_pdi (leveled_of depth cs para) i) refl;
     }
   where
-    later : (i : ℕ) (m : Option ℕ) → matched_pdi (leveled_of cs para) i ≡ m → IfSome m (λ q. (i < q) × (q < size_of (leveled_of cs para)))
+    later : (i : ℕ) (m : Option ℕ) → matched_pdi (leveled_of depth cs para) i ≡ m → IfSome m (λ q. (i < q) × (q < size_of (leveled_of depth cs para)))
     later i None e = tt
     later i (Some q) e =
-        let b = match_bounds cs i q (sym (matched-is cs para i) ∙ e) in
-        (b.0, omega (arith, b.1, size-is cs para))
+        let b = match_bounds cs i q (sym (matched-is depth cs para i) ∙ e) in
+        (b.0, omega (arith, b.1, size-is depth cs para))

@@ -130,8 +130,8 @@ pub holders-matched : (cs : List Class) (i j : ℕ) → matching_pdi cs i ≡ So
 holders-matched cs i zero h = absurd (let b = match_bounds cs i 0 h in omega (arith, b.0))
 holders-matched cs i (suc y) h = closed cs i y h (role (class_at cs (suc y)))
 
-pub level-placed : (cs : List Class) (para p : ℕ) → is_removed (class_at cs p) ≡ false → is_separator (class_at cs p) ≡ false → option_map (λ x. x.0) (explicit_at cs para p) ≡ Some (state_within cs para (holders cs p)).level
-level-placed cs para p r s = ap (option_map (λ x. x.0)) (sym (explicit-placed cs para p)) ∙ rw (r, s) refl
+pub level-placed : (depth : ℕ) (cs : List Class) (para p : ℕ) → is_removed (class_at cs p) ≡ false → is_separator (class_at cs p) ≡ false → option_map (λ x. x.0) (explicit_at depth cs para p) ≡ Some (state_within depth cs para (holders cs p)).level
+level-placed depth cs para p r s = ap (option_map (λ x. x.0)) (sym (explicit-placed depth cs para p)) ∙ rw (r, s) refl
 
 isolate-remains : (c : Class) → is_isolate_initiator c ≡ true → (is_removed c ≡ false) × (is_separator c ≡ false)
 isolate-remains LRI h = (refl, refl)
@@ -144,24 +144,24 @@ pdi-remains PDI h = (refl, refl)
 pdi-remains c h = absurd (cc)
 
 -- an isolate initiator has the level of what holds it
-pub level-of_isolate : (cs : List Class) (para i : ℕ) → is_isolate cs i ≡ true → option_map (λ x. x.0) (explicit_at cs para i) ≡ Some (state_within cs para (holders cs i)).level
-level-of_isolate cs para i h = let a = isolate-remains (class_at cs i) h in level-placed cs para i a.0 a.1
+pub level-of_isolate : (depth : ℕ) (cs : List Class) (para i : ℕ) → is_isolate cs i ≡ true → option_map (λ x. x.0) (explicit_at depth cs para i) ≡ Some (state_within depth cs para (holders cs i)).level
+level-of_isolate depth cs para i h = let a = isolate-remains (class_at cs i) h in level-placed depth cs para i a.0 a.1
 
 -- so their levels are equal
-pub levels-matched : (cs : List Class) (para i j : ℕ) → matching_pdi cs i ≡ Some j → option_map (λ x. x.0) (explicit_at cs para i) ≡ option_map (λ x. x.0) (explicit_at cs para j)
-levels-matched cs para i j h =
+pub levels-matched : (depth : ℕ) (cs : List Class) (para i j : ℕ) → matching_pdi cs i ≡ Some j → option_map (λ x. x.0) (explicit_at depth cs para i) ≡ option_map (λ x. x.0) (explicit_at depth cs para j)
+levels-matched depth cs para i j h =
     let b = pdi-remains (class_at cs j) (match_is_pdi cs i j h) in
-    level-of_isolate cs para i (matching_pdi_opens cs i j h) ∙ ap (λ qs. Some (state_within cs para qs).level) (sym (holders-matched cs i j h)) ∙ sym (level-placed cs para j b.0 b.1)
+    level-of_isolate depth cs para i (matching_pdi_opens cs i j h) ∙ ap (λ qs. Some (state_within depth cs para qs).level) (sym (holders-matched cs i j h)) ∙ sym (level-placed depth cs para j b.0 b.1)
 
-placed-bounded : (s : State) (para : ℕ) (own : Class) → s.level ≤ 125 → para ≤ 125 → IfSome (placed s para own) (λ place. place.0 ≤ 125)
-placed-bounded s para own a b =
+placed-bounded : (s : State) (para : ℕ) (own : Class) (most : ℕ) → s.level ≤ most → para ≤ most → IfSome (placed s para own) (λ place. place.0 ≤ most)
+placed-bounded s para own most a b =
     elim (cases_Bool (is_removed own)) [
       | inl u ↦ rw u tt
       | inr u ↦ elim (cases_Bool (is_separator own)) [ inl v ↦ rw (u, v) b | inr v ↦ rw (u, v) a ]
     ]
 
--- no level is above 125
-pub level-at_most : (cs : List Class) (para p : ℕ) → para ≤ 125 → IfSome (explicit_at cs para p) (λ place. place.0 ≤ 125)
-level-at_most cs para p b =
-    let P : Option (ℕ × Class) → Type 0 = λ o. IfSome o (λ place. place.0 ≤ 125) in
-    subst P (explicit-placed cs para p) (placed-bounded (state_within cs para (holders cs p)) para (class_at cs p) (level-bound cs para (holders cs p) b) b)
+-- no level is above what neither the depth nor the paragraph's level is above
+pub level-at_most : (depth : ℕ) (cs : List Class) (para p most : ℕ) → depth ≤ most → para ≤ most → IfSome (explicit_at depth cs para p) (λ place. place.0 ≤ most)
+level-at_most depth cs para p most d b =
+    let P : Option (ℕ × Class) → Type 0 = λ o. IfSome o (λ place. place.0 ≤ most) in
+    subst P (explicit-placed depth cs para p) (placed-bounded (state_within depth cs para (holders cs p)) para (class_at cs p) most (level-bound depth cs para (holders cs p) most d b) b)

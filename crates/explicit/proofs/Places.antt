@@ -47,34 +47,34 @@ fold-snoc f s [] x = refl
 fold-snoc f s (y ∷ xs) x = fold-snoc f (f s y) xs x
 
 -- what holds inside a rising list of initiators, or the same list falling
-within-filtered : (cs : List Class) (para : ℕ) (t : ℕ → Bool) (p : ℕ) → state_of cs para (filter t (positions_from 0 p)) ≡ state_within cs para (filter t (below p))
-within-filtered cs para t zero = refl
-within-filtered cs para t (suc p) =
-    let ih = within-filtered cs para t p in
+within-filtered : (depth : ℕ) (cs : List Class) (para : ℕ) (t : ℕ → Bool) (p : ℕ) → state_of depth cs para (filter t (positions_from 0 p)) ≡ state_within depth cs para (filter t (below p))
+within-filtered depth cs para t zero = refl
+within-filtered depth cs para t (suc p) =
+    let ih = within-filtered depth cs para t p in
     let start : State = record { level = para; override = None; sound = true } in
     let more : positions_from 0 (suc p) ≡ positions_from 0 p ++ p ∷ [] = positions_from-next 0 p ∙ ap (λ k. positions_from 0 p ++ k ∷ []) (zero-add p) in
-    ap (λ xs. state_of cs para (filter t xs)) more
-    ∙ ap (state_of cs para) (filter-append t (positions_from 0 p) (p ∷ []))
+    ap (λ xs. state_of depth cs para (filter t xs)) more
+    ∙ ap (state_of depth cs para) (filter-append t (positions_from 0 p) (p ∷ []))
     ∙ elim (cases_Bool (t p)) [
-      | inl u ↦ rw u (fold-snoc (entered cs) start (filter t (positions_from 0 p)) p ∙ ap (λ s. entered cs s p) ih)
-      | inr u ↦ rw u (ap (state_of cs para) (append-nil (filter t (positions_from 0 p))) ∙ ih)
+      | inl u ↦ rw u (fold-snoc (entered depth cs) start (filter t (positions_from 0 p)) p ∙ ap (λ s. entered depth cs s p) ih)
+      | inr u ↦ rw u (ap (state_of depth cs para) (append-nil (filter t (positions_from 0 p))) ∙ ih)
     ]
 
-pub state-of_chain : (cs : List Class) (para p : ℕ) → state_of cs para (chain cs p) ≡ state_within cs para (holders cs p)
+pub state-of_chain : (depth : ℕ) (cs : List Class) (para p : ℕ) → state_of depth cs para (chain cs p) ≡ state_within depth cs para (holders cs p)
 unfolding chain
-state-of_chain cs para p = within-filtered cs para (holds cs p) p
+state-of_chain depth cs para p = within-filtered depth cs para (holds cs p) p
 
 -- the level and the class at p by what holds inside the initiators that hold it
-pub explicit-placed : (cs : List Class) (para p : ℕ) → placed (state_within cs para (holders cs p)) para (class_at cs p) ≡ explicit_at cs para p
+pub explicit-placed : (depth : ℕ) (cs : List Class) (para p : ℕ) → placed (state_within depth cs para (holders cs p)) para (class_at cs p) ≡ explicit_at depth cs para p
 unfolding explicit_at
-explicit-placed cs para p = ap (λ s. placed s para (class_at cs p)) (sym (state-of_chain cs para p))
+explicit-placed depth cs para p = ap (λ s. placed s para (class_at cs p)) (sym (state-of_chain depth cs para p))
 
 -- what the pass keeps when it comes to p
-pub is-kept : (para : List Unit) (base p : ℕ) (n : StatusStack) → base ≤ 1 → p < 2 ^ 63 → Represents (classes_of para) base (holders (classes_of para) p) n → IsKept n
-is-kept para base p n b l r = record { classes = classes_of para; para = base; initiators = holders (classes_of para) p; represents = r; base = b; few = omega (arith, holders-few (classes_of para) p) }
+pub is-kept : (depth : ℕ) (para : List Unit) (base p : ℕ) (n : StatusStack) → depth ≤ 125 → base ≤ 1 → p < 2 ^ 63 → Represents depth (classes_of para) base (holders (classes_of para) p) n → IsKept n
+is-kept depth para base p n d b l r = record { depth = depth; classes = classes_of para; para = base; initiators = holders (classes_of para) p; represents = r; base = b; within = d; few = omega (arith, holders-few (classes_of para) p) }
 
-pub left-is : (cs : List Class) (base p : ℕ) (class : Class) (n : StatusStack) → p < length cs → class ≡ class_at cs p → Represents cs base (left_open cs class (open_before cs p)) n → Represents cs base (holders cs p) n
-left-is cs base p class n l e r = let P : List ℕ → Type 0 = λ qs. Represents cs base qs n in subst P (ap (λ k. left_open cs k (open_before cs p)) e ∙ left_before cs p l) r
+pub left-is : (depth : ℕ) (cs : List Class) (base p : ℕ) (class : Class) (n : StatusStack) → p < length cs → class ≡ class_at cs p → Represents depth cs base (left_open cs class (open_before cs p)) n → Represents depth cs base (holders cs p) n
+left-is depth cs base p class n l e r = let P : List ℕ → Type 0 = λ qs. Represents depth cs base qs n in subst P (ap (λ k. left_open cs k (open_before cs p)) e ∙ left_before cs p l) r
 
 -- the chain is the same list the other way round
 chain-filtered : (t : ℕ → Bool) (p : ℕ) → filter t (positions_from 0 p) ≡ reverse (filter t (below p))
@@ -93,12 +93,12 @@ unfolding chain
 chain-reversed cs p = chain-filtered (holds cs p) p
 
 -- what the pass keeps at p, after what the class there closes
-pub kept-at : (para : List Unit) (base p : ℕ) (class : Class) (n : StatusStack) → base ≤ 1 → p < length para → p < 2 ^ 63 → class ≡ class_at (classes_of para) p → Represents (classes_of para) base (left_open (classes_of para) class (open_before (classes_of para) p)) n → IsKept n
-kept-at para base p class n b l s e r = is-kept para base p n b s (left-is (classes_of para) base p class n (omega (arith, length-map para (λ unit. unit.class))) e r)
+pub kept-at : (depth : ℕ) (para : List Unit) (base p : ℕ) (class : Class) (n : StatusStack) → depth ≤ 125 → base ≤ 1 → p < length para → p < 2 ^ 63 → class ≡ class_at (classes_of para) p → Represents depth (classes_of para) base (left_open (classes_of para) class (open_before (classes_of para) p)) n → IsKept n
+kept-at depth para base p class n d b l s e r = is-kept depth para base p n d b s (left-is depth (classes_of para) base p class n (omega (arith, length-map para (λ unit. unit.class))) e r)
 
 -- the places that are found, one more
-pub places-more : (cs : List Class) (base p : ℕ) (places : List (Option (ℕ × Class))) (place : Option (ℕ × Class)) → p < length places → place ≡ explicit_at cs base p → ((k : ℕ) → k < p → get_or places k None ≡ explicit_at cs base k) → (k : ℕ) → k < p + 1 → get_or (set places p place) k None ≡ explicit_at cs base k
-places-more cs base p places place room found below k h =
+pub places-more : (depth : ℕ) (cs : List Class) (base p : ℕ) (places : List (Option (ℕ × Class))) (place : Option (ℕ × Class)) → p < length places → place ≡ explicit_at depth cs base p → ((k : ℕ) → k < p → get_or places k None ≡ explicit_at depth cs base k) → (k : ℕ) → k < p + 1 → get_or (set places p place) k None ≡ explicit_at depth cs base k
+places-more depth cs base p places place room found below k h =
     elim (cases_eq k p) [
       | inl here ↦ rw here (get_or-set_same places p place None room ∙ found)
       | inr other ↦ get_or-set_other places p k place None other ∙ below k (omega arith)
@@ -144,5 +144,5 @@ placed-none s para own =
       | inr kept ↦ elim (cases_Bool (is_separator own)) [ inl last ↦ rw (kept, last) refl | inr other ↦ rw (kept, other) refl ]
     ]
 
-pub explicit-none : (cs : List Class) (para p : ℕ) → is_none (explicit_at cs para p) ≡ is_removed (class_at cs p)
-explicit-none cs para p = ap is_none (sym (explicit-placed cs para p)) ∙ placed-none (state_within cs para (holders cs p)) para (class_at cs p)
+pub explicit-none : (depth : ℕ) (cs : List Class) (para p : ℕ) → is_none (explicit_at depth cs para p) ≡ is_removed (class_at cs p)
+explicit-none depth cs para p = ap is_none (sym (explicit-placed depth cs para p)) ∙ placed-none (state_within depth cs para (holders cs p)) para (class_at cs p)

@@ -3,15 +3,15 @@ use Rattle.std.proofs.Common.{◌≡◌, ℕ, ◌+◌, ◌<◌, ◌≤◌, Bool,
 use Rattle.std.specs.Prelude.{nat_le, nat_lt}
 use Rattle.std.proofs.lemmas.Bool.{cases_Bool, false≢true, and_parts, leb-true, lt-ltb}
 use Rattle.units.specs.Classes.{class_at}
-use Rattle.units.specs.Explicit.{State, entered, wanted_level, wants_odd, override_of, max_depth}
+use Rattle.units.specs.Explicit.{State, entered, wanted_level, wants_odd, override_of}
 use Rattle.units.specs.declared.class.Class.{Class}
 use Rattle.explicit.specs.OpenInitiators.{is_isolate}
 use Rattle.explicit.specs.StatusStacks.{state_within, is_taken, entry_of, entry_at, entries_of, taken_isolates, refused_isolates, refused_embeddings}
 use Rattle.explicit.specs.declared.status.Status.{Status}
 
 -- the level that the initiator at q asks for within these
-abbrev pub asked : List Class → ℕ → ℕ → List ℕ → ℕ
-asked cs para q qs = wanted_level cs (state_within cs para qs).level q
+abbrev pub asked : ℕ → List Class → ℕ → ℕ → List ℕ → ℕ
+asked depth cs para q qs = wanted_level cs (state_within depth cs para qs).level q
 
 pick-sound : (b : Bool) (x y : State) → x.sound ≡ true → y.sound ≡ false → (cond b x y).sound ≡ b
 pick-sound true x y h k = h
@@ -23,35 +23,35 @@ pick-true b x y h = rw h refl
 pick-false : (b : Bool) (x y : State) → b ≡ false → cond b x y ≡ y
 pick-false b x y h = rw h refl
 
-pub taken_is : (cs : List Class) (para q : ℕ) (qs : List ℕ) → is_taken cs para q qs ≡ ((state_within cs para qs).sound && nat_le (asked cs para q qs) max_depth)
+pub taken_is : (depth : ℕ) (cs : List Class) (para q : ℕ) (qs : List ℕ) → is_taken depth cs para q qs ≡ ((state_within depth cs para qs).sound && nat_le (asked depth cs para q qs) depth)
 unfolding entered
-taken_is cs para q qs = pick-sound ((state_within cs para qs).sound && nat_le (asked cs para q qs) max_depth) (record { level = asked cs para q qs; override = override_of (class_at cs q); sound = true }) (record { level = (state_within cs para qs).level; override = (state_within cs para qs).override; sound = false }) refl refl
+taken_is depth cs para q qs = pick-sound ((state_within depth cs para qs).sound && nat_le (asked depth cs para q qs) depth) (record { level = asked depth cs para q qs; override = override_of (class_at cs q); sound = true }) (record { level = (state_within depth cs para qs).level; override = (state_within depth cs para qs).override; sound = false }) refl refl
 
-pub state-taken : (cs : List Class) (para q : ℕ) (qs : List ℕ) → is_taken cs para q qs ≡ true → state_within cs para (q ∷ qs) ≡ record { level = asked cs para q qs; override = override_of (class_at cs q); sound = true }
+pub state-taken : (depth : ℕ) (cs : List Class) (para q : ℕ) (qs : List ℕ) → is_taken depth cs para q qs ≡ true → state_within depth cs para (q ∷ qs) ≡ record { level = asked depth cs para q qs; override = override_of (class_at cs q); sound = true }
 unfolding entered
-state-taken cs para q qs h = pick-true _ _ _ (sym (taken_is cs para q qs) ∙ h)
+state-taken depth cs para q qs h = pick-true _ _ _ (sym (taken_is depth cs para q qs) ∙ h)
 
-pub state-refused : (cs : List Class) (para q : ℕ) (qs : List ℕ) → is_taken cs para q qs ≡ false → state_within cs para (q ∷ qs) ≡ record { level = (state_within cs para qs).level; override = (state_within cs para qs).override; sound = false }
+pub state-refused : (depth : ℕ) (cs : List Class) (para q : ℕ) (qs : List ℕ) → is_taken depth cs para q qs ≡ false → state_within depth cs para (q ∷ qs) ≡ record { level = (state_within depth cs para qs).level; override = (state_within depth cs para qs).override; sound = false }
 unfolding entered
-state-refused cs para q qs h = pick-false _ _ _ (sym (taken_is cs para q qs) ∙ h)
+state-refused depth cs para q qs h = pick-false _ _ _ (sym (taken_is depth cs para q qs) ∙ h)
 
 -- what is taken lies only within what is taken
-pub taken-outer : (cs : List Class) (para q : ℕ) (qs : List ℕ) → is_taken cs para q qs ≡ true → (state_within cs para qs).sound ≡ true
-taken-outer cs para q qs h = (and_parts (state_within cs para qs).sound (nat_le (asked cs para q qs) max_depth) (sym (taken_is cs para q qs) ∙ h)).0
+pub taken-outer : (depth : ℕ) (cs : List Class) (para q : ℕ) (qs : List ℕ) → is_taken depth cs para q qs ≡ true → (state_within depth cs para qs).sound ≡ true
+taken-outer depth cs para q qs h = (and_parts (state_within depth cs para qs).sound (nat_le (asked depth cs para q qs) depth) (sym (taken_is depth cs para q qs) ∙ h)).0
 
-pub none_refused : (cs : List Class) (para : ℕ) (qs : List ℕ) → (state_within cs para qs).sound ≡ true → (refused_isolates cs para qs ≡ 0) × (refused_embeddings cs para qs ≡ 0)
-none_refused cs para [] h = (refl, refl)
-none_refused cs para (q ∷ qs) h =
-    let ih = none_refused cs para qs (taken-outer cs para q qs h) in
+pub none_refused : (depth : ℕ) (cs : List Class) (para : ℕ) (qs : List ℕ) → (state_within depth cs para qs).sound ≡ true → (refused_isolates depth cs para qs ≡ 0) × (refused_embeddings depth cs para qs ≡ 0)
+none_refused depth cs para [] h = (refl, refl)
+none_refused depth cs para (q ∷ qs) h =
+    let ih = none_refused depth cs para qs (taken-outer depth cs para q qs h) in
     (rw (h, ih.0) refl, rw (h, ih.1) refl)
 
-pub some_refused : (cs : List Class) (para : ℕ) (qs : List ℕ) → (state_within cs para qs).sound ≡ false → 0 < refused_isolates cs para qs + refused_embeddings cs para qs
-some_refused cs para [] h = absurd (false≢true (sym h))
-some_refused cs para (q ∷ qs) h =
+pub some_refused : (depth : ℕ) (cs : List Class) (para : ℕ) (qs : List ℕ) → (state_within depth cs para qs).sound ≡ false → 0 < refused_isolates depth cs para qs + refused_embeddings depth cs para qs
+some_refused depth cs para [] h = absurd (false≢true (sym h))
+some_refused depth cs para (q ∷ qs) h =
     elim (cases_Bool (is_isolate cs q)) [
       | inl u ↦ rw (h, u) (omega arith)
-      | inr u ↦ elim (cases_Bool (nat_lt 0 (refused_isolates cs para qs))) [
-        | inl v ↦ rw (h, u, v) (let k : 0 < refused_isolates cs para qs = leb-true 1 (refused_isolates cs para qs) v in omega arith)
+      | inr u ↦ elim (cases_Bool (nat_lt 0 (refused_isolates depth cs para qs))) [
+        | inl v ↦ rw (h, u, v) (let k : 0 < refused_isolates depth cs para qs = leb-true 1 (refused_isolates depth cs para qs) v in omega arith)
         | inr v ↦ rw (h, u, v) (omega arith)
       ]
     ]
@@ -59,79 +59,79 @@ some_refused cs para (q ∷ qs) h =
 pub next-above : (cs : List Class) (level q : ℕ) → level < wanted_level cs level q
 next-above cs level q = elim (cases_Bool (wants_odd cs q (class_at cs q))) [ inl u ↦ rw u (omega arith) | inr u ↦ rw u (omega arith) ]
 
-pub level-bound : (cs : List Class) (para : ℕ) (qs : List ℕ) → para ≤ 125 → (state_within cs para qs).level ≤ 125
-level-bound cs para [] h = h
-level-bound cs para (q ∷ qs) h =
-    elim (cases_Bool (is_taken cs para q qs)) [
-      | inl u ↦ rw (state-taken cs para q qs u) (leb-true (asked cs para q qs) 125 (and_parts (state_within cs para qs).sound (nat_le (asked cs para q qs) max_depth) (sym (taken_is cs para q qs) ∙ u)).1)
-      | inr u ↦ rw (state-refused cs para q qs u) (level-bound cs para qs h)
+pub level-bound : (depth : ℕ) (cs : List Class) (para : ℕ) (qs : List ℕ) (most : ℕ) → depth ≤ most → para ≤ most → (state_within depth cs para qs).level ≤ most
+level-bound depth cs para [] most d h = h
+level-bound depth cs para (q ∷ qs) most d h =
+    elim (cases_Bool (is_taken depth cs para q qs)) [
+      | inl u ↦ rw (state-taken depth cs para q qs u) (let a : asked depth cs para q qs ≤ depth = leb-true (asked depth cs para q qs) depth (and_parts (state_within depth cs para qs).sound (nat_le (asked depth cs para q qs) depth) (sym (taken_is depth cs para q qs) ∙ u)).1 in omega arith)
+      | inr u ↦ rw (state-refused depth cs para q qs u) (level-bound depth cs para qs most d h)
     ]
 
 -- the levels rise, so the entries are few
-pub entries-few : (cs : List Class) (para : ℕ) (qs : List ℕ) → length (entries_of cs para qs) ≤ (state_within cs para qs).level + 1
-entries-few cs para [] = omega arith
-entries-few cs para (q ∷ qs) =
-    let ih = entries-few cs para qs in
-    elim (cases_Bool (is_taken cs para q qs)) [
+pub entries-few : (depth : ℕ) (cs : List Class) (para : ℕ) (qs : List ℕ) → length (entries_of depth cs para qs) ≤ (state_within depth cs para qs).level + 1
+entries-few depth cs para [] = omega arith
+entries-few depth cs para (q ∷ qs) =
+    let ih = entries-few depth cs para qs in
+    elim (cases_Bool (is_taken depth cs para q qs)) [
       | inl u ↦
-          let n : length (entries_of cs para qs ++ entry_of (state_within cs para (q ∷ qs)) (is_isolate cs q) ∷ []) ≡ length (entries_of cs para qs) + 1 = length-append (entries_of cs para qs) (entry_of (state_within cs para (q ∷ qs)) (is_isolate cs q) ∷ []) in
-          let a : (state_within cs para qs).level < asked cs para q qs = next-above cs (state_within cs para qs).level q in
-          rw u (rw (n, state-taken cs para q qs u) (omega (arith, ih, a)))
-      | inr u ↦ rw u (rw (state-refused cs para q qs u) ih)
+          let n : length (entries_of depth cs para qs ++ entry_of (state_within depth cs para (q ∷ qs)) (is_isolate cs q) ∷ []) ≡ length (entries_of depth cs para qs) + 1 = length-append (entries_of depth cs para qs) (entry_of (state_within depth cs para (q ∷ qs)) (is_isolate cs q) ∷ []) in
+          let a : (state_within depth cs para qs).level < asked depth cs para q qs = next-above cs (state_within depth cs para qs).level q in
+          rw u (rw (n, state-taken depth cs para q qs u) (omega (arith, ih, a)))
+      | inr u ↦ rw u (rw (state-refused depth cs para q qs u) ih)
     ]
 
 -- what one more initiator adds
-pub record Adds (cs : List Class) (para q : ℕ) (qs : List ℕ) (entry : List Status) (isolates embeddings taken : ℕ) : Type 0 where
-  pub entry_is : entries_of cs para (q ∷ qs) ≡ entries_of cs para qs ++ entry
-  pub isolates_is : refused_isolates cs para (q ∷ qs) ≡ isolates + refused_isolates cs para qs
-  pub embeddings_is : refused_embeddings cs para (q ∷ qs) ≡ embeddings + refused_embeddings cs para qs
-  pub taken_isolates_is : taken_isolates cs para (q ∷ qs) ≡ taken + taken_isolates cs para qs
+pub record Adds (depth : ℕ) (cs : List Class) (para q : ℕ) (qs : List ℕ) (entry : List Status) (isolates embeddings taken : ℕ) : Type 0 where
+  pub entry_is : entries_of depth cs para (q ∷ qs) ≡ entries_of depth cs para qs ++ entry
+  pub isolates_is : refused_isolates depth cs para (q ∷ qs) ≡ isolates + refused_isolates depth cs para qs
+  pub embeddings_is : refused_embeddings depth cs para (q ∷ qs) ≡ embeddings + refused_embeddings depth cs para qs
+  pub taken_isolates_is : taken_isolates depth cs para (q ∷ qs) ≡ taken + taken_isolates depth cs para qs
 
-pub adds-taken : (cs : List Class) (para q : ℕ) (qs : List ℕ) → is_taken cs para q qs ≡ true → Adds cs para q qs (entry_at cs para q qs ∷ []) 0 0 (cond (is_isolate cs q) 1 0)
-adds-taken cs para q qs t = record { entry_is = rw t refl; isolates_is = rw t refl; embeddings_is = rw t refl; taken_isolates_is = rw t refl }
+pub adds-taken : (depth : ℕ) (cs : List Class) (para q : ℕ) (qs : List ℕ) → is_taken depth cs para q qs ≡ true → Adds depth cs para q qs (entry_at depth cs para q qs ∷ []) 0 0 (cond (is_isolate cs q) 1 0)
+adds-taken depth cs para q qs t = record { entry_is = rw t refl; isolates_is = rw t refl; embeddings_is = rw t refl; taken_isolates_is = rw t refl }
 
-pub adds-isolate : (cs : List Class) (para q : ℕ) (qs : List ℕ) → is_taken cs para q qs ≡ false → is_isolate cs q ≡ true → Adds cs para q qs [] 1 0 0
-adds-isolate cs para q qs t u = record { entry_is = rw t (sym (append-nil (entries_of cs para qs))); isolates_is = rw (t, u) refl; embeddings_is = rw (t, u) refl; taken_isolates_is = rw t refl }
+pub adds-isolate : (depth : ℕ) (cs : List Class) (para q : ℕ) (qs : List ℕ) → is_taken depth cs para q qs ≡ false → is_isolate cs q ≡ true → Adds depth cs para q qs [] 1 0 0
+adds-isolate depth cs para q qs t u = record { entry_is = rw t (sym (append-nil (entries_of depth cs para qs))); isolates_is = rw (t, u) refl; embeddings_is = rw (t, u) refl; taken_isolates_is = rw t refl }
 
-pub adds-embedding_within : (cs : List Class) (para q : ℕ) (qs : List ℕ) → is_taken cs para q qs ≡ false → is_isolate cs q ≡ false → 0 < refused_isolates cs para qs → Adds cs para q qs [] 0 0 0
-adds-embedding_within cs para q qs t u h = record { entry_is = rw t (sym (append-nil (entries_of cs para qs))); isolates_is = rw (t, u) refl; embeddings_is = rw (t, u, lt-ltb 0 (refused_isolates cs para qs) h) refl; taken_isolates_is = rw t refl }
+pub adds-embedding_within : (depth : ℕ) (cs : List Class) (para q : ℕ) (qs : List ℕ) → is_taken depth cs para q qs ≡ false → is_isolate cs q ≡ false → 0 < refused_isolates depth cs para qs → Adds depth cs para q qs [] 0 0 0
+adds-embedding_within depth cs para q qs t u h = record { entry_is = rw t (sym (append-nil (entries_of depth cs para qs))); isolates_is = rw (t, u) refl; embeddings_is = rw (t, u, lt-ltb 0 (refused_isolates depth cs para qs) h) refl; taken_isolates_is = rw t refl }
 
-pub adds-embedding : (cs : List Class) (para q : ℕ) (qs : List ℕ) → is_taken cs para q qs ≡ false → is_isolate cs q ≡ false → refused_isolates cs para qs ≡ 0 → Adds cs para q qs [] 0 1 0
-adds-embedding cs para q qs t u h = record { entry_is = rw t (sym (append-nil (entries_of cs para qs))); isolates_is = rw (t, u) refl; embeddings_is = rw (t, u, h) refl; taken_isolates_is = rw t refl }
+pub adds-embedding : (depth : ℕ) (cs : List Class) (para q : ℕ) (qs : List ℕ) → is_taken depth cs para q qs ≡ false → is_isolate cs q ≡ false → refused_isolates depth cs para qs ≡ 0 → Adds depth cs para q qs [] 0 1 0
+adds-embedding depth cs para q qs t u h = record { entry_is = rw t (sym (append-nil (entries_of depth cs para qs))); isolates_is = rw (t, u) refl; embeddings_is = rw (t, u, h) refl; taken_isolates_is = rw t refl }
 
 -- as many as there are initiators, at most
-pub refused_isolates-few : (cs : List Class) (para : ℕ) (qs : List ℕ) → refused_isolates cs para qs ≤ length qs
-refused_isolates-few cs para [] = omega arith
-refused_isolates-few cs para (q ∷ qs) =
-    let ih = refused_isolates-few cs para qs in
-    elim (cases_Bool (is_taken cs para q qs)) [
+pub refused_isolates-few : (depth : ℕ) (cs : List Class) (para : ℕ) (qs : List ℕ) → refused_isolates depth cs para qs ≤ length qs
+refused_isolates-few depth cs para [] = omega arith
+refused_isolates-few depth cs para (q ∷ qs) =
+    let ih = refused_isolates-few depth cs para qs in
+    elim (cases_Bool (is_taken depth cs para q qs)) [
       | inl t ↦ rw t (omega (arith, ih))
       | inr t ↦ elim (cases_Bool (is_isolate cs q)) [ inl u ↦ rw (t, u) (omega (arith, ih)) | inr u ↦ rw (t, u) (omega (arith, ih)) ]
     ]
 
-pub refused_embeddings-few : (cs : List Class) (para : ℕ) (qs : List ℕ) → refused_embeddings cs para qs ≤ length qs
-refused_embeddings-few cs para [] = omega arith
-refused_embeddings-few cs para (q ∷ qs) =
-    let ih = refused_embeddings-few cs para qs in
-    elim (cases_Bool (is_taken cs para q qs || (is_isolate cs q || nat_lt 0 (refused_isolates cs para qs)))) [
+pub refused_embeddings-few : (depth : ℕ) (cs : List Class) (para : ℕ) (qs : List ℕ) → refused_embeddings depth cs para qs ≤ length qs
+refused_embeddings-few depth cs para [] = omega arith
+refused_embeddings-few depth cs para (q ∷ qs) =
+    let ih = refused_embeddings-few depth cs para qs in
+    elim (cases_Bool (is_taken depth cs para q qs || (is_isolate cs q || nat_lt 0 (refused_isolates depth cs para qs)))) [
       | inl t ↦ rw t (omega (arith, ih))
       | inr t ↦ rw t (omega (arith, ih))
     ]
 
-pub taken_isolates-few : (cs : List Class) (para : ℕ) (qs : List ℕ) → taken_isolates cs para qs ≤ length qs
-taken_isolates-few cs para [] = omega arith
-taken_isolates-few cs para (q ∷ qs) =
-    let ih = taken_isolates-few cs para qs in
-    elim (cases_Bool (is_taken cs para q qs)) [
+pub taken_isolates-few : (depth : ℕ) (cs : List Class) (para : ℕ) (qs : List ℕ) → taken_isolates depth cs para qs ≤ length qs
+taken_isolates-few depth cs para [] = omega arith
+taken_isolates-few depth cs para (q ∷ qs) =
+    let ih = taken_isolates-few depth cs para qs in
+    elim (cases_Bool (is_taken depth cs para q qs)) [
       | inl t ↦ elim (cases_Bool (is_isolate cs q)) [ inl u ↦ rw (t, u) (omega (arith, ih)) | inr u ↦ rw (t, u) (omega (arith, ih)) ]
       | inr t ↦ rw t (omega (arith, ih))
     ]
 
 -- the last entry is that of the state within
-pub last_entry : (cs : List Class) (para : ℕ) (qs : List ℕ) → (front : List Status) × (isolate : Bool) × (entries_of cs para qs ≡ front ++ entry_of (state_within cs para qs) isolate ∷ [])
-last_entry cs para [] = ([], false, refl)
-last_entry cs para (q ∷ qs) =
-    elim (cases_Bool (is_taken cs para q qs)) [
-      | inl t ↦ (entries_of cs para qs, is_isolate cs q, rw t refl)
-      | inr t ↦ let ih = last_entry cs para qs in (ih.0, ih.1, rw (t, state-refused cs para q qs t) ih.2)
+pub last_entry : (depth : ℕ) (cs : List Class) (para : ℕ) (qs : List ℕ) → (front : List Status) × (isolate : Bool) × (entries_of depth cs para qs ≡ front ++ entry_of (state_within depth cs para qs) isolate ∷ [])
+last_entry depth cs para [] = ([], false, refl)
+last_entry depth cs para (q ∷ qs) =
+    elim (cases_Bool (is_taken depth cs para q qs)) [
+      | inl t ↦ (entries_of depth cs para qs, is_isolate cs q, rw t refl)
+      | inr t ↦ let ih = last_entry depth cs para qs in (ih.0, ih.1, rw (t, state-refused depth cs para q qs t) ih.2)
     ]

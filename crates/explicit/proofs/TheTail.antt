@@ -47,39 +47,39 @@ suffix-some t (q ∷ qs) h =
           ]
     ])
 
-all_taken : (cs : List Class) (para : ℕ) (qs : List ℕ) → (state_within cs para qs).sound ≡ true → (length (entries_of cs para qs) ≡ length qs + 1) × (taken_isolates cs para qs ≡ count_by (is_isolate cs) qs)
-all_taken cs para [] s = (refl, refl)
-all_taken cs para (q ∷ qs) s =
-    let ih = all_taken cs para qs (taken-outer cs para q qs s) in
-    let a = adds-taken cs para q qs s in
-    let n : length (entries_of cs para qs ++ entry_at cs para q qs ∷ []) ≡ length (entries_of cs para qs) + 1 = length-append (entries_of cs para qs) (entry_at cs para q qs ∷ []) in
+all_taken : (depth : ℕ) (cs : List Class) (para : ℕ) (qs : List ℕ) → (state_within depth cs para qs).sound ≡ true → (length (entries_of depth cs para qs) ≡ length qs + 1) × (taken_isolates depth cs para qs ≡ count_by (is_isolate cs) qs)
+all_taken depth cs para [] s = (refl, refl)
+all_taken depth cs para (q ∷ qs) s =
+    let ih = all_taken depth cs para qs (taken-outer depth cs para q qs s) in
+    let a = adds-taken depth cs para q qs s in
+    let n : length (entries_of depth cs para qs ++ entry_at depth cs para q qs ∷ []) ≡ length (entries_of depth cs para qs) + 1 = length-append (entries_of depth cs para qs) (entry_at depth cs para q qs ∷ []) in
     (ap length a.entry_is ∙ n ∙ omega (arith, ih.0), a.taken_isolates_is ∙ ap (λ k. bit (is_isolate cs q) + k) ih.1 ∙ sym (count-cons (is_isolate cs) q qs))
 
-cut-sound : (cs : List Class) (para : ℕ) (qs : List ℕ) → (state_within cs para qs).sound ≡ true → IsRefusedTail cs para [] qs
-cut-sound cs para qs s =
-    let a = all_taken cs para qs s in
-    let z = none_refused cs para qs s in
+cut-sound : (depth : ℕ) (cs : List Class) (para : ℕ) (qs : List ℕ) → (state_within depth cs para qs).sound ≡ true → IsRefusedTail depth cs para [] qs
+cut-sound depth cs para qs s =
+    let a = all_taken depth cs para qs s in
+    let z = none_refused depth cs para qs s in
     record { sound = s; entries = refl; one_each = a.0; overflow_isolates = z.0; overflow_embeddings = z.1; valid_isolates = a.1 }
 
-cut-refused : (cs : List Class) (para q : ℕ) (refused taken : List ℕ) → is_taken cs para q (refused ++ taken) ≡ false → IsRefusedTail cs para refused taken → IsRefusedTail cs para (q ∷ refused) taken
-cut-refused cs para q refused taken t c =
+cut-refused : (depth : ℕ) (cs : List Class) (para q : ℕ) (refused taken : List ℕ) → is_taken depth cs para q (refused ++ taken) ≡ false → IsRefusedTail depth cs para refused taken → IsRefusedTail depth cs para (q ∷ refused) taken
+cut-refused depth cs para q refused taken t c =
     let t' = λ (q : ℕ). not (is_isolate cs q) in
     record {
       sound = c.sound;
       entries = rw t c.entries;
       one_each = c.one_each;
       overflow_isolates = rw t (ap (λ k. bit (is_isolate cs q) + k) c.overflow_isolates ∙ sym (count-cons (is_isolate cs) q refused));
-      overflow_embeddings = elim (cases_lt 0 (refused_isolates cs para (refused ++ taken))) [
+      overflow_embeddings = elim (cases_lt 0 (refused_isolates depth cs para (refused ++ taken))) [
         | inl more ↦
             let some : suffix_len t' refused < length refused = suffix-some (is_isolate cs) refused (omega (arith, c.overflow_isolates)) in
             let off : (suffix_len t' refused == length refused) ≡ false = ne_eqb (suffix_len t' refused) (length refused) (λ e. omega arith) in
-            let none : (is_isolate cs q || nat_lt 0 (refused_isolates cs para (refused ++ taken))) ≡ true = or_right (is_isolate cs q) (nat_lt 0 (refused_isolates cs para (refused ++ taken))) (lt-ltb 0 (refused_isolates cs para (refused ++ taken)) more) in
+            let none : (is_isolate cs q || nat_lt 0 (refused_isolates depth cs para (refused ++ taken))) ≡ true = or_right (is_isolate cs q) (nat_lt 0 (refused_isolates depth cs para (refused ++ taken))) (lt-ltb 0 (refused_isolates depth cs para (refused ++ taken)) more) in
             let s : suffix_len t' (q ∷ refused) ≡ suffix_len t' refused = suffix-cons t' q refused ∙ rw off refl in
             rw (t, none) (omega (arith, s, c.overflow_embeddings))
         | inr nothing ↦
             let all : suffix_len t' refused ≡ length refused = suffix-all (is_isolate cs) refused (omega (arith, c.overflow_isolates)) in
             let on : (suffix_len t' refused == length refused) ≡ true = eq-eqb (suffix_len t' refused) (length refused) all in
-            let none : nat_lt 0 (refused_isolates cs para (refused ++ taken)) ≡ false = le-ltb 0 (refused_isolates cs para (refused ++ taken)) (omega arith) in
+            let none : nat_lt 0 (refused_isolates depth cs para (refused ++ taken)) ≡ false = le-ltb 0 (refused_isolates depth cs para (refused ++ taken)) (omega arith) in
             elim (cases_Bool (is_isolate cs q)) [
               | inl u ↦
                   let s : suffix_len t' (q ∷ refused) ≡ length refused + 0 = suffix-cons t' q refused ∙ rw (on, u) refl in
@@ -93,12 +93,12 @@ cut-refused cs para q refused taken t c =
     }
 
 -- whatever initiators are open, those that were refused stand in front of those that were taken
-pub cut_of : (cs : List Class) (para : ℕ) (qs : List ℕ) → (refused : List ℕ) × (taken : List ℕ) × (qs ≡ refused ++ taken) × IsRefusedTail cs para refused taken
-cut_of cs para [] = ([], [], refl, cut-sound cs para [] refl)
-cut_of cs para (q ∷ qs) =
-    elim (cases_Bool (is_taken cs para q qs)) [
-      | inl t ↦ ([], q ∷ qs, refl, cut-sound cs para (q ∷ qs) t)
+pub cut_of : (depth : ℕ) (cs : List Class) (para : ℕ) (qs : List ℕ) → (refused : List ℕ) × (taken : List ℕ) × (qs ≡ refused ++ taken) × IsRefusedTail depth cs para refused taken
+cut_of depth cs para [] = ([], [], refl, cut-sound depth cs para [] refl)
+cut_of depth cs para (q ∷ qs) =
+    elim (cases_Bool (is_taken depth cs para q qs)) [
+      | inl t ↦ ([], q ∷ qs, refl, cut-sound depth cs para (q ∷ qs) t)
       | inr t ↦
-          let ih = cut_of cs para qs in
-          (q ∷ ih.0, ih.1, ap (λ xs. q ∷ xs) ih.2, cut-refused cs para q ih.0 ih.1 (ap (is_taken cs para q) (sym ih.2) ∙ t) ih.3)
+          let ih = cut_of depth cs para qs in
+          (q ∷ ih.0, ih.1, ap (λ xs. q ∷ xs) ih.2, cut-refused depth cs para q ih.0 ih.1 (ap (is_taken depth cs para q) (sym ih.2) ∙ t) ih.3)
     ]

@@ -13,63 +13,65 @@ abbrev pub size_of : StatusStack → ℕ
 size_of n = length n.entries.items
 
 -- X1 to X5c: what holds inside these initiators
-abbrev pub state_within : List Class → ℕ → List ℕ → State
-state_within cs para [] = record { level = para; override = None; sound = true }
-state_within cs para (q ∷ qs) = entered cs (state_within cs para qs) q
+abbrev pub state_within : ℕ → List Class → ℕ → List ℕ → State
+state_within depth cs para [] = record { level = para; override = None; sound = true }
+state_within depth cs para (q ∷ qs) = entered depth cs (state_within depth cs para qs) q
 
--- X2 to X5c: the initiator at q was taken, neither above the greatest level nor inside one that was refused
-abbrev pub is_taken : List Class → ℕ → ℕ → List ℕ → Bool
-is_taken cs para q qs = (state_within cs para (q ∷ qs)).sound
+-- X2 to X5c: the initiator at q was taken, neither above this depth nor inside one that was refused
+abbrev pub is_taken : ℕ → List Class → ℕ → ℕ → List ℕ → Bool
+is_taken depth cs para q qs = (state_within depth cs para (q ∷ qs)).sound
 
 -- X1: the entry that keeps this state
 abbrev pub entry_of : State → Bool → Status
 entry_of s isolate = record { level = s.level; override_class = s.override; is_isolate = isolate }
 
 -- X2 to X5c: the entry of the initiator at q, where it was taken
-abbrev pub entry_at : List Class → ℕ → ℕ → List ℕ → Status
-entry_at cs para q qs = entry_of (state_within cs para (q ∷ qs)) (is_isolate cs q)
+abbrev pub entry_at : ℕ → List Class → ℕ → ℕ → List ℕ → Status
+entry_at depth cs para q qs = entry_of (state_within depth cs para (q ∷ qs)) (is_isolate cs q)
 
 -- X1 to X5c: an entry for the paragraph and for each initiator that was taken, the outermost first
-abbrev pub entries_of : List Class → ℕ → List ℕ → List Status
-entries_of cs para [] = entry_of (state_within cs para []) false ∷ []
-entries_of cs para (q ∷ qs) =
-    cond (is_taken cs para q qs) (entries_of cs para qs ++ entry_at cs para q qs ∷ []) (entries_of cs para qs)
+abbrev pub entries_of : ℕ → List Class → ℕ → List ℕ → List Status
+entries_of depth cs para [] = entry_of (state_within depth cs para []) false ∷ []
+entries_of depth cs para (q ∷ qs) =
+    cond (is_taken depth cs para q qs) (entries_of depth cs para qs ++ entry_at depth cs para q qs ∷ []) (entries_of depth cs para qs)
 
 -- X5a to X5c: how many isolates were taken (the valid isolate count)
-abbrev pub taken_isolates : List Class → ℕ → List ℕ → ℕ
-taken_isolates cs para [] = 0
-taken_isolates cs para (q ∷ qs) = cond (is_taken cs para q qs) (cond (is_isolate cs q) 1 0) 0 + taken_isolates cs para qs
+abbrev pub taken_isolates : ℕ → List Class → ℕ → List ℕ → ℕ
+taken_isolates depth cs para [] = 0
+taken_isolates depth cs para (q ∷ qs) = cond (is_taken depth cs para q qs) (cond (is_isolate cs q) 1 0) 0 + taken_isolates depth cs para qs
 
 -- X5a to X5c: how many isolates were refused (the overflow isolate count)
-abbrev pub refused_isolates : List Class → ℕ → List ℕ → ℕ
-refused_isolates cs para [] = 0
-refused_isolates cs para (q ∷ qs) = cond (is_taken cs para q qs) 0 (cond (is_isolate cs q) 1 0) + refused_isolates cs para qs
+abbrev pub refused_isolates : ℕ → List Class → ℕ → List ℕ → ℕ
+refused_isolates depth cs para [] = 0
+refused_isolates depth cs para (q ∷ qs) = cond (is_taken depth cs para q qs) 0 (cond (is_isolate cs q) 1 0) + refused_isolates depth cs para qs
 
 -- X2 to X5: how many embeddings were refused outside of refused isolates (the overflow embedding count)
-abbrev pub refused_embeddings : List Class → ℕ → List ℕ → ℕ
-refused_embeddings cs para [] = 0
-refused_embeddings cs para (q ∷ qs) =
-    cond (is_taken cs para q qs || (is_isolate cs q || nat_lt 0 (refused_isolates cs para qs))) 0 1 + refused_embeddings cs para qs
+abbrev pub refused_embeddings : ℕ → List Class → ℕ → List ℕ → ℕ
+refused_embeddings depth cs para [] = 0
+refused_embeddings depth cs para (q ∷ qs) =
+    cond (is_taken depth cs para q qs || (is_isolate cs q || nat_lt 0 (refused_isolates depth cs para qs))) 0 1 + refused_embeddings depth cs para qs
 
 -- X1 to X8: this is what the pass keeps of these initiators
-pub record Represents (cs : List Class) (para : ℕ) (qs : List ℕ) (n : StatusStack) : Type 0 where
-  pub entries : n.entries.items ≡ entries_of cs para qs
-  pub overflow_isolates : n.overflow_isolates ≡ refused_isolates cs para qs
-  pub overflow_embeddings : n.overflow_embeddings ≡ refused_embeddings cs para qs
-  pub valid_isolates : n.valid_isolates ≡ taken_isolates cs para qs
+pub record Represents (depth : ℕ) (cs : List Class) (para : ℕ) (qs : List ℕ) (n : StatusStack) : Type 0 where
+  pub entries : n.entries.items ≡ entries_of depth cs para qs
+  pub overflow_isolates : n.overflow_isolates ≡ refused_isolates depth cs para qs
+  pub overflow_embeddings : n.overflow_embeddings ≡ refused_embeddings depth cs para qs
+  pub valid_isolates : n.valid_isolates ≡ taken_isolates depth cs para qs
 
 -- X6a: the entries before the last isolate's, or none
 abbrev pub before_isolate : List Status → List Status
 before_isolate [] = []
 before_isolate (x ∷ xs) = cond (list_any (λ e. e.is_isolate) xs) (x ∷ before_isolate xs) []
 
--- X1: this is what the pass keeps of some initiators, not too many for the counts
+-- X1: this is what the pass keeps of some initiators, at a depth that is allowed, not too many for the counts
 pub record IsKept (n : StatusStack) : Type 0 where
+  pub depth : ℕ
   pub classes : List Class
   pub para : ℕ
   pub initiators : List ℕ
-  pub represents : Represents classes para initiators n
+  pub represents : Represents depth classes para initiators n
   pub base : para ≤ 1
+  pub within : depth ≤ 125
   pub few : length initiators < 2 ^ 63
 
 -- X6: a class that neither begins nor ends anything, and isn't removed
@@ -82,10 +84,10 @@ placed s para own = if is_removed own then None else if is_separator own then So
 
 -- X1 to X5c: the refused initiators stand inside all that were taken; the entries are those of the paragraph and of each
 -- that was taken; the three counts are of the refused isolates, of the refused embeddings outside of these, and of the taken isolates
-pub record IsRefusedTail (cs : List Class) (para : ℕ) (refused taken : List ℕ) : Type 0 where
-  pub sound : (state_within cs para taken).sound ≡ true
-  pub entries : entries_of cs para (refused ++ taken) ≡ entries_of cs para taken
-  pub one_each : length (entries_of cs para taken) ≡ length taken + 1
-  pub overflow_isolates : refused_isolates cs para (refused ++ taken) ≡ count_by (is_isolate cs) refused
-  pub overflow_embeddings : refused_embeddings cs para (refused ++ taken) ≡ suffix_len (λ q. not (is_isolate cs q)) refused
-  pub valid_isolates : taken_isolates cs para (refused ++ taken) ≡ count_by (is_isolate cs) taken
+pub record IsRefusedTail (depth : ℕ) (cs : List Class) (para : ℕ) (refused taken : List ℕ) : Type 0 where
+  pub sound : (state_within depth cs para taken).sound ≡ true
+  pub entries : entries_of depth cs para (refused ++ taken) ≡ entries_of depth cs para taken
+  pub one_each : length (entries_of depth cs para taken) ≡ length taken + 1
+  pub overflow_isolates : refused_isolates depth cs para (refused ++ taken) ≡ count_by (is_isolate cs) refused
+  pub overflow_embeddings : refused_embeddings depth cs para (refused ++ taken) ≡ suffix_len (λ q. not (is_isolate cs q)) refused
+  pub valid_isolates : taken_isolates depth cs para (refused ++ taken) ≡ count_by (is_isolate cs) taken

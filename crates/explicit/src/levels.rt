@@ -18,6 +18,7 @@ use std::sync::ledger::Ledger;
 use units::bracket::Unit;
 use units::class::Class;
 use units::level::{Level, ParaLevel};
+use units::limits::Limits;
 use units::memory::Memory;
 use units::steps::Steps;
 
@@ -55,13 +56,13 @@ impl Explicit {
         })
     }
 
-    /// X1 to X9: the explicit level, 0 to 125, and the current class of the position `p`, or none where it is removed.
-    /// `p` is a position of the paragraph that was filled from.
+    /// X1 to X9: the explicit level, 0 to the depth that it was filled with, and the current class of the position `p`, or
+    /// none where it is removed. `p` is a position of the paragraph that was filled from.
     pub fn at(&self, p: usize) -> Option<(Level, Class)>
         requires { p < length self.now }
         ensures kept { result ≡ slice_index_or self.now p None }
-        ensures found { (cs : List Class) (para : ℕ) → HoldsLevels self.now cs para → p < length cs → result ≡ explicit_at cs para p }
-        ensures within { (cs : List Class) (para : ℕ) → HoldsLevels self.now cs para → para ≤ 1 → p < length cs → IfSome result (λ place. place.0 ≤ 125) }
+        ensures found { (depth : ℕ) (cs : List Class) (para : ℕ) → HoldsLevels self.now depth cs para → p < length cs → result ≡ explicit_at depth cs para p }
+        ensures within { (depth : ℕ) (cs : List Class) (para : ℕ) → HoldsLevels self.now depth cs para → para ≤ depth → p < length cs → IfSome result (λ place. place.0 ≤ depth) }
     {
         self.places[p]
     }
@@ -83,15 +84,17 @@ fn find_places<L: Ledger>(
     para: &[Unit],
     map: &IsolateMap,
     base: Level,
+    depth: u8,
     stack: &mut StatusStack,
     places: &mut [Option<(Level, Class)>],
     steps: &mut Steps<L>,
 )
     requires base { base ≤ 1 }
+    requires within { depth ≤ 125 }
     requires room { length para.now ≤ length places.old }
     requires filled { IsFilledFrom map.now (classes_of para.now) }
     requires empty { size_of stack.old ≡ 0 }
-    ensures found { HoldsLevels places.new (classes_of para.now) base }
+    ensures found { HoldsLevels places.new depth (classes_of para.now) base }
     ensures empty { size_of stack.new ≡ 0 }
     ensures least_steps { steps.old + length para.now ≤ steps.new }
     ensures most_steps { steps.new ≤ steps.old + (2 * length para.now + 1) }
@@ -104,26 +107,28 @@ fn find_places<L: Ledger>(
         } else {
             stack.close(unit.class, steps);
             places[p] = stack.place(unit.class, base);
-            stack.open(unit.class, asks_odd(unit.class, map.is_right_to_left(p)));
+            let odd = asks_odd(unit.class, map.is_right_to_left(p));
+            stack.open(unit.class, odd, depth);
         }
     }
     stack.clear(steps);
 }
 
-/// X1 to X9: finds the explicit levels and current classes of a paragraph of this level, for which `out` has room and
-/// from which `map` was filled. What was found of an earlier one is gone. Each position is a step, and each entry of the
-/// stack (X1) that a PDI or the paragraph's end drops.
+/// X1 to X9: finds the explicit levels, up to the depth of these limits (BD2), and the current classes of a paragraph of
+/// this level, for which `out` has room and from which `map` was filled. What was found of an earlier one is gone. Each
+/// position is a step, and each entry of the stack (X1) that a PDI or the paragraph's end drops.
 pub fn explicit_levels<L: Ledger>(
     para: &[Unit],
     map: &IsolateMap,
     level: ParaLevel,
+    limits: Limits,
     out: &mut Explicit,
     steps: &mut Steps<L>,
 )
     requires room { length para.now ≤ length out.old }
     requires filled { IsFilledFrom map.now (classes_of para.now) }
     ensures same_room { length out.new ≡ length out.old }
-    ensures found { HoldsLevels out.new (classes_of para.now) (level_of_para level) }
+    ensures found { HoldsLevels out.new limits.depth (classes_of para.now) (level_of_para level) }
     ensures least_steps { steps.old + length para.now ≤ steps.new }
     ensures most_steps { steps.new ≤ steps.old + (2 * length para.now + 1) }
 {
@@ -131,6 +136,7 @@ pub fn explicit_levels<L: Ledger>(
         para,
         map,
         level.level(),
+        limits.depth(),
         &mut out.stack,
         &mut out.places,
         steps,

@@ -12,9 +12,6 @@ use units::class::Class;
 use units::level::{Level, ParaLevel};
 use units::steps::Steps;
 
-// BD2: the greatest explicit level.
-const MAX_DEPTH: u8 = 125;
-
 /// X1: what holds inside an initiator that was taken (a directional status).
 #[derive(Clone, Copy, Debug, PartialEq, Eq)]
 pub struct Status {
@@ -35,7 +32,8 @@ impl Default for Status {
 
 /// X1: the stack of directional statuses, one for the paragraph and one for each open initiator that was taken, and
 /// the counts of overflow isolates, of overflow embeddings and of the open isolates that were taken. A level rises
-/// with each entry from 0 or 1 to at most 125, so 126 entries are the most. Its room is made once.
+/// with each entry from 0 or 1 to at most 125, the greatest depth that is allowed, so 126 entries are the most. Its room
+/// is made once, for each depth.
 #[derive(Drop)]
 pub struct StatusStack {
     entries: ArrayVec<Status, 127>,
@@ -104,7 +102,7 @@ impl StatusStack {
     /// X1: begins a paragraph of this level, in which no initiator is open yet.
     pub fn begin(&mut self, base: Level)
         requires { size_of self.old ≡ 0 }
-        ensures represents { (cs : List Class) → Represents cs base [] self.new }
+        ensures represents { (depth : ℕ) (cs : List Class) → Represents depth cs base [] self.new }
         ensures size { size_of self.new ≡ 1 }
     {
         self.entries.push(Status {
@@ -137,7 +135,7 @@ impl StatusStack {
     /// X5a to X6a: the level and the current class of a position of this class, which is neither removed nor a separator.
     pub fn place_inside(&self, class: Class) -> (Level, Class)
         requires { IsKept self.now }
-        ensures { (cs : List Class) (base : ℕ) (qs : List ℕ) → is_removed class ≡ false → is_separator class ≡ false → Represents cs base qs self.now → Some result ≡ placed (state_within cs base qs) base class }
+        ensures { (depth : ℕ) (cs : List Class) (base : ℕ) (qs : List ℕ) → is_removed class ≡ false → is_separator class ≡ false → Represents depth cs base qs self.now → Some result ≡ placed (state_within depth cs base qs) base class }
     {
         let current = self.current();
         (current.level, current.override_class.unwrap_or(class))
@@ -146,7 +144,7 @@ impl StatusStack {
     /// X5a to X9: the level and the current class of a position of this class, or none where it is removed.
     pub fn place(&self, class: Class, base: Level) -> Option<(Level, Class)>
         requires { IsKept self.now }
-        ensures { (cs : List Class) (qs : List ℕ) → Represents cs base qs self.now → result ≡ placed (state_within cs base qs) base class }
+        ensures { (depth : ℕ) (cs : List Class) (qs : List ℕ) → Represents depth cs base qs self.now → result ≡ placed (state_within depth cs base qs) base class }
     {
         if class.is_removed() {
             return None;
@@ -176,7 +174,7 @@ impl StatusStack {
 
     // X6a: a PDI closes the innermost open isolate and all in it.
     fn close_isolate<L: Ledger>(&mut self, steps: &mut Steps<L>)
-        ensures closed { (cs : List Class) (para : ℕ) (qs : List ℕ) → Represents cs para qs self.old → Represents cs para (after_pdi cs qs) self.new }
+        ensures closed { (depth : ℕ) (cs : List Class) (para : ℕ) (qs : List ℕ) → Represents depth cs para qs self.old → Represents depth cs para (after_pdi cs qs) self.new }
         ensures least_steps { steps.old ≤ steps.new }
         ensures all_steps { steps.new + size_of self.new ≡ steps.old + size_of self.old }
     {
@@ -191,7 +189,7 @@ impl StatusStack {
 
     // X7: a PDF closes the innermost open initiator, where that is an embedding.
     fn close_embedding(&mut self)
-        ensures closed { (cs : List Class) (para : ℕ) (qs : List ℕ) → Represents cs para qs self.old → Represents cs para (after_pdf cs qs) self.new }
+        ensures closed { (depth : ℕ) (cs : List Class) (para : ℕ) (qs : List ℕ) → Represents depth cs para qs self.old → Represents depth cs para (after_pdf cs qs) self.new }
         ensures size { size_of self.new ≤ size_of self.old }
     {
         if self.overflow_isolates > 0 {
@@ -206,7 +204,7 @@ impl StatusStack {
 
     /// X6a, X7: closes what this class closes. Each entry that is dropped is a step.
     pub fn close<L: Ledger>(&mut self, class: Class, steps: &mut Steps<L>)
-        ensures closed { (cs : List Class) (para : ℕ) (qs : List ℕ) → Represents cs para qs self.old → Represents cs para (left_open cs class qs) self.new }
+        ensures closed { (depth : ℕ) (cs : List Class) (para : ℕ) (qs : List ℕ) → Represents depth cs para qs self.old → Represents depth cs para (left_open cs class qs) self.new }
         ensures least_steps { steps.old ≤ steps.new }
         ensures most_steps { steps.new + size_of self.new ≤ steps.old + size_of self.old }
     {
@@ -218,16 +216,16 @@ impl StatusStack {
     }
 
     // BD2, X2 to X5c: an initiator that asks for this level is taken.
-    fn takes(&self, level: u8) -> bool
-        ensures { result ≡ ((self.now.overflow_isolates == 0 && self.now.overflow_embeddings == 0) && nat_le level 125) }
+    fn takes(&self, level: u8, depth: u8) -> bool
+        ensures { result ≡ ((self.now.overflow_isolates == 0 && self.now.overflow_embeddings == 0) && nat_le level depth) }
     {
-        self.overflow_isolates == 0 && self.overflow_embeddings == 0 && level <= MAX_DEPTH
+        self.overflow_isolates == 0 && self.overflow_embeddings == 0 && level <= depth
     }
 
     // X2 to X5c: opens an initiator that is taken.
     fn take(&mut self, entry: Status)
         requires { IsKept self.old }
-        ensures opened { (cs : List Class) (para : ℕ) (qs : List ℕ) (p : ℕ) → is_taken cs para p qs ≡ true → entry ≡ entry_at cs para p qs → Represents cs para qs self.old → Represents cs para (p ∷ qs) self.new }
+        ensures opened { (depth : ℕ) (cs : List Class) (para : ℕ) (qs : List ℕ) (p : ℕ) → is_taken depth cs para p qs ≡ true → entry ≡ entry_at depth cs para p qs → Represents depth cs para qs self.old → Represents depth cs para (p ∷ qs) self.new }
         ensures size { size_of self.new ≡ size_of self.old + 1 }
     {
         self.valid_isolates += usize::from(entry.is_isolate);
@@ -237,7 +235,7 @@ impl StatusStack {
     // X2 to X5c: counts an initiator that is not taken. An overflow embedding inside an overflow isolate is not counted.
     fn refuse(&mut self, is_isolate: bool)
         requires { IsKept self.old }
-        ensures opened { (cs : List Class) (para : ℕ) (qs : List ℕ) (p : ℕ) → is_taken cs para p qs ≡ false → is_isolate ≡ is_isolate_initiator (class_at cs p) → Represents cs para qs self.old → Represents cs para (p ∷ qs) self.new }
+        ensures opened { (depth : ℕ) (cs : List Class) (para : ℕ) (qs : List ℕ) (p : ℕ) → is_taken depth cs para p qs ≡ false → is_isolate ≡ is_isolate_initiator (class_at cs p) → Represents depth cs para qs self.old → Represents depth cs para (p ∷ qs) self.new }
         ensures size { size_of self.new ≡ size_of self.old }
     {
         if is_isolate {
@@ -248,14 +246,15 @@ impl StatusStack {
     }
 
     // X2 to X5c: opens an initiator; `odd` says whether it asks for an odd level.
-    fn open_initiator(&mut self, class: Class, odd: bool)
-        requires { IsKept self.old }
-        ensures opened { (cs : List Class) (para : ℕ) (qs : List ℕ) (p : ℕ) → class ≡ class_at cs p → odd ≡ wants_odd cs p class → Represents cs para qs self.old → Represents cs para (p ∷ qs) self.new }
+    fn open_initiator(&mut self, class: Class, odd: bool, depth: u8)
+        requires kept { IsKept self.old }
+        requires within { depth ≤ 125 }
+        ensures opened { (cs : List Class) (para : ℕ) (qs : List ℕ) (p : ℕ) → class ≡ class_at cs p → odd ≡ wants_odd cs p class → Represents depth cs para qs self.old → Represents depth cs para (p ∷ qs) self.new }
         ensures size { size_of self.new ≤ size_of self.old + 1 }
     {
         let level = self.current().level;
         let by = rise(level, odd);
-        if self.takes(level.get() + by) {
+        if self.takes(level.get() + by, depth) {
             self.take(Status {
                 level: level.raised(by),
                 override_class: overridden_by(class),
@@ -266,14 +265,16 @@ impl StatusStack {
         }
     }
 
-    /// X2 to X5c: opens this class, where it is an initiator; `odd` says whether that asks for an odd level.
-    pub fn open(&mut self, class: Class, odd: bool)
-        requires { IsKept self.old }
-        ensures opened { (cs : List Class) (para : ℕ) (qs : List ℕ) (p : ℕ) → class ≡ class_at cs p → odd ≡ wants_odd cs p class → Represents cs para qs self.old → Represents cs para (opened cs p qs) self.new }
+    /// X2 to X5c: opens this class, where it is an initiator; `odd` says whether that asks for an odd level, which is
+    /// refused above this depth, 1 to 125.
+    pub fn open(&mut self, class: Class, odd: bool, depth: u8)
+        requires kept { IsKept self.old }
+        requires within { depth ≤ 125 }
+        ensures opened { (cs : List Class) (para : ℕ) (qs : List ℕ) (p : ℕ) → class ≡ class_at cs p → odd ≡ wants_odd cs p class → Represents depth cs para qs self.old → Represents depth cs para (opened cs p qs) self.new }
         ensures size { size_of self.new ≤ size_of self.old + 1 }
     {
         if class.is_initiator() {
-            self.open_initiator(class, odd);
+            self.open_initiator(class, odd, depth);
         }
     }
 }

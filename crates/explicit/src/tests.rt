@@ -13,6 +13,7 @@ use std::test::Fail;
 use units::bracket::{Bracket, Unit};
 use units::class::Class;
 use units::level::{Direction, Level, ParaLevel};
+use units::limits::Limits;
 use units::memory::Memory;
 use units::steps::Steps;
 
@@ -42,6 +43,7 @@ fn found_from<L: Ledger>(
     alloc: Global,
     para: &[Unit],
     direction: Direction,
+    limits: Limits,
     blank: Blank,
 ) -> Result<Findings, Memory>
     requires name { blank.name ≡ L.name }
@@ -55,7 +57,7 @@ fn found_from<L: Ledger>(
     let mut explicit = Explicit::with_room(alloc, para.len())?;
     map.fill(para, &mut steps);
     let level = para_level(para, &map, direction, &mut steps);
-    explicit_levels(para, &map, level, &mut explicit, &mut steps);
+    explicit_levels(para, &map, level, limits, &mut explicit, &mut steps);
     Ok(Findings {
         map,
         level,
@@ -63,13 +65,26 @@ fn found_from<L: Ledger>(
     })
 }
 
-// What is found of a paragraph of these classes.
-fn found(alloc: Global, classes: &[Class], direction: Direction) -> Result<Findings, Memory>
+// What is found of a paragraph of these classes, by these limits.
+fn found_by(
+    alloc: Global,
+    classes: &[Class],
+    direction: Direction,
+    limits: Limits,
+) -> Result<Findings, Memory>
     ensures map_room { IfOk result (λ found. room found.map ≡ length classes.now) }
     ensures explicit_room { IfOk result (λ found. length found.explicit ≡ length classes.now) }
 {
     let para = units_of(alloc, classes)?;
-    found_from::<Brand>(alloc, &para, direction, Blank::new(1))
+    found_from::<Brand>(alloc, &para, direction, limits, Blank::new(1))
+}
+
+// The same by the limits of the standard.
+fn found(alloc: Global, classes: &[Class], direction: Direction) -> Result<Findings, Memory>
+    ensures map_room { IfOk result (λ found. room found.map ≡ length classes.now) }
+    ensures explicit_room { IfOk result (λ found. length found.explicit ≡ length classes.now) }
+{
+    found_by(alloc, classes, direction, Limits::standard())
 }
 
 // A place with its level as a number.
@@ -250,6 +265,24 @@ fn overflow_isolate(rt: HostRuntime) -> Result<(), Fail> {
     assert_eq!(rt; numbered(found.explicit.at(127)), Some((125, Class::PDI)));
     assert_eq!(rt; numbered(found.explicit.at(128)), None);
     assert_eq!(rt; numbered(found.explicit.at(129)), Some((124, Class::L)));
+    Ok(())
+}
+
+// The place of the last of `RLE LRE R`, by this depth, if it is allowed.
+fn place_by_depth(alloc: Global, depth: u8) -> Result<Option<(u8, Class)>, Memory> {
+    let Ok(limits) = Limits::new(depth, 63) else {
+        return Ok(None);
+    };
+    let classes = [Class::RLE, Class::LRE, Class::R];
+    let found = found_by(alloc, &classes, Direction::Ltr, limits)?;
+    Ok(numbered(found.explicit.at(2)))
+}
+
+#[test]
+fn overflow_above_the_depth(rt: HostRuntime) -> Result<(), Fail> {
+    assert_eq!(rt; place_by_depth(rt.alloc(), 1)?, Some((1, Class::R)));
+    assert_eq!(rt; place_by_depth(rt.alloc(), 2)?, Some((2, Class::R)));
+    assert_eq!(rt; place_by_depth(rt.alloc(), 125)?, Some((2, Class::R)));
     Ok(())
 }
 

@@ -12,28 +12,28 @@ use Rattle.explicit.proofs.levels.find_places.Goals.{then-is_ordinary, else-is_o
 
 pub loop-p-init : goal.loop-p-init
 loop-p-init g c = record {
-  keeps = c.begin.ensures.represents (classes_of c.args.para.now);
+  keeps = c.begin.ensures.represents c.args.depth (classes_of c.args.para.now);
   filled = λ k l. absurd (omega arith);
   least = omega arith;
   most = omega (arith, c.begin.ensures.size);
 }
 
 pub place-requires : goal.place-requires
-place-requires g c = kept-at c.args.para.now c.args.base c.loop-p.p _ c.close.new.self c.requires.base c.loop-p-test.true (omega arith) (sym (class_read c.args.para.now c.loop-p.p no_unit c.loop-p-test.true)) (c.close.ensures.closed (classes_of c.args.para.now) c.args.base (open_before (classes_of c.args.para.now) c.loop-p.p) c.loop-p.invariant.keeps)
+place-requires g c = kept-at c.args.depth c.args.para.now c.args.base c.loop-p.p _ c.close.new.self c.requires.within c.requires.base c.loop-p-test.true (omega arith) (sym (class_read c.args.para.now c.loop-p.p no_unit c.loop-p-test.true)) (c.close.ensures.closed c.args.depth (classes_of c.args.para.now) c.args.base (open_before (classes_of c.args.para.now) c.loop-p.p) c.loop-p.invariant.keeps)
 
 pub is_right_to_left-requires : goal.is_right_to_left-requires
 is_right_to_left-requires g c = let n : length (classes_of c.args.para.now) ≡ length c.args.para.now = length-map _ _ in omega (arith, n, c.requires.filled.matched.enough)
 
 pub open-requires : goal.open-requires
-open-requires g c = kept-at c.args.para.now c.args.base c.loop-p.p _ c.close.new.self c.requires.base c.loop-p-test.true (omega arith) (sym (class_read c.args.para.now c.loop-p.p no_unit c.loop-p-test.true)) (c.close.ensures.closed (classes_of c.args.para.now) c.args.base (open_before (classes_of c.args.para.now) c.loop-p.p) c.loop-p.invariant.keeps)
+open-requires g c = record { kept = kept-at c.args.depth c.args.para.now c.args.base c.loop-p.p _ c.close.new.self c.requires.within c.requires.base c.loop-p-test.true (omega arith) (sym (class_read c.args.para.now c.loop-p.p no_unit c.loop-p-test.true)) (c.close.ensures.closed c.args.depth (classes_of c.args.para.now) c.args.base (open_before (classes_of c.args.para.now) c.loop-p.p) c.loop-p.invariant.keeps); within = c.requires.within }
 
 pub place_inside-requires : goal.place_inside-requires
 place_inside-requires g c =
     let cs : List Class = classes_of c.args.para.now in
     let ordinary = sym c.is_ordinary.ensures ∙ c.if-is_ordinary.true in
     let e = sym (class_read c.args.para.now c.loop-p.p no_unit c.loop-p-test.true) in
-    let P : List ℕ → Type 0 = λ qs. Represents cs c.args.base qs c.loop-p.stack in
-    kept-at c.args.para.now c.args.base c.loop-p.p _ c.loop-p.stack c.requires.base c.loop-p-test.true (omega arith) e (subst P (sym (ordinary_left cs _ (open_before cs c.loop-p.p) ordinary)) c.loop-p.invariant.keeps)
+    let P : List ℕ → Type 0 = λ qs. Represents c.args.depth cs c.args.base qs c.loop-p.stack in
+    kept-at c.args.depth c.args.para.now c.args.base c.loop-p.p _ c.loop-p.stack c.requires.within c.requires.base c.loop-p-test.true (omega arith) e (subst P (sym (ordinary_left cs _ (open_before cs c.loop-p.p) ordinary)) c.loop-p.invariant.keeps)
 
 pub loop-p-preserved : goal.loop-p-preserved
 loop-p-preserved g c =
@@ -46,25 +46,25 @@ loop-p-preserved g c =
     elim c.if-is_ordinary.branch [
       | then-is_ordinary w ↦
           let ordinary = sym c.is_ordinary.ensures ∙ w.if-is_ordinary.true in
-          let P : List ℕ → Type 0 = λ qs. Represents cs c.args.base qs c.loop-p.stack in
-          let r = left-is cs c.args.base p _ c.loop-p.stack l e (subst P (sym (ordinary_left cs _ (open_before cs p) ordinary)) c.loop-p.invariant.keeps) in
+          let P : List ℕ → Type 0 = λ qs. Represents c.args.depth cs c.args.base qs c.loop-p.stack in
+          let r = left-is c.args.depth cs c.args.base p _ c.loop-p.stack l e (subst P (sym (ordinary_left cs _ (open_before cs p) ordinary)) c.loop-p.invariant.keeps) in
           let over = ordinary_is _ ordinary in
-          let found = w.place_inside.ensures cs c.args.base (holders cs p) over.removed_is over.separator_is r ∙ ap (λ x. placed (state_within cs c.args.base (holders cs p)) c.args.base x) e ∙ explicit-placed cs c.args.base p in
+          let found = w.place_inside.ensures c.args.depth cs c.args.base (holders cs p) over.removed_is over.separator_is r ∙ ap (λ x. placed (state_within c.args.depth cs c.args.base (holders cs p)) c.args.base x) e ∙ explicit-placed c.args.depth cs c.args.base p in
           rw (w.stack-is, w.places-is, w.steps-is) (record {
             keeps = subst P (sym (ordinary_opened cs p (holders cs p) (ap is_ordinary (sym e) ∙ ordinary)) ∙ open_before-next cs p) r;
-            filled = places-more cs c.args.base p c.loop-p.places _ short found c.loop-p.invariant.filled;
+            filled = places-more c.args.depth cs c.args.base p c.loop-p.places _ short found c.loop-p.invariant.filled;
             least = omega (arith, c.tick.ensures, c.loop-p.invariant.least);
             most = omega (arith, c.tick.ensures, c.loop-p.invariant.most);
           })
       | else-is_ordinary w ↦
-          let r = left-is cs c.args.base p _ w.close.new.self l e (w.close.ensures.closed cs c.args.base (open_before cs p) c.loop-p.invariant.keeps) in
-          let o = w.asks_odd.ensures cs p e (λ f. w.is_right_to_left.ensures cs c.requires.filled l (ap is_isolate_initiator (sym e ∙ f))) in
+          let r = left-is c.args.depth cs c.args.base p _ w.close.new.self l e (w.close.ensures.closed c.args.depth cs c.args.base (open_before cs p) c.loop-p.invariant.keeps) in
+          let o = w.asks_odd-odd.ensures cs p e (λ f. w.is_right_to_left.ensures cs c.requires.filled l (ap is_isolate_initiator (sym e ∙ f))) in
           let k = w.open.ensures.opened cs c.args.base (holders cs p) p e o r in
-          let P : List ℕ → Type 0 = λ qs. Represents cs c.args.base qs w.open.new.self in
-          let found = w.place.ensures cs (holders cs p) r ∙ ap (λ x. placed (state_within cs c.args.base (holders cs p)) c.args.base x) e ∙ explicit-placed cs c.args.base p in
+          let P : List ℕ → Type 0 = λ qs. Represents c.args.depth cs c.args.base qs w.open.new.self in
+          let found = w.place.ensures c.args.depth cs (holders cs p) r ∙ ap (λ x. placed (state_within c.args.depth cs c.args.base (holders cs p)) c.args.base x) e ∙ explicit-placed c.args.depth cs c.args.base p in
           rw (w.stack-is, w.places-is, w.steps-is) (record {
             keeps = subst P (open_before-next cs p) k;
-            filled = places-more cs c.args.base p c.loop-p.places w.place.result short found c.loop-p.invariant.filled;
+            filled = places-more c.args.depth cs c.args.base p c.loop-p.places w.place.result short found c.loop-p.invariant.filled;
             least = omega (arith, c.tick.ensures, w.close.ensures.least_steps, c.loop-p.invariant.least);
             most = omega (arith, c.tick.ensures, w.close.ensures.most_steps, w.open.ensures.size, c.loop-p.invariant.most);
           })

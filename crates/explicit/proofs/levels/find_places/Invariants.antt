@@ -8,8 +8,8 @@ use Rattle.explicit.proofs.levels.find_places.Given as goal
 
 abbrev pub invariant-loop-p : goal.invariant-loop-p
 invariant-loop-p g l = record {
-  keeps : Represents (classes_of l.para) l.base (open_before (classes_of l.para) l.p) l.stack;
-  filled : (k : ℕ) → k < l.p → get_or l.places k None ≡ explicit_at (classes_of l.para) l.base k;
+  keeps : Represents l.depth (classes_of l.para) l.base (open_before (classes_of l.para) l.p) l.stack;
+  filled : (k : ℕ) → k < l.p → get_or l.places k None ≡ explicit_at l.depth (classes_of l.para) l.base k;
   least : l.fn.steps + l.p ≤ l.steps;
   most : l.steps + size_of l.stack ≤ l.fn.steps + (2 * l.p + 1);
 }

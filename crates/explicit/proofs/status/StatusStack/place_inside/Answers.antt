@@ -8,4 +8,4 @@ pub current-current-requires : goal.current-current-requires
 current-current-requires c = let b = kept-bounded c.args.self.now c.requires in b.some
 
 pub returns : goal.returns
-returns c = λ cs base qs u v r. ap (λ (x : Class). Some (c.current-current.result.level, x)) c.unwrap_or.ensures ∙ placed-by cs base qs c.args.self.now c.args.class c.current-current.result r u v c.current-current.ensures
+returns c = λ depth cs base qs u v r. ap (λ (x : Class). Some (c.current-current.result.level, x)) c.unwrap_or.ensures ∙ placed-by depth cs base qs c.args.self.now c.args.class c.current-current.result r u v c.current-current.ensures
