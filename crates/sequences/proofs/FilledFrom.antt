@@ -34,13 +34,13 @@ no_separator (u ∷ v ∷ us) e =
     (parts.0, no_separator (v ∷ us) parts.1)
 
 -- the paragraph has as many positions as units
-pub size-of_paragraph : (units : List BidiUnit) (para : ℕ) → size_of (leveled_of (classes_of units) para) ≡ length units
-size-of_paragraph units para = size-is (classes_of units) para ∙ length-classes_of units
+pub size-of_paragraph : (depth : ℕ) (units : List BidiUnit) (para : ℕ) → size_of (leveled_of depth (classes_of units) para) ≡ length units
+size-of_paragraph depth units para = size-is depth (classes_of units) para ∙ length-classes_of units
 
-module _ {units : List BidiUnit} {isolates : Isolates} {places : List (Option (ℕ × Class))} {base : ℕ} {t : LeveledView}
-    (a : AreOfParagraph units isolates places base) (e : leveled_of (classes_of units) base ≡ t) (p : ℕ) (h : p < size_of t) where
+module _ {units : List BidiUnit} {isolates : Isolates} {places : List (Option (ℕ × Class))} {depth base : ℕ} {t : LeveledView}
+    (a : AreOfParagraph units isolates places depth base) (e : leveled_of depth (classes_of units) base ≡ t) (p : ℕ) (h : p < size_of t) where
   pub within_classes : p < length (classes_of units)
-  within_classes = omega (arith, size-is (classes_of units) base, ap size_of e)
+  within_classes = omega (arith, size-is depth (classes_of units) base, ap size_of e)
 
   pub within_units : p < length units
   within_units = omega (arith, within_classes, length-classes_of units)
@@ -55,7 +55,7 @@ module _ {units : List BidiUnit} {isolates : Isolates} {places : List (Option (�
   pub level-place : level_of t p ≡ option_map (λ place. place.0) (slice_index_or places p None)
   level-place =
       ap (λ (v : LeveledView). level_of v p) (sym e)
-      ∙ level-read (classes_of units) base p within_classes
+      ∙ level-read depth (classes_of units) base p within_classes
       ∙ ap (option_map (λ place. place.0)) (sym (a.levels.at p within_classes))
 
   -- the matching PDI of an initiator is its partner
@@ -65,5 +65,5 @@ module _ {units : List BidiUnit} {isolates : Isolates} {places : List (Option (�
       ∙ ap (λ (v : LeveledView). slice_index_or v.partners p None) (sym e)
       ∙ get_or-of_positions (classes_of units) (partner_of (classes_of units)) p None within_classes
 
-  pub leveled_later : IsLeveled (leveled_of (classes_of units) base) → IfSome (matched_pdi t p) (λ q. (p < q) × (q < size_of t))
+  pub leveled_later : IsLeveled (leveled_of depth (classes_of units) base) → IfSome (matched_pdi t p) (λ q. (p < q) × (q < size_of t))
   leveled_later l = let P : LeveledView → Type 0 = λ v. IfSome (matched_pdi v p) (λ q. (p < q) × (q < size_of v)) in subst P e (l.later p)

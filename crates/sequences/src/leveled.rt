@@ -12,14 +12,16 @@ use explicit::levels::Explicit;
 use std::marker::Model;
 use units::bracket::Unit;
 use units::level::{Level, ParaLevel};
+use units::limits::Limits;
 
-/// A paragraph after X1 to X9.
+/// A paragraph after X1 to X9, with explicit levels up to a depth (BD2).
 #[derive(Drop)]
 pub struct Leveled<'a> {
     para: &'a [Unit],
     isolates: &'a IsolateMap,
     explicit: &'a Explicit,
     base: Level,
+    depth: u8,
 }
 
 impl<'a> Model for Leveled<'a> {
@@ -29,29 +31,31 @@ impl<'a> Model for Leveled<'a> {
 
     ghost Value = { LeveledView };
 
-    ghost view = { λ t. leveled_of (classes_of t.para.now) t.base };
+    ghost view = { λ t. leveled_of t.depth (classes_of t.para.now) t.base };
 
-    ghost invariant = { λ t. AreOfParagraph t.para.now t.isolates.now t.explicit.now t.base };
+    ghost invariant = { λ t. AreOfParagraph t.para.now t.isolates.now t.explicit.now t.depth t.base };
 }
 
 impl<'a> Leveled<'a> {
-    /// The paragraph, of this level, with the isolates and the explicit levels that were found of it.
+    /// The paragraph, of this level, with the isolates and, by these limits, the explicit levels that were found of it.
     pub fn new(
         para: &'a [Unit],
         isolates: &'a IsolateMap,
         explicit: &'a Explicit,
         level: ParaLevel,
+        limits: Limits,
     ) -> Self
         requires separators { SeparatorOnlyLast para.now }
         requires isolates { IsFilledFrom isolates.now (classes_of para.now) }
-        requires levels { HoldsLevels explicit.now (classes_of para.now) (level_of_para level) }
-        ensures { result ≡ leveled_of (classes_of para.now) (level_of_para level) }
+        requires levels { HoldsLevels explicit.now limits.depth (classes_of para.now) (level_of_para level) }
+        ensures { result ≡ leveled_of limits.depth (classes_of para.now) (level_of_para level) }
     {
         Leveled {
             para,
             isolates,
             explicit,
             base: level.level(),
+            depth: limits.depth(),
         }
     }
 

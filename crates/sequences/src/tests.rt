@@ -17,6 +17,7 @@ use std::test::Fail;
 use units::bracket::{Bracket, Unit};
 use units::class::Class;
 use units::level::Direction;
+use units::limits::Limits;
 use units::memory::Memory;
 use units::steps::Steps;
 
@@ -48,9 +49,10 @@ fn sequences_from<L: Ledger>(
     let mut explicit = Explicit::with_room(alloc, para.len())?;
     let mut sequences = Sequences::with_room(alloc, para.len())?;
     isolates.fill(para, &mut steps);
+    let limits = Limits::standard();
     let level = para_level(para, &isolates, Direction::Ltr, &mut steps);
-    explicit_levels(para, &isolates, level, &mut explicit, &mut steps);
-    sequences.fill(para, &isolates, &explicit, level, &mut steps);
+    explicit_levels(para, &isolates, level, limits, &mut explicit, &mut steps);
+    sequences.fill(para, &isolates, &explicit, level, limits, &mut steps);
     Ok(sequences)
 }
 

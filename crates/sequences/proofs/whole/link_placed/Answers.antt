@@ -1,5 +1,4 @@
-use Rattle.std.proofs.Common.{arith, ap, sym, ◌≡◌, ◌∙◌, length, ℕ, List, subst}
-use Rattle.units.specs.Positions.{positions_from}
+use Rattle.std.proofs.Common.{arith, ap, sym, length, ℕ, List, subst}
 use Rattle.flat.proofs.Listed.{length-positions_from}
 use Rattle.sequences.specs.Links.{IsChain}
 use Rattle.sequences.proofs.whole.link_placed.Goals as goal

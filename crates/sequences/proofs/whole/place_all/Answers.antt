@@ -1,4 +1,4 @@
-use Rattle.std.proofs.Common.{arith, ap, sym, ◌≡◌, ◌∙◌, ◌++◌, ◌∷◌, [], List, ℕ}
+use Rattle.std.proofs.Common.{arith, ap, sym, ◌∙◌, ◌++◌, ◌∷◌, [], List, ℕ}
 use Rattle.std.proofs.lemmas.List.{take_more_set}
 use Rattle.sequences.proofs.Marks.{positions_more}
 use Rattle.sequences.proofs.whole.place_all.Goals as goal

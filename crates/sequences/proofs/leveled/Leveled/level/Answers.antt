@@ -1,4 +1,4 @@
-use Rattle.std.proofs.Common.{◌∙◌, ap, sym}
+use Rattle.std.proofs.Common.{◌∙◌, ap, arith, sym}
 use Rattle.std.specs.Option.{option_map}
 use Rattle.units.specs.Classes.{classes_of}
 use Rattle.sequences.proofs.FilledFrom.{within_classes, within_places, level-place}
@@ -17,5 +17,6 @@ returns-clause-value c =
 
 pub returns-clause-within : goal.returns-clause-within
 returns-clause-within c =
-    c.in_ok-level.ensures.within (classes_of c.self.inside.para.now) c.self.inside.base c.self.invariant.levels c.self.invariant.low
-    (within_classes c.self.invariant c.self.view_is c.args.p c.requires)
+    let low = c.in_ok-level.ensures.within c.self.inside.depth (classes_of c.self.inside.para.now) c.self.inside.base c.self.invariant.levels (omega (arith, c.self.invariant.some, c.self.invariant.low))
+    (within_classes c.self.invariant c.self.view_is c.args.p c.requires) in
+    omega (arith, low, c.self.invariant.within)
