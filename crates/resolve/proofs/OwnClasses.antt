@@ -5,7 +5,7 @@ use Rattle.std.proofs.Common.{arith, ap, sym, ◌∙◌, inl, inr}
 use Rattle.std.proofs.lemmas.Bool.{cases_lt, both_ways}
 use Rattle.std.proofs.lemmas.List.{get_or-map, get_or_past, length-map}
 use Rattle.units.specs.Classes.{class_at, classes_of, is_nonspacing, is_removed, is_separator}
-use Rattle.units.specs.Explicit.{State, entered, state_of, override_of, wanted_level, max_depth, chain, explicit_at, explicit_of}
+use Rattle.units.specs.Explicit.{State, entered, state_of, override_of, wanted_level, chain, explicit_at, explicit_of}
 use Rattle.units.specs.Layout.{current_of}
 use Rattle.units.specs.Positions.{positions_of}
 use Rattle.units.specs.declared.bracket.Unit.{Unit as BidiUnit}
@@ -28,15 +28,15 @@ either : (b : Bool) (x y : State) → IsDirection x.override → IsDirection y.o
 either true x y hx hy = hx
 either false x y hx hy = hy
 
-entered-direction : (cs : List Class) (s : State) (q : ℕ) → IsDirection s.override → IsDirection (entered cs s q).override
+entered-direction : (depth : ℕ) (cs : List Class) (s : State) (q : ℕ) → IsDirection s.override → IsDirection (entered depth cs s q).override
 unfolding entered
-entered-direction cs s q h =
-    either (s.sound && nat_le (wanted_level cs s.level q) max_depth) (record { level = wanted_level cs s.level q; override = override_of (class_at cs q); sound = true })
+entered-direction depth cs s q h =
+    either (s.sound && nat_le (wanted_level cs s.level q) depth) (record { level = wanted_level cs s.level q; override = override_of (class_at cs q); sound = true })
     (record { level = s.level; override = s.override; sound = false }) (override_of-direction (class_at cs q)) h
 
-fold-direction : (cs : List Class) (s : State) (qs : List ℕ) → IsDirection s.override → IsDirection (fold (entered cs) s qs).override
-fold-direction cs s [] h = h
-fold-direction cs s (q ∷ qs) h = fold-direction cs (entered cs s q) qs (entered-direction cs s q h)
+fold-direction : (depth : ℕ) (cs : List Class) (s : State) (qs : List ℕ) → IsDirection s.override → IsDirection (fold (entered depth cs) s qs).override
+fold-direction depth cs s [] h = h
+fold-direction depth cs s (q ∷ qs) h = fold-direction depth cs (entered depth cs s q) qs (entered-direction depth cs s q h)
 
 -- the class at a place, or BN
 abbrev placed : Option (ℕ × Class) → Class
@@ -50,26 +50,26 @@ placed-own false true para level own override h m = refl
 placed-own false false para level own None h m = refl
 placed-own false false para level own (Some c) h m = absurd (both_ways (is_imposed c) m h)
 
-explicit-own : (cs : List Class) (para p : ℕ) → is_imposed (placed (explicit_at cs para p)) ≡ false → placed (explicit_at cs para p) ≡ class_at cs p
+explicit-own : (depth : ℕ) (cs : List Class) (para p : ℕ) → is_imposed (placed (explicit_at depth cs para p)) ≡ false → placed (explicit_at depth cs para p) ≡ class_at cs p
 unfolding explicit_at
-explicit-own cs para p m =
-    placed-own (is_removed (class_at cs p)) (is_separator (class_at cs p)) para (state_of cs para (chain cs p)).level (class_at cs p) (state_of cs para (chain cs p)).override
-    (fold-direction cs (record { level = para; override = None; sound = true }) (chain cs p) tt) m
+explicit-own depth cs para p m =
+    placed-own (is_removed (class_at cs p)) (is_separator (class_at cs p)) para (state_of depth cs para (chain cs p)).level (class_at cs p) (state_of depth cs para (chain cs p)).override
+    (fold-direction depth cs (record { level = para; override = None; sound = true }) (chain cs p) tt) m
 
 -- the current classes of a paragraph
-pub current-own : (cs : List Class) (para p : ℕ) → is_imposed (class_at (current_of (explicit_of cs para)) p) ≡ false → class_at (current_of (explicit_of cs para)) p ≡ class_at cs p
-current-own cs para p m =
-    let n : length (explicit_of cs para) ≡ length cs = length-map (positions_of cs) (explicit_at cs para) ∙ length-positions_from 0 (length cs) in
+pub current-own : (depth : ℕ) (cs : List Class) (para p : ℕ) → is_imposed (class_at (current_of (explicit_of depth cs para)) p) ≡ false → class_at (current_of (explicit_of depth cs para)) p ≡ class_at cs p
+current-own depth cs para p m =
+    let n : length (explicit_of depth cs para) ≡ length cs = length-map (positions_of cs) (explicit_at depth cs para) ∙ length-positions_from 0 (length cs) in
     elim (cases_lt p (length cs)) [
       | inl h ↦
-          (let read : class_at (current_of (explicit_of cs para)) p ≡ placed (explicit_at cs para p) =
-          get_or-map placed (explicit_of cs para) p None L (omega (arith, n))
-          ∙ ap placed (get_or-map (explicit_at cs para) (positions_of cs) p 0 None (omega (arith, length-positions_from 0 (length cs)))
-          ∙ ap (explicit_at cs para) (get_or-positions_from 0 (length cs) p 0 h ∙ omega arith)) in
-          read ∙ explicit-own cs para p (ap is_imposed (sym read) ∙ m))
+          (let read : class_at (current_of (explicit_of depth cs para)) p ≡ placed (explicit_at depth cs para p) =
+          get_or-map placed (explicit_of depth cs para) p None L (omega (arith, n))
+          ∙ ap placed (get_or-map (explicit_at depth cs para) (positions_of cs) p 0 None (omega (arith, length-positions_from 0 (length cs)))
+          ∙ ap (explicit_at depth cs para) (get_or-positions_from 0 (length cs) p 0 h ∙ omega arith)) in
+          read ∙ explicit-own depth cs para p (ap is_imposed (sym read) ∙ m))
       | inr past ↦
-          (let long = length-map (explicit_of cs para) placed in
-          get_or_past (current_of (explicit_of cs para)) p L (omega (arith, n, long)) ∙ sym (get_or_past cs p L past))
+          (let long = length-map (explicit_of depth cs para) placed in
+          get_or_past (current_of (explicit_of depth cs para)) p L (omega (arith, n, long)) ∙ sym (get_or_past cs p L past))
     ]
 
 mark-not_imposed : (c : Class) → is_nonspacing c ≡ true → is_imposed c ≡ false

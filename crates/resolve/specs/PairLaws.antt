@@ -1,36 +1,37 @@
--- What holds of the bracket pairs of every sequence (BD16).
+-- What holds of the bracket pairs of every sequence (BD16), with room for any number of open brackets.
 use Rattle.std.specs.Prelude.{Option, ℕ, zero, suc, ◌≡◌, ◌<◌, ◌≤◌, ◌+◌, ◌-◌, ◌*◌, ◌⊎◌, Bool, ◌&&◌, nat_lt, List, length, Some, None}
 use Rattle.std.specs.List.{count_by, sum_by}
-use Rattle.units.specs.Brackets.{stack_size, bracket_pairs_of, closer_of}
+use Rattle.units.specs.Brackets.{is_open, bracket_at, stop_of, bracket_pairs_of, closer_of}
+use Rattle.units.specs.Positions.{first_from}
 use Rattle.units.specs.declared.bracket.Bracket.{Bracket}
 
 -- BD16: o and c are the brackets of a pair that counts
-abbrev pub IsPair : List Bracket → ℕ → ℕ → Type 0
-IsPair bs o c = closer_of (bracket_pairs_of bs) o ≡ Some c
+abbrev pub IsPair : ℕ → List Bracket → ℕ → ℕ → Type 0
+IsPair room bs o c = closer_of (bracket_pairs_of room bs) o ≡ Some c
 
 -- BD16: a closer stands after its opener, within the sequence
-abbrev pub PairsAreOrdered : List Bracket → Type 0
-PairsAreOrdered bs = (o c : ℕ) → IsPair bs o c → (o < c) × (c < length bs)
+abbrev pub PairsAreOrdered : ℕ → List Bracket → Type 0
+PairsAreOrdered room bs = (o c : ℕ) → IsPair room bs o c → (o < c) × (c < length bs)
 
 -- BD16: of two pairs, the later ends first, or begins after the earlier has ended
-abbrev pub PairsNest : List Bracket → Type 0
-PairsNest bs = (o c o2 c2 : ℕ) → IsPair bs o c → IsPair bs o2 c2 → o < o2 → (c < o2) ⊎ (c2 < c)
+abbrev pub PairsNest : ℕ → List Bracket → Type 0
+PairsNest room bs = (o c o2 c2 : ℕ) → IsPair room bs o c → IsPair room bs o2 c2 → o < o2 → (c < o2) ⊎ (c2 < c)
 
 -- N0: an index stands strictly inside a pair
 abbrev pub stands_inside : ℕ → ℕ × ℕ → Bool
 stands_inside k pair = nat_lt pair.0 k && nat_lt k pair.1
 
--- BD16: an index stands inside at most 63 pairs
-abbrev pub PairsAreShallow : List Bracket → Type 0
-PairsAreShallow bs = (k : ℕ) → count_by (stands_inside k) (bracket_pairs_of bs) ≤ stack_size
+-- BD16: an index stands inside no more pairs than there is room for open brackets
+abbrev pub PairsAreShallow : ℕ → List Bracket → Type 0
+PairsAreShallow room bs = (k : ℕ) → count_by (stands_inside k) (bracket_pairs_of room bs) ≤ room
 
 -- how many indices stand inside the pairs, counted for each pair
 abbrev pub total_inside : List (ℕ × ℕ) → ℕ
 total_inside pairs = sum_by (λ pair. pair.1 - (pair.0 + 1)) pairs
 
--- BD16: together they are at most 63 times the length
-abbrev pub InsidesAreFew : List Bracket → Type 0
-InsidesAreFew bs = total_inside (bracket_pairs_of bs) ≤ stack_size * length bs
+-- BD16: together they are at most so many times the length
+abbrev pub InsidesAreFew : ℕ → List Bracket → Type 0
+InsidesAreFew room bs = total_inside (bracket_pairs_of room bs) ≤ room * length bs
 
 -- the sum of f over the indices below an end
 abbrev pub sum_below : (ℕ → ℕ) → ℕ → ℕ
@@ -43,6 +44,10 @@ inside_of o None = 0
 inside_of o (Some c) = c - (o + 1)
 
 -- BD16: the same, counted opener by opener
-abbrev pub InsidesAreFewByOpener : List Bracket → Type 0
-InsidesAreFewByOpener bs =
-    sum_below (λ o. inside_of o (closer_of (bracket_pairs_of bs) o)) (length bs) ≤ stack_size * length bs
+abbrev pub InsidesAreFewByOpener : ℕ → List Bracket → Type 0
+InsidesAreFewByOpener room bs =
+    sum_below (λ o. inside_of o (closer_of (bracket_pairs_of room bs) o)) (length bs) ≤ room * length bs
+
+-- BD16: with no room the first opening bracket is the stop
+abbrev pub StopsAtFirstOpener : List Bracket → Type 0
+StopsAtFirstOpener bs = stop_of 0 bs ≡ first_from (λ p. is_open (bracket_at bs p)) 0 (length bs)

@@ -20,6 +20,7 @@ use std::test::Fail;
 use units::bracket::{Bracket, Key, Unit};
 use units::class::Class;
 use units::level::{Direction, Level};
+use units::limits::Limits;
 use units::memory::Memory;
 use units::steps::Steps;
 
@@ -87,6 +88,7 @@ fn found_from<L: Ledger>(
     rt: &impl Abort,
     alloc: Global,
     para: &[Unit],
+    limits: Limits,
     blank: Blank,
 ) -> Result<Found, Memory>
     requires separators { SeparatorOnlyLast para.now }
@@ -101,13 +103,13 @@ fn found_from<L: Ledger>(
     let mut pairs = Pairs::with_room(alloc, para.len())?;
     isolates.fill(para, &mut steps);
     let level = para_level(para, &isolates, Direction::Ltr, &mut steps);
-    explicit_levels(para, &isolates, level, &mut explicit, &mut steps);
-    sequences.fill(para, &isolates, &explicit, level, &mut steps);
+    explicit_levels(para, &isolates, level, limits, &mut explicit, &mut steps);
+    sequences.fill(para, &isolates, &explicit, level, limits, &mut steps);
     assert!(rt; sequences.count() > 0);
     let sequence = sequences.get(0);
     let mut classes: Vec<Class> = para.iter().map(|unit| unit.class).collect(alloc)?;
     weak(&sequence, &mut classes, &mut steps);
-    bracket_pairs(&sequence, para, &classes, &mut pairs, &mut steps);
+    bracket_pairs(&sequence, para, &classes, limits, &mut pairs, &mut steps);
     let mut closers = vec![in alloc; None; para.len()]?;
     for p in 0..para.len() {
         closers[p] = pairs.closer(p);
@@ -133,7 +135,7 @@ fn assert_weak(
 ) -> Result<(), Memory> {
     let para: Vec<Unit> = classes.iter().map(|class| plain(*class)).collect(alloc)?;
     assert!(rt; is_paragraph(&para));
-    let found = found_from::<Brand>(rt, alloc, &para, Blank::new(1))?;
+    let found = found_from::<Brand>(rt, alloc, &para, Limits::standard(), Blank::new(1))?;
     assert_eq!(rt; found.after_weak.as_slice(), after_weak);
     assert_shown(rt, &found.levels, shown);
     Ok(())
@@ -159,14 +161,38 @@ fn weak_types(rt: HostRuntime) -> Result<(), Fail> {
     Ok(())
 }
 
+/// Checks which pairs of a paragraph count, by the positions of their closing brackets.
+fn assert_closers(
+    rt: &impl Abort,
+    alloc: Global,
+    para: &[Unit],
+    limits: Limits,
+    closers: &[Option<usize>],
+) -> Result<(), Memory> {
+    assert!(rt; is_paragraph(para));
+    let found = found_from::<Brand>(rt, alloc, para, limits, Blank::new(1))?;
+    assert_eq!(rt; found.closers.as_slice(), closers);
+    Ok(())
+}
+
 #[test]
 fn closers(rt: HostRuntime) -> Result<(), Fail> {
     let (l, r) = (plain(Class::L), plain(Class::R));
     let para = [r, open(1), open(1), r, close(1), l, close(1)];
-    assert!(rt; is_paragraph(&para));
-    let found = found_from::<Brand>(&rt, rt.alloc(), &para, Blank::new(1))?;
     let expected = [None, Some(6), Some(4), None, None, None, None];
-    assert_eq!(rt; found.closers.as_slice(), expected.as_slice());
+    assert_closers(&rt, rt.alloc(), &para, Limits::standard(), &expected)?;
+    Ok(())
+}
+
+#[test]
+fn pairs_end_before_the_first_opener_without_room(rt: HostRuntime) -> Result<(), Fail> {
+    let (alloc, r) = (rt.alloc(), plain(Class::R));
+    let para = [open(1), r, close(1), open(1), open(1), close(1), close(1)];
+    let all = [Some(2), None, None, Some(6), Some(5), None, None];
+    assert_closers(&rt, alloc, &para, Limits::new(1, 2)?, &all)?;
+    let first = [Some(2), None, None, None, None, None, None];
+    assert_closers(&rt, alloc, &para, Limits::new(1, 1)?, &first)?;
+    assert_closers(&rt, alloc, &para, Limits::new(1, 0)?, &[None; 7])?;
     Ok(())
 }
 

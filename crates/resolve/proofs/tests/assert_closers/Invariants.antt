@@ -1,4 +1,4 @@
-use Rattle.resolve.proofs.tests.closers.Given as goal
+use Rattle.resolve.proofs.tests.assert_closers.Given as goal
 
 abbrev pub ghosts-found_from : goal.ghosts-found_from
 ghosts-found_from g a = record { name = a.blank.name; parts = a.blank.parts }
