@@ -56,8 +56,8 @@ impl Explicit {
         })
     }
 
-    /// X1 to X9: the explicit level, 0 to the depth that it was filled with, and the current class of the position `p`, or
-    /// none where it is removed. `p` is a position of the paragraph that was filled from.
+    /// X1 to X9: the explicit level, 0 to the depth that it was filled with, and the current class of the position `p`,
+    /// or none where it is removed. `p` is a position of the paragraph that was filled from.
     pub fn at(&self, p: usize) -> Option<(Level, Class)>
         requires { p < length self.now }
         ensures kept { result ≡ slice_index_or self.now p None }
@@ -114,9 +114,9 @@ fn find_places<L: Ledger>(
     stack.clear(steps);
 }
 
-/// X1 to X9: finds the explicit levels, up to the depth of these limits (BD2), and the current classes of a paragraph of
-/// this level, for which `out` has room and from which `map` was filled. What was found of an earlier one is gone. Each
-/// position is a step, and each entry of the stack (X1) that a PDI or the paragraph's end drops.
+/// X1 to X9: finds the explicit levels, up to the depth of these limits (BD2), and the current classes of a paragraph
+/// of this level, for which `out` has room and from which `map` was filled. What was found of an earlier one is gone.
+/// Each position is a step, and each entry of the stack (X1) that a PDI or the paragraph's end drops.
 pub fn explicit_levels<L: Ledger>(
     para: &[Unit],
     map: &IsolateMap,

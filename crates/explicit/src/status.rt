@@ -32,8 +32,8 @@ impl Default for Status {
 
 /// X1: the stack of directional statuses, one for the paragraph and one for each open initiator that was taken, and
 /// the counts of overflow isolates, of overflow embeddings and of the open isolates that were taken. A level rises
-/// with each entry from 0 or 1 to at most 125, the greatest depth that is allowed, so 126 entries are the most. Its room
-/// is made once, for each depth.
+/// with each entry from 0 or 1 to at most 125, the greatest depth that is allowed, so 126 entries are the most. Its
+/// room is made once, for each depth.
 #[derive(Drop)]
 pub struct StatusStack {
     entries: ArrayVec<Status, 127>,
