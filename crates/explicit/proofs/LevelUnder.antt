@@ -6,7 +6,6 @@ use Rattle.units.specs.Isolates.{first_strong, begins_right_to_left, para_level_
 use Rattle.units.specs.declared.class.Class.{Class}
 use Rattle.units.specs.declared.level.Direction.{Direction}
 use Rattle.units.specs.declared.level.Direction.TheVariants.{Auto, Ltr, Rtl, AutoRtl}
-use Rattle.explicit.specs.declared.side.Side.{Side}
 use Rattle.explicit.specs.declared.side.Side.TheVariants.{LeftToRight, RightToLeft}
 use Rattle.explicit.specs.SideLevels.{level_by_side, level_under}
 use Rattle.explicit.specs.Sides.{side_at}
