@@ -95,7 +95,8 @@ fn no_breaks(len: usize) -> Breaks<'static>
 enum Comparison {
     /// They differ, first at this place.
     Differs(Place),
-    /// They agree, and so does the layout under the other direction, if one is named, since it is the same.
+    /// They agree, and so does the layout under the other direction, if one is named, since it is the same; one is
+    /// named for a text of one paragraph.
     Agrees { also_under: Option<Direction> },
 }
 

@@ -30,9 +30,6 @@ pub matching_pdf_is : (cs : List Class) (e : ℕ) → is_embedding_initiator (cl
 unfolding matching_pdf match_of
 matching_pdf_is cs e h = go (first_from (is_level (opens_beside cs e) (closes_beside cs e) e) (e + 1) (length cs - (e + 1))) refl
   where
-    whole : ℕ → Bool
-    whole = λ f. is_same (isolate_around cs f) (isolate_around cs e) && (count_by (opens_beside cs e) (positions_from e (f + 1 - e)) == count_by (closes_beside cs e) (positions_from e (f + 1 - e)))
-
     closer : (f : ℕ) → match_of (opens_beside cs e) (closes_beside cs e) (length cs) e ≡ Some f → closes_beside cs e f ≡ true
     closer f m = match_closes (opens_beside cs e) (closes_beside cs e) (length cs) e f (beside_exclude cs e) (opens_beside_itself cs e h) m
 

@@ -158,11 +158,6 @@ module _ {extent : ℕ} {all : List SequenceView} (apart : AreApart extent all) 
       let P : SequenceView → Type 0 = λ x. Contains x.positions p in
       contained all k s inside p (subst P (sym (get_or_from_slice_get all k s s at)) c)
 
-  pub extent_of : s.extent ≡ extent
-  extent_of =
-      let P : SequenceView → Type 0 = λ x. x.extent ≡ extent in
-      subst P (get_or_from_slice_get all k s s at) (All-get_or P all k s inside apart.extents)
-
   pub copied : (classes before : List Class) → ((p : ℕ) → times (positions_in (take k all)) p ≡ 0 → class_at classes p ≡ class_at before p) →
       classes_at classes s.positions ≡ classes_at before s.positions
   copied classes before same =

@@ -11,7 +11,7 @@ ghost use Rattle.units.specs.declared.class.Class.TheVariants.{BN};
 ghost use Rattle.flat.specs.Flat.{IsFlat, flat_para_level};
 ghost use Rattle.flat.specs.IdleRules.{HasNone};
 ghost use Rattle.flat.specs.Uniform.{kept_level};
-ghost use Rattle.paragraph.specs.Contents.{Describes};
+ghost use Rattle.paragraph.specs.Contents.{Describes, keeps_level};
 ghost use Rattle.paragraph.specs.FirstSides.{side_by};
 ghost use Rattle.paragraph.specs.Covering.{AreApart, HasLevelsBy, positions_in};
 ghost use Rattle.paragraph.specs.Resolvers.{StaysAt};
@@ -25,7 +25,7 @@ use explicit::para_level::{level_under, para_level};
 use explicit::side::Side;
 use resolve::pairs::Pairs;
 use resolve::sequence::{Sought, resolve_sequence};
-use sequences::paragraph::Sequences;
+use sequences::sequences::Sequences;
 use std::alloc::Global;
 use std::boxed::BoxedSlice;
 use std::marker::Model;
@@ -65,7 +65,8 @@ impl Model for Resolver {
 pub struct Resolved {
     /// Its level (P2, P3).
     pub level: ParaLevel,
-    /// Known to be at that level at each position that remains (X9).
+    /// Known to be at that level at each position that remains (X9): nothing in it begins an embedding or an isolate,
+    /// and no class in it rises above that level.
     pub uniform: bool,
 }
 
@@ -352,10 +353,12 @@ impl Resolver {
         requires levels { length levels.old ≡ length para.now }
         ensures level { level_of_para result.level ≡ para_level_of (classes_of para.now) direction }
         ensures levels { levels.new ≡ resolved_levels para.now (para_level_of (classes_of para.now) direction) }
+        ensures known { result.uniform ≡ keeps_level (level_of_para result.level) (classes_of para.now) }
         ensures uniform { result.uniform ≡ true → StaysAt (level_of_para result.level) levels.new }
         ensures room { self.new ≡ self.old }
         ensures at_least { steps.old + 2 * length para.now ≤ steps.new }
         ensures at_most { steps.new ≤ steps.old + 82 * length para.now + 1 }
+        ensures light { result.uniform ≡ true → steps.new ≤ steps.old + 3 * length para.now }
     {
         let first = FirstParagraph::of(para, steps);
         self.resolve_known(para, first.contents, direction, levels, steps)
@@ -376,10 +379,12 @@ impl Resolver {
         requires levels { length levels.old ≡ length para.now }
         ensures level { level_of_para result.level ≡ para_level_of (classes_of para.now) direction }
         ensures levels { levels.new ≡ resolved_levels para.now (para_level_of (classes_of para.now) direction) }
+        ensures known { result.uniform ≡ keeps_level (level_of_para result.level) (classes_of para.now) }
         ensures uniform { result.uniform ≡ true → StaysAt (level_of_para result.level) levels.new }
         ensures room { self.new ≡ self.old }
         ensures at_least { steps.old + length para.now ≤ steps.new }
         ensures at_most { steps.new ≤ steps.old + 81 * length para.now + 1 }
+        ensures light { result.uniform ≡ true → steps.new ≤ steps.old + 2 * length para.now }
     {
         if contents.is_flat() {
             return self.resolve_flat(para, contents, direction, levels, steps);
@@ -432,10 +437,12 @@ impl Resolver {
         requires levels { length levels.old ≡ length para.now }
         ensures level { level_of_para result.level ≡ flat_para_level (classes_of para.now) direction }
         ensures levels { levels.new ≡ resolved_levels para.now (flat_para_level (classes_of para.now) direction) }
+        ensures known { result.uniform ≡ keeps_level (level_of_para result.level) (classes_of para.now) }
         ensures uniform { result.uniform ≡ true → StaysAt (level_of_para result.level) levels.new }
         ensures room { self.new ≡ self.old }
         ensures at_least { steps.old + length para.now ≤ steps.new }
         ensures at_most { steps.new ≤ steps.old + 78 * length para.now }
+        ensures light { result.uniform ≡ true → steps.new ≤ steps.old + 2 * length para.now }
     {
         // P2, P3.
         let level = flat_level(para, direction, steps);

@@ -4,16 +4,14 @@ use Rattle.std.specs.Option.{option_map_or}
 use Rattle.std.proofs.Common.{arith, ap, sym, ◌∙◌, inl, inr}
 use Rattle.std.proofs.lemmas.Bool.{cases_lt, both_ways}
 use Rattle.std.proofs.lemmas.List.{get_or-map, get_or_past, length-map}
-use Rattle.units.specs.Classes.{class_at, classes_of, is_nonspacing, is_removed, is_separator}
+use Rattle.units.specs.Classes.{class_at, is_nonspacing, is_removed, is_separator}
 use Rattle.units.specs.Explicit.{State, entered, state_of, override_of, wanted_level, chain, explicit_at, explicit_of}
 use Rattle.units.specs.Layout.{current_of}
 use Rattle.units.specs.Positions.{positions_of}
-use Rattle.units.specs.declared.bracket.Unit.{Unit as BidiUnit}
 use Rattle.units.specs.declared.class.Class.{Class}
 use Rattle.units.specs.declared.class.Class.TheVariants.{L, R, BN, LRO, RLO}
 use Rattle.explicit.proofs.Positions.{length-positions_from, get_or-positions_from}
-use Rattle.resolve.specs.Pairs.{MarksAreOwn}
-use Rattle.resolve.specs.Sought.{is_imposed, AreOwn}
+use Rattle.resolve.specs.Sought.{is_imposed}
 
 -- an override is a direction
 abbrev IsDirection : Option Class → Type 0
@@ -81,6 +79,3 @@ mark-not_imposed c h = refl
 -- no override makes a mark
 pub mark-own : (now own : Class) → (is_imposed now ≡ false → now ≡ own) → is_nonspacing now ≡ true → is_nonspacing own ≡ true
 mark-own now own same m = ap is_nonspacing (sym (same (mark-not_imposed now m))) ∙ m
-
-pub marks_are_own : (ps : List ℕ) (us : List BidiUnit) (before : List Class) → AreOwn ps us before → MarksAreOwn ps us before
-marks_are_own ps us before own = λ p within. mark-own (class_at before p) (class_at (classes_of us) p) (own p within)

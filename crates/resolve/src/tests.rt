@@ -11,7 +11,7 @@ use crate::weak::weak;
 use explicit::isolates::IsolateMap;
 use explicit::levels::{Explicit, explicit_levels};
 use explicit::para_level::para_level;
-use sequences::paragraph::Sequences;
+use sequences::sequences::Sequences;
 use std::alloc::Global;
 use std::marker::Brand;
 use std::process::Abort;

@@ -48,9 +48,6 @@ module _ {units : List BidiUnit} {isolates : Isolates} {places : List (Option (�
   pub within_places : p < length places
   within_places = omega (arith, within_classes, a.levels.enough)
 
-  pub within_isolates : p < length isolates.partners
-  within_isolates = omega (arith, within_classes, a.matched.matched.enough)
-
   -- a position's level is that of its place
   pub level-place : level_of t p ≡ option_map (λ place. place.0) (slice_index_or places p None)
   level-place =

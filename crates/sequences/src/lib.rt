@@ -5,8 +5,8 @@ mod heads;
 pub mod laws;
 mod leveled;
 mod linking;
-pub mod paragraph;
+mod one_sequence;
 pub mod sequence;
+pub mod sequences;
 #[cfg(test)]
 mod tests;
-mod whole;

@@ -11,7 +11,7 @@ use explicit::levels::{Explicit, explicit_levels};
 use explicit::para_level::para_level;
 use resolve::implicit::implicit;
 use resolve::weak::weak;
-use sequences::paragraph::Sequences;
+use sequences::sequences::Sequences;
 use sequences::sequence::Sequence;
 use std::alloc::Global;
 use std::marker::Brand;

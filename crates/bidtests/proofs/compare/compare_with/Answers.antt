@@ -1,6 +1,8 @@
-use Rattle.std.proofs.Common.{◌≡◌, map, ap, ◌∙◌, rules}
+use Rattle.std.proofs.Common.{◌≡◌, map, length, ap, sym, ◌∙◌, rules}
+use Rattle.std.proofs.lemmas.List.{length-map}
 use Rattle.units.specs.Isolates.{level_of_para}
 use Rattle.units.specs.Layout.{TextLayout, layout_of, para_levels_of}
+use Rattle.units.specs.Paragraphs.{paragraphs_of}
 use Rattle.bidtests.specs.Comparisons.{IsRight}
 use Rattle.bidtests.specs.Readings.{claim_of}
 use Rattle.bidtests.proofs.SameLayout.{also-right}
@@ -12,5 +14,8 @@ returns-in-None c =
     λ direction laid.
     let right : IsRight (claim_of c.args.claim) direction = search rules in
     let paras : map level_of_para c.para_levels-in-None.result.now ≡ para_levels_of c.args.claim.text.now direction =
-    c.para_levels-in-None.ensures ∙ ap (λ (v : TextLayout). v.paras) laid in
-    (right, also-right (claim_of c.args.claim) direction c.direction_of.result (map level_of_para c.para_levels-in-None.result.now) paras c.direction_of.ensures.level right)
+    c.para_levels-in-None.ensures ∙ ap (λ (v : TextLayout). v.paras) laid in (
+      right,
+      also-right (claim_of c.args.claim) direction c.direction_of.result (map level_of_para c.para_levels-in-None.result.now) paras c.direction_of.ensures.level right,
+      λ one. c.direction_of.ensures.one (sym (length-map c.para_levels-in-None.result.now level_of_para) ∙ ap length paras ∙ length-map (paragraphs_of c.args.claim.text.now) _ ∙ one),
+    )

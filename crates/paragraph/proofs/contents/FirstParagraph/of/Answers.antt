@@ -1,5 +1,4 @@
-use Rattle.std.proofs.Common.{arith, refl, sym, subst, ap, ◌≡◌, ◌∙◌, ◌+◌, ℕ, List, length, take, drop, true}
-use Rattle.units.specs.Classes.{classes_of}
+use Rattle.std.proofs.Common.{arith, sym, subst, ◌∙◌, ℕ, List}
 use Rattle.units.specs.Layout.{no_unit}
 use Rattle.units.specs.declared.class.Class.{Class}
 use Rattle.paragraph.specs.ClassSets.{IsSetOf}

@@ -19,8 +19,10 @@ returns g c =
     record {
       level = c.resolve_known.ensures.level;
       levels = c.resolve_known.ensures.levels;
+      known = c.resolve_known.ensures.known;
       uniform = c.resolve_known.ensures.uniform;
       room = c.resolve_known.ensures.room;
       at_least = omega (arith, all);
       at_most = omega (arith, all);
+      light = λ known. omega (arith, all, c.resolve_known.ensures.light known);
     }

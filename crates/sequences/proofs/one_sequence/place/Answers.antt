@@ -1,0 +1,19 @@
+use Rattle.std.proofs.Common.{arith, ap, sym, ◌≡◌, ◌∙◌, length, ℕ}
+use Rattle.units.specs.Classes.{classes_of}
+use Rattle.units.specs.Positions.{positions_from}
+use Rattle.flat.specs.Flat.{remaining_of}
+use Rattle.flat.proofs.Listed.{length-positions_from}
+use Rattle.sequences.proofs.FilledFrom.{length-classes_of}
+use Rattle.sequences.proofs.Remaining.{all_remain}
+use Rattle.sequences.proofs.one_sequence.place.Goals as goal
+
+pub returns-then-whole : goal.returns-then-whole
+returns-then-whole g c =
+    let n : ℕ = length c.args.para.now in
+    let all : remaining_of (classes_of c.args.para.now) ≡ positions_from 0 n = all_remain (classes_of c.args.para.now) (c.requires.whole c.if-whole.true) ∙ ap (positions_from 0) (length-classes_of c.args.para.now) in
+    record {
+      count = sym (ap length all ∙ length-positions_from 0 n);
+      placed = c.place_all.ensures.placed ∙ sym all;
+      within = omega arith;
+      steps = omega arith;
+    }

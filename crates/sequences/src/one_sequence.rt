@@ -1,0 +1,172 @@
+//! A paragraph in which nothing begins an embedding or an isolate: what remains of it is one sequence.
+ghost use Rattle.std.specs.Prelude.{◌≡◌, ◌+◌, ◌<◌, ◌≤◌, ℕ, length, slice_get, take, true};
+ghost use Rattle.units.specs.Classes.{classes_of, is_removed};
+ghost use Rattle.units.specs.Isolates.{level_of_para};
+ghost use Rattle.units.specs.Positions.{positions_from};
+ghost use Rattle.units.specs.Runs.{leveled_of, sequences_of};
+ghost use Rattle.flat.specs.Flat.{IsFlat, remaining_of};
+ghost use Rattle.flat.specs.IdleRules.{HasNone};
+ghost use Rattle.sequences.specs.Links.{ArePositions, IsChain};
+ghost use Rattle.sequences.specs.Heads.{HoldSequences, only_head};
+
+use crate::heads::Head;
+use std::sync::ledger::Ledger;
+use units::bracket::Unit;
+use units::level::{Level, ParaLevel};
+use units::optional_position::OptionalPosition;
+use units::steps::Steps;
+
+/// Writes all positions below `end` into the column, from the front on.
+fn place_all<L: Ledger>(end: usize, column: &mut [u32], steps: &mut Steps<L>)
+    requires small { end < u32.MAX }
+    requires room { end ≤ length column.old }
+    ensures placed { take end column.new ≡ positions_from 0 end }
+    ensures steps { steps.new ≡ steps.old + end }
+{
+    for p in 0..end {
+        steps.tick();
+        column[p] = p as u32;
+    }
+}
+
+/// Writes the positions that remain (X9) into the column, from the front on. Answers how many they are.
+fn place_remaining<L: Ledger>(para: &[Unit], column: &mut [u32], steps: &mut Steps<L>) -> usize
+    requires small { length para.now < u32.MAX }
+    requires room { length para.now ≤ length column.old }
+    ensures count { result ≡ length (remaining_of (classes_of para.now)) }
+    ensures placed { take result column.new ≡ remaining_of (classes_of para.now) }
+    ensures within { result ≤ length para.now }
+    ensures steps { steps.new ≡ steps.old + length para.now }
+{
+    let mut count = 0;
+    for p in 0..para.len() {
+        steps.tick();
+        if !para[p].class.is_removed() {
+            column[count] = p as u32;
+            count += 1;
+        }
+    }
+    count
+}
+
+/// The position after the one with this number, if it isn't the last.
+fn position_after(positions: &[u32], k: usize) -> OptionalPosition
+    requires here { k < length positions.now }
+    requires rise { ArePositions positions.now u32.MAX }
+    ensures { result ≡ slice_get positions.now (k + 1) }
+{
+    match positions.get(k + 1) {
+        Some(next) => OptionalPosition::some(*next as usize),
+        None => OptionalPosition::none(),
+    }
+}
+
+/// Links each of these positions to the next.
+fn link_all<L: Ledger>(positions: &[u32], links: &mut [OptionalPosition], steps: &mut Steps<L>)
+    requires small { length links.old < u32.MAX }
+    requires rise { ArePositions positions.now (length links.old) }
+    ensures chain { IsChain positions.now links.new }
+    ensures steps { steps.new ≡ steps.old + length positions.now }
+{
+    for k in 0..positions.len() {
+        steps.tick();
+        links[positions[k] as usize] = position_after(positions, k);
+    }
+}
+
+/// What is stored of a sequence of so many positions at the front of the column, in a paragraph of this level.
+fn only_head(level: Level, count: usize) -> Head
+    requires { count < u32.MAX }
+    ensures { result ≡ only_head level count }
+{
+    Head {
+        start: 0,
+        end: count as u32,
+        level,
+        sos: level.direction(),
+        eos: level.direction(),
+    }
+}
+
+/// Writes the positions that remain (X9) into the column, from the front on: all of them, and without a look at a class,
+/// if the paragraph is `whole`. Answers how many they are.
+fn place<L: Ledger>(para: &[Unit], whole: bool, column: &mut [u32], steps: &mut Steps<L>) -> usize
+    requires whole { whole ≡ true → HasNone is_removed (classes_of para.now) }
+    requires small { length para.now < u32.MAX }
+    requires room { length para.now ≤ length column.old }
+    ensures count { result ≡ length (remaining_of (classes_of para.now)) }
+    ensures placed { take result column.new ≡ remaining_of (classes_of para.now) }
+    ensures within { result ≤ length para.now }
+    ensures steps { steps.new ≡ steps.old + length para.now }
+{
+    if whole {
+        place_all(para.len(), column, steps);
+        return para.len();
+    }
+    place_remaining(para, column, steps)
+}
+
+/// Links each position of a paragraph to the next.
+fn link_successive<L: Ledger>(links: &mut [OptionalPosition], steps: &mut Steps<L>)
+    requires some { 0 < length links.old }
+    requires small { length links.old < u32.MAX }
+    ensures chain { IsChain (positions_from 0 (length links.old)) links.new }
+    ensures steps { steps.new ≡ steps.old + length links.old }
+{
+    let end = links.len();
+    for p in 0..end {
+        steps.tick();
+        links[p] = OptionalPosition::some(p + 1);
+    }
+    links[end - 1] = OptionalPosition::none();
+}
+
+/// Links each of the positions that were placed to the next: all of the paragraph, if it is `whole`.
+fn link_placed<L: Ledger>(
+    positions: &[u32],
+    whole: bool,
+    links: &mut [OptionalPosition],
+    steps: &mut Steps<L>,
+)
+    requires some { 0 < length links.old }
+    requires small { length links.old < u32.MAX }
+    requires rise { ArePositions positions.now (length links.old) }
+    requires whole { whole ≡ true → positions.now ≡ positions_from 0 (length links.old) }
+    ensures chain { IsChain positions.now links.new }
+    ensures steps { steps.new ≡ steps.old + length positions.now }
+{
+    if whole {
+        link_successive(links, steps);
+        return;
+    }
+    link_all(positions, links, steps);
+}
+
+/// Fills the columns, of which the paragraph takes the fronts. Answers how many sequences there are: one, or none
+/// where no position remains.
+pub fn fill_one_sequence<L: Ledger>(
+    para: &[Unit],
+    whole: bool,
+    level: ParaLevel,
+    links: &mut [OptionalPosition],
+    heads: &mut [Head],
+    column: &mut [u32],
+    steps: &mut Steps<L>,
+) -> usize
+    requires flat { IsFlat (classes_of para.now) }
+    requires whole { whole ≡ true → HasNone is_removed (classes_of para.now) }
+    requires small { length para.now < u32.MAX }
+    requires links { length para.now ≤ length links.old }
+    requires heads { length para.now ≤ length heads.old }
+    requires column { length para.now ≤ length column.old }
+    ensures filled { (depth : ℕ) → HoldSequences (sequences_of (leveled_of depth (classes_of para.now) (level_of_para level))) (length para.now) result links.new heads.new column.new }
+    ensures steps { steps.new ≡ steps.old + length para.now + length (remaining_of (classes_of para.now)) }
+{
+    let count = place(para, whole, column, steps);
+    if count == 0 {
+        return 0;
+    }
+    link_placed(&column[..count], whole, &mut links[..para.len()], steps);
+    heads[0] = only_head(level.level(), count);
+    1
+}

@@ -1,0 +1,209 @@
+ghost use Rattle.std.specs.Prelude.{◌≡◌, ◌+◌, ◌*◌, ◌<◌, ◌≤◌, ℕ, [], Some, map, take, length, slice_get, IfOk, sum_by, true};
+ghost use Rattle.std.specs.Box.{boxed_slice_items, boxed_slice_len};
+ghost use Rattle.units.specs.Classes.{classes_of, is_removed};
+ghost use Rattle.units.specs.Isolates.{level_of_para};
+ghost use Rattle.units.specs.Paragraphs.{SeparatorOnlyLast};
+ghost use Rattle.units.specs.Runs.{leveled_of, size_of, sequences_of};
+ghost use Rattle.explicit.specs.ExplicitLevels.{HoldsLevels};
+ghost use Rattle.explicit.specs.IsolateMaps.{IsFilledFrom};
+ghost use Rattle.sequences.specs.View.{SequencesView};
+ghost use Rattle.flat.specs.Flat.{IsFlat, remaining_of};
+ghost use Rattle.flat.specs.IdleRules.{HasNone};
+ghost use Rattle.sequences.specs.Heads.{view_of, column_of, AreFilled};
+ghost use Rattle.sequences.specs.Once.{HoldsOnce};
+ghost use Rattle.sequences.specs.Room.{HasRoom};
+
+use crate::heads::{Head, fill_heads};
+use crate::leveled::Leveled;
+use crate::linking::link;
+use crate::one_sequence::fill_one_sequence;
+use crate::sequence::Sequence;
+use explicit::isolates::IsolateMap;
+use explicit::levels::Explicit;
+use std::alloc::Global;
+use std::boxed::BoxedSlice;
+use std::marker::Model;
+use std::sync::ledger::Ledger;
+use units::bracket::Unit;
+use units::class::Class;
+use units::level::ParaLevel;
+use units::limits::Limits;
+use units::memory::Memory;
+use units::optional_position::OptionalPosition;
+use units::steps::Steps;
+
+/// The isolating run sequences of a paragraph (BD13), in the order of their first positions, in room that is made
+/// once: four bytes a position for links, four for the column of positions, twelve for heads, two more for ends and
+/// marks. The first `count` heads are in use, and so are the first `size` of what is kept for each position.
+#[derive(Drop)]
+pub struct Sequences {
+    links: BoxedSlice<OptionalPosition>,
+    ends: BoxedSlice<Class>,
+    joined: BoxedSlice<bool>,
+    heads: BoxedSlice<Head>,
+    column: BoxedSlice<u32>,
+    count: usize,
+    size: usize,
+}
+
+impl Model for Sequences {
+    ghost Value = { SequencesView };
+
+    ghost view = { λ s. record { all = map (view_of (boxed_slice_items s.column) s.size) (take s.count (boxed_slice_items s.heads)); extent = s.size; room = boxed_slice_len s.links } };
+
+    ghost invariant = { λ s. HasRoom (boxed_slice_items s.links) (boxed_slice_items s.ends) (boxed_slice_items s.joined) (boxed_slice_items s.heads) (boxed_slice_items s.column) s.count s.size };
+}
+
+/// Fills the columns, of which the paragraph takes the fronts. Answers how many sequences there are.
+fn fill_columns<L: Ledger>(
+    t: &Leveled,
+    links: &mut [OptionalPosition],
+    ends: &mut [Class],
+    joined: &mut [bool],
+    heads: &mut [Head],
+    column: &mut [u32],
+    steps: &mut Steps<L>,
+) -> usize
+    requires small { size_of t.now < u32.MAX }
+    requires links { size_of t.now ≤ length links.old }
+    requires ends { size_of t.now ≤ length ends.old }
+    requires joined { size_of t.now ≤ length joined.old }
+    requires heads { size_of t.now ≤ length heads.old }
+    requires column { size_of t.now ≤ length column.old }
+    ensures filled { AreFilled t.now result links.new heads.new column.new }
+    ensures steps { steps.new ≡ steps.old + 2 * size_of t.now + length (column_of t.now) }
+{
+    let size = t.len();
+    let links = &mut links[..size];
+    link(t, links, ends, joined, steps);
+    fill_heads(t, links, ends, joined, heads, column, steps)
+}
+
+impl Sequences {
+    /// No sequences, with room for a paragraph of `n` positions. Memory that is refused is answered as `Memory`, and
+    /// so are 2^32 - 1 positions and more, which links of 32 bits can't count.
+    pub fn with_room(alloc: Global, n: usize) -> Result<Sequences, Memory>
+        ensures { IfOk result (λ s. s ≡ record { all = []; extent = 0; room = n }) }
+    {
+        if n >= u32::MAX as usize {
+            return Err(Memory);
+        }
+        let unused = Head {
+            start: 0,
+            end: 0,
+            level: ParaLevel::Zero.level(),
+            sos: Class::L,
+            eos: Class::L,
+        };
+        Ok(Sequences {
+            links: vec![in alloc; OptionalPosition::none(); n]?.into_boxed_slice(),
+            ends: vec![in alloc; Class::L; n]?.into_boxed_slice(),
+            joined: vec![in alloc; false; n]?.into_boxed_slice(),
+            heads: vec![in alloc; unused; n]?.into_boxed_slice(),
+            column: vec![in alloc; 0; n]?.into_boxed_slice(),
+            count: 0,
+            size: 0,
+        })
+    }
+
+    /// Finds the sequences of a paragraph, which has no more positions than there is room for.
+    fn fill_from<L: Ledger>(&mut self, t: &Leveled, steps: &mut Steps<L>)
+        requires { size_of t.now ≤ self.old.room }
+        ensures all { self.new.all ≡ sequences_of t.now }
+        ensures extent { self.new.extent ≡ size_of t.now }
+        ensures room { self.new.room ≡ self.old.room }
+        ensures once { HoldsOnce t.now self.new.all }
+        ensures fit { sum_by (λ s. length s.positions) self.new.all ≤ size_of t.now }
+        ensures steps { steps.new ≡ steps.old + 2 * size_of t.now + sum_by (λ s. length s.positions) self.new.all }
+    {
+        self.count = fill_columns(
+            t,
+            &mut self.links,
+            &mut self.ends,
+            &mut self.joined,
+            &mut self.heads,
+            &mut self.column,
+            steps,
+        );
+        self.size = t.len();
+    }
+
+    /// Finds the sequences of a paragraph of this level, from its isolates (BD9) and its explicit levels by these
+    /// limits (X1 to X9). There is room for it. What was found of an earlier one is gone.
+    pub fn fill<L: Ledger>(
+        &mut self,
+        para: &[Unit],
+        isolates: &IsolateMap,
+        explicit: &Explicit,
+        level: ParaLevel,
+        limits: Limits,
+        steps: &mut Steps<L>,
+    )
+        requires room { length para.now ≤ self.old.room }
+        requires separators { SeparatorOnlyLast para.now }
+        requires isolates { IsFilledFrom isolates.now (classes_of para.now) }
+        requires levels { HoldsLevels explicit.now limits.depth (classes_of para.now) (level_of_para level) }
+        ensures all { self.new.all ≡ sequences_of (leveled_of limits.depth (classes_of para.now) (level_of_para level)) }
+        ensures extent { self.new.extent ≡ length para.now }
+        ensures room { self.new.room ≡ self.old.room }
+        ensures once { HoldsOnce (leveled_of limits.depth (classes_of para.now) (level_of_para level)) self.new.all }
+        ensures fit { sum_by (λ s. length s.positions) self.new.all ≤ length para.now }
+        ensures steps { steps.new ≡ steps.old + 2 * length para.now + sum_by (λ s. length s.positions) self.new.all }
+    {
+        let leveled = Leveled::new(para, isolates, explicit, level, limits);
+        self.fill_from(&leveled, steps);
+    }
+
+    /// Finds the one sequence of a paragraph of this level in which nothing begins an embedding or an isolate: all
+    /// that remains of it (X9), which is all of it if the paragraph is `whole`. There is room for it. What was found
+    /// of an earlier one is gone.
+    pub fn fill_flat<L: Ledger>(
+        &mut self,
+        para: &[Unit],
+        whole: bool,
+        level: ParaLevel,
+        steps: &mut Steps<L>,
+    )
+        requires room { length para.now ≤ self.old.room }
+        requires flat { IsFlat (classes_of para.now) }
+        requires whole { whole ≡ true → HasNone is_removed (classes_of para.now) }
+        ensures all { (depth : ℕ) → self.new.all ≡ sequences_of (leveled_of depth (classes_of para.now) (level_of_para level)) }
+        ensures extent { self.new.extent ≡ length para.now }
+        ensures room { self.new.room ≡ self.old.room }
+        ensures steps { steps.new ≡ steps.old + length para.now + length (remaining_of (classes_of para.now)) }
+    {
+        self.count = fill_one_sequence(
+            para,
+            whole,
+            level,
+            &mut self.links,
+            &mut self.heads,
+            &mut self.column,
+            steps,
+        );
+        self.size = para.len();
+    }
+
+    /// How many sequences there are.
+    pub fn count(&self) -> usize
+        ensures { result ≡ length self.now.all }
+    {
+        self.count
+    }
+
+    /// The sequence with this number, counted from 0 in the order of first positions.
+    pub fn get(&self, k: usize) -> Sequence<'_>
+        requires { k < length self.now.all }
+        ensures value { slice_get self.now.all k ≡ Some result }
+        ensures extent { result.extent ≡ self.now.extent }
+    {
+        let head = self.heads[k];
+        Sequence {
+            positions: &self.column[head.start as usize..head.end as usize],
+            links: &self.links[..self.size],
+            level: head.level,
+            sos: head.sos,
+            eos: head.eos,
+        }
+    }
+}
