@@ -1,9 +1,16 @@
 // Items of a list in a field.
 ghost use Rattle.std.specs.Prelude.{◌≡◌, ◌+◌, ◌<◌, ◌≤◌, [], ◌∷◌, length, MatchOption, IfSome};
-ghost use Rattle.units.specs.Text.{items_of};
+ghost use Rattle.memchr.specs.Find.{IsFirstByte};
+ghost use Rattle.units.specs.Text.{is_blank as blank_of, items_of};
 
-use crate::text::trim::trim_start;
-use memchr::memchr3;
+use crate::text::trim::{is_blank, trim_start};
+
+// Where the first blank stands. Items are short, so bytes are looked at one by one.
+fn first_blank(bytes: &[u8]) -> Option<usize>
+    ensures { IsFirstByte blank_of bytes.now result }
+{
+    bytes.iter().position(|byte| is_blank(*byte))
+}
 
 /// The first item, and what stands behind it and the blank that ends it.
 pub fn next_item(field: &[u8]) -> Option<(&[u8], &[u8])>
@@ -15,7 +22,7 @@ pub fn next_item(field: &[u8]) -> Option<(&[u8], &[u8])>
     if field.is_empty() {
         return None;
     }
-    match memchr3(b' ', b'\t', b'\r', field) {
+    match first_blank(field) {
         None => Some((field, &[])),
         Some(at) => Some((&field[..at], &field[at + 1..])),
     }
