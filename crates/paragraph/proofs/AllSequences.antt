@@ -8,6 +8,7 @@ use Rattle.std.proofs.lemmas.List.Sums.{length-filter, count_by-le-length}
 use Rattle.units.specs.Classes.{classes_of}
 use Rattle.units.specs.Explicit.{explicit_at, explicit_of}
 use Rattle.units.specs.Layout.{current_of, levels_in, level_found, resolved_levels}
+use Rattle.units.specs.Limits.{LimitsOf}
 use Rattle.units.specs.Paragraphs.{SeparatorOnlyLast}
 use Rattle.units.specs.Positions.{positions_of}
 use Rattle.units.specs.Runs.{SequenceView, LeveledView, leveled_of, size_of, begins_sequence, successor, sequence_from, sequence_at, sequences_of}
@@ -32,12 +33,12 @@ at_most_one true = omega arith
 at_most_one false = omega arith
 
 -- the sequences of a paragraph share no position
-module _ (us : List BidiUnit) (para : ℕ) (low : para ≤ 1) (only : SeparatorOnlyLast us) where
+module _ (depth : ℕ) (deep : depth ≤ 125) (us : List BidiUnit) (para : ℕ) (low : para ≤ 1) (only : SeparatorOnlyLast us) where
   abbrev leveled_here : LeveledView
-  leveled_here = leveled_of (classes_of us) para
+  leveled_here = leveled_of depth (classes_of us) para
 
   size_here : size_of leveled_here ≡ length us
-  size_here = size-is (classes_of us) para ∙ length-map us (λ (u : BidiUnit). u.class)
+  size_here = size-is depth (classes_of us) para ∙ length-map us (λ (u : BidiUnit). u.class)
 
   abbrev firsts : List ℕ
   firsts = filter (begins_sequence leveled_here) (positions_of leveled_here.levels)
@@ -54,13 +55,13 @@ module _ (us : List BidiUnit) (para : ℕ) (low : para ≤ 1) (only : SeparatorO
   inside p h =
       let are : ArePositions (sequence_from leveled_here p) (size_of leveled_here) =
       rising_positions (size_of leveled_here) (sequence_from leveled_here p)
-      (followed_rises (successor leveled_here) (size_of leveled_here) (successor_later leveled_here (leveled (classes_of us) para low)) p h) in
+      (followed_rises (successor leveled_here) (size_of leveled_here) (successor_later leveled_here (leveled depth (classes_of us) para deep low)) p h) in
       All-from_get_or (λ q. q < length us) (sequence_from leveled_here p) 0 (λ i g. omega (arith, are.within i g, size_here))
 
   pub sequences_are_apart : AreApart (length us) (sequences_of leveled_here)
   sequences_are_apart =
-      let l = leveled (classes_of us) para low in
-      let once : HoldsOnce leveled_here (sequences_of leveled_here) = sequences_hold_once leveled_here l (nested us para only) in
+      let l = leveled depth (classes_of us) para deep low in
+      let once : HoldsOnce leveled_here (sequences_of leveled_here) = sequences_hold_once leveled_here l (nested depth us para only) in
       let count : length (sequences_of leveled_here) ≡ length firsts = length-map firsts (sequence_at leveled_here) in
       let n : length (positions_of leveled_here.levels) ≡ size_of leveled_here = length-positions_from 0 (size_of leveled_here) in
       record {
@@ -70,27 +71,27 @@ module _ (us : List BidiUnit) (para : ℕ) (low : para ≤ 1) (only : SeparatorO
             (All-weaker (λ p. p < size_of leveled_here) (λ p. All (λ q. q < length us) (sequence_from leveled_here p)) inside firsts firsts_below);
         once = λ p h. omega (arith, once p (omega (arith, size_here)), at_most_one (Rattle.units.specs.Runs.remains leveled_here p));
         few = omega (arith, count, length-filter (begins_sequence leveled_here) (positions_of leveled_here.levels), count_by-le-length (begins_sequence leveled_here) (positions_of leveled_here.levels), n, size_here);
-        fit = omega (arith, length-flat (sequences_of leveled_here), sequences_fit leveled_here l (nested us para only), size_here);
+        fit = omega (arith, length-flat (sequences_of leveled_here), sequences_fit leveled_here l (nested depth us para only), size_here);
       }
 
 -- but for overrides and what is removed, the current classes are the own ones
-pub classes_are_kept : (us : List BidiUnit) (para : ℕ) (ps : List ℕ) → AreOwn ps us (current_of (explicit_of (classes_of us) para))
-classes_are_kept us para ps = λ p within. current-own (classes_of us) para p
+pub classes_are_kept : (depth : ℕ) (us : List BidiUnit) (para : ℕ) (ps : List ℕ) → AreOwn ps us (current_of (explicit_of depth (classes_of us) para))
+classes_are_kept depth us para ps = λ p within. current-own depth (classes_of us) para p
 
 -- the front of what was found is what the rules give
-pub found_front : (places : List (Option (ℕ × Class))) (cs : List Class) (para : ℕ) → HoldsLevels places cs para → take (length cs) places ≡ explicit_of cs para
-found_front places cs para holds =
-    let n : length (explicit_of cs para) ≡ length cs = length-of_positions cs (explicit_at cs para) in
+pub found_front : (depth : ℕ) (places : List (Option (ℕ × Class))) (cs : List Class) (para : ℕ) → HoldsLevels places depth cs para → take (length cs) places ≡ explicit_of depth cs para
+found_front depth places cs para holds =
+    let n : length (explicit_of depth cs para) ≡ length cs = length-of_positions cs (explicit_at depth cs para) in
     let m : length (take (length cs) places) ≡ length cs = length-take-le (length cs) places holds.enough in
-    ext_get_or None (take (length cs) places) (explicit_of cs para) (m ∙ sym n)
-    (λ i h. get_or-take (length cs) places i None (omega arith) ∙ holds.at i (omega arith) ∙ sym (get_or-of_positions cs (explicit_at cs para) i None (omega arith)))
+    ext_get_or None (take (length cs) places) (explicit_of depth cs para) (m ∙ sym n)
+    (λ i h. get_or-take (length cs) places i None (omega arith) ∙ holds.at i (omega arith) ∙ sym (get_or-of_positions cs (explicit_at depth cs para) i None (omega arith)))
 
-pub levels_are_resolved : (us : List BidiUnit) (para : ℕ) (levels : List (Option ℕ)) → length levels ≡ length us →
-    HasLevelsBy us (current_of (explicit_of (classes_of us) para)) (sequences_of (leveled_of (classes_of us) para)) levels → levels ≡ resolved_levels us para
+pub levels_are_resolved : (limits : LimitsOf) (us : List BidiUnit) (para : ℕ) (levels : List (Option ℕ)) → length levels ≡ length us →
+    HasLevelsBy limits.brackets us (current_of (explicit_of limits.depth (classes_of us) para)) (sequences_of (leveled_of limits.depth (classes_of us) para)) levels → levels ≡ resolved_levels limits us para
 unfolding resolved_levels
-levels_are_resolved us para levels n has =
+levels_are_resolved limits us para levels n has =
     let cs : List Class = classes_of us in
-    let found : ℕ → Option ℕ = level_found (flat_map (levels_in us (current_of (explicit_of cs para))) (sequences_of (leveled_of cs para))) in
+    let found : ℕ → Option ℕ = level_found (flat_map (levels_in limits.brackets us (current_of (explicit_of limits.depth cs para))) (sequences_of (leveled_of limits.depth cs para))) in
     let m : length (positions_of us) ≡ length us = length-positions_from 0 (length us) in
     let k : length (map found (positions_of us)) ≡ length (positions_of us) = length-map (positions_of us) found in
     ext_get_or None levels (map found (positions_of us)) (omega arith)
@@ -99,18 +100,18 @@ levels_are_resolved us para levels n has =
     has i (omega arith) ∙ ap found (sym at) ∙ sym (get_or-map found (positions_of us) i 0 None (omega arith)))
 
 -- of a paragraph whose explicit levels were found
-module _ (us : List BidiUnit) (para : ℕ) (places : List (Option (ℕ × Class))) (holds : HoldsLevels places (classes_of us) para) where
-  front : current_of (take (length us) places) ≡ current_of (explicit_of (classes_of us) para)
+module _ (limits : LimitsOf) (us : List BidiUnit) (para : ℕ) (places : List (Option (ℕ × Class))) (holds : HoldsLevels places limits.depth (classes_of us) para) where
+  front : current_of (take (length us) places) ≡ current_of (explicit_of limits.depth (classes_of us) para)
   front =
       let n : length (classes_of us) ≡ length us = length-map us (λ (u : BidiUnit). u.class) in
-      ap current_of (ap (λ (k : ℕ). take k places) (sym n) ∙ found_front places (classes_of us) para holds)
+      ap current_of (ap (λ (k : ℕ). take k places) (sym n) ∙ found_front limits.depth places (classes_of us) para holds)
 
   pub found_own : (ps : List ℕ) → AreOwn ps us (current_of (take (length us) places))
-  found_own ps = subst (AreOwn ps us) (sym front) (classes_are_kept us para ps)
+  found_own ps = subst (AreOwn ps us) (sym front) (classes_are_kept limits.depth us para ps)
 
-  pub found_levels : (all : List SequenceView) (levels : List (Option ℕ)) → all ≡ sequences_of (leveled_of (classes_of us) para) → length levels ≡ length us →
-      HasLevelsBy us (current_of (take (length us) places)) all levels → levels ≡ resolved_levels us para
+  pub found_levels : (all : List SequenceView) (levels : List (Option ℕ)) → all ≡ sequences_of (leveled_of limits.depth (classes_of us) para) → length levels ≡ length us →
+      HasLevelsBy limits.brackets us (current_of (take (length us) places)) all levels → levels ≡ resolved_levels limits us para
   found_levels all levels e n has =
-      let P : List Class → Type 0 = λ cs. HasLevelsBy us cs all levels in
-      let Q : List SequenceView → Type 0 = λ ss. HasLevelsBy us (current_of (explicit_of (classes_of us) para)) ss levels in
-      levels_are_resolved us para levels n (subst Q e (subst P front has))
+      let P : List Class → Type 0 = λ cs. HasLevelsBy limits.brackets us cs all levels in
+      let Q : List SequenceView → Type 0 = λ ss. HasLevelsBy limits.brackets us (current_of (explicit_of limits.depth (classes_of us) para)) ss levels in
+      levels_are_resolved limits us para levels n (subst Q e (subst P front has))

@@ -8,6 +8,7 @@ use Rattle.std.proofs.lemmas.List.{length-map, get_or-map, get_or_past, ext_get_
 use Rattle.std.proofs.lemmas.List.Sums.{AllPass-from_list_all, count_by-le-length, length-filter}
 use Rattle.units.specs.Classes.{class_at, classes_of, is_removed}
 use Rattle.units.specs.Layout.{no_unit, level_found, levels_in, resolved_levels}
+use Rattle.units.specs.Limits.{LimitsOf}
 use Rattle.units.specs.Positions.{positions_of}
 use Rattle.units.specs.Runs.{SequenceView, leveled_of, sequences_of}
 use Rattle.units.specs.declared.bracket.Unit.{Unit as BidiUnit}
@@ -35,29 +36,29 @@ pub none_from : (test : Class → Bool) (cs : List Class) → has_none test cs �
 none_from test cs h = λ k d lt. not_true (test (get_or cs k d)) (AllPass-from_list_all (λ c. not (test c)) cs h k d lt)
 
 -- where it keeps its level, that level at each position that remains is what the rules resolve
-pub levels_are_kept : (us : List BidiUnit) (para : ℕ) → keeps_level para (classes_of us) ≡ true → map (λ (u : BidiUnit). kept_level para u.class) us ≡ resolved_levels us para
-levels_are_kept us para keeps =
+pub levels_are_kept : (limits : LimitsOf) (us : List BidiUnit) (para : ℕ) → keeps_level para (classes_of us) ≡ true → map (λ (u : BidiUnit). kept_level para u.class) us ≡ resolved_levels limits us para
+levels_are_kept limits us para keeps =
     let cs : List Class = classes_of us in
     let both = and_parts (list_all is_flat cs) (has_none (may_rise para) cs) keeps in
-    sym (resolved_levels-uniform us para (flat_from cs both.0) (none_from (may_rise para) cs both.1))
+    sym (resolved_levels-uniform limits us para (flat_from cs both.0) (none_from (may_rise para) cs both.1))
 
 -- what the sequences of a flat paragraph give, by the own classes, is what the rules resolve
-pub flat_levels : (us : List BidiUnit) (para : ℕ) (all : List SequenceView) (levels : List (Option ℕ)) → IsFlat (classes_of us) → all ≡ sequences_of (leveled_of (classes_of us) para) →
-    length levels ≡ length us → HasLevelsBy us (classes_of us) all levels → levels ≡ resolved_levels us para
-flat_levels us para all levels flat are n has =
+pub flat_levels : (limits : LimitsOf) (us : List BidiUnit) (para : ℕ) (all : List SequenceView) (levels : List (Option ℕ)) → IsFlat (classes_of us) → all ≡ sequences_of (leveled_of limits.depth (classes_of us) para) →
+    length levels ≡ length us → HasLevelsBy limits.brackets us (classes_of us) all levels → levels ≡ resolved_levels limits us para
+flat_levels limits us para all levels flat are n has =
     let cs : List Class = classes_of us in
-    let found : ℕ → Option ℕ = level_found (flat_map (levels_in us cs) (flat_sequences para cs)) in
+    let found : ℕ → Option ℕ = level_found (flat_map (levels_in limits.brackets us cs) (flat_sequences para cs)) in
     let m : length (positions_of us) ≡ length us = length-positions_from 0 (length us) in
     let k : length (map found (positions_of us)) ≡ length (positions_of us) = length-map (positions_of us) found in
-    let one : all ≡ flat_sequences para cs = are ∙ sequences_of-flat cs para flat in
+    let one : all ≡ flat_sequences para cs = are ∙ sequences_of-flat limits.depth cs para flat in
     ext_get_or None levels (map found (positions_of us)) (omega arith)
     (λ i h.
     let at : slice_index (positions_of us) i ≡ i = get_or-positions_from 0 (length us) i 0 (omega arith) ∙ omega arith in
     has i (omega arith)
-    ∙ ap (λ (ss : List SequenceView). level_found (flat_map (levels_in us cs) ss) i) one
+    ∙ ap (λ (ss : List SequenceView). level_found (flat_map (levels_in limits.brackets us cs) ss) i) one
     ∙ ap found (sym at)
     ∙ sym (get_or-map found (positions_of us) i 0 None (omega arith)))
-    ∙ sym (resolved_levels-flat us para flat)
+    ∙ sym (resolved_levels-flat limits us para flat)
 
 -- what is removed nowhere is not removed here
 pub unit_kept : (us : List BidiUnit) (p : ℕ) → p < length us → HasNone is_removed (classes_of us) → is_removed (get_or us p no_unit).class ≡ false

@@ -20,6 +20,7 @@ pub record AreApart (extent : ℕ) (all : List SequenceView) : Type 0 where
   pub few : length all ≤ extent
   pub fit : length (positions_in all) ≤ extent
 
--- W1 to I2: each position has the level that these sequences give it, by the classes before W1, and none if it stands in none of them
-abbrev pub HasLevelsBy : List BidiUnit → List Class → List SequenceView → List (Option ℕ) → Type 0
-HasLevelsBy us before all levels = (p : ℕ) → p < length us → resolved_at levels p ≡ level_found (flat_map (levels_in us before) all) p
+-- W1 to I2: each position has the level that these sequences give it, by the classes before W1 and with room for so
+-- many open brackets, and none if it stands in none of them
+abbrev pub HasLevelsBy : ℕ → List BidiUnit → List Class → List SequenceView → List (Option ℕ) → Type 0
+HasLevelsBy room us before all levels = (p : ℕ) → p < length us → resolved_at levels p ≡ level_found (flat_map (levels_in room us before) all) p

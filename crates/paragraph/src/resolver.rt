@@ -33,6 +33,7 @@ use std::sync::ledger::Ledger;
 use units::bracket::{Bracket, Unit};
 use units::class::Class;
 use units::level::{Direction, Level, ParaLevel};
+use units::limits::Limits;
 use units::memory::Memory;
 use units::steps::Steps;
 
@@ -197,6 +198,7 @@ fn resolve_each<L: Ledger>(
     para: &[Unit],
     sought: Sought,
     before: &[Class],
+    limits: Limits,
     pairs: &mut Pairs,
     classes: &mut [Class],
     levels: &mut [Option<Level>],
@@ -210,7 +212,7 @@ fn resolve_each<L: Ledger>(
     requires levels { length levels.old ≡ length para.now }
     requires fresh { (p : ℕ) → resolved_at levels.old p ≡ None }
     requires room { length para.now ≤ length pairs.old }
-    ensures levels { HasLevelsBy para.now before.now sequences.now.all levels.new }
+    ensures levels { HasLevelsBy limits.brackets para.now before.now sequences.now.all levels.new }
     ensures room { length pairs.new ≡ length pairs.old }
     ensures at_least { steps.old ≤ steps.new }
     ensures at_most { steps.new ≤ steps.old + 74 * length para.now }
@@ -219,7 +221,7 @@ fn resolve_each<L: Ledger>(
         steps.tick();
         let sequence = sequences.get(k);
         resolve_sequence(
-            &sequence, para, sought, before, pairs, classes, levels, steps,
+            &sequence, para, sought, before, limits, pairs, classes, levels, steps,
         );
     }
 }
@@ -231,6 +233,7 @@ fn resolve_found<L: Ledger>(
     weak: bool,
     explicit: &Explicit,
     sequences: &Sequences,
+    limits: Limits,
     pairs: &mut Pairs,
     before: &mut [Class],
     classes: &mut [Class],
@@ -245,7 +248,7 @@ fn resolve_found<L: Ledger>(
     requires before { length para.now ≤ length before.old }
     requires classes { length para.now ≤ length classes.old }
     requires levels { length levels.old ≡ length para.now }
-    ensures levels { HasLevelsBy para.now (current_of (take (length para.now) explicit.now)) sequences.now.all levels.new }
+    ensures levels { HasLevelsBy limits.brackets para.now (current_of (take (length para.now) explicit.now)) sequences.now.all levels.new }
     ensures room { length pairs.new ≡ length pairs.old }
     ensures at_least { steps.old + length para.now ≤ steps.new }
     ensures at_most { steps.new ≤ steps.old + 75 * length para.now }
@@ -255,7 +258,7 @@ fn resolve_found<L: Ledger>(
     let openings = begin(para, explicit, before, classes, levels, steps);
     let sought = Sought { weak, openings };
     resolve_each(
-        sequences, para, sought, before, pairs, classes, levels, steps,
+        sequences, para, sought, before, limits, pairs, classes, levels, steps,
     );
 }
 
@@ -265,6 +268,7 @@ fn resolve_own<L: Ledger>(
     para: &[Unit],
     weak: bool,
     sequences: &Sequences,
+    limits: Limits,
     pairs: &mut Pairs,
     before: &mut [Class],
     classes: &mut [Class],
@@ -277,7 +281,7 @@ fn resolve_own<L: Ledger>(
     requires before { length para.now ≤ length before.old }
     requires classes { length para.now ≤ length classes.old }
     requires levels { length levels.old ≡ length para.now }
-    ensures levels { HasLevelsBy para.now (classes_of para.now) sequences.now.all levels.new }
+    ensures levels { HasLevelsBy limits.brackets para.now (classes_of para.now) sequences.now.all levels.new }
     ensures room { length pairs.new ≡ length pairs.old }
     ensures at_least { steps.old + length para.now ≤ steps.new }
     ensures at_most { steps.new ≤ steps.old + 75 * length para.now }
@@ -287,7 +291,7 @@ fn resolve_own<L: Ledger>(
     let openings = begin_flat(para, before, classes, levels, steps);
     let sought = Sought { weak, openings };
     resolve_each(
-        sequences, para, sought, before, pairs, classes, levels, steps,
+        sequences, para, sought, before, limits, pairs, classes, levels, steps,
     );
 }
 
@@ -340,11 +344,13 @@ impl Resolver {
     }
 
     /// Finds the level of a paragraph (P2, P3) and writes the resolved levels of its positions, none where X9 removes
-    /// one (X1 to I2), over what `levels` held. There is room for the paragraph, and no memory is taken.
+    /// one (X1 to I2), over what `levels` held. `limits` say how deep explicit levels go (BD2) and how many brackets can
+    /// be open (BD16). There is room for the paragraph, and no memory is taken.
     pub fn resolve<L: Ledger>(
         &mut self,
         para: &[Unit],
         direction: Direction,
+        limits: Limits,
         levels: &mut [Option<Level>],
         steps: &mut Steps<L>,
     ) -> Resolved
@@ -352,7 +358,7 @@ impl Resolver {
         requires separators { SeparatorOnlyLast para.now }
         requires levels { length levels.old ≡ length para.now }
         ensures level { level_of_para result.level ≡ para_level_of (classes_of para.now) direction }
-        ensures levels { levels.new ≡ resolved_levels para.now (para_level_of (classes_of para.now) direction) }
+        ensures levels { levels.new ≡ resolved_levels limits para.now (para_level_of (classes_of para.now) direction) }
         ensures known { result.uniform ≡ keeps_level (level_of_para result.level) (classes_of para.now) }
         ensures uniform { result.uniform ≡ true → StaysAt (level_of_para result.level) levels.new }
         ensures room { self.new ≡ self.old }
@@ -361,7 +367,7 @@ impl Resolver {
         ensures light { result.uniform ≡ true → steps.new ≤ steps.old + 3 * length para.now }
     {
         let first = FirstParagraph::of(para, steps);
-        self.resolve_known(para, first.contents, direction, levels, steps)
+        self.resolve_known(para, first.contents, direction, limits, levels, steps)
     }
 
     /// The same of a paragraph whose contents are known.
@@ -370,6 +376,7 @@ impl Resolver {
         para: &[Unit],
         contents: Contents,
         direction: Direction,
+        limits: Limits,
         levels: &mut [Option<Level>],
         steps: &mut Steps<L>,
     ) -> Resolved
@@ -378,7 +385,7 @@ impl Resolver {
         requires separators { SeparatorOnlyLast para.now }
         requires levels { length levels.old ≡ length para.now }
         ensures level { level_of_para result.level ≡ para_level_of (classes_of para.now) direction }
-        ensures levels { levels.new ≡ resolved_levels para.now (para_level_of (classes_of para.now) direction) }
+        ensures levels { levels.new ≡ resolved_levels limits para.now (para_level_of (classes_of para.now) direction) }
         ensures known { result.uniform ≡ keeps_level (level_of_para result.level) (classes_of para.now) }
         ensures uniform { result.uniform ≡ true → StaysAt (level_of_para result.level) levels.new }
         ensures room { self.new ≡ self.old }
@@ -387,7 +394,7 @@ impl Resolver {
         ensures light { result.uniform ≡ true → steps.new ≤ steps.old + 2 * length para.now }
     {
         if contents.is_flat() {
-            return self.resolve_flat(para, contents, direction, levels, steps);
+            return self.resolve_flat(para, contents, direction, limits, levels, steps);
         }
 
         // BD9.
@@ -397,11 +404,12 @@ impl Resolver {
         let level = para_level(para, &self.isolates, direction, steps);
 
         // X1 to X9.
-        explicit_levels(para, &self.isolates, level, &mut self.explicit, steps);
+        let explicit = &mut self.explicit;
+        explicit_levels(para, &self.isolates, level, limits, explicit, steps);
 
         // BD13, X10.
         self.sequences
-            .fill(para, &self.isolates, &self.explicit, level, steps);
+            .fill(para, &self.isolates, &self.explicit, level, limits, steps);
 
         // W1 to I2.
         resolve_found(
@@ -409,6 +417,7 @@ impl Resolver {
             contents.has_weak(),
             &self.explicit,
             &self.sequences,
+            limits,
             &mut self.pairs,
             &mut self.before,
             &mut self.classes,
@@ -427,6 +436,7 @@ impl Resolver {
         para: &[Unit],
         contents: Contents,
         direction: Direction,
+        limits: Limits,
         levels: &mut [Option<Level>],
         steps: &mut Steps<L>,
     ) -> Resolved
@@ -436,7 +446,7 @@ impl Resolver {
         requires flat { IsFlat (classes_of para.now) }
         requires levels { length levels.old ≡ length para.now }
         ensures level { level_of_para result.level ≡ flat_para_level (classes_of para.now) direction }
-        ensures levels { levels.new ≡ resolved_levels para.now (flat_para_level (classes_of para.now) direction) }
+        ensures levels { levels.new ≡ resolved_levels limits para.now (flat_para_level (classes_of para.now) direction) }
         ensures known { result.uniform ≡ keeps_level (level_of_para result.level) (classes_of para.now) }
         ensures uniform { result.uniform ≡ true → StaysAt (level_of_para result.level) levels.new }
         ensures room { self.new ≡ self.old }
@@ -465,6 +475,7 @@ impl Resolver {
             para,
             contents.has_weak(),
             &self.sequences,
+            limits,
             &mut self.pairs,
             &mut self.before,
             &mut self.classes,

@@ -13,6 +13,7 @@ use std::test::Fail;
 use units::bracket::{Bracket, Key, Unit};
 use units::class::Class;
 use units::level::{Direction, Level};
+use units::limits::Limits;
 use units::memory::Memory;
 use units::steps::Steps;
 
@@ -55,6 +56,7 @@ fn levels_from<L: Ledger>(
     alloc: Global,
     para: &[Unit],
     direction: Direction,
+    limits: Limits,
     blank: Blank,
 ) -> Result<Vec<Option<Level>>, Memory>
     requires separators { SeparatorOnlyLast para.now }
@@ -65,7 +67,7 @@ fn levels_from<L: Ledger>(
     let mut steps = Steps::<L>::new(blank);
     let mut resolver = Resolver::with_room(alloc, para.len())?;
     let mut levels = vec![in alloc; None; para.len()]?;
-    resolver.resolve(para, direction, &mut levels, &mut steps);
+    resolver.resolve(para, direction, limits, &mut levels, &mut steps);
     Ok(levels)
 }
 
@@ -77,8 +79,20 @@ fn assert_levels(
     direction: Direction,
     shown: &[u8],
 ) -> Result<(), Memory> {
+    assert_levels_with(rt, alloc, para, direction, Limits::standard(), shown)
+}
+
+/// The same under these limits.
+fn assert_levels_with(
+    rt: &impl Abort,
+    alloc: Global,
+    para: &[Unit],
+    direction: Direction,
+    limits: Limits,
+    shown: &[u8],
+) -> Result<(), Memory> {
     assert!(rt; is_paragraph(para));
-    let levels = levels_from::<Brand>(alloc, para, direction, Blank::new(1))?;
+    let levels = levels_from::<Brand>(alloc, para, direction, limits, Blank::new(1))?;
     assert_eq!(rt; levels.len(), shown.len());
     for p in 0..shown.len() {
         let digit = match levels[p] {
@@ -191,5 +205,21 @@ fn full_stack(rt: HostRuntime) -> Result<(), Fail> {
     assert_levels(&rt, alloc, &deep(alloc, 63)?, ltr, &all_pair)?;
     let first_pairs = deep_levels(alloc, 64, b'1')?;
     assert_levels(&rt, alloc, &deep(alloc, 64)?, ltr, &first_pairs)?;
+    Ok(())
+}
+
+#[test]
+fn limits_that_are_handed_in(rt: HostRuntime) -> Result<(), Fail> {
+    let (alloc, ltr) = (rt.alloc(), Direction::Ltr);
+    let (l, r) = (plain(Class::L), plain(Class::R));
+    let embedded = [plain(Class::RLE), plain(Class::LRE), r];
+    assert_levels_with(&rt, alloc, &embedded, ltr, Limits::new(1, 63)?, b"xx1")?;
+    assert_levels_with(&rt, alloc, &embedded, ltr, Limits::standard(), b"xx3")?;
+    let flat = [l, open(2), r, close(2), r];
+    assert_levels_with(&rt, alloc, &flat, ltr, Limits::new(125, 1)?, b"00101")?;
+    assert_levels_with(&rt, alloc, &flat, ltr, Limits::new(125, 0)?, b"00111")?;
+    let isolated = [l, open(2), r, close(2), r, plain(Class::FSI)];
+    assert_levels_with(&rt, alloc, &isolated, ltr, Limits::new(125, 1)?, b"001010")?;
+    assert_levels_with(&rt, alloc, &isolated, ltr, Limits::new(125, 0)?, b"001110")?;
     Ok(())
 }

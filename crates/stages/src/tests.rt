@@ -21,6 +21,7 @@ use std::test::Fail;
 use units::bracket::{Bracket, Unit};
 use units::class::Class;
 use units::level::{Direction, Level};
+use units::limits::Limits;
 use units::memory::Memory;
 use units::steps::Steps;
 
@@ -79,13 +80,14 @@ fn sequences_of<L: Ledger>(
     requires { SeparatorOnlyLast para.now }
     ensures { IfOk result (λ sequences. sequences.extent ≡ length para.now) }
 {
+    let limits = Limits::standard();
     let mut isolates = IsolateMap::with_room(alloc, para.len())?;
     let mut explicit = Explicit::with_room(alloc, para.len())?;
     let mut sequences = Sequences::with_room(alloc, para.len())?;
     isolates.fill(para, steps);
     let level = para_level(para, &isolates, direction, steps);
-    explicit_levels(para, &isolates, level, &mut explicit, steps);
-    sequences.fill(para, &isolates, &explicit, level, steps);
+    explicit_levels(para, &isolates, level, limits, &mut explicit, steps);
+    sequences.fill(para, &isolates, &explicit, level, limits, steps);
     Ok(sequences)
 }
 

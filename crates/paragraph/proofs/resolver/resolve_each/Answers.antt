@@ -6,7 +6,7 @@ use Rattle.paragraph.proofs.resolver.resolve_each.Goals as goal
 
 pub loop-k-init : goal.loop-k-init
 loop-k-init g c = record {
-  covered = rw c.requires.copy (covered_none c.args.para.now c.args.before.now c.args.levels.now c.requires.fresh);
+  covered = rw c.requires.copy (covered_none c.args.limits.brackets c.args.para.now c.args.before.now c.args.levels.now c.requires.fresh);
   room = search rules;
   at_least = omega arith;
   at_most = omega arith;
@@ -26,7 +26,7 @@ resolve_sequence-requires-clause-marks g c = λ p h.
 pub loop-k-preserved : goal.loop-k-preserved
 loop-k-preserved g c = record {
   covered =
-      covered_next c.requires.apart c.get-sequence.ensures.value (omega arith) c.args.para.now c.args.before.now c.loop-k.classes c.resolve_sequence.new.classes c.loop-k.levels c.resolve_sequence.new.levels
+      covered_next c.requires.apart c.get-sequence.ensures.value (omega arith) c.args.limits.brackets c.args.para.now c.args.before.now c.loop-k.classes c.resolve_sequence.new.classes c.loop-k.levels c.resolve_sequence.new.levels
       (search rules) c.loop-k.invariant.covered c.resolve_sequence.ensures.levels c.resolve_sequence.ensures.other_levels c.resolve_sequence.ensures.other_classes;
   room = search rules;
   at_least = omega arith;

@@ -5,7 +5,7 @@ use Rattle.paragraph.proofs.resolver.resolve_each.Given as goal
 
 abbrev pub invariant-loop-k : goal.invariant-loop-k
 invariant-loop-k g l = record {
-  covered : IsCovered l.para l.before (take l.k l.sequences.all) l.classes l.levels;
+  covered : IsCovered l.limits.brackets l.para l.before (take l.k l.sequences.all) l.classes l.levels;
   room : length l.pairs ≡ length l.initial.pairs;
   at_least : l.initial.steps ≤ l.steps;
   at_most : l.steps ≤ l.initial.steps + 73 * length (positions_in (take l.k l.sequences.all)) + l.k;

@@ -22,8 +22,8 @@ returns-then-keeps-clause-levels g c =
     let kept : keeps_level level (classes_of c.args.para.now) ≡ true = sym (c.keeps.ensures (classes_of c.args.para.now) c.requires.contents) ∙ c.if-keeps.true in
     c.write_level.ensures.levels
     ∙ ap (λ (l : ℕ). map (λ (u : BidiUnit). kept_level l u.class) c.args.para.now) c.level.ensures.value
-    ∙ levels_are_kept c.args.para.now level kept
-    ∙ ap (resolved_levels c.args.para.now) c.flat_level-level.ensures.level
+    ∙ levels_are_kept c.args.limits c.args.para.now level kept
+    ∙ ap (resolved_levels c.args.limits c.args.para.now) c.flat_level-level.ensures.level
 
 pub returns-then-keeps-clause-uniform : goal.returns-then-keeps-clause-uniform
 returns-then-keeps-clause-uniform g c = λ e.
@@ -38,12 +38,12 @@ pub resolve_own-requires-clause-apart : goal.resolve_own-requires-clause-apart
 resolve_own-requires-clause-apart g c =
     let level : ℕ = level_of_para c.flat_level-level.result in
     let P : List SequenceView → Type 0 = λ all. AreApart (length c.args.para.now) all in
-    subst P (sym c.fill_flat.ensures.all) (sequences_are_apart c.args.para.now level (level_of_para-low c.flat_level-level.result) c.requires.separators)
+    subst P (sym (c.fill_flat.ensures.all c.args.limits.depth)) (sequences_are_apart c.args.limits.depth (omega arith) c.args.para.now level (level_of_para-low c.flat_level-level.result) c.requires.separators)
 
 pub returns-clause-levels : goal.returns-clause-levels
 returns-clause-levels g c =
-    flat_levels c.args.para.now (level_of_para c.flat_level-level.result) c.fill_flat.new.self.all c.resolve_own.new.levels c.requires.flat c.fill_flat.ensures.all (search rules) c.resolve_own.ensures.levels
-    ∙ ap (resolved_levels c.args.para.now) c.flat_level-level.ensures.level
+    flat_levels c.args.limits c.args.para.now (level_of_para c.flat_level-level.result) c.fill_flat.new.self.all c.resolve_own.new.levels c.requires.flat (c.fill_flat.ensures.all c.args.limits.depth) (search rules) c.resolve_own.ensures.levels
+    ∙ ap (resolved_levels c.args.limits c.args.para.now) c.flat_level-level.ensures.level
 
 pub returns-clause-at_most : goal.returns-clause-at_most
 returns-clause-at_most g c = omega (arith, remaining_few c.args.para.now)
