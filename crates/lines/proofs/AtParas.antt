@@ -1,15 +1,16 @@
 -- Paragraphs that stay at their levels make a text that does.
-use Rattle.std.specs.Prelude.{Option, None, Some, ℕ, zero, suc, ◌+◌, ◌-◌, ◌<◌, ◌≡◌, true, false, List, [], ◌∷◌, ◌++◌, length, map, take, count_by, refl}
-use Rattle.std.specs.List.{All, flat_map, list_all}
+use Rattle.std.specs.Prelude.{Bool, ◌&&◌, Option, None, Some, ℕ, zero, suc, ◌+◌, ◌-◌, ◌<◌, ◌≤◌, ◌≡◌, true, false, List, [], ◌∷◌, ◌++◌, length, map, take, count_by, slice_index_or, refl}
+use Rattle.std.specs.List.{All, flat_map}
 use Rattle.std.proofs.Common.{arith, ap, sym, ◌∙◌, cond, get_or, inl, inr}
 use Rattle.std.proofs.Math.Seq.{take-append-add}
 use Rattle.std.proofs.lemmas.Bool.{and_parts, cases_lt}
 use Rattle.std.proofs.lemmas.List.{get_or-append-add, get_or_append_left, get_or_past, length-map, map-append, take-append-le}
-use Rattle.std.proofs.lemmas.List.Elements.{All-cons, All-head, All-nil, All-tail}
+use Rattle.std.proofs.lemmas.List.Elements.{All-cons, All-head, All-tail}
 use Rattle.std.proofs.lemmas.List.Sums.{sum_by-append, sum_by-cons}
 use Rattle.std.proofs.lemmas.Option.{none-some}
 use Rattle.units.specs.Classes.{classes_of, is_separator}
 use Rattle.units.specs.Layout.{resolved_levels, para_levels_of, text_levels}
+use Rattle.units.specs.Limits.{LimitsOf}
 use Rattle.units.specs.Paragraphs.{EndsWithSeparator, IsCut, SeparatorOnlyLast, joined, paragraphs_of}
 use Rattle.units.specs.Positions.{positions_of}
 use Rattle.units.specs.Reordering.{para_at}
@@ -19,14 +20,12 @@ use Rattle.units.specs.declared.level.Direction.{Direction}
 use Rattle.explicit.proofs.OneCutting.{IsCut-paragraphs_of, joined-paragraphs_of}
 use Rattle.explicit.proofs.Positions.{length-positions_from}
 use Rattle.paragraph.specs.Resolvers.{StaysAt}
-use Rattle.paragraph.proofs.FlatLevels.{kept_stays, levels_are_kept}
-use Rattle.lines.specs.Kept.{keeps_own_level}
 use Rattle.lines.specs.Spaces.{AreAtParas}
 use Rattle.lines.proofs.TextLevels.{para_level, para_levels}
 
-length-resolved : (us : List BidiUnit) (para : ℕ) → length (resolved_levels us para) ≡ length us
+length-resolved : (limits : LimitsOf) (us : List BidiUnit) (para : ℕ) → length (resolved_levels limits us para) ≡ length us
 unfolding resolved_levels
-length-resolved us para = length-map (positions_of us) _ ∙ length-positions_from 0 (length us)
+length-resolved limits us para = length-map (positions_of us) _ ∙ length-positions_from 0 (length us)
 
 count-cons : (u : BidiUnit) (cs : List Class) → count_by is_separator (u.class ∷ cs) ≡ cond (is_separator u.class) 1 0 + count_by is_separator cs
 count-cons u cs = sum_by-cons (λ c. cond (is_separator c) 1 0) u.class cs
@@ -53,38 +52,38 @@ one_within (u ∷ v ∷ us) only ends =
     count-other u (classes_of (v ∷ us)) only.0 ∙ one_within (v ∷ us) only.1 ends
 
 -- the paragraph stays at its level
-abbrev pub Stays : Direction → List BidiUnit → Type 0
-Stays direction us = StaysAt (para_level direction us) (para_levels direction us)
+abbrev pub Stays : LimitsOf → Direction → List BidiUnit → Type 0
+Stays limits direction us = StaysAt (para_level direction us) (para_levels limits direction us)
 
 some_pieces : (f : List BidiUnit → List (Option ℕ)) (pieces : List (List BidiUnit)) (q v : ℕ) → get_or (flat_map f pieces) q None ≡ Some v → 0 < length pieces
 some_pieces f [] q v e = absurd (none-some v (sym (get_or_past [] q None (omega arith)) ∙ e))
 some_pieces f (us ∷ pieces) q v e = omega arith
 
-module _ (direction : Direction) where
-  joined_at : (pieces : List (List BidiUnit)) → IsCut pieces → All (Stays direction) pieces → (p v : ℕ) → get_or (flat_map (para_levels direction) pieces) p None ≡ Some v →
+module _ (limits : LimitsOf) (direction : Direction) where
+  joined_at : (pieces : List (List BidiUnit)) → IsCut pieces → All (Stays limits direction) pieces → (p v : ℕ) → get_or (flat_map (para_levels limits direction) pieces) p None ≡ Some v →
       v ≡ para_at (classes_of (joined pieces)) (map (para_level direction) pieces) p
   joined_at [] cut all p v e = absurd (none-some v (sym (get_or_past [] p None (omega arith)) ∙ e))
   joined_at (us ∷ pieces) cut all p v e =
       let own : List Class = classes_of us in
       let others : List Class = classes_of (joined pieces) in
       let paras : List ℕ = map (para_level direction) pieces in
-      let rest : List (Option ℕ) = flat_map (para_levels direction) pieces in
-      let long : length (para_levels direction us) ≡ length us = length-resolved us (para_level direction us) in
+      let rest : List (Option ℕ) = flat_map (para_levels limits direction) pieces in
+      let long : length (para_levels limits direction us) ≡ length us = length-resolved limits us (para_level direction us) in
       let n : length own ≡ length us = length-map us (λ (u : BidiUnit). u.class) in
       let split : classes_of (us ++ joined pieces) ≡ own ++ others = map-append (λ (u : BidiUnit). u.class) us (joined pieces) in
       elim (cases_lt p (length us)) [
         | inl inside ↦
-            let here : get_or (para_levels direction us) p None ≡ Some v = sym (get_or_append_left (para_levels direction us) rest None p (omega arith)) ∙ e in
+            let here : get_or (para_levels limits direction us) p None ≡ Some v = sym (get_or_append_left (para_levels limits direction us) rest None p (omega arith)) ∙ e in
             let none : count_by is_separator (take p (classes_of (us ++ joined pieces))) ≡ 0 =
             ap (λ (cs : List Class). count_by is_separator (take p cs)) split ∙ ap (count_by is_separator) (take-append-le p own others (omega arith)) ∙ none_before us p cut.1 inside in
-            All-head (Stays direction) us pieces all p v here ∙ sym (ap (λ i. get_or (para_level direction us ∷ paras) i 0) none)
+            All-head (Stays limits direction) us pieces all p v here ∙ sym (ap (λ i. get_or (para_level direction us ∷ paras) i 0) none)
         | inr past ↦
             let q : ℕ = p - length us in
-            let at_level : p ≡ length (para_levels direction us) + q = omega arith in
+            let at_level : p ≡ length (para_levels limits direction us) + q = omega arith in
             let at_class : p ≡ length own + q = omega arith in
-            let there : get_or rest q None ≡ Some v = sym (get_or-append-add (para_levels direction us) rest q None) ∙ ap (λ i. get_or (para_levels direction us ++ rest) i None) (sym at_level) ∙ e in
-            let same : v ≡ get_or paras (count_by is_separator (take q others)) 0 = joined_at pieces cut.3 (All-tail (Stays direction) us pieces all) q v there in
-            let one : count_by is_separator own ≡ 1 = one_within us cut.1 (cut.2 (some_pieces (para_levels direction) pieces q v there)) in
+            let there : get_or rest q None ≡ Some v = sym (get_or-append-add (para_levels limits direction us) rest q None) ∙ ap (λ i. get_or (para_levels limits direction us ++ rest) i None) (sym at_level) ∙ e in
+            let same : v ≡ get_or paras (count_by is_separator (take q others)) 0 = joined_at pieces cut.3 (All-tail (Stays limits direction) us pieces all) q v there in
+            let one : count_by is_separator own ≡ 1 = one_within us cut.1 (cut.2 (some_pieces (para_levels limits direction) pieces q v there)) in
             let both : count_by is_separator (own ++ take q others) ≡ count_by is_separator own + count_by is_separator (take q others) =
             sum_by-append (λ c. cond (is_separator c) 1 0) own (take q others) in
             let more : count_by is_separator (take p (classes_of (us ++ joined pieces))) ≡ suc (count_by is_separator (take q others)) =
@@ -96,17 +95,17 @@ module _ (direction : Direction) where
       ]
 
   -- where each paragraph stays at its level, the text does
-  pub text_at_paras : (text : List BidiUnit) → All (Stays direction) (paragraphs_of text) → AreAtParas (classes_of text) (para_levels_of text direction) (text_levels text direction)
+  pub text_at_paras : (text : List BidiUnit) → All (Stays limits direction) (paragraphs_of text) → AreAtParas (classes_of text) (para_levels_of text direction) (text_levels limits text direction)
   text_at_paras text all = record {
     same = λ p v e.
         joined_at (paragraphs_of text) (IsCut-paragraphs_of text) all p v e
         ∙ ap (λ (us : List BidiUnit). para_at (classes_of us) (para_levels_of text direction) p) (joined-paragraphs_of text);
   }
 
-  -- paragraphs that keep their levels stay at them
-  pub all_stay : (pieces : List (List BidiUnit)) → list_all (keeps_own_level direction) pieces ≡ true → All (Stays direction) pieces
-  all_stay [] keeps = All-nil (Stays direction)
-  all_stay (us ∷ pieces) keeps =
-      let level : ℕ = para_level direction us in
-      let parts = and_parts (keeps_own_level direction us) (list_all (keeps_own_level direction) pieces) keeps in
-      All-cons (Stays direction) us pieces (kept_stays us level (resolved_levels us level) (sym (levels_are_kept us level parts.0))) (all_stay pieces parts.1)
+  -- one paragraph more
+  pub staying_more : (all us : List BidiUnit) (others : List (List BidiUnit)) (before now : Bool) →
+      (before ≡ true → All (Stays limits direction) (us ∷ others) → All (Stays limits direction) (paragraphs_of all)) → (now ≡ true → Stays limits direction us) →
+      (before && now) ≡ true → All (Stays limits direction) others → All (Stays limits direction) (paragraphs_of all)
+  staying_more all us others before now earlier here both rest =
+      let parts = and_parts before now both in
+      earlier parts.0 (All-cons (Stays limits direction) us others (here parts.1) rest)

@@ -1,11 +1,12 @@
 -- The levels of a text, written paragraph by paragraph.
-use Rattle.std.specs.Prelude.{Option, ℕ, ◌+◌, ◌≤◌, ◌≡◌, List, [], ◌∷◌, ◌++◌, length, map, take, refl}
+use Rattle.std.specs.Prelude.{Option, ℕ, ◌+◌, ◌<◌, ◌≤◌, ◌≡◌, List, [], ◌∷◌, ◌++◌, length, map, take, refl}
 use Rattle.std.specs.List.{flat_map}
 use Rattle.std.proofs.Common.{arith, ap, sym, subst, ◌∙◌}
 use Rattle.std.proofs.lemmas.List.{append_assoc, append-nil, length-append}
 use Rattle.units.specs.Classes.{classes_of}
 use Rattle.units.specs.Isolates.{level_of_para, para_level_of}
 use Rattle.units.specs.Layout.{LineLayout, TextLayout, layout_of, lines_of, para_levels_of, resolved_levels, text_layout, text_levels, with_lines}
+use Rattle.units.specs.Limits.{LimitsOf}
 use Rattle.units.specs.Reordering.{after_resets, cuts_of}
 use Rattle.units.specs.Paragraphs.{IsCut, SeparatorOnlyLast, joined, paragraphs_of}
 use Rattle.units.specs.declared.bracket.Unit.{Unit as BidiUnit}
@@ -19,19 +20,19 @@ abbrev pub para_level : Direction → List BidiUnit → ℕ
 para_level direction us = para_level_of (classes_of us) direction
 
 -- the resolved levels of a paragraph
-abbrev pub para_levels : Direction → List BidiUnit → List (Option ℕ)
-para_levels direction us = resolved_levels us (para_level direction us)
+abbrev pub para_levels : LimitsOf → Direction → List BidiUnit → List (Option ℕ)
+para_levels limits direction us = resolved_levels limits us (para_level direction us)
 
 -- the paragraphs before start are written, and these are still to come
-pub record IsWritten (text : List BidiUnit) (direction : Direction) (start : ℕ) (paras : List ParaLevel) (levels : List (Option ℕ)) (rest : List (List BidiUnit)) : Type 0 where
+pub record IsWritten (limits : LimitsOf) (text : List BidiUnit) (direction : Direction) (start : ℕ) (paras : List ParaLevel) (levels : List (Option ℕ)) (rest : List (List BidiUnit)) : Type 0 where
   pub cut : IsCut rest
   pub ahead : start + length (joined rest) ≡ length text
   pub few : length paras ≤ start
   pub found_paras : map level_of_para paras ++ map (para_level direction) rest ≡ para_levels_of text direction
-  pub found_levels : take start levels ++ flat_map (para_levels direction) rest ≡ text_levels text direction
+  pub found_levels : take start levels ++ flat_map (para_levels limits direction) rest ≡ text_levels limits text direction
 
-pub written_none : (text : List BidiUnit) (direction : Direction) (levels : List (Option ℕ)) → IsWritten text direction 0 [] levels (paragraphs_of text)
-written_none text direction levels = record {
+pub written_none : (limits : LimitsOf) (text : List BidiUnit) (direction : Direction) (levels : List (Option ℕ)) → IsWritten limits text direction 0 [] levels (paragraphs_of text)
+written_none limits text direction levels = record {
   cut = IsCut-paragraphs_of text;
   ahead = omega (arith, ap length (joined-paragraphs_of text));
   few = omega arith;
@@ -43,14 +44,20 @@ map-push : (paras : List ParaLevel) (level : ParaLevel) (rest : List ℕ) → ma
 map-push [] level rest = refl
 map-push (para ∷ paras) level rest = ap (λ (xs : List ℕ). level_of_para para ∷ xs) (map-push paras level rest)
 
-module _ {text : List BidiUnit} {direction : Direction} {start : ℕ} {paras : List ParaLevel} {levels : List (Option ℕ)} where
-  module _ {para : List BidiUnit} {rest : List (List BidiUnit)} (w : IsWritten text direction start paras levels (para ∷ rest)) where
+module _ {limits : LimitsOf} {text : List BidiUnit} {direction : Direction} {start : ℕ} {paras : List ParaLevel} {levels : List (Option ℕ)} where
+  module _ {para : List BidiUnit} {rest : List (List BidiUnit)} (w : IsWritten limits text direction start paras levels (para ∷ rest)) where
+    pub some_units : 0 < length para
+    some_units = w.cut.0
+
     pub separator_last : SeparatorOnlyLast para
     separator_last = w.cut.1
 
+    pub within_text : start + length para ≤ length text
+    within_text = omega (arith, w.ahead, length-append para (joined rest))
+
     pub written_next : (level : ParaLevel) (now : List (Option ℕ)) → level_of_para level ≡ para_level direction para →
-        take (start + length para) now ≡ take start levels ++ para_levels direction para →
-        IsWritten text direction (start + length para) (paras ++ (level ∷ [])) now rest
+        take (start + length para) now ≡ take start levels ++ para_levels limits direction para →
+        IsWritten limits text direction (start + length para) (paras ++ (level ∷ [])) now rest
     written_next level now at put = record {
       cut = w.cut.3;
       ahead = omega (arith, w.ahead, length-append para (joined rest));
@@ -60,40 +67,40 @@ module _ {text : List BidiUnit} {direction : Direction} {start : ℕ} {paras : L
           ∙ ap (λ (n : ℕ). map level_of_para paras ++ (n ∷ map (para_level direction) rest)) at
           ∙ w.found_paras;
       found_levels =
-          ap (λ (xs : List (Option ℕ)). xs ++ flat_map (para_levels direction) rest) put
-          ∙ append_assoc (take start levels) (para_levels direction para) (flat_map (para_levels direction) rest)
+          ap (λ (xs : List (Option ℕ)). xs ++ flat_map (para_levels limits direction) rest) put
+          ∙ append_assoc (take start levels) (para_levels limits direction para) (flat_map (para_levels limits direction) rest)
           ∙ w.found_levels;
     }
 
     -- the same, where it ends there
     pub written_to : (end : ℕ) (level : ParaLevel) (now : List (Option ℕ)) → end ≡ start + length para → level_of_para level ≡ para_level direction para →
-        take end now ≡ take start levels ++ para_levels direction para →
-        IsWritten text direction end (paras ++ (level ∷ [])) now rest
+        take end now ≡ take start levels ++ para_levels limits direction para →
+        IsWritten limits text direction end (paras ++ (level ∷ [])) now rest
     written_to end level now e at put =
-        let P : ℕ → Type 0 = λ k. IsWritten text direction k (paras ++ (level ∷ [])) now rest in
+        let P : ℕ → Type 0 = λ k. IsWritten limits text direction k (paras ++ (level ∷ [])) now rest in
         subst P (sym e) (written_next level now at (ap (λ k. take k now) (sym e) ∙ put))
 
-  module _ (w : IsWritten text direction start paras levels []) where
+  module _ (w : IsWritten limits text direction start paras levels []) where
     pub all_written : start ≡ length text
     all_written = omega (arith, w.ahead)
 
     pub written_paras : map level_of_para paras ≡ para_levels_of text direction
     written_paras = sym (append-nil (map level_of_para paras)) ∙ w.found_paras
 
-    pub written_levels : take (length text) levels ≡ text_levels text direction
+    pub written_levels : take (length text) levels ≡ text_levels limits text direction
     written_levels = ap (λ (n : ℕ). take n levels) (sym all_written) ∙ sym (append-nil (take start levels)) ∙ w.found_levels
 
 -- the parts that were written are those of the layout
-pub laid_out : (text : List BidiUnit) (direction : Direction) (breaks : List ℕ) (paras : List ℕ) (resolved levels front : List (Option ℕ)) (lines : List LineLayout) →
-    front ≡ levels → paras ≡ para_levels_of text direction → resolved ≡ text_levels text direction → levels ≡ after_resets (classes_of text) breaks paras resolved →
+pub laid_out : (limits : LimitsOf) (text : List BidiUnit) (direction : Direction) (breaks : List ℕ) (paras : List ℕ) (resolved levels front : List (Option ℕ)) (lines : List LineLayout) →
+    front ≡ levels → paras ≡ para_levels_of text direction → resolved ≡ text_levels limits text direction → levels ≡ after_resets (classes_of text) breaks paras resolved →
     lines ≡ lines_of levels (cuts_of (classes_of text) breaks) →
-    (let shown : TextLayout = record { paras = paras; levels = front; lines = lines } in shown ≡ layout_of text direction breaks)
+    (let shown : TextLayout = record { paras = paras; levels = front; lines = lines } in shown ≡ layout_of limits text direction breaks)
 unfolding layout_of
-laid_out text direction breaks paras resolved levels front lines e p r l w =
+laid_out limits text direction breaks paras resolved levels front lines e p r l w =
     let own : List Class = classes_of text in
     let shown : List (Option ℕ) → TextLayout = λ xs. record { paras = paras; levels = xs; lines = lines } in
     let lined : List LineLayout → TextLayout = λ xs. record { paras = paras; levels = levels; lines = xs } in
     ap shown e
     ∙ ap lined w
     ∙ ap (λ (xs : List (Option ℕ)). with_lines paras xs (cuts_of own breaks)) (l ∙ ap (after_resets own breaks paras) r)
-    ∙ ap (λ (ns : List ℕ). text_layout own breaks ns (text_levels text direction)) p
+    ∙ ap (λ (ns : List ℕ). text_layout own breaks ns (text_levels limits text direction)) p

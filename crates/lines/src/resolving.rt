@@ -3,7 +3,6 @@ ghost use Rattle.std.specs.Prelude.{◌≡◌, ◌≤◌, ◌+◌, ◌*◌, leng
 ghost use Rattle.units.specs.Classes.{classes_of};
 ghost use Rattle.units.specs.Isolates.{level_of_para};
 ghost use Rattle.units.specs.Layout.{para_levels_of, text_levels};
-ghost use Rattle.lines.specs.Kept.{keeps_levels};
 ghost use Rattle.lines.specs.Spaces.{AreAtParas};
 
 use paragraph::contents::FirstParagraph;
@@ -11,6 +10,7 @@ use paragraph::resolver::Resolver;
 use std::sync::ledger::Ledger;
 use units::bracket::Unit;
 use units::level::{Direction, Level, ParaLevel};
+use units::limits::Limits;
 use units::steps::Steps;
 
 /// What is known of a text that was resolved.
@@ -18,16 +18,16 @@ use units::steps::Steps;
 pub struct ResolvedText {
     /// How many paragraphs it has.
     pub paragraphs: usize,
-    /// Known to be at the level of its paragraph at each position that remains (X9), since each paragraph keeps its
-    /// level.
+    /// Known to be at the level of its paragraph at each position that remains (X9).
     pub uniform: bool,
 }
 
 /// Writes the levels of a text's paragraphs to the front of `paras`, and the resolved levels of its positions to the
-/// front of `levels`, paragraph by paragraph.
+/// front of `levels`, paragraph by paragraph, by these limits.
 pub(crate) fn resolve_text<L: Ledger>(
     text: &[Unit],
     direction: Direction,
+    limits: Limits,
     resolver: &mut Resolver,
     paras: &mut [ParaLevel],
     levels: &mut [Option<Level>],
@@ -39,12 +39,10 @@ pub(crate) fn resolve_text<L: Ledger>(
     ensures resolver { resolver.new ≡ resolver.old }
     ensures paras { map level_of_para (take result.paragraphs paras.new) ≡ para_levels_of text.now direction }
     ensures few { result.paragraphs ≤ length text.now }
-    ensures levels { take (length text.now) levels.new ≡ text_levels text.now direction }
-    ensures known { result.uniform ≡ keeps_levels text.now direction }
+    ensures levels { take (length text.now) levels.new ≡ text_levels limits text.now direction }
     ensures uniform { result.uniform ≡ true → AreAtParas (classes_of text.now) (map level_of_para (take result.paragraphs paras.new)) (take (length text.now) levels.new) }
     ensures at_least { steps.old + 2 * length text.now ≤ steps.new }
     ensures at_most { steps.new ≤ steps.old + 84 * length text.now }
-    ensures light { result.uniform ≡ true → steps.new ≤ steps.old + 4 * length text.now }
 {
     let mut paragraphs = 0;
     let mut uniform = true;
@@ -61,6 +59,7 @@ pub(crate) fn resolve_text<L: Ledger>(
             &text[start..end],
             first.contents,
             direction,
+            limits,
             &mut levels[start..end],
             steps,
         );

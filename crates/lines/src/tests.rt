@@ -2,7 +2,7 @@
 ghost use Rattle.std.specs.Prelude.{◌≡◌, ◌<◌};
 
 use crate::breaks::{BreakFault, Breaks};
-use crate::lay_out::{lay_in, lay_out};
+use crate::lay_out::{lay_in, lay_in_with, lay_out};
 use crate::layout::Layout;
 use crate::order::write_order;
 use crate::resets::reset_text;
@@ -21,6 +21,7 @@ use ucdfiles::tables::Tables;
 use units::bracket::{Bracket, Unit};
 use units::class::Class;
 use units::level::{Direction, Level, ParaLevel};
+use units::limits::Limits;
 use units::slice_source::SliceSource;
 use units::steps::Steps;
 
@@ -499,6 +500,21 @@ fn nests_isolates_deeply(rt: HostRuntime) -> Result<(), Fail> {
     run(&mut order, 1, 16_001, false)?;
     let mut room = Scratch::with_room(alloc, 16_001)?;
     shows(&rt, &mut room, &text, Direction::Ltr, &expected, &order)
+}
+
+/// X4: at depth 1 the LRE, which asks for level 2, is refused.
+#[test]
+fn lays_out_by_the_limits_that_are_handed_in(rt: HostRuntime) -> Result<(), Fail> {
+    let alloc = rt.alloc();
+    let text = units(alloc, "RLE LRE R")?;
+    let breaks = Breaks::new(&[], text.len())?;
+    let mut room = Scratch::with_room(alloc, 3)?;
+    for (depth, expected) in [(1, "x x 1"), (2, "x x 3"), (125, "x x 3")] {
+        let limits = Limits::new(depth, 63)?;
+        lay_in_with(&mut room, &text, Direction::Ltr, &breaks, limits)?;
+        assert_eq!(&rt; room.layout().levels(), levels(alloc, expected)?.as_slice());
+    }
+    Ok(())
 }
 
 /// Two Hebrew letters with a blank between them, from left to right, broken before the second.

@@ -30,7 +30,7 @@ returns-clause-layout g c =
     let reset : take n filled.new.levels ≡ after_resets (classes_of c.args.text.now) c.args.breaks.now.positions paras (take n found.new.levels) =
     rw (← held_levels, ← held_paras) filled.ensures.levels in
     rw (paras_are, levels_are, orders_are, bounds_are)
-    (laid_out c.args.text.now c.args.direction c.args.breaks.now.positions paras (take n found.new.levels) (take n filled.new.levels) (take n filled.new.levels)
+    (laid_out c.args.limits c.args.text.now c.args.direction c.args.breaks.now.positions paras (take n found.new.levels) (take n filled.new.levels) (take n filled.new.levels)
     (lines_in (take filled.result.positions filled.new.orders) (take (filled.result.lines + 1) filled.new.bounds))
     refl found.ensures.paras found.ensures.levels reset filled.ensures.lines)
 
