@@ -1,11 +1,11 @@
 -- Paragraphs that stay at their levels make a text that does.
-use Rattle.std.specs.Prelude.{Bool, ◌&&◌, Option, None, Some, ℕ, zero, suc, ◌+◌, ◌-◌, ◌<◌, ◌≤◌, ◌≡◌, true, false, List, [], ◌∷◌, ◌++◌, length, map, take, count_by, slice_index_or, refl}
-use Rattle.std.specs.List.{All, flat_map}
+use Rattle.std.specs.Prelude.{Option, None, Some, ℕ, zero, suc, ◌+◌, ◌-◌, ◌<◌, ◌≡◌, true, false, List, [], ◌∷◌, ◌++◌, length, map, take, count_by, refl}
+use Rattle.std.specs.List.{All, flat_map, list_all}
 use Rattle.std.proofs.Common.{arith, ap, sym, ◌∙◌, cond, get_or, inl, inr}
 use Rattle.std.proofs.Math.Seq.{take-append-add}
 use Rattle.std.proofs.lemmas.Bool.{and_parts, cases_lt}
 use Rattle.std.proofs.lemmas.List.{get_or-append-add, get_or_append_left, get_or_past, length-map, map-append, take-append-le}
-use Rattle.std.proofs.lemmas.List.Elements.{All-cons, All-head, All-tail}
+use Rattle.std.proofs.lemmas.List.Elements.{All-cons, All-head, All-nil, All-tail}
 use Rattle.std.proofs.lemmas.List.Sums.{sum_by-append, sum_by-cons}
 use Rattle.std.proofs.lemmas.Option.{none-some}
 use Rattle.units.specs.Classes.{classes_of, is_separator}
@@ -20,6 +20,8 @@ use Rattle.units.specs.declared.level.Direction.{Direction}
 use Rattle.explicit.proofs.OneCutting.{IsCut-paragraphs_of, joined-paragraphs_of}
 use Rattle.explicit.proofs.Positions.{length-positions_from}
 use Rattle.paragraph.specs.Resolvers.{StaysAt}
+use Rattle.paragraph.proofs.FlatLevels.{kept_stays, levels_are_kept}
+use Rattle.lines.specs.Kept.{keeps_own_level}
 use Rattle.lines.specs.Spaces.{AreAtParas}
 use Rattle.lines.proofs.TextLevels.{para_level, para_levels}
 
@@ -102,10 +104,10 @@ module _ (limits : LimitsOf) (direction : Direction) where
         ∙ ap (λ (us : List BidiUnit). para_at (classes_of us) (para_levels_of text direction) p) (joined-paragraphs_of text);
   }
 
-  -- one paragraph more
-  pub staying_more : (all us : List BidiUnit) (others : List (List BidiUnit)) (before now : Bool) →
-      (before ≡ true → All (Stays limits direction) (us ∷ others) → All (Stays limits direction) (paragraphs_of all)) → (now ≡ true → Stays limits direction us) →
-      (before && now) ≡ true → All (Stays limits direction) others → All (Stays limits direction) (paragraphs_of all)
-  staying_more all us others before now earlier here both rest =
-      let parts = and_parts before now both in
-      earlier parts.0 (All-cons (Stays limits direction) us others (here parts.1) rest)
+  -- paragraphs that keep their levels stay at them
+  pub all_stay : (pieces : List (List BidiUnit)) → list_all (keeps_own_level direction) pieces ≡ true → All (Stays limits direction) pieces
+  all_stay [] keeps = All-nil (Stays limits direction)
+  all_stay (us ∷ pieces) keeps =
+      let level : ℕ = para_level direction us in
+      let parts = and_parts (keeps_own_level direction us) (list_all (keeps_own_level direction) pieces) keeps in
+      All-cons (Stays limits direction) us pieces (kept_stays us level (resolved_levels limits us level) (sym (levels_are_kept limits us level parts.0))) (all_stay pieces parts.1)

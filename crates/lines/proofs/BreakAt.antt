@@ -8,10 +8,6 @@ pub or_true : (b : Bool) → (b || true) ≡ true
 or_true true = refl
 or_true false = refl
 
-pub or_false : (b : Bool) → (b || false) ≡ b
-or_false true = refl
-or_false false = refl
-
 pub is_break_at : (at : List ℕ) (k p : ℕ) → k < length at → slice_index at k ≡ p → is_break at p ≡ true
 is_break_at [] k p h e = absurd (omega arith)
 is_break_at (b ∷ at) zero p h e = ap (λ t. t || is_break at p) (eq-eqb b p e)

@@ -1,7 +1,7 @@
 -- A text that is cut at the positions that pass a test, line by line.
-use Rattle.std.proofs.Common.{◌≡◌, ℕ, ◌+◌, ◌-◌, ◌<◌, ◌≤◌, Bool, true, false, cond, Option, List, [], ◌∷◌, length, zero, suc, refl, ap, ◌∙◌, arith}
+use Rattle.std.proofs.Common.{◌≡◌, ℕ, ◌+◌, ◌-◌, ◌<◌, ◌≤◌, Bool, true, false, cond, Option, List, [], ◌∷◌, zero, suc, ap, ◌∙◌, arith}
 use Rattle.std.specs.Prelude.{filter}
-use Rattle.units.specs.Layout.{LineLayout, line_of, lines_from, lines_of}
+use Rattle.units.specs.Layout.{LineLayout, line_of, lines_from}
 use Rattle.units.specs.Positions.{positions_from}
 
 -- the lines of the last count positions
@@ -50,9 +50,3 @@ lines_left-next levels test start end stop c =
     ap (lines_left levels test start stop) e
     ∙ ap (λ cuts. lines_from levels start cuts stop) (none ∙ ap (λ n. filter test (positions_from n rest)) f)
     ∙ cut_rest levels test start end stop rest (omega (arith, c.within)) c.here
-
-pub lines_left-all : (levels : List (Option ℕ)) (test : ℕ → Bool) → lines_left levels test 0 (length levels) (length levels) ≡ lines_of levels (filter test (positions_from 1 (length levels - 1)))
-lines_left-all [] test = refl
-lines_left-all (l ∷ levels) test =
-    let e : length levels ≡ length (l ∷ levels) - 1 = omega arith in
-    ap (λ n. lines_from (l ∷ levels) 0 (filter test (positions_from 1 n)) (length (l ∷ levels))) e

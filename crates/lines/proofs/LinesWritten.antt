@@ -1,19 +1,19 @@
 -- The lines of a text, written one after the other.
 use Rattle.std.proofs.Common.{◌≡◌, ℕ, ◌+◌, ◌-◌, ◌<◌, ◌≤◌, Bool, Option, List, [], ◌∷◌, ◌++◌, length, drop, zero, suc, refl, sym, ap, ◌∙◌, subst, inl, inr, arith, append_assoc, length-append}
-use Rattle.std.specs.Prelude.{filter, map, slice_range}
+use Rattle.std.specs.Prelude.{map, slice_range}
 use Rattle.std.specs.List.{All}
-use Rattle.std.proofs.lemmas.List.{take_all, take-append-le, drop_at, map_push, append-nil}
+use Rattle.std.proofs.lemmas.List.{take_all, take-append-le, drop_at, map_push}
 use Rattle.std.proofs.Math.ListN.{get_or-append}
 use Rattle.std.proofs.Math.Seq.{get_or-append_seam}
 use Rattle.std.proofs.lemmas.List.Elements.{All-nil, All-append}
 use Rattle.std.proofs.lemmas.Slice.{between_is}
 use Rattle.std.proofs.lemmas.Bool.{cases_lt}
-use Rattle.units.specs.Layout.{LineLayout, line_of, lines_of}
+use Rattle.units.specs.Layout.{LineLayout, line_of}
 use Rattle.units.specs.Positions.{positions_from}
 use Rattle.units.specs.Reordering.{line_order}
 use Rattle.lines.specs.declared.bounds.Bound.{Bound}
 use Rattle.lines.specs.Bounds.{first_bound, bound_at, line_between, line_in, lines_in, Follows, AreBounds}
-use Rattle.lines.proofs.Cuts.{Cuts, lines_left, lines_left-next, lines_left-all}
+use Rattle.lines.proofs.Cuts.{Cuts, lines_left, lines_left-next}
 use Rattle.lines.proofs.Law.{line_order-places}
 use Rattle.lines.proofs.Remaining.{positions-next}
 
@@ -172,12 +172,3 @@ filling_more levels test start end orders orders2 bounds bounds2 c written few b
     subst (λ xs. Filling levels test end xs bounds2) (sym written)
     (subst (Filling levels test end (orders ++ more)) (sym (bound ∙ ap at_end len))
     (filling_next levels test start end orders bounds c (omega arith) f))
-
--- all lines are written
-pub filling_end : (levels : List (Option ℕ)) (test : ℕ → Bool) (start : ℕ) (orders : List ℕ) (bounds : List Bound) → length levels ≤ start → Filling levels test start orders bounds → lines_in orders bounds ≡ lines_of levels (filter test (positions_from 1 (length levels - 1)))
-filling_end levels test start orders bounds done f =
-    let none : length levels - start ≡ 0 = omega arith in
-    sym (append-nil (lines_in orders bounds))
-    ∙ ap (λ n. lines_in orders bounds ++ lines_left levels test start (length levels) n) (sym none)
-    ∙ f.lines
-    ∙ lines_left-all levels test

@@ -24,13 +24,6 @@ pub record IsLimit (at : List ℕ) (passed len limit : ℕ) : Type 0 where
   pub coming : passed < length at → limit ≡ slice_index at passed
   pub last : length at ≤ passed → limit ≡ len
 
-pub limit_above : (at : List ℕ) (passed start len limit : ℕ) → start < len → Passing at passed start → IsLimit at passed len limit → start < limit
-limit_above at passed start len limit lt p l =
-    elim (cases_lt passed (length at)) [
-      | inl h ↦ let a = p.ahead h in let c = l.coming h in omega arith
-      | inr h ↦ let c = l.last h in omega arith
-    ]
-
 pub limit_within : (at : List ℕ) (passed len limit : ℕ) → AreBreaks at len → IsLimit at passed len limit → limit ≤ len
 limit_within at passed len limit breaks l =
     elim (cases_lt passed (length at)) [

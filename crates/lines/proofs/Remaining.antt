@@ -83,14 +83,6 @@ length_if : (b : Bool) (x : ℕ) (xs : List ℕ) (n : ℕ) → length xs ≤ n �
 length_if true x xs n h = omega arith
 length_if false x xs n h = omega arith
 
-length-filter_from : (test : ℕ → Bool) (start count : ℕ) → length (filter test (positions_from start count)) ≤ count
-length-filter_from test start zero = omega arith
-length-filter_from test start (suc count) = length_if (test start) start (filter test (positions_from (start + 1) count)) count (length-filter_from test (start + 1) count)
-
--- they are no more than the positions
-pub length-remaining : (levels : List (Option ℕ)) (start end : ℕ) → length (remaining levels start end) ≤ end - start
-length-remaining levels start end = length-filter_from (is_remaining levels) start (end - start)
-
 reverse_if : (b : Bool) (x : ℕ) (xs : List ℕ) → reverse (cond b (x ∷ xs) xs) ≡ reverse xs ++ cond b (x ∷ []) []
 reverse_if true x xs = reverse-append (x ∷ []) xs
 reverse_if false x xs = sym (append-nil (reverse xs))

@@ -1,5 +1,5 @@
 -- The levels of a text, written paragraph by paragraph.
-use Rattle.std.specs.Prelude.{Option, ℕ, ◌+◌, ◌<◌, ◌≤◌, ◌≡◌, List, [], ◌∷◌, ◌++◌, length, map, take, refl}
+use Rattle.std.specs.Prelude.{Option, ℕ, ◌+◌, ◌≤◌, ◌≡◌, List, [], ◌∷◌, ◌++◌, length, map, take, refl}
 use Rattle.std.specs.List.{flat_map}
 use Rattle.std.proofs.Common.{arith, ap, sym, subst, ◌∙◌}
 use Rattle.std.proofs.lemmas.List.{append_assoc, append-nil, length-append}
@@ -46,14 +46,8 @@ map-push (para ∷ paras) level rest = ap (λ (xs : List ℕ). level_of_para par
 
 module _ {limits : LimitsOf} {text : List BidiUnit} {direction : Direction} {start : ℕ} {paras : List ParaLevel} {levels : List (Option ℕ)} where
   module _ {para : List BidiUnit} {rest : List (List BidiUnit)} (w : IsWritten limits text direction start paras levels (para ∷ rest)) where
-    pub some_units : 0 < length para
-    some_units = w.cut.0
-
     pub separator_last : SeparatorOnlyLast para
     separator_last = w.cut.1
-
-    pub within_text : start + length para ≤ length text
-    within_text = omega (arith, w.ahead, length-append para (joined rest))
 
     pub written_next : (level : ParaLevel) (now : List (Option ℕ)) → level_of_para level ≡ para_level direction para →
         take (start + length para) now ≡ take start levels ++ para_levels limits direction para →

@@ -91,6 +91,7 @@ fn write_line<L: Ledger>(
     ensures lines { result.lines ≡ filled.lines + 1 }
     ensures at_least { steps.old + (end - start) ≤ steps.new }
     ensures at_most { steps.new ≤ steps.old + 6 * (end - start) }
+    ensures light { IfSome uniform (λ _. steps.new ≤ steps.old + 2 * (end - start)) }
 {
     let lines = filled.lines + 1;
     let positions = filled.positions
@@ -115,7 +116,8 @@ fn write_line<L: Ledger>(
 ///
 /// `paras` are the levels of the text's paragraphs, and the levels are those of its positions after L1; `uniform`
 /// says that each one that remains is known to have its paragraph's. `runs` is room for the order of a line. It takes
-/// at least n and at most `8 * n` steps for a text of n positions, however many lines it has.
+/// at least n and at most `8 * n` steps for a text of n positions, however many lines it has, and where that is known
+/// at most `4 * n`.
 pub fn fill_lines<L: Ledger>(
     own: &[Unit],
     breaks: &Breaks,
@@ -141,6 +143,7 @@ pub fn fill_lines<L: Ledger>(
     ensures few_positions { result.positions ≤ length own.now }
     ensures at_least { steps.old + length own.now ≤ steps.new }
     ensures at_most { steps.new ≤ steps.old + 8 * length own.now }
+    ensures light { IsTrue uniform → steps.new ≤ steps.old + 4 * length own.now }
 {
     let at = breaks.positions();
     bounds[0] = Bound {

@@ -202,7 +202,7 @@ fn write_runs<L: Ledger>(
 /// `order` needs a place for each unit of the line; those behind the answered ones hold anything. `runs` needs a
 /// place for each unit of the text up to the line's end. The levels are those of the whole text after L1; `uniform`
 /// is the one that all remaining positions of the line have, where that is known. It takes between n and `6 * n`
-/// steps on a line of n positions.
+/// steps on a line of n positions, and where that level is known at most `2 * n`.
 pub fn write_order<L: Ledger>(
     levels: &[Option<Level>],
     start: usize,
@@ -222,6 +222,7 @@ pub fn write_order<L: Ledger>(
     ensures count { result ≤ end - start }
     ensures at_least { steps.old + (end - start) ≤ steps.new }
     ensures at_most { steps.new ≤ steps.old + 6 * (end - start) }
+    ensures light { IfSome uniform (λ _. steps.new ≤ steps.old + 2 * (end - start)) }
 {
     match uniform {
         None => write_runs(levels, start, end, runs, order, steps),

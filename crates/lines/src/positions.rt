@@ -1,5 +1,6 @@
 //! Stretches of a text from which nothing was removed (X9): their positions, written in order.
-ghost use Rattle.std.specs.Prelude.{◌≡◌, ◌<◌, ◌≤◌, ◌+◌, ◌-◌, ◌^◌, ℕ, IsTrue, None, length, reverse, slice_index_or, true};
+ghost use Rattle.std.specs.Prelude.{◌≡◌, ◌<◌, ◌≤◌, ◌+◌, ◌-◌, ◌^◌, length, reverse};
+ghost use Rattle.std.specs.List.{list_all};
 ghost use Rattle.std.specs.Option.{is_some};
 ghost use Rattle.units.specs.Positions.{positions_from};
 
@@ -9,7 +10,7 @@ use units::steps::Steps;
 
 /// Whether none of the positions was removed, in a step for each.
 pub(crate) fn all_remain<L: Ledger>(levels: &[Option<Level>], steps: &mut Steps<L>) -> bool
-    ensures remain { IsTrue result → (p : ℕ) → p < length levels.now → is_some (slice_index_or levels.now p None) ≡ true }
+    ensures remain { result ≡ list_all is_some levels.now }
     ensures steps { steps.new ≡ steps.old + length levels.now }
 {
     steps.add(levels.len());

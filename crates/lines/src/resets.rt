@@ -127,6 +127,7 @@ pub(crate) fn reset_unless_uniform<L: Ledger>(
     ensures uniform { IsTrue uniform → AreAtParas (classes_of own.now) (map level_of_para paras.now) levels.new }
     ensures at_least { steps.old ≤ steps.new }
     ensures at_most { steps.new ≤ steps.old + length own.now }
+    ensures light { IsTrue uniform → steps.new ≡ steps.old }
 {
     if uniform {
         return;

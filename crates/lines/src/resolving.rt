@@ -3,6 +3,7 @@ ghost use Rattle.std.specs.Prelude.{◌≡◌, ◌≤◌, ◌+◌, ◌*◌, leng
 ghost use Rattle.units.specs.Classes.{classes_of};
 ghost use Rattle.units.specs.Isolates.{level_of_para};
 ghost use Rattle.units.specs.Layout.{para_levels_of, text_levels};
+ghost use Rattle.lines.specs.Kept.{keeps_levels};
 ghost use Rattle.lines.specs.Spaces.{AreAtParas};
 
 use paragraph::contents::FirstParagraph;
@@ -18,7 +19,8 @@ use units::steps::Steps;
 pub struct ResolvedText {
     /// How many paragraphs it has.
     pub paragraphs: usize,
-    /// Known to be at the level of its paragraph at each position that remains (X9).
+    /// Known to be at the level of its paragraph at each position that remains (X9), since each paragraph keeps its
+    /// level.
     pub uniform: bool,
 }
 
@@ -40,9 +42,11 @@ pub(crate) fn resolve_text<L: Ledger>(
     ensures paras { map level_of_para (take result.paragraphs paras.new) ≡ para_levels_of text.now direction }
     ensures few { result.paragraphs ≤ length text.now }
     ensures levels { take (length text.now) levels.new ≡ text_levels limits text.now direction }
+    ensures known { result.uniform ≡ keeps_levels text.now direction }
     ensures uniform { result.uniform ≡ true → AreAtParas (classes_of text.now) (map level_of_para (take result.paragraphs paras.new)) (take (length text.now) levels.new) }
     ensures at_least { steps.old + 2 * length text.now ≤ steps.new }
     ensures at_most { steps.new ≤ steps.old + 84 * length text.now }
+    ensures light { result.uniform ≡ true → steps.new ≤ steps.old + 4 * length text.now }
 {
     let mut paragraphs = 0;
     let mut uniform = true;

@@ -41,6 +41,11 @@ known_level : (known : Bool) (levels : List (Option ℕ)) (start end level : ℕ
 known_level true levels start end level para e u = subst (IsUniform levels start end) (sym e) (u refl)
 known_level false levels start end level para e u = tt
 
+-- what is said of a known level is so where it is known
+where_known : {P : Type 0} (known : Bool) (para : ParaLevel) (level : Option ParaLevel) → level ≡ then_some known para → IfSome level (λ _. P) → known ≡ true → P
+where_known {P} true para level e said is = subst (λ o. IfSome o (λ _. P)) e said
+where_known {P} false para level e said is = cc
+
 pub bounds-paras-paragraph : goal.bounds-paras-paragraph
 bounds-paras-paragraph g c =
     let l = c.loop-start in
@@ -88,6 +93,7 @@ loop-start-init g c =
       counted = refl;
       at_least = omega arith;
       at_most = omega arith;
+      light = λ known. omega arith;
     }
 
 pub loop-start-preserved : goal.loop-start-preserved
@@ -129,4 +135,7 @@ loop-start-preserved g c =
           (c.is_separator.ensures ∙ ap is_separator (class_read c.args.own.now (end - 1) _ (omega (arith, e.above, within, len))));
       at_least = omega (arith, l.invariant.at_least, e.above, c.tick.ensures, c.end_of_line-end.ensures.at_least, line.ensures.at_least);
       at_most = omega (arith, l.invariant.at_most, e.above, c.tick.ensures, c.end_of_line-end.ensures.at_most, line.ensures.at_most, line.ensures.lines);
+      light = λ known.
+          let few = where_known c.args.uniform _ c.then_some-level.result c.then_some-level.ensures line.ensures.light known in
+          omega (arith, l.invariant.light known, e.above, c.tick.ensures, c.end_of_line-end.ensures.at_most, few);
     }

@@ -1,5 +1,5 @@
 use Rattle.std.proofs.Common.{length, take, ◌≡◌, ◌-◌, ◌≤◌, ◌+◌, ◌*◌}
-use Rattle.std.specs.Prelude.{count_by}
+use Rattle.std.specs.Prelude.{IsTrue, count_by}
 use Rattle.units.specs.Classes.{classes_of, is_separator}
 use Rattle.units.specs.Reordering.{begins_line}
 use Rattle.lines.proofs.LinesWritten.{Filling}
@@ -17,6 +17,7 @@ invariant-loop-start g l =
       counted : l.paragraph ≡ count_by is_separator (take l.start (classes_of l.own));
       at_least : l.initial.steps + l.start ≤ l.steps;
       at_most : l.steps ≤ l.initial.steps + 8 * l.start;
+      light : IsTrue l.uniform → l.steps ≤ l.initial.steps + 4 * l.start;
     }
 
 abbrev pub decreases-loop-start : goal.decreases-loop-start

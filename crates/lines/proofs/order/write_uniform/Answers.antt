@@ -1,4 +1,7 @@
-use Rattle.std.proofs.Common.{refl, sym, ap, subst, take, ◌-◌, ◌∙◌}
+use Rattle.std.proofs.Common.{None, refl, sym, ap, subst, take, ◌-◌, ◌∙◌}
+use Rattle.std.specs.Prelude.{slice_range}
+use Rattle.std.specs.Option.{is_some}
+use Rattle.std.proofs.lemmas.List.Sums.{AllPass-from_list_all}
 use Rattle.units.specs.Isolates.{level_of_para}
 use Rattle.lines.specs.Turning.{IsUniform}
 use Rattle.lines.proofs.Uniform.{uniform-falling, uniform-rising}
@@ -19,5 +22,5 @@ pub returns-then-all_remain-clause-order : goal.returns-then-all_remain-clause-o
 returns-then-all_remain-clause-order g c =
     let w = c.write_all in
     whole-order c.args.levels.now c.args.start c.args.end c.args.level (take (c.args.end - c.args.start) w.new.order) c.requires.line c.requires.uniform
-    (all_in_line c.args.levels.now c.args.start c.args.end c.requires.within (c.all_remain.ensures.remain c.if-all_remain.true))
+    (all_in_line c.args.levels.now c.args.start c.args.end c.requires.within (λ k lt. AllPass-from_list_all is_some (slice_range c.args.levels.now c.args.start c.args.end) (sym c.all_remain.ensures.remain ∙ c.if-all_remain.true) k None lt))
     w.ensures.even w.ensures.odd

@@ -1,7 +1,8 @@
-use Rattle.std.proofs.Common.{◌≡◌, ◌<◌, ℕ, true, false}
-use Rattle.std.specs.Prelude.{None, slice_index_or}
+use Rattle.std.proofs.Common.{◌≡◌, take}
+use Rattle.std.specs.Prelude.{not}
+use Rattle.std.specs.List.{list_all}
 use Rattle.std.specs.Option.{is_some}
 use Rattle.lines.proofs.positions.all_remain.Given as goal
 
 abbrev pub invariant-loop-level : goal.invariant-loop-level
-invariant-loop-level g l = l.removed ≡ false → (p : ℕ) → p < l.level-index → is_some (slice_index_or l.levels p None) ≡ true
+invariant-loop-level g l = l.removed ≡ not (list_all is_some (take l.level-index l.levels))

@@ -1,19 +1,20 @@
-use Rattle.std.proofs.Common.{arith, rules, ap, sym, ◌∙◌, subst, ◌≡◌, ◌<◌, ◌≤◌, ◌+◌, ◌-◌, ◌++◌, ◌∷◌, [], ℕ, List, Option, length, take, drop, refl}
-use Rattle.std.specs.List.{All}
-use Rattle.std.specs.Prelude.{slice_range}
+use Rattle.std.proofs.Common.{arith, rules, ap, sym, ◌∙◌, subst, ◌≡◌, ◌<◌, ◌≤◌, ◌+◌, ◌-◌, ◌++◌, ◌∷◌, [], ℕ, Bool, List, Option, length, take, drop, refl}
+use Rattle.std.specs.List.{list_all}
+use Rattle.std.specs.Prelude.{◌&&◌, slice_range}
+use Rattle.std.proofs.Math.Bool.{and-true, and_assoc}
+use Rattle.std.proofs.lemmas.Bool.{and_parts}
 use Rattle.std.proofs.lemmas.List.{drop_all, drop-drop, length-drop, length-take-le, take_all, take_more_set}
-use Rattle.std.proofs.lemmas.List.Elements.{All-nil}
 use Rattle.std.proofs.lemmas.Slice.{take-put_mid}
 use Rattle.units.specs.declared.bracket.Unit.{Unit as BidiUnit}
 use Rattle.units.specs.Paragraphs.{paragraphs_of, SeparatorOnlyLast}
-use Rattle.units.specs.Isolates.{level_of_para}
 use Rattle.units.specs.declared.level.Direction.{Direction}
-use Rattle.units.specs.declared.level.ParaLevel.{ParaLevel}
 use Rattle.explicit.specs.FirstParagraph.{first_length}
 use Rattle.explicit.proofs.OneCutting.{paragraphs_of_split}
-use Rattle.paragraph.specs.Resolvers.{StaysAt}
-use Rattle.lines.proofs.AtParas.{Stays, staying_more, text_at_paras}
-use Rattle.lines.proofs.TextLevels.{IsWritten, para_level, para_levels, written_none, separator_last, written_to, written_paras, written_levels}
+use Rattle.units.specs.Classes.{classes_of}
+use Rattle.paragraph.specs.Contents.{keeps_level}
+use Rattle.lines.specs.Kept.{keeps_levels, keeps_own_level}
+use Rattle.lines.proofs.AtParas.{all_stay, text_at_paras}
+use Rattle.lines.proofs.TextLevels.{IsWritten, written_none, separator_last, written_to, written_paras, written_levels}
 use Rattle.lines.proofs.resolving.resolve_text.Goals as goal
 
 -- the first paragraph of what is left, and what is left behind it
@@ -28,12 +29,13 @@ next_piece text start n lt e =
 pub loop-start-init : goal.loop-start-init
 loop-start-init g c = record {
   written = written_none c.args.limits c.args.text.now c.args.direction c.args.levels.now;
-  staying = λ e all. all;
+  known = refl;
   few = omega arith;
   inside = omega arith;
   resolver = search rules;
   at_least = omega arith;
   at_most = omega arith;
+  light = λ known. omega arith;
 }
 
 -- what is left, as a slice of the text
@@ -71,24 +73,37 @@ loop-start-preserved g c =
     let P : List (List BidiUnit) → Type 0 = λ pieces. IsWritten c.args.limits text direction l.start (take l.paragraphs l.paras) l.levels pieces in
     let w : P (para ∷ paragraphs_of (drop end text)) = subst P split l.invariant.written in
     let room : l.paragraphs < length l.paras = omega (arith, l.auto.paras, l.invariant.few, c.requires.paras) in
-    let A : List (List BidiUnit) → Type 0 = λ pieces. All (Stays c.args.limits direction) pieces in
-    let Q : ℕ → Type 0 = λ level. StaysAt level (para_levels c.args.limits direction para) in
-    let R : List (Option ℕ) → Type 0 = λ levels. StaysAt (level_of_para known.result.level) levels in
+    let keeps : List BidiUnit → Bool = keeps_own_level direction in
     record {
       written =
           rw (take_more_set l.paras l.paragraphs known.result.level room)
           (written_to w end known.result.level _ (omega (arith, long)) known.ensures.level
           (take-put_mid l.start _ l.levels known.new.levels end (omega arith) (omega arith)
           ∙ ap (λ (xs : List (Option ℕ)). take l.start l.levels ++ xs) known.ensures.levels));
-      staying = λ e all.
-          staying_more c.args.limits direction text para (paragraphs_of (drop end text)) l.uniform known.result.uniform (λ b whole. l.invariant.staying b (subst A (sym split) whole))
-          (λ u. subst Q known.ensures.level (subst R known.ensures.levels (known.ensures.uniform u))) e all;
+      known =
+          and_assoc l.uniform known.result.uniform (list_all keeps (paragraphs_of (drop end text)))
+          ∙ ap (λ b. l.uniform && (b && list_all keeps (paragraphs_of (drop end text)))) (known.ensures.known ∙ ap (λ n. keeps_level n (classes_of para)) known.ensures.level)
+          ∙ ap (λ pieces. l.uniform && list_all keeps pieces) (sym split)
+          ∙ l.invariant.known;
       few = omega (arith, l.invariant.few);
       inside = omega arith;
       resolver = search rules;
       at_least = omega (arith, long);
       at_most = omega (arith, long);
+      light = λ both.
+          let parts = and_parts l.uniform known.result.uniform both in
+          omega (arith, long, some, l.invariant.light parts.0, known.ensures.light parts.1);
     }
+
+-- at the text's end no paragraph is left
+known_whole : (text : List BidiUnit) (direction : Direction) (start : ℕ) (uniform : Bool) → drop start text ≡ [] → (uniform && list_all (keeps_own_level direction) (paragraphs_of (drop start text))) ≡ keeps_levels text direction → uniform ≡ keeps_levels text direction
+known_whole text direction start uniform done known =
+    sym (and-true uniform) ∙ ap (λ us. uniform && list_all (keeps_own_level direction) (paragraphs_of us)) (sym done) ∙ known
+
+pub returns-clause-known : goal.returns-clause-known
+returns-clause-known g c =
+    let l = c.loop-start in
+    known_whole c.args.text.now c.args.direction l.start l.uniform (drop_all l.start c.args.text.now (omega arith)) l.invariant.known
 
 pub returns-clause-uniform : goal.returns-clause-uniform
 returns-clause-uniform g c = λ e.
@@ -97,6 +112,5 @@ returns-clause-uniform g c = λ e.
     let direction : Direction = c.args.direction in
     let done : drop l.start text ≡ [] = drop_all l.start text (omega arith) in
     let P : List (List BidiUnit) → Type 0 = λ pieces. IsWritten c.args.limits text direction l.start (take l.paragraphs l.paras) l.levels pieces in
-    let A : List (List BidiUnit) → Type 0 = λ pieces. All (Stays c.args.limits direction) pieces in
     let w : P [] = subst P (ap paragraphs_of done) l.invariant.written in
-    rw (written_paras w, written_levels w) (text_at_paras c.args.limits direction text (l.invariant.staying e (subst A (sym (ap paragraphs_of done)) (All-nil (Stays c.args.limits direction)))))
+    rw (written_paras w, written_levels w) (text_at_paras c.args.limits direction text (all_stay c.args.limits direction (paragraphs_of text) (sym (known_whole text direction l.start l.uniform done l.invariant.known) ∙ e)))

@@ -1,19 +1,21 @@
 use Rattle.std.proofs.Common.{◌≡◌, ◌≤◌, ◌+◌, ◌-◌, ◌*◌, drop, length, take, true}
-use Rattle.std.specs.List.{All}
+use Rattle.std.specs.Prelude.{◌&&◌}
+use Rattle.std.specs.List.{list_all}
 use Rattle.units.specs.Paragraphs.{paragraphs_of}
-use Rattle.lines.proofs.AtParas.{Stays}
+use Rattle.lines.specs.Kept.{keeps_levels, keeps_own_level}
 use Rattle.lines.proofs.TextLevels.{IsWritten}
 use Rattle.lines.proofs.resolving.resolve_text.Given as goal
 
 abbrev pub invariant-loop-start : goal.invariant-loop-start
 invariant-loop-start g l = record {
   written : IsWritten l.limits l.text l.direction l.start (take l.paragraphs l.paras) l.levels (paragraphs_of (drop l.start l.text));
-  staying : l.uniform ≡ true → All (Stays l.limits l.direction) (paragraphs_of (drop l.start l.text)) → All (Stays l.limits l.direction) (paragraphs_of l.text);
+  known : (l.uniform && list_all (keeps_own_level l.direction) (paragraphs_of (drop l.start l.text))) ≡ keeps_levels l.text l.direction;
   few : l.paragraphs ≤ l.start;
   inside : l.start ≤ length l.text;
   resolver : l.resolver ≡ l.initial.resolver;
   at_least : l.initial.steps + 2 * l.start ≤ l.steps;
   at_most : l.steps ≤ l.initial.steps + 84 * l.start;
+  light : l.uniform ≡ true → l.steps ≤ l.initial.steps + 4 * l.start;
 }
 
 abbrev pub decreases-loop-start : goal.decreases-loop-start
