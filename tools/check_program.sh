@@ -1,8 +1,8 @@
 #!/bin/bash
 # Runs the built program over files of the system, and compares its statuses and what it writes: a yes, a no, a missing
 # file, texts by tables, a full disk, a closed pipe. Where the package unicode-data is installed it reads the published
-# property files and judges the official test files too; else it says that it does not. It ends with 0 where all is as it
-# is to be, with 1 where not, and with 2 where the program is missing.
+# property files and judges the official test files too; else it says that it does not. It ends with 0 where all is as
+# it is to be, with 1 where not, and with 2 where the program is missing.
 #
 # usage: tools/check_program.sh [FOLDER]      (FOLDER, with the property and test files: /usr/share/unicode)
 #
