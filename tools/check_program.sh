@@ -62,6 +62,7 @@ ends 0 $'paragraph 0 level 0\n0 05D0 R 1\n1 0020 WS 0\n2 0028 ON 0\n3 0061 L 0' 
     levels --tables t --direction ltr text.txt
 ends 0 $'a) \xd7\x90' '' reorder --tables t text.txt
 ends 0 $' \xd7\x90\na)' '' reorder --tables t --columns 2 text.txt
+ends 2 '' 'bidi: a word is not UTF-8' judge --kind classes $'\xff'
 ends 3 '' 'bidi: cannot read missing.txt' levels --tables t missing.txt
 ends 3 '' 'bidi: bytes.txt: not UTF-8' reorder --tables t bytes.txt
 ends 3 '' 'bidi: cannot read large.txt' reorder --tables t large.txt
@@ -77,10 +78,6 @@ is 'standard output of refused words' '' "$(cat found_out)"
 "$program" --help > found_out 2> found_err
 is 'status of --help' 0 $?
 is 'standard error of --help' '' "$(cat found_err)"
-
-# A word that is not UTF-8.
-"$program" judge --kind classes $'\xff' > found_out 2> found_err
-is 'status of a word that is not UTF-8' 2 $?
 
 # A full disk, and a pipe that no one reads.
 for words in 'judge --kind classes yes.txt' 'judge --kind classes no.txt' 'levels --tables t text.txt' \
