@@ -1,40 +1,123 @@
 #!/bin/bash
-# Runs the tests of a crate with the Nth allocation refused, N = 1, 2, .. until a run in which none is refused, and reads
-# that the test made for it passed each time: the answer was the ordinary one, or that memory was refused.
+# Refuses each growth in turn, of the tests that are made for it and of the program: the first one, the second, .. until
+# a run that has no such growth. Each test must pass each time: it expects the ordinary answer, or that memory was
+# refused, and no other. The program must end as ever, or say `bidi: out of memory` and end with 3. It prints, for each
+# crate that takes memory, how many growths were refused, and ends with 0 where all passed.
 #
-# usage: tools/refused_growths.sh CRATE [FIRST [LAST]]
+# usage: tools/refused_growths.sh [CRATE ..]    (of ucdfiles, paragraph, lines, bidtests, bidi; with none all of them)
 #
-# The tests that matter, one for each crate (others fail as they will, since they take no refused memory for an answer):
-#   bidi      answers_as_ever_or_says_that_memory_was_refused
-#   bidtests  no_growth_comes_after_making
-#   lines     no_growth_comes_after_making
-#   ucdfiles  says_that_memory_was_refused
-# Each N takes some ten seconds and more. Not part of `rt ci`. It ends with 0 where every run that was tried passed.
+# It runs what `rt ci` leaves in crates/*/out, or `rt test` and `rt run` in a crate's folder, and takes some seconds. It
+# needs a C compiler (CC, else cc), and ends with 2 where that or a program is missing. Not part of the gate.
 set -u
-crate=${1:?usage: tools/refused_growths.sh CRATE [FIRST [LAST]]}
-first=${2:-1}
-last=${3:-100000}
-# Of bidtests only the tests of making run, since others take long.
-only=()
-case $crate in
-    bidi) test_name=answers_as_ever_or_says_that_memory_was_refused ;;
-    bidtests) test_name=no_growth_comes_after_making only=(-- making) ;;
-    lines) test_name=no_growth_comes_after_making ;;
-    ucdfiles) test_name=says_that_memory_was_refused ;;
-    *) echo "$crate has no test made for refused memory" >&2; exit 2 ;;
-esac
-cd "$(dirname "$0")/../crates/$crate" || exit 2
+tools=$(cd "$(dirname "$0")" && pwd)
+crates=$tools/../crates
 
-for ((n = first; n <= last; n++)); do
-    said=$(rt try --test --fail-alloc "$n" "${only[@]}" 2>&1)
-    if ! grep -qE "^test tests::([a-z_]+::)*$test_name \.\.\. ok$" <<<"$said" || grep "::$test_name \.\.\. " <<<"$said" | grep -qv ' ok$'; then
-        echo "$crate: allocation $n refused: $test_name did not pass" >&2
-        echo "$said" >&2
-        exit 1
-    fi
-    if grep -q '^test result: ok\.' <<<"$said"; then
-        echo "$crate: $test_name passed with each of the allocations $first to $((n - 1)) refused; at $n every test passes"
-        exit 0
-    fi
+missing() {
+    echo "$1" >&2
+    exit 2
+}
+work=$(mktemp -d) || exit 2
+trap 'rm -r "$work"' EXIT
+"${CC:-cc}" -shared -fPIC -O1 -fno-builtin -o "$work/refuse_growth.so" "$tools/growths/refuse_growth.c" ||
+    missing "no C compiler, or it does not build"
+
+# refusing N COMMAND..: runs a command with the growth of this number refused, and notes in the file `refused` whether
+# there was one, in `out` and `err` what it wrote. The status is the command's.
+refusing() {
+    local number=$1
+    shift
+    REFUSED_GROWTH=$number LD_PRELOAD=$work/refuse_growth.so "$@" > "$work/out" 2> "$work/err" 9> "$work/refused"
+}
+
+# every COMMAND..: runs a command with each growth refused in turn, has `is_right STATUS` judge each run, and counts the
+# growths.
+every() {
+    local number=0 status
+    while true; do
+        number=$((number + 1))
+        refusing "$number" "$@"
+        status=$?
+        if ! is_right "$status"; then
+            echo "growth $number refused: status $status: $*" >&2
+            cat "$work/out" "$work/err" >&2
+            exit 1
+        fi
+        [ -s "$work/refused" ] || break
+        growths=$((growths + 1))
+    done
+}
+
+# tests_of CRATE WHAT TEST..: every growth of these tests, of which each runs alone.
+tests_of() {
+    local crate=$1 what=$2 growths=0 test program
+    shift 2
+    program=$crates/$crate/out/${crate}_tests
+    [ -x "$program" ] || missing "no $program: run rt ci, or rt test in crates/$crate"
+    is_right() {
+        [ "$1" -eq 0 ] && grep -q '^test result: ok' "$work/out"
+    }
+    for test in "$@"; do
+        "$program" --list 2> /dev/null | grep -qx "$test: test" || missing "$crate has no test $test"
+        every "$program" "$test"
+    done
+    echo "$crate: $growths growths refused, each in turn: $what"
+}
+
+# rows STATUS WORD..: every growth of the program with these words, which ends with this status as ever.
+rows() {
+    local expected=$1
+    shift
+    "$program" "$@" > "$work/ever" 2> "$work/ever_err"
+    [ $? -eq "$expected" ] || missing "without a refused growth: not status $expected: $*"
+    is_right() {
+        if [ "$1" -eq "$expected" ] && cmp -s "$work/out" "$work/ever" && cmp -s "$work/err" "$work/ever_err"; then
+            return 0
+        fi
+        [ "$1" -eq 3 ] && [ ! -s "$work/out" ] && [ "$(cat "$work/err")" = "bidi: out of memory" ]
+    }
+    every "$program" "$@"
+}
+
+program_of_bidi() {
+    local program=$crates/bidi/out/bidi growths=0
+    [ -x "$program" ] || missing "no $program: run rt ci, or rt run -- --help in crates/bidi"
+    mkdir "$work/t"
+    printf '05D0..05D1 ; R\n0028..0029 ; ON\n' > "$work/t/DerivedBidiClass.txt"
+    printf '0028; 0029; o\n0029; 0028; c\n' > "$work/t/BidiBrackets.txt"
+    printf '0028; 0029\n0029; 0028\n' > "$work/t/BidiMirroring.txt"
+    printf 'a(\xd7\x90)\n' > "$work/text"
+    printf '@Levels: 0\n@Reorder: 0\nL; 7\n' > "$work/classes"
+    printf '0061;0;0;0;0\n' > "$work/characters"
+    rows 0 levels --tables "$work/t" "$work/text"
+    rows 0 reorder --tables "$work/t" --columns 2 "$work/text"
+    rows 1 judge --kind classes "$work/classes"
+    rows 0 judge --kind characters --tables "$work/t" "$work/characters"
+    rows 3 levels --tables "$work/t" "$work/missing"
+    rows 2 judge --kind characters "$work/characters"
+    rows 2 levels
+    rows 0 --help
+    echo "bidi: $growths growths refused, each in turn: the program, over files of the system"
+}
+
+for crate in ${*:-ucdfiles paragraph lines bidtests bidi}; do
+    case $crate in
+        ucdfiles)
+            tests_of ucdfiles 'the three readers, and a source that had failed' \
+                tests::says_that_memory_was_refused tests::a_source_that_had_failed ;;
+        paragraph)
+            tests_of paragraph \
+                'IsolateMap and Explicit of explicit, Sequences of sequences, Pairs of resolve, Resolver' \
+                tests::rooms::says_that_memory_was_refused ;;
+        lines)
+            tests_of lines 'Scratch, and a thousand layouts after it' tests::no_growth_comes_after_making ;;
+        bidtests)
+            tests_of bidtests 'both kinds of judge, and files judged after it' \
+                tests::no_growth_comes_after_making tests::characters::no_growth_comes_after_making ;;
+        bidi)
+            tests_of bidi 'print_levels, print_reorder, and run over files in memory' \
+                tests::refused::prints_or_says_that_memory_was_refused \
+                tests::faults::answers_as_ever_or_says_that_memory_was_refused
+            program_of_bidi ;;
+        *) missing "$crate has no test made for refused memory" ;;
+    esac
 done
-echo "$crate: $test_name passed with each of the allocations $first to $last refused"

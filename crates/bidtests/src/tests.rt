@@ -1,5 +1,6 @@
 mod arbitrary;
 mod characters;
+mod reading;
 
 use crate::judge::Judge;
 use crate::reader::{ReadFault, judge_reader};

@@ -531,8 +531,12 @@ fn lays_out_broken(rt: &impl Abort, room: &mut Scratch, text: &[Unit]) -> Result
 
 #[test]
 fn no_growth_comes_after_making(rt: HostRuntime) -> Result<(), Fail> {
-    let Ok(mut room) = Scratch::with_room(rt.alloc(), 64) else {
-        return Ok(());
+    let mut room = match Scratch::with_room(rt.alloc(), 64) {
+        Ok(room) => room,
+        Err(fault) => {
+            assert_eq!(rt; fault, RoomFault::Memory);
+            return Ok(());
+        }
     };
     let text = [R, WS, R];
     let whole = [Level::new(1), Level::new(1), Level::new(1)];

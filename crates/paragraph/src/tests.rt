@@ -4,6 +4,8 @@ ghost use Rattle.std.specs.List.{list_any};
 ghost use Rattle.units.specs.Classes.{is_separator};
 ghost use Rattle.units.specs.Paragraphs.{SeparatorOnlyLast};
 
+mod rooms;
+
 use crate::resolver::Resolver;
 use std::alloc::Global;
 use std::marker::Brand;

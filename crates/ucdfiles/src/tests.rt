@@ -1,5 +1,8 @@
 ghost use Rattle.std.specs.Prelude.{◌≤◌, length};
 
+mod arbitrary;
+mod large;
+
 use crate::bracket_table::BracketTable;
 use crate::class_table::ClassTable;
 use crate::fault::TableFault;

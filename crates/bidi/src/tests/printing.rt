@@ -9,7 +9,8 @@ use ucdfiles::tables::Tables;
 use units::level::Direction;
 use units::slice_source::SliceSource;
 
-fn tables(rt: &impl Abort, alloc: Global) -> Tables {
+/// The tables of the worked rows.
+pub fn tables(rt: &impl Abort, alloc: Global) -> Tables {
     Tables::new(
         ClassTable::read(alloc, &mut SliceSource::new(CLASS_FILE)).expect(rt, "classes"),
         BracketTable::read(alloc, &mut SliceSource::new(BRACKET_FILE)).expect(rt, "brackets"),

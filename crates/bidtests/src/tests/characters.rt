@@ -136,8 +136,12 @@ fn making_a_judge_succeeds(rt: HostRuntime) -> Result<(), Fail> {
 #[test]
 fn no_growth_comes_after_making(rt: HostRuntime) {
     let alloc = rt.alloc();
-    let Ok(tables) = tables(alloc) else {
-        return;
+    let tables = match tables(alloc) {
+        Ok(tables) => tables,
+        Err(fault) => {
+            assert_eq!(&rt; fault, TableFault::Memory);
+            return;
+        }
     };
     match Judge::for_characters(alloc, &tables) {
         Err(Memory) => {}

@@ -1,0 +1,112 @@
+#!/bin/bash
+# Runs the built program over files of the system, and compares its statuses and what it writes: a yes, a no, a missing
+# file, texts by tables, a full disk, a closed pipe. Where the package unicode-data is installed it reads the published
+# property files and judges the official test files too; else it says that it does not. It ends with 0 where all is as
+# it is to be, with 1 where not, and with 2 where the program is missing.
+#
+# usage: tools/check_program.sh [FOLDER]      (FOLDER, with the property and test files: /usr/share/unicode)
+#
+# It runs what `rt ci` leaves, or `rt run` in crates/bidi, and takes some seconds.
+set -u
+folder=${1:-/usr/share/unicode}
+tools=$(cd "$(dirname "$0")" && pwd)
+program=$tools/../crates/bidi/out/bidi
+if [ ! -x "$program" ]; then
+    echo "no program at $program: run rt ci, or rt run -- --help in crates/bidi" >&2
+    exit 2
+fi
+work=$(mktemp -d) || exit 2
+trap 'rm -r "$work"' EXIT
+cd "$work" || exit 2
+checks=0
+wrong=0
+
+# is WHAT EXPECTED FOUND: counts a comparison, and says where it fails.
+is() {
+    checks=$((checks + 1))
+    if [ "$2" != "$3" ]; then
+        wrong=$((wrong + 1))
+        printf '%s: expected\n%s\nfound\n%s\n' "$1" "$2" "$3" >&2
+    fi
+}
+
+# ends STATUS OUT ERR WORD..: runs the program with these words, and compares its status and what it writes.
+ends() {
+    local status=$1 out=$2 err=$3
+    shift 3
+    "$program" "$@" > found_out 2> found_err
+    is "status of $*" "$status" $?
+    is "standard output of $*" "$out" "$(cat found_out)"
+    is "standard error of $*" "$err" "$(cat found_err)"
+}
+
+mkdir t
+printf '000A ; B\n0020 ; WS\n0028..0029 ; ON\n05D0..05EA ; R\n' > t/DerivedBidiClass.txt
+printf '0028; 0029; o\n0029; 0028; c\n' > t/BidiBrackets.txt
+printf '0028; 0029\n0029; 0028\n' > t/BidiMirroring.txt
+printf '@Levels: 1 1 0\n@Reorder: 1 0 2\nR B L; 1\n' > yes.txt
+printf '@Levels: 0\n@Reorder: 0\nL; 7\n' > no.txt
+printf '05D0 0028 0061 0029 05D1;1;1;1 1 2 1 1;4 3 2 1 0\n' > characters.txt
+printf '\xd7\x90 (a' > text.txt
+printf '\xff' > bytes.txt
+head -c 16777217 /dev/zero > large.txt
+
+ends 0 'yes: 1 rows, 1 cases' '' judge --kind classes yes.txt
+ends 1 'no: line 3: rtl: levels at 0' '' judge --kind classes no.txt
+ends 0 'yes: 1 rows, 1 cases' '' judge --kind characters --tables t characters.txt
+ends 3 '' 'bidi: cannot read missing.txt' judge --kind classes missing.txt
+ends 3 '' 'bidi: cannot read t' judge --kind classes t
+ends 2 '' 'bidi: --tables is needed' judge --kind characters characters.txt
+ends 0 $'paragraph 0 level 1\n0 05D0 R 1\n1 0020 WS 1\n2 0028 ON 1\n3 0061 L 2' '' levels --tables t text.txt
+ends 0 $'paragraph 0 level 0\n0 05D0 R 1\n1 0020 WS 0\n2 0028 ON 0\n3 0061 L 0' '' \
+    levels --tables t --direction ltr text.txt
+ends 0 $'a) \xd7\x90' '' reorder --tables t text.txt
+ends 0 $' \xd7\x90\na)' '' reorder --tables t --columns 2 text.txt
+ends 2 '' 'bidi: a word is not UTF-8' judge --kind classes $'\xff'
+ends 3 '' 'bidi: cannot read missing.txt' levels --tables t missing.txt
+ends 3 '' 'bidi: bytes.txt: not UTF-8' reorder --tables t bytes.txt
+ends 3 '' 'bidi: cannot read large.txt' reorder --tables t large.txt
+ends 3 '' 'bidi: cannot read DerivedBidiClass.txt' levels --tables none text.txt
+printf '0041 ; Left_To_Right\n' > t/BidiMirroring.txt
+ends 3 '' 'bidi: BidiMirroring.txt: line 1: CodePoint' levels --tables t text.txt
+printf '' > t/BidiMirroring.txt
+
+# Words that are refused, and help.
+"$program" reorder --columns 0 --tables t text.txt > found_out 2> found_err
+is 'status of refused words' 2 $?
+is 'standard output of refused words' '' "$(cat found_out)"
+"$program" --help > found_out 2> found_err
+is 'status of --help' 0 $?
+is 'standard error of --help' '' "$(cat found_err)"
+
+# A full disk, and a pipe that no one reads.
+for words in 'judge --kind classes yes.txt' 'judge --kind classes no.txt' 'levels --tables t text.txt' \
+    'reorder --tables t text.txt' '--help'; do
+    # shellcheck disable=SC2086
+    "$program" $words > /dev/full 2> found_err
+    is "status of $words to a full disk" 3 $?
+    is "standard error of $words to a full disk" 'bidi: cannot write' "$(cat found_err)"
+    # shellcheck disable=SC2086
+    { sleep 0.2; "$program" $words 2> found_err; echo $? > status; } | true
+    is "status of $words to a closed pipe" 3 "$(cat status)"
+    is "standard error of $words to a closed pipe" 'bidi: cannot write' "$(cat found_err)"
+done
+
+# The published files.
+found=$(find "$folder" -name 'BidiCharacterTest.txt*' 2> /dev/null | head -n 1)
+if [ -n "$found" ]; then
+    official=$("$tools/judge_official_files.sh" "$folder")
+    is 'status of the official files' 0 $?
+    echo "$official"
+    mkdir real
+    for name in DerivedBidiClass.txt BidiBrackets.txt BidiMirroring.txt; do
+        cp "$(find "$folder" -name "$name" | sort | head -n 1)" real
+    done
+    ends 0 $'paragraph 0 level 1\n0 05D0 R 1\n1 0020 WS 1\n2 0028 ON 1\n3 0061 L 2' '' levels --tables real text.txt
+    ends 0 $'a) \xd7\x90' '' reorder --tables real text.txt
+else
+    echo "no official files in $folder (package unicode-data): they are not judged"
+fi
+
+echo "$checks comparisons, $wrong wrong"
+[ "$wrong" -eq 0 ]
