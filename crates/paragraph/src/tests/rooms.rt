@@ -3,7 +3,7 @@ use crate::resolver::Resolver;
 use explicit::isolates::IsolateMap;
 use explicit::levels::Explicit;
 use resolve::pairs::Pairs;
-use sequences::paragraph::Sequences;
+use sequences::sequences::Sequences;
 use std::alloc::Global;
 use std::test::Fail;
 use units::memory::Memory;
