@@ -31,6 +31,7 @@ use Rattle.units.specs.Brackets.{stop_of, bracket_pairs_of, closer_of, after_pai
 use Rattle.units.specs.Neutral.{after_neutral}
 use Rattle.units.specs.Reordering.{after_resets, line_order}
 use Rattle.units.specs.Layout.{TextLayout, resolved_levels, layout_of, all_orders}
+use Rattle.units.specs.Limits.{standard}
 use Rattle.units.specs.Rows.{plain, laid_out}
 use Rattle.units.specs.declared.class.Class.{Class}
 use Rattle.units.specs.declared.class.Class.TheVariants.{L, R, AL, EN, ES, ET, AN, CS, NSM, BN, B, S, WS, ON, LRE, LRO, RLE, RLO, PDF, LRI, RLI, FSI, PDI}
@@ -51,7 +52,7 @@ abbrev pub claimed : TextLayout → Option ℕ × List (Option ℕ) × List ℕ
 claimed layout = (first_of layout.paras, layout.levels, all_orders layout)
 
 abbrev pub with_level : List BidiUnit → Direction → Option ℕ × List (Option ℕ) × List ℕ
-with_level text direction = claimed (layout_of text direction [])
+with_level text direction = claimed (layout_of standard text direction [])
 """
 
 OPENED = ('matching_pdi matching_initiator partner_of isolate_holds isolate_around first_strong para_level_of matching_pdf '

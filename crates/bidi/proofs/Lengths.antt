@@ -5,6 +5,7 @@ use Rattle.std.proofs.lemmas.List.{length-append}
 use Rattle.units.specs.Classes.{classes_of, is_separator}
 use Rattle.units.specs.Isolates.{para_level_of}
 use Rattle.units.specs.Layout.{layout_of, resolved_levels, text_levels}
+use Rattle.units.specs.Limits.{LimitsOf}
 use Rattle.units.specs.Paragraphs.{begin_with, paragraphs_of}
 use Rattle.units.specs.Positions.{positions_from}
 use Rattle.units.specs.declared.bracket.Unit.{Unit as BidiUnit}
@@ -19,9 +20,9 @@ pub length-mapped : {A B : Type 0} (f : A → B) (xs : List A) → length (map f
 length-mapped f [] = refl
 length-mapped f (x ∷ xs) = ap (λ k. suc k) (length-mapped f xs)
 
-length-resolved : (us : List BidiUnit) (para : ℕ) → length (resolved_levels us para) ≡ length us
+length-resolved : (limits : LimitsOf) (us : List BidiUnit) (para : ℕ) → length (resolved_levels limits us para) ≡ length us
 unfolding resolved_levels
-length-resolved us para = length-mapped _ (positions_from 0 (length us)) ∙ length-positions 0 (length us)
+length-resolved limits us para = length-mapped _ (positions_from 0 (length us)) ∙ length-positions 0 (length us)
 
 module _ (f : List BidiUnit → List (Option ℕ)) (kept : (us : List BidiUnit) → length (f us) ≡ length us) where
   length-begun : (unit : BidiUnit) (pieces : List (List BidiUnit)) → length (flat_map f (begin_with unit pieces)) ≡ suc (length (flat_map f pieces))
@@ -36,8 +37,8 @@ module _ (f : List BidiUnit → List (Option ℕ)) (kept : (us : List BidiUnit) 
   length-paragraphs [] = refl
   length-paragraphs (unit ∷ units) = length-begun unit (paragraphs_of units) ∙ ap (λ k. suc k) (length-paragraphs units)
 
-pub length-levels : (text : List BidiUnit) (direction : Direction) (breaks : List ℕ) → length (layout_of text direction breaks).levels ≡ length text
+pub length-levels : (limits : LimitsOf) (text : List BidiUnit) (direction : Direction) (breaks : List ℕ) → length (layout_of limits text direction breaks).levels ≡ length text
 unfolding layout_of
-length-levels text direction breaks =
-    length-after_resets _ breaks _ (text_levels text direction)
-    ∙ length-paragraphs (λ us. resolved_levels us (para_level_of (classes_of us) direction)) (λ us. length-resolved us _) text
+length-levels limits text direction breaks =
+    length-after_resets _ breaks _ (text_levels limits text direction)
+    ∙ length-paragraphs (λ us. resolved_levels limits us (para_level_of (classes_of us) direction)) (λ us. length-resolved limits us _) text

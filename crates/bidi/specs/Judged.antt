@@ -1,6 +1,7 @@
 -- What a judged file leaves behind.
 use Rattle.std.specs.Prelude.{◌≡◌, ℕ, List, Option}
 use Rattle.std.specs.Io.KnownBytes.{Appends}
+use Rattle.units.specs.Limits.{standard}
 use Rattle.ucdfiles.specs.Tables.{TablesOf}
 use Rattle.bidtests.specs.declared.verdict.Verdict.{Verdict}
 use Rattle.bidtests.specs.ClassesFile.{classes_verdict}
@@ -16,14 +17,14 @@ pub record SaysVerdict (before after : Option (List ℕ)) (verdict : Verdict) (s
   pub status_is : status ≡ verdict_status verdict
   pub line : Appends before after (verdict_text verdict)
 
--- the verdict on the bytes of a file whose rows are lists of classes
+-- the verdict on the bytes of a file whose rows are lists of classes, by the standard limits
 abbrev pub IsClassesVerdict : List ℕ → Verdict → Type 0
-IsClassesVerdict bytes verdict = verdict ≡ classes_verdict bytes
+IsClassesVerdict bytes verdict = verdict ≡ classes_verdict standard bytes
 
--- the verdict on the bytes of a file whose rows are lists of code points, by the tables of a folder that were read
+-- the verdict on the bytes of a file whose rows are lists of code points, by the standard limits and the tables of a folder that were read
 abbrev pub IsCharactersVerdict : (List ℕ → ℕ → List ℕ → Type 0) → List ℕ → List ℕ → Verdict → Type 0
 IsCharactersVerdict WasRead folder bytes verdict =
-    (tables : TablesOf) × AreTables WasRead folder tables × (verdict ≡ characters_verdict (unit_by tables) bytes)
+    (tables : TablesOf) × AreTables WasRead folder tables × (verdict ≡ characters_verdict standard (unit_by tables) bytes)
 
 -- the file of this name was read whole, and what was written and the exit status say the verdict on its bytes
 pub record HasJudged (WasRead : List ℕ → ℕ → List ℕ → Type 0) (IsVerdict : List ℕ → Verdict → Type 0) (file : List ℕ) (before after : Option (List ℕ)) (status : ℕ) : Type 0 where

@@ -1,7 +1,8 @@
--- The texts that `levels` and `reorder` print, by tables, text, direction and columns.
+-- The texts that `levels` and `reorder` print, by tables, text, direction and columns, and by the standard limits.
 use Rattle.std.specs.Prelude.{Option, ℕ, List, [], map, Some, None}
 use Rattle.std.specs.declared.num.NonZeroU16.{NonZeroU16}
 use Rattle.units.specs.Layout.{layout_of}
+use Rattle.units.specs.Limits.{standard}
 use Rattle.units.specs.declared.bracket.Unit.{Unit as BidiUnit}
 use Rattle.units.specs.declared.level.Direction.{Direction}
 use Rattle.ucdfiles.specs.Tables.{TablesOf, class_at, bracket_at, glyph_at}
@@ -20,7 +21,7 @@ units_of tables chars = map (unit_of tables) chars
 -- what `levels` prints: the paragraphs of the layout without further breaks
 abbrev pub printed_levels : TablesOf → List ℕ → Direction → List ℕ
 printed_levels tables chars direction =
-    levels_text chars (units_of tables chars) (layout_of (units_of tables chars) direction [])
+    levels_text chars (units_of tables chars) (layout_of standard (units_of tables chars) direction [])
 
 -- the breaks at columns, where such are asked for
 abbrev pub breaks_of : List BidiUnit → Option NonZeroU16 → List ℕ
@@ -31,4 +32,4 @@ breaks_of text (Some columns) = column_breaks_of text columns.value
 abbrev pub printed_reorder : TablesOf → List ℕ → Direction → Option NonZeroU16 → List ℕ
 printed_reorder tables chars direction columns =
     let text = units_of tables chars in
-    reorder_text (glyph_at tables.mirrors) chars text (layout_of text direction (breaks_of text columns))
+    reorder_text (glyph_at tables.mirrors) chars text (layout_of standard text direction (breaks_of text columns))

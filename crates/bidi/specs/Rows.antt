@@ -1,6 +1,7 @@
 -- Worked texts, and what `reorder` prints of them.
 use Rattle.std.specs.Prelude.{Option, ℕ, ◌≡◌, ◌==◌, if◌then◌else◌, List, [], ◌∷◌, Some, None, map, refl, codes}
 use Rattle.std.specs.Char.{encode_utf8}
+use Rattle.units.specs.Limits.{standard}
 use Rattle.units.specs.Isolates.{matching_pdi, matching_initiator, partner_of, isolate_holds, isolate_around, first_strong, para_level_of}
 use Rattle.units.specs.Explicit.{matching_pdf, embedding_holds, chain, entered, explicit_at}
 use Rattle.units.specs.Weak.{after_weak}
@@ -27,7 +28,7 @@ images c = if c == 60 then Some 62 else if c == 62 then Some 60 else if c == 59 
 
 -- what is printed of a text with these classes and breaks
 abbrev pub printed_with : List ℕ → List Class → Direction → List ℕ → List ℕ
-printed_with chars classes direction breaks = reorder_text images chars (plain classes) (layout_of (plain classes) direction breaks)
+printed_with chars classes direction breaks = reorder_text images chars (plain classes) (layout_of standard (plain classes) direction breaks)
 
 -- the same, without columns
 abbrev pub printed_whole : List ℕ → List Class → Direction → List ℕ

@@ -1,5 +1,6 @@
 // A source judged, and its verdict printed.
 ghost use Rattle.std.specs.Prelude.{◌≡◌, ◌≤◌, ℕ, List, [], IfOk, IfErr, IsErr, OnOk};
+ghost use Rattle.units.specs.Limits.{standard};
 ghost use Rattle.bidtests.specs.CharactersFile.{characters_verdict};
 ghost use Rattle.bidtests.specs.ClassesFile.{classes_verdict};
 ghost use Rattle.bidtests.specs.FileKinds.{unit_by, verdict_of};
@@ -29,7 +30,7 @@ fn status_of(verdict: Verdict) -> u8
     }
 }
 
-/// Judges by a judge that was handed nothing.
+/// Judges by a judge that was handed nothing, and lays out by the standard limits.
 fn judge_source<'a, S: ByteSource, W: Write>(
     judge: Judge<'_>,
     source: &mut S,
@@ -40,8 +41,8 @@ fn judge_source<'a, S: ByteSource, W: Write>(
     ensures failed { S.failures source.new ≡ 1 → IsErr result }
     ensures fault { IfErr result (EndsJudging (S.failures source.new) (S.ended source.new) name.now) }
     ensures verdict { IfOk result (λ status. (given : List ℕ) × S.gives source.old given source.new
-        × ((kind : Kind) → Judges kind judge.entry []
-        → SaysVerdict (W.contents out.old) (W.contents out.new) (verdict_of kind given) status)) }
+        × ((kind : Kind) → Judges standard kind judge.entry []
+        → SaysVerdict (W.contents out.old) (W.contents out.new) (verdict_of standard kind given) status)) }
     ensures status { IfOk result (λ status. status ≤ 1) }
 {
     let verdict = match judge_reader(judge, source) {
@@ -67,7 +68,7 @@ pub fn judge_classes<'a, S: ByteSource, W: Write>(
     ensures fault { IfErr result (EndsJudging (S.failures source.new) (S.ended source.new) name.now) }
 
     ensures verdict { IfOk result (λ status. (given : List ℕ) × S.gives source.old given source.new
-        × SaysVerdict (W.contents out.old) (W.contents out.new) (classes_verdict given) status) }
+        × SaysVerdict (W.contents out.old) (W.contents out.new) (classes_verdict standard given) status) }
     ensures status { IfOk result (λ status. status ≤ 1) }
 {
     let judge = Judge::for_classes(alloc)?;
@@ -90,7 +91,7 @@ pub fn judge_characters<'a, S: ByteSource, W: Write>(
     ensures fault { IfErr result (EndsJudging (S.failures source.new) (S.ended source.new) name.now) }
 
     ensures verdict { IfOk result (λ status. (given : List ℕ) × S.gives source.old given source.new
-        × SaysVerdict (W.contents out.old) (W.contents out.new) (characters_verdict (unit_by tables.now) given) status) }
+        × SaysVerdict (W.contents out.old) (W.contents out.new) (characters_verdict standard (unit_by tables.now) given) status) }
     ensures status { IfOk result (λ status. status ≤ 1) }
 {
     let judge = Judge::for_characters(alloc, tables)?;

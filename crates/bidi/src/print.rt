@@ -3,6 +3,7 @@ ghost use Rattle.std.specs.Prelude.{◌≡◌, ◌<◌, ◌≤◌, ℕ, [], leng
 ghost use Rattle.std.specs.Io.KnownBytes.{Appends};
 ghost use Rattle.units.specs.Isolates.{level_of_para};
 ghost use Rattle.units.specs.Layout.{layout_of};
+ghost use Rattle.units.specs.Limits.{standard};
 ghost use Rattle.lines.specs.Layouts.{view_of};
 ghost use Rattle.lines.specs.Scratches.{room_of};
 ghost use Rattle.ucdfiles.specs.Tables.{glyph_at};
@@ -70,7 +71,7 @@ fn print_levels_of<W: Write, L: Ledger>(
     requires parts { blank.parts ≡ L.parts }
     requires some { 0 < blank.parts }
     ensures { OnOk result (Appends (W.contents w.old) (W.contents w.new)
-        (levels_text text.now units.now (layout_of units.now direction []))) }
+        (levels_text text.now units.now (layout_of standard units.now direction []))) }
 {
     let mut steps = Steps::<L>::new(blank);
     let breaks = Breaks::new(&[], units.len()).unwrap();
@@ -97,7 +98,7 @@ fn print_lines_of<W: Write, L: Ledger>(
     requires parts { blank.parts ≡ L.parts }
     requires some { 0 < blank.parts }
     ensures { OnOk result (Appends (W.contents w.old) (W.contents w.new)
-        (reorder_text (glyph_at mirrors.now) text.now units.now (layout_of units.now direction breaks.now.positions))) }
+        (reorder_text (glyph_at mirrors.now) text.now units.now (layout_of standard units.now direction breaks.now.positions))) }
 {
     let mut steps = Steps::<L>::new(blank);
     let layout = lay_out(room, units, direction, breaks, &mut steps).unwrap();

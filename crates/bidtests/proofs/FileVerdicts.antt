@@ -1,5 +1,6 @@
 -- The verdict on the bytes of a file, in the words of the headline.
 use Rattle.std.proofs.Common.{◌≡◌, ◌↔◌, ℕ, List, sym, subst, ◌∙◌}
+use Rattle.units.specs.Limits.{LimitsOf}
 use Rattle.units.specs.Text.{lines_of}
 use Rattle.bidtests.specs.declared.kind.Kind.{Kind}
 use Rattle.bidtests.specs.declared.verdict.Verdict.{Verdict}
@@ -9,10 +10,10 @@ use Rattle.bidtests.proofs.Judged.{verdict-of}
 use Rattle.bidtests.proofs.FileLines.{findings-ordered}
 use Rattle.bidtests.proofs.VerdictsSay.{verdict-says, verdict-law}
 
-pub file-law : (kind : Kind) (bytes : List ℕ) (v : Verdict) → (verdict_of kind bytes ≡ v) ↔ Says (findings_by kind (lines_of bytes)) v
-file-law kind bytes v =
-    let law = verdict-law (findings_by kind (lines_of bytes)) (findings-ordered kind (lines_of bytes)) v in
-    ((λ e. law.0 (sym (verdict-of kind bytes) ∙ e)), λ says. verdict-of kind bytes ∙ law.1 says)
+pub file-law : (limits : LimitsOf) (kind : Kind) (bytes : List ℕ) (v : Verdict) → (verdict_of limits kind bytes ≡ v) ↔ Says limits (findings_by kind (lines_of bytes)) v
+file-law limits kind bytes v =
+    let law = verdict-law limits (findings_by kind (lines_of bytes)) (findings-ordered kind (lines_of bytes)) v in
+    ((λ e. law.0 (sym (verdict-of limits kind bytes) ∙ e)), λ says. verdict-of limits kind bytes ∙ law.1 says)
 
-pub file-says : (kind : Kind) (bytes : List ℕ) (v : Verdict) → v ≡ verdict_of kind bytes → Says (findings_by kind (lines_of bytes)) v
-file-says kind bytes v e = (file-law kind bytes v).0 (sym e)
+pub file-says : (limits : LimitsOf) (kind : Kind) (bytes : List ℕ) (v : Verdict) → v ≡ verdict_of limits kind bytes → Says limits (findings_by kind (lines_of bytes)) v
+file-says limits kind bytes v e = (file-law limits kind bytes v).0 (sym e)

@@ -3,6 +3,7 @@ use Rattle.std.proofs.Common.{◌≡◌, ℕ, ◌≤◌, ◌==◌, Option, None,
 use Rattle.std.specs.Prelude.{◌⊎◌, ◌&&◌, nat_le, nat_lt}
 use Rattle.std.specs.Str.{bytes_eq}
 use Rattle.std.proofs.lemmas.Bool.{cases_Bool, cases_eq, and_parts, leb-true}
+use Rattle.units.specs.Limits.{LimitsOf}
 use Rattle.units.specs.Text.{content_of, each_read, fields_of, items_of, lines_of, longest_line}
 use Rattle.units.specs.declared.bracket.Unit.{Unit as BidiUnit}
 use Rattle.units.specs.declared.level.Direction.{Direction}
@@ -150,8 +151,8 @@ module _ (unit_of : ℕ → BidiUnit) where
   rows-alike (line ∷ lines) = elim (row-alike line) [ inl broken ↦ inl broken | inr same ↦ inr (same, rows-alike lines) ]
 
 -- the verdict of a file, unless that is that a bit set or a direction field is malformed
-pub verdict-alike : (kind : Kind) (bytes : List ℕ) → ((line : ℕ) → three_verdict_of kind bytes ≡ Malformed line BitSet → ⊥) → ((line : ℕ) → three_verdict_of kind bytes ≡ Malformed line DirectionField → ⊥)
-    → verdict_of kind bytes ≡ three_verdict_of kind bytes
+pub verdict-alike : (limits : LimitsOf) (kind : Kind) (bytes : List ℕ) → ((line : ℕ) → three_verdict_of limits kind bytes ≡ Malformed line BitSet → ⊥) → ((line : ℕ) → three_verdict_of limits kind bytes ≡ Malformed line DirectionField → ⊥)
+    → verdict_of limits kind bytes ≡ three_verdict_of limits kind bytes
 unfolding classes_verdict characters_verdict
-verdict-alike Classes bytes bits fields = verdict-same BitSet _ _ (lines-alike [] (lines_of bytes)) bits
-verdict-alike (Characters tables) bytes bits fields = verdict-same DirectionField _ _ (rows-alike (unit_by tables.now) (lines_of bytes)) fields
+verdict-alike limits Classes bytes bits fields = verdict-same limits BitSet _ _ (lines-alike [] (lines_of bytes)) bits
+verdict-alike limits (Characters tables) bytes bits fields = verdict-same limits DirectionField _ _ (rows-alike (unit_by tables.now) (lines_of bytes)) fields

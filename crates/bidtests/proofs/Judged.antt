@@ -5,6 +5,7 @@ use Rattle.std.proofs.lemmas.List.{take_all, take-append-drop}
 use Rattle.std.proofs.lemmas.Bool.{lt-ltb, false≢true}
 use Rattle.std.specs.Borrow.{Bor}
 use Rattle.units.specs.LineCutting.{Cutting, StandsFor}
+use Rattle.units.specs.Limits.{LimitsOf}
 use Rattle.units.specs.Lines.{EndsByFeed, IsLine, CutsInto, IsTooLongAfter}
 use Rattle.units.specs.Lines.{ended_lines}
 use Rattle.units.specs.LineAnswers.{Answers, Finishes}
@@ -27,62 +28,62 @@ use Rattle.bidtests.specs.Standing.{Standing, at_start, Judging, Judges, IsBehin
 use Rattle.bidtests.proofs.LineByLine.{verdict-fault, verdict-yes, behind-line, behind-none}
 use Rattle.bidtests.proofs.Lines.{lines_of-more, lines_of-empty, lines_of-rest, lines_of-over}
 
-pub verdict-of : (kind : Kind) (bytes : List ℕ) → verdict_of kind bytes ≡ verdict_on (findings_by kind (lines_of bytes))
+pub verdict-of : (limits : LimitsOf) (kind : Kind) (bytes : List ℕ) → verdict_of limits kind bytes ≡ verdict_on limits (findings_by kind (lines_of bytes))
 unfolding classes_verdict characters_verdict
-verdict-of Classes bytes = refl
-verdict-of (Characters tables) bytes = refl
+verdict-of limits Classes bytes = refl
+verdict-of limits (Characters tables) bytes = refl
 
-verdict-by : (kind : Kind) (bytes : List ℕ) (lines : List (List ℕ)) → lines_of bytes ≡ lines → verdict_of kind bytes ≡ verdict_on (findings_by kind lines)
-verdict-by kind bytes lines e = verdict-of kind bytes ∙ ap (λ ls. verdict_on (findings_by kind ls)) e
+verdict-by : (limits : LimitsOf) (kind : Kind) (bytes : List ℕ) (lines : List (List ℕ)) → lines_of bytes ≡ lines → verdict_of limits kind bytes ≡ verdict_on limits (findings_by kind lines)
+verdict-by limits kind bytes lines e = verdict-of limits kind bytes ∙ ap (λ ls. verdict_on limits (findings_by kind ls)) e
 
 over_long : (kind : Kind) (line : List ℕ) → 65536 < length line → (s : Standing) (number : ℕ) → fault_at kind s number line ≡ Some (Malformed number LineTooLong)
 unfolding classes_line characters_line
 over_long Classes line long s number = rw (lt-ltb 65536 (length line) long) refl
 over_long (Characters tables) line long s number = rw (lt-ltb 65536 (length line) long) refl
 
-module _ (kind : Kind) (s : Standing) (lines : List (List ℕ)) (h : IsBehind kind s lines) where
+module _ (limits : LimitsOf) (kind : Kind) (s : Standing) (lines : List (List ℕ)) (h : IsBehind limits kind s lines) where
   decided-line : (b : List ℕ) (line : List ℕ) (v : Verdict) → CutsInto b (lines ++ line ∷ []) []
-      → fault_at kind s (line_number (length lines)) line ≡ Some v → (more : List ℕ) → verdict_of kind (b ++ more) ≡ v
+      → fault_at kind s (line_number (length lines)) line ≡ Some v → (more : List ℕ) → verdict_of limits kind (b ++ more) ≡ v
   decided-line b line v cut e more =
-      verdict-by kind (b ++ more) _ (lines_of-more b (lines ++ line ∷ []) more cut ∙ append_assoc lines (line ∷ []) (lines_of more))
-      ∙ verdict-fault kind s lines line h v e (lines_of more)
+      verdict-by limits kind (b ++ more) _ (lines_of-more b (lines ++ line ∷ []) more cut ∙ append_assoc lines (line ∷ []) (lines_of more))
+      ∙ verdict-fault limits kind s lines line h v e (lines_of more)
 
-  decided-long : (b : List ℕ) → IsTooLongAfter b lines → (more : List ℕ) → verdict_of kind (b ++ more) ≡ Malformed (line_number (length lines)) LineTooLong
+  decided-long : (b : List ℕ) → IsTooLongAfter b lines → (more : List ℕ) → verdict_of limits kind (b ++ more) ≡ Malformed (line_number (length lines)) LineTooLong
   decided-long b over more =
       let l = lines_of-over b lines more over in
-      verdict-by kind (b ++ more) _ l.2 ∙ verdict-fault kind s lines l.0 h _ (over_long kind l.0 l.3 s (line_number (length lines))) l.1
+      verdict-by limits kind (b ++ more) _ l.2 ∙ verdict-fault limits kind s lines l.0 h _ (over_long kind l.0 l.3 s (line_number (length lines))) l.1
 
   -- a line that has ended, by whether it has a fault
   ends-line : (fault : Option Verdict) (new : Cutting) (t : Standing) (b line : List ℕ) → StandsFor new b → CutsInto b (lines ++ line ∷ []) []
-      → fault_at kind s (line_number (length lines)) line ≡ fault → (fault ≡ None → t ≡ after_line kind line s) → JudgesBy kind fault new t b
+      → fault_at kind s (line_number (length lines)) line ≡ fault → (fault ≡ None → t ≡ after_line kind line s) → JudgesBy limits kind fault new t b
   ends-line None new t b line stands cut e after = record {
     cutter = stands;
     lines = lines ++ line ∷ [];
     rest = [];
     cut = cut;
     behind =
-        let P : Standing → Type 0 = λ u. IsBehind kind u (lines ++ line ∷ []) in
-        subst P (sym (after refl)) (behind-line kind s lines line h e);
+        let P : Standing → Type 0 = λ u. IsBehind limits kind u (lines ++ line ∷ []) in
+        subst P (sym (after refl)) (behind-line limits kind s lines line h e);
   }
   ends-line (Some v) new t b line stands cut e after = decided-line b line v cut e
 
 same_count : (a c : List (List ℕ)) (x : List ℕ) → a ++ x ∷ [] ≡ c ++ x ∷ [] → length a ≡ length c
 same_count a c x e = omega (arith, ap length e, length-append a (x ∷ []), length-append c (x ∷ []))
 
-module _ (kind : Kind) (old new : Cutting) (s t : Standing) (b piece : List ℕ) (used : ℕ) (o : IsOpen kind old s b)
+module _ (limits : LimitsOf) (kind : Kind) (old new : Cutting) (s t : Standing) (b piece : List ℕ) (used : ℕ) (o : IsOpen limits kind old s b)
     (within : used ≤ length piece) (through : EndsByFeed used piece) (stands : StandsFor new (b ++ take used piece)) where
   abbrev ended-old : ended_lines b ≡ o.lines
   ended-old = ended_lines-CutsInto b o.lines o.rest o.cut
 
   pub judges-on : (step : Step) → Answers b piece used step → (fault_by kind s step ≡ None → t ≡ after_step kind step s)
-      → JudgesBy kind (fault_by kind s step) new t (b ++ take used piece)
+      → JudgesBy limits kind (fault_by kind s step) new t (b ++ take used piece)
   judges-on More a after =
       let all : take used piece ≡ piece = take_all used piece (omega (arith, a.1)) in
       let C : List ℕ → Type 0 = λ xs. CutsInto (b ++ xs) a.3.0 a.3.1 in
       let cut = subst C (sym all) a.3.2 in
       let same : a.3.0 ≡ o.lines = sym (ended_lines-CutsInto _ a.3.0 a.3.1 cut) ∙ a.2 ∙ ended-old in
       let D : List (List ℕ) → Type 0 = λ ls. CutsInto (b ++ take used piece) ls a.3.1 in
-      let P : Standing → Type 0 = λ u. IsBehind kind u o.lines in
+      let P : Standing → Type 0 = λ u. IsBehind limits kind u o.lines in
       record { cutter = stands; lines = o.lines; rest = a.3.1; cut = subst D same cut; behind = subst P (sym (after refl)) o.behind }
   judges-on (Line number text) a after =
       let same : a.2.0 ++ text.now ∷ [] ≡ o.lines ++ text.now ∷ [] =
@@ -90,35 +91,35 @@ module _ (kind : Kind) (old new : Cutting) (s t : Standing) (b piece : List ℕ)
       let D : List (List ℕ) → Type 0 = λ ls. CutsInto (b ++ take used piece) ls [] in
       let count : length a.2.0 ≡ length o.lines = same_count a.2.0 o.lines text.now same in
       let is : number ≡ line_number (length o.lines) = a.2.2 ∙ ap (λ n. line_number n) count in
-      ends-line kind s o.lines o.behind (fault_at kind s number text.now) new t (b ++ take used piece) text.now stands (subst D same a.2.1)
+      ends-line limits kind s o.lines o.behind (fault_at kind s number text.now) new t (b ++ take used piece) text.now stands (subst D same a.2.1)
       (ap (λ n. fault_at kind s n text.now) (sym is)) after
   judges-on (TooLong number) a after = λ more.
       let same : a.0 ≡ o.lines = lines-before b piece used o.lines a.0 o.rest within through o.cut a.1 in
       let D : List (List ℕ) → Type 0 = λ ls. IsTooLongAfter (b ++ take used piece) ls in
       let is : number ≡ line_number (length o.lines) = a.2 ∙ ap (λ (ls : List (List ℕ)). line_number (length ls)) same in
-      decided-long kind s o.lines o.behind (b ++ take used piece) (subst D same a.1) more ∙ ap (λ n. Malformed n LineTooLong) (sym is)
+      decided-long limits kind s o.lines o.behind (b ++ take used piece) (subst D same a.1) more ∙ ap (λ n. Malformed n LineTooLong) (sym is)
 
 -- what is decided stays so
-pub judges-decided : (kind : Kind) (v : Verdict) (old new : Cutting) (s t : Standing) (b xs : List ℕ) → JudgesBy kind (Some v) old s b → JudgesBy kind (Some v) new t (b ++ xs)
-judges-decided kind v old new s t b xs j more = ap (verdict_of kind) (append_assoc b xs more) ∙ j (xs ++ more)
+pub judges-decided : (limits : LimitsOf) (kind : Kind) (v : Verdict) (old new : Cutting) (s t : Standing) (b xs : List ℕ) → JudgesBy limits kind (Some v) old s b → JudgesBy limits kind (Some v) new t (b ++ xs)
+judges-decided limits kind v old new s t b xs j more = ap (verdict_of limits kind) (append_assoc b xs more) ∙ j (xs ++ more)
 
-pub verdict-decided : (kind : Kind) (v : Verdict) (c : Cutting) (s : Standing) (b : List ℕ) → JudgesBy kind (Some v) c s b → v ≡ verdict_of kind b
-verdict-decided kind v c s b j = sym (j []) ∙ ap (verdict_of kind) (append-nil b)
+pub verdict-decided : (limits : LimitsOf) (kind : Kind) (v : Verdict) (c : Cutting) (s : Standing) (b : List ℕ) → JudgesBy limits kind (Some v) c s b → v ≡ verdict_of limits kind b
+verdict-decided limits kind v c s b j = sym (j []) ∙ ap (verdict_of limits kind) (append-nil b)
 
-last-fault : (kind : Kind) (s : Standing) (lines : List (List ℕ)) (last b : List ℕ) → IsBehind kind s lines
-    → verdict_of kind b ≡ verdict_on (findings_by kind (lines ++ last ∷ [])) → (fault : Option Verdict)
-    → fault_at kind s (line_number (length lines)) last ≡ fault → fault_or_yes fault (after_line kind last s) ≡ verdict_of kind b
-last-fault kind s lines last b h whole None e =
-    sym (whole ∙ verdict-yes kind (after_line kind last s) (lines ++ last ∷ []) (behind-line kind s lines last h e))
-last-fault kind s lines last b h whole (Some v) e = sym (whole ∙ verdict-fault kind s lines last h v e [])
+last-fault : (limits : LimitsOf) (kind : Kind) (s : Standing) (lines : List (List ℕ)) (last b : List ℕ) → IsBehind limits kind s lines
+    → verdict_of limits kind b ≡ verdict_on limits (findings_by kind (lines ++ last ∷ [])) → (fault : Option Verdict)
+    → fault_at kind s (line_number (length lines)) last ≡ fault → fault_or_yes fault (after_line kind last s) ≡ verdict_of limits kind b
+last-fault limits kind s lines last b h whole None e =
+    sym (whole ∙ verdict-yes limits kind (after_line kind last s) (lines ++ last ∷ []) (behind-line limits kind s lines last h e))
+last-fault limits kind s lines last b h whole (Some v) e = sym (whole ∙ verdict-fault limits kind s lines last h v e [])
 
-module _ (kind : Kind) (c : Cutting) (s : Standing) (b : List ℕ) (o : IsOpen kind c s b) where
+module _ (limits : LimitsOf) (kind : Kind) (c : Cutting) (s : Standing) (b : List ℕ) (o : IsOpen limits kind c s b) where
   -- no line that has begun
-  pub verdict-ended : Finishes b None → Yes s.rows s.cases ≡ verdict_of kind b
+  pub verdict-ended : Finishes b None → Yes s.rows s.cases ≡ verdict_of limits kind b
   verdict-ended f = elim f [
     | inl cut ↦ (
         let same : cut.0 ≡ o.lines = sym (ended_lines-CutsInto b cut.0 [] cut.1) ∙ ended_lines-CutsInto b o.lines o.rest o.cut in
-        sym (verdict-by kind b o.lines (lines_of-empty b cut.0 cut.1 ∙ same) ∙ verdict-yes kind s o.lines o.behind))
+        sym (verdict-by limits kind b o.lines (lines_of-empty b cut.0 cut.1 ∙ same) ∙ verdict-yes limits kind s o.lines o.behind))
     | inr over ↦ absurd (never_both b over.0 o.lines o.rest over.1 o.cut)
   ]
 
@@ -130,36 +131,36 @@ module _ (kind : Kind) (c : Cutting) (s : Standing) (b : List ℕ) (o : IsOpen k
       )
 
   last-by : (number : ℕ) (last : Bor (List ℕ)) → Finishes b (Some (number, last)) → (fault : Option Verdict) → fault_at kind s number last.now ≡ fault
-      → fault_or_yes fault (after_line kind last.now s) ≡ verdict_of kind b
+      → fault_or_yes fault (after_line kind last.now s) ≡ verdict_of limits kind b
   last-by number last f fault e =
       let l = last-lines number last f in
       let at : fault_at kind s (line_number (length o.lines)) last.now ≡ fault = ap (λ n. fault_at kind s n last.now) (sym l.1) ∙ e in
-      let whole : verdict_of kind b ≡ verdict_on (findings_by kind (o.lines ++ last.now ∷ [])) = verdict-by kind b _ l.0 in
-      last-fault kind s o.lines last.now b o.behind whole fault at
+      let whole : verdict_of limits kind b ≡ verdict_on limits (findings_by kind (o.lines ++ last.now ∷ [])) = verdict-by limits kind b _ l.0 in
+      last-fault limits kind s o.lines last.now b o.behind whole fault at
 
   -- the line that has begun decides, if one has
-  pub verdict-last : (last : Option (ℕ × Bor (List ℕ))) → Finishes b last → verdict_behind kind s last ≡ verdict_of kind b
+  pub verdict-last : (last : Option (ℕ × Bor (List ℕ))) → Finishes b last → verdict_behind kind s last ≡ verdict_of limits kind b
   verdict-last None f = verdict-ended f
   verdict-last (Some last) f = last-by last.0 last.1 f (fault_at kind s last.0 last.1.now) refl
 
 -- what is decided, if anything is, and the bytes, of a judge of this kind
-kind-is : (kind : Kind) (j : Judging) (b : List ℕ) → Judges kind j b → JudgesBy j.kind j.decided j.cutting j.standing b
-kind-is kind j b judges =
-    let P : Kind → Type 0 = λ k. JudgesBy k j.decided j.cutting j.standing b in
+kind-is : (limits : LimitsOf) (kind : Kind) (j : Judging) (b : List ℕ) → Judges limits kind j b → JudgesBy limits j.kind j.decided j.cutting j.standing b
+kind-is limits kind j b judges =
+    let P : Kind → Type 0 = λ k. JudgesBy limits k j.decided j.cutting j.standing b in
     subst P (sym judges.of) judges.is
 
 -- the verdict that a judge gives at the end
 pub finishes : (j : Judging) (last : Option (ℕ × Bor (List ℕ))) → j.decided ≡ None → ((b : List ℕ) → StandsFor j.cutting b → Finishes b last)
-    → (kind : Kind) (b : List ℕ) → Judges kind j b → verdict_behind j.kind j.standing last ≡ verdict_of kind b
-finishes j last undecided f kind b judges =
-    let P : Option Verdict → Type 0 = λ d. JudgesBy j.kind d j.cutting j.standing b in
-    let o : IsOpen j.kind j.cutting j.standing b = subst P undecided (kind-is kind j b judges) in
-    verdict-last j.kind j.cutting j.standing b o last (f b o.cutter) ∙ ap (λ k. verdict_of k b) judges.of
+    → (limits : LimitsOf) (kind : Kind) (b : List ℕ) → Judges limits kind j b → verdict_behind j.kind j.standing last ≡ verdict_of limits kind b
+finishes j last undecided f limits kind b judges =
+    let P : Option Verdict → Type 0 = λ d. JudgesBy limits j.kind d j.cutting j.standing b in
+    let o : IsOpen limits j.kind j.cutting j.standing b = subst P undecided (kind-is limits kind j b judges) in
+    verdict-last limits j.kind j.cutting j.standing b o last (f b o.cutter) ∙ ap (λ k. verdict_of limits k b) judges.of
 
-pub finishes-decided : (j : Judging) (v : Verdict) → j.decided ≡ Some v → (kind : Kind) (b : List ℕ) → Judges kind j b → v ≡ verdict_of kind b
-finishes-decided j v e kind b judges =
-    let P : Option Verdict → Type 0 = λ d. JudgesBy kind d j.cutting j.standing b in
-    verdict-decided kind v j.cutting j.standing b (subst P e judges.is)
+pub finishes-decided : (j : Judging) (v : Verdict) → j.decided ≡ Some v → (limits : LimitsOf) (kind : Kind) (b : List ℕ) → Judges limits kind j b → v ≡ verdict_of limits kind b
+finishes-decided j v e limits kind b judges =
+    let P : Option Verdict → Type 0 = λ d. JudgesBy limits kind d j.cutting j.standing b in
+    verdict-decided limits kind v j.cutting j.standing b (subst P e judges.is)
 
 none-is : (o : Option Verdict) → o ≡ None → IsNone o
 none-is o e = let P : Option Verdict → Type 0 = λ v. IsNone v in subst P (sym e) refl
@@ -171,33 +172,33 @@ module _ (j : Judging) (new : Cutting) (t : Standing) (decided : Option Verdict)
     (stands : (b : List ℕ) → StandsFor j.cutting b → StandsFor new (b ++ take used rest))
     (fault : decided ≡ fault_by j.kind j.standing step) (after : IsNone decided → t ≡ after_step j.kind step j.standing) where
   -- a judge that has decided nothing, after what the cutter used
-  pub feeds-on : (kind : Kind) (b : List ℕ) → Judges kind j b → Judges kind (record { kind = j.kind; cutting = new; standing = t; decided = decided }) (b ++ take used rest)
-  feeds-on kind b judges =
-      let P : Option Verdict → Type 0 = λ d. JudgesBy j.kind d j.cutting j.standing b in
-      let o : IsOpen j.kind j.cutting j.standing b = subst P undecided (kind-is kind j b judges) in
-      let Q : Option Verdict → Type 0 = λ d. JudgesBy j.kind d new t (b ++ take used rest) in
-      let by : JudgesBy j.kind decided new t (b ++ take used rest) =
-      subst Q (sym fault) (judges-on j.kind j.cutting new j.standing t b rest used o within (through b o.lines o.rest o.cutter o.cut) (stands b o.cutter) step (answers b o.cutter)
+  pub feeds-on : (limits : LimitsOf) (kind : Kind) (b : List ℕ) → Judges limits kind j b → Judges limits kind (record { kind = j.kind; cutting = new; standing = t; decided = decided }) (b ++ take used rest)
+  feeds-on limits kind b judges =
+      let P : Option Verdict → Type 0 = λ d. JudgesBy limits j.kind d j.cutting j.standing b in
+      let o : IsOpen limits j.kind j.cutting j.standing b = subst P undecided (kind-is limits kind j b judges) in
+      let Q : Option Verdict → Type 0 = λ d. JudgesBy limits j.kind d new t (b ++ take used rest) in
+      let by : JudgesBy limits j.kind decided new t (b ++ take used rest) =
+      subst Q (sym fault) (judges-on limits j.kind j.cutting new j.standing t b rest used o within (through b o.lines o.rest o.cutter o.cut) (stands b o.cutter) step (answers b o.cutter)
       (λ e. after (none-is decided (fault ∙ e)))) in
-      let R : Kind → Type 0 = λ k. JudgesBy k decided new t (b ++ take used rest) in
+      let R : Kind → Type 0 = λ k. JudgesBy limits k decided new t (b ++ take used rest) in
       record { of = judges.of; is = subst R judges.of by }
 
 nothing : CutsInto [] [] []
 nothing = record { whole = refl; each = All-nil IsLine; partial = record { feeds = All-nil (λ x. x ≢ 10); short = omega arith } }
 
-pub judges-none : (kind : Kind) (c : Cutting) → StandsFor c [] → Judges kind (record { kind = kind; cutting = c; standing = at_start; decided = None }) []
-judges-none kind c s = record { of = refl; is = record { cutter = s; lines = []; rest = []; cut = nothing; behind = behind-none kind } }
+pub judges-none : (limits : LimitsOf) (kind : Kind) (c : Cutting) → StandsFor c [] → Judges limits kind (record { kind = kind; cutting = c; standing = at_start limits; decided = None }) []
+judges-none limits kind c s = record { of = refl; is = record { cutter = s; lines = []; rest = []; cut = nothing; behind = behind-none limits kind } }
 
-some-stays : (kind : Kind) (d : Option Verdict) (c : Cutting) (s : Standing) (b xs : List ℕ) → is_some d ≡ true → JudgesBy kind d c s b → JudgesBy kind d c s (b ++ xs)
-some-stays kind None c s b xs e j = absurd (false≢true e)
-some-stays kind (Some v) c s b xs e j = judges-decided kind v c c s s b xs j
+some-stays : (limits : LimitsOf) (kind : Kind) (d : Option Verdict) (c : Cutting) (s : Standing) (b xs : List ℕ) → is_some d ≡ true → JudgesBy limits kind d c s b → JudgesBy limits kind d c s (b ++ xs)
+some-stays limits kind None c s b xs e j = absurd (false≢true e)
+some-stays limits kind (Some v) c s b xs e j = judges-decided limits kind v c c s s b xs j
 
 -- bytes behind what decided change nothing
-pub feeds-some : (kind : Kind) (j : Judging) (b piece : List ℕ) (at : ℕ) → is_some j.decided ≡ true → Judges kind j (b ++ take at piece) → Judges kind j (b ++ piece)
-feeds-some kind j b piece at e judges =
+pub feeds-some : (limits : LimitsOf) (kind : Kind) (j : Judging) (b piece : List ℕ) (at : ℕ) → is_some j.decided ≡ true → Judges limits kind j (b ++ take at piece) → Judges limits kind j (b ++ piece)
+feeds-some limits kind j b piece at e judges =
     let whole : (b ++ take at piece) ++ drop at piece ≡ b ++ piece = append_assoc b (take at piece) (drop at piece) ∙ ap (λ z. b ++ z) (take-append-drop at piece) in
-    let P : List ℕ → Type 0 = λ z. Judges kind j z in
-    subst P whole (record { of = judges.of; is = some-stays kind j.decided j.cutting j.standing (b ++ take at piece) (drop at piece) e judges.is })
+    let P : List ℕ → Type 0 = λ z. Judges limits kind j z in
+    subst P whole (record { of = judges.of; is = some-stays limits kind j.decided j.cutting j.standing (b ++ take at piece) (drop at piece) e judges.is })
 
 pub none-from : (o : Option Verdict) → is_some o ≡ false → o ≡ None
 none-from None e = refl

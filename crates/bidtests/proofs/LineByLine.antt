@@ -2,6 +2,7 @@
 use Rattle.std.proofs.Common.{◌≡◌, ℕ, ◌+◌, min, Option, None, Some, List, [], ◌∷◌, ◌++◌, map, reverse, length, refl, sym, ap, ◌∙◌, arith, append_assoc, append-nil, count_by, sum_by, cond}
 use Rattle.std.proofs.lemmas.List.{map-append, reverse-append, length-map}
 use Rattle.std.proofs.lemmas.List.Sums.{sum_by-append}
+use Rattle.units.specs.Limits.{LimitsOf}
 use Rattle.bidtests.specs.declared.verdict.Verdict.{Verdict}
 use Rattle.bidtests.specs.declared.verdict.Verdict.TheVariants.{Yes}
 use Rattle.bidtests.specs.declared.kind.Kind.{Kind}
@@ -27,12 +28,12 @@ or_else_assoc : {A : Type 0} (a b c : Option A) → or_else a (or_else b c) ≡ 
 or_else_assoc None b c = refl
 or_else_assoc (Some x) b c = refl
 
-first_fault-append : (k : ℕ) (a b : List Finding) → first_fault k (a ++ b) ≡ or_else (first_fault k a) (first_fault (k + length a) b)
-first_fault-append k [] b = ap (λ n. first_fault n b) (omega arith)
-first_fault-append k (f ∷ a) b =
-    let e : first_fault (k + 1) (a ++ b) ≡ or_else (first_fault (k + 1) a) (first_fault (k + length (f ∷ a)) b) =
-    first_fault-append (k + 1) a b ∙ ap (λ n. or_else (first_fault (k + 1) a) (first_fault n b)) (omega arith) in
-    rw e (or_else_assoc (fault_of (line_number k) f) (first_fault (k + 1) a) (first_fault (k + length (f ∷ a)) b))
+first_fault-append : (limits : LimitsOf) (k : ℕ) (a b : List Finding) → first_fault limits k (a ++ b) ≡ or_else (first_fault limits k a) (first_fault limits (k + length a) b)
+first_fault-append limits k [] b = ap (λ n. first_fault limits n b) (omega arith)
+first_fault-append limits k (f ∷ a) b =
+    let e : first_fault limits (k + 1) (a ++ b) ≡ or_else (first_fault limits (k + 1) a) (first_fault limits (k + length (f ∷ a)) b) =
+    first_fault-append limits (k + 1) a b ∙ ap (λ n. or_else (first_fault limits (k + 1) a) (first_fault limits n b)) (omega arith) in
+    rw e (or_else_assoc (fault_of limits (line_number k) f) (first_fault limits (k + 1) a) (first_fault limits (k + length (f ∷ a)) b))
 
 -- a line behind others, and what stands behind it
 findings_of-line : (lines : List (List ℕ)) (line : List ℕ) (others : List (List ℕ)) → (rest : List Finding)
@@ -125,55 +126,64 @@ cases-push s fs f c one e = min-add s (sum_by cases_of fs) c e ∙ ap (λ n. min
 capped : (s n : ℕ) → s ≡ min n most_counted → min (s + 0) most_counted ≡ s
 capped s n e = omega arith
 
-rows-behind : (number : ℕ) (f : Finding) (rows : ℕ) (fs : List Finding) → fault_of number f ≡ None → rows ≡ rows_in fs → rows_behind f rows ≡ rows_in (fs ++ f ∷ [])
-rows-behind number Silent rows fs e r = sym (capped rows (count_by is_row fs) r) ∙ rows-push rows fs Silent 0 refl r
-rows-behind number (Claims claim) rows fs e r = rows-push rows fs (Claims claim) 1 refl r
-rows-behind number (Faulty cause) rows fs e r = absurd (cc)
+rows-behind : (limits : LimitsOf) (number : ℕ) (f : Finding) (rows : ℕ) (fs : List Finding) → fault_of limits number f ≡ None → rows ≡ rows_in fs → rows_behind f rows ≡ rows_in (fs ++ f ∷ [])
+rows-behind limits number Silent rows fs e r = sym (capped rows (count_by is_row fs) r) ∙ rows-push rows fs Silent 0 refl r
+rows-behind limits number (Claims claim) rows fs e r = rows-push rows fs (Claims claim) 1 refl r
+rows-behind limits number (Faulty cause) rows fs e r = absurd (cc)
 
-cases-behind : (number : ℕ) (f : Finding) (cases : ℕ) (fs : List Finding) → fault_of number f ≡ None → cases ≡ cases_in fs → cases_behind f cases ≡ cases_in (fs ++ f ∷ [])
-cases-behind number Silent cases fs e c = sym (capped cases (sum_by cases_of fs) c) ∙ cases-push cases fs Silent 0 refl c
-cases-behind number (Claims claim) cases fs e c = cases-push cases fs (Claims claim) (length claim.directions) refl c
-cases-behind number (Faulty cause) cases fs e c = absurd (cc)
+cases-behind : (limits : LimitsOf) (number : ℕ) (f : Finding) (cases : ℕ) (fs : List Finding) → fault_of limits number f ≡ None → cases ≡ cases_in fs → cases_behind f cases ≡ cases_in (fs ++ f ∷ [])
+cases-behind limits number Silent cases fs e c = sym (capped cases (sum_by cases_of fs) c) ∙ cases-push cases fs Silent 0 refl c
+cases-behind limits number (Claims claim) cases fs e c = cases-push cases fs (Claims claim) (length claim.directions) refl c
+cases-behind limits number (Faulty cause) cases fs e c = absurd (cc)
 
-module _ (kind : Kind) (s : Standing) (lines : List (List ℕ)) (line : List ℕ) (h : IsBehind kind s lines) where
+-- a line changes no limits
+limits-after : (kind : Kind) (line : List ℕ) (s : Standing) → (after_line kind line s).limits ≡ s.limits
+limits-after Classes line s = refl
+limits-after (Characters tables) line s = refl
+
+module _ (limits : LimitsOf) (kind : Kind) (s : Standing) (lines : List (List ℕ)) (line : List ℕ) (h : IsBehind limits kind s lines) where
   -- what the line comes to behind these
   abbrev found : Finding
   found = found_by kind s line
 
   fault-at : (rest : List Finding)
-      → first_fault 0 (findings_by kind lines ++ found ∷ rest) ≡ or_else (fault_of (line_number (length lines)) found) (first_fault (length lines + 1) rest)
+      → first_fault limits 0 (findings_by kind lines ++ found ∷ rest)
+      ≡ or_else (fault_of s.limits (line_number (length lines)) found) (first_fault limits (length lines + 1) rest)
   fault-at rest =
-      first_fault-append 0 (findings_by kind lines) (found ∷ rest)
-      ∙ ap (λ o. or_else o (first_fault (0 + length (findings_by kind lines)) (found ∷ rest))) h.faultless
-      ∙ ap (λ n. first_fault n (found ∷ rest)) (omega (arith, length-findings kind lines))
+      first_fault-append limits 0 (findings_by kind lines) (found ∷ rest)
+      ∙ ap (λ o. or_else o (first_fault limits (0 + length (findings_by kind lines)) (found ∷ rest))) h.faultless
+      ∙ ap (λ n. first_fault limits n (found ∷ rest)) (omega (arith, length-findings kind lines))
+      ∙ ap (λ l. or_else (fault_of l (line_number (length lines)) found) (first_fault limits (length lines + 1) rest)) (sym h.under)
 
   -- the first fault decides, whatever stands behind it
-  pub verdict-fault : (v : Verdict) → fault_of (line_number (length lines)) (found_by kind s line) ≡ Some v
-      → (others : List (List ℕ)) → verdict_on (findings_by kind (lines ++ line ∷ others)) ≡ v
+  pub verdict-fault : (v : Verdict) → fault_of s.limits (line_number (length lines)) (found_by kind s line) ≡ Some v
+      → (others : List (List ℕ)) → verdict_on limits (findings_by kind (lines ++ line ∷ others)) ≡ v
   unfolding verdict_on
   verdict-fault v e others =
       let f = findings-line kind s lines line others h.lists in
-      let fault : first_fault 0 (findings_by kind (lines ++ line ∷ others)) ≡ Some v =
-      ap (first_fault 0) f.1 ∙ fault-at f.0 ∙ ap (λ o. or_else o (first_fault (length lines + 1) f.0)) e in
+      let fault : first_fault limits 0 (findings_by kind (lines ++ line ∷ others)) ≡ Some v =
+      ap (first_fault limits 0) f.1 ∙ fault-at f.0 ∙ ap (λ o. or_else o (first_fault limits (length lines + 1) f.0)) e in
       rw fault refl
 
   -- a line without a fault
-  pub behind-line : fault_of (line_number (length lines)) (found_by kind s line) ≡ None → IsBehind kind (after_line kind line s) (lines ++ line ∷ [])
+  pub behind-line : fault_of s.limits (line_number (length lines)) (found_by kind s line) ≡ None → IsBehind limits kind (after_line kind line s) (lines ++ line ∷ [])
   behind-line e =
       let number = line_number (length lines) in
       let all : findings_by kind (lines ++ line ∷ []) ≡ findings_by kind lines ++ found ∷ [] = findings-last kind s lines line h.lists in
       record {
-        faultless = ap (first_fault 0) all ∙ fault-at [] ∙ ap (λ o. or_else o None) e;
+        under = limits-after kind line s ∙ h.under;
+        faultless = ap (first_fault limits 0) all ∙ fault-at [] ∙ ap (λ o. or_else o None) e;
         lists = in-force kind s lines line h.lists;
-        rows = rows-after kind line s ∙ rows-behind number found s.rows (findings_by kind lines) e h.rows ∙ ap rows_in (sym all);
-        cases = cases-after kind line s ∙ cases-behind number found s.cases (findings_by kind lines) e h.cases ∙ ap cases_in (sym all);
+        rows = rows-after kind line s ∙ rows-behind s.limits number found s.rows (findings_by kind lines) e h.rows ∙ ap rows_in (sym all);
+        cases = cases-after kind line s ∙ cases-behind s.limits number found s.cases (findings_by kind lines) e h.cases ∙ ap cases_in (sym all);
       }
 
 -- with no fault the numbers are those held
-pub verdict-yes : (kind : Kind) (s : Standing) (lines : List (List ℕ)) → IsBehind kind s lines → verdict_on (findings_by kind lines) ≡ Yes s.rows s.cases
+pub verdict-yes : (limits : LimitsOf) (kind : Kind) (s : Standing) (lines : List (List ℕ)) → IsBehind limits kind s lines
+    → verdict_on limits (findings_by kind lines) ≡ Yes s.rows s.cases
 unfolding verdict_on
-verdict-yes kind s lines h = rw (h.faultless, h.rows, h.cases) refl
+verdict-yes limits kind s lines h = rw (h.faultless, h.rows, h.cases) refl
 
-pub behind-none : (kind : Kind) → IsBehind kind at_start []
-behind-none Classes = record { faultless = refl; lists = (refl, refl); rows = refl; cases = refl }
-behind-none (Characters tables) = record { faultless = refl; lists = tt; rows = refl; cases = refl }
+pub behind-none : (limits : LimitsOf) (kind : Kind) → IsBehind limits kind (at_start limits) []
+behind-none limits Classes = record { under = refl; faultless = refl; lists = (refl, refl); rows = refl; cases = refl }
+behind-none limits (Characters tables) = record { under = refl; faultless = refl; lists = tt; rows = refl; cases = refl }

@@ -6,6 +6,7 @@ use Rattle.std.proofs.lemmas.Bool.{eqb-true, eqb-false, cases_order, false≢tru
 use Rattle.std.proofs.lemmas.Option.{none-some}
 use Rattle.units.specs.Positions.{is_same}
 use Rattle.units.specs.Layout.{layout_of, all_orders}
+use Rattle.units.specs.Limits.{LimitsOf}
 use Rattle.units.specs.declared.level.Direction.{Direction}
 use Rattle.bidtests.specs.declared.verdict.Place.{Place}
 use Rattle.bidtests.specs.declared.verdict.Place.TheVariants.{ParaLevel, Levels, Order}
@@ -74,9 +75,9 @@ first_is [] = refl
 first_is (x ∷ xs) = refl
 
 -- the case is right, or wrong at this place
-abbrev pub CaseIs : Claim → Direction → Option Place → Type 0
-CaseIs claim d None = IsCaseRight claim d
-CaseIs claim d (Some place) = IsWrongAt claim d place
+abbrev pub CaseIs : LimitsOf → Claim → Direction → Option Place → Type 0
+CaseIs limits claim d None = IsCaseRight limits claim d
+CaseIs limits claim d (Some place) = IsWrongAt limits claim d place
 
 para-is : (para first : Option ℕ) → MatchBool (agrees para first) (IfSome para (λ level. first ≡ Some level)) (¬ IfSome para (λ level. first ≡ Some level))
 para-is None first = tt
@@ -86,49 +87,49 @@ para-is (Some level) (Some first) = by (eqb level first) refl where
   by true e = ap (λ n. Some n) (sym (eqb-true level first e))
   by false e = λ s. eqb-false level first e (sym (same-held s))
 
-module _ (claim : Claim) (d : Direction) where
+module _ (limits : LimitsOf) (claim : Claim) (d : Direction) where
   from-start : {A : Type 0} (xs ys : List A) (i n : ℕ) → n ≡ 0 + i → IsFirstDifference xs ys i → IsFirstDifference xs ys n
   from-start xs ys i n e w =
       let at : i ≡ n = omega (arith, e) in
       subst (λ m. IsFirstDifference xs ys m) at w
 
-  chosen : (right : Bool) (l o : Option ℕ) → MatchBool right (IsParaRight claim d) (¬ IsParaRight claim d)
-      → Compared claim.levels (layout_under claim d).levels 0 l → Compared claim.order (all_orders (layout_under claim d)) 0 o
-      → CaseIs claim d (if right then or_else (placed_in Levels l) (placed_in Order o) else Some ParaLevel)
+  chosen : (right : Bool) (l o : Option ℕ) → MatchBool right (IsParaRight limits claim d) (¬ IsParaRight limits claim d)
+      → Compared claim.levels (layout_under limits claim d).levels 0 l → Compared claim.order (all_orders (layout_under limits claim d)) 0 o
+      → CaseIs limits claim d (if right then or_else (placed_in Levels l) (placed_in Order o) else Some ParaLevel)
   chosen false l o p c e = p
   chosen true None None p c e = record { para = p; levels = c; order = e }
-  chosen true (Some n) o p c e = (p, from-start claim.levels (layout_under claim d).levels c.0 n c.1 c.2)
-  chosen true None (Some n) p c e = (p, c, from-start claim.order (all_orders (layout_under claim d)) e.0 n e.1 e.2)
+  chosen true (Some n) o p c e = (p, from-start claim.levels (layout_under limits claim d).levels c.0 n c.1 c.2)
+  chosen true None (Some n) p c e = (p, c, from-start claim.order (all_orders (layout_under limits claim d)) e.0 n e.1 e.2)
 
-  para-right : MatchBool (agrees claim.para (first_of (layout_under claim d).paras)) (IsParaRight claim d) (¬ IsParaRight claim d)
+  para-right : MatchBool (agrees claim.para (first_of (layout_under limits claim d).paras)) (IsParaRight limits claim d) (¬ IsParaRight limits claim d)
   para-right =
-      let paras = (layout_under claim d).paras in
+      let paras = (layout_under limits claim d).paras in
       let P : Option ℕ → Type 0 = λ s. MatchBool (agrees claim.para (first_of paras)) (IfSome claim.para (λ level. s ≡ Some level)) (¬ IfSome claim.para (λ level. s ≡ Some level)) in
       subst P (first_is paras) (para-is claim.para (first_of paras))
 
   -- what the search says
-  pub case-is : CaseIs claim d (wrong_place claim.para claim.levels claim.order (layout_of claim.text d []))
+  pub case-is : CaseIs limits claim d (wrong_place claim.para claim.levels claim.order (layout_of limits claim.text d []))
   case-is =
-      let layout = layout_under claim d in
+      let layout = layout_under limits claim d in
       chosen (agrees claim.para (first_of layout.paras)) (first_difference is_same claim.levels layout.levels 0) (first_difference nat_eq claim.order (all_orders layout) 0)
       para-right
       (compared is_same same_levels other_levels claim.levels layout.levels 0)
       (compared nat_eq (λ x y e. eqb-true x y e) (λ x y e. eqb-false x y e) claim.order (all_orders layout) 0)
 
   -- no case is both right and wrong
-  pub right-wrong : (place : Place) → IsCaseRight claim d → IsWrongAt claim d place → ⊥
+  pub right-wrong : (place : Place) → IsCaseRight limits claim d → IsWrongAt limits claim d place → ⊥
   right-wrong ParaLevel r w = w r.para
-  right-wrong (Levels i) r w = no_difference claim.levels (layout_under claim d).levels i r.levels w.1
-  right-wrong (Order i) r w = no_difference claim.order (all_orders (layout_under claim d)) i r.order w.2
+  right-wrong (Levels i) r w = no_difference claim.levels (layout_under limits claim d).levels i r.levels w.1
+  right-wrong (Order i) r w = no_difference claim.order (all_orders (layout_under limits claim d)) i r.order w.2
 
   -- there is one first wrong place
-  pub place-unique : (p q : Place) → IsWrongAt claim d p → IsWrongAt claim d q → p ≡ q
+  pub place-unique : (p q : Place) → IsWrongAt limits claim d p → IsWrongAt limits claim d q → p ≡ q
   place-unique ParaLevel ParaLevel w v = refl
   place-unique ParaLevel (Levels j) w v = absurd (w v.0)
   place-unique ParaLevel (Order j) w v = absurd (w v.0)
   place-unique (Levels i) ParaLevel w v = absurd (v w.0)
-  place-unique (Levels i) (Levels j) w v = ap (λ n. Levels n) (difference_unique claim.levels (layout_under claim d).levels i j w.1 v.1)
-  place-unique (Levels i) (Order j) w v = absurd (no_difference claim.levels (layout_under claim d).levels i v.1 w.1)
+  place-unique (Levels i) (Levels j) w v = ap (λ n. Levels n) (difference_unique claim.levels (layout_under limits claim d).levels i j w.1 v.1)
+  place-unique (Levels i) (Order j) w v = absurd (no_difference claim.levels (layout_under limits claim d).levels i v.1 w.1)
   place-unique (Order i) ParaLevel w v = absurd (v w.0)
-  place-unique (Order i) (Levels j) w v = absurd (no_difference claim.levels (layout_under claim d).levels j w.1 v.1)
-  place-unique (Order i) (Order j) w v = ap (λ n. Order n) (difference_unique claim.order (all_orders (layout_under claim d)) i j w.2 v.2)
+  place-unique (Order i) (Levels j) w v = absurd (no_difference claim.levels (layout_under limits claim d).levels j w.1 v.1)
+  place-unique (Order i) (Order j) w v = ap (λ n. Order n) (difference_unique claim.order (all_orders (layout_under limits claim d)) i j w.2 v.2)

@@ -8,25 +8,26 @@ use Rattle.units.specs.Classes.{classes_of}
 use Rattle.units.specs.Isolates.{para_level_of}
 use Rattle.units.specs.Paragraphs.{paragraphs_of}
 use Rattle.units.specs.Layout.{layout_of, para_levels_of, resolved_levels}
+use Rattle.units.specs.Limits.{LimitsOf}
 use Rattle.bidtests.specs.Verdicts.{Claim, wrong_case}
 use Rattle.bidtests.specs.Comparisons.{IsRight}
 
 -- paragraphs of the same levels are resolved alike
-resolved-alike : (paras : List (List BidiUnit)) (d e : Direction)
+resolved-alike : (limits : LimitsOf) (paras : List (List BidiUnit)) (d e : Direction)
     → map (λ us. para_level_of (classes_of us) d) paras ≡ map (λ us. para_level_of (classes_of us) e) paras
-    → flat_map (λ us. resolved_levels us (para_level_of (classes_of us) d)) paras ≡ flat_map (λ us. resolved_levels us (para_level_of (classes_of us) e)) paras
-resolved-alike [] d e same = refl
-resolved-alike (us ∷ paras) d e same =
+    → flat_map (λ us. resolved_levels limits us (para_level_of (classes_of us) d)) paras ≡ flat_map (λ us. resolved_levels limits us (para_level_of (classes_of us) e)) paras
+resolved-alike limits [] d e same = refl
+resolved-alike limits (us ∷ paras) d e same =
     let level : para_level_of (classes_of us) d ≡ para_level_of (classes_of us) e = cc in
     let levels : map (λ us. para_level_of (classes_of us) d) paras ≡ map (λ us. para_level_of (classes_of us) e) paras = cc in
-    let rest = resolved-alike paras d e levels in
+    let rest = resolved-alike limits paras d e levels in
     rw level (rw rest refl)
 
 -- a text is laid out alike under directions that give its paragraphs the same levels
-pub laid-out-alike : (text : List BidiUnit) (d e : Direction) (breaks : List ℕ) → para_levels_of text d ≡ para_levels_of text e → layout_of text d breaks ≡ layout_of text e breaks
+pub laid-out-alike : (limits : LimitsOf) (text : List BidiUnit) (d e : Direction) (breaks : List ℕ) → para_levels_of text d ≡ para_levels_of text e → layout_of limits text d breaks ≡ layout_of limits text e breaks
 unfolding layout_of
-laid-out-alike text d e breaks same =
-    let resolved = resolved-alike (paragraphs_of text) d e same in
+laid-out-alike limits text d e breaks same =
+    let resolved = resolved-alike limits (paragraphs_of text) d e same in
     rw (same, resolved) refl
 
 one-level : {A : Type 0} (f g : A → ℕ) (xs : List A) (level : ℕ) → map f xs ≡ level ∷ [] → ((x : A) → g x ≡ level) → map f xs ≡ map g xs
@@ -35,25 +36,25 @@ one-level f g (x ∷ []) level one all = let same : g x ≡ level = all x in cc
 one-level f g (x ∷ y ∷ xs) level one all = absurd cc
 
 -- a text of one paragraph is laid out alike under the direction that gives each paragraph the level that it has
-pub one-laid-out-alike : (text : List BidiUnit) (d e : Direction) (breaks : List ℕ) (level : ℕ) → para_levels_of text d ≡ level ∷ []
-    → ((classes : List Class) → para_level_of classes e ≡ level) → layout_of text d breaks ≡ layout_of text e breaks
-one-laid-out-alike text d e breaks level one all =
-    laid-out-alike text d e breaks (one-level (λ us. para_level_of (classes_of us) d) (λ us. para_level_of (classes_of us) e) (paragraphs_of text) level one (λ us. all (classes_of us)))
+pub one-laid-out-alike : (limits : LimitsOf) (text : List BidiUnit) (d e : Direction) (breaks : List ℕ) (level : ℕ) → para_levels_of text d ≡ level ∷ []
+    → ((classes : List Class) → para_level_of classes e ≡ level) → layout_of limits text d breaks ≡ layout_of limits text e breaks
+one-laid-out-alike limits text d e breaks level one all =
+    laid-out-alike limits text d e breaks (one-level (λ us. para_level_of (classes_of us) d) (λ us. para_level_of (classes_of us) e) (paragraphs_of text) level one (λ us. all (classes_of us)))
 
 head-same : {x y : ℕ} → x ∷ [] ≡ y ∷ [] → x ≡ y
 head-same same = cc
 
 -- a claim that is right under one direction is so under another that gives its text's only paragraph the same level
-pub also-right : (claim : Claim) (d : Direction) (found : Option Direction) (levels : List ℕ) → levels ≡ para_levels_of claim.text d
-    → IfSome found (λ e. (classes : List Class) → levels ≡ para_level_of classes e ∷ []) → IsRight claim d → IfSome found (IsRight claim)
-also-right claim d None levels are same right = tt
-also-right claim d (Some e) levels are same right =
+pub also-right : (limits : LimitsOf) (claim : Claim) (d : Direction) (found : Option Direction) (levels : List ℕ) → levels ≡ para_levels_of claim.text d
+    → IfSome found (λ e. (classes : List Class) → levels ≡ para_level_of classes e ∷ []) → IsRight limits claim d → IfSome found (IsRight limits claim)
+also-right limits claim d None levels are same right = tt
+also-right limits claim d (Some e) levels are same right =
     let one : para_levels_of claim.text d ≡ para_level_of [] e ∷ [] = sym are ∙ same [] in
     let all : (classes : List Class) → para_level_of classes e ≡ para_level_of [] e = λ classes. head-same (sym (same classes) ∙ same []) in
-    let alike = one-laid-out-alike claim.text d e [] (para_level_of [] e) one all in
+    let alike = one-laid-out-alike limits claim.text d e [] (para_level_of [] e) one all in
     rw (← alike) right
 
 -- a direction under which the claim is right is passed over
-pub passed-over : (claim : Claim) (ds : List Direction) (i : ℕ) (d : Direction) → i < length ds → IsRight claim (get_or ds i d) → wrong_case claim (drop i ds) ≡ wrong_case claim (drop (i + 1) ds)
-passed-over claim ds i d lt right =
+pub passed-over : (limits : LimitsOf) (claim : Claim) (ds : List Direction) (i : ℕ) (d : Direction) → i < length ds → IsRight limits claim (get_or ds i d) → wrong_case limits claim (drop i ds) ≡ wrong_case limits claim (drop (i + 1) ds)
+passed-over limits claim ds i d lt right =
     rw (add-one, drop-cons ds i d lt) (rw right refl)

@@ -1,6 +1,7 @@
 -- Files whose lines come to the same, up to the first that is malformed for a certain cause.
 use Rattle.std.proofs.Common.{◌≡◌, ℕ, ◌+◌, Option, None, Some, List, [], ◌∷◌, inl, inr, refl, sym, ap, ◌∙◌}
 use Rattle.std.specs.Prelude.{◌⊎◌, ⊤}
+use Rattle.units.specs.Limits.{LimitsOf}
 use Rattle.bidtests.specs.declared.verdict.Cause.{Cause}
 use Rattle.bidtests.specs.declared.verdict.Verdict.{Verdict}
 use Rattle.bidtests.specs.declared.verdict.Verdict.TheVariants.{Malformed}
@@ -21,38 +22,38 @@ or_else-alike : (a b c : Option Verdict) (v : Verdict) → or_else a b ≡ Some 
 or_else-alike None b c v e alike = alike e
 or_else-alike (Some u) b c v e alike = e
 
-broken-has-fault : (k : ℕ) (f : Finding) (cause : Cause) (rest : Option Verdict) → f ≡ Faulty cause → or_else (fault_of (line_number k) f) rest ≡ Some (Malformed (line_number k) cause)
-broken-has-fault k f cause rest broken = rw broken refl
+broken-has-fault : (limits : LimitsOf) (k : ℕ) (f : Finding) (cause : Cause) (rest : Option Verdict) → f ≡ Faulty cause → or_else (fault_of limits (line_number k) f) rest ≡ Some (Malformed (line_number k) cause)
+broken-has-fault limits k f cause rest broken = rw broken refl
 
-faultless-same : (cause : Cause) (k : ℕ) (fs gs : List Finding) → AreSameUpTo cause fs gs → first_fault k fs ≡ None → gs ≡ fs
-faultless-same cause k [] [] same none = refl
-faultless-same cause k [] (g ∷ gs) same none = absurd same
-faultless-same cause k (f ∷ fs) [] same none = absurd same
-faultless-same cause k (f ∷ fs) (g ∷ gs) (inl broken) none =
-    let e : Some (Malformed (line_number k) cause) ≡ None = sym (broken-has-fault k f cause (first_fault (k + 1) fs) broken) ∙ none in absurd cc
-faultless-same cause k (f ∷ fs) (g ∷ gs) (inr same) none =
-    let rest : gs ≡ fs = faultless-same cause (k + 1) fs gs same.1 (or_else-none (fault_of (line_number k) f) (first_fault (k + 1) fs) none) in
+faultless-same : (limits : LimitsOf) (cause : Cause) (k : ℕ) (fs gs : List Finding) → AreSameUpTo cause fs gs → first_fault limits k fs ≡ None → gs ≡ fs
+faultless-same limits cause k [] [] same none = refl
+faultless-same limits cause k [] (g ∷ gs) same none = absurd same
+faultless-same limits cause k (f ∷ fs) [] same none = absurd same
+faultless-same limits cause k (f ∷ fs) (g ∷ gs) (inl broken) none =
+    let e : Some (Malformed (line_number k) cause) ≡ None = sym (broken-has-fault limits k f cause (first_fault limits (k + 1) fs) broken) ∙ none in absurd cc
+faultless-same limits cause k (f ∷ fs) (g ∷ gs) (inr same) none =
+    let rest : gs ≡ fs = faultless-same limits cause (k + 1) fs gs same.1 (or_else-none (fault_of limits (line_number k) f) (first_fault limits (k + 1) fs) none) in
     let head : f ≡ g = same.0 in
     cc
 
-fault-same : (cause : Cause) (k : ℕ) (fs gs : List Finding) (v : Verdict) → AreSameUpTo cause fs gs → first_fault k fs ≡ Some v → ((line : ℕ) → v ≡ Malformed line cause → ⊥) → first_fault k gs ≡ Some v
-fault-same cause k [] [] v same e other = absurd cc
-fault-same cause k [] (g ∷ gs) v same e other = absurd same
-fault-same cause k (f ∷ fs) [] v same e other = absurd same
-fault-same cause k (f ∷ fs) (g ∷ gs) v (inl broken) e other =
-    let is : Some (Malformed (line_number k) cause) ≡ Some v = sym (broken-has-fault k f cause (first_fault (k + 1) fs) broken) ∙ e in
+fault-same : (limits : LimitsOf) (cause : Cause) (k : ℕ) (fs gs : List Finding) (v : Verdict) → AreSameUpTo cause fs gs → first_fault limits k fs ≡ Some v → ((line : ℕ) → v ≡ Malformed line cause → ⊥) → first_fault limits k gs ≡ Some v
+fault-same limits cause k [] [] v same e other = absurd cc
+fault-same limits cause k [] (g ∷ gs) v same e other = absurd same
+fault-same limits cause k (f ∷ fs) [] v same e other = absurd same
+fault-same limits cause k (f ∷ fs) (g ∷ gs) v (inl broken) e other =
+    let is : Some (Malformed (line_number k) cause) ≡ Some v = sym (broken-has-fault limits k f cause (first_fault limits (k + 1) fs) broken) ∙ e in
     absurd (other (line_number k) (cc))
-fault-same cause k (f ∷ fs) (g ∷ gs) v (inr same) e other =
-    rw (← same.0) (or_else-alike (fault_of (line_number k) f) (first_fault (k + 1) fs) (first_fault (k + 1) gs) v e (λ h. fault-same cause (k + 1) fs gs v same.1 h other))
+fault-same limits cause k (f ∷ fs) (g ∷ gs) v (inr same) e other =
+    rw (← same.0) (or_else-alike (fault_of limits (line_number k) f) (first_fault limits (k + 1) fs) (first_fault limits (k + 1) gs) v e (λ h. fault-same limits cause (k + 1) fs gs v same.1 h other))
 
 -- the verdict is the same, unless that is that a line is malformed for this cause
-pub verdict-same : (cause : Cause) (fs gs : List Finding) → AreSameUpTo cause fs gs → ((line : ℕ) → verdict_on fs ≡ Malformed line cause → ⊥) → verdict_on gs ≡ verdict_on fs
+pub verdict-same : (limits : LimitsOf) (cause : Cause) (fs gs : List Finding) → AreSameUpTo cause fs gs → ((line : ℕ) → verdict_on limits fs ≡ Malformed line cause → ⊥) → verdict_on limits gs ≡ verdict_on limits fs
 unfolding verdict_on
-verdict-same cause fs gs same other = go (first_fault 0 fs) refl
+verdict-same limits cause fs gs same other = go (first_fault limits 0 fs) refl
   where
-    go : (o : Option Verdict) → first_fault 0 fs ≡ o → or_yes gs (first_fault 0 gs) ≡ or_yes fs (first_fault 0 fs)
-    go None e = let all : gs ≡ fs = faultless-same cause 0 fs gs same e in rw all refl
+    go : (o : Option Verdict) → first_fault limits 0 fs ≡ o → or_yes gs (first_fault limits 0 gs) ≡ or_yes fs (first_fault limits 0 fs)
+    go None e = let all : gs ≡ fs = faultless-same limits cause 0 fs gs same e in rw all refl
     go (Some v) e =
-        let is : or_yes fs (first_fault 0 fs) ≡ v = ap (or_yes fs) e in
-        let there : first_fault 0 gs ≡ Some v = fault-same cause 0 fs gs v same e (λ line h. other line (is ∙ h)) in
+        let is : or_yes fs (first_fault limits 0 fs) ≡ v = ap (or_yes fs) e in
+        let there : first_fault limits 0 gs ≡ Some v = fault-same limits cause 0 fs gs v same e (λ line h. other line (is ∙ h)) in
         ap (or_yes gs) there ∙ sym is

@@ -4,6 +4,7 @@ use Rattle.std.specs.List.{slice_get, Contains, AllPairs}
 use Rattle.std.proofs.lemmas.Bool.{cases_order}
 use Rattle.std.proofs.lemmas.Option.{slice_get_within, none-some}
 use Rattle.units.specs.Layout.{layout_of}
+use Rattle.units.specs.Limits.{LimitsOf}
 use Rattle.units.specs.declared.level.Direction.{Direction}
 use Rattle.bidtests.specs.declared.verdict.Cause.{Cause}
 use Rattle.bidtests.specs.declared.verdict.Place.{Place}
@@ -14,201 +15,202 @@ use Rattle.bidtests.specs.Headline.{IsMalformed, IsRow, IsCaseRight, IsWrongAt, 
 use Rattle.bidtests.proofs.Places.{same-held, CaseIs, case-is, right-wrong, place-unique}
 use Rattle.bidtests.proofs.Ordered.{IsOrdered, never-behind, earlier-before, contained-at, at-contained}
 
--- all cases are right, or this one is the first that is wrong, at this place
-abbrev CasesAre : Claim → List Direction → Option (Direction × Place) → Type 0
-CasesAre claim ds None = (i : ℕ) (d : Direction) → slice_get ds i ≡ Some d → IsCaseRight claim d
-CasesAre claim ds (Some x) =
-    (j : ℕ) × (slice_get ds j ≡ Some x.0) × ((i : ℕ) (d : Direction) → i < j → slice_get ds i ≡ Some d → IsCaseRight claim d) × IsWrongAt claim x.0 x.1
+module _ (limits : LimitsOf) where
+  -- all cases are right, or this one is the first that is wrong, at this place
+  abbrev CasesAre : Claim → List Direction → Option (Direction × Place) → Type 0
+  CasesAre claim ds None = (i : ℕ) (d : Direction) → slice_get ds i ≡ Some d → IsCaseRight limits claim d
+  CasesAre claim ds (Some x) =
+      (j : ℕ) × (slice_get ds j ≡ Some x.0) × ((i : ℕ) (d : Direction) → i < j → slice_get ds i ≡ Some d → IsCaseRight limits claim d) × IsWrongAt limits claim x.0 x.1
 
-all-right : (claim : Claim) (d : Direction) (ds : List Direction) → IsCaseRight claim d → CasesAre claim ds None → CasesAre claim (d ∷ ds) None
-all-right claim d ds right rest zero e h = subst (IsCaseRight claim) (same-held h) right
-all-right claim d ds right rest (suc i) e h = rest i e h
+  all-right : (claim : Claim) (d : Direction) (ds : List Direction) → IsCaseRight limits claim d → CasesAre claim ds None → CasesAre claim (d ∷ ds) None
+  all-right claim d ds right rest zero e h = subst (IsCaseRight limits claim) (same-held h) right
+  all-right claim d ds right rest (suc i) e h = rest i e h
 
-earlier-right : (claim : Claim) (d : Direction) (ds : List Direction) (j : ℕ) → IsCaseRight claim d
-    → ((i : ℕ) (e : Direction) → i < j → slice_get ds i ≡ Some e → IsCaseRight claim e)
-    → (i : ℕ) (e : Direction) → i < suc j → slice_get (d ∷ ds) i ≡ Some e → IsCaseRight claim e
-earlier-right claim d ds j right rest zero e lt h = subst (IsCaseRight claim) (same-held h) right
-earlier-right claim d ds j right rest (suc i) e lt h = rest i e (omega arith) h
+  earlier-right : (claim : Claim) (d : Direction) (ds : List Direction) (j : ℕ) → IsCaseRight limits claim d
+      → ((i : ℕ) (e : Direction) → i < j → slice_get ds i ≡ Some e → IsCaseRight limits claim e)
+      → (i : ℕ) (e : Direction) → i < suc j → slice_get (d ∷ ds) i ≡ Some e → IsCaseRight limits claim e
+  earlier-right claim d ds j right rest zero e lt h = subst (IsCaseRight limits claim) (same-held h) right
+  earlier-right claim d ds j right rest (suc i) e lt h = rest i e (omega arith) h
 
-cases-more : (claim : Claim) (d : Direction) (ds : List Direction) (place : Option Place) (rest : Option (Direction × Place))
-    → CaseIs claim d place → CasesAre claim ds rest → CasesAre claim (d ∷ ds) (or_else (with_place d place) rest)
-cases-more claim d ds None None right are = all-right claim d ds right are
-cases-more claim d ds None (Some x) right are = (suc are.0, are.1, earlier-right claim d ds are.0 right are.2, are.3)
-cases-more claim d ds (Some place) rest wrong are = (0, refl, (λ i e lt h. absurd (omega arith)), wrong)
+  cases-more : (claim : Claim) (d : Direction) (ds : List Direction) (place : Option Place) (rest : Option (Direction × Place))
+      → CaseIs limits claim d place → CasesAre claim ds rest → CasesAre claim (d ∷ ds) (or_else (with_place d place) rest)
+  cases-more claim d ds None None right are = all-right claim d ds right are
+  cases-more claim d ds None (Some x) right are = (suc are.0, are.1, earlier-right claim d ds are.0 right are.2, are.3)
+  cases-more claim d ds (Some place) rest wrong are = (0, refl, (λ i e lt h. absurd (omega arith)), wrong)
 
-cases-are : (claim : Claim) (ds : List Direction) → CasesAre claim ds (wrong_case claim ds)
-cases-are claim [] = λ i d e. absurd (none-some d e)
-cases-are claim (d ∷ ds) =
-    cases-more claim d ds (wrong_place claim.para claim.levels claim.order (layout_of claim.text d [])) (wrong_case claim ds) (case-is claim d) (cases-are claim ds)
+  cases-are : (claim : Claim) (ds : List Direction) → CasesAre claim ds (wrong_case limits claim ds)
+  cases-are claim [] = λ i d e. absurd (none-some d e)
+  cases-are claim (d ∷ ds) =
+      cases-more claim d ds (wrong_place claim.para claim.levels claim.order (layout_of limits claim.text d [])) (wrong_case limits claim ds) (case-is limits claim d) (cases-are claim ds)
 
--- a line that gives no fault
-record IsLineRight (f : Finding) : Type 0 where
-  well_formed : (cause : Cause) → f ≢ Faulty cause
-  right : (claim : Claim) (d : Direction) → f ≡ Claims claim → Contains claim.directions d → IsCaseRight claim d
+  -- a line that gives no fault
+  record IsLineRight (f : Finding) : Type 0 where
+    well_formed : (cause : Cause) → f ≢ Faulty cause
+    right : (claim : Claim) (d : Direction) → f ≡ Claims claim → Contains claim.directions d → IsCaseRight limits claim d
 
-claims-right : (n : ℕ) (claim : Claim) (o : Option (Direction × Place)) → wrong_at n o ≡ None → CasesAre claim claim.directions o
-    → (d : Direction) → Contains claim.directions d → IsCaseRight claim d
-claims-right n claim None e are d h = let at = contained-at claim.directions d h in are at.0 d at.1
-claims-right n claim (Some x) e are d h = absurd (none-some _ (sym e))
+  claims-right : (n : ℕ) (claim : Claim) (o : Option (Direction × Place)) → wrong_at n o ≡ None → CasesAre claim claim.directions o
+      → (d : Direction) → Contains claim.directions d → IsCaseRight limits claim d
+  claims-right n claim None e are d h = let at = contained-at claim.directions d h in are at.0 d at.1
+  claims-right n claim (Some x) e are d h = absurd (none-some _ (sym e))
 
-same-claim : (a b : Claim) → Claims a ≡ Claims b → a ≡ b
-same-claim a b e = cc
+  same-claim : (a b : Claim) → Claims a ≡ Claims b → a ≡ b
+  same-claim a b e = cc
 
-line-right : (n : ℕ) (f : Finding) → fault_of n f ≡ None → IsLineRight f
-line-right n Silent e = record { well_formed = λ cause h. absurd (cc); right = λ claim d h k. absurd (cc) }
-line-right n (Faulty cause) e = absurd (none-some _ (sym e))
-line-right n (Claims claim) e =
-    let all : (d : Direction) → Contains claim.directions d → IsCaseRight claim d = claims-right n claim (wrong_case claim claim.directions) e (cases-are claim claim.directions) in
-    let P : Claim → Type 0 = λ c. (d : Direction) → Contains c.directions d → IsCaseRight c d in
-    record { well_formed = λ cause h. absurd (cc); right = λ other d h k. subst P (same-claim claim other h) all d k }
+  line-right : (n : ℕ) (f : Finding) → fault_of limits n f ≡ None → IsLineRight f
+  line-right n Silent e = record { well_formed = λ cause h. absurd (cc); right = λ claim d h k. absurd (cc) }
+  line-right n (Faulty cause) e = absurd (none-some _ (sym e))
+  line-right n (Claims claim) e =
+      let all : (d : Direction) → Contains claim.directions d → IsCaseRight limits claim d = claims-right n claim (wrong_case limits claim claim.directions) e (cases-are claim claim.directions) in
+      let P : Claim → Type 0 = λ c. (d : Direction) → Contains c.directions d → IsCaseRight limits c d in
+      record { well_formed = λ cause h. absurd (cc); right = λ other d h k. subst P (same-claim claim other h) all d k }
 
-none-right : (fs : List Finding) → AreRight fs 0
-none-right fs = record { well_formed = λ k cause lt. absurd (omega arith); right = λ k claim d lt. absurd (omega arith) }
+  none-right : (fs : List Finding) → AreRight limits fs 0
+  none-right fs = record { well_formed = λ k cause lt. absurd (omega arith); right = λ k claim d lt. absurd (omega arith) }
 
-module _ (f : Finding) (fs : List Finding) (n : ℕ) (first : IsLineRight f) (rest : AreRight fs n) where
-  formed-more : (k : ℕ) (cause : Cause) → k < suc n → ¬ IsMalformed (f ∷ fs) k cause
-  formed-more zero cause lt e = first.well_formed cause (same-held e)
-  formed-more (suc k) cause lt e = rest.well_formed k cause (omega arith) e
+  module _ (f : Finding) (fs : List Finding) (n : ℕ) (first : IsLineRight f) (rest : AreRight limits fs n) where
+    formed-more : (k : ℕ) (cause : Cause) → k < suc n → ¬ IsMalformed (f ∷ fs) k cause
+    formed-more zero cause lt e = first.well_formed cause (same-held e)
+    formed-more (suc k) cause lt e = rest.well_formed k cause (omega arith) e
 
-  rows-more : (k : ℕ) (claim : Claim) (d : Direction) → k < suc n → IsRow (f ∷ fs) k claim → Contains claim.directions d → IsCaseRight claim d
-  rows-more zero claim d lt e h = first.right claim d (same-held e) h
-  rows-more (suc k) claim d lt e h = rest.right k claim d (omega arith) e h
+    rows-more : (k : ℕ) (claim : Claim) (d : Direction) → k < suc n → IsRow (f ∷ fs) k claim → Contains claim.directions d → IsCaseRight limits claim d
+    rows-more zero claim d lt e h = first.right claim d (same-held e) h
+    rows-more (suc k) claim d lt e h = rest.right k claim d (omega arith) e h
 
-  right-more : AreRight (f ∷ fs) (suc n)
-  right-more = record { well_formed = formed-more; right = rows-more }
+    right-more : AreRight limits (f ∷ fs) (suc n)
+    right-more = record { well_formed = formed-more; right = rows-more }
 
--- all lines are right, or this is the fault of the first that is not
-abbrev LinesAre : List Finding → ℕ → Option Verdict → Type 0
-LinesAre fs o None = AreRight fs (length fs)
-LinesAre fs o (Some v) = (k : ℕ) × (f : Finding) × (slice_get fs k ≡ Some f) × AreRight fs k × (fault_of (line_number (o + k)) f ≡ Some v)
+  -- all lines are right, or this is the fault of the first that is not
+  abbrev LinesAre : List Finding → ℕ → Option Verdict → Type 0
+  LinesAre fs o None = AreRight limits fs (length fs)
+  LinesAre fs o (Some v) = (k : ℕ) × (f : Finding) × (slice_get fs k ≡ Some f) × AreRight limits fs k × (fault_of limits (line_number (o + k)) f ≡ Some v)
 
-lines-more : (f : Finding) (fs : List Finding) (o : ℕ) (here rest : Option Verdict) → fault_of (line_number o) f ≡ here → LinesAre fs (o + 1) rest
-    → LinesAre (f ∷ fs) o (or_else here rest)
-lines-more f fs o None None e are = right-more f fs (length fs) (line-right (line_number o) f e) are
-lines-more f fs o None (Some v) e are =
-    let at : o + suc are.0 ≡ o + 1 + are.0 = omega arith in
-    (suc are.0, are.1, are.2, right-more f fs are.0 (line-right (line_number o) f e) are.3, ap (λ n. fault_of (line_number n) are.1) at ∙ are.4)
-lines-more f fs o (Some v) rest e are =
-    let at : o + 0 ≡ o = omega arith in
-    (0, f, refl, none-right (f ∷ fs), ap (λ n. fault_of (line_number n) f) at ∙ e)
+  lines-more : (f : Finding) (fs : List Finding) (o : ℕ) (here rest : Option Verdict) → fault_of limits (line_number o) f ≡ here → LinesAre fs (o + 1) rest
+      → LinesAre (f ∷ fs) o (or_else here rest)
+  lines-more f fs o None None e are = right-more f fs (length fs) (line-right (line_number o) f e) are
+  lines-more f fs o None (Some v) e are =
+      let at : o + suc are.0 ≡ o + 1 + are.0 = omega arith in
+      (suc are.0, are.1, are.2, right-more f fs are.0 (line-right (line_number o) f e) are.3, ap (λ n. fault_of limits (line_number n) are.1) at ∙ are.4)
+  lines-more f fs o (Some v) rest e are =
+      let at : o + 0 ≡ o = omega arith in
+      (0, f, refl, none-right (f ∷ fs), ap (λ n. fault_of limits (line_number n) f) at ∙ e)
 
-lines-are : (fs : List Finding) (o : ℕ) → LinesAre fs o (first_fault o fs)
-lines-are [] o = none-right []
-lines-are (f ∷ fs) o = lines-more f fs o (fault_of (line_number o) f) (first_fault (o + 1) fs) refl (lines-are fs (o + 1))
+  lines-are : (fs : List Finding) (o : ℕ) → LinesAre fs o (first_fault limits o fs)
+  lines-are [] o = none-right []
+  lines-are (f ∷ fs) o = lines-more f fs o (fault_of limits (line_number o) f) (first_fault limits (o + 1) fs) refl (lines-are fs (o + 1))
 
--- the directions of a wrong row before the first wrong one
-module _ (claim : Claim) (ordered : AllPairs ComesBefore claim.directions) where
-  before-wrong : (j : ℕ) (e : Direction) → slice_get claim.directions j ≡ Some e
-      → ((i : ℕ) (d : Direction) → i < j → slice_get claim.directions i ≡ Some d → IsCaseRight claim d)
-      → (d : Direction) → Contains claim.directions d → ComesBefore d e → IsCaseRight claim d
-  before-wrong j e at right d has before =
-      let here = contained-at claim.directions d has in
-      elim (cases_order here.0 j) [
-        | inl same ↦
-            let is : d ≡ e = same-held (sym here.1 ∙ ap (λ n. slice_get claim.directions n) same ∙ at) in
-            let P : Direction → Type 0 = λ x. ComesBefore x d in
-            absurd (never-behind d e before (subst P is (subst (ComesBefore d) (sym is) before)))
-        | inr other ↦ elim other [
-          | inl less ↦ right here.0 d less here.1
-          | inr more ↦ absurd (never-behind d e before (earlier-before claim.directions ordered j here.0 e d more at here.1))
+  -- the directions of a wrong row before the first wrong one
+  module _ (claim : Claim) (ordered : AllPairs ComesBefore claim.directions) where
+    before-wrong : (j : ℕ) (e : Direction) → slice_get claim.directions j ≡ Some e
+        → ((i : ℕ) (d : Direction) → i < j → slice_get claim.directions i ≡ Some d → IsCaseRight limits claim d)
+        → (d : Direction) → Contains claim.directions d → ComesBefore d e → IsCaseRight limits claim d
+    before-wrong j e at right d has before =
+        let here = contained-at claim.directions d has in
+        elim (cases_order here.0 j) [
+          | inl same ↦
+              let is : d ≡ e = same-held (sym here.1 ∙ ap (λ n. slice_get claim.directions n) same ∙ at) in
+              let P : Direction → Type 0 = λ x. ComesBefore x d in
+              absurd (never-behind d e before (subst P is (subst (ComesBefore d) (sym is) before)))
+          | inr other ↦ elim other [
+            | inl less ↦ right here.0 d less here.1
+            | inr more ↦ absurd (never-behind d e before (earlier-before claim.directions ordered j here.0 e d more at here.1))
+          ]
         ]
-      ]
 
-  same-case : (d e : Direction) (p q : Place) → Contains claim.directions d → Contains claim.directions e
-      → ((x : Direction) → Contains claim.directions x → ComesBefore x d → IsCaseRight claim x) → ((x : Direction) → Contains claim.directions x → ComesBefore x e → IsCaseRight claim x)
-      → IsWrongAt claim d p → IsWrongAt claim e q → (d ≡ e) × (p ≡ q)
-  same-case d e p q hd he bd be wd we =
-      let i = contained-at claim.directions d hd in
-      let j = contained-at claim.directions e he in
-      elim (cases_order i.0 j.0) [
-        | inl same ↦
-            let is : d ≡ e = same-held (sym i.1 ∙ ap (λ n. slice_get claim.directions n) same ∙ j.1) in
-            let P : Direction → Type 0 = λ x. IsWrongAt claim x q in
-            (is, place-unique claim d p q wd (subst P (sym is) we))
-        | inr other ↦ elim other [
-          | inl less ↦ absurd (right-wrong claim d p (be d hd (earlier-before claim.directions ordered i.0 j.0 d e less i.1 j.1)) wd)
-          | inr more ↦ absurd (right-wrong claim e q (bd e he (earlier-before claim.directions ordered j.0 i.0 e d more j.1 i.1)) we)
+    same-case : (d e : Direction) (p q : Place) → Contains claim.directions d → Contains claim.directions e
+        → ((x : Direction) → Contains claim.directions x → ComesBefore x d → IsCaseRight limits claim x) → ((x : Direction) → Contains claim.directions x → ComesBefore x e → IsCaseRight limits claim x)
+        → IsWrongAt limits claim d p → IsWrongAt limits claim e q → (d ≡ e) × (p ≡ q)
+    same-case d e p q hd he bd be wd we =
+        let i = contained-at claim.directions d hd in
+        let j = contained-at claim.directions e he in
+        elim (cases_order i.0 j.0) [
+          | inl same ↦
+              let is : d ≡ e = same-held (sym i.1 ∙ ap (λ n. slice_get claim.directions n) same ∙ j.1) in
+              let P : Direction → Type 0 = λ x. IsWrongAt limits claim x q in
+              (is, place-unique limits claim d p q wd (subst P (sym is) we))
+          | inr other ↦ elim other [
+            | inl less ↦ absurd (right-wrong limits claim d p (be d hd (earlier-before claim.directions ordered i.0 j.0 d e less i.1 j.1)) wd)
+            | inr more ↦ absurd (right-wrong limits claim e q (bd e he (earlier-before claim.directions ordered j.0 i.0 e d more j.1 i.1)) we)
+          ]
         ]
-      ]
 
-module _ (fs : List Finding) (ordered : (k : ℕ) (f : Finding) → slice_get fs k ≡ Some f → IsOrdered f) where
-  row-says : (k n : ℕ) (claim : Claim) → IsRow fs k claim → AreRight fs k → n ≡ line_number k
-      → (o : Option (Direction × Place)) → CasesAre claim claim.directions o → (v : Verdict) → wrong_at n o ≡ Some v → Says fs v
-  row-says k n claim row right number None are v e = absurd (none-some v e)
-  row-says k n claim row right number (Some x) are v e =
-      let says : FirstIsWrong fs n x.0 x.1 = record {
-        k = k;
-        numbered = number;
-        earlier = right;
-        claim = claim;
-        row = row;
-        names = at-contained claim.directions are.0 x.0 are.1;
-        before = before-wrong claim (ordered k (Claims claim) row) are.0 x.0 are.1 are.2;
-        wrong = are.3;
-      } in
-      subst (Says fs) (same-held e) says
+  module _ (fs : List Finding) (ordered : (k : ℕ) (f : Finding) → slice_get fs k ≡ Some f → IsOrdered f) where
+    row-says : (k n : ℕ) (claim : Claim) → IsRow fs k claim → AreRight limits fs k → n ≡ line_number k
+        → (o : Option (Direction × Place)) → CasesAre claim claim.directions o → (v : Verdict) → wrong_at n o ≡ Some v → Says limits fs v
+    row-says k n claim row right number None are v e = absurd (none-some v e)
+    row-says k n claim row right number (Some x) are v e =
+        let says : FirstIsWrong limits fs n x.0 x.1 = record {
+          k = k;
+          numbered = number;
+          earlier = right;
+          claim = claim;
+          row = row;
+          names = at-contained claim.directions are.0 x.0 are.1;
+          before = before-wrong claim (ordered k (Claims claim) row) are.0 x.0 are.1 are.2;
+          wrong = are.3;
+        } in
+        subst (Says limits fs) (same-held e) says
 
-  fault-says : (k n : ℕ) (f : Finding) → slice_get fs k ≡ Some f → AreRight fs k → n ≡ line_number k → (v : Verdict) → fault_of n f ≡ Some v → Says fs v
-  fault-says k n Silent at right number v e = absurd (none-some v e)
-  fault-says k n (Faulty cause) at right number v e =
-      let says : FirstIsMalformed fs n cause = record { k = k; numbered = number; earlier = right; malformed = at } in
-      subst (Says fs) (same-held e) says
-  fault-says k n (Claims claim) at right number v e =
-      row-says k n claim at right number (wrong_case claim claim.directions) (cases-are claim claim.directions) v e
+    fault-says : (k n : ℕ) (f : Finding) → slice_get fs k ≡ Some f → AreRight limits fs k → n ≡ line_number k → (v : Verdict) → fault_of limits n f ≡ Some v → Says limits fs v
+    fault-says k n Silent at right number v e = absurd (none-some v e)
+    fault-says k n (Faulty cause) at right number v e =
+        let says : FirstIsMalformed limits fs n cause = record { k = k; numbered = number; earlier = right; malformed = at } in
+        subst (Says limits fs) (same-held e) says
+    fault-says k n (Claims claim) at right number v e =
+        row-says k n claim at right number (wrong_case limits claim claim.directions) (cases-are claim claim.directions) v e
 
-  says-by : (o : Option Verdict) → LinesAre fs 0 o → Says fs (or_yes fs o)
-  says-by None are = record { all = are; rows_counted = refl; cases_counted = refl }
-  says-by (Some v) are =
-      let at : line_number (0 + are.0) ≡ line_number are.0 = ap (λ n. line_number n) (omega arith) in
-      fault-says are.0 (line_number (0 + are.0)) are.1 are.2 are.3 at v are.4
+    says-by : (o : Option Verdict) → LinesAre fs 0 o → Says limits fs (or_yes fs o)
+    says-by None are = record { all = are; rows_counted = refl; cases_counted = refl }
+    says-by (Some v) are =
+        let at : line_number (0 + are.0) ≡ line_number are.0 = ap (λ n. line_number n) (omega arith) in
+        fault-says are.0 (line_number (0 + are.0)) are.1 are.2 are.3 at v are.4
 
-  pub verdict-says : Says fs (verdict_on fs)
-  unfolding verdict_on
-  verdict-says = says-by (first_fault 0 fs) (lines-are fs 0)
+    pub verdict-says : Says limits fs (verdict_on limits fs)
+    unfolding verdict_on
+    verdict-says = says-by (first_fault limits 0 fs) (lines-are fs 0)
 
-  same-line : (k j : ℕ) → (k < j → ⊥) → (j < k → ⊥) → k ≡ j
-  same-line k j less more = elim (cases_order k j) [ inl same ↦ same | inr other ↦ elim other [ inl l ↦ absurd (less l) | inr m ↦ absurd (more m) ] ]
+    same-line : (k j : ℕ) → (k < j → ⊥) → (j < k → ⊥) → k ≡ j
+    same-line k j less more = elim (cases_order k j) [ inl same ↦ same | inr other ↦ elim other [ inl l ↦ absurd (less l) | inr m ↦ absurd (more m) ] ]
 
-  -- two that are malformed
-  malformed-unique : (n m : ℕ) (c e : Cause) → FirstIsMalformed fs n c → FirstIsMalformed fs m e → Malformed n c ≡ Malformed m e
-  malformed-unique n m c e a b =
-      let same : a.k ≡ b.k = same-line a.k b.k (λ lt. b.earlier.well_formed a.k c lt a.malformed) (λ lt. a.earlier.well_formed b.k e lt b.malformed) in
-      let number : n ≡ m = a.numbered ∙ ap (λ k. line_number k) same ∙ sym b.numbered in
-      let faults : Faulty c ≡ Faulty e = same-held (sym a.malformed ∙ ap (λ k. slice_get fs k) same ∙ b.malformed) in
-      cc
+    -- two that are malformed
+    malformed-unique : (n m : ℕ) (c e : Cause) → FirstIsMalformed limits fs n c → FirstIsMalformed limits fs m e → Malformed n c ≡ Malformed m e
+    malformed-unique n m c e a b =
+        let same : a.k ≡ b.k = same-line a.k b.k (λ lt. b.earlier.well_formed a.k c lt a.malformed) (λ lt. a.earlier.well_formed b.k e lt b.malformed) in
+        let number : n ≡ m = a.numbered ∙ ap (λ k. line_number k) same ∙ sym b.numbered in
+        let faults : Faulty c ≡ Faulty e = same-held (sym a.malformed ∙ ap (λ k. slice_get fs k) same ∙ b.malformed) in
+        cc
 
-  not-both : (n m : ℕ) (c : Cause) (d : Direction) (p : Place) → FirstIsMalformed fs n c → FirstIsWrong fs m d p → ⊥
-  not-both n m c d p a b =
-      let same : a.k ≡ b.k = same-line a.k b.k (λ lt. b.earlier.well_formed a.k c lt a.malformed)
-      (λ lt. right-wrong b.claim d p (a.earlier.right b.k b.claim d lt b.row b.names) b.wrong) in
-      let faults : Faulty c ≡ Claims b.claim = same-held (sym a.malformed ∙ ap (λ k. slice_get fs k) same ∙ b.row) in
-      absurd (cc)
+    not-both : (n m : ℕ) (c : Cause) (d : Direction) (p : Place) → FirstIsMalformed limits fs n c → FirstIsWrong limits fs m d p → ⊥
+    not-both n m c d p a b =
+        let same : a.k ≡ b.k = same-line a.k b.k (λ lt. b.earlier.well_formed a.k c lt a.malformed)
+        (λ lt. right-wrong limits b.claim d p (a.earlier.right b.k b.claim d lt b.row b.names) b.wrong) in
+        let faults : Faulty c ≡ Claims b.claim = same-held (sym a.malformed ∙ ap (λ k. slice_get fs k) same ∙ b.row) in
+        absurd (cc)
 
-  wrong-unique : (n m : ℕ) (d e : Direction) (p q : Place) → FirstIsWrong fs n d p → FirstIsWrong fs m e q → Wrong n d p ≡ Wrong m e q
-  wrong-unique n m d e p q a b =
-      let same : a.k ≡ b.k = same-line a.k b.k (λ lt. right-wrong a.claim d p (b.earlier.right a.k a.claim d lt a.row a.names) a.wrong)
-      (λ lt. right-wrong b.claim e q (a.earlier.right b.k b.claim e lt b.row b.names) b.wrong) in
-      let number : n ≡ m = a.numbered ∙ ap (λ k. line_number k) same ∙ sym b.numbered in
-      let claim : b.claim ≡ a.claim = same-claim b.claim a.claim (same-held (sym b.row ∙ ap (λ k. slice_get fs k) (sym same) ∙ a.row)) in
-      let Names : Claim → Type 0 = λ c. Contains c.directions e in
-      let Before : Claim → Type 0 = λ c. (x : Direction) → Contains c.directions x → ComesBefore x e → IsCaseRight c x in
-      let Wrongly : Claim → Type 0 = λ c. IsWrongAt c e q in
-      let case = same-case a.claim (ordered a.k (Claims a.claim) a.row) d e p q a.names (subst Names claim b.names) a.before (subst Before claim b.before) a.wrong (subst Wrongly claim b.wrong) in
-      let direction : d ≡ e = case.0 in
-      let place : p ≡ q = case.1 in
-      cc
+    wrong-unique : (n m : ℕ) (d e : Direction) (p q : Place) → FirstIsWrong limits fs n d p → FirstIsWrong limits fs m e q → Wrong n d p ≡ Wrong m e q
+    wrong-unique n m d e p q a b =
+        let same : a.k ≡ b.k = same-line a.k b.k (λ lt. right-wrong limits a.claim d p (b.earlier.right a.k a.claim d lt a.row a.names) a.wrong)
+        (λ lt. right-wrong limits b.claim e q (a.earlier.right b.k b.claim e lt b.row b.names) b.wrong) in
+        let number : n ≡ m = a.numbered ∙ ap (λ k. line_number k) same ∙ sym b.numbered in
+        let claim : b.claim ≡ a.claim = same-claim b.claim a.claim (same-held (sym b.row ∙ ap (λ k. slice_get fs k) (sym same) ∙ a.row)) in
+        let Names : Claim → Type 0 = λ c. Contains c.directions e in
+        let Before : Claim → Type 0 = λ c. (x : Direction) → Contains c.directions x → ComesBefore x e → IsCaseRight limits c x in
+        let Wrongly : Claim → Type 0 = λ c. IsWrongAt limits c e q in
+        let case = same-case a.claim (ordered a.k (Claims a.claim) a.row) d e p q a.names (subst Names claim b.names) a.before (subst Before claim b.before) a.wrong (subst Wrongly claim b.wrong) in
+        let direction : d ≡ e = case.0 in
+        let place : p ≡ q = case.1 in
+        cc
 
-  says-unique : (v w : Verdict) → Says fs v → Says fs w → v ≡ w
-  says-unique (Yes r c) (Yes s e) a b = let rows : r ≡ s = a.rows_counted ∙ sym b.rows_counted in let cases : c ≡ e = a.cases_counted ∙ sym b.cases_counted in cc
-  says-unique (Yes r c) (Malformed n cause) a b = absurd (a.all.well_formed b.k cause (slice_get_within fs b.k (Faulty cause) b.malformed) b.malformed)
-  says-unique (Yes r c) (Wrong n d p) a b = absurd (right-wrong b.claim d p (a.all.right b.k b.claim d (slice_get_within fs b.k (Claims b.claim) b.row) b.row b.names) b.wrong)
-  says-unique (Malformed n cause) (Yes r c) a b = absurd (b.all.well_formed a.k cause (slice_get_within fs a.k (Faulty cause) a.malformed) a.malformed)
-  says-unique (Malformed n c) (Malformed m e) a b = malformed-unique n m c e a b
-  says-unique (Malformed n c) (Wrong m d p) a b = absurd (not-both n m c d p a b)
-  says-unique (Wrong n d p) (Yes r c) a b = absurd (right-wrong a.claim d p (b.all.right a.k a.claim d (slice_get_within fs a.k (Claims a.claim) a.row) a.row a.names) a.wrong)
-  says-unique (Wrong n d p) (Malformed m c) a b = absurd (not-both m n c d p b a)
-  says-unique (Wrong n d p) (Wrong m e q) a b = wrong-unique n m d e p q a b
+    says-unique : (v w : Verdict) → Says limits fs v → Says limits fs w → v ≡ w
+    says-unique (Yes r c) (Yes s e) a b = let rows : r ≡ s = a.rows_counted ∙ sym b.rows_counted in let cases : c ≡ e = a.cases_counted ∙ sym b.cases_counted in cc
+    says-unique (Yes r c) (Malformed n cause) a b = absurd (a.all.well_formed b.k cause (slice_get_within fs b.k (Faulty cause) b.malformed) b.malformed)
+    says-unique (Yes r c) (Wrong n d p) a b = absurd (right-wrong limits b.claim d p (a.all.right b.k b.claim d (slice_get_within fs b.k (Claims b.claim) b.row) b.row b.names) b.wrong)
+    says-unique (Malformed n cause) (Yes r c) a b = absurd (b.all.well_formed a.k cause (slice_get_within fs a.k (Faulty cause) a.malformed) a.malformed)
+    says-unique (Malformed n c) (Malformed m e) a b = malformed-unique n m c e a b
+    says-unique (Malformed n c) (Wrong m d p) a b = absurd (not-both n m c d p a b)
+    says-unique (Wrong n d p) (Yes r c) a b = absurd (right-wrong limits a.claim d p (b.all.right a.k a.claim d (slice_get_within fs a.k (Claims a.claim) a.row) a.row a.names) a.wrong)
+    says-unique (Wrong n d p) (Malformed m c) a b = absurd (not-both m n c d p b a)
+    says-unique (Wrong n d p) (Wrong m e q) a b = wrong-unique n m d e p q a b
 
-  -- the verdict is the one that says what is so
-  pub verdict-law : (v : Verdict) → (verdict_on fs ≡ v) ↔ Says fs v
-  verdict-law v = ((λ e. subst (Says fs) e verdict-says), λ s. says-unique (verdict_on fs) v verdict-says s)
+    -- the verdict is the one that says what is so
+    pub verdict-law : (v : Verdict) → (verdict_on limits fs ≡ v) ↔ Says limits fs v
+    verdict-law v = ((λ e. subst (Says limits fs) e verdict-says), λ s. says-unique (verdict_on limits fs) v verdict-says s)

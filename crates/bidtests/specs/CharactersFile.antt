@@ -4,6 +4,7 @@ use Rattle.std.specs.Option.{option_map}
 use Rattle.std.specs.Str.{bytes_eq}
 use Rattle.units.specs.Text.{lines_of, longest_line, content_of, fields_of, items_of, each_read}
 use Rattle.units.specs.Isolates.{level_of_para}
+use Rattle.units.specs.Limits.{LimitsOf}
 use Rattle.units.specs.declared.bracket.Unit.{Unit as BidiUnit}
 use Rattle.units.specs.declared.level.Direction.{Direction}
 use Rattle.units.specs.declared.level.Direction.TheVariants.{Auto, Ltr, Rtl, AutoRtl}
@@ -69,5 +70,5 @@ unfoldable pub characters_line : (ℕ → BidiUnit) → List ℕ → Finding
 characters_line unit_of line = characters_line_by direction_field unit_of line
 
 -- the verdict on the bytes of a BidiCharacterTest.txt, by the unit of each code point
-unfoldable pub characters_verdict : (ℕ → BidiUnit) → List ℕ → Verdict
-characters_verdict unit_of bytes = verdict_on (map (characters_line unit_of) (lines_of bytes))
+unfoldable pub characters_verdict : LimitsOf → (ℕ → BidiUnit) → List ℕ → Verdict
+characters_verdict limits unit_of bytes = verdict_on limits (map (characters_line unit_of) (lines_of bytes))

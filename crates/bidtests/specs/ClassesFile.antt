@@ -4,6 +4,7 @@ use Rattle.std.specs.List.{starts_with}
 use Rattle.std.specs.Option.{option_map}
 use Rattle.std.specs.Str.{bytes_eq}
 use Rattle.units.specs.ClassNames.{class_of_short}
+use Rattle.units.specs.Limits.{LimitsOf}
 use Rattle.units.specs.Text.{lines_of, longest_line, content_of, fields_of, items_of, number_up_to, each_read}
 use Rattle.units.specs.declared.class.Class.{Class}
 use Rattle.units.specs.declared.bracket.Bracket.TheVariants.{No}
@@ -156,5 +157,5 @@ abbrev pub findings_of : List (List ℕ) → List Finding
 findings_of lines = findings_behind [] (map classes_line lines)
 
 -- the verdict on the bytes of a BidiTest.txt
-unfoldable pub classes_verdict : List ℕ → Verdict
-classes_verdict bytes = verdict_on (findings_of (lines_of bytes))
+unfoldable pub classes_verdict : LimitsOf → List ℕ → Verdict
+classes_verdict limits bytes = verdict_on limits (findings_of (lines_of bytes))

@@ -1,5 +1,6 @@
 -- The two kinds of test files, and the verdict on a file of each.
 use Rattle.std.specs.Prelude.{ℕ, List, map}
+use Rattle.units.specs.Limits.{LimitsOf}
 use Rattle.units.specs.declared.bracket.Unit.{Unit as BidiUnit}
 use Rattle.ucdfiles.specs.Tables.{TablesOf, class_at, bracket_at}
 use Rattle.bidtests.specs.declared.kind.Kind.{Kind}
@@ -18,7 +19,7 @@ abbrev pub findings_by : Kind → List (List ℕ) → List Finding
 findings_by Classes lines = findings_of lines
 findings_by (Characters tables) lines = map (characters_line (unit_by tables.now)) lines
 
--- the verdict on the bytes of a file of this kind
-abbrev pub verdict_of : Kind → List ℕ → Verdict
-verdict_of Classes bytes = classes_verdict bytes
-verdict_of (Characters tables) bytes = characters_verdict (unit_by tables.now) bytes
+-- the verdict on the bytes of a file of this kind, by these limits
+abbrev pub verdict_of : LimitsOf → Kind → List ℕ → Verdict
+verdict_of limits Classes bytes = classes_verdict limits bytes
+verdict_of limits (Characters tables) bytes = characters_verdict limits (unit_by tables.now) bytes

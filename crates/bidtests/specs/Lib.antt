@@ -5,6 +5,7 @@ pub mod CharactersFile
 pub mod FileKinds
 pub mod Headline
 pub mod ThreeDirections
+pub mod StandardVerdicts
 pub mod Readings
 pub mod Standing
 pub mod Rows

@@ -2,6 +2,7 @@
 use Rattle.std.specs.Prelude.{◌≡◌, Option, Some, None, ℕ, ◌+◌, min, List, ◌++◌, map, reverse, length, ⊤}
 use Rattle.std.specs.Borrow.{Bor}
 use Rattle.units.specs.LineCutting.{Cutting, StandsFor}
+use Rattle.units.specs.Limits.{LimitsOf}
 use Rattle.units.specs.Lines.{CutsInto}
 use Rattle.units.specs.declared.line_cut.Step.{Step}
 use Rattle.units.specs.declared.line_cut.Step.TheVariants.{More, Line, TooLong}
@@ -15,16 +16,17 @@ use Rattle.bidtests.specs.ClassesFile.{ClassesLine, LevelsAre, OrderIs, classes_
 use Rattle.bidtests.specs.CharactersFile.{characters_line}
 use Rattle.bidtests.specs.FileKinds.{unit_by, findings_by, verdict_of}
 
--- what a judge keeps between two lines: the lists in force, and how many rows and cases were right
+-- what a judge keeps between two lines: the limits, the lists in force, and how many rows and cases were right
 pub record Standing : Type 0 where
+  pub limits : LimitsOf
   pub levels : Option (List (Option ℕ))
   pub order : Option (List ℕ)
   pub rows : ℕ
   pub cases : ℕ
 
 -- before the first line
-abbrev pub at_start : Standing
-at_start = record { levels = None; order = None; rows = 0; cases = 0 }
+abbrev pub at_start : LimitsOf → Standing
+at_start limits = record { limits = limits; levels = None; order = None; rows = 0; cases = 0 }
 
 -- the levels in force behind a line that says this
 abbrev pub levels_behind : ClassesLine → Option (List (Option ℕ)) → Option (List (Option ℕ))
@@ -48,15 +50,15 @@ cases_behind _ before = before
 
 -- with the row and the cases counted of a line that comes to this
 abbrev pub counted : Finding → Standing → Standing
-counted found s = record { levels = s.levels; order = s.order; rows = rows_behind found s.rows; cases = cases_behind found s.cases }
+counted found s = record { limits = s.limits; levels = s.levels; order = s.order; rows = rows_behind found s.rows; cases = cases_behind found s.cases }
 
 -- with the list in force that a line of a classes file says
 abbrev pub listed : ClassesLine → Standing → Standing
-listed said s = record { levels = levels_behind said s.levels; order = order_behind said s.order; rows = s.rows; cases = s.cases }
+listed said s = record { limits = s.limits; levels = levels_behind said s.levels; order = order_behind said s.order; rows = s.rows; cases = s.cases }
 
 -- with no list in force
 abbrev pub unlisted : Standing → Standing
-unlisted s = record { levels = None; order = None; rows = s.rows; cases = s.cases }
+unlisted s = record { limits = s.limits; levels = None; order = None; rows = s.rows; cases = s.cases }
 
 -- no list is in force
 pub record HasNoLists (s : Standing) : Type 0 where
@@ -87,9 +89,10 @@ AreInForce Classes levels order lines =
     (levels ≡ levels_in_force (reverse (map classes_line lines))) × (order ≡ order_in_force (reverse (map classes_line lines)))
 AreInForce (Characters tables) levels order lines = ⊤
 
--- this is kept behind these lines, none of which is malformed or wrong
-pub record IsBehind (kind : Kind) (s : Standing) (lines : List (List ℕ)) : Type 0 where
-  pub faultless : first_fault 0 (findings_by kind lines) ≡ None
+-- this is kept behind these lines, none of which is malformed or, by these limits, wrong
+pub record IsBehind (limits : LimitsOf) (kind : Kind) (s : Standing) (lines : List (List ℕ)) : Type 0 where
+  pub under : s.limits ≡ limits
+  pub faultless : first_fault limits 0 (findings_by kind lines) ≡ None
   pub lists : AreInForce kind s.levels s.order lines
   pub rows : s.rows ≡ rows_in (findings_by kind lines)
   pub cases : s.cases ≡ cases_in (findings_by kind lines)
@@ -102,30 +105,30 @@ pub record Judging : Type 0 where
   pub decided : Option Verdict
 
 -- undecided: no line that has ended is malformed or wrong
-pub record IsOpen (kind : Kind) (cutting : Cutting) (standing : Standing) (bytes : List ℕ) : Type 0 where
+pub record IsOpen (limits : LimitsOf) (kind : Kind) (cutting : Cutting) (standing : Standing) (bytes : List ℕ) : Type 0 where
   pub cutter : StandsFor cutting bytes
   pub lines : List (List ℕ)
   pub rest : List ℕ
   pub cut : CutsInto bytes lines rest
-  pub behind : IsBehind kind standing lines
+  pub behind : IsBehind limits kind standing lines
 
 -- what holds of the bytes that were handed over: with nothing decided the standing is that behind their lines, else all files that begin so have the verdict that is decided
-abbrev pub JudgesBy : Kind → Option Verdict → Cutting → Standing → List ℕ → Type 0
-JudgesBy kind None cutting standing bytes = IsOpen kind cutting standing bytes
-JudgesBy kind (Some verdict) cutting standing bytes = (more : List ℕ) → verdict_of kind (bytes ++ more) ≡ verdict
+abbrev pub JudgesBy : LimitsOf → Kind → Option Verdict → Cutting → Standing → List ℕ → Type 0
+JudgesBy limits kind None cutting standing bytes = IsOpen limits kind cutting standing bytes
+JudgesBy limits kind (Some verdict) cutting standing bytes = (more : List ℕ) → verdict_of limits kind (bytes ++ more) ≡ verdict
 
--- the judge judges files of this kind, and was handed these bytes, in any pieces
-pub record Judges (kind : Kind) (judge : Judging) (bytes : List ℕ) : Type 0 where
+-- the judge judges files of this kind by these limits, and was handed these bytes, in any pieces
+pub record Judges (limits : LimitsOf) (kind : Kind) (judge : Judging) (bytes : List ℕ) : Type 0 where
   pub of : judge.kind ≡ kind
-  pub is : JudgesBy kind judge.decided judge.cutting judge.standing bytes
+  pub is : JudgesBy limits kind judge.decided judge.cutting judge.standing bytes
 
 -- the no that a line of a classes file of this number gives that says this
 abbrev pub fault_in : Standing → ℕ → ClassesLine → Option Verdict
-fault_in s number said = fault_of number (finding s.levels s.order said)
+fault_in s number said = fault_of s.limits number (finding s.levels s.order said)
 
 -- the no that a line of this number gives
 abbrev pub fault_at : Kind → Standing → ℕ → List ℕ → Option Verdict
-fault_at kind s number line = fault_of number (found_by kind s line)
+fault_at kind s number line = fault_of s.limits number (found_by kind s line)
 
 -- the no that a step of the cutter gives
 abbrev pub fault_by : Kind → Standing → Step → Option Verdict

@@ -1,6 +1,7 @@
 -- The verdict as it is where no row can ask for AutoRtl: a bit set is one digit of 1 to 7, and a direction field `0`, `1` or `2`.
 use Rattle.std.specs.Prelude.{Option, ℕ, Bool, false, ◌-◌, ◌%◌, ◌/◌, ◌==◌, ◌&&◌, nat_le, if◌then◌else◌, List, [], ◌∷◌, filter, map, Some, None, codes}
 use Rattle.std.specs.Str.{bytes_eq}
+use Rattle.units.specs.Limits.{LimitsOf}
 use Rattle.units.specs.Text.{lines_of}
 use Rattle.units.specs.declared.bracket.Unit.{Unit as BidiUnit}
 use Rattle.units.specs.declared.level.Direction.{Direction}
@@ -39,6 +40,6 @@ unfoldable pub three_characters_line : (ℕ → BidiUnit) → List ℕ → Findi
 three_characters_line unit_of line = characters_line_by zero_to_two unit_of line
 
 -- the verdict on the bytes of a file of this kind
-abbrev pub three_verdict_of : Kind → List ℕ → Verdict
-three_verdict_of Classes bytes = verdict_on (findings_behind [] (map three_classes_line (lines_of bytes)))
-three_verdict_of (Characters tables) bytes = verdict_on (map (three_characters_line (unit_by tables.now)) (lines_of bytes))
+abbrev pub three_verdict_of : LimitsOf → Kind → List ℕ → Verdict
+three_verdict_of limits Classes bytes = verdict_on limits (findings_behind [] (map three_classes_line (lines_of bytes)))
+three_verdict_of limits (Characters tables) bytes = verdict_on limits (map (three_characters_line (unit_by tables.now)) (lines_of bytes))

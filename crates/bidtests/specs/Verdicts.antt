@@ -2,6 +2,7 @@
 use Rattle.std.specs.Prelude.{Option, ℕ, ◌+◌, ◌-◌, ◌^◌, min, Bool, true, false, nat_eq, if◌then◌else◌, List, [], ◌∷◌, length, sum_by, count_by, Some, None}
 use Rattle.units.specs.Positions.{is_same}
 use Rattle.units.specs.Layout.{TextLayout, layout_of, all_orders}
+use Rattle.units.specs.Limits.{LimitsOf}
 use Rattle.units.specs.declared.bracket.Unit.{Unit as BidiUnit}
 use Rattle.units.specs.declared.level.Direction.{Direction}
 use Rattle.bidtests.specs.declared.verdict.Cause.{Cause}
@@ -65,11 +66,12 @@ abbrev pub with_place : Direction → Option Place → Option (Direction × Plac
 with_place d None = None
 with_place d (Some place) = Some (d, place)
 
--- the first of these directions whose case is wrong, and where: each case is compared with the layout of the row's text (P1 to L2) without breaks
-abbrev pub wrong_case : Claim → List Direction → Option (Direction × Place)
-wrong_case claim [] = None
-wrong_case claim (d ∷ ds) =
-    or_else (with_place d (wrong_place claim.para claim.levels claim.order (layout_of claim.text d []))) (wrong_case claim ds)
+-- the first of these directions whose case is wrong, and where: each case is compared with the layout of the row's text (P1 to L2) by the
+-- limits, without breaks
+abbrev pub wrong_case : LimitsOf → Claim → List Direction → Option (Direction × Place)
+wrong_case limits claim [] = None
+wrong_case limits claim (d ∷ ds) =
+    or_else (with_place d (wrong_place claim.para claim.levels claim.order (layout_of limits claim.text d []))) (wrong_case limits claim ds)
 
 -- the greatest number that is counted to
 abbrev pub most_counted : ℕ
@@ -85,10 +87,10 @@ wrong_at number None = None
 wrong_at number (Some x) = Some (Wrong number x.0 x.1)
 
 -- the no that a line of this number gives, if it is malformed or holds a wrong case
-abbrev pub fault_of : ℕ → Finding → Option Verdict
-fault_of number Silent = None
-fault_of number (Faulty cause) = Some (Malformed number cause)
-fault_of number (Claims claim) = wrong_at number (wrong_case claim claim.directions)
+abbrev pub fault_of : LimitsOf → ℕ → Finding → Option Verdict
+fault_of limits number Silent = None
+fault_of limits number (Faulty cause) = Some (Malformed number cause)
+fault_of limits number (Claims claim) = wrong_at number (wrong_case limits claim claim.directions)
 
 -- how many cases a line holds: one for each direction that it names
 abbrev pub cases_of : Finding → ℕ
@@ -102,9 +104,9 @@ is_row (Claims claim) = true
 is_row _ = false
 
 -- the no of the least of these lines that gives one, where k lines stand before them
-abbrev pub first_fault : ℕ → List Finding → Option Verdict
-first_fault k [] = None
-first_fault k (f ∷ fs) = or_else (fault_of (line_number k) f) (first_fault (k + 1) fs)
+abbrev pub first_fault : LimitsOf → ℕ → List Finding → Option Verdict
+first_fault limits k [] = None
+first_fault limits k (f ∷ fs) = or_else (fault_of limits (line_number k) f) (first_fault limits (k + 1) fs)
 
 -- how many rows these lines hold
 abbrev pub rows_in : List Finding → ℕ
@@ -120,5 +122,5 @@ or_yes fs (Some verdict) = verdict
 or_yes fs None = Yes (rows_in fs) (cases_in fs)
 
 -- the verdict on a file whose lines come to this
-unfoldable pub verdict_on : List Finding → Verdict
-verdict_on fs = or_yes fs (first_fault 0 fs)
+unfoldable pub verdict_on : LimitsOf → List Finding → Verdict
+verdict_on limits fs = or_yes fs (first_fault limits 0 fs)

@@ -2,6 +2,7 @@
 ghost use Rattle.std.specs.Prelude.{◌≡◌, ◌<◌, ◌≤◌, ◌+◌, ◌++◌, ℕ, List, None, Some, [], ◌∷◌, drop, length, map, nat_eq, MatchOption, IfSome, IsSome};
 ghost use Rattle.std.specs.Option.{option_map};
 ghost use Rattle.units.specs.Layout.{all_orders, layout_of};
+ghost use Rattle.units.specs.Limits.{LimitsOf};
 ghost use Rattle.units.specs.declared.class.Class.{Class};
 ghost use Rattle.units.specs.declared.level.Direction.{Direction};
 ghost use Rattle.units.specs.Isolates.{level_of_para, para_level_of};
@@ -15,12 +16,13 @@ ghost use Rattle.bidtests.specs.Comparisons.{Compares};
 use crate::claim::Claim;
 use crate::verdict::{Place, Verdict};
 use lines::breaks::Breaks;
-use lines::lay_out::lay_out;
+use lines::lay_out::lay_out_with;
 use lines::layout::Layout;
 use lines::scratch::Scratch;
 use std::marker::Brand;
 use std::sync::ledger::{Blank, Ledger};
 use units::level::{Direction, Level, ParaLevel};
+use units::limits::Limits;
 use units::steps::Steps;
 
 /// No level is claimed, or that of the first paragraph.
@@ -113,9 +115,10 @@ fn direction_of(paras: &[ParaLevel]) -> Option<Direction>
     }
 }
 
-/// Compares a claim with a layout of its text, under whichever direction it is.
+/// Compares a claim with a layout of its text, under whichever direction and by whichever limits it is.
 fn compare_with(claim: Claim<'_>, layout: &Layout<'_>) -> Comparison
-    ensures { (direction : Direction) → view_of layout.now ≡ layout_of claim.entry.text.now direction [] → Compares result (claim_of claim.entry) direction }
+    ensures { (limits : LimitsOf) (direction : Direction) → view_of layout.now ≡ layout_of limits claim.entry.text.now direction []
+        → Compares limits result (claim_of claim.entry) direction }
 {
     if !agrees_with(claim.para, layout.para_levels()) {
         return Comparison::Differs(Place::ParaLevel);
@@ -136,37 +139,46 @@ fn compare_counting<L: Ledger>(
     scratch: &mut Scratch,
     claim: Claim<'_>,
     direction: Direction,
+    limits: Limits,
     blank: Blank,
 ) -> Comparison
     requires fits { length claim.text.now ≤ room_of scratch.old }
     requires name { blank.name ≡ L.name }
     requires parts { blank.parts ≡ L.parts }
     requires some { 0 < blank.parts }
-    ensures compares { Compares result (claim_of claim.entry) direction }
+    ensures compares { Compares limits result (claim_of claim.entry) direction }
     ensures room { room_of scratch.new ≡ room_of scratch.old }
 {
     let mut steps = Steps::<L>::new(blank);
     let breaks = no_breaks(claim.text.len());
-    let Ok(layout) = lay_out(scratch, claim.text, direction, &breaks, &mut steps) else {
-        unreachable!()
-    };
+    let laid_out = lay_out_with(scratch, claim.text, direction, &breaks, limits, &mut steps);
+    let Ok(layout) = laid_out else { unreachable!() };
     compare_with(claim, &layout)
 }
 
 /// Compares a claim with the layout of its text under a direction.
-fn compare(scratch: &mut Scratch, claim: Claim<'_>, direction: Direction) -> Comparison
+fn compare(
+    scratch: &mut Scratch,
+    claim: Claim<'_>,
+    direction: Direction,
+    limits: Limits,
+) -> Comparison
     requires { length claim.text.now ≤ room_of scratch.old }
-    ensures compares { Compares result (claim_of claim.entry) direction }
+    ensures compares { Compares limits result (claim_of claim.entry) direction }
     ensures room { room_of scratch.new ≡ room_of scratch.old }
 {
-    compare_counting::<Brand>(scratch, claim, direction, Blank::new(1))
+    compare_counting::<Brand>(scratch, claim, direction, limits, Blank::new(1))
 }
 
 /// The first of the claim's directions under which it differs from the layout, and where. LTR or RTL is passed over
 /// where auto gave the same layout.
-fn first_wrong(scratch: &mut Scratch, claim: Claim<'_>) -> Option<(Direction, Place)>
+fn first_wrong(
+    scratch: &mut Scratch,
+    claim: Claim<'_>,
+    limits: Limits,
+) -> Option<(Direction, Place)>
     requires { length claim.text.now ≤ room_of scratch.old }
-    ensures wrong { result ≡ wrong_case (claim_of claim.entry) claim.entry.directions.now }
+    ensures wrong { result ≡ wrong_case limits (claim_of claim.entry) claim.entry.directions.now }
     ensures room { room_of scratch.new ≡ room_of scratch.old }
 {
     let mut right = None;
@@ -174,7 +186,7 @@ fn first_wrong(scratch: &mut Scratch, claim: Claim<'_>) -> Option<(Direction, Pl
         if right == Some(*direction) {
             continue;
         }
-        match compare(scratch, claim, *direction) {
+        match compare(scratch, claim, *direction, limits) {
             Comparison::Differs(place) => return Some((*direction, place)),
             Comparison::Agrees { also_under } => right = right.or(also_under),
         }
@@ -182,13 +194,18 @@ fn first_wrong(scratch: &mut Scratch, claim: Claim<'_>) -> Option<(Direction, Pl
     None
 }
 
-/// The fault of a row at this line: the no that it gives if its claim is wrong.
-pub fn row_fault(scratch: &mut Scratch, number: u64, claim: Claim<'_>) -> Option<Verdict>
+/// The fault of a row at this line: the no that it gives if its claim is wrong by these limits.
+pub fn row_fault(
+    scratch: &mut Scratch,
+    number: u64,
+    claim: Claim<'_>,
+    limits: Limits,
+) -> Option<Verdict>
     requires { length claim.text.now ≤ room_of scratch.old }
-    ensures fault { result ≡ fault_of number (Claims (claim_of claim.entry)) }
+    ensures fault { result ≡ fault_of limits number (Claims (claim_of claim.entry)) }
     ensures room { room_of scratch.new ≡ room_of scratch.old }
 {
-    let (direction, place) = first_wrong(scratch, claim)?;
+    let (direction, place) = first_wrong(scratch, claim, limits)?;
     Some(Verdict::Wrong {
         line: number,
         direction,

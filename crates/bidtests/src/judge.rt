@@ -2,6 +2,7 @@
 ghost use Rattle.std.specs.Prelude.{◌≡◌, ◌≤◌, ◌++◌, ℕ, List, [], IfOk, IfSome, IsNone, length};
 ghost use Rattle.bidtests.specs.Standing.{Judges, fault_by, after_step, verdict_behind};
 ghost use Rattle.units.specs.LineAnswers.{StepIsShort};
+ghost use Rattle.units.specs.Limits.{LimitsOf, standard};
 ghost use Rattle.units.specs.Text.{longest_line, lines_of};
 ghost use Rattle.bidtests.specs.FileKinds.{findings_by, verdict_of};
 ghost use Rattle.bidtests.specs.Headline.{Says};
@@ -13,12 +14,13 @@ use crate::verdict::{Cause, Verdict};
 use std::alloc::Global;
 use std::marker::Model;
 use ucdfiles::tables::Tables;
+use units::limits::Limits;
 use units::line_cut::{LineCut, Step};
 use units::memory::Memory;
 
 /// Judges the bytes of a test file, in whatever pieces they come. It holds one line, one row's text and the lists in
-/// force, and stops judging at the first no. Contracts say which bytes it stands for: those that were handed over,
-/// joined.
+/// force, and stops judging at the first no. Contracts say by which limits it lays out, and which bytes it stands for:
+/// those that were handed over, joined.
 #[derive(Drop)]
 pub struct Judge<'t> {
     kind: Kind<'t>,
@@ -65,29 +67,49 @@ fn judge_last(kind: Kind<'_>, sheet: &mut Sheet, last: Option<(u64, &[u8])>) -> 
 }
 
 impl<'t> Judge<'t> {
-    /// A judge of a BidiTest.txt, before its first byte. All memory is taken here: `Memory` is answered where some of
-    /// it was refused.
+    /// A judge of a BidiTest.txt, before its first byte, by the standard limits. All memory is taken here: `Memory`
+    /// is answered where some of it was refused.
     pub fn for_classes(alloc: Global) -> Result<Judge<'static>, Memory>
-        ensures { IfOk result (λ judge. Judges FileKind.Classes judge []) }
+        ensures { IfOk result (λ judge. Judges standard FileKind.Classes judge []) }
     {
-        Judge::of_kind(alloc, Kind::Classes)
+        Judge::for_classes_with(alloc, Limits::standard())
     }
 
-    /// A judge of a BidiCharacterTest.txt, before its first byte; the units of its code points come from the tables.
-    /// All memory is taken here: `Memory` is answered where some of it was refused.
+    /// A judge of a BidiTest.txt, before its first byte, that lays out by these limits. All memory is taken here:
+    /// `Memory` is answered where some of it was refused.
+    pub fn for_classes_with(alloc: Global, limits: Limits) -> Result<Judge<'static>, Memory>
+        ensures { IfOk result (λ judge. Judges limits FileKind.Classes judge []) }
+    {
+        Judge::of_kind(alloc, Kind::Classes, limits)
+    }
+
+    /// A judge of a BidiCharacterTest.txt, before its first byte, by the standard limits; the units of its code
+    /// points come from the tables. All memory is taken here: `Memory` is answered where some of it was refused.
     pub fn for_characters(alloc: Global, tables: &'t Tables) -> Result<Judge<'t>, Memory>
-        ensures { IfOk result (λ judge. Judges (FileKind.Characters tables.entry) judge []) }
+        ensures { IfOk result (λ judge. Judges standard (FileKind.Characters tables.entry) judge []) }
     {
-        Judge::of_kind(alloc, Kind::Characters(tables))
+        Judge::for_characters_with(alloc, tables, Limits::standard())
     }
 
-    fn of_kind(alloc: Global, kind: Kind<'t>) -> Result<Judge<'t>, Memory>
-        ensures { IfOk result (λ judge. Judges kind.entry judge []) }
+    /// A judge of a BidiCharacterTest.txt, before its first byte, that lays out by these limits; the units of its
+    /// code points come from the tables. All memory is taken here: `Memory` is answered where some of it was refused.
+    pub fn for_characters_with(
+        alloc: Global,
+        tables: &'t Tables,
+        limits: Limits,
+    ) -> Result<Judge<'t>, Memory>
+        ensures { IfOk result (λ judge. Judges limits (FileKind.Characters tables.entry) judge []) }
+    {
+        Judge::of_kind(alloc, Kind::Characters(tables), limits)
+    }
+
+    fn of_kind(alloc: Global, kind: Kind<'t>, limits: Limits) -> Result<Judge<'t>, Memory>
+        ensures { IfOk result (λ judge. Judges limits kind.entry judge []) }
     {
         Ok(Judge {
             kind,
             cutter: LineCut::new(),
-            sheet: Sheet::new(alloc)?,
+            sheet: Sheet::new(alloc, limits)?,
             decided: None,
         })
     }
@@ -95,7 +117,7 @@ impl<'t> Judge<'t> {
     /// Hands over the next bytes of the file, as many or as few as there are: where pieces begin and end changes
     /// nothing. Once a no is decided, further bytes change nothing. It takes no memory and always succeeds.
     pub fn feed(&mut self, piece: &[u8])
-        ensures { (kind : FileKind) (b : List ℕ) → Judges kind self.old b → Judges kind self.new (b ++ piece.now) }
+        ensures { (limits : LimitsOf) (kind : FileKind) (b : List ℕ) → Judges limits kind self.old b → Judges limits kind self.new (b ++ piece.now) }
     {
         let mut at = 0;
         while at < piece.len() {
@@ -112,8 +134,9 @@ impl<'t> Judge<'t> {
     /// holds a wrong case, or yes with the numbers of rows and cases. What it says of the file is so, and no other
     /// verdict would be (`laws::verdict_law`). It takes no memory and always succeeds.
     pub fn finish(mut self) -> Verdict
-        ensures verdict { (kind : FileKind) (b : List ℕ) → Judges kind self.entry b → result ≡ verdict_of kind b }
-        ensures says { (kind : FileKind) (b : List ℕ) → Judges kind self.entry b → Says (findings_by kind (lines_of b)) result }
+        ensures verdict { (limits : LimitsOf) (kind : FileKind) (b : List ℕ) → Judges limits kind self.entry b → result ≡ verdict_of limits kind b }
+        ensures says { (limits : LimitsOf) (kind : FileKind) (b : List ℕ) → Judges limits kind self.entry b
+            → Says limits (findings_by kind (lines_of b)) result }
     {
         match self.decided {
             Some(verdict) => verdict,

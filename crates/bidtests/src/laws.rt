@@ -1,6 +1,7 @@
 //! The law of the verdicts.
 ghost use Rattle.std.specs.Prelude.{◌≡◌, ◌↔◌, ◌<◌, ℕ, List, Some, length};
 ghost use Rattle.std.specs.List.{slice_get};
+ghost use Rattle.units.specs.Limits.{LimitsOf};
 ghost use Rattle.units.specs.Text.{lines_of};
 ghost use Rattle.units.specs.declared.level.Direction.{Direction};
 ghost use Rattle.bidtests.specs.declared.kind.Kind.{Kind};
@@ -10,7 +11,7 @@ ghost use Rattle.bidtests.specs.declared.verdict.Verdict.TheVariants.{Yes, Malfo
 ghost use Rattle.bidtests.specs.FileKinds.{findings_by, verdict_of};
 ghost use Rattle.bidtests.specs.Headline.{line_comes_to, AllAreRight, FirstIsMalformed, FirstIsWrong};
 
-/// What the verdicts on the files of both kinds say.
+/// What the verdicts on the files of both kinds say, for each choice of limits.
 ///
 /// `yes`: with these numbers of rows and cases, at most 2^64 - 1, exactly if no line is malformed and each row's
 /// claim is, for each direction that it names, the layout of its text by the rules P1 to L2: the level of the first
@@ -23,8 +24,11 @@ ghost use Rattle.bidtests.specs.Headline.{line_comes_to, AllAreRight, FirstIsMal
 /// BidiTest.txt, by the lists in force behind the lines before it.
 pub fn verdict_law()
     ensures line { (kind : Kind) (lines : List (List ℕ)) (k : ℕ) → k < length lines → slice_get (findings_by kind lines) k ≡ Some (line_comes_to kind lines k) }
-    ensures yes { (kind : Kind) (b : List ℕ) (rows cases : ℕ) → (verdict_of kind b ≡ Yes rows cases) ↔ AllAreRight (findings_by kind (lines_of b)) rows cases }
-    ensures malformed { (kind : Kind) (b : List ℕ) (number : ℕ) (cause : Cause) → (verdict_of kind b ≡ Malformed number cause) ↔ FirstIsMalformed (findings_by kind (lines_of b)) number cause }
-    ensures wrong { (kind : Kind) (b : List ℕ) (number : ℕ) (direction : Direction) (place : Place)
-        → (verdict_of kind b ≡ Wrong number direction place) ↔ FirstIsWrong (findings_by kind (lines_of b)) number direction place }
+    ensures yes { (limits : LimitsOf) (kind : Kind) (b : List ℕ) (rows cases : ℕ)
+        → (verdict_of limits kind b ≡ Yes rows cases) ↔ AllAreRight limits (findings_by kind (lines_of b)) rows cases }
+    ensures malformed { (limits : LimitsOf) (kind : Kind) (b : List ℕ) (number : ℕ) (cause : Cause)
+        → (verdict_of limits kind b ≡ Malformed number cause) ↔ FirstIsMalformed limits (findings_by kind (lines_of b)) number cause }
+    ensures wrong { (limits : LimitsOf) (kind : Kind) (b : List ℕ) (number : ℕ) (direction : Direction) (place : Place)
+        → (verdict_of limits kind b ≡ Wrong number direction place)
+        ↔ FirstIsWrong limits (findings_by kind (lines_of b)) number direction place }
 {}

@@ -1,5 +1,6 @@
 //! Files judged as they are read.
 ghost use Rattle.std.specs.Prelude.{◌≡◌, ◌↔◌, ◌++◌, ℕ, List, IfOk, OnOk, IsErr};
+ghost use Rattle.units.specs.Limits.{LimitsOf};
 ghost use Rattle.bidtests.specs.Standing.{Judges};
 ghost use Rattle.bidtests.specs.FileKinds.{verdict_of};
 ghost use Rattle.bidtests.specs.declared.kind.Kind.{Kind};
@@ -22,7 +23,8 @@ pub fn judge_reader<S: ByteSource>(
     ensures fault { IsErr result ↔ (S.failures source.new ≡ 1) }
     ensures whole { OnOk result (S.ended source.new) }
     ensures verdict { IfOk result (λ verdict. (given : List ℕ) × S.gives source.old given source.new
-        × ((kind : Kind) (b : List ℕ) → Judges kind judge.entry b → verdict ≡ verdict_of kind (b ++ given))) }
+        × ((limits : LimitsOf) (kind : Kind) (b : List ℕ) → Judges limits kind judge.entry b
+        → verdict ≡ verdict_of limits kind (b ++ given))) }
 {
     let mut piece = [0; 4096];
     loop {

@@ -21,6 +21,7 @@ use std::marker::Model;
 use ucdfiles::tables::Tables;
 use units::bracket::Unit;
 use units::level::Level;
+use units::limits::Limits;
 use units::memory::Memory;
 use units::text::trim::content;
 
@@ -28,10 +29,11 @@ use units::text::trim::content;
 /// before it.
 const MOST_UNITS: usize = 32_768;
 
-/// The room for layouts, a row's text, the lists in force or those of a row, and the counts. What judges a line
+/// The limits and the room for layouts, a row's text, the lists in force or those of a row, and the counts. What judges a line
 /// answers its fault: the no that it gives if it is malformed or wrong.
 #[derive(Drop)]
 pub struct Sheet {
+    limits: Limits,
     scratch: Scratch,
     text: Vec<Unit>,
     levels: Vec<Option<Level>>,
@@ -51,7 +53,7 @@ impl Model for Sheet {
 
     ghost Value = { Standing };
 
-    ghost view = { λ s. record { levels = if_read s.has_levels s.levels.items; order = if_read s.has_order s.order.items; rows = s.rows; cases = s.cases } };
+    ghost view = { λ s. record { limits = s.limits; levels = if_read s.has_levels s.levels.items; order = if_read s.has_order s.order.items; rows = s.rows; cases = s.cases } };
 
     ghost invariant = { λ s. (room_of s.scratch ≡ MOST_UNITS) × (MOST_UNITS ≤ vec_capacity s.text) × (MOST_UNITS ≤ vec_capacity s.levels) × (MOST_UNITS ≤ vec_capacity s.order) };
 }
@@ -76,14 +78,15 @@ impl Sheet {
     ghost use Rattle.bidtests.specs.Standing.{at_start, unlisted, counted, HasNoLists, fault_in, fault_at, after_said, after_line};
 
     /// A sheet before the first line.
-    pub fn new(alloc: Global) -> Result<Self, Memory>
-        ensures { IfOk result (λ sheet. sheet ≡ at_start) }
+    pub fn new(alloc: Global, limits: Limits) -> Result<Self, Memory>
+        ensures { IfOk result (λ sheet. sheet ≡ at_start limits) }
     {
         let scratch = scratch(alloc)?;
         let text = Vec::with_capacity(alloc, MOST_UNITS)?;
         let levels = Vec::with_capacity(alloc, MOST_UNITS)?;
         let order = Vec::with_capacity(alloc, MOST_UNITS)?;
         Ok(Sheet {
+            limits,
             scratch,
             text,
             levels,
@@ -160,7 +163,7 @@ impl Sheet {
             levels: &self.levels,
             order: &self.order,
         };
-        let fault = row_fault(&mut self.scratch, number, claim);
+        let fault = row_fault(&mut self.scratch, number, claim, self.limits);
         self.rows = self.rows.saturating_add(1);
         self.cases = self.cases.saturating_add(directions.len() as u64);
         fault
@@ -170,7 +173,7 @@ impl Sheet {
     fn judge_characters(&mut self, number: u64, content: &[u8], tables: &Tables) -> Option<Verdict>
         requires short { length content.now ≤ longest_line }
         requires lists { HasNoLists self.old }
-        ensures fault { result ≡ fault_of number (row_of_fields (unit_by tables.now) (fields_of content.now)) }
+        ensures fault { result ≡ fault_of self.old.limits number (row_of_fields (unit_by tables.now) (fields_of content.now)) }
         ensures standing { IsNone result → self.new ≡ counted (row_of_fields (unit_by tables.now) (fields_of content.now)) self.old }
     {
         let (direction, para) = match read_characters(
@@ -190,7 +193,7 @@ impl Sheet {
             levels: &self.levels,
             order: &self.order,
         };
-        let fault = row_fault(&mut self.scratch, number, claim);
+        let fault = row_fault(&mut self.scratch, number, claim, self.limits);
         self.rows = self.rows.saturating_add(1);
         self.cases = self.cases.saturating_add(1);
         fault
@@ -220,7 +223,7 @@ impl Sheet {
         tables: &Tables,
     ) -> Option<Verdict>
         requires { length line.now ≤ longest_line }
-        ensures fault { result ≡ fault_of number (characters_line (unit_by tables.now) line.now) }
+        ensures fault { result ≡ fault_of self.old.limits number (characters_line (unit_by tables.now) line.now) }
         ensures standing { IsNone result → self.new ≡ counted (characters_line (unit_by tables.now) line.now) (unlisted self.old) }
     {
         self.has_levels = false;

@@ -11,6 +11,7 @@ use std::process::Abort;
 use std::test::Fail;
 use units::cut_source::CutSource;
 use units::level::Direction;
+use units::limits::Limits;
 use units::memory::Memory;
 use units::slice_source::SliceSource;
 
@@ -199,6 +200,26 @@ fn the_deepest_levels(rt: HostRuntime) -> Result<(), Fail> {
             yes(1, 1),
         )?;
     }
+    Ok(())
+}
+
+/// X4: at depth 1 the LRE, which asks for level 2, is refused; at that of the standard it is not.
+#[test]
+fn the_depth_is_that_which_is_handed_in(rt: HostRuntime) -> Result<(), Fail> {
+    let alloc = rt.alloc();
+    let at_one = b"@Levels: x x 1\n@Reorder: 2\nRLE LRE R; 2\n";
+    let judge = Judge::for_classes_with(alloc, Limits::new(1, 63)?)?;
+    assert_eq!(&rt; fed(judge, at_one, 7), yes(1, 1));
+    let judge = Judge::for_classes_with(alloc, Limits::standard())?;
+    let differs = wrong(3, Direction::Ltr, Place::Levels(2));
+    assert_eq!(&rt; fed(judge, at_one, 7), differs);
+    expect(&rt, alloc, at_one, differs)?;
+    expect(
+        &rt,
+        alloc,
+        b"@Levels: x x 3\n@Reorder: 2\nRLE LRE R; 2\n",
+        yes(1, 1),
+    )?;
     Ok(())
 }
 

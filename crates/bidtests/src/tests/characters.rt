@@ -13,6 +13,7 @@ use ucdfiles::mirror_table::MirrorTable;
 use ucdfiles::tables::Tables;
 use units::cut_source::CutSource;
 use units::level::Direction;
+use units::limits::Limits;
 use units::memory::Memory;
 use units::slice_source::SliceSource;
 
@@ -26,6 +27,9 @@ const BRACKETS: &[u8] = b"0028; 0029; o\n0029; 0028; c\n005B; 005D; o\n005D; 005
 const MIRRORS: &[u8] = b"0028; 0029\n0029; 0028\n003C; 003E\n003E; 003C\n005B; 005D\n005D; 005B\n";
 
 const PARA_DIFFERS: &[u8] = b"0061;0;1;0;0\n";
+
+/// A pair of brackets, canonically equivalent, around R and before R: each takes the paragraph's level.
+const PAIR: &[u8] = b"0061 2329 05D0 3009 05D1;0;0;0 0 1 0 1;0 1 2 3 4\n";
 
 /// The tables that these files state.
 pub fn tables(alloc: Global) -> Result<Tables, TableFault> {
@@ -60,7 +64,7 @@ fn rows_that_are_right(rt: HostRuntime) -> Result<(), Fail> {
         b"0627 0031;0;0;1 2;1 0\n",
         b"05D0 0028 0061 0029 05D1;1;1;1 1 2 1 1;4 3 2 1 0\n",
         b"0061 0028 05D0 0029;0;0;0 0 1 0;0 1 2 3\n",
-        b"0061 2329 05D0 3009 05D1;0;0;0 0 1 0 1;0 1 2 3 4\n",
+        PAIR,
         b"0061 0028 005D 05D0 0029 05D1;0;0;0 0 0 1 0 1;0 1 2 3 4 5\n",
         b"0020;3;1;1;0\n",
     ] {
@@ -107,6 +111,22 @@ fn rows_that_are_wrong(rt: HostRuntime) -> Result<(), Fail> {
         (b"05D0 05D1;2;1;1 1;0 1\n", Direction::Auto, Place::Order(0)),
     ] {
         expect(&rt, alloc, &tables, line, wrong(1, direction, place))?;
+    }
+    Ok(())
+}
+
+/// BD16: where no bracket can be open no pair counts, and where one can be, the pair does.
+#[test]
+fn the_open_brackets_are_as_many_as_are_handed_in(rt: HostRuntime) -> Result<(), Fail> {
+    let alloc = rt.alloc();
+    let tables = tables(alloc)?;
+    for (brackets, verdict) in [
+        (0, wrong(1, Direction::Ltr, Place::Levels(3))),
+        (1, yes(1, 1)),
+    ] {
+        let limits = Limits::new(125, brackets)?;
+        let judge = Judge::for_characters_with(alloc, &tables, limits)?;
+        assert_eq!(&rt; fed(judge, PAIR, 7), verdict);
     }
     Ok(())
 }

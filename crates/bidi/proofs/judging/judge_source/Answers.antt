@@ -1,5 +1,6 @@
 use Rattle.std.proofs.Common.{◌≡◌, ℕ, List, Option, [], ap, ◌∙◌, subst}
 use Rattle.std.specs.Io.KnownBytes.{Appends}
+use Rattle.units.specs.Limits.{standard}
 use Rattle.bidtests.specs.declared.verdict.Verdict.{Verdict}
 use Rattle.bidtests.specs.declared.kind.Kind.{Kind}
 use Rattle.bidtests.specs.Standing.{Judges}
@@ -19,6 +20,6 @@ returns-clause-verdict g c =
     let judged = c.in-Ok.ensures.verdict in (
       judged.0,
       judged.1,
-      λ (kind : Kind) (stands : Judges kind c.args.judge []).
-          says _ _ c.in-Ok.verdict _ _ (judged.2 kind [] stands) c.status_of.ensures.status c.in_ok-print_verdict.ensures.text,
+      λ (kind : Kind) (stands : Judges standard kind c.args.judge []).
+          says _ _ c.in-Ok.verdict _ _ (judged.2 standard kind [] stands) c.status_of.ensures.status c.in_ok-print_verdict.ensures.text,
     )

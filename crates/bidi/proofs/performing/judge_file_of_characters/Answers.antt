@@ -1,5 +1,6 @@
 use Rattle.std.proofs.Common.{ℕ, List, Option, Result, Ok, Err, IfOk, OnOk, refl}
 use Rattle.ucdfiles.specs.Tables.{TablesOf}
+use Rattle.units.specs.Limits.{standard}
 use Rattle.bidtests.specs.CharactersFile.{characters_verdict}
 use Rattle.bidtests.specs.FileKinds.{unit_by}
 use Rattle.bidi.specs.Judged.{HasJudged, IsCharactersVerdict, SaysVerdict}
@@ -11,12 +12,12 @@ judged : {S : Type 0} (opens : List ℕ → ℕ → S → Type 0) (gives : S →
     (folder file : List ℕ) (tables : TablesOf) (opened closed : S) (before after : Option (List ℕ)) (r : Result ℕ Fault)
     → AreTables (WasReadWhole opens gives ended) folder tables → opens file most_file_bytes opened → OnOk r (ended closed)
     → IfOk r (λ status. (given : List ℕ) × gives opened given closed
-    × SaysVerdict before after (characters_verdict (unit_by tables) given) status)
+    × SaysVerdict before after (characters_verdict standard (unit_by tables) given) status)
     → IfOk r (HasJudged (WasReadWhole opens gives ended) (IsCharactersVerdict (WasReadWhole opens gives ended) folder) file before after)
 judged opens gives ended folder file tables opened closed before after (Ok status) stated as_named whole verdict = record {
   bytes = verdict.0;
   read = record { opened = opened; closed = closed; as_named = as_named; given = verdict.1; whole = whole };
-  verdict = characters_verdict (unit_by tables) verdict.0;
+  verdict = characters_verdict standard (unit_by tables) verdict.0;
   is = (tables, stated, refl);
   said = verdict.2;
 }

@@ -6,4 +6,4 @@ use Rattle.bidi.proofs.print.print_levels_of.Goals as goal
 pub print_paragraphs-requires-clause-levels : goal.print_paragraphs-requires-clause-levels
 print_paragraphs-requires-clause-levels g c =
     let laid = rw c.unwrap-layout.ensures at c.lay_out.ensures.laid_out in
-    ap (λ (layout : TextLayout). length layout.levels) laid ∙ length-levels _ _ _ ∙ c.requires.units
+    ap (λ (layout : TextLayout). length layout.levels) laid ∙ length-levels _ _ _ _ ∙ c.requires.units

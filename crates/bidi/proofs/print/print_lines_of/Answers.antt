@@ -6,4 +6,4 @@ use Rattle.bidi.proofs.print.print_lines_of.Goals as goal
 pub print_lines-requires-clause-levels : goal.print_lines-requires-clause-levels
 print_lines-requires-clause-levels g c =
     let laid = rw c.unwrap-layout.ensures at c.lay_out.ensures.laid_out in
-    ap (λ (layout : TextLayout). length layout.levels) laid ∙ length-levels _ _ _ ∙ c.requires.units
+    ap (λ (layout : TextLayout). length layout.levels) laid ∙ length-levels _ _ _ _ ∙ c.requires.units

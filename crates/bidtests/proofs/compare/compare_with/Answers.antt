@@ -11,11 +11,11 @@ use Rattle.bidtests.proofs.compare.compare_with.Goals as goal
 pub returns-in-None : goal.returns-in-None
 unfolding layout_of
 returns-in-None c =
-    λ direction laid.
-    let right : IsRight (claim_of c.args.claim) direction = search rules in
+    λ limits direction laid.
+    let right : IsRight limits (claim_of c.args.claim) direction = search rules in
     let paras : map level_of_para c.para_levels-in-None.result.now ≡ para_levels_of c.args.claim.text.now direction =
     c.para_levels-in-None.ensures ∙ ap (λ (v : TextLayout). v.paras) laid in (
       right,
-      also-right (claim_of c.args.claim) direction c.direction_of.result (map level_of_para c.para_levels-in-None.result.now) paras c.direction_of.ensures.level right,
+      also-right limits (claim_of c.args.claim) direction c.direction_of.result (map level_of_para c.para_levels-in-None.result.now) paras c.direction_of.ensures.level right,
       λ one. c.direction_of.ensures.one (sym (length-map c.para_levels-in-None.result.now level_of_para) ∙ ap length paras ∙ length-map (paragraphs_of c.args.claim.text.now) _ ∙ one),
     )

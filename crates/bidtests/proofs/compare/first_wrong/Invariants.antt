@@ -8,7 +8,7 @@ use Rattle.bidtests.proofs.compare.first_wrong.Given as goal
 
 abbrev pub invariant-loop-direction : goal.invariant-loop-direction
 invariant-loop-direction l = record {
-  rest : wrong_case (claim_of l.claim) l.claim.directions.now ≡ wrong_case (claim_of l.claim) (drop l.direction-index l.claim.directions.now);
-  right : IfSome l.right (IsRight (claim_of l.claim));
+  rest : wrong_case l.limits (claim_of l.claim) l.claim.directions.now ≡ wrong_case l.limits (claim_of l.claim) (drop l.direction-index l.claim.directions.now);
+  right : IfSome l.right (IsRight l.limits (claim_of l.claim));
   room : room_of l.scratch ≡ room_of l.fn.scratch;
 }

@@ -6,7 +6,7 @@ use Rattle.bidtests.proofs.laws.verdict_law.Goals as goal
 pub returns : goal.returns
 returns c = record {
   line = line-found;
-  yes = λ kind b rows cases. file-law kind b (Yes rows cases);
-  malformed = λ kind b number cause. file-law kind b (Malformed number cause);
-  wrong = λ kind b number direction place. file-law kind b (Wrong number direction place);
+  yes = λ limits kind b rows cases. file-law limits kind b (Yes rows cases);
+  malformed = λ limits kind b number cause. file-law limits kind b (Malformed number cause);
+  wrong = λ limits kind b number direction place. file-law limits kind b (Wrong number direction place);
 }

@@ -1,4 +1,5 @@
 use Rattle.std.proofs.Common.{ℕ, List, ◌++◌}
+use Rattle.units.specs.Limits.{LimitsOf}
 use Rattle.bidtests.specs.declared.kind.Kind.{Kind}
 use Rattle.bidtests.specs.Standing.{Judges}
 use Rattle.bidtests.proofs.reader.judge_reader.Given as goal
@@ -7,7 +8,7 @@ abbrev pub invariant-loop-judge : goal.invariant-loop-judge
 invariant-loop-judge g l =
     (given : List ℕ)
     × g.S.ByteSource.gives l.initial.source given l.source
-    × ((kind : Kind) (b : List ℕ) → Judges kind l.initial.judge b → Judges kind l.judge (b ++ given))
+    × ((limits : LimitsOf) (kind : Kind) (b : List ℕ) → Judges limits kind l.initial.judge b → Judges limits kind l.judge (b ++ given))
 
 abbrev pub decreases-loop-judge : goal.decreases-loop-judge
 decreases-loop-judge g l = g.S.ByteSource.room l.source

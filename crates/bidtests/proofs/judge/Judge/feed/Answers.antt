@@ -5,8 +5,8 @@ use Rattle.bidtests.proofs.Pieces.{joined, within}
 use Rattle.bidtests.proofs.judge.Judge.feed.Goals as goal
 
 pub returns-then-is_some : goal.returns-then-is_some
-returns-then-is_some c = λ kind b j.
-    feeds-some kind _ b c.args.piece.now c.loop-at.at (sym c.is_some.ensures ∙ c.if-is_some.true) (c.loop-at.invariant.judges kind b j)
+returns-then-is_some c = λ limits kind b j.
+    feeds-some limits kind _ b c.args.piece.now c.loop-at.at (sym c.is_some.ensures ∙ c.if-is_some.true) (c.loop-at.invariant.judges limits kind b j)
 
 pub loop-at-preserved : goal.loop-at-preserved
 loop-at-preserved c =
@@ -18,9 +18,9 @@ loop-at-preserved c =
     let j : Judging = record { kind = self.kind; cutting = self.cutter; standing = self.sheet; decided = self.decided } in
     record {
       within = within at used piece c.loop-at.invariant.within c.take.ensures.used;
-      judges = λ kind b s.
+      judges = λ limits kind b s.
           rw (joined at used piece b)
           (feeds-on j c.take.follows.lender-at-none c.judge_step-self-inside.new.sheet c.judge_step-self-inside.result rest used c.take.result.1
           (none-from self.decided (sym c.is_some.ensures ∙ c.if-is_some.false)) c.take.ensures.used c.take.ensures.through c.take.ensures.answer c.take.follows.holds-at-none
-          c.judge_step-self-inside.ensures.fault c.judge_step-self-inside.ensures.standing kind (b ++ take at piece) (c.loop-at.invariant.judges kind b s));
+          c.judge_step-self-inside.ensures.fault c.judge_step-self-inside.ensures.standing limits kind (b ++ take at piece) (c.loop-at.invariant.judges limits kind b s));
     }
