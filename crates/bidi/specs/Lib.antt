@@ -1,12 +1,16 @@
 pub mod Columns
+pub mod FailingFiles
 pub mod FaultText
 pub mod Judged
 pub mod LevelsText
+pub mod MemoryFiles
 pub mod Outcomes
 pub mod Printed
 pub mod PrintedTexts
 pub mod ReadFiles
 pub mod ReorderText
 pub mod Rows
+pub mod Steps
+pub mod SystemFiles
 pub mod TableFaults
 pub mod VerdictText

@@ -22,6 +22,7 @@ mod table_files;
 mod tests;
 mod verdict_line;
 
+use command_line::request_of;
 use fault::Fault;
 use files::SystemFiles;
 use run::run;
@@ -36,7 +37,8 @@ fn run_with_words<E: Write>(rt: &HostRuntime, err: &mut E) -> io::Result<u8> {
     let owned: Vec<String> = env::args(rt)?.collect(alloc)?;
     let words: Vec<&str> = owned.iter().map(|word| word.as_str()).collect(alloc)?;
     let mut out = BufWriter::new(alloc, rt.stdout())?;
-    Ok(run(alloc, &words, &mut SystemFiles::new(rt), &mut out, err))
+    let read = request_of(alloc, &words);
+    Ok(run(alloc, read, &SystemFiles::new(rt), &mut out, err))
 }
 
 /// Why there are no words to run with.

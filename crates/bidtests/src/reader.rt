@@ -21,6 +21,7 @@ pub fn judge_reader<S: ByteSource>(
 ) -> Result<Verdict, ReadFault>
     ensures fault { IsErr result ↔ (S.failures source.new ≡ 1) }
     ensures whole { OnOk result (S.ended source.new) }
+    ensures given { (given : List ℕ) × S.gives source.old given source.new }
     ensures verdict { IfOk result (λ verdict. (given : List ℕ) × S.gives source.old given source.new
         × ((kind : Kind) (b : List ℕ) → Judges kind judge.entry b → verdict ≡ verdict_of kind (b ++ given))) }
 {

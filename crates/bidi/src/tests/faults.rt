@@ -1,3 +1,4 @@
+use crate::command_line::request_of;
 use crate::fault::PrintFault;
 use crate::run::run;
 use crate::tests::memory::{
@@ -40,10 +41,7 @@ fn says_that_a_file_was_not_read(rt: HostRuntime) {
     }
 
     for readable in [0, 5, 12, 28] {
-        let failing = FailingFiles {
-            bytes: WRONG_UNDER_RTL,
-            readable,
-        };
+        let failing = FailingFiles::new(&WRONG_UNDER_RTL[..readable]);
         let outcome = outcome_over(alloc, &CLASSES_FILE, failing);
         assert_eq!(rt; outcome.status, 3, "{readable}");
         assert!(rt; outcome.out.written().is_empty(), "{readable}");
@@ -95,8 +93,14 @@ fn says_that_a_text_was_not_read(rt: HostRuntime) {
                 flushes: false,
             };
             let mut err = FixedWriter::new();
-            let mut files = MemoryFiles { files: &files };
-            let status = run(rt.alloc(), &words, &mut files, &mut out, &mut err);
+            let files = MemoryFiles::new(&files);
+            let status = run(
+                rt.alloc(),
+                request_of(rt.alloc(), &words),
+                &files,
+                &mut out,
+                &mut err,
+            );
             assert_eq!(rt; status, 3);
             assert_eq!(rt; err.written(), line);
         }
@@ -249,8 +253,8 @@ fn says_that_a_write_failed(rt: HostRuntime) {
     for (words, left, flushes) in rows {
         let mut out = ShortWriter { left, flushes };
         let mut err = FixedWriter::new();
-        let mut files = MemoryFiles { files: &files };
-        let status = run(alloc, words, &mut files, &mut out, &mut err);
+        let files = MemoryFiles::new(&files);
+        let status = run(alloc, request_of(alloc, words), &files, &mut out, &mut err);
         assert_eq!(rt; status, 3, "{words:?}");
         assert_eq!(rt;
             err.written(),
@@ -274,8 +278,14 @@ fn keeps_the_status_where_the_fault_line_is_not_taken(rt: HostRuntime) {
             left: 5,
             flushes: false,
         };
-        let mut files = MemoryFiles { files: &[] };
-        let answer = run(rt.alloc(), words, &mut files, &mut out, &mut err);
+        let files = MemoryFiles::new(&[]);
+        let answer = run(
+            rt.alloc(),
+            request_of(rt.alloc(), words),
+            &files,
+            &mut out,
+            &mut err,
+        );
         assert_eq!(rt; answer, status, "{words:?}");
     }
 }
