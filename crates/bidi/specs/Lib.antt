@@ -1,4 +1,5 @@
 pub mod Columns
+pub mod CommandLine
 pub mod FailingFiles
 pub mod FaultText
 pub mod Judged

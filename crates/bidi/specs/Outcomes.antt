@@ -10,6 +10,7 @@ use Rattle.bidi.specs.declared.fault.Fault.{Fault}
 use Rattle.bidi.specs.declared.fault.Fault.TheVariants.{Refused, CannotWrite, OutOfMemory}
 use Rattle.bidi.specs.declared.outcome.Outcome.{Outcome}
 use Rattle.bidi.specs.declared.outcome.Outcome.TheVariants.{Judged, Printed, Helped}
+use Rattle.bidi.specs.CommandLine.{IsReadAs}
 use Rattle.bidi.specs.FaultText.{fault_status}
 use Rattle.bidi.specs.Judged.{HasJudged, IsClassesVerdict, IsCharactersVerdict}
 use Rattle.bidi.specs.Printed.{HasPrinted}
@@ -56,7 +57,13 @@ ComesTo files before after (Err error) (Err OutOfMemory) = (kind_of error ≡ ki
 ComesTo files before after (Err error) (Err _) = ⊥
 
 -- words that were read so came to what that asks for, and the run ended with its status
-pub record HasRun (files : FileFacts) (before after : Option (List ℕ)) (read : Result Request Error) (status : ℕ) : Type 0 where
+pub record HasEnded (files : FileFacts) (before after : Option (List ℕ)) (read : Result Request Error) (status : ℕ) : Type 0 where
   pub outcome : Result Outcome Fault
   pub comes : ComesTo files before after read outcome
   pub status_is : status ≡ outcome_status outcome
+
+-- the words were read, and the run came to what that asks for
+pub record HasRun (files : FileFacts) (before after : Option (List ℕ)) (words : List (List ℕ)) (status : ℕ) : Type 0 where
+  pub read : Result Request Error
+  pub is : IsReadAs words read
+  pub ended : HasEnded files before after read status

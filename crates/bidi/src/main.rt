@@ -22,7 +22,6 @@ mod table_files;
 mod tests;
 mod verdict_line;
 
-use command_line::request_of;
 use fault::Fault;
 use files::SystemFiles;
 use run::run;
@@ -37,8 +36,7 @@ fn run_with_words<E: Write>(rt: &HostRuntime, err: &mut E) -> io::Result<u8> {
     let owned: Vec<String> = env::args(rt)?.collect(alloc)?;
     let words: Vec<&str> = owned.iter().map(|word| word.as_str()).collect(alloc)?;
     let mut out = BufWriter::new(alloc, rt.stdout())?;
-    let read = request_of(alloc, &words);
-    Ok(run(alloc, read, &SystemFiles::new(rt), &mut out, err))
+    Ok(run(alloc, &words, &SystemFiles::new(rt), &mut out, err))
 }
 
 /// Why there are no words to run with.

@@ -1,11 +1,13 @@
 // A run of the command.
 ghost use Rattle.std.specs.Prelude.{◌≡◌, ◌≤◌, Ok, Err, IfOk, IfErr};
-ghost use Rattle.bidi.specs.Outcomes.{ComesTo, HasRun, IsDone};
+ghost use Rattle.bidi.specs.Outcomes.{ComesTo, HasEnded, HasRun, IsDone};
+ghost use Rattle.bidi.specs.CommandLine.{IsRead};
+ghost use Rattle.clap.specs.Walk.{texts};
 ghost use Rattle.bidi.specs.ReadFiles.{no_facts};
 ghost use Rattle.bidi.specs.Steps.{FailsIn, steps_of};
 ghost use Rattle.bidi.specs.declared.command_line.Request.{Request};
 
-use crate::command_line::Request;
+use crate::command_line::{Request, request_of};
 use crate::fault::{Fault, PrintFault};
 use crate::files::Files;
 use crate::outcome::Outcome;
@@ -70,10 +72,8 @@ fn outcome_of<'a, F: Files, W: Write>(
     }
 }
 
-/// Does what words ask for, as they were read, and answers the exit status: 0 after a yes or help, 1 after a no, 2
-/// where the words are refused or name no tables though they are needed, 3 where a file can't be read, a table is
-/// faulty, a write fails or memory is refused. After 2 and 3 `err` has a line that says so, if it took it.
-pub fn run<'a, F: Files, W: Write, E: Write>(
+/// Does what words ask for, as they were read, and answers the exit status.
+fn run_as_read<'a, F: Files, W: Write, E: Write>(
     alloc: Global,
     read: Result<Request<'a>, clap::Error>,
     files: &F,
@@ -81,11 +81,7 @@ pub fn run<'a, F: Files, W: Write, E: Write>(
     err: &mut E,
 ) -> u8
     ensures status { result ≤ 3 }
-
-    // The status is that of what the words, as they were read, came to.
-    ensures outcome { HasRun (F.facts files.now) (W.contents out.old) (W.contents out.new) read.entry result }
-
-    // A no is answered only where all bytes of a source have that verdict and its line was written.
+    ensures ended { HasEnded (F.facts files.now) (W.contents out.old) (W.contents out.new) read.entry result }
     ensures no { result ≡ 1 → (request : Request) × (read.entry ≡ Ok request)
         × IsDone (F.facts files.now) (W.contents out.old) (W.contents out.new) request (Outcome.Judged 1) }
 {
@@ -93,4 +89,28 @@ pub fn run<'a, F: Files, W: Write, E: Write>(
         Ok(outcome) => outcome.status(),
         Err(fault) => fault.report(err),
     }
+}
+
+/// Does what the words of a command line ask for, the first word being the program's name, and answers the exit
+/// status: 0 after a yes or help, 1 after a no, 2 where the words are refused or name no tables though they are
+/// needed, 3 where a file can't be read, a table is faulty, a write fails or memory is refused. After 2 and 3 `err`
+/// has a line that says so, if it took it.
+pub fn run<F: Files, W: Write, E: Write>(
+    alloc: Global,
+    words: &[&str],
+    files: &F,
+    out: &mut W,
+    err: &mut E,
+) -> u8
+    ensures status { result ≤ 3 }
+
+    // The status is that of what the words, as they were read, came to.
+    ensures outcome { HasRun (F.facts files.now) (W.contents out.old) (W.contents out.new) (texts words.now) result }
+
+    // A no is answered only where the words ask for a judgement, all bytes of the file have that verdict and its line
+    // was written.
+    ensures no { result ≡ 1 → (request : Request) × IsRead (texts words.now) request
+        × IsDone (F.facts files.now) (W.contents out.old) (W.contents out.new) request (Outcome.Judged 1) }
+{
+    run_as_read(alloc, request_of(alloc, words), files, out, err)
 }

@@ -1,4 +1,3 @@
-use crate::command_line::request_of;
 use crate::fault::PrintFault;
 use crate::run::run;
 use crate::tests::memory::{
@@ -94,13 +93,7 @@ fn says_that_a_text_was_not_read(rt: HostRuntime) {
             };
             let mut err = FixedWriter::new();
             let files = MemoryFiles::new(&files);
-            let status = run(
-                rt.alloc(),
-                request_of(rt.alloc(), &words),
-                &files,
-                &mut out,
-                &mut err,
-            );
+            let status = run(rt.alloc(), &words, &files, &mut out, &mut err);
             assert_eq!(rt; status, 3);
             assert_eq!(rt; err.written(), line);
         }
@@ -254,7 +247,7 @@ fn says_that_a_write_failed(rt: HostRuntime) {
         let mut out = ShortWriter { left, flushes };
         let mut err = FixedWriter::new();
         let files = MemoryFiles::new(&files);
-        let status = run(alloc, request_of(alloc, words), &files, &mut out, &mut err);
+        let status = run(alloc, words, &files, &mut out, &mut err);
         assert_eq!(rt; status, 3, "{words:?}");
         assert_eq!(rt;
             err.written(),
@@ -279,13 +272,7 @@ fn keeps_the_status_where_the_fault_line_is_not_taken(rt: HostRuntime) {
             flushes: false,
         };
         let files = MemoryFiles::new(&[]);
-        let answer = run(
-            rt.alloc(),
-            request_of(rt.alloc(), words),
-            &files,
-            &mut out,
-            &mut err,
-        );
+        let answer = run(rt.alloc(), words, &files, &mut out, &mut err);
         assert_eq!(rt; answer, status, "{words:?}");
     }
 }

@@ -4,7 +4,6 @@ ghost use Rattle.bidi.specs.FailingFiles.{begins-given, failing_facts};
 ghost use Rattle.bidi.specs.MemoryFiles.{StandsOver, begins-gave, file_of, memory_facts, stops-gave, whole-gave};
 ghost use Rattle.bidi.specs.ReadFiles.{no_facts};
 
-use crate::command_line::request_of;
 use crate::files::{Files, OpenFault};
 use crate::run::run;
 use std::alloc::Global;
@@ -228,7 +227,7 @@ pub struct Outcome {
 pub fn outcome_over<F: Files + Drop>(alloc: Global, words: &[&str], files: F) -> Outcome {
     let mut out = FixedWriter::new();
     let mut err = FixedWriter::new();
-    let status = run(alloc, request_of(alloc, words), &files, &mut out, &mut err);
+    let status = run(alloc, words, &files, &mut out, &mut err);
     Outcome { status, out, err }
 }
 
