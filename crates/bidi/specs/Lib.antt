@@ -3,6 +3,7 @@ pub mod CommandLine
 pub mod FailingFiles
 pub mod FaultText
 pub mod Judged
+pub mod KnownRuns
 pub mod LevelsText
 pub mod MemoryFiles
 pub mod Outcomes
@@ -15,3 +16,4 @@ pub mod Steps
 pub mod SystemFiles
 pub mod TableFaults
 pub mod VerdictText
+pub mod WordRows

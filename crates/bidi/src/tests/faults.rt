@@ -53,6 +53,31 @@ fn says_that_a_file_was_not_read(rt: HostRuntime) {
 }
 
 #[test]
+fn names_the_file_by_its_word(rt: HostRuntime) {
+    let [classes, brackets, mirrors, _] = tables_and(b"");
+    let files = [classes, brackets, mirrors, whole("latin1", b"\xff")];
+    let rows: [(&[&str], &[u8]); 3] = [
+        (
+            &["bidi", "judge", "--kind", "classes", "none"],
+            b"bidi: cannot read none\n",
+        ),
+        (
+            &["bidi", "levels", "--tables", "t", "none"],
+            b"bidi: cannot read none\n",
+        ),
+        (
+            &["bidi", "reorder", "--tables", "t", "latin1"],
+            b"bidi: latin1: not UTF-8\n",
+        ),
+    ];
+    for (words, line) in rows {
+        let outcome = outcome_of(rt.alloc(), words, &files);
+        assert_eq!(rt; outcome.status, 3, "{words:?}");
+        assert_eq!(rt; outcome.err.written(), line, "{words:?}");
+    }
+}
+
+#[test]
 fn needs_tables_for_characters_before_it_opens_a_file(rt: HostRuntime) {
     let words = ["bidi", "judge", "--kind", "characters", "FILE"];
     let outcome = outcome_of(rt.alloc(), &words, &[]);

@@ -21,7 +21,9 @@ pub struct MemoryFile<'a> {
 }
 
 /// A file that can be read to its end.
-pub fn whole<'a>(name: &'a str, bytes: &'a [u8]) -> MemoryFile<'a> {
+pub fn whole<'a>(name: &'a str, bytes: &'a [u8]) -> MemoryFile<'a>
+    ensures { result ≡ record { name = name.entry; bytes = bytes.entry; readable = u64.MAX } }
+{
     MemoryFile {
         name,
         bytes,
