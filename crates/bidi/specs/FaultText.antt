@@ -39,11 +39,11 @@ fault_status (NotUtf8 name) = 3
 fault_status CannotWrite = 3
 fault_status OutOfMemory = 3
 
--- when a fault ends the opening of a file of this name: it can't be opened, or memory was refused
-abbrev pub EndsOpening : List ℕ → Fault → Type 0
-EndsOpening name (CannotRead unread) = unread.now ≡ name
-EndsOpening name OutOfMemory = Unit {0}
-EndsOpening name _ = ⊥
+-- when a fault, said by this name, ends the opening of a file: it can't be opened, or memory was refused
+abbrev pub EndsOpening : Type 0 → List ℕ → Fault → Type 0
+EndsOpening Cannot name (CannotRead unread) = (unread.now ≡ name) × Cannot
+EndsOpening Cannot name OutOfMemory = Unit {0}
+EndsOpening Cannot name _ = ⊥
 
 -- the fault of a run in which printing failed so
 abbrev pub print_fault : PrintFault → Fault

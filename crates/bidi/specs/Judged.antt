@@ -9,7 +9,7 @@ use Rattle.bidtests.specs.CharactersFile.{characters_verdict}
 use Rattle.bidtests.specs.FileKinds.{unit_by}
 use Rattle.bidi.specs.declared.fault.Fault.{Fault}
 use Rattle.bidi.specs.declared.fault.Fault.TheVariants.{CannotRead, CannotWrite, OutOfMemory}
-use Rattle.bidi.specs.ReadFiles.{AreTables, most_file_bytes}
+use Rattle.bidi.specs.ReadFiles.{FileFacts, AreTables, most_file_bytes}
 use Rattle.bidi.specs.VerdictText.{verdict_text, verdict_status}
 
 -- the exit status, and what a writer's known bytes grew by, say this verdict
@@ -21,22 +21,23 @@ pub record SaysVerdict (before after : Option (List ℕ)) (verdict : Verdict) (s
 abbrev pub IsClassesVerdict : List ℕ → Verdict → Type 0
 IsClassesVerdict bytes verdict = verdict ≡ classes_verdict standard bytes
 
--- the verdict on the bytes of a file whose rows are lists of code points, by the standard limits and the tables of a folder that were read
-abbrev pub IsCharactersVerdict : (List ℕ → ℕ → List ℕ → Type 0) → List ℕ → List ℕ → Verdict → Type 0
-IsCharactersVerdict WasRead folder bytes verdict =
-    (tables : TablesOf) × AreTables WasRead folder tables × (verdict ≡ characters_verdict standard (unit_by tables) bytes)
+-- the verdict on the bytes of a file whose rows are lists of code points, by the standard limits and the tables of a folder
+-- that were read
+abbrev pub IsCharactersVerdict : FileFacts → List ℕ → List ℕ → Verdict → Type 0
+IsCharactersVerdict files folder bytes verdict =
+    (tables : TablesOf) × AreTables files folder tables × (verdict ≡ characters_verdict standard (unit_by tables) bytes)
 
 -- the file of this name was read whole, and what was written and the exit status say the verdict on its bytes
-pub record HasJudged (WasRead : List ℕ → ℕ → List ℕ → Type 0) (IsVerdict : List ℕ → Verdict → Type 0) (file : List ℕ) (before after : Option (List ℕ)) (status : ℕ) : Type 0 where
+pub record HasJudged (files : FileFacts) (IsVerdict : List ℕ → Verdict → Type 0) (file : List ℕ) (before after : Option (List ℕ)) (status : ℕ) : Type 0 where
   pub bytes : List ℕ
-  pub read : WasRead file most_file_bytes bytes
+  pub read : files.Holds file most_file_bytes bytes
   pub verdict : Verdict
   pub is : IsVerdict bytes verdict
   pub said : SaysVerdict before after verdict status
 
--- when a fault ends the judging of a source of this name: it failed, or it has ended and the verdict was not written, or memory was refused
-abbrev pub EndsJudging : ℕ → Type 0 → List ℕ → Fault → Type 0
-EndsJudging failures ended name (CannotRead unread) = (unread.now ≡ name) × (failures ≡ 1)
-EndsJudging failures ended name CannotWrite = ended
-EndsJudging failures ended name OutOfMemory = Unit {0}
-EndsJudging failures ended name _ = ⊥
+-- when a fault ends the judging of a source, said by this name: it failed or memory was refused, and nothing is written, or it has ended and the verdict was not written
+abbrev pub EndsJudging : ℕ → Type 0 → Option (List ℕ) → Option (List ℕ) → List ℕ → Fault → Type 0
+EndsJudging failures ended before after name (CannotRead unread) = (unread.now ≡ name) × (failures ≡ 1) × (after ≡ before)
+EndsJudging failures ended before after name CannotWrite = ended
+EndsJudging failures ended before after name OutOfMemory = after ≡ before
+EndsJudging failures ended before after name _ = ⊥

@@ -7,12 +7,15 @@ use Rattle.bidi.specs.declared.command_line.FileKind.TheVariants.{Classes, Chara
 use Rattle.bidi.specs.declared.command_line.Request.{Request}
 use Rattle.bidi.specs.declared.command_line.Request.TheVariants.{Levels, Reorder, Judge}
 use Rattle.bidi.specs.declared.fault.Fault.{Fault}
-use Rattle.bidi.specs.declared.fault.Fault.TheVariants.{Refused, TablesNeeded, CannotWrite, OutOfMemory}
+use Rattle.bidi.specs.declared.fault.Fault.TheVariants.{Refused, CannotWrite, OutOfMemory}
 use Rattle.bidi.specs.declared.outcome.Outcome.{Outcome}
 use Rattle.bidi.specs.declared.outcome.Outcome.TheVariants.{Judged, Printed, Helped}
+use Rattle.bidi.specs.CommandLine.{IsReadAs}
 use Rattle.bidi.specs.FaultText.{fault_status}
 use Rattle.bidi.specs.Judged.{HasJudged, IsClassesVerdict, IsCharactersVerdict}
 use Rattle.bidi.specs.Printed.{HasPrinted}
+use Rattle.bidi.specs.ReadFiles.{FileFacts}
+use Rattle.bidi.specs.Steps.{FailsIn, steps_of}
 use Rattle.bidi.specs.PrintedTexts.{printed_levels, printed_reorder}
 
 -- the exit status: that of the verdict, 0 after a text or help, and that of the fault
@@ -31,36 +34,36 @@ abbrev pub IsRefusal : Error → Type 0
 IsRefusal error = (kind_of error ≢ kind.OutOfMemory) × (kind_of error ≢ kind.DisplayHelp) × (kind_of error ≢ kind.DisplayVersion)
 
 -- what was asked for is done: the text is printed, or the file is judged, by the tables of the folder that is named
-abbrev pub IsDone : (List ℕ → ℕ → List ℕ → Type 0) → Option (List ℕ) → Option (List ℕ) → Request → Outcome → Type 0
-IsDone WasRead before after (Levels folder direction file) Printed =
-    HasPrinted WasRead (λ tables text. printed_levels tables text direction) folder.now file.now before after
-IsDone WasRead before after (Reorder folder direction columns file) Printed =
-    HasPrinted WasRead (λ tables text. printed_reorder tables text direction columns) folder.now file.now before after
-IsDone WasRead before after (Judge Classes tables file) (Judged status) =
-    HasJudged WasRead IsClassesVerdict file.now before after status
-IsDone WasRead before after (Judge Characters (Some folder) file) (Judged status) =
-    HasJudged WasRead (IsCharactersVerdict WasRead folder.now) file.now before after status
-IsDone WasRead before after _ _ = ⊥
-
--- what was asked for ends with this fault: nothing is written where tables are needed and none are named, else the run failed
-abbrev pub Fails : Option (List ℕ) → Option (List ℕ) → Request → Fault → Type 0
-Fails before after (Judge Characters None file) fault = (fault ≡ TablesNeeded) × (after ≡ before)
-Fails before after _ fault = fault_status fault ≡ 3
+abbrev pub IsDone : FileFacts → Option (List ℕ) → Option (List ℕ) → Request → Outcome → Type 0
+IsDone files before after (Levels folder direction file) Printed =
+    HasPrinted files (λ tables text. printed_levels tables text direction) folder.now file.now before after
+IsDone files before after (Reorder folder direction columns file) Printed =
+    HasPrinted files (λ tables text. printed_reorder tables text direction columns) folder.now file.now before after
+IsDone files before after (Judge Classes tables file) (Judged status) =
+    HasJudged files IsClassesVerdict file.now before after status
+IsDone files before after (Judge Characters (Some folder) file) (Judged status) =
+    HasJudged files (IsCharactersVerdict files folder.now) file.now before after status
+IsDone files before after _ _ = ⊥
 
 -- words that are a request come to what it asks for or fail; else help was asked for, or the words are refused and nothing is written
-abbrev pub ComesTo : (List ℕ → ℕ → List ℕ → Type 0) → Option (List ℕ) → Option (List ℕ) → Result Request Error → Result Outcome Fault → Type 0
-ComesTo WasRead before after (Ok request) (Ok outcome) = IsDone WasRead before after request outcome
-ComesTo WasRead before after (Ok request) (Err fault) = Fails before after request fault
-ComesTo WasRead before after (Err error) (Ok Helped) = AsksForHelp error
-ComesTo WasRead before after (Err error) (Ok _) = ⊥
-ComesTo WasRead before after (Err error) (Err (Refused refusal)) = (refusal ≡ error) × IsRefusal error × (after ≡ before)
-ComesTo WasRead before after (Err error) (Err CannotWrite) = AsksForHelp error
-ComesTo WasRead before after (Err error) (Err OutOfMemory) = (kind_of error ≡ kind.OutOfMemory) ⊎ AsksForHelp error
-ComesTo WasRead before after (Err error) (Err _) = ⊥
+abbrev pub ComesTo : FileFacts → Option (List ℕ) → Option (List ℕ) → Result Request Error → Result Outcome Fault → Type 0
+ComesTo files before after (Ok request) (Ok outcome) = IsDone files before after request outcome
+ComesTo files before after (Ok request) (Err fault) = FailsIn (steps_of files request) before after fault
+ComesTo files before after (Err error) (Ok Helped) = AsksForHelp error
+ComesTo files before after (Err error) (Ok _) = ⊥
+ComesTo files before after (Err error) (Err (Refused refusal)) = (refusal ≡ error) × IsRefusal error × (after ≡ before)
+ComesTo files before after (Err error) (Err CannotWrite) = AsksForHelp error
+ComesTo files before after (Err error) (Err OutOfMemory) = (kind_of error ≡ kind.OutOfMemory) ⊎ AsksForHelp error
+ComesTo files before after (Err error) (Err _) = ⊥
 
--- the words were read somehow, and the run came to what that asks for and ended with its status
-pub record HasRun (WasRead : List ℕ → ℕ → List ℕ → Type 0) (before after : Option (List ℕ)) (status : ℕ) : Type 0 where
-  pub read : Result Request Error
+-- words that were read so came to what that asks for, and the run ended with its status
+pub record HasEnded (files : FileFacts) (before after : Option (List ℕ)) (read : Result Request Error) (status : ℕ) : Type 0 where
   pub outcome : Result Outcome Fault
-  pub comes : ComesTo WasRead before after read outcome
+  pub comes : ComesTo files before after read outcome
   pub status_is : status ≡ outcome_status outcome
+
+-- the words were read, and the run came to what that asks for
+pub record HasRun (files : FileFacts) (before after : Option (List ℕ)) (words : List (List ℕ)) (status : ℕ) : Type 0 where
+  pub read : Result Request Error
+  pub is : IsReadAs words read
+  pub ended : HasEnded files before after read status

@@ -5,18 +5,18 @@ use Rattle.std.specs.Str.{chars, IsUtf8}
 use Rattle.ucdfiles.specs.Tables.{TablesOf}
 use Rattle.bidi.specs.declared.fault.Fault.{Fault}
 use Rattle.bidi.specs.declared.fault.Fault.TheVariants.{CannotRead, NotUtf8, OutOfMemory}
-use Rattle.bidi.specs.ReadFiles.{AreTables}
+use Rattle.bidi.specs.ReadFiles.{FileFacts, AreTables}
 
 -- the most bytes that a text may have
 abbrev pub most_text_bytes : ℕ
 most_text_bytes = 2 ^ 24
 
 -- the file of this name was read whole and is UTF-8, and what known bytes grew by is what is printed of its characters by the tables of the folder
-pub record HasPrinted (WasRead : List ℕ → ℕ → List ℕ → Type 0) (printed : TablesOf → List ℕ → List ℕ) (folder file : List ℕ) (before after : Option (List ℕ)) : Type 0 where
+pub record HasPrinted (files : FileFacts) (printed : TablesOf → List ℕ → List ℕ) (folder file : List ℕ) (before after : Option (List ℕ)) : Type 0 where
   pub tables : TablesOf
-  pub stated : AreTables WasRead folder tables
+  pub stated : AreTables files folder tables
   pub bytes : List ℕ
-  pub read : WasRead file most_text_bytes bytes
+  pub read : files.Holds file most_text_bytes bytes
   pub utf8 : IsUtf8 bytes
   pub said : Appends before after (printed tables (chars bytes))
 

@@ -5,17 +5,23 @@ use Rattle.ucdfiles.specs.ClassFile.{StatesClasses}
 use Rattle.ucdfiles.specs.PairFiles.{StatesBrackets, StatesMirrors}
 use Rattle.ucdfiles.specs.Tables.{TablesOf, class_at, bracket_at, glyph_at}
 
+-- what is said of a file, by its name, the limit that it is read with, and bytes
+abbrev pub OfFile : Type 1
+OfFile = List ℕ → ℕ → List ℕ → Type 0
+
+-- what is said of files: that one begins with these bytes; that it holds them and no more; that it can't be opened, or a read behind them fails
+pub record FileFacts : Type 1 where
+  pub Begins : OfFile
+  pub Holds : OfFile
+  pub Fails : OfFile
+
+-- nothing is said of any file
+abbrev pub no_facts : FileFacts
+no_facts = record { Begins = λ _ _ _. ⊥; Holds = λ _ _ _. ⊥; Fails = λ _ _ _. ⊥ }
+
 -- the most bytes that a conformance file or a table's file may have
 abbrev pub most_file_bytes : ℕ
 most_file_bytes = 2 ^ 40
-
--- a source was opened as the file of this name with at most so many bytes, handed out these bytes, and ended behind them
-pub record WasReadWhole {S : Type 0} (opens : List ℕ → ℕ → S → Type 0) (gives : S → List ℕ → S → Type 0) (ended : S → Type 0) (name : List ℕ) (most : ℕ) (bytes : List ℕ) : Type 0 where
-  pub opened : S
-  pub closed : S
-  pub as_named : opens name most opened
-  pub given : gives opened bytes closed
-  pub whole : ended closed
 
 -- the names of the tables' files
 abbrev pub class_name : List ℕ
@@ -31,14 +37,14 @@ mirror_name = codes "BidiMirroring.txt"
 abbrev pub in_folder : List ℕ → List ℕ → List ℕ
 in_folder folder name = concat (folder ∷ codes "/" ∷ name ∷ [])
 
--- the tables are those that the bytes of the folder's three files state, each of which was read whole
-pub record AreTables (WasRead : List ℕ → ℕ → List ℕ → Type 0) (folder : List ℕ) (tables : TablesOf) : Type 0 where
+-- the tables are those that the bytes of the folder's three files state, each read whole
+pub record AreTables (files : FileFacts) (folder : List ℕ) (tables : TablesOf) : Type 0 where
   pub class_bytes : List ℕ
-  pub class_file : WasRead (in_folder folder class_name) most_file_bytes class_bytes
+  pub class_file : files.Holds (in_folder folder class_name) most_file_bytes class_bytes
   pub classes : StatesClasses class_bytes (class_at tables.classes)
   pub bracket_bytes : List ℕ
-  pub bracket_file : WasRead (in_folder folder bracket_name) most_file_bytes bracket_bytes
+  pub bracket_file : files.Holds (in_folder folder bracket_name) most_file_bytes bracket_bytes
   pub brackets : StatesBrackets bracket_bytes (bracket_at tables.brackets)
   pub mirror_bytes : List ℕ
-  pub mirror_file : WasRead (in_folder folder mirror_name) most_file_bytes mirror_bytes
+  pub mirror_file : files.Holds (in_folder folder mirror_name) most_file_bytes mirror_bytes
   pub mirrors : StatesMirrors mirror_bytes (glyph_at tables.mirrors)

@@ -1,4 +1,15 @@
 // What the words of a command line ask for.
+ghost use Rattle.std.specs.Prelude.{◌≡◌, List, Some, codes, false, map, option_map, IfOk, IfSome, IfNone};
+ghost use Rattle.clap.specs.Matches.{found_of};
+ghost use Rattle.clap.specs.Simple.{app_of, subcommand_rows_of};
+ghost use Rattle.clap.specs.Walk.{first_of, one_of, rows_of, rule_of, texts};
+ghost use Rattle.clap.specs.declared.builder.command.Command.TheViews.{out-Command as fields_of};
+ghost use Rattle.bidi.specs.CommandLine.{AsksFor, Choice, ColumnsAre, IsAskedBy, IsBidi, IsReadAs};
+ghost use Rattle.bidi.specs.CommandLine.{columns_rule, direction_of, direction_rule, direction_words, file_rule};
+ghost use Rattle.bidi.specs.CommandLine.{judge_app, kind_named, kind_rule, kind_words, levels_app, reorder_app};
+ghost use Rattle.bidi.specs.CommandLine.{tables_rule, words_of};
+ghost use Rattle.bidi.specs.declared.command_line.Request.{Request as RequestOf};
+
 use clap::error::ErrorKind;
 use clap::{Arg, ArgMatches, Command, Error};
 use std::alloc::{AllocError, Global};
@@ -94,21 +105,31 @@ faulty, a write fails or memory is refused.";
 const JUDGE_EXAMPLE: &str =
     "Example:\n  bidi judge --kind characters --tables ucd BidiCharacterTest.txt";
 
-fn file_argument<'a>(alloc: Global) -> Arg<'a> {
+fn file_argument<'a>(alloc: Global) -> Arg<'a>
+    ensures rule { rule_of result ≡ file_rule }
+    ensures local { result.global ≡ false }
+{
     Arg::new(alloc, "file")
         .value_name("FILE")
         .required(true)
         .help("The file to read")
 }
 
-fn tables_argument<'a>(alloc: Global) -> Arg<'a> {
+fn tables_argument<'a>(alloc: Global) -> Arg<'a>
+    ensures rule { rule_of result ≡ tables_rule }
+    ensures local { result.global ≡ false }
+{
     Arg::new(alloc, "tables")
         .long("tables")
         .value_name("DIR")
         .help("The folder of DerivedBidiClass.txt, BidiBrackets.txt and BidiMirroring.txt")
 }
 
-fn direction_argument<'a>(alloc: Global) -> Arg<'a> {
+fn direction_argument<'a>(alloc: Global) -> Arg<'a>
+    ensures rule { (choice : Choice) × (words_of choice ≡ direction_words)
+        × (rule_of result ≡ direction_rule choice) }
+    ensures local { result.global ≡ false }
+{
     Arg::new(alloc, "direction")
         .long("direction")
         .value_name("DIRECTION")
@@ -120,7 +141,10 @@ fn direction_argument<'a>(alloc: Global) -> Arg<'a> {
         )
 }
 
-fn columns_argument<'a>(alloc: Global) -> Arg<'a> {
+fn columns_argument<'a>(alloc: Global) -> Arg<'a>
+    ensures rule { rule_of result ≡ columns_rule }
+    ensures local { result.global ≡ false }
+{
     Arg::new(alloc, "columns")
         .long("columns")
         .value_name("N")
@@ -128,7 +152,11 @@ fn columns_argument<'a>(alloc: Global) -> Arg<'a> {
         .help("Breaks each paragraph's lines at every N characters, 1 to 65535")
 }
 
-fn kind_argument<'a>(alloc: Global) -> Arg<'a> {
+fn kind_argument<'a>(alloc: Global) -> Arg<'a>
+    ensures rule { (choice : Choice) × (words_of choice ≡ kind_words)
+        × (rule_of result ≡ kind_rule choice) }
+    ensures local { result.global ≡ false }
+{
     Arg::new(alloc, "kind")
         .long("kind")
         .value_name("KIND")
@@ -139,7 +167,11 @@ fn kind_argument<'a>(alloc: Global) -> Arg<'a> {
         )
 }
 
-fn levels_command<'a>(alloc: Global) -> Result<Command<'a>, AllocError> {
+fn levels_command<'a>(alloc: Global) -> Result<Command<'a>, AllocError>
+    ensures app { IfOk result (λ command. (choice : Choice) × (words_of choice ≡ direction_words)
+        × (app_of command ≡ levels_app choice)) }
+    ensures local { IfOk result (λ command. (fields_of command).has_globals ≡ false) }
+{
     Command::new(alloc, "levels")
         .about("Prints the levels of a text")
         .long_about(LEVELS_LONG_ABOUT)
@@ -149,7 +181,11 @@ fn levels_command<'a>(alloc: Global) -> Result<Command<'a>, AllocError> {
         .arg(file_argument(alloc))
 }
 
-fn reorder_command<'a>(alloc: Global) -> Result<Command<'a>, AllocError> {
+fn reorder_command<'a>(alloc: Global) -> Result<Command<'a>, AllocError>
+    ensures app { IfOk result (λ command. (choice : Choice) × (words_of choice ≡ direction_words)
+        × (app_of command ≡ reorder_app choice)) }
+    ensures local { IfOk result (λ command. (fields_of command).has_globals ≡ false) }
+{
     Command::new(alloc, "reorder")
         .about("Prints the lines of a text as they are shown")
         .long_about(REORDER_LONG_ABOUT)
@@ -160,7 +196,11 @@ fn reorder_command<'a>(alloc: Global) -> Result<Command<'a>, AllocError> {
         .arg(file_argument(alloc))
 }
 
-fn judge_command<'a>(alloc: Global) -> Result<Command<'a>, AllocError> {
+fn judge_command<'a>(alloc: Global) -> Result<Command<'a>, AllocError>
+    ensures app { IfOk result (λ command. (choice : Choice) × (words_of choice ≡ kind_words)
+        × (app_of command ≡ judge_app choice)) }
+    ensures local { IfOk result (λ command. (fields_of command).has_globals ≡ false) }
+{
     Command::new(alloc, "judge")
         .about("Judges a conformance file")
         .long_about(JUDGE_LONG_ABOUT)
@@ -170,7 +210,10 @@ fn judge_command<'a>(alloc: Global) -> Result<Command<'a>, AllocError> {
         .arg(file_argument(alloc))
 }
 
-fn bidi_command<'a>(alloc: Global) -> Result<Command<'a>, AllocError> {
+fn bidi_command<'a>(alloc: Global) -> Result<Command<'a>, AllocError>
+    ensures app { IfOk result (λ command. IsBidi (app_of command)) }
+    ensures local { IfOk result (λ command. (fields_of command).has_globals ≡ false) }
+{
     Command::new(alloc, "bidi")
         .about(BIDI_ABOUT)
         .long_about(BIDI_LONG_ABOUT)
@@ -181,8 +224,17 @@ fn bidi_command<'a>(alloc: Global) -> Result<Command<'a>, AllocError> {
         .subcommand(judge_command(alloc)?)
 }
 
-fn direction_in(matches: &ArgMatches<'_>) -> Direction {
-    match matches.get_str("direction") {
+/// The value of an argument, if it has one.
+fn text_of<'a>(matches: &ArgMatches<'a>, id: &str) -> Option<&'a str>
+    ensures { option_map (λ text. text.now) result ≡ first_of id.now (rows_of (found_of matches.now)) }
+{
+    matches.get_str(id)
+}
+
+fn direction_in(matches: &ArgMatches<'_>) -> Direction
+    ensures { result ≡ direction_of (first_of (codes "direction") (rows_of (found_of matches.now))) }
+{
+    match text_of(matches, "direction") {
         Some("ltr") => Direction::Ltr,
         Some("rtl") => Direction::Rtl,
         Some("auto-rtl") => Direction::AutoRtl,
@@ -190,8 +242,16 @@ fn direction_in(matches: &ArgMatches<'_>) -> Direction {
     }
 }
 
-fn kind_in(matches: &ArgMatches<'_>) -> Option<FileKind> {
-    match matches.get_str("kind") {
+fn columns_in(matches: &ArgMatches<'_>) -> Option<NonZeroU16>
+    ensures { ColumnsAre (one_of (codes "columns") (rows_of (found_of matches.now))) result }
+{
+    matches.get_one::<NonZeroU16>("columns")
+}
+
+fn kind_in(matches: &ArgMatches<'_>) -> Option<FileKind>
+    ensures { result ≡ kind_named (first_of (codes "kind") (rows_of (found_of matches.now))) }
+{
+    match text_of(matches, "kind") {
         Some("classes") => Some(FileKind::Classes),
         Some("characters") => Some(FileKind::Characters),
         _ => None,
@@ -199,39 +259,51 @@ fn kind_in(matches: &ArgMatches<'_>) -> Option<FileKind> {
 }
 
 /// What a subcommand of this name asks for, by its arguments.
-fn request_in<'a>(name: &str, matches: &ArgMatches<'a>) -> Option<Request<'a>> {
-    let file = matches.get_str("file")?;
+fn request_in<'a>(name: &str, matches: &ArgMatches<'a>) -> Option<Request<'a>>
+    ensures some { IfSome result (AsksFor name.now (rows_of (found_of matches.now))) }
+    ensures none { IfNone result ((request : RequestOf)
+        → ¬ (AsksFor name.now (rows_of (found_of matches.now)) request)) }
+{
+    let file = text_of(matches, "file")?;
     match name {
         "levels" => Some(Request::Levels {
-            tables: matches.get_str("tables")?,
+            tables: text_of(matches, "tables")?,
             direction: direction_in(matches),
             file,
         }),
         "reorder" => Some(Request::Reorder {
-            tables: matches.get_str("tables")?,
+            tables: text_of(matches, "tables")?,
             direction: direction_in(matches),
-            columns: matches.get_one::<NonZeroU16>("columns"),
+            columns: columns_in(matches),
             file,
         }),
         "judge" => Some(Request::Judge {
             kind: kind_in(matches)?,
-            tables: matches.get_str("tables"),
+            tables: text_of(matches, "tables"),
             file,
         }),
         _ => None,
     }
 }
 
+/// What the subcommand that was met asks for.
+fn request_by<'a>(matches: &ArgMatches<'a>) -> Option<Request<'a>>
+    ensures some { IfSome result (IsAskedBy (subcommand_rows_of matches.now)) }
+    ensures none { IfNone result ((request : RequestOf)
+        → ¬ (IsAskedBy (subcommand_rows_of matches.now) request)) }
+{
+    let (name, inner) = matches.subcommand()?;
+    request_in(name, inner)
+}
+
 /// Reads the words of a command line, of which the first is the program's name. Words that are refused, or that ask for
 /// help, are answered as an error with the text for the user.
-pub fn request_of<'a>(alloc: Global, words: &'a [&'a str]) -> Result<Request<'a>, Error> {
+pub fn request_of<'a>(alloc: Global, words: &'a [&'a str]) -> Result<Request<'a>, Error>
+    ensures { IsReadAs (texts words.now) result }
+{
     let mut command = bidi_command(alloc)?;
     let matches = command.try_get_matches_from_mut(words)?;
-    let request = match matches.subcommand() {
-        Some((name, inner)) => request_in(name, inner),
-        None => None,
-    };
-    match request {
+    match request_by(&matches) {
         Some(request) => Ok(request),
         None => Err(command.error(ErrorKind::MissingSubcommand, "a subcommand is needed")?),
     }

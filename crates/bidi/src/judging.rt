@@ -38,8 +38,10 @@ fn judge_source<'a, S: ByteSource, W: Write>(
     out: &mut W,
 ) -> Result<u8, Fault<'a>>
     ensures ended { OnOk result (S.ended source.new) }
+    ensures given { (given : List ℕ) × S.gives source.old given source.new }
     ensures failed { S.failures source.new ≡ 1 → IsErr result }
-    ensures fault { IfErr result (EndsJudging (S.failures source.new) (S.ended source.new) name.now) }
+    ensures fault { IfErr result (EndsJudging (S.failures source.new) (S.ended source.new)
+        (W.contents out.old) (W.contents out.new) name.now) }
     ensures verdict { IfOk result (λ status. (given : List ℕ) × S.gives source.old given source.new
         × ((kind : Kind) → Judges standard kind judge.entry []
         → SaysVerdict (W.contents out.old) (W.contents out.new) (verdict_of standard kind given) status)) }
@@ -64,8 +66,10 @@ pub fn judge_classes<'a, S: ByteSource, W: Write>(
 ) -> Result<u8, Fault<'a>>
     // No verdict without the whole of the source.
     ensures ended { OnOk result (S.ended source.new) }
+    ensures given { (given : List ℕ) × S.gives source.old given source.new }
     ensures failed { S.failures source.new ≡ 1 → IsErr result }
-    ensures fault { IfErr result (EndsJudging (S.failures source.new) (S.ended source.new) name.now) }
+    ensures fault { IfErr result (EndsJudging (S.failures source.new) (S.ended source.new)
+        (W.contents out.old) (W.contents out.new) name.now) }
 
     ensures verdict { IfOk result (λ status. (given : List ℕ) × S.gives source.old given source.new
         × SaysVerdict (W.contents out.old) (W.contents out.new) (classes_verdict standard given) status) }
@@ -87,8 +91,10 @@ pub fn judge_characters<'a, S: ByteSource, W: Write>(
 ) -> Result<u8, Fault<'a>>
     // No verdict without the whole of the source.
     ensures ended { OnOk result (S.ended source.new) }
+    ensures given { (given : List ℕ) × S.gives source.old given source.new }
     ensures failed { S.failures source.new ≡ 1 → IsErr result }
-    ensures fault { IfErr result (EndsJudging (S.failures source.new) (S.ended source.new) name.now) }
+    ensures fault { IfErr result (EndsJudging (S.failures source.new) (S.ended source.new)
+        (W.contents out.old) (W.contents out.new) name.now) }
 
     ensures verdict { IfOk result (λ status. (given : List ℕ) × S.gives source.old given source.new
         × SaysVerdict (W.contents out.old) (W.contents out.new) (characters_verdict standard (unit_by tables.now) given) status) }

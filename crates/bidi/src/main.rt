@@ -36,7 +36,7 @@ fn run_with_words<E: Write>(rt: &HostRuntime, err: &mut E) -> io::Result<u8> {
     let owned: Vec<String> = env::args(rt)?.collect(alloc)?;
     let words: Vec<&str> = owned.iter().map(|word| word.as_str()).collect(alloc)?;
     let mut out = BufWriter::new(alloc, rt.stdout())?;
-    Ok(run(alloc, &words, &mut SystemFiles::new(rt), &mut out, err))
+    Ok(run(alloc, &words, &SystemFiles::new(rt), &mut out, err))
 }
 
 /// Why there are no words to run with.

@@ -1,5 +1,5 @@
 // Files opened by their names.
-ghost use Rattle.std.specs.Prelude.{◌≤◌, IfOk, IfErr};
+ghost use Rattle.std.specs.Prelude.{◌≤◌, [], IfOk, IfErr};
 ghost use Rattle.bidi.specs.FaultText.{EndsOpening};
 
 use crate::fault::Fault;
@@ -16,14 +16,14 @@ pub const MOST_TEXT_BYTES: u64 = 16_777_216;
 /// opened, said by the name that is given, and refused memory.
 pub fn open<'a, F: Files>(
     alloc: Global,
-    files: &mut F,
+    files: &F,
     path: &str,
     name: &'a str,
     most: u64,
 ) -> Result<F::Source, Fault<'a>>
-    ensures opened { IfOk result (F.opens path.now most) }
+    ensures opened { IfOk result (F.opens files.now path.now most) }
     ensures limit { IfOk result (λ source. F.Source.ByteSource.room source ≤ most) }
-    ensures fault { IfErr result (EndsOpening name.now) }
+    ensures fault { IfErr result (EndsOpening ((F.facts files.now).Fails path.now most []) name.now) }
 {
     match files.source(alloc, path, most) {
         Ok(source) => Ok(source),

@@ -1,12 +1,12 @@
 // What a request asks for, done.
-ghost use Rattle.std.specs.Prelude.{◌≡◌, ◌≤◌, ℕ, List, length, IfOk, IfErr, OnOk};
+ghost use Rattle.std.specs.Prelude.{◌≡◌, ◌≤◌, ℕ, List, [], ◌∷◌, length, IfOk, IfErr, OnOk};
 ghost use Rattle.std.specs.Str.{chars, IsUtf8};
-ghost use Rattle.bidi.specs.FaultText.{fault_status};
 ghost use Rattle.bidi.specs.Judged.{HasJudged, IsCharactersVerdict, IsClassesVerdict};
-ghost use Rattle.bidi.specs.Outcomes.{Fails, IsDone};
+ghost use Rattle.bidi.specs.Outcomes.{IsDone};
 ghost use Rattle.bidi.specs.Printed.{HasPrinted, most_text_bytes};
 ghost use Rattle.bidi.specs.PrintedTexts.{printed_levels, printed_reorder};
-ghost use Rattle.bidi.specs.ReadFiles.{WasReadWhole};
+ghost use Rattle.bidi.specs.ReadFiles.{most_file_bytes};
+ghost use Rattle.bidi.specs.Steps.{FailsIn, IsFirstFault, characters_steps, file_step, printing_steps, steps_of, text_steps};
 
 use crate::command_line::{FileKind, Request};
 use crate::fault::Fault;
@@ -26,12 +26,13 @@ use units::level::Direction;
 fn judge_file_of_classes<'a, F: Files, W: Write>(
     alloc: Global,
     file: &'a str,
-    files: &mut F,
+    files: &F,
     out: &mut W,
 ) -> Result<u8, Fault<'a>>
-    ensures judged { IfOk result (HasJudged (WasReadWhole F.opens F.Source.ByteSource.gives F.Source.ByteSource.ended)
+    ensures judged { IfOk result (HasJudged (F.facts files.now)
         IsClassesVerdict file.now (W.contents out.old) (W.contents out.new)) }
-    ensures fault { IfErr result (λ fault. fault_status fault ≡ 3) }
+    ensures fault { IfErr result (FailsIn (file_step (F.facts files.now) most_file_bytes file.now ∷ [])
+        (W.contents out.old) (W.contents out.new)) }
 {
     let mut source = open(alloc, files, file, file, MOST_FILE_BYTES)?;
     judge_classes(alloc, &mut source, file, out)
@@ -43,13 +44,14 @@ fn judge_file_of_characters<'a, F: Files, W: Write>(
     alloc: Global,
     folder: &str,
     file: &'a str,
-    files: &mut F,
+    files: &F,
     out: &mut W,
 ) -> Result<u8, Fault<'a>>
-    ensures judged { IfOk result (HasJudged (WasReadWhole F.opens F.Source.ByteSource.gives F.Source.ByteSource.ended)
-        (IsCharactersVerdict (WasReadWhole F.opens F.Source.ByteSource.gives F.Source.ByteSource.ended) folder.now)
+    ensures judged { IfOk result (HasJudged (F.facts files.now)
+        (IsCharactersVerdict (F.facts files.now) folder.now)
         file.now (W.contents out.old) (W.contents out.new)) }
-    ensures fault { IfErr result (λ fault. fault_status fault ≡ 3) }
+    ensures fault { IfErr result (FailsIn (characters_steps (F.facts files.now) folder.now file.now)
+        (W.contents out.old) (W.contents out.new)) }
 {
     let tables = read_tables(alloc, files, folder)?;
     let mut source = open(alloc, files, file, file, MOST_FILE_BYTES)?;
@@ -60,13 +62,14 @@ fn judge_file_of_characters<'a, F: Files, W: Write>(
 fn text_in_file<'a, F: Files>(
     alloc: Global,
     file: &'a str,
-    files: &mut F,
+    files: &F,
 ) -> Result<Vec<char>, Fault<'a>>
     ensures text { IfOk result (λ text. (bytes : List ℕ)
-        × WasReadWhole F.opens F.Source.ByteSource.gives F.Source.ByteSource.ended file.now most_text_bytes bytes
+        × (F.facts files.now).Holds file.now most_text_bytes bytes
         × IsUtf8 bytes × (text.items ≡ chars bytes)) }
     ensures bound { IfOk result (λ text. length text.items ≤ 16777216) }
-    ensures fault { IfErr result (λ fault. fault_status fault ≡ 3) }
+    ensures fault { IfErr result
+        (IsFirstFault (text_steps (F.facts files.now) file.now)) }
 {
     let mut source = open(alloc, files, file, file, MOST_TEXT_BYTES)?;
     read_text(alloc, &mut source, file)
@@ -78,13 +81,14 @@ fn print_levels_of_file<'a, F: Files, W: Write>(
     folder: &str,
     direction: Direction,
     file: &'a str,
-    files: &mut F,
+    files: &F,
     out: &mut W,
 ) -> Result<(), Fault<'a>>
-    ensures printed { OnOk result (HasPrinted (WasReadWhole F.opens F.Source.ByteSource.gives F.Source.ByteSource.ended)
+    ensures printed { OnOk result (HasPrinted (F.facts files.now)
         (λ tables text. printed_levels tables text direction) folder.now file.now
         (W.contents out.old) (W.contents out.new)) }
-    ensures fault { IfErr result (λ fault. fault_status fault ≡ 3) }
+    ensures fault { IfErr result (FailsIn (printing_steps (F.facts files.now) folder.now file.now)
+        (W.contents out.old) (W.contents out.new)) }
 {
     let tables = read_tables(alloc, files, folder)?;
     let text = text_in_file(alloc, file, files)?;
@@ -100,13 +104,14 @@ fn print_reorder_of_file<'a, F: Files, W: Write>(
     direction: Direction,
     columns: Option<NonZeroU16>,
     file: &'a str,
-    files: &mut F,
+    files: &F,
     out: &mut W,
 ) -> Result<(), Fault<'a>>
-    ensures printed { OnOk result (HasPrinted (WasReadWhole F.opens F.Source.ByteSource.gives F.Source.ByteSource.ended)
+    ensures printed { OnOk result (HasPrinted (F.facts files.now)
         (λ tables text. printed_reorder tables text direction columns) folder.now file.now
         (W.contents out.old) (W.contents out.new)) }
-    ensures fault { IfErr result (λ fault. fault_status fault ≡ 3) }
+    ensures fault { IfErr result (FailsIn (printing_steps (F.facts files.now) folder.now file.now)
+        (W.contents out.old) (W.contents out.new)) }
 {
     let tables = read_tables(alloc, files, folder)?;
     let text = text_in_file(alloc, file, files)?;
@@ -118,12 +123,13 @@ fn print_reorder_of_file<'a, F: Files, W: Write>(
 pub fn perform<'a, F: Files, W: Write>(
     alloc: Global,
     request: Request<'a>,
-    files: &mut F,
+    files: &F,
     out: &mut W,
 ) -> Result<Outcome, Fault<'a>>
-    ensures done { IfOk result (IsDone (WasReadWhole F.opens F.Source.ByteSource.gives F.Source.ByteSource.ended)
+    ensures done { IfOk result (IsDone (F.facts files.now)
         (W.contents out.old) (W.contents out.new) request.entry) }
-    ensures fault { IfErr result (Fails (W.contents out.old) (W.contents out.new) request.entry) }
+    ensures fault { IfErr result (FailsIn (steps_of (F.facts files.now) request.entry)
+        (W.contents out.old) (W.contents out.new)) }
 {
     match request {
         Request::Levels {

@@ -14,7 +14,8 @@ fn read_to_end<'a, S: ByteSource>(
     source: &mut S,
     name: &'a str,
 ) -> Result<Vec<u8>, Fault<'a>>
-    ensures given { IfOk result (λ bytes. S.gives source.old bytes.items source.new) }
+    ensures given { (given : List ℕ) × S.gives source.old given source.new }
+    ensures bytes { IfOk result (λ bytes. S.gives source.old bytes.items source.new) }
     ensures ended { OnOk result (S.ended source.new) }
     ensures bound { IfOk result (λ bytes. length bytes.items ≤ S.room source.old) }
     ensures fault { IfErr result (EndsReading (S.failures source.new) ⊥ name.now) }
@@ -51,7 +52,8 @@ pub fn read_text<'a, S: ByteSource>(
     source: &mut S,
     name: &'a str,
 ) -> Result<Vec<char>, Fault<'a>>
-    ensures given { IfOk result (λ text. (bytes : List ℕ) × S.gives source.old bytes source.new
+    ensures given { (given : List ℕ) × S.gives source.old given source.new }
+    ensures text { IfOk result (λ text. (bytes : List ℕ) × S.gives source.old bytes source.new
         × IsUtf8 bytes × (text.items ≡ chars bytes)) }
     ensures ended { OnOk result (S.ended source.new) }
     ensures bound { IfOk result (λ text. length text.items ≤ S.room source.old) }

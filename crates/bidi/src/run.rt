@@ -1,7 +1,10 @@
 // A run of the command.
-ghost use Rattle.std.specs.Prelude.{◌≡◌, ◌≤◌, ℕ, Err, IfOk, IfErr};
-ghost use Rattle.bidi.specs.Outcomes.{ComesTo, Fails, HasRun, IsDone};
-ghost use Rattle.bidi.specs.ReadFiles.{WasReadWhole};
+ghost use Rattle.std.specs.Prelude.{◌≡◌, ◌≤◌, Ok, Err, IfOk, IfErr};
+ghost use Rattle.bidi.specs.Outcomes.{ComesTo, HasEnded, HasRun, IsDone};
+ghost use Rattle.bidi.specs.CommandLine.{IsRead};
+ghost use Rattle.clap.specs.Walk.{texts};
+ghost use Rattle.bidi.specs.ReadFiles.{no_facts};
+ghost use Rattle.bidi.specs.Steps.{FailsIn, steps_of};
 ghost use Rattle.bidi.specs.declared.command_line.Request.{Request};
 
 use crate::command_line::{Request, request_of};
@@ -17,12 +20,13 @@ use std::io::Write;
 fn perform_and_flush<'a, F: Files, W: Write>(
     alloc: Global,
     request: Request<'a>,
-    files: &mut F,
+    files: &F,
     out: &mut W,
 ) -> Result<Outcome, Fault<'a>>
-    ensures done { IfOk result (IsDone (WasReadWhole F.opens F.Source.ByteSource.gives F.Source.ByteSource.ended)
+    ensures done { IfOk result (IsDone (F.facts files.now)
         (W.contents out.old) (W.contents out.new) request.entry) }
-    ensures fault { IfErr result (Fails (W.contents out.old) (W.contents out.new) request.entry) }
+    ensures fault { IfErr result (FailsIn (steps_of (F.facts files.now) request.entry)
+        (W.contents out.old) (W.contents out.new)) }
 {
     let outcome = perform(alloc, request, files, out)?;
     if out.flush().is_err() {
@@ -40,7 +44,7 @@ fn print_help<W: Write>(out: &mut W, help: &clap::Error) -> Result<(), PrintFaul
 
 /// What words that are no request lead to: help, or the fault that is to be said.
 fn outcome_of_error<'a, W: Write>(error: clap::Error, out: &mut W) -> Result<Outcome, Fault<'a>>
-    ensures { ComesTo (λ _ _ _. ⊥) (W.contents out.old) (W.contents out.new) (Err error) result }
+    ensures { ComesTo no_facts (W.contents out.old) (W.contents out.new) (Err error) result }
 {
     if error.kind() == ErrorKind::OutOfMemory {
         return Err(Fault::OutOfMemory);
@@ -56,15 +60,34 @@ fn outcome_of_error<'a, W: Write>(error: clap::Error, out: &mut W) -> Result<Out
 fn outcome_of<'a, F: Files, W: Write>(
     alloc: Global,
     read: Result<Request<'a>, clap::Error>,
-    files: &mut F,
+    files: &F,
     out: &mut W,
 ) -> Result<Outcome, Fault<'a>>
-    ensures { ComesTo (WasReadWhole F.opens F.Source.ByteSource.gives F.Source.ByteSource.ended)
+    ensures { ComesTo (F.facts files.now)
         (W.contents out.old) (W.contents out.new) read.entry result }
 {
     match read {
         Ok(request) => perform_and_flush(alloc, request, files, out),
         Err(error) => outcome_of_error(error, out),
+    }
+}
+
+/// Does what words ask for, as they were read, and answers the exit status.
+fn run_as_read<'a, F: Files, W: Write, E: Write>(
+    alloc: Global,
+    read: Result<Request<'a>, clap::Error>,
+    files: &F,
+    out: &mut W,
+    err: &mut E,
+) -> u8
+    ensures status { result ≤ 3 }
+    ensures ended { HasEnded (F.facts files.now) (W.contents out.old) (W.contents out.new) read.entry result }
+    ensures no { result ≡ 1 → (request : Request) × (read.entry ≡ Ok request)
+        × IsDone (F.facts files.now) (W.contents out.old) (W.contents out.new) request (Outcome.Judged 1) }
+{
+    match outcome_of(alloc, read, files, out) {
+        Ok(outcome) => outcome.status(),
+        Err(fault) => fault.report(err),
     }
 }
 
@@ -75,23 +98,19 @@ fn outcome_of<'a, F: Files, W: Write>(
 pub fn run<F: Files, W: Write, E: Write>(
     alloc: Global,
     words: &[&str],
-    files: &mut F,
+    files: &F,
     out: &mut W,
     err: &mut E,
 ) -> u8
     ensures status { result ≤ 3 }
 
     // The status is that of what the words, as they were read, came to.
-    ensures outcome { HasRun (WasReadWhole F.opens F.Source.ByteSource.gives F.Source.ByteSource.ended)
-        (W.contents out.old) (W.contents out.new) result }
+    ensures outcome { HasRun (F.facts files.now) (W.contents out.old) (W.contents out.new) (texts words.now) result }
 
-    // A no is answered only where all bytes of a source have that verdict and its line was written.
-    ensures no { result ≡ 1 → (request : Request)
-        × IsDone (WasReadWhole F.opens F.Source.ByteSource.gives F.Source.ByteSource.ended)
-        (W.contents out.old) (W.contents out.new) request (Outcome.Judged 1) }
+    // A no is answered only where the words ask for a judgement, all bytes of the file have that verdict and its line
+    // was written.
+    ensures no { result ≡ 1 → (request : Request) × IsRead (texts words.now) request
+        × IsDone (F.facts files.now) (W.contents out.old) (W.contents out.new) request (Outcome.Judged 1) }
 {
-    match outcome_of(alloc, request_of(alloc, words), files, out) {
-        Ok(outcome) => outcome.status(),
-        Err(fault) => fault.report(err),
-    }
+    run_as_read(alloc, request_of(alloc, words), files, out, err)
 }

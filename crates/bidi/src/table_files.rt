@@ -1,11 +1,12 @@
 // The tables of a folder.
-ghost use Rattle.std.specs.Prelude.{◌≡◌, ℕ, List, IfOk, IfErr};
+ghost use Rattle.std.specs.Prelude.{◌≡◌, ℕ, List, [], IfOk, IfErr};
 ghost use Rattle.ucdfiles.specs.ClassFile.{class_fault, StatesClasses};
 ghost use Rattle.ucdfiles.specs.PairFiles.{bracket_fault, mirror_fault, StatesBrackets, StatesMirrors};
 ghost use Rattle.ucdfiles.specs.Tables.{class_at, bracket_at, glyph_at};
-ghost use Rattle.bidi.specs.FaultText.{EndsOpening, fault_status};
-ghost use Rattle.bidi.specs.ReadFiles.{AreTables, WasReadWhole, class_name, bracket_name, mirror_name, in_folder, most_file_bytes};
-ghost use Rattle.bidi.specs.TableFaults.{EndsTable, HasFault, table_fault};
+ghost use Rattle.bidi.specs.FaultText.{EndsOpening};
+ghost use Rattle.bidi.specs.ReadFiles.{AreTables, class_name, bracket_name, mirror_name, in_folder, most_file_bytes};
+ghost use Rattle.bidi.specs.Steps.{IsFirstFault, table_steps};
+ghost use Rattle.bidi.specs.TableFaults.{EndsTable, table_fault};
 
 use crate::fault::Fault;
 use crate::files::Files;
@@ -26,12 +27,13 @@ const MIRRORS: &str = "BidiMirroring.txt";
 /// Opens the table's file of this name in the folder.
 fn open_table<F: Files>(
     alloc: Global,
-    files: &mut F,
+    files: &F,
     folder: &str,
     name: &'static str,
 ) -> Result<F::Source, Fault<'static>>
-    ensures opened { IfOk result (F.opens (in_folder folder.now name.now) most_file_bytes) }
-    ensures fault { IfErr result (EndsOpening name.now) }
+    ensures opened { IfOk result (F.opens files.now (in_folder folder.now name.now) most_file_bytes) }
+    ensures fault { IfErr result
+        (EndsOpening ((F.facts files.now).Fails (in_folder folder.now name.now) most_file_bytes []) name.now) }
 {
     let path = format!(in alloc; "{folder}/{name}")?;
     open(alloc, files, path.as_str(), name, MOST_FILE_BYTES)
@@ -51,14 +53,14 @@ fn fault_of_table(name: &'static str, fault: TableFault) -> Fault<'static>
 /// The classes of the folder.
 fn read_classes<F: Files>(
     alloc: Global,
-    files: &mut F,
+    files: &F,
     folder: &str,
 ) -> Result<ClassTable, Fault<'static>>
     ensures ok { IfOk result (λ table. (bytes : List ℕ)
-        × WasReadWhole F.opens F.Source.ByteSource.gives F.Source.ByteSource.ended
-        (in_folder folder.now class_name) most_file_bytes bytes × StatesClasses bytes (class_at table)) }
+        × (F.facts files.now).Holds (in_folder folder.now class_name) most_file_bytes bytes × StatesClasses bytes (class_at table)) }
     ensures err { IfErr result (EndsTable
-        (HasFault F.opens F.Source.ByteSource.gives F.Source.ByteSource.ended class_fault (in_folder folder.now class_name)) class_name) }
+        (F.facts files.now) class_fault
+        (in_folder folder.now class_name) class_name) }
 {
     let mut source = open_table(alloc, files, folder, CLASSES)?;
     match ClassTable::read(alloc, &mut source) {
@@ -70,14 +72,14 @@ fn read_classes<F: Files>(
 /// The brackets of the folder.
 fn read_brackets<F: Files>(
     alloc: Global,
-    files: &mut F,
+    files: &F,
     folder: &str,
 ) -> Result<BracketTable, Fault<'static>>
     ensures ok { IfOk result (λ table. (bytes : List ℕ)
-        × WasReadWhole F.opens F.Source.ByteSource.gives F.Source.ByteSource.ended
-        (in_folder folder.now bracket_name) most_file_bytes bytes × StatesBrackets bytes (bracket_at table)) }
+        × (F.facts files.now).Holds (in_folder folder.now bracket_name) most_file_bytes bytes × StatesBrackets bytes (bracket_at table)) }
     ensures err { IfErr result (EndsTable
-        (HasFault F.opens F.Source.ByteSource.gives F.Source.ByteSource.ended bracket_fault (in_folder folder.now bracket_name)) bracket_name) }
+        (F.facts files.now) bracket_fault
+        (in_folder folder.now bracket_name) bracket_name) }
 {
     let mut source = open_table(alloc, files, folder, BRACKETS)?;
     match BracketTable::read(alloc, &mut source) {
@@ -89,14 +91,14 @@ fn read_brackets<F: Files>(
 /// The mirror images of the folder.
 fn read_mirrors<F: Files>(
     alloc: Global,
-    files: &mut F,
+    files: &F,
     folder: &str,
 ) -> Result<MirrorTable, Fault<'static>>
     ensures ok { IfOk result (λ table. (bytes : List ℕ)
-        × WasReadWhole F.opens F.Source.ByteSource.gives F.Source.ByteSource.ended
-        (in_folder folder.now mirror_name) most_file_bytes bytes × StatesMirrors bytes (glyph_at table)) }
+        × (F.facts files.now).Holds (in_folder folder.now mirror_name) most_file_bytes bytes × StatesMirrors bytes (glyph_at table)) }
     ensures err { IfErr result (EndsTable
-        (HasFault F.opens F.Source.ByteSource.gives F.Source.ByteSource.ended mirror_fault (in_folder folder.now mirror_name)) mirror_name) }
+        (F.facts files.now) mirror_fault
+        (in_folder folder.now mirror_name) mirror_name) }
 {
     let mut source = open_table(alloc, files, folder, MIRRORS)?;
     match MirrorTable::read(alloc, &mut source) {
@@ -109,12 +111,12 @@ fn read_mirrors<F: Files>(
 /// file that can't be opened or read, its least faulty line, or refused memory.
 pub fn read_tables<F: Files>(
     alloc: Global,
-    files: &mut F,
+    files: &F,
     folder: &str,
 ) -> Result<Tables, Fault<'static>>
-    ensures tables { IfOk result (AreTables
-        (WasReadWhole F.opens F.Source.ByteSource.gives F.Source.ByteSource.ended) folder.now) }
-    ensures fault { IfErr result (λ fault. fault_status fault ≡ 3) }
+    ensures tables { IfOk result (AreTables (F.facts files.now) folder.now) }
+    ensures fault { IfErr result
+        (IsFirstFault (table_steps (F.facts files.now) folder.now)) }
 {
     let classes = read_classes(alloc, files, folder)?;
     let brackets = read_brackets(alloc, files, folder)?;

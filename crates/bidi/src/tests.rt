@@ -1,6 +1,7 @@
 // Runs of the command over files and writers in memory.
 mod faults;
 mod judge;
+mod known;
 mod large;
 mod levels;
 mod memory;

@@ -22,6 +22,7 @@ pub fn judge_reader<S: ByteSource>(
 ) -> Result<Verdict, ReadFault>
     ensures fault { IsErr result ↔ (S.failures source.new ≡ 1) }
     ensures whole { OnOk result (S.ended source.new) }
+    ensures given { (given : List ℕ) × S.gives source.old given source.new }
     ensures verdict { IfOk result (λ verdict. (given : List ℕ) × S.gives source.old given source.new
         × ((limits : LimitsOf) (kind : Kind) (b : List ℕ) → Judges limits kind judge.entry b
         → verdict ≡ verdict_of limits kind (b ++ given))) }

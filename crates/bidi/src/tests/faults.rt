@@ -40,10 +40,7 @@ fn says_that_a_file_was_not_read(rt: HostRuntime) {
     }
 
     for readable in [0, 5, 12, 28] {
-        let failing = FailingFiles {
-            bytes: WRONG_UNDER_RTL,
-            readable,
-        };
+        let failing = FailingFiles::new(&WRONG_UNDER_RTL[..readable]);
         let outcome = outcome_over(alloc, &CLASSES_FILE, failing);
         assert_eq!(rt; outcome.status, 3, "{readable}");
         assert!(rt; outcome.out.written().is_empty(), "{readable}");
@@ -52,6 +49,31 @@ fn says_that_a_file_was_not_read(rt: HostRuntime) {
             b"bidi: cannot read FILE\n".as_slice(),
             "{readable}"
         );
+    }
+}
+
+#[test]
+fn names_the_file_by_its_word(rt: HostRuntime) {
+    let [classes, brackets, mirrors, _] = tables_and(b"");
+    let files = [classes, brackets, mirrors, whole("latin1", b"\xff")];
+    let rows: [(&[&str], &[u8]); 3] = [
+        (
+            &["bidi", "judge", "--kind", "classes", "none"],
+            b"bidi: cannot read none\n",
+        ),
+        (
+            &["bidi", "levels", "--tables", "t", "none"],
+            b"bidi: cannot read none\n",
+        ),
+        (
+            &["bidi", "reorder", "--tables", "t", "latin1"],
+            b"bidi: latin1: not UTF-8\n",
+        ),
+    ];
+    for (words, line) in rows {
+        let outcome = outcome_of(rt.alloc(), words, &files);
+        assert_eq!(rt; outcome.status, 3, "{words:?}");
+        assert_eq!(rt; outcome.err.written(), line, "{words:?}");
     }
 }
 
@@ -95,8 +117,8 @@ fn says_that_a_text_was_not_read(rt: HostRuntime) {
                 flushes: false,
             };
             let mut err = FixedWriter::new();
-            let mut files = MemoryFiles { files: &files };
-            let status = run(rt.alloc(), &words, &mut files, &mut out, &mut err);
+            let files = MemoryFiles::new(&files);
+            let status = run(rt.alloc(), &words, &files, &mut out, &mut err);
             assert_eq!(rt; status, 3);
             assert_eq!(rt; err.written(), line);
         }
@@ -249,8 +271,8 @@ fn says_that_a_write_failed(rt: HostRuntime) {
     for (words, left, flushes) in rows {
         let mut out = ShortWriter { left, flushes };
         let mut err = FixedWriter::new();
-        let mut files = MemoryFiles { files: &files };
-        let status = run(alloc, words, &mut files, &mut out, &mut err);
+        let files = MemoryFiles::new(&files);
+        let status = run(alloc, words, &files, &mut out, &mut err);
         assert_eq!(rt; status, 3, "{words:?}");
         assert_eq!(rt;
             err.written(),
@@ -274,8 +296,8 @@ fn keeps_the_status_where_the_fault_line_is_not_taken(rt: HostRuntime) {
             left: 5,
             flushes: false,
         };
-        let mut files = MemoryFiles { files: &[] };
-        let answer = run(rt.alloc(), words, &mut files, &mut out, &mut err);
+        let files = MemoryFiles::new(&[]);
+        let answer = run(rt.alloc(), words, &files, &mut out, &mut err);
         assert_eq!(rt; answer, status, "{words:?}");
     }
 }

@@ -66,10 +66,8 @@ struct CountedRun {
 fn counted(alloc: Global, words: &[&str], bytes: &[u8]) -> CountedRun {
     let mut out = LineCounter::new();
     let mut err = FixedWriter::new();
-    let mut files = MemoryFiles {
-        files: &tables_and(bytes),
-    };
-    let status = run(alloc, words, &mut files, &mut out, &mut err);
+    let files = tables_and(bytes);
+    let status = run(alloc, words, &MemoryFiles::new(&files), &mut out, &mut err);
     CountedRun {
         status,
         out: out.counts(),

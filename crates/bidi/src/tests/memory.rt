@@ -1,8 +1,14 @@
 // Files and writers in memory.
+ghost use Rattle.std.specs.Prelude.{◌≡◌, ℕ, List};
+ghost use Rattle.bidi.specs.FailingFiles.{begins-given, failing_facts};
+ghost use Rattle.bidi.specs.MemoryFiles.{StandsOver, begins-gave, file_of, memory_facts, stops-gave, whole-gave};
+ghost use Rattle.bidi.specs.ReadFiles.{no_facts};
+
 use crate::files::{Files, OpenFault};
 use crate::run::run;
 use std::alloc::Global;
 use std::io::{self, Write};
+use std::marker::Model;
 use units::cut_source::CutSource;
 use units::reader_source::ReaderSource;
 
@@ -15,7 +21,9 @@ pub struct MemoryFile<'a> {
 }
 
 /// A file that can be read to its end.
-pub fn whole<'a>(name: &'a str, bytes: &'a [u8]) -> MemoryFile<'a> {
+pub fn whole<'a>(name: &'a str, bytes: &'a [u8]) -> MemoryFile<'a>
+    ensures { result ≡ record { name = name.entry; bytes = bytes.entry; readable = u64.MAX } }
+{
     MemoryFile {
         name,
         bytes,
@@ -32,50 +40,95 @@ pub fn cut<'a>(name: &'a str, bytes: &'a [u8], readable: u64) -> MemoryFile<'a> 
     }
 }
 
-/// Files in memory.
+/// Files in memory. Contracts see them by their names, their bytes, and how many of those can be read.
 #[derive(Drop)]
 pub struct MemoryFiles<'a> {
-    pub files: &'a [MemoryFile<'a>],
+    files: &'a [MemoryFile<'a>],
+}
+
+impl<'a> Model for MemoryFiles<'a> {
+    ghost use Rattle.std.specs.Prelude.{List, map};
+    ghost use Rattle.bidi.specs.MemoryFiles.{StoredFile, stored_file};
+
+    ghost Value = { List StoredFile };
+
+    ghost view = { λ t. map (λ file. stored_file file.name file.bytes file.readable) t.files.now };
+}
+
+impl<'a> MemoryFiles<'a> {
+    ghost use Rattle.std.specs.Prelude.{◌≡◌, map};
+    ghost use Rattle.bidi.specs.MemoryFiles.{stored_file};
+
+    /// These files, of which the first of a name is the one that has it.
+    pub fn new(files: &'a [MemoryFile<'a>]) -> Self
+        ensures { result ≡ map (λ file. stored_file file.name file.bytes file.readable) files.now }
+    {
+        MemoryFiles { files }
+    }
 }
 
 impl<'a> Files for MemoryFiles<'a> {
     type Source = ReaderSource<&'a [u8]>;
 
-    ghost opens = { λ _ _ _. Unit {0} };
+    ghost opens = { λ files name most source. StandsOver (file_of files name) most source };
 
-    fn source(&mut self, _alloc: Global, name: &str, most: u64) -> Result<Self::Source, OpenFault> {
-        for file in self.files {
-            if file.name == name {
-                return Ok(ReaderSource::new(file.bytes, most.min(file.readable)));
-            }
+    ghost facts = { memory_facts };
+
+    ghost gave = { λ files name most opened now bytes. begins-gave (file_of files name) most opened now bytes };
+
+    ghost gave_all = { λ files name most opened now bytes. whole-gave (file_of files name) most opened now bytes };
+
+    ghost gave_up = { λ files name most opened now bytes stands given _.
+        stops-gave (file_of files name) most opened now bytes stands given };
+
+    fn source(&self, _alloc: Global, name: &str, most: u64) -> Result<Self::Source, OpenFault> {
+        match self.files.iter().find(|file| file.name == name) {
+            Some(file) => Ok(ReaderSource::new(file.bytes, most.min(file.readable))),
+            None => Err(OpenFault::Cannot),
         }
-        Err(OpenFault::Cannot)
     }
 }
 
-/// Files of which each has these bytes, and fails behind the first `readable` of them.
+/// Files of which each has the same bytes, and fails behind the first of them. Contracts see the bytes before that.
 #[derive(Drop)]
 pub struct FailingFiles<'a> {
-    pub bytes: &'a [u8],
-    pub readable: usize,
+    bytes: &'a [u8],
+}
+
+impl<'a> Model for FailingFiles<'a> {
+    ghost Value = { List ℕ };
+
+    ghost view = { λ t. t.bytes.now };
+}
+
+impl<'a> FailingFiles<'a> {
+    /// Files that fail behind these bytes.
+    pub fn new(bytes: &'a [u8]) -> Self
+        ensures { result ≡ bytes.now }
+    {
+        FailingFiles { bytes }
+    }
 }
 
 impl<'a> Files for FailingFiles<'a> {
     type Source = CutSource<'a>;
 
-    ghost opens = { λ _ _ _. Unit {0} };
+    ghost opens = { λ files _ _ source. source.left ≡ files };
 
-    fn source(
-        &mut self,
-        _alloc: Global,
-        _name: &str,
-        most: u64,
-    ) -> Result<Self::Source, OpenFault> {
-        if self.bytes.len() as u64 > most {
+    ghost facts = { failing_facts };
+
+    ghost gave = { λ files _ _ opened now bytes stands given. begins-given files opened.left now.left bytes stands given };
+
+    ghost gave_all = { λ _ _ _ _ _ _ _ _ ended. absurd ended };
+
+    ghost gave_up = { λ files _ _ opened now bytes stands given _. begins-given files opened.left now.left bytes stands given };
+
+    fn source(&self, _alloc: Global, _name: &str, most: u64) -> Result<Self::Source, OpenFault> {
+        let bytes = self.bytes;
+        if bytes.len() as u64 > most {
             return Err(OpenFault::Cannot);
         }
-        let readable = self.readable.min(self.bytes.len());
-        Ok(CutSource::new(self.bytes, readable))
+        Ok(CutSource::new(bytes, bytes.len()))
     }
 }
 
@@ -86,14 +139,17 @@ pub struct NoMemory;
 impl Files for NoMemory {
     type Source = CutSource<'static>;
 
-    ghost opens = { λ _ _ _. Unit {0} };
+    ghost opens = { λ _ _ _ _. ⊥ };
 
-    fn source(
-        &mut self,
-        _alloc: Global,
-        _name: &str,
-        _most: u64,
-    ) -> Result<Self::Source, OpenFault> {
+    ghost facts = { λ _. no_facts };
+
+    ghost gave = { λ _ _ _ _ _ _ opened _. absurd opened };
+
+    ghost gave_all = { λ _ _ _ _ _ _ opened _ _. absurd opened };
+
+    ghost gave_up = { λ _ _ _ _ _ _ opened _ _. absurd opened };
+
+    fn source(&self, _alloc: Global, _name: &str, _most: u64) -> Result<Self::Source, OpenFault> {
         Err(OpenFault::Memory)
     }
 }
@@ -170,16 +226,16 @@ pub struct Outcome {
 }
 
 /// A run over such files.
-pub fn outcome_over<F: Files + Drop>(alloc: Global, words: &[&str], mut files: F) -> Outcome {
+pub fn outcome_over<F: Files + Drop>(alloc: Global, words: &[&str], files: F) -> Outcome {
     let mut out = FixedWriter::new();
     let mut err = FixedWriter::new();
-    let status = run(alloc, words, &mut files, &mut out, &mut err);
+    let status = run(alloc, words, &files, &mut out, &mut err);
     Outcome { status, out, err }
 }
 
 /// A run over these files.
 pub fn outcome_of(alloc: Global, words: &[&str], files: &[MemoryFile<'_>]) -> Outcome {
-    outcome_over(alloc, words, MemoryFiles { files })
+    outcome_over(alloc, words, MemoryFiles::new(files))
 }
 
 pub const CLASS_FILE: &[u8] = b"# @missing: 0000..10FFFF; Left_To_Right

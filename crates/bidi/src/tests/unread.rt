@@ -44,10 +44,7 @@ fn says_that_a_file_was_not_read_to_its_end(rt: HostRuntime) {
 #[test]
 fn says_that_a_read_failed(rt: HostRuntime) {
     for readable in 0..=28 {
-        let failing = FailingFiles {
-            bytes: BYTES,
-            readable,
-        };
+        let failing = FailingFiles::new(&BYTES[..readable]);
         expect_unread(&rt, &outcome_over(rt.alloc(), COMMANDS[0], failing));
     }
 }

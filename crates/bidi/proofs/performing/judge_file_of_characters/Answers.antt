@@ -1,29 +1,24 @@
-use Rattle.std.proofs.Common.{ℕ, List, Option, Result, Ok, Err, IfOk, OnOk, refl}
-use Rattle.ucdfiles.specs.Tables.{TablesOf}
-use Rattle.units.specs.Limits.{standard}
-use Rattle.bidtests.specs.CharactersFile.{characters_verdict}
-use Rattle.bidtests.specs.FileKinds.{unit_by}
-use Rattle.bidi.specs.Judged.{HasJudged, IsCharactersVerdict, SaysVerdict}
-use Rattle.bidi.specs.ReadFiles.{AreTables, WasReadWhole, most_file_bytes}
-use Rattle.bidi.specs.declared.fault.Fault.{Fault}
+use Rattle.std.proofs.Common.{rules, [], ◌∷◌}
+use Rattle.std.proofs.lemmas.Result.{IfErr-weaker}
+use Rattle.bidi.proofs.FirstFaults.{FailsIn-behind, tables_done}
+use Rattle.bidi.proofs.SourceEnds.{judging_ends}
+use Rattle.bidi.specs.ReadFiles.{most_file_bytes}
+use Rattle.bidi.specs.Steps.{file_step, table_steps}
 use Rattle.bidi.proofs.performing.judge_file_of_characters.Goals as goal
 
-judged : {S : Type 0} (opens : List ℕ → ℕ → S → Type 0) (gives : S → List ℕ → S → Type 0) (ended : S → Type 0)
-    (folder file : List ℕ) (tables : TablesOf) (opened closed : S) (before after : Option (List ℕ)) (r : Result ℕ Fault)
-    → AreTables (WasReadWhole opens gives ended) folder tables → opens file most_file_bytes opened → OnOk r (ended closed)
-    → IfOk r (λ status. (given : List ℕ) × gives opened given closed
-    × SaysVerdict before after (characters_verdict standard (unit_by tables) given) status)
-    → IfOk r (HasJudged (WasReadWhole opens gives ended) (IsCharactersVerdict (WasReadWhole opens gives ended) folder) file before after)
-judged opens gives ended folder file tables opened closed before after (Ok status) stated as_named whole verdict = record {
-  bytes = verdict.0;
-  read = record { opened = opened; closed = closed; as_named = as_named; given = verdict.1; whole = whole };
-  verdict = characters_verdict standard (unit_by tables) verdict.0;
-  is = (tables, stated, refl);
-  said = verdict.2;
-}
-judged opens gives ended folder file tables opened closed before after (Err fault) stated as_named whole verdict = tt
+pub returns-in_err-source-clause-fault : goal.returns-in_err-source-clause-fault
+returns-in_err-source-clause-fault g c =
+    let done = tables_done _ _ _ c.in_ok-tables.ensures.tables in search rules
 
-pub returns-clause-judged : goal.returns-clause-judged
-returns-clause-judged g c =
-    judged _ _ _ _ _ c.in_ok-tables.tables c.in_ok-source.source c.judge_characters.new.source _ _ c.judge_characters.result
-    c.in_ok-tables.ensures.tables c.in_ok-source.ensures.opened c.judge_characters.ensures.ended c.judge_characters.ensures.verdict
+pub returns-clause-fault : goal.returns-clause-fault
+returns-clause-fault g c =
+    let opened = c.in_ok-source.ensures.opened in
+    let given = c.judge_characters.ensures.given in
+    let done = tables_done _ _ _ c.in_ok-tables.ensures.tables in
+    let files = g.F.Files.facts c.args.files.now in
+    let file = c.args.file.now in
+    let ends = judging_ends files file _ _ _ _ given.0 c.judge_characters.result
+    (λ failed. g.met.F.Files.gave_up _ _ _ _ _ _ opened given.1 failed)
+    (λ whole. g.met.F.Files.gave_all _ _ _ _ _ _ opened given.1 whole) c.judge_characters.ensures.fault in
+    IfErr-weaker c.judge_characters.result _ _
+    (λ fault h. FailsIn-behind (table_steps files c.args.folder.now) (file_step files most_file_bytes file ∷ []) _ _ fault done h) ends

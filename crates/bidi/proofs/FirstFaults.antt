@@ -1,0 +1,100 @@
+-- The fault of the first step that fails, where steps are joined; and what ends a step.
+use Rattle.std.proofs.Common.{◌≡◌, ℕ, List, [], ◌∷◌, ◌++◌, Option, None, Some, Result, Ok, Err, IfErr, IsErrAnd, inl, inr, refl, subst, sym}
+use Rattle.std.specs.Str.{IsUtf8}
+use Rattle.units.specs.Text.{lines_of}
+use Rattle.ucdfiles.specs.ClassFile.{class_fault, class_file_fault}
+use Rattle.ucdfiles.specs.Faults.{first_fault}
+use Rattle.ucdfiles.specs.PairFiles.{bracket_fault, bracket_file_fault, mirror_fault, mirror_file_fault}
+use Rattle.ucdfiles.specs.Tables.{TablesOf}
+use Rattle.bidi.specs.ReadFiles.{AreTables, FileFacts, most_file_bytes}
+use Rattle.bidi.specs.FaultText.{print_fault}
+use Rattle.bidi.specs.Outcomes.{IsDone}
+use Rattle.bidi.specs.Printed.{most_text_bytes}
+use Rattle.bidi.specs.Steps.{AreDone, EndsWriting, FailsIn, IsFirstFault, Step, file_step, printing_steps, steps_of, table_steps, text_steps}
+use Rattle.bidi.specs.declared.command_line.FileKind.TheVariants.{Classes, Characters}
+use Rattle.bidi.specs.declared.command_line.Request.{Request}
+use Rattle.bidi.specs.declared.command_line.Request.TheVariants.{Levels, Reorder, Judge}
+use Rattle.bidi.specs.declared.fault.Fault.{Fault}
+use Rattle.bidi.specs.declared.fault.PrintFault.{PrintFault}
+use Rattle.bidi.specs.declared.fault.PrintFault.TheVariants.{Write, Memory}
+use Rattle.bidi.specs.declared.outcome.Outcome.{Outcome}
+use Rattle.bidi.specs.declared.outcome.Outcome.TheVariants.{Judged, Printed, Helped}
+
+pub first_of_all : (xs ys : List Step) (fault : Fault) → IsFirstFault xs fault → IsFirstFault (xs ++ ys) fault
+first_of_all [] ys fault h = absurd h
+first_of_all (x ∷ xs) ys fault (inl here) = inl here
+first_of_all (x ∷ xs) ys fault (inr later) = inr (later.0, first_of_all xs ys fault later.1)
+
+pub first_behind : (xs ys : List Step) (fault : Fault) → AreDone xs → IsFirstFault ys fault → IsFirstFault (xs ++ ys) fault
+first_behind [] ys fault done h = h
+first_behind (x ∷ xs) ys fault done h = inr (done.0, first_behind xs ys fault done.1 h)
+
+pub all_done : (xs ys : List Step) → AreDone xs → AreDone ys → AreDone (xs ++ ys)
+all_done [] ys done rest = rest
+all_done (x ∷ xs) ys done rest = (done.0, all_done xs ys done.1 rest)
+
+-- behind steps that are done, what ends the rest ends all
+pub FailsIn-behind : (xs ys : List Step) (before after : Option (List ℕ)) (fault : Fault) → AreDone xs → FailsIn ys before after fault
+    → FailsIn (xs ++ ys) before after fault
+FailsIn-behind xs ys before after fault done (inl h) = inl (first_behind xs ys fault done h.0, h.1)
+FailsIn-behind xs ys before after fault done (inr h) = inr (all_done xs ys done h.0, h.1)
+
+-- the tables that were read state no fault
+pub class_faultless : (bytes : List ℕ) → class_file_fault bytes ≡ None → first_fault class_fault [] (lines_of bytes) ≡ None
+unfolding class_file_fault
+class_faultless bytes h = h
+
+pub bracket_faultless : (bytes : List ℕ) → bracket_file_fault bytes ≡ None → first_fault bracket_fault [] (lines_of bytes) ≡ None
+unfolding bracket_file_fault
+bracket_faultless bytes h = h
+
+pub mirror_faultless : (bytes : List ℕ) → mirror_file_fault bytes ≡ None → first_fault mirror_fault [] (lines_of bytes) ≡ None
+unfolding mirror_file_fault
+mirror_faultless bytes h = h
+
+pub tables_done : (files : FileFacts) (folder : List ℕ) (tables : TablesOf) → AreTables files folder tables → AreDone (table_steps files folder)
+tables_done files folder tables h = (
+  (h.class_bytes, h.class_file, class_faultless h.class_bytes h.classes.faultless),
+  (
+    (h.bracket_bytes, h.bracket_file, bracket_faultless h.bracket_bytes h.brackets.faultless),
+    ((h.mirror_bytes, h.mirror_file, mirror_faultless h.mirror_bytes h.mirrors.faultless), tt),
+  ),
+)
+
+-- and so are all steps of the printing of a text
+pub text_done : (files : FileFacts) (folder file : List ℕ) (tables : TablesOf) → AreTables files folder tables
+    → (bytes : List ℕ) → files.Holds file most_text_bytes bytes → IsUtf8 bytes → AreDone (printing_steps files folder file)
+unfolding printing_steps
+text_done files folder file tables h bytes whole utf8 =
+    all_done (table_steps files folder) (text_steps files file) (tables_done files folder tables h) ((bytes, whole), ((bytes, whole, utf8), tt))
+
+writing_ends : (f : PrintFault) → EndsWriting (print_fault f)
+writing_ends Write = tt
+writing_ends Memory = tt
+
+-- where all was read, a fault of printing is one of writing
+pub printing_fails : {A : Type 0} (steps : List Step) (before after : Option (List ℕ)) (r : Result A Fault) (f : PrintFault) → AreDone steps
+    → IsErrAnd r (λ fault. fault ≡ print_fault f) → IfErr r (FailsIn steps before after)
+printing_fails steps before after (Ok x) f done h = tt
+printing_fails steps before after (Err fault) f done h = inr (done, subst EndsWriting (sym h) (writing_ends f))
+
+-- what was done was read before
+pub request_done : (files : FileFacts) (before after : Option (List ℕ)) (request : Request) (outcome : Outcome)
+    → IsDone files before after request outcome → AreDone (steps_of files request)
+request_done files before after (Levels folder direction file) Printed h =
+    text_done files folder.now file.now h.tables h.stated h.bytes h.read h.utf8
+request_done files before after (Reorder folder direction columns file) Printed h =
+    text_done files folder.now file.now h.tables h.stated h.bytes h.read h.utf8
+request_done files before after (Judge Classes tables file) (Judged status) h = ((h.bytes, h.read), tt)
+request_done files before after (Judge Characters (Some folder) file) (Judged status) h =
+    all_done (table_steps files folder.now) (file_step files most_file_bytes file.now ∷ [])
+    (tables_done files folder.now h.is.0 h.is.1) ((h.bytes, h.read), tt)
+request_done files before after (Levels folder direction file) (Judged status) h = absurd h
+request_done files before after (Levels folder direction file) Helped h = absurd h
+request_done files before after (Reorder folder direction columns file) (Judged status) h = absurd h
+request_done files before after (Reorder folder direction columns file) Helped h = absurd h
+request_done files before after (Judge Classes tables file) Printed h = absurd h
+request_done files before after (Judge Classes tables file) Helped h = absurd h
+request_done files before after (Judge Characters (Some folder) file) Printed h = absurd h
+request_done files before after (Judge Characters (Some folder) file) Helped h = absurd h
+request_done files before after (Judge Characters None file) outcome h = elim outcome as (λ o. IsDone files before after (Judge Characters None file) o → ⊥ × Unit {0}) [ Judged status ↦ λ k. absurd k | Printed ↦ λ k. absurd k | Helped ↦ λ k. absurd k ] h

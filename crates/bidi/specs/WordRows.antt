@@ -1,0 +1,68 @@
+-- Worked command lines: the subcommand that the words name, and the values that they give it.
+use Rattle.std.specs.Prelude.{◌≡◌, List, [], ◌∷◌, Option, None, Some, codes, option_map, refl}
+use Rattle.clap.proofs.OnLiterals.{clap_on_literals}
+use Rattle.clap.specs.Simple.{subcommand_of}
+use Rattle.clap.specs.Walk.{Row, Text, first_of, one_of}
+use Rattle.units.specs.declared.level.Direction.{Direction}
+use Rattle.units.specs.declared.level.Direction.TheVariants.{Auto, Rtl}
+use Rattle.bidi.specs.CommandLine.{Choice, bidi_app, direction_of, kind_named}
+use Rattle.bidi.specs.declared.command_line.FileKind.{FileKind}
+use Rattle.bidi.specs.declared.command_line.FileKind.TheVariants.{Characters}
+
+-- a subcommand, with its folder, direction, text of columns, kind and file
+pub record Met : Type 0 where
+  pub name : Text
+  pub tables : Option Text
+  pub direction : Direction
+  pub columns : Option Text
+  pub kind : Option FileKind
+  pub file : Option Text
+
+abbrev pub met : Text × List Row → Met
+met p = record {
+  name = p.0;
+  tables = first_of (codes "tables") p.1;
+  direction = direction_of (first_of (codes "direction") p.1);
+  columns = one_of (codes "columns") p.1;
+  kind = kind_named (first_of (codes "kind") p.1);
+  file = first_of (codes "file") p.1;
+}
+
+-- the direction is auto where none is given
+pub levels_words : (a b kinds : Choice) → option_map met (subcommand_of (bidi_app a b kinds)
+    (codes "bidi" ∷ codes "levels" ∷ codes "--tables" ∷ codes "t" ∷ codes "FILE" ∷ [])) ≡ Some (record {
+      name = codes "levels";
+      tables = Some (codes "t");
+      direction = Auto;
+      columns = None;
+      kind = None;
+      file = Some (codes "FILE");
+    })
+unfolding clap_on_literals
+levels_words a b kinds = refl
+
+-- options in any order, with values behind `=` too
+pub reorder_words : (a b kinds : Choice) → option_map met (subcommand_of (bidi_app a b kinds)
+    (codes "bidi" ∷ codes "reorder" ∷ codes "--columns=2" ∷ codes "FILE" ∷ codes "--direction" ∷ codes "rtl" ∷ codes "--tables=t" ∷ [])) ≡ Some (record {
+      name = codes "reorder";
+      tables = Some (codes "t");
+      direction = Rtl;
+      columns = Some (codes "2");
+      kind = None;
+      file = Some (codes "FILE");
+    })
+unfolding clap_on_literals
+reorder_words a b kinds = refl
+
+-- of a kind, with tables
+pub judge_words : (a b kinds : Choice) → option_map met (subcommand_of (bidi_app a b kinds)
+    (codes "bidi" ∷ codes "judge" ∷ codes "--kind" ∷ codes "characters" ∷ codes "--tables" ∷ codes "t" ∷ codes "FILE" ∷ [])) ≡ Some (record {
+      name = codes "judge";
+      tables = Some (codes "t");
+      direction = Auto;
+      columns = None;
+      kind = Some Characters;
+      file = Some (codes "FILE");
+    })
+unfolding clap_on_literals
+judge_words a b kinds = refl

@@ -1,0 +1,72 @@
+// Runs over files in memory whose printed bytes a contract says.
+ghost use Rattle.std.specs.Prelude.{◌≡◌, ◌++◌, codes, true};
+ghost use Rattle.bidi.specs.KnownRuns.{alef_line};
+
+use crate::command_line::{FileKind, Request};
+use crate::performing::perform;
+use crate::tests::memory::{MemoryFiles, whole};
+use std::alloc::Global;
+use units::level::Direction;
+
+/// Prints the levels of a file that holds an alef, and answers whether that was done.
+fn print_levels_of_alef(alloc: Global, out: &mut Vec<u8>) -> bool
+    ensures { result ≡ true → out.new.items ≡ out.old.items ++ codes "paragraph 0 level 1\n0 05D0 R 1\n" }
+{
+    let files = [
+        whole("t/DerivedBidiClass.txt", b"05D0 ; R\n"),
+        whole("t/BidiBrackets.txt", b""),
+        whole("t/BidiMirroring.txt", b""),
+        whole("FILE", b"\xd7\x90"),
+    ];
+    let request = Request::Levels {
+        tables: "t",
+        direction: Direction::Auto,
+        file: "FILE",
+    };
+    perform(alloc, request, &MemoryFiles::new(&files), out).is_ok()
+}
+
+/// Prints the lines of a file that holds an alef, and answers whether that was done.
+fn print_lines_of_alef(alloc: Global, out: &mut Vec<u8>) -> bool
+    ensures { result ≡ true → out.new.items ≡ out.old.items ++ alef_line }
+{
+    let files = [
+        whole("t/DerivedBidiClass.txt", b"05D0 ; R\n"),
+        whole("t/BidiBrackets.txt", b""),
+        whole("t/BidiMirroring.txt", b""),
+        whole("FILE", b"\xd7\x90"),
+    ];
+    let request = Request::Reorder {
+        tables: "t",
+        direction: Direction::Auto,
+        columns: None,
+        file: "FILE",
+    };
+    perform(alloc, request, &MemoryFiles::new(&files), out).is_ok()
+}
+
+/// Judges a file of one row, which is right, and answers whether that was done.
+fn judge_a_right_row(alloc: Global, out: &mut Vec<u8>) -> bool
+    ensures { result ≡ true → out.new.items ≡ out.old.items ++ codes "yes: 1 rows, 1 cases\n" }
+{
+    let files = [whole("FILE", b"@Levels: 1 1 0\n@Reorder: 1 0 2\nR B L; 1\n")];
+    let request = Request::Judge {
+        kind: FileKind::Classes,
+        tables: None,
+        file: "FILE",
+    };
+    perform(alloc, request, &MemoryFiles::new(&files), out).is_ok()
+}
+
+#[test]
+fn prints_what_the_contracts_say(rt: HostRuntime) {
+    let alloc = rt.alloc();
+    let mut out = Vec::new(alloc);
+    assert!(rt; print_levels_of_alef(alloc, &mut out));
+    assert!(rt; print_lines_of_alef(alloc, &mut out));
+    assert!(rt; judge_a_right_row(alloc, &mut out));
+    assert_eq!(rt;
+        out.as_slice(),
+        b"paragraph 0 level 1\n0 05D0 R 1\n\xd7\x90\nyes: 1 rows, 1 cases\n".as_slice()
+    );
+}
