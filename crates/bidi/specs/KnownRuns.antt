@@ -1,6 +1,8 @@
 -- Small files, and what is printed of them.
-use Rattle.std.specs.Prelude.{◌≡◌, ◌^◌, ◌-◌, ℕ, List, [], ◌∷◌, Option, None, Some, codes, refl}
+use Rattle.std.specs.Prelude.{◌≡◌, ◌^◌, ◌-◌, ℕ, List, [], ◌∷◌, Option, None, Some, Result, Ok, Err, IfOk, is_ok, true, codes, refl}
+use Rattle.std.specs.Borrow.{Bor}
 use Rattle.std.specs.Char.{encode_utf8}
+use Rattle.std.specs.Fmt.{digits}
 use Rattle.std.specs.Io.KnownBytes.{Appends}
 use Rattle.std.specs.Str.{chars}
 use Rattle.std.proofs.Common.{ap, ap₂, lit≤, sym, subst, ◌∙◌}
@@ -34,6 +36,12 @@ use Rattle.bidi.specs.PrintedTexts.{printed_levels, printed_reorder, units_of}
 use Rattle.bidi.specs.ReadFiles.{AreTables}
 use Rattle.bidi.specs.ReorderText.{reorder_text}
 use Rattle.bidi.specs.VerdictText.{verdict_text}
+use Rattle.bidi.specs.Outcomes.{IsDone}
+use Rattle.bidi.specs.declared.command_line.FileKind.TheVariants.{Classes}
+use Rattle.bidi.specs.declared.command_line.Request.TheVariants.{Levels, Reorder, Judge}
+use Rattle.bidi.specs.declared.fault.Fault.{Fault}
+use Rattle.bidi.specs.declared.outcome.Outcome.{Outcome}
+use Rattle.bidi.specs.declared.outcome.Outcome.TheVariants.{Judged, Printed, Helped}
 
 abbrev pub whole_file : List ℕ → List ℕ → StoredFile
 whole_file name bytes = record { name = name; bytes = bytes; readable = 2 ^ 64 - 1 }
@@ -76,7 +84,7 @@ alef_units tables h =
     ap₂ (λ (c : Class) (b : Bracket). let unit : BidiUnit = record { class = c; bracket = b } in unit ∷ []) class bracket
 
 levels_row : levels_text (1488 ∷ []) alef (layout_of standard alef Auto []) ≡ codes "paragraph 0 level 1\n0 05D0 R 1\n"
-unfolding matching_pdi matching_initiator partner_of isolate_holds isolate_around first_strong para_level_of matching_pdf embedding_holds chain entered explicit_at after_weak stop_of bracket_pairs_of closer_of after_paired after_neutral resolved_levels after_resets line_order layout_of code_text
+unfolding matching_pdi matching_initiator partner_of isolate_holds isolate_around first_strong para_level_of matching_pdf embedding_holds chain entered explicit_at after_weak stop_of bracket_pairs_of closer_of after_paired after_neutral resolved_levels after_resets line_order layout_of code_text digits
 levels_row = refl
 
 pub levels_of_alef : (before after : Option (List ℕ))
@@ -117,8 +125,41 @@ verdict_row : classes_verdict standard row_bytes ≡ Yes 1 1
 unfolding classes_verdict verdict_on classes_line matching_pdi matching_initiator partner_of isolate_holds isolate_around first_strong para_level_of matching_pdf embedding_holds chain entered explicit_at after_weak stop_of bracket_pairs_of closer_of after_paired after_neutral resolved_levels after_resets line_order layout_of
 verdict_row = refl
 
+text_row : verdict_text (Yes 1 1) ≡ codes "yes: 1 rows, 1 cases\n"
+unfolding digits
+text_row = refl
+
 pub line_of_verdict : (before after : Option (List ℕ)) (status : ℕ)
     → HasJudged (memory_facts row_files) IsClassesVerdict (codes "FILE") before after status → Appends before after (codes "yes: 1 rows, 1 cases\n")
 line_of_verdict before after status h =
     let verdict : h.verdict ≡ Yes 1 1 = h.is ∙ ap (classes_verdict standard) h.read.0 ∙ verdict_row in
-    subst (λ (v : Verdict). Appends before after (verdict_text v)) verdict h.said.line
+    subst (λ (bytes : List ℕ). Appends before after bytes) (ap verdict_text verdict ∙ text_row) h.said.line
+
+-- what was done over these files, as a request asks
+pub levels_done : (files : List StoredFile) (folder file : Bor (List ℕ)) (before after : Option (List ℕ)) (outcome : Outcome) → files ≡ alef_files
+    → folder.now ≡ codes "t" → file.now ≡ codes "FILE" → IsDone (memory_facts files) before after (Levels folder Auto file) outcome
+    → Appends before after (codes "paragraph 0 level 1\n0 05D0 R 1\n")
+levels_done files folder file before after (Judged status) e f g h = absurd h
+levels_done files folder file before after Helped e f g h = absurd h
+levels_done files folder file before after Printed e f g h =
+    levels_of_alef before after (rw (e, f, g) at h)
+
+pub line_done : (files : List StoredFile) (folder file : Bor (List ℕ)) (before after : Option (List ℕ)) (outcome : Outcome) → files ≡ alef_files
+    → folder.now ≡ codes "t" → file.now ≡ codes "FILE" → IsDone (memory_facts files) before after (Reorder folder Auto None file) outcome
+    → Appends before after alef_line
+line_done files folder file before after (Judged status) e f g h = absurd h
+line_done files folder file before after Helped e f g h = absurd h
+line_done files folder file before after Printed e f g h =
+    line_of_alef before after (rw (e, f, g) at h)
+
+pub verdict_done : (files : List StoredFile) (file : Bor (List ℕ)) (before after : Option (List ℕ)) (outcome : Outcome) → files ≡ row_files
+    → file.now ≡ codes "FILE" → IsDone (memory_facts files) before after (Judge Classes None file) outcome
+    → Appends before after (codes "yes: 1 rows, 1 cases\n")
+verdict_done files file before after Printed e g h = absurd h
+verdict_done files file before after Helped e g h = absurd h
+verdict_done files file before after (Judged status) e g h = line_of_verdict before after status (rw (e, g) at h)
+
+-- of a result that is one
+pub when_ok : (r : Result Outcome Fault) (P : Outcome → Type 0) (Q : Type 0) → is_ok r ≡ true → IfOk r P → ((o : Outcome) → P o → Q) → Q
+when_ok (Ok outcome) P Q e h f = f outcome h
+when_ok (Err fault) P Q e h f = cc

@@ -9,7 +9,9 @@ use std::alloc::Global;
 use units::level::Direction;
 
 /// Prints the levels of a file that holds an alef, and answers whether that was done.
-fn print_levels_of_alef(alloc: Global, out: &mut Vec<u8>) -> bool
+fn print_levels_of_alef(alloc: Global, tables: &str, file: &str, out: &mut Vec<u8>) -> bool
+    requires tables { tables.now ≡ codes "t" }
+    requires file { file.now ≡ codes "FILE" }
     ensures { result ≡ true → out.new.items ≡ out.old.items ++ codes "paragraph 0 level 1\n0 05D0 R 1\n" }
 {
     let files = [
@@ -19,15 +21,17 @@ fn print_levels_of_alef(alloc: Global, out: &mut Vec<u8>) -> bool
         whole("FILE", b"\xd7\x90"),
     ];
     let request = Request::Levels {
-        tables: "t",
+        tables,
         direction: Direction::Auto,
-        file: "FILE",
+        file,
     };
     perform(alloc, request, &MemoryFiles::new(&files), out).is_ok()
 }
 
 /// Prints the lines of a file that holds an alef, and answers whether that was done.
-fn print_lines_of_alef(alloc: Global, out: &mut Vec<u8>) -> bool
+fn print_lines_of_alef(alloc: Global, tables: &str, file: &str, out: &mut Vec<u8>) -> bool
+    requires tables { tables.now ≡ codes "t" }
+    requires file { file.now ≡ codes "FILE" }
     ensures { result ≡ true → out.new.items ≡ out.old.items ++ alef_line }
 {
     let files = [
@@ -37,23 +41,24 @@ fn print_lines_of_alef(alloc: Global, out: &mut Vec<u8>) -> bool
         whole("FILE", b"\xd7\x90"),
     ];
     let request = Request::Reorder {
-        tables: "t",
+        tables,
         direction: Direction::Auto,
         columns: None,
-        file: "FILE",
+        file,
     };
     perform(alloc, request, &MemoryFiles::new(&files), out).is_ok()
 }
 
 /// Judges a file of one row, which is right, and answers whether that was done.
-fn judge_a_right_row(alloc: Global, out: &mut Vec<u8>) -> bool
+fn judge_a_right_row(alloc: Global, file: &str, out: &mut Vec<u8>) -> bool
+    requires { file.now ≡ codes "FILE" }
     ensures { result ≡ true → out.new.items ≡ out.old.items ++ codes "yes: 1 rows, 1 cases\n" }
 {
     let files = [whole("FILE", b"@Levels: 1 1 0\n@Reorder: 1 0 2\nR B L; 1\n")];
     let request = Request::Judge {
         kind: FileKind::Classes,
         tables: None,
-        file: "FILE",
+        file,
     };
     perform(alloc, request, &MemoryFiles::new(&files), out).is_ok()
 }
@@ -62,9 +67,9 @@ fn judge_a_right_row(alloc: Global, out: &mut Vec<u8>) -> bool
 fn prints_what_the_contracts_say(rt: HostRuntime) {
     let alloc = rt.alloc();
     let mut out = Vec::new(alloc);
-    assert!(rt; print_levels_of_alef(alloc, &mut out));
-    assert!(rt; print_lines_of_alef(alloc, &mut out));
-    assert!(rt; judge_a_right_row(alloc, &mut out));
+    assert!(rt; print_levels_of_alef(alloc, "t", "FILE", &mut out));
+    assert!(rt; print_lines_of_alef(alloc, "t", "FILE", &mut out));
+    assert!(rt; judge_a_right_row(alloc, "FILE", &mut out));
     assert_eq!(rt;
         out.as_slice(),
         b"paragraph 0 level 1\n0 05D0 R 1\n\xd7\x90\nyes: 1 rows, 1 cases\n".as_slice()
