@@ -1,0 +1,39 @@
+// What a handle may hold.
+ghost use Rattle.std.specs.Prelude.{◌≡◌, Some, None, MatchOption};
+ghost use Rattle.lines.specs.Layouts.{view_of};
+ghost use Rattle.bidi_c.specs.Holdings.{capacity_in, room_in, layout_held};
+
+use crate::room::Room;
+use lines::layout::Layout;
+use ucdfiles::tables::Tables;
+
+/// What a handle may hold.
+#[derive(Drop)]
+pub enum Held {
+    /// The tables of the three property files.
+    Tables(Tables),
+    /// Room for texts, with the layout of the last one.
+    Room(Room),
+}
+
+impl Held {
+    /// The length of the longest text that there is room for, if this is a room.
+    pub(crate) fn capacity(&self) -> Option<usize>
+        ensures { result ≡ capacity_in (Some self.now) }
+    {
+        match self {
+            Held::Room(room) => Some(room.scratch.room()),
+            _ => None,
+        }
+    }
+
+    /// The layout that is held, if this is a room.
+    pub(crate) fn layout(&self) -> Option<Layout<'_>>
+        ensures { MatchOption result (room_in (Some self.now) ≡ None) (λ layout. view_of layout ≡ layout_held (Some self.now)) }
+    {
+        match self {
+            Held::Room(room) => Some(room.scratch.layout()),
+            _ => None,
+        }
+    }
+}
