@@ -8,3 +8,4 @@ pub mod RefusedCalls
 pub mod MadeTables
 pub mod LaidOut
 pub mod LinesOut
+pub mod Visual

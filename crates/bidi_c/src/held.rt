@@ -1,7 +1,7 @@
 // What a handle may hold.
 ghost use Rattle.std.specs.Prelude.{◌≡◌, Some, None, MatchOption};
 ghost use Rattle.lines.specs.Layouts.{view_of};
-ghost use Rattle.bidi_c.specs.Holdings.{capacity_in, room_in, layout_held};
+ghost use Rattle.bidi_c.specs.Holdings.{capacity_in, tables_in, room_in, layout_held};
 
 use crate::room::Room;
 use lines::layout::Layout;
@@ -33,6 +33,16 @@ impl Held {
     {
         match self {
             Held::Room(room) => Some(room.scratch.layout()),
+            _ => None,
+        }
+    }
+
+    /// The tables, if these are tables.
+    pub(crate) fn tables(&self) -> Option<&Tables>
+        ensures { MatchOption result (tables_in (Some self.now) ≡ None) (λ tables. tables_in (Some self.now) ≡ Some tables.now) }
+    {
+        match self {
+            Held::Tables(tables) => Some(tables),
             _ => None,
         }
     }

@@ -13,3 +13,4 @@ pub mod refusal;
 pub mod room;
 pub mod room_calls;
 pub mod tables_calls;
+pub mod visual;

@@ -25,7 +25,8 @@ pub struct BidiLine {
     pub shown: usize,
 }
 
-fn byte_of(level: Option<Level>) -> u8
+/// A level as a byte, 255 where there is none.
+pub(crate) fn byte_of(level: Option<Level>) -> u8
     ensures { result ≡ level_byte level }
 {
     match level {

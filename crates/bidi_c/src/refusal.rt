@@ -31,6 +31,8 @@ pub enum Refusal {
     NoTables,
     /// The number of a line is not below their count.
     NoLine,
+    /// The place is not below the number of those of its line.
+    NoPlace,
     /// DerivedBidiClass.txt is faulty.
     ClassFile(TableFault),
     /// BidiBrackets.txt is faulty.
@@ -62,6 +64,7 @@ impl Refusal {
             Refusal::ClassFile(_) => 12,
             Refusal::BracketFile(_) => 13,
             Refusal::MirrorFile(_) => 14,
+            Refusal::NoPlace => 15,
         }
     }
 
