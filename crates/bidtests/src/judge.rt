@@ -1,6 +1,6 @@
 //! The judge of both kinds of test files.
 ghost use Rattle.std.specs.Prelude.{◌≡◌, ◌≤◌, ◌++◌, ℕ, List, [], IfOk, IfSome, IsNone, length};
-ghost use Rattle.bidtests.specs.Standing.{Judges, fault_by, after_step, verdict_behind};
+ghost use Rattle.bidtests.specs.Standing.{Judges, HoldsFor, tables_of, fault_by, after_step, verdict_behind};
 ghost use Rattle.units.specs.LineAnswers.{StepIsShort};
 ghost use Rattle.units.specs.Text.{longest_line, lines_of};
 ghost use Rattle.bidtests.specs.FileKinds.{findings_by, verdict_of};
@@ -9,6 +9,7 @@ ghost use Rattle.bidtests.specs.declared.kind.Kind.{Kind as FileKind};
 
 use crate::kind::Kind;
 use crate::sheet::Sheet;
+use crate::state::JudgeState;
 use crate::verdict::{Cause, Verdict};
 use std::alloc::Global;
 use std::marker::Model;
@@ -84,12 +85,41 @@ impl<'t> Judge<'t> {
     fn of_kind(alloc: Global, kind: Kind<'t>) -> Result<Judge<'t>, Memory>
         ensures { IfOk result (λ judge. Judges kind.entry judge []) }
     {
-        Ok(Judge {
+        Ok(Judge::of_state(kind, JudgeState::new(alloc)?))
+    }
+
+    /// The judge of files of this kind that has come so far; it has to be handed the bytes that follow.
+    pub fn of_state(kind: Kind<'t>, state: JudgeState) -> Judge<'t>
+        ensures { (b : List ℕ) → HoldsFor (tables_of kind.entry) state b → Judges kind.entry result b }
+    {
+        let JudgeState {
+            cutter,
+            sheet,
+            decided,
+        } = state;
+        Judge {
             kind,
-            cutter: LineCut::new(),
-            sheet: Sheet::new(alloc)?,
-            decided: None,
-        })
+            cutter,
+            sheet,
+            decided,
+        }
+    }
+
+    /// How far it has come, without the tables that it borrows.
+    pub fn into_state(self) -> JudgeState
+        ensures { (kind : FileKind) (b : List ℕ) → Judges kind self.entry b → HoldsFor (tables_of kind) result b }
+    {
+        let Judge {
+            kind: _,
+            cutter,
+            sheet,
+            decided,
+        } = self;
+        JudgeState {
+            cutter,
+            sheet,
+            decided,
+        }
     }
 
     /// Hands over the next bytes of the file, as many or as few as there are: where pieces begin and end changes
