@@ -9,3 +9,5 @@ pub mod MadeTables
 pub mod LaidOut
 pub mod LinesOut
 pub mod Visual
+pub mod Judged
+pub mod JudgeCalls

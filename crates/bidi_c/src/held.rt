@@ -1,8 +1,9 @@
 // What a handle may hold.
-ghost use Rattle.std.specs.Prelude.{◌≡◌, Some, None, MatchOption};
+ghost use Rattle.std.specs.Prelude.{◌≡◌, ◌≢◌, true, Some, None, IsSome, MatchOption};
 ghost use Rattle.lines.specs.Layouts.{view_of};
 ghost use Rattle.bidi_c.specs.Holdings.{capacity_in, tables_in, room_in, layout_held};
 
+use crate::judge::TableJudge;
 use crate::room::Room;
 use lines::layout::Layout;
 use ucdfiles::tables::Tables;
@@ -14,6 +15,8 @@ pub enum Held {
     Tables(Tables),
     /// Room for texts, with the layout of the last one.
     Room(Room),
+    /// A judge of a test file, with its tables. It is boxed because it has room for a line within it.
+    Judge(Box<TableJudge>),
 }
 
 impl Held {
@@ -45,5 +48,13 @@ impl Held {
             Held::Tables(tables) => Some(tables),
             _ => None,
         }
+    }
+
+    /// Whether these are tables.
+    pub(crate) fn is_tables(&self) -> bool
+        ensures some { result ≡ true → IsSome (tables_in (Some self.now)) }
+        ensures none { result ≢ true → tables_in (Some self.now) ≡ None }
+    {
+        matches!(self, Held::Tables(_))
     }
 }

@@ -1,4 +1,5 @@
-//! The engine for programs in C: tables and rooms behind handles, texts laid out, and their layouts copied out.
+//! The engine for programs in C: tables, rooms and judges behind handles, texts laid out, their layouts
+//! copied out, and test files judged.
 //!
 //! Each export is total for handles that are all zero or were made by these calls. docs/C.md is their manual.
 #![tactic(auto)]
@@ -6,6 +7,8 @@
 pub mod bidi_handle;
 pub mod handle;
 pub mod held;
+pub mod judge;
+pub mod judge_calls;
 pub mod laying_out;
 pub mod looking_up;
 mod loose;

@@ -33,6 +33,8 @@ pub enum Refusal {
     NoLine,
     /// The place is not below the number of those of its line.
     NoPlace,
+    /// The handle holds no judge.
+    NoJudge,
     /// DerivedBidiClass.txt is faulty.
     ClassFile(TableFault),
     /// BidiBrackets.txt is faulty.
@@ -65,6 +67,7 @@ impl Refusal {
             Refusal::BracketFile(_) => 13,
             Refusal::MirrorFile(_) => 14,
             Refusal::NoPlace => 15,
+            Refusal::NoJudge => 16,
         }
     }
 
