@@ -80,7 +80,10 @@ static void each_line(const char *folder, const char *name, void (*lay_out)(cons
   char *bytes = (char *)read_file(folder, name, &n);
   bytes[n] = '\0';
   cases = 0;
-  for (char *line = bytes; *line; line = strchr(line, '\n') + 1) lay_out(line);
+  for (char *line = bytes; *line; line += *line == '\n') {
+    lay_out(line);
+    line += strcspn(line, "\n");
+  }
   printf("%s by layouts: %zu cases\n", name, cases);
   free(bytes);
 }
