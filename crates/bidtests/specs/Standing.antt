@@ -6,6 +6,7 @@ use Rattle.units.specs.Limits.{LimitsOf}
 use Rattle.units.specs.Lines.{CutsInto}
 use Rattle.units.specs.declared.line_cut.Step.{Step}
 use Rattle.units.specs.declared.line_cut.Step.TheVariants.{More, Line, TooLong}
+use Rattle.ucdfiles.specs.Tables.{TablesOf}
 use Rattle.bidtests.specs.declared.kind.Kind.{Kind}
 use Rattle.bidtests.specs.declared.kind.Kind.TheVariants.{Classes, Characters}
 use Rattle.bidtests.specs.declared.verdict.Verdict.{Verdict}
@@ -121,6 +122,21 @@ JudgesBy limits kind (Some verdict) cutting standing bytes = (more : List ℕ) �
 pub record Judges (limits : LimitsOf) (kind : Kind) (judge : Judging) (bytes : List ℕ) : Type 0 where
   pub of : judge.kind ≡ kind
   pub is : JudgesBy limits kind judge.decided judge.cutting judge.standing bytes
+
+-- what a judge has come to, apart from its tables
+pub record StateOf : Type 0 where
+  pub cutting : Cutting
+  pub standing : Standing
+  pub decided : Option Verdict
+
+-- the tables by which files of this kind are judged, if they are judged by tables
+abbrev pub tables_of : Kind → Option TablesOf
+tables_of Classes = None
+tables_of (Characters tables) = Some tables.now
+
+-- so far a judge has come that was handed these bytes, in any pieces, and judges by these limits and tables, or without tables
+abbrev pub HoldsFor : LimitsOf → Option TablesOf → StateOf → List ℕ → Type 0
+HoldsFor limits tables state bytes = (kind : Kind) → tables_of kind ≡ tables → JudgesBy limits kind state.decided state.cutting state.standing bytes
 
 -- the no that a line of a classes file of this number gives that says this
 abbrev pub fault_in : Standing → ℕ → ClassesLine → Option Verdict

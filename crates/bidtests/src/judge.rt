@@ -1,6 +1,6 @@
 //! The judge of both kinds of test files.
 ghost use Rattle.std.specs.Prelude.{◌≡◌, ◌≤◌, ◌++◌, ℕ, List, [], IfOk, IfSome, IsNone, length};
-ghost use Rattle.bidtests.specs.Standing.{Judges, fault_by, after_step, verdict_behind};
+ghost use Rattle.bidtests.specs.Standing.{Judges, HoldsFor, tables_of, fault_by, after_step, verdict_behind};
 ghost use Rattle.units.specs.LineAnswers.{StepIsShort};
 ghost use Rattle.units.specs.Limits.{LimitsOf, standard};
 ghost use Rattle.units.specs.Text.{longest_line, lines_of};
@@ -10,6 +10,7 @@ ghost use Rattle.bidtests.specs.declared.kind.Kind.{Kind as FileKind};
 
 use crate::kind::Kind;
 use crate::sheet::Sheet;
+use crate::state::JudgeState;
 use crate::verdict::{Cause, Verdict};
 use std::alloc::Global;
 use std::marker::Model;
@@ -106,12 +107,41 @@ impl<'t> Judge<'t> {
     fn of_kind(alloc: Global, kind: Kind<'t>, limits: Limits) -> Result<Judge<'t>, Memory>
         ensures { IfOk result (λ judge. Judges limits kind.entry judge []) }
     {
-        Ok(Judge {
+        Ok(Judge::of_state(kind, JudgeState::new(alloc, limits)?))
+    }
+
+    /// The judge of files of this kind that has come so far; it has to be handed the bytes that follow.
+    pub fn of_state(kind: Kind<'t>, state: JudgeState) -> Judge<'t>
+        ensures { (limits : LimitsOf) (b : List ℕ) → HoldsFor limits (tables_of kind.entry) state b → Judges limits kind.entry result b }
+    {
+        let JudgeState {
+            cutter,
+            sheet,
+            decided,
+        } = state;
+        Judge {
             kind,
-            cutter: LineCut::new(),
-            sheet: Sheet::new(alloc, limits)?,
-            decided: None,
-        })
+            cutter,
+            sheet,
+            decided,
+        }
+    }
+
+    /// How far it has come, without the tables that it borrows.
+    pub fn into_state(self) -> JudgeState
+        ensures { (limits : LimitsOf) (kind : FileKind) (b : List ℕ) → Judges limits kind self.entry b → HoldsFor limits (tables_of kind) result b }
+    {
+        let Judge {
+            kind: _,
+            cutter,
+            sheet,
+            decided,
+        } = self;
+        JudgeState {
+            cutter,
+            sheet,
+            decided,
+        }
     }
 
     /// Hands over the next bytes of the file, as many or as few as there are: where pieces begin and end changes

@@ -1,0 +1,13 @@
+-- What handles own, and what the exports say.
+pub mod Kept
+pub mod Statuses
+pub mod Texts
+pub mod Holdings
+pub mod Refusals
+pub mod RefusedCalls
+pub mod MadeTables
+pub mod LaidOut
+pub mod LinesOut
+pub mod Visual
+pub mod Judged
+pub mod JudgeCalls

@@ -1,0 +1,32 @@
+-- Why a call is refused.
+use Rattle.std.specs.Prelude.{ℕ, ◌<◌, ◌≡◌, ◌⊎◌, ◌≤◌, Option, None, List, MatchOption}
+use Rattle.lines.specs.Scratches.{room_of}
+use Rattle.bidi_c.specs.Texts.{direction_numbered}
+use Rattle.bidi_c.specs.Holdings.{tables_in, room_in}
+use Rattle.bidi_c.specs.Refusals.{RefusesText, RefusesClasses}
+use Rattle.bidi_c.specs.declared.held.Held.{Held}
+use Rattle.bidi_c.specs.declared.refusal.Refusal.{Refusal}
+use Rattle.bidi_c.specs.declared.refusal.Refusal.TheVariants.{Memory, TooBig, NoDirection, NoRoom, NoTables}
+
+-- room for n code points is refused for this reason: there may be none, or memory was refused
+abbrev pub RefusesRoom : ℕ → Refusal → Type 0
+RefusesRoom n refusal = ((refusal ≡ TooBig) × (16777216 < n)) ⊎ ((refusal ≡ Memory) × (n ≤ 16777216))
+
+-- a room refuses a text of code points for this reason
+abbrev pub RoomRefuses : Option Held → List ℕ → List ℕ → Refusal → Type 0
+RoomRefuses room codes breaks refusal = MatchOption (room_in room) ⊥ (λ held. RefusesText (room_of held.scratch) codes breaks refusal)
+
+-- the layout of a text of code points is refused for this reason: a handle is empty, the number is no direction, or the room refuses the text
+abbrev pub RefusesLayout : Option Held → Option Held → List ℕ → ℕ → List ℕ → Refusal → Type 0
+RefusesLayout room tables codes direction breaks refusal =
+    ((refusal ≡ NoRoom) × (room_in room ≡ None))
+    ⊎ (((refusal ≡ NoTables) × (tables_in tables ≡ None))
+    ⊎ (((refusal ≡ NoDirection) × (direction_numbered direction ≡ None))
+    ⊎ RoomRefuses room codes breaks refusal))
+
+-- the layout of a text of classes, by their numbers, is refused for this reason
+abbrev pub RefusesClassLayout : Option Held → List ℕ → ℕ → List ℕ → Refusal → Type 0
+RefusesClassLayout room numbers direction breaks refusal =
+    ((refusal ≡ NoRoom) × (room_in room ≡ None))
+    ⊎ (((refusal ≡ NoDirection) × (direction_numbered direction ≡ None))
+    ⊎ MatchOption (room_in room) ⊥ (λ held. RefusesClasses (room_of held.scratch) numbers breaks refusal))

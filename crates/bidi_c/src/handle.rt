@@ -1,0 +1,62 @@
+// What a handle holds as its pointer, in a form that C can keep.
+ghost use Rattle.std.specs.Prelude.{◌≡◌, Option, IsSome, Some, None};
+ghost use Rattle.bidi_c.specs.declared.held.Held.{Held as HeldOf};
+
+use crate::held::Held;
+use crate::loose::Loose;
+use std::alloc::Global;
+use std::marker::Model;
+use std::ptr::null_mut;
+
+/// A pointer that owns what a handle holds, or nothing.
+#[repr(C)]
+pub struct Handle {
+    at: *mut u8,
+    alloc: Global,
+    pub ghost value: { Option HeldOf },
+}
+
+impl Model for Handle {
+    ghost use Rattle.bidi_c.specs.Kept.{kept};
+    ghost use Rattle.bidi_c.specs.contracts.held.Held.{the_row};
+
+    ghost also_owns = { λ h. kept the_row h.alloc h.at h.value };
+}
+
+impl Handle {
+    pub(crate) fn empty(alloc: Global) -> Handle
+        ensures { result.value ≡ None }
+    {
+        Handle {
+            at: null_mut(),
+            alloc,
+        }
+    }
+
+    pub(crate) fn of(loose: Loose<Held, Global>) -> Handle
+        ensures { result.value ≡ Some loose.value }
+    {
+        let Loose { at, alloc } = loose;
+        Handle {
+            at: at as *mut u8,
+            alloc,
+        }
+    }
+
+    pub(crate) fn into_loose(self) -> Loose<Held, Global>
+        requires { IsSome self.value }
+        ensures { self.value ≡ Some result.value }
+    {
+        let Handle { at, alloc } = self;
+        Loose {
+            at: at as *mut Held,
+            alloc,
+        }
+    }
+
+    pub(crate) fn end(self)
+        requires { self.value ≡ None }
+    {
+        let Handle { at: _, alloc: _ } = self;
+    }
+}

@@ -1,0 +1,19 @@
+//! The engine for programs in C: tables, rooms and judges behind handles, texts laid out, their layouts
+//! copied out, and test files judged.
+//!
+//! Each export is total for handles that are all zero or were made by these calls. docs/C.md is their manual.
+#![tactic(auto)]
+
+pub mod bidi_handle;
+pub mod handle;
+pub mod held;
+pub mod judge;
+pub mod judge_calls;
+pub mod laying_out;
+pub mod looking_up;
+mod loose;
+pub mod refusal;
+pub mod room;
+pub mod room_calls;
+pub mod tables_calls;
+pub mod visual;

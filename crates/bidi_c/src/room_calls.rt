@@ -1,0 +1,61 @@
+// Rooms made and freed.
+ghost use Rattle.std.specs.Prelude.{◌≡◌, ◌<◌, None, Some, IfErr, OnOk, OnErr};
+ghost use Rattle.std.specs.Option.{unwrap_or};
+ghost use Rattle.bidi_c.specs.Holdings.{capacity_in};
+ghost use Rattle.bidi_c.specs.RefusedCalls.{RefusesRoom};
+ghost use Rattle.bidi_c.specs.Statuses.{IsRefusedFor};
+
+use crate::bidi_handle::BidiHandle;
+use crate::held::Held;
+use crate::refusal::{DONE, Refusal, of_room};
+use crate::room::Room;
+use std::alloc::Global;
+
+fn make_room(alloc: Global, n: usize, room: &mut BidiHandle) -> Result<(), Refusal>
+    ensures made { OnOk result (capacity_in room.new.handle.value ≡ Some n) }
+    ensures kept { OnErr result (room.new.handle.value ≡ room.old.handle.value) }
+    ensures refused { IfErr result (RefusesRoom n) }
+{
+    let made = Room::with_room(alloc, n).map_err(of_room)?;
+    if room.hold(alloc, Held::Room(made)) {
+        Ok(())
+    } else {
+        Err(Refusal::Memory)
+    }
+}
+
+/// Makes room for texts of up to `n` code points, at most 16,777,216. What the handle held before is freed once the
+/// room is made; where it is refused, the handle holds that still.
+#[unsafe(no_mangle)]
+pub extern "C" fn bidi_room_new(alloc: Global, n: usize, room: &mut BidiHandle) -> u32
+    ensures made { result ≡ 0 → capacity_in room.new.handle.value ≡ Some n }
+    ensures kept { 0 < result → room.new.handle.value ≡ room.old.handle.value }
+    ensures refused { 0 < result → IsRefusedFor (RefusesRoom n) result }
+{
+    match make_room(alloc, n, room) {
+        Ok(()) => DONE,
+        Err(refusal) => refusal.code(),
+    }
+}
+
+/// Frees a room. The handle is all zero then, as it may be before.
+#[unsafe(no_mangle)]
+pub extern "C" fn bidi_room_free(alloc: Global, room: &mut BidiHandle)
+    ensures { room.new.handle.value ≡ None }
+{
+    room.empty(alloc);
+}
+
+/// The length of the longest text that there is room for, 0 without a room.
+#[unsafe(no_mangle)]
+pub extern "C" fn bidi_room_size(alloc: Global, room: &mut BidiHandle) -> usize
+    ensures room { room.new.handle.value ≡ room.old.handle.value }
+    ensures size { result ≡ unwrap_or (capacity_in room.old.handle.value) 0 }
+{
+    let Some(held) = room.take(alloc) else {
+        return 0;
+    };
+    let size = held.capacity().unwrap_or(0);
+    room.put(held);
+    size
+}

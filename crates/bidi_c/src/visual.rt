@@ -1,0 +1,287 @@
+// A line from left to right: the places of its positions, its runs, and its characters as they are shown.
+ghost use Rattle.std.specs.Prelude.{◌≡◌, ◌≢◌, ◌≤◌, ◌<◌, ◌+◌, ◌↔◌, ◌⊎◌, ℕ, true, false, Some, Err, IfOk, IfErr, length, take, slice_index, slice_index_or};
+ghost use Rattle.std.specs.Option.{unwrap_or};
+ghost use Rattle.std.specs.List.{All};
+ghost use Rattle.std.specs.Char.{IsScalar};
+ghost use Rattle.units.specs.Reordering.{is_odd_level, shown_of};
+ghost use Rattle.ucdfiles.specs.Tables.{glyph_at};
+ghost use Rattle.lines.specs.Layouts.{view_of, no_line};
+ghost use Rattle.bidi_c.specs.Holdings.{layout_held, line_held, tables_in};
+ghost use Rattle.bidi_c.specs.Statuses.{IsRefusedFor};
+ghost use Rattle.bidi_c.specs.Visual.{IsPlace, ArePlaces, IsRun, RefusesRun, span_of, shown_line, byte_at};
+
+use crate::bidi_handle::BidiHandle;
+use crate::held::Held;
+use crate::looking_up::byte_of;
+use crate::refusal::{DONE, Refusal};
+use crate::tables_calls::mirror_image;
+use lines::layout::Layout;
+use std::alloc::Global;
+use ucdfiles::tables::Tables;
+use units::level::Level;
+
+/// A run of a line: positions of one level that stand side by side.
+#[repr(C)]
+#[derive(Clone, Copy)]
+pub struct BidiRun {
+    /// Its least position.
+    pub start: usize,
+    /// How many positions of the text it spans, the removed ones between its own included.
+    pub length: usize,
+    /// How many places of the line it takes.
+    pub shown: usize,
+    /// Its level; where it is odd, its positions stand in falling order.
+    pub level: u8,
+}
+
+/// Writes the place of each position from `start` on, so many as `out` is long, in the order of a line.
+fn write_places(order: &[usize], start: usize, out: &mut [usize])
+    ensures len { length out.new ≡ length out.old }
+    ensures places { (i : ℕ) → i < length out.old → IsPlace order.now (length order.now) (start + i) (slice_index out.new i) }
+{
+    out.fill(usize::MAX);
+    for place in 0..order.len() {
+        let position = order[place];
+        if start <= position && position - start < out.len() {
+            out[position - start] = place;
+        }
+    }
+}
+
+/// The first place behind `from` whose position has another level, or the order's length.
+fn run_end(levels: &[Option<Level>], order: &[usize], from: usize) -> usize
+    requires inside { All (λ p. p < length levels.now) order.now }
+    requires some { from < length order.now }
+    ensures behind { from < result }
+    ensures inside { result ≤ length order.now }
+    ensures same { (i : ℕ) → from ≤ i → i < result → byte_at levels.now order.now i ≡ byte_at levels.now order.now from }
+    ensures ends { result < length order.now → byte_at levels.now order.now result ≢ byte_at levels.now order.now from }
+{
+    let level = byte_of(levels[order[from]]);
+    for end in from + 1..order.len() {
+        if byte_of(levels[order[end]]) != level {
+            return end;
+        }
+    }
+    order.len()
+}
+
+/// The run of the order that begins at a place.
+fn run_from(levels: &[Option<Level>], order: &[usize], from: usize) -> BidiRun
+    requires inside { All (λ p. p < length levels.now) order.now }
+    requires some { from < length order.now }
+    ensures { IsRun levels.now order.now from result }
+{
+    let end = run_end(levels, order, from);
+    let first = order[from];
+    let last = order[end - 1];
+    let start = first.min(last);
+    BidiRun {
+        start,
+        length: first.max(last) - start + 1,
+        shown: end - from,
+        level: byte_of(levels[first]),
+    }
+}
+
+/// A character of this level as it is shown (L4).
+fn shown_code(tables: &Tables, level: Option<Level>, code: u32) -> u32
+    ensures even { is_odd_level level ≡ false → result ≡ code }
+    ensures odd { is_odd_level level ≡ true → IsScalar code → result ≡ unwrap_or (glyph_at tables.now.mirrors code) code }
+{
+    match level {
+        Some(level) if level.get() % 2 == 1 => mirror_image(tables, code),
+        _ => code,
+    }
+}
+
+/// Writes a line's characters as they are shown, mirrored where their level is odd (L4).
+fn write_shown(
+    tables: &Tables,
+    levels: &[Option<Level>],
+    codes: &[u32],
+    order: &[usize],
+    out: &mut [u32],
+)
+    requires inside { All (λ p. p < length levels.now) order.now }
+    requires codes { length codes.now ≡ length levels.now }
+    requires place { length order.now ≤ length out.old }
+    ensures len { length out.new ≡ length out.old }
+    ensures shown { All IsScalar codes.now → take (length order.now) out.new ≡ shown_of (glyph_at tables.now.mirrors) levels.now codes.now order.now }
+{
+    for i in 0..order.len() {
+        out[i] = shown_code(tables, levels[order[i]], codes[order[i]]);
+    }
+}
+
+/// Writes the places of the positions of the line with the number `k`, if all have place there. It answers how many
+/// positions the line has.
+fn write_places_of(layout: &Layout<'_>, k: usize, out: &mut [usize]) -> usize
+    ensures count { result ≡ span_of (slice_index_or (view_of layout.now).lines k no_line) }
+    ensures places { result ≤ length out.old → ArePlaces (slice_index_or (view_of layout.now).lines k no_line) out.new }
+{
+    if layout.line_count() <= k {
+        return 0;
+    }
+    let line = layout.line(k);
+    let count = line.end - line.start;
+    if count <= out.len() {
+        write_places(line.order, line.start, &mut out[..count]);
+    }
+    count
+}
+
+/// The run of the line with the number `k` that begins at a place, if there are such a line and place.
+fn run_of(layout: &Layout<'_>, k: usize, from: usize) -> Result<BidiRun, Refusal>
+    ensures run { IfOk result (IsRun (view_of layout.now).levels (slice_index_or (view_of layout.now).lines k no_line).order from) }
+    ensures no_line { (result ≡ Err Refusal.NoLine) ↔ (length (view_of layout.now).lines ≤ k) }
+    ensures no_place { result ≡ Err Refusal.NoPlace → length (slice_index_or (view_of layout.now).lines k no_line).order ≤ from }
+    ensures only { IfErr result (λ refusal. (refusal ≡ Refusal.NoLine) ⊎ (refusal ≡ Refusal.NoPlace)) }
+{
+    if layout.line_count() <= k {
+        return Err(Refusal::NoLine);
+    }
+    let order = layout.line(k).order;
+    if order.len() <= from {
+        return Err(Refusal::NoPlace);
+    }
+    Ok(run_from(layout.levels(), order, from))
+}
+
+/// Writes the characters of the line with the number `k` as they are shown, if all have place there; `codes` are those
+/// of the whole text. It answers how many there are.
+fn write_shown_of(
+    layout: &Layout<'_>,
+    tables: &Tables,
+    codes: &[u32],
+    k: usize,
+    out: &mut [u32],
+) -> usize
+    ensures count { result ≡ length (shown_line (view_of layout.now) (Some tables.now) codes.now k) }
+    ensures shown { All IsScalar codes.now → result ≤ length out.old → take result out.new ≡ shown_line (view_of layout.now) (Some tables.now) codes.now k }
+{
+    if layout.line_count() <= k || codes.len() != layout.levels().len() {
+        return 0;
+    }
+    let order = layout.line(k).order;
+    if order.len() <= out.len() {
+        write_shown(tables, layout.levels(), codes, order, out);
+    }
+    order.len()
+}
+
+/// How many positions the line with the number `k` has, 0 where there is no such line. The place of each in the order
+/// of the line is written to `places`, if all have place there: `SIZE_MAX` where a position was removed (X9). The
+/// first stands for the position at which the line begins.
+#[unsafe(no_mangle)]
+pub extern "C" fn bidi_places(
+    alloc: Global,
+    room: &mut BidiHandle,
+    k: usize,
+    places: &mut [usize],
+) -> usize
+    ensures room { room.new.handle.value ≡ room.old.handle.value }
+    ensures count { result ≡ span_of (line_held room.old.handle.value k) }
+    ensures written { result ≤ length places.old → ArePlaces (line_held room.old.handle.value k) places.new }
+{
+    let Some(held) = room.take(alloc) else {
+        return 0;
+    };
+    let count = match held.layout() {
+        Some(layout) => write_places_of(&layout, k, places),
+        None => 0,
+    };
+    room.put(held);
+    count
+}
+
+fn look_up_run(
+    alloc: Global,
+    room: &mut BidiHandle,
+    k: usize,
+    from: usize,
+) -> Result<BidiRun, Refusal>
+    ensures room { room.new.handle.value ≡ room.old.handle.value }
+    ensures run { IfOk result (IsRun (layout_held room.old.handle.value).levels (line_held room.old.handle.value k).order from) }
+    ensures refused { IfErr result (RefusesRun room.old.handle.value k from) }
+{
+    let Some(held) = room.take(alloc) else {
+        return Err(Refusal::NoRoom);
+    };
+    let found = match held.layout() {
+        Some(layout) => run_of(&layout, k, from),
+        None => Err(Refusal::NoRoom),
+    };
+    room.put(held);
+    found
+}
+
+/// The run of the line with the number `k` that begins at the place `from`: all places from there on up to the next
+/// whose position has another level. The runs of a line are those from 0, and from behind each one.
+#[unsafe(no_mangle)]
+pub extern "C" fn bidi_run(
+    alloc: Global,
+    room: &mut BidiHandle,
+    k: usize,
+    from: usize,
+    run: &mut BidiRun,
+) -> u32
+    ensures room { room.new.handle.value ≡ room.old.handle.value }
+    ensures run { result ≡ 0 → IsRun (layout_held room.old.handle.value).levels (line_held room.old.handle.value k).order from run.new }
+    ensures kept { 0 < result → run.new ≡ run.old }
+    ensures refused { 0 < result → IsRefusedFor (RefusesRun room.old.handle.value k from) result }
+{
+    match look_up_run(alloc, room, k, from) {
+        Ok(found) => {
+            *run = found;
+            DONE
+        }
+        Err(refusal) => refusal.code(),
+    }
+}
+
+fn show(room: &Held, tables: &Held, codes: &[u32], k: usize, out: &mut [u32]) -> usize
+    ensures count { result ≡ length (shown_line (layout_held (Some room.now)) (tables_in (Some tables.now)) codes.now k) }
+    ensures shown { All IsScalar codes.now → result ≤ length out.old
+        → take result out.new ≡ shown_line (layout_held (Some room.now)) (tables_in (Some tables.now)) codes.now k }
+{
+    let Some(layout) = room.layout() else {
+        return 0;
+    };
+    let Some(tables) = tables.tables() else {
+        return 0;
+    };
+    write_shown_of(&layout, tables, codes, k, out)
+}
+
+/// How many characters of the line with the number `k` are shown. They are written to `shown`, if all have place
+/// there, from left to right, each at an odd level as its mirror image, where it has one (L4). `codes` are the code
+/// points of the whole text that was laid out. It answers 0 where there is no such line, where there are no tables,
+/// and where the text that was laid out has another length.
+#[unsafe(no_mangle)]
+pub extern "C" fn bidi_shown(
+    alloc: Global,
+    room: &mut BidiHandle,
+    tables: &mut BidiHandle,
+    codes: &[u32],
+    k: usize,
+    shown: &mut [u32],
+) -> usize
+    ensures room { room.new.handle.value ≡ room.old.handle.value }
+    ensures tables { tables.new.handle.value ≡ tables.old.handle.value }
+    ensures count { result ≡ length (shown_line (layout_held room.old.handle.value) (tables_in tables.old.handle.value) codes.now k) }
+    ensures written { All IsScalar codes.now → result ≤ length shown.old
+        → take result shown.new ≡ shown_line (layout_held room.old.handle.value) (tables_in tables.old.handle.value) codes.now k }
+{
+    let Some(held) = room.take(alloc) else {
+        return 0;
+    };
+    let Some(by) = tables.take(alloc) else {
+        room.put(held);
+        return 0;
+    };
+    let count = show(&held, &by, codes, k, shown);
+    tables.put(by);
+    room.put(held);
+    count
+}

@@ -1,0 +1,163 @@
+/* bidi.h: the Unicode Bidirectional Algorithm (UAX #9, P1 to L4) and a judge of its conformance files, proved.
+ *
+ * Link: program.o libbidi_c.a liblibc_c.a. The second archive is malloc, realloc and free as the first one calls them.
+ * docs/C.md is the manual. The contracts of crates/bidi_c say what each call is proved to do.
+ *
+ * What a caller owes. Nothing checks it; each line says what goes wrong otherwise.
+ *  - A handle (bidi_tables, bidi_room, bidi_judge) is BIDI_NONE before its first call, and only these calls change it.
+ *    Else: a call follows a pointer that is none.
+ *  - A handle that holds something is not copied; pass its address. Else: what it holds is used after it was freed.
+ *  - A handle that holds something is freed by its call, or given to a call that says that it takes it over.
+ *    Else: its memory is lost, and nothing worse.
+ *  - One call at a time uses a handle, a look-up too. Else: a call finds it empty, or half changed.
+ *  - Another thread may use a handle only after what the first one did is known to it, as behind a lock, a start or
+ *    a join. Else: as above.
+ *  - Each pointer stands for as many items as its length says, also where that is 0: it is not null, and aligned for
+ *    its type. Else: memory that is not the caller's is read or written. (A one-item array serves for length 0.)
+ *  - What a call writes is used by no other argument of it. What it only reads may overlap. Else: what is written is
+ *    not what the contracts say.
+ *  - No call is made from a signal handler, or in a forked child of a process with threads. Else: malloc may be stuck.
+ *  - malloc, realloc and free are of one allocator, and align to 16 where the size allows it, as the C library's do.
+ *
+ * No call blocks, aborts, or keeps a pointer that it was passed. bidi_lay_out, the look-ups, bidi_judge_feed and
+ * bidi_judge_finish take no memory.
+ */
+#ifndef BIDI_H
+#define BIDI_H
+#include <stdbool.h>
+#include <stddef.h>
+#include <stdint.h>
+#ifdef __cplusplus
+extern "C" {
+#endif
+
+/* Handles, for tables, for room for texts with the layout of the last one, and for a judge of a test file. */
+typedef struct { void *at; bool made; } bidi_tables;
+typedef struct { void *at; bool made; } bidi_room;
+typedef struct { void *at; bool made; } bidi_judge;
+#define BIDI_NONE { 0, false }
+
+/* Statuses. A number never changes its meaning; new ones may come. A call that is refused changes nothing else than
+ * the place or fault that it names. */
+enum {
+  BIDI_DONE = 0,
+  BIDI_MEMORY = 1,             /* memory was refused */
+  BIDI_TOO_BIG = 2,            /* more room than for 16,777,216 code points */
+  BIDI_TOO_LONG = 3,           /* the text is longer than the room */
+  BIDI_NO_CHARACTER = 4,       /* place: index of the first code point that is no scalar value */
+  BIDI_NO_CLASS = 5,           /* place: index of the first number that is no class */
+  BIDI_BREAK_OUT_OF_RANGE = 6, /* place: index of the first faulty break, which is 0 or not below the length */
+  BIDI_BREAK_NOT_RISING = 7,   /* place: index of the first faulty break, which is not above the one before */
+  BIDI_NO_DIRECTION = 8,       /* the number is no direction */
+  BIDI_NO_ROOM = 9,            /* the handle holds no room */
+  BIDI_NO_TABLES = 10,         /* the handle holds no tables */
+  BIDI_NO_LINE = 11,           /* no line has the number */
+  BIDI_CLASS_FILE = 12,        /* fault: of DerivedBidiClass.txt */
+  BIDI_BRACKET_FILE = 13,      /* fault: of BidiBrackets.txt */
+  BIDI_MIRROR_FILE = 14,       /* fault: of BidiMirroring.txt */
+  BIDI_NO_PLACE = 15,          /* the line has no such place */
+  BIDI_NO_JUDGE = 16           /* the handle holds no judge */
+};
+
+/* Directions: that of all paragraphs, or of each by its first strong character (P2, P3); where it has none, BIDI_AUTO
+ * takes left-to-right and BIDI_AUTO_RTL right-to-left. */
+enum { BIDI_LTR = 0, BIDI_RTL = 1, BIDI_AUTO = 2, BIDI_AUTO_RTL = 3 };
+
+#define BIDI_REMOVED 255       /* the level of a position that X9 removes */
+#define BIDI_NOWHERE SIZE_MAX  /* the place of a position that X9 removes */
+
+/* What is wrong with a property file: the number of its first faulty line, from 1, and the kind of fault. */
+typedef struct { uint64_t line; uint32_t kind; } bidi_fault;
+enum {
+  BIDI_FAULT_CODE_POINT = 1,    /* a field is no code point of 4 to 6 upper-case hex digits */
+  BIDI_FAULT_BACKWARDS = 2,     /* a range ends below its start */
+  BIDI_FAULT_CLASS_NAME = 3,    /* a field is no name of a class */
+  BIDI_FAULT_FIELDS = 4,        /* a line has another number of fields than the file has */
+  BIDI_FAULT_OVERLAP = 5,       /* a line of classes has a code point of an earlier one */
+  BIDI_FAULT_TWICE = 6,         /* a line of brackets or mirror images has the character of an earlier one */
+  BIDI_FAULT_BRACKET_KIND = 7,  /* the third field of a bracket's line is neither o nor c */
+  BIDI_FAULT_LINE_TOO_LONG = 8, /* a line has more than 65,536 bytes */
+  BIDI_FAULT_TOO_MANY = 9       /* too many lines of data or of defaults */
+};
+
+/* Tables from the bytes of DerivedBidiClass.txt, BidiBrackets.txt and BidiMirroring.txt. What `tables` held before is
+ * freed once they are made. */
+uint32_t bidi_tables_new(const uint8_t *classes, size_t classes_len, const uint8_t *brackets, size_t brackets_len,
+                         const uint8_t *mirrors, size_t mirrors_len, bidi_tables *tables, bidi_fault *fault);
+void bidi_tables_free(bidi_tables *tables);
+/* The mirror image of a code point (L4), or itself where it has none. */
+uint32_t bidi_mirror(bidi_tables *tables, uint32_t code);
+
+/* Room for texts of up to n code points, 79 bytes for each. What `room` held before is freed once it is made. */
+uint32_t bidi_room_new(size_t n, bidi_room *room);
+void bidi_room_free(bidi_room *room);
+/* The n that the room was made for, 0 without a room. */
+size_t bidi_room_size(bidi_room *room);
+
+/* Lays out a text of code points (P1 to L2). Lines begin at its start, behind each paragraph separator, and at each of
+ * `breaks`: positions of the text, rising, none 0, all below n. */
+uint32_t bidi_lay_out(bidi_room *room, bidi_tables *tables, const uint32_t *codes, size_t n, uint32_t direction,
+                      const size_t *breaks, size_t break_count, uint64_t *place);
+
+/* The same for a text of classes, which has no brackets. Classes by number, from 0:
+ * L R AL EN ES ET AN CS NSM BN B S WS ON LRE LRO RLE RLO PDF LRI RLI FSI PDI. */
+uint32_t bidi_lay_out_classes(bidi_room *room, const uint8_t *classes, size_t n, uint32_t direction,
+                              const size_t *breaks, size_t break_count, uint64_t *place);
+
+/* Look-ups of what was laid out last. Each answers how many items there are, 0 where there is nothing of what is asked
+ * for, and writes them only if all have place. */
+size_t bidi_levels(bidi_room *room, uint8_t *levels, size_t place);      /* after L1, one for each code point */
+size_t bidi_para_levels(bidi_room *room, uint8_t *levels, size_t place); /* P2, P3, one for each paragraph */
+size_t bidi_line_count(bidi_room *room);
+
+/* Line k, from 0: [start, end) of the text, and how many of its positions are shown (X9 removes the others). */
+typedef struct { size_t start, end, shown; } bidi_line_t;
+uint32_t bidi_line(bidi_room *room, size_t k, bidi_line_t *line);
+/* Its shown positions, those of the whole text, from left to right (L2): the map from places to positions. */
+size_t bidi_order(bidi_room *room, size_t k, size_t *order, size_t place);
+/* The place from the left of each of its positions, from `start` on: the map from positions to places. */
+size_t bidi_places(bidi_room *room, size_t k, size_t *places, size_t place);
+
+/* The visual run of line k that begins at the place `from`: positions [start, start + length), removed ones between
+ * them included, of one level, which stand at the `shown` places from there. All runs of a line, from left to right:
+ *   for (size_t at = 0; bidi_run(&room, k, at, &run) == BIDI_DONE; at += run.shown) */
+typedef struct { size_t start, length, shown; uint8_t level; } bidi_run_t;
+uint32_t bidi_run(bidi_room *room, size_t k, size_t from, bidi_run_t *run);
+
+/* Line k as it is shown, from left to right, mirrored by the tables where the level is odd (L4). `codes` is the whole
+ * text that was laid out; for one of another length the answer is 0. */
+size_t bidi_shown(bidi_room *room, bidi_tables *tables, const uint32_t *codes, size_t n, size_t k, uint32_t *shown,
+                  size_t place);
+
+/* A judge of a BidiTest.txt. What `judge` held before is freed once it is made. */
+uint32_t bidi_judge_new_classes(bidi_judge *judge);
+/* A judge of a BidiCharacterTest.txt by tables, which it takes over: `tables` is BIDI_NONE then. */
+uint32_t bidi_judge_new_characters(bidi_tables *tables, bidi_judge *judge);
+void bidi_judge_free(bidi_judge *judge);
+/* The next bytes of the file, as many or as few as there are. */
+uint32_t bidi_judge_feed(bidi_judge *judge, const uint8_t *bytes, size_t n);
+
+/* The verdict on all bytes that were fed, as the whole file. What a verdict doesn't name is 0. */
+typedef struct {
+  uint32_t answer;    /* BIDI_YES, BIDI_MALFORMED or BIDI_WRONG */
+  uint32_t reason;    /* malformed: BIDI_CAUSE_..; wrong: BIDI_WRONG_.. */
+  uint32_t direction; /* wrong: the direction */
+  uint64_t line;      /* malformed, wrong: the number of the line, from 1 */
+  size_t index;       /* wrong: the index in the list of levels or of the order */
+  uint64_t rows;      /* yes: how many rows */
+  uint64_t cases;     /* yes: how many cases */
+} bidi_verdict;
+enum { BIDI_YES = 0, BIDI_MALFORMED = 1, BIDI_WRONG = 2 };
+enum { BIDI_WRONG_PARA_LEVEL = 1, BIDI_WRONG_LEVELS = 2, BIDI_WRONG_ORDER = 3 };
+enum {
+  BIDI_CAUSE_LINE_TOO_LONG = 1, BIDI_CAUSE_DIRECTIVE = 2, BIDI_CAUSE_LEVEL_ITEM = 3, BIDI_CAUSE_ORDER_ITEM = 4,
+  BIDI_CAUSE_CLASS_ITEM = 5, BIDI_CAUSE_BIT_SET = 6, BIDI_CAUSE_NO_EXPECTATION = 7, BIDI_CAUSE_FIELD_COUNT = 8,
+  BIDI_CAUSE_CODE_POINT = 9, BIDI_CAUSE_DIRECTION_FIELD = 10, BIDI_CAUSE_PARA_FIELD = 11, BIDI_CAUSE_EMPTY_ROW = 12
+};
+/* The judge and its tables are freed. */
+uint32_t bidi_judge_finish(bidi_judge *judge, bidi_verdict *verdict);
+
+#ifdef __cplusplus
+}
+#endif
+#endif

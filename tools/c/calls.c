@@ -1,0 +1,161 @@
+/* calls UCD: every call once or more, refused ones too; its output is stored in calls.out. */
+#include "bidi.h"
+#include "read_file.h"
+#include <string.h>
+
+static void print_line(bidi_room *room, bidi_tables *tables, const uint32_t *codes, size_t n, size_t k) {
+  bidi_line_t line;
+  size_t order[64], places[64];
+  uint32_t shown[64];
+  if (bidi_line(room, k, &line)) { printf(" no line %zu", k); return; }
+  printf(" | [%zu,%zu)", line.start, line.end);
+  size_t m = bidi_order(room, k, order, 64), span = bidi_places(room, k, places, 64);
+  for (size_t i = 0; i < m; i++) printf(" %zu", order[i]);
+  if (m != line.shown || span != line.end - line.start) printf(" ??");
+  printf(" places");
+  for (size_t i = 0; i < span; i++) if (places[i] == BIDI_NOWHERE) printf(" -"); else printf(" %zu", places[i]);
+  bidi_run_t run;
+  printf(" runs");
+  for (size_t at = 0; bidi_run(room, k, at, &run) == BIDI_DONE; at += run.shown)
+    printf(" %zu+%zu(%zu)@%u", run.start, run.length, run.shown, run.level);
+  if (!codes) return;
+  size_t s = bidi_shown(room, tables, codes, n, k, shown, 64);
+  printf(" shown");
+  for (size_t i = 0; i < s; i++) printf(" %04X", shown[i]);
+}
+
+static void print_layout(bidi_room *room, bidi_tables *tables, const uint32_t *codes, size_t n) {
+  uint8_t levels[64], paras[64];
+  size_t p = bidi_para_levels(room, paras, 64), m = bidi_levels(room, levels, 64), lines = bidi_line_count(room);
+  printf("paras");
+  for (size_t i = 0; i < p; i++) printf(" %u", paras[i]);
+  printf(" levels");
+  for (size_t i = 0; i < m; i++) if (levels[i] == BIDI_REMOVED) printf(" x"); else printf(" %u", levels[i]);
+  for (size_t k = 0; k < lines; k++) print_line(room, tables, codes, n, k);
+  print_line(room, tables, codes, n, lines);
+  printf("\n");
+}
+
+static void lay_out(bidi_room *room, bidi_tables *tables, const uint32_t *codes, size_t n, uint32_t direction,
+                    const size_t *breaks, size_t count) {
+  uint64_t place = 0;
+  uint32_t status = bidi_lay_out(room, tables, codes, n, direction, breaks, count, &place);
+  if (status) printf("status %u at %llu: ", status, (unsigned long long)place);
+  print_layout(room, tables, codes, n);
+}
+
+static void judge(bidi_judge *judge, const char *text) {
+  bidi_verdict v;
+  memset(&v, 0, sizeof v);
+  for (size_t i = 0; i < strlen(text); i++) bidi_judge_feed(judge, (const uint8_t *)text + i, 1);
+  uint32_t status = bidi_judge_finish(judge, &v);
+  printf("finish %u: answer %u reason %u direction %u line %llu index %zu rows %llu cases %llu, held %d\n", status, v.answer,
+         v.reason, v.direction, (unsigned long long)v.line, v.index, (unsigned long long)v.rows,
+         (unsigned long long)v.cases, judge->made);
+}
+
+static void print_room(bidi_room *room, size_t n) {
+  uint32_t status = bidi_room_new(n, room);
+  printf("room for %zu: %u, size %zu\n", n, status, bidi_room_size(room));
+}
+
+static void print_fault(const char *what, uint32_t status, const bidi_fault *fault, const bidi_tables *tables) {
+  printf("%s: %u line %llu kind %u, held %d\n", what, status, (unsigned long long)fault->line, fault->kind, tables->made);
+}
+
+static void refuse_files(bidi_tables *tables) {
+  const char *classes[] = { "0041 ; L\n0042 ; Q\n", "0041;L\n0040..0042;R\n", "41;L\n", "0042..0041;L\n", "0041\n" };
+  const uint8_t *none = (const uint8_t *)"";
+  bidi_fault fault = { 0, 0 };
+  for (size_t i = 0; i < 5; i++) {
+    uint32_t status = bidi_tables_new((const uint8_t *)classes[i], strlen(classes[i]), none, 0, none, 0, tables, &fault);
+    print_fault("classes", status, &fault, tables);
+  }
+  uint32_t status = bidi_tables_new(none, 0, (const uint8_t *)"0028; 0029; x\n", 14, none, 0, tables, &fault);
+  print_fault("brackets", status, &fault, tables);
+  status = bidi_tables_new(none, 0, none, 0, (const uint8_t *)"0028; 0029\n0028; 0030\n", 22, tables, &fault);
+  print_fault("mirrors", status, &fault, tables);
+}
+
+static void lay_out_texts(bidi_room *room, bidi_tables *tables) {
+  const uint32_t mixed[] = { 'a', 'b', 'c', ' ', 0x5D0, 0x5D1, 0x5D2, ' ', '1', '2', '3' };
+  const uint32_t paras[] = { 0x5D0, ' ', 0x202B, '(', 'a', ')', 0x202C, 0x2029, 'x', 0x5D1, '\n', 'z' };
+  const uint32_t neutral[] = { '(', '1', ' ', '+', ')' };
+  const size_t breaks[] = { 4, 7 }, falling[] = { 4, 3 }, outside[] = { 4, 5 };
+  lay_out(room, tables, mixed, 11, BIDI_AUTO, breaks, 0);
+  lay_out(room, tables, mixed, 11, BIDI_RTL, breaks, 0);
+  lay_out(room, tables, mixed, 11, BIDI_AUTO, breaks, 2);
+  lay_out(room, tables, paras, 12, BIDI_AUTO, breaks, 0);
+  lay_out(room, tables, mixed, 0, BIDI_AUTO, breaks, 0);
+  for (uint32_t direction = 0; direction < 4; direction++) lay_out(room, tables, neutral, 5, direction, breaks, 0);
+  printf("refused:\n");
+  lay_out(room, tables, mixed, 5, BIDI_AUTO, falling, 2);
+  lay_out(room, tables, mixed, 5, BIDI_AUTO, outside, 2);
+  lay_out(room, tables, mixed, 5, 4, breaks, 0);
+  const uint32_t surrogate[] = { 'a', 0xD800, 'b', 'c', 'd' };
+  lay_out(room, tables, surrogate, 5, BIDI_AUTO, breaks, 0);
+  static const uint32_t longer[65];
+  uint64_t place = 0;
+  uint32_t status = bidi_lay_out(room, tables, longer, 65, BIDI_AUTO, breaks, 0, &place), one;
+  printf("65 in a room for 64: %u, shown of another text %zu\n", status, bidi_shown(room, tables, mixed, 11, 0, &one, 1));
+}
+
+static void lay_out_classes(bidi_room *room, bidi_tables *tables) {
+  const uint8_t classes[] = { 1, 14, 0, 18, 2, 3 }, faulty[] = { 0, 22, 23 };
+  const size_t none[1] = { 0 };
+  uint64_t place = 0;
+  uint32_t status = bidi_lay_out_classes(room, classes, 6, BIDI_AUTO, none, 0, &place);
+  printf("classes %u: ", status);
+  print_layout(room, tables, NULL, 0);
+  status = bidi_lay_out_classes(room, faulty, 3, BIDI_AUTO, none, 0, &place);
+  printf("no class %u at %llu: ", status, (unsigned long long)place);
+  print_layout(room, tables, NULL, 0);
+  uint8_t one[1] = { 77 };
+  size_t n = bidi_levels(room, one, 1);
+  printf("too little place: %zu levels, byte %u\n", n, one[0]);
+}
+
+static void judge_files(bidi_judge *held, bidi_tables *tables) {
+  judge(held, "L; 3\n");
+  const char *classes[] = { "@Levels: x 1\n@Reorder: 1\nLRE R; 1\n", "@Levels: 0\n@Reorder: 0\nL; 3\nR; 1\n", "L; 3\n" };
+  for (size_t i = 0; i < 3; i++) {
+    printf("of classes %u, ", bidi_judge_new_classes(held));
+    judge(held, classes[i]);
+  }
+  uint32_t status = bidi_judge_new_characters(tables, held);
+  printf("of characters %u, tables %d, ", status, tables->made);
+  judge(held, "0061 05D0;2;0;0 1;0 1\n05D0;0;0;1;1\n");
+  status = bidi_judge_new_characters(tables, held);
+  printf("without tables %u, held %d\n", status, held->made);
+}
+
+int main(int argc, char **argv) {
+  bidi_tables tables = BIDI_NONE;
+  bidi_room room = BIDI_NONE;
+  bidi_judge held = BIDI_NONE;
+  bidi_fault fault = { 0, 0 };
+  const uint32_t text[1] = { 'a' };
+  const size_t none[1] = { 0 };
+  lay_out(&room, &tables, text, 1, BIDI_AUTO, none, 0);
+  print_room(&room, 64);
+  lay_out(&room, &tables, text, 1, BIDI_AUTO, none, 0);
+  refuse_files(&tables);
+  uint32_t status = read_tables(argc > 1 ? argv[1] : "ucd", &tables, &fault);
+  print_fault("tables", status, &fault, &tables);
+  printf("mirrors %c %c %c, of no character %X\n", bidi_mirror(&tables, '('), bidi_mirror(&tables, '['),
+         bidi_mirror(&tables, 'a'), bidi_mirror(&tables, 0xD800));
+  lay_out_texts(&room, &tables);
+  lay_out_classes(&room, &tables);
+  judge_files(&held, &tables);
+  print_room(&room, 1000);
+  print_room(&room, 16777217);
+  status = bidi_judge_new_characters((bidi_tables *)&room, &held);
+  printf("a room for tables: %u, mirror %c\n", status, bidi_mirror((bidi_tables *)&room, '('));
+  for (int i = 0; i < 2; i++) {
+    bidi_room_free(&room);
+    bidi_tables_free(&tables);
+    bidi_judge_free(&held);
+  }
+  printf("freed: %d %d %d\n", room.made, tables.made, held.made);
+  return 0;
+}

@@ -1,0 +1,55 @@
+/* refused UCD: each allocation of tables, room and judges is refused in turn. The call answers BIDI_MEMORY, the handle
+ * holds what it held, and nothing is lost (seen under valgrind). Link with -Wl,--wrap=malloc,--wrap=realloc. */
+#include "bidi.h"
+#include <stdlib.h>
+static long refused_at, asked;
+void *__real_malloc(size_t n);
+void *__real_realloc(void *p, size_t n);
+void *__wrap_malloc(size_t n) { return ++asked == refused_at ? NULL : __real_malloc(n); }
+void *__wrap_realloc(void *p, size_t n) { return ++asked == refused_at ? NULL : __real_realloc(p, n); }
+#include "read_file.h"
+
+static long wrong;
+/* Refuses the first, the second .. allocation of a call until it is done; it answers how many were refused. */
+#define IN_TURN(call, held) ({ \
+    long k = 1; \
+    for (;; k++) { \
+      asked = 0; refused_at = k; \
+      uint32_t status = (call); \
+      refused_at = 0; \
+      if (status == BIDI_DONE) break; \
+      if (status != BIDI_MEMORY || !(held)) wrong++; \
+    } \
+    k - 1; })
+
+int main(int argc, char **argv) {
+  const char *ucd = argc > 1 ? argv[1] : "ucd";
+  size_t a, b, c;
+  uint8_t *classes = read_file(ucd, "DerivedBidiClass.txt", &a), *brackets = read_file(ucd, "BidiBrackets.txt", &b),
+          *mirrors = read_file(ucd, "BidiMirroring.txt", &c);
+  bidi_tables tables = BIDI_NONE; bidi_room room = BIDI_NONE; bidi_judge judge = BIDI_NONE; bidi_fault fault;
+  uint64_t place = 0;
+  printf("room: %ld refused\n", IN_TURN(bidi_room_new(500, &room), !room.made));
+  printf("room again: %ld refused\n", IN_TURN(bidi_room_new(600, &room), bidi_room_size(&room) == 500));
+  printf("tables: %ld refused\n", IN_TURN(bidi_tables_new(classes, a, brackets, b, mirrors, c, &tables, &fault), !tables.made));
+  const uint32_t text[] = { 'a', 0x5D0, '1' }; const size_t none[1] = { 0 };
+  uint8_t levels[3]; size_t order[3]; uint32_t shown[3]; bidi_run_t run;
+  asked = 0; refused_at = 1;
+  uint32_t status = bidi_lay_out(&room, &tables, text, 3, BIDI_AUTO, none, 0, &place);
+  bidi_levels(&room, levels, 3); bidi_order(&room, 0, order, 3); bidi_places(&room, 0, order, 3);
+  bidi_run(&room, 0, 0, &run); bidi_shown(&room, &tables, text, 3, 0, shown, 3); bidi_mirror(&tables, '(');
+  printf("layout and look-ups: status %u, %ld asked\n", status, asked);
+  refused_at = 0;
+  printf("judge: %ld refused\n", IN_TURN(bidi_judge_new_classes(&judge), !judge.made));
+  printf("judge by tables: %ld refused\n", IN_TURN(bidi_judge_new_characters(&tables, &judge), judge.made && tables.made));
+  asked = 0; refused_at = 1;
+  bidi_verdict verdict;
+  status = bidi_judge_feed(&judge, (const uint8_t *)"0061;2;0;0;0\n", 13);
+  uint32_t finished = bidi_judge_finish(&judge, &verdict);
+  printf("judged: status %u, %u, answer %u, %ld asked\n", status, finished, verdict.answer, asked);
+  refused_at = 0;
+  bidi_room_free(&room); bidi_tables_free(&tables); bidi_judge_free(&judge);
+  free(classes); free(brackets); free(mirrors);
+  printf("wrong: %ld\n", wrong);
+  return wrong != 0;
+}
