@@ -1,5 +1,5 @@
 -- The fault of the first step that fails, where steps are joined; and what ends a step.
-use Rattle.std.proofs.Common.{◌≡◌, ℕ, List, [], ◌∷◌, ◌++◌, Option, None, Some, Result, Ok, Err, IfErr, IsErrAnd, inl, inr, refl, subst, sym}
+use Rattle.std.proofs.Common.{◌≡◌, ℕ, List, [], ◌∷◌, ◌++◌, Option, None, Some, Result, Ok, Err, IfErr, IsErrAnd, inl, inr, subst, sym}
 use Rattle.std.specs.Str.{IsUtf8}
 use Rattle.units.specs.Text.{lines_of}
 use Rattle.ucdfiles.specs.ClassFile.{class_fault, class_file_fault}

@@ -1,5 +1,5 @@
 -- The fault of a source ends the reading of its file.
-use Rattle.std.proofs.Common.{◌≡◌, ◌⊎◌, ℕ, List, [], ◌∷◌, Option, Some, None, Result, Ok, Err, IfErr, inl, inr, refl}
+use Rattle.std.proofs.Common.{◌≡◌, ℕ, List, [], ◌∷◌, Option, Result, Ok, Err, IfErr, inl, inr}
 use Rattle.std.specs.Str.{IsUtf8}
 use Rattle.bidi.specs.Judged.{EndsJudging}
 use Rattle.bidi.specs.Printed.{EndsReading, most_text_bytes}

@@ -1,5 +1,5 @@
 -- The fault of a reader ends the reading of its table.
-use Rattle.std.proofs.Common.{◌≡◌, ◌⊎◌, ℕ, List, [], Option, Some, None, inl, inr, refl}
+use Rattle.std.proofs.Common.{◌≡◌, ◌⊎◌, ℕ, List, [], Option, Some, inl, inr, refl}
 use Rattle.std.specs.Borrow.{Bor}
 use Rattle.units.specs.Text.{lines_of}
 use Rattle.ucdfiles.specs.Faults.{first_fault}

@@ -1,5 +1,5 @@
 -- The command line, as it is read: the command with its subcommands and arguments, and the request that the values of a subcommand make.
-use Rattle.std.specs.Prelude.{◌≡◌, ◌⊎◌, ℕ, List, [], ◌∷◌, Option, None, Some, Result, Ok, Err, IfOk, codes, map, option_map, pos, true, if◌then◌else◌}
+use Rattle.std.specs.Prelude.{◌≡◌, ◌⊎◌, List, [], ◌∷◌, Option, None, Some, Result, Ok, Err, IfOk, codes, map, option_map, pos, true, if◌then◌else◌}
 use Rattle.std.specs.Borrow.{Bor}
 use Rattle.std.specs.declared.num.NonZeroU16.{NonZeroU16}
 use Rattle.std.specs.declared.num.ParseIntError.{ParseIntError}

@@ -1,11 +1,11 @@
 -- Small files, and what is printed of them.
-use Rattle.std.specs.Prelude.{◌≡◌, ◌^◌, ◌-◌, ℕ, List, [], ◌∷◌, Option, None, Some, Result, Ok, Err, IfOk, is_ok, true, codes, refl}
+use Rattle.std.specs.Prelude.{◌≡◌, ◌^◌, ◌-◌, ℕ, List, [], ◌∷◌, Option, None, Result, Ok, Err, IfOk, is_ok, true, codes, refl}
 use Rattle.std.specs.Borrow.{Bor}
 use Rattle.std.specs.Char.{encode_utf8}
 use Rattle.std.specs.Fmt.{digits}
 use Rattle.std.specs.Io.KnownBytes.{Appends}
 use Rattle.std.specs.Str.{chars}
-use Rattle.std.proofs.Common.{ap, ap₂, lit≤, sym, subst, ◌∙◌}
+use Rattle.std.proofs.Common.{ap, ap₂, lit≤, subst, ◌∙◌}
 use Rattle.units.specs.Isolates.{matching_pdi, matching_initiator, partner_of, isolate_holds, isolate_around, first_strong, para_level_of}
 use Rattle.units.specs.Explicit.{matching_pdf, embedding_holds, chain, entered, explicit_at}
 use Rattle.units.specs.Weak.{after_weak}
@@ -26,7 +26,6 @@ use Rattle.ucdfiles.specs.PairFiles.{bracket_by, bracket_of, mirror_of, pair_lin
 use Rattle.ucdfiles.specs.Tables.{TablesOf, bracket_at, class_at, glyph_at}
 use Rattle.bidtests.specs.ClassesFile.{classes_line, classes_verdict}
 use Rattle.bidtests.specs.Verdicts.{verdict_on}
-use Rattle.bidtests.specs.declared.verdict.Verdict.{Verdict}
 use Rattle.bidtests.specs.declared.verdict.Verdict.TheVariants.{Yes}
 use Rattle.bidi.specs.Judged.{HasJudged, IsClassesVerdict}
 use Rattle.bidi.specs.LevelsText.{code_text, levels_text}

@@ -3,10 +3,9 @@ use Rattle.std.specs.Prelude.{◌≡◌, ◌≤◌, ℕ, min, List, [], ◌++◌
 use Rattle.std.specs.Borrow.{Bor}
 use Rattle.std.specs.Io.KnownBytes.{Consumes, IsAtEnd}
 use Rattle.std.specs.Str.{bytes_eq}
-use Rattle.std.proofs.Common.{append-nil, arith, sym, ap, subst, refl, ◌∙◌}
+use Rattle.std.proofs.Common.{append-nil, arith, sym, ap, subst, ◌∙◌}
 use Rattle.units.specs.HandsOut.{Reading, HandsOut, HasEnded, failures_of}
-use Rattle.units.specs.declared.reader_source.State.{State}
-use Rattle.units.specs.declared.reader_source.State.TheVariants.{Open, Ended, Failed}
+use Rattle.units.specs.declared.reader_source.State.TheVariants.{Open}
 use Rattle.bidi.specs.ReadFiles.{FileFacts}
 
 -- a file: its name, its bytes, and how many of them can be read

@@ -1,7 +1,7 @@
-use Rattle.std.proofs.Common.{◌≡◌, List, ℕ, Option, None, Some, codes, refl, subst}
+use Rattle.std.proofs.Common.{◌≡◌, Option, None, Some, codes, refl, subst}
 use Rattle.std.specs.declared.num.NonZeroU16.{NonZeroU16}
 use Rattle.clap.specs.Matches.{ReadsOne, found_of, one_text}
-use Rattle.clap.specs.Walk.{Text, one_of, rows_of}
+use Rattle.clap.specs.Walk.{Text}
 use Rattle.clap.proofs.WalkLemmas.{one_text-rows}
 use Rattle.bidi.specs.CommandLine.{ColumnsAre, ReadsColumns}
 use Rattle.bidi.proofs.command_line.columns_in.Goals as goal

@@ -1,13 +1,12 @@
-use Rattle.std.proofs.Common.{◌≡◌, ◌⊎◌, ℕ, List, [], Option, Some, None, Result, Ok, Err, IsErrAnd, true, inl, inr, ap, refl, subst, sym}
+use Rattle.std.proofs.Common.{◌≡◌, List, [], Option, Result, Ok, Err, IsErrAnd, true, inl, inr, ap, refl, subst, sym}
 use Rattle.clap.specs.Faults.{fault_of, is_simple_and_free}
 use Rattle.clap.specs.Kinds.{HasKind}
-use Rattle.clap.specs.Matches.{found_of}
 use Rattle.clap.specs.Simple.{App, app_of, is_simple, subcommand_of, subcommand_rows_of}
 use Rattle.clap.specs.Values.{kind_of}
 use Rattle.clap.specs.Walk.{Row, Text, texts}
 use Rattle.clap.specs.declared.error.Error.{Error}
 use Rattle.clap.specs.declared.error.kind.ErrorKind.TheVariants.{MissingSubcommand}
-use Rattle.bidi.specs.CommandLine.{Choice, IsAskedBy, IsBidi, IsRead, IsReadAs, IsRefused, bidi_app}
+use Rattle.bidi.specs.CommandLine.{Choice, IsAskedBy, IsBidi, IsRead, IsReadAs, bidi_app}
 use Rattle.bidi.specs.declared.command_line.Request.{Request}
 use Rattle.bidi.proofs.command_line.request_of.Goals as goal
 

@@ -1,4 +1,4 @@
-use Rattle.std.proofs.Common.{◌≡◌, ℕ, List, Option, Result, Ok, subst}
+use Rattle.std.proofs.Common.{◌≡◌, ℕ, List, Result, Ok, subst}
 use Rattle.clap.specs.declared.error.Error.{Error}
 use Rattle.clap.specs.Walk.{texts}
 use Rattle.bidi.specs.CommandLine.{IsRead, IsReadAs}
