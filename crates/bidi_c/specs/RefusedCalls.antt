@@ -3,8 +3,10 @@ use Rattle.std.specs.Prelude.{ℕ, ◌<◌, ◌≡◌, ◌⊎◌, ◌≤◌, Opt
 use Rattle.lines.specs.Scratches.{room_of}
 use Rattle.bidi_c.specs.Texts.{direction_numbered}
 use Rattle.bidi_c.specs.Holdings.{tables_in, room_in}
+use Rattle.bidi_c.specs.LimitsGiven.{RefusesLimits}
 use Rattle.bidi_c.specs.Refusals.{RefusesText, RefusesClasses}
 use Rattle.bidi_c.specs.declared.held.Held.{Held}
+use Rattle.bidi_c.specs.declared.limits.BidiLimits.{BidiLimits}
 use Rattle.bidi_c.specs.declared.refusal.Refusal.{Refusal}
 use Rattle.bidi_c.specs.declared.refusal.Refusal.TheVariants.{Memory, TooBig, NoDirection, NoRoom, NoTables}
 
@@ -30,3 +32,13 @@ RefusesClassLayout room numbers direction breaks refusal =
     ((refusal ≡ NoRoom) × (room_in room ≡ None))
     ⊎ (((refusal ≡ NoDirection) × (direction_numbered direction ≡ None))
     ⊎ MatchOption (room_in room) ⊥ (λ held. RefusesClasses (room_of held.scratch) numbers breaks refusal))
+
+-- the layout of a text of code points by limits that are handed in is refused for this reason: they are not allowed, or the layout is refused
+abbrev pub RefusesLayoutWith : BidiLimits → Option Held → Option Held → List ℕ → ℕ → List ℕ → Refusal → Type 0
+RefusesLayoutWith limits room tables codes direction breaks refusal =
+    RefusesLimits limits refusal ⊎ RefusesLayout room tables codes direction breaks refusal
+
+-- the layout of a text of classes by limits that are handed in is refused for this reason
+abbrev pub RefusesClassLayoutWith : BidiLimits → Option Held → List ℕ → ℕ → List ℕ → Refusal → Type 0
+RefusesClassLayoutWith limits room numbers direction breaks refusal =
+    RefusesLimits limits refusal ⊎ RefusesClassLayout room numbers direction breaks refusal
