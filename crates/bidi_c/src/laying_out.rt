@@ -1,7 +1,7 @@
 // Texts laid out.
 ghost use Rattle.std.specs.Prelude.{◌≡◌, ◌<◌, IfErr, OnOk, OnErr, Some};
 ghost use Rattle.bidi_c.specs.Statuses.{IsRefused};
-ghost use Rattle.bidi_c.specs.RefusedCalls.{RefusesLayout, RefusesClassLayout};
+ghost use Rattle.bidi_c.specs.RefusedCalls.{RoomTakes, RoomTakesClasses, RefusesLayout, RefusesClassLayout};
 ghost use Rattle.bidi_c.specs.Texts.{direction_numbered};
 ghost use Rattle.bidi_c.specs.Holdings.{capacity_in, tables_in, layout_held};
 ghost use Rattle.bidi_c.specs.LaidOut.{IsLayout, IsClassLayout};
@@ -35,6 +35,7 @@ fn lay_out_held(
     ensures capacity { capacity_in (Some room.new) ≡ capacity_in (Some room.old) }
     ensures kept { OnErr result (layout_held (Some room.new) ≡ layout_held (Some room.old)) }
     ensures refused { IfErr result (RefusesLayout (Some room.old) (Some tables.now) codes.now direction breaks.now) }
+    ensures taken { OnOk result (RoomTakes (Some room.old) codes.now breaks.now) }
     ensures laid_out { OnOk result (IsLayout (tables_in (Some tables.now)) codes.now direction breaks.now (layout_held (Some room.new))) }
 {
     let Held::Room(room) = room else {
@@ -61,6 +62,7 @@ fn lay_out(
     ensures capacity { capacity_in room.new.handle.value ≡ capacity_in room.old.handle.value }
     ensures kept { OnErr result (layout_held room.new.handle.value ≡ layout_held room.old.handle.value) }
     ensures refused { IfErr result (RefusesLayout room.old.handle.value tables.old.handle.value codes.now direction breaks.now) }
+    ensures taken { OnOk result (RoomTakes room.old.handle.value codes.now breaks.now) }
     ensures laid_out { OnOk result (IsLayout (tables_in tables.old.handle.value) codes.now direction breaks.now (layout_held room.new.handle.value)) }
 {
     let Some(mut held) = room.take(alloc) else {
@@ -93,6 +95,7 @@ pub extern "C" fn bidi_lay_out(
     ensures capacity { capacity_in room.new.handle.value ≡ capacity_in room.old.handle.value }
     ensures kept { 0 < result → layout_held room.new.handle.value ≡ layout_held room.old.handle.value }
     ensures refused { 0 < result → IsRefused (RefusesLayout room.old.handle.value tables.old.handle.value codes.now direction breaks.now) result place.new }
+    ensures taken { result ≡ 0 → RoomTakes room.old.handle.value codes.now breaks.now }
     ensures laid_out { result ≡ 0 → IsLayout (tables_in tables.old.handle.value) codes.now direction breaks.now (layout_held room.new.handle.value) }
 {
     let done = lay_out(alloc, room, tables, codes, direction, breaks);
@@ -108,6 +111,7 @@ fn lay_out_classes_held(
     ensures capacity { capacity_in (Some room.new) ≡ capacity_in (Some room.old) }
     ensures kept { OnErr result (layout_held (Some room.new) ≡ layout_held (Some room.old)) }
     ensures refused { IfErr result (RefusesClassLayout (Some room.old) numbers.now direction breaks.now) }
+    ensures taken { OnOk result (RoomTakesClasses (Some room.old) numbers.now breaks.now) }
     ensures laid_out { OnOk result (IsClassLayout numbers.now direction breaks.now (layout_held (Some room.new))) }
 {
     let Held::Room(room) = room else {
@@ -129,6 +133,7 @@ fn lay_out_classes(
     ensures capacity { capacity_in room.new.handle.value ≡ capacity_in room.old.handle.value }
     ensures kept { OnErr result (layout_held room.new.handle.value ≡ layout_held room.old.handle.value) }
     ensures refused { IfErr result (RefusesClassLayout room.old.handle.value numbers.now direction breaks.now) }
+    ensures taken { OnOk result (RoomTakesClasses room.old.handle.value numbers.now breaks.now) }
     ensures laid_out { OnOk result (IsClassLayout numbers.now direction breaks.now (layout_held room.new.handle.value)) }
 {
     let Some(mut held) = room.take(alloc) else {
@@ -153,6 +158,7 @@ pub extern "C" fn bidi_lay_out_classes(
     ensures capacity { capacity_in room.new.handle.value ≡ capacity_in room.old.handle.value }
     ensures kept { 0 < result → layout_held room.new.handle.value ≡ layout_held room.old.handle.value }
     ensures refused { 0 < result → IsRefused (RefusesClassLayout room.old.handle.value numbers.now direction breaks.now) result place.new }
+    ensures taken { result ≡ 0 → RoomTakesClasses room.old.handle.value numbers.now breaks.now }
     ensures laid_out { result ≡ 0 → IsClassLayout numbers.now direction breaks.now (layout_held room.new.handle.value) }
 {
     let done = lay_out_classes(alloc, room, numbers, direction, breaks);
