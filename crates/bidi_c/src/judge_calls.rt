@@ -1,5 +1,5 @@
 // Test files judged.
-ghost use Rattle.std.specs.Prelude.{◌≡◌, ◌<◌, ◌++◌, ◌≢◌, ◌⊎◌, ℕ, true, List, [], Option, None, Some, IsSome, IfOk, IfErr, OnOk, OnErr};
+ghost use Rattle.std.specs.Prelude.{◌≡◌, ◌<◌, ◌++◌, ◌≢◌, ℕ, true, List, [], Option, None, Some, IsSome, IfOk, IfErr, OnOk, OnErr};
 ghost use Rattle.units.specs.Limits.{LimitsOf, AreAllowed, standard};
 ghost use Rattle.ucdfiles.specs.Tables.{TablesOf};
 ghost use Rattle.bidi_c.specs.Holdings.{tables_in};
@@ -316,7 +316,8 @@ pub extern "C" fn bidi_judge_free(alloc: Global, judge: &mut BidiHandle)
 fn feed_held(held: &mut Held, piece: &[u8]) -> u32
     ensures fed { (limits : LimitsOf) (tables : Option TablesOf) (b : List ℕ)
         → HandleHasJudged limits (Some held.old) tables b → HandleHasJudged limits (Some held.new) tables (b ++ piece.now) }
-    ensures done { (result ≡ 0) ⊎ ((result ≡ 16) × (judge_in (Some held.old) ≡ None) × (held.new ≡ held.old)) }
+    ensures done { IsSome (judge_in (Some held.old)) → result ≡ 0 }
+    ensures refused { judge_in (Some held.old) ≡ None → (result ≡ 16) × (held.new ≡ held.old) }
 {
     match held {
         Held::Judge(judge) => {
@@ -332,7 +333,8 @@ fn feed_held(held: &mut Held, piece: &[u8]) -> u32
 pub extern "C" fn bidi_judge_feed(alloc: Global, judge: &mut BidiHandle, piece: &[u8]) -> u32
     ensures fed { (limits : LimitsOf) (tables : Option TablesOf) (b : List ℕ)
         → HandleHasJudged limits judge.old.handle.value tables b → HandleHasJudged limits judge.new.handle.value tables (b ++ piece.now) }
-    ensures done { (result ≡ 0) ⊎ ((result ≡ 16) × (judge_in judge.old.handle.value ≡ None) × (judge.new.handle.value ≡ judge.old.handle.value)) }
+    ensures done { IsSome (judge_in judge.old.handle.value) → result ≡ 0 }
+    ensures refused { judge_in judge.old.handle.value ≡ None → (result ≡ 16) × (judge.new.handle.value ≡ judge.old.handle.value) }
 {
     let Some(mut held) = judge.take(alloc) else {
         return Refusal::NoJudge.code();

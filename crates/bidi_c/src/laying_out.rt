@@ -3,7 +3,7 @@ ghost use Rattle.std.specs.Prelude.{◌≡◌, ◌<◌, IfErr, OnOk, OnErr, Some
 ghost use Rattle.units.specs.Limits.{AreAllowed, standard};
 ghost use Rattle.bidi_c.specs.LimitsGiven.{limits_in};
 ghost use Rattle.bidi_c.specs.Statuses.{IsRefused};
-ghost use Rattle.bidi_c.specs.RefusedCalls.{RefusesLayout, RefusesClassLayout, RefusesLayoutWith, RefusesClassLayoutWith};
+ghost use Rattle.bidi_c.specs.RefusedCalls.{RoomTakes, RoomTakesClasses, RefusesLayout, RefusesClassLayout, RefusesLayoutWith, RefusesClassLayoutWith};
 ghost use Rattle.bidi_c.specs.Texts.{direction_numbered};
 ghost use Rattle.bidi_c.specs.Holdings.{capacity_in, tables_in, layout_held};
 ghost use Rattle.bidi_c.specs.LaidOut.{IsLayout, IsClassLayout};
@@ -40,6 +40,7 @@ fn lay_out_held(
     ensures capacity { capacity_in (Some room.new) ≡ capacity_in (Some room.old) }
     ensures kept { OnErr result (layout_held (Some room.new) ≡ layout_held (Some room.old)) }
     ensures refused { IfErr result (RefusesLayout (Some room.old) (Some tables.now) codes.now direction breaks.now) }
+    ensures taken { OnOk result (RoomTakes (Some room.old) codes.now breaks.now) }
     ensures laid_out { OnOk result (IsLayout limits (tables_in (Some tables.now)) codes.now direction breaks.now (layout_held (Some room.new))) }
 {
     let Held::Room(room) = room else {
@@ -67,6 +68,7 @@ fn lay_out(
     ensures capacity { capacity_in room.new.handle.value ≡ capacity_in room.old.handle.value }
     ensures kept { OnErr result (layout_held room.new.handle.value ≡ layout_held room.old.handle.value) }
     ensures refused { IfErr result (RefusesLayout room.old.handle.value tables.old.handle.value codes.now direction breaks.now) }
+    ensures taken { OnOk result (RoomTakes room.old.handle.value codes.now breaks.now) }
     ensures laid_out { OnOk result (IsLayout limits (tables_in tables.old.handle.value) codes.now direction breaks.now (layout_held room.new.handle.value)) }
 {
     let Some(mut held) = room.take(alloc) else {
@@ -99,6 +101,7 @@ pub extern "C" fn bidi_lay_out(
     ensures capacity { capacity_in room.new.handle.value ≡ capacity_in room.old.handle.value }
     ensures kept { 0 < result → layout_held room.new.handle.value ≡ layout_held room.old.handle.value }
     ensures refused { 0 < result → IsRefused (RefusesLayout room.old.handle.value tables.old.handle.value codes.now direction breaks.now) result place.new }
+    ensures taken { result ≡ 0 → RoomTakes room.old.handle.value codes.now breaks.now }
     ensures laid_out { result ≡ 0 → IsLayout standard (tables_in tables.old.handle.value) codes.now direction breaks.now (layout_held room.new.handle.value) }
 {
     let done = lay_out(alloc, room, tables, codes, direction, breaks, Limits::standard());
@@ -119,6 +122,7 @@ fn lay_out_with(
     ensures kept { OnErr result (layout_held room.new.handle.value ≡ layout_held room.old.handle.value) }
     ensures refused { IfErr result (RefusesLayoutWith limits room.old.handle.value tables.old.handle.value codes.now direction breaks.now) }
     ensures allowed { OnOk result (AreAllowed (limits_in limits)) }
+    ensures taken { OnOk result (RoomTakes room.old.handle.value codes.now breaks.now) }
     ensures laid_out { OnOk result (IsLayout (limits_in limits) (tables_in tables.old.handle.value) codes.now direction breaks.now (layout_held room.new.handle.value)) }
 {
     let allowed = limits.allowed()?;
@@ -143,6 +147,7 @@ pub extern "C" fn bidi_lay_out_with(
     ensures kept { 0 < result → layout_held room.new.handle.value ≡ layout_held room.old.handle.value }
     ensures refused { 0 < result → IsRefused (RefusesLayoutWith limits room.old.handle.value tables.old.handle.value codes.now direction breaks.now) result place.new }
     ensures allowed { result ≡ 0 → AreAllowed (limits_in limits) }
+    ensures taken { result ≡ 0 → RoomTakes room.old.handle.value codes.now breaks.now }
     ensures laid_out { result ≡ 0 → IsLayout (limits_in limits) (tables_in tables.old.handle.value) codes.now direction breaks.now (layout_held room.new.handle.value) }
 {
     let done = lay_out_with(alloc, room, tables, codes, direction, breaks, limits);
@@ -159,6 +164,7 @@ fn lay_out_classes_held(
     ensures capacity { capacity_in (Some room.new) ≡ capacity_in (Some room.old) }
     ensures kept { OnErr result (layout_held (Some room.new) ≡ layout_held (Some room.old)) }
     ensures refused { IfErr result (RefusesClassLayout (Some room.old) numbers.now direction breaks.now) }
+    ensures taken { OnOk result (RoomTakesClasses (Some room.old) numbers.now breaks.now) }
     ensures laid_out { OnOk result (IsClassLayout limits numbers.now direction breaks.now (layout_held (Some room.new))) }
 {
     let Held::Room(room) = room else {
@@ -181,6 +187,7 @@ fn lay_out_classes(
     ensures capacity { capacity_in room.new.handle.value ≡ capacity_in room.old.handle.value }
     ensures kept { OnErr result (layout_held room.new.handle.value ≡ layout_held room.old.handle.value) }
     ensures refused { IfErr result (RefusesClassLayout room.old.handle.value numbers.now direction breaks.now) }
+    ensures taken { OnOk result (RoomTakesClasses room.old.handle.value numbers.now breaks.now) }
     ensures laid_out { OnOk result (IsClassLayout limits numbers.now direction breaks.now (layout_held room.new.handle.value)) }
 {
     let Some(mut held) = room.take(alloc) else {
@@ -205,6 +212,7 @@ pub extern "C" fn bidi_lay_out_classes(
     ensures capacity { capacity_in room.new.handle.value ≡ capacity_in room.old.handle.value }
     ensures kept { 0 < result → layout_held room.new.handle.value ≡ layout_held room.old.handle.value }
     ensures refused { 0 < result → IsRefused (RefusesClassLayout room.old.handle.value numbers.now direction breaks.now) result place.new }
+    ensures taken { result ≡ 0 → RoomTakesClasses room.old.handle.value numbers.now breaks.now }
     ensures laid_out { result ≡ 0 → IsClassLayout standard numbers.now direction breaks.now (layout_held room.new.handle.value) }
 {
     let done = lay_out_classes(alloc, room, numbers, direction, breaks, Limits::standard());
@@ -223,6 +231,7 @@ fn lay_out_classes_with(
     ensures kept { OnErr result (layout_held room.new.handle.value ≡ layout_held room.old.handle.value) }
     ensures refused { IfErr result (RefusesClassLayoutWith limits room.old.handle.value numbers.now direction breaks.now) }
     ensures allowed { OnOk result (AreAllowed (limits_in limits)) }
+    ensures taken { OnOk result (RoomTakesClasses room.old.handle.value numbers.now breaks.now) }
     ensures laid_out { OnOk result (IsClassLayout (limits_in limits) numbers.now direction breaks.now (layout_held room.new.handle.value)) }
 {
     let allowed = limits.allowed()?;
@@ -244,6 +253,7 @@ pub extern "C" fn bidi_lay_out_classes_with(
     ensures kept { 0 < result → layout_held room.new.handle.value ≡ layout_held room.old.handle.value }
     ensures refused { 0 < result → IsRefused (RefusesClassLayoutWith limits room.old.handle.value numbers.now direction breaks.now) result place.new }
     ensures allowed { result ≡ 0 → AreAllowed (limits_in limits) }
+    ensures taken { result ≡ 0 → RoomTakesClasses room.old.handle.value numbers.now breaks.now }
     ensures laid_out { result ≡ 0 → IsClassLayout (limits_in limits) numbers.now direction breaks.now (layout_held room.new.handle.value) }
 {
     let done = lay_out_classes_with(alloc, room, numbers, direction, breaks, limits);

@@ -1,10 +1,11 @@
 // A room: the units of a text, and its layout.
-ghost use Rattle.std.specs.Prelude.{◌≡◌, ◌≢◌, ◌≤◌, ◌<◌, ◌↔◌, None, MatchOption, Err, length, take, map, IfOk, IfSome, OnOk, IfErr, OnErr, IsOk, IsNone};
+ghost use Rattle.std.specs.Prelude.{ℕ, ◌≡◌, ◌≢◌, ◌≤◌, ◌<◌, ◌↔◌, None, MatchOption, Err, length, slice_index, take, map, IfOk, IfSome, OnOk, IfErr, OnErr, IsOk, IsNone};
 ghost use Rattle.std.specs.Box.{boxed_slice_items};
+ghost use Rattle.std.specs.Char.{IsScalar};
 ghost use Rattle.units.specs.Layout.{layout_of};
 ghost use Rattle.lines.specs.Scratches.{room_of, layout_in, IsFilled};
 ghost use Rattle.bidi_c.specs.Texts.{units_by, class_numbered, unit_numbered, units_numbered};
-ghost use Rattle.bidi_c.specs.Refusals.{IsFirstNoCharacter, IsFirstNoClass, RefusesText, RefusesClasses};
+ghost use Rattle.bidi_c.specs.Refusals.{IsFirstNoCharacter, IsFirstNoClass, TakesText, TakesClasses, RefusesText, RefusesClasses};
 
 use crate::refusal::{Refusal, of_breaks};
 use lines::breaks::Breaks;
@@ -33,6 +34,7 @@ fn fill_units(units: &mut [Unit], tables: &Tables, codes: &[u32]) -> Option<usiz
     requires { length codes.now ≤ length units.old }
     ensures len { length units.new ≡ length units.old }
     ensures first { IfSome result (IsFirstNoCharacter codes.now) }
+    ensures scalars { IsNone result → (k : ℕ) → k < length codes.now → IsScalar (slice_index codes.now k) }
     ensures units { IsNone result → take (length codes.now) units.new ≡ units_by tables.now codes.now }
 {
     for i in 0..codes.len() {
@@ -93,6 +95,7 @@ fn fill_classes(units: &mut [Unit], numbers: &[u8]) -> Option<usize>
     requires { length numbers.now ≤ length units.old }
     ensures len { length units.new ≡ length units.old }
     ensures first { IfSome result (IsFirstNoClass numbers.now) }
+    ensures classes { IsNone result → (k : ℕ) → k < length numbers.now → class_numbered (slice_index numbers.now k) ≢ None }
     ensures units { IsNone result → take (length numbers.now) units.new ≡ units_numbered numbers.now }
 {
     for i in 0..numbers.len() {
@@ -161,6 +164,7 @@ impl Room {
         ensures room { room_of self.new.scratch ≡ room_of self.old.scratch }
         ensures refused { IfErr result (RefusesText (room_of self.old.scratch) codes.now at.now) }
         ensures kept { OnErr result (self.new.scratch ≡ self.old.scratch) }
+        ensures taken { OnOk result (TakesText (room_of self.old.scratch) codes.now at.now) }
         ensures laid_out { OnOk result (layout_in self.new.scratch ≡ layout_of limits (units_by tables.now codes.now) direction at.now) }
     {
         if self.scratch.room() < codes.len() {
@@ -187,6 +191,7 @@ impl Room {
         ensures room { room_of self.new.scratch ≡ room_of self.old.scratch }
         ensures refused { IfErr result (RefusesClasses (room_of self.old.scratch) numbers.now at.now) }
         ensures kept { OnErr result (self.new.scratch ≡ self.old.scratch) }
+        ensures taken { OnOk result (TakesClasses (room_of self.old.scratch) numbers.now at.now) }
         ensures laid_out { OnOk result (layout_in self.new.scratch ≡ layout_of limits (units_numbered numbers.now) direction at.now) }
     {
         if self.scratch.room() < numbers.len() {
