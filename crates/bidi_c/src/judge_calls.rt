@@ -137,11 +137,7 @@ fn new_judge(alloc: Global, limits: Limits) -> Result<Box<TableJudge>, Refusal>
     Box::new(alloc, judge).map_err(|_| Refusal::Memory)
 }
 
-fn make_classes_judge(
-    alloc: Global,
-    judge: &mut BidiHandle,
-    limits: Limits,
-) -> Result<(), Refusal>
+fn make_classes_judge(alloc: Global, judge: &mut BidiHandle, limits: Limits) -> Result<(), Refusal>
     ensures made { OnOk result (HandleHasJudged limits judge.new.handle.value None []) }
     ensures kept { OnErr result (judge.new.handle.value ≡ judge.old.handle.value) }
     ensures refused { IfErr result RefusesJudge }

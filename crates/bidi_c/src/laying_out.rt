@@ -104,7 +104,8 @@ pub extern "C" fn bidi_lay_out(
     ensures taken { result ≡ 0 → RoomTakes room.old.handle.value codes.now breaks.now }
     ensures laid_out { result ≡ 0 → IsLayout standard (tables_in tables.old.handle.value) codes.now direction breaks.now (layout_held room.new.handle.value) }
 {
-    let done = lay_out(alloc, room, tables, codes, direction, breaks, Limits::standard());
+    let limits = Limits::standard();
+    let done = lay_out(alloc, room, tables, codes, direction, breaks, limits);
     answer(done, place)
 }
 
@@ -215,7 +216,8 @@ pub extern "C" fn bidi_lay_out_classes(
     ensures taken { result ≡ 0 → RoomTakesClasses room.old.handle.value numbers.now breaks.now }
     ensures laid_out { result ≡ 0 → IsClassLayout standard numbers.now direction breaks.now (layout_held room.new.handle.value) }
 {
-    let done = lay_out_classes(alloc, room, numbers, direction, breaks, Limits::standard());
+    let limits = Limits::standard();
+    let done = lay_out_classes(alloc, room, numbers, direction, breaks, limits);
     answer(done, place)
 }
 
