@@ -19,7 +19,7 @@
  *  - No call is made from a signal handler, or in a forked child of a process with threads. Else: malloc may be stuck.
  *  - malloc, realloc and free are of one allocator, and align to 16 where the size allows it, as the C library's do.
  *
- * No call blocks, aborts, or keeps a pointer that it was passed. bidi_lay_out, the look-ups, bidi_judge_feed and
+ * No call blocks, aborts, or keeps a pointer that it was passed. Layouts, the look-ups, bidi_judge_feed and
  * bidi_judge_finish take no memory.
  */
 #ifndef BIDI_H
@@ -56,12 +56,19 @@ enum {
   BIDI_BRACKET_FILE = 13,      /* fault: of BidiBrackets.txt */
   BIDI_MIRROR_FILE = 14,       /* fault: of BidiMirroring.txt */
   BIDI_NO_PLACE = 15,          /* the line has no such place */
-  BIDI_NO_JUDGE = 16           /* the handle holds no judge */
+  BIDI_NO_JUDGE = 16,          /* the handle holds no judge */
+  BIDI_DEPTH = 17,             /* the depth that is handed in is 0 or above 125 */
+  BIDI_BRACKETS = 18           /* the depth is allowed, and the number of brackets is above 63 */
 };
 
 /* Directions: that of all paragraphs, or of each by its first strong character (P2, P3); where it has none, BIDI_AUTO
  * takes left-to-right and BIDI_AUTO_RTL right-to-left. */
 enum { BIDI_LTR = 0, BIDI_RTL = 1, BIDI_AUTO = 2, BIDI_AUTO_RTL = 3 };
+
+/* Limits: how deep explicit levels go (BD2), 1 to 125, and how many brackets can be open at once (BD16), 0 to 63, where
+ * with 0 no pair counts. Calls that take none take the standard's, 125 and 63. Depth is looked at before brackets, and
+ * both before all else that a call may be refused for. */
+typedef struct { uint8_t depth, brackets; } bidi_limits;
 
 #define BIDI_REMOVED 255       /* the level of a position that X9 removes */
 #define BIDI_NOWHERE SIZE_MAX  /* the place of a position that X9 removes */
@@ -99,10 +106,16 @@ size_t bidi_room_size(bidi_room *room);
 uint32_t bidi_lay_out(bidi_room *room, bidi_tables *tables, const uint32_t *codes, size_t n, uint32_t direction,
                       const size_t *breaks, size_t break_count, uint64_t *place);
 
+/* The same by these limits. */
+uint32_t bidi_lay_out_with(bidi_room *room, bidi_tables *tables, const uint32_t *codes, size_t n, uint32_t direction,
+                           const size_t *breaks, size_t break_count, bidi_limits limits, uint64_t *place);
+
 /* The same for a text of classes, which has no brackets. Classes by number, from 0:
  * L R AL EN ES ET AN CS NSM BN B S WS ON LRE LRO RLE RLO PDF LRI RLI FSI PDI. */
 uint32_t bidi_lay_out_classes(bidi_room *room, const uint8_t *classes, size_t n, uint32_t direction,
                               const size_t *breaks, size_t break_count, uint64_t *place);
+uint32_t bidi_lay_out_classes_with(bidi_room *room, const uint8_t *classes, size_t n, uint32_t direction,
+                                   const size_t *breaks, size_t break_count, bidi_limits limits, uint64_t *place);
 
 /* Look-ups of what was laid out last. Each answers how many items there are, 0 where there is nothing of what is asked
  * for, and writes them only if all have place. */
@@ -131,8 +144,10 @@ size_t bidi_shown(bidi_room *room, bidi_tables *tables, const uint32_t *codes, s
 
 /* A judge of a BidiTest.txt. What `judge` held before is freed once it is made. */
 uint32_t bidi_judge_new_classes(bidi_judge *judge);
+uint32_t bidi_judge_new_classes_with(bidi_judge *judge, bidi_limits limits);
 /* A judge of a BidiCharacterTest.txt by tables, which it takes over: `tables` is BIDI_NONE then. */
 uint32_t bidi_judge_new_characters(bidi_tables *tables, bidi_judge *judge);
+uint32_t bidi_judge_new_characters_with(bidi_tables *tables, bidi_judge *judge, bidi_limits limits);
 void bidi_judge_free(bidi_judge *judge);
 /* The next bytes of the file, as many or as few as there are. */
 uint32_t bidi_judge_feed(bidi_judge *judge, const uint8_t *bytes, size_t n);

@@ -115,6 +115,47 @@ static void lay_out_classes(bidi_room *room, bidi_tables *tables) {
   printf("too little place: %zu levels, byte %u\n", n, one[0]);
 }
 
+static void lay_out_by_limits(bidi_room *room, bidi_tables *tables) {
+  const uint8_t classes[] = { 16, 14, 1 };
+  const uint32_t codes[] = { 'a', '(', 'b', ')', 0x5D0 };
+  const bidi_limits by[] = { { 1, 63 }, { 125, 63 }, { 125, 0 }, { 125, 1 } };
+  const bidi_limits faulty[] = { { 0, 63 }, { 126, 63 }, { 1, 64 }, { 0, 64 } };
+  const size_t none[1] = { 0 };
+  uint64_t place = 0;
+  for (size_t i = 0; i < 4; i++) {
+    uint32_t status = bidi_lay_out_classes_with(room, classes, 3, BIDI_LTR, none, 0, by[i], &place);
+    printf("depth %u, brackets %u: %u ", by[i].depth, by[i].brackets, status);
+    print_layout(room, tables, NULL, 0);
+    status = bidi_lay_out_with(room, tables, codes, 5, BIDI_RTL, none, 0, by[i], &place);
+    printf("depth %u, brackets %u: %u ", by[i].depth, by[i].brackets, status);
+    print_layout(room, tables, codes, 5);
+  }
+  for (size_t i = 0; i < 4; i++) {
+    uint32_t of_classes = bidi_lay_out_classes_with(room, classes, 3, 4, none, 0, faulty[i], &place);
+    uint32_t status = bidi_lay_out_with(room, tables, codes, 5, 4, none, 0, faulty[i], &place);
+    printf("depth %u, brackets %u: %u %u\n", faulty[i].depth, faulty[i].brackets, of_classes, status);
+  }
+  printf("kept: ");
+  print_layout(room, tables, codes, 5);
+}
+
+static void judge_by_limits(bidi_judge *held, bidi_tables *tables) {
+  const char *nested = "@Levels: x x 1\n@Reorder: 2\nRLE LRE R; 2\n", *pair = "0061 0028 0062 0029 05D0;1;1;2 2 2 1 1;4 3 0 1 2\n";
+  const bidi_limits low = { 1, 0 }, faulty[] = { { 0, 0 }, { 1, 64 } };
+  printf("of classes %u, ", bidi_judge_new_classes_with(held, low));
+  judge(held, nested);
+  printf("of classes %u, ", bidi_judge_new_classes(held));
+  judge(held, nested);
+  for (size_t i = 0; i < 2; i++) {
+    uint32_t of_classes = bidi_judge_new_classes_with(held, faulty[i]);
+    uint32_t status = bidi_judge_new_characters_with(tables, held, faulty[i]);
+    printf("by faulty limits %u %u, held %d, tables %d\n", of_classes, status, held->made, tables->made);
+  }
+  uint32_t status = bidi_judge_new_characters_with(tables, held, low);
+  printf("of characters %u, tables %d, ", status, tables->made);
+  judge(held, pair);
+}
+
 static void judge_files(bidi_judge *held, bidi_tables *tables) {
   judge(held, "L; 3\n");
   const char *classes[] = { "@Levels: x 1\n@Reorder: 1\nLRE R; 1\n", "@Levels: 0\n@Reorder: 0\nL; 3\nR; 1\n", "L; 3\n" };
@@ -146,7 +187,11 @@ int main(int argc, char **argv) {
          bidi_mirror(&tables, 'a'), bidi_mirror(&tables, 0xD800));
   lay_out_texts(&room, &tables);
   lay_out_classes(&room, &tables);
+  lay_out_by_limits(&room, &tables);
   judge_files(&held, &tables);
+  status = read_tables(argc > 1 ? argv[1] : "ucd", &tables, &fault);
+  print_fault("tables", status, &fault, &tables);
+  judge_by_limits(&held, &tables);
   print_room(&room, 1000);
   print_room(&room, 16777217);
   status = bidi_judge_new_characters((bidi_tables *)&room, &held);

@@ -1,6 +1,6 @@
 -- What C is told of judges.
 use Rattle.std.specs.Prelude.{ℕ, ◌≡◌, ◌⊎◌, Option, Some, None, List, [], MatchOption}
-use Rattle.units.specs.Limits.{standard}
+use Rattle.units.specs.Limits.{LimitsOf}
 use Rattle.units.specs.declared.level.Direction.{Direction}
 use Rattle.units.specs.declared.level.Direction.TheVariants.{Auto, Ltr, Rtl, AutoRtl}
 use Rattle.ucdfiles.specs.Tables.{TablesOf}
@@ -13,10 +13,12 @@ use Rattle.bidtests.specs.declared.verdict.Verdict.TheVariants.{Yes, Malformed, 
 use Rattle.bidtests.specs.Standing.{HoldsFor}
 use Rattle.bidi_c.specs.Holdings.{tables_in}
 use Rattle.bidi_c.specs.Judged.{HasJudged}
+use Rattle.bidi_c.specs.LimitsGiven.{RefusesLimits}
 use Rattle.bidi_c.specs.declared.held.Held.{Held}
 use Rattle.bidi_c.specs.declared.held.Held.TheVariants.{Judge}
 use Rattle.bidi_c.specs.declared.judge.TableJudge.{TableJudge}
 use Rattle.bidi_c.specs.declared.judge_calls.BidiVerdict.{BidiVerdict}
+use Rattle.bidi_c.specs.declared.limits.BidiLimits.{BidiLimits}
 use Rattle.bidi_c.specs.declared.refusal.Refusal.{Refusal}
 use Rattle.bidi_c.specs.declared.refusal.Refusal.TheVariants.{Memory, NoTables}
 
@@ -25,22 +27,30 @@ abbrev pub judge_in : Option Held → Option TableJudge
 judge_in (Some (Judge judge)) = Some judge.value
 judge_in _ = None
 
--- the judge was handed no byte, and has no tables yet
-pub record IsFresh (judge : TableJudge) : Type 0 where
+-- the judge is to judge by these limits, was handed no byte, and has no tables yet
+pub record IsFresh (limits : LimitsOf) (judge : TableJudge) : Type 0 where
   pub bare : judge.tables ≡ None
-  pub unfed : MatchOption judge.state ⊥ (λ state. (tables : Option TablesOf) → HoldsFor standard tables state [])
+  pub unfed : MatchOption judge.state ⊥ (λ state. (tables : Option TablesOf) → HoldsFor limits tables state [])
 
--- the handle holds a judge that was handed these bytes, in any pieces, and judges by these tables, or without tables
-abbrev pub HandleHasJudged : Option Held → Option TablesOf → List ℕ → Type 0
-HandleHasJudged handle tables bytes = MatchOption (judge_in handle) ⊥ (λ judge. HasJudged judge tables bytes)
+-- the handle holds a judge that was handed these bytes, in any pieces, and judges by these limits and tables, or without tables
+abbrev pub HandleHasJudged : LimitsOf → Option Held → Option TablesOf → List ℕ → Type 0
+HandleHasJudged limits handle tables bytes = MatchOption (judge_in handle) ⊥ (λ judge. HasJudged limits judge tables bytes)
 
 -- a judge is refused for this reason
 abbrev pub RefusesJudge : Refusal → Type 0
 RefusesJudge refusal = refusal ≡ Memory
 
+-- a judge by limits that are handed in is refused for this reason
+abbrev pub RefusesJudgeWith : BidiLimits → Refusal → Type 0
+RefusesJudgeWith limits refusal = RefusesLimits limits refusal ⊎ RefusesJudge refusal
+
 -- a judge that takes over tables is refused for this reason: memory, or there are none
 abbrev pub RefusesTableJudge : Option Held → Refusal → Type 0
 RefusesTableJudge tables refusal = (refusal ≡ Memory) ⊎ ((refusal ≡ NoTables) × (tables_in tables ≡ None))
+
+-- a judge that takes over tables, by limits that are handed in, is refused for this reason
+abbrev pub RefusesTableJudgeWith : BidiLimits → Option Held → Refusal → Type 0
+RefusesTableJudgeWith limits tables refusal = RefusesLimits limits refusal ⊎ RefusesTableJudge tables refusal
 
 -- the number of a direction
 abbrev pub direction_number : Direction → ℕ

@@ -1,6 +1,6 @@
 -- What a judge that keeps its tables stands for.
 use Rattle.std.specs.Prelude.{ℕ, ◌≡◌, Option, Some, None, List, MatchOption}
-use Rattle.units.specs.Limits.{standard}
+use Rattle.units.specs.Limits.{LimitsOf}
 use Rattle.ucdfiles.specs.Tables.{TablesOf}
 use Rattle.bidtests.specs.FileKinds.{unit_by}
 use Rattle.bidtests.specs.ClassesFile.{classes_verdict}
@@ -9,12 +9,12 @@ use Rattle.bidtests.specs.Standing.{HoldsFor}
 use Rattle.bidtests.specs.declared.verdict.Verdict.{Verdict}
 use Rattle.bidi_c.specs.declared.judge.TableJudge.{TableJudge}
 
--- the judge was handed these bytes, in any pieces, and judges by these tables: a file of characters, or without tables one of classes
-pub record HasJudged (judge : TableJudge) (tables : Option TablesOf) (bytes : List ℕ) : Type 0 where
+-- the judge was handed these bytes, in any pieces, and judges by these limits and tables: a file of characters, or without tables one of classes
+pub record HasJudged (limits : LimitsOf) (judge : TableJudge) (tables : Option TablesOf) (bytes : List ℕ) : Type 0 where
   pub by : judge.tables ≡ tables
-  pub so_far : MatchOption judge.state ⊥ (λ state. HoldsFor standard tables state bytes)
+  pub so_far : MatchOption judge.state ⊥ (λ state. HoldsFor limits tables state bytes)
 
--- the verdict on a file of characters by tables, or without tables on one of classes
-abbrev pub verdict_by : Option TablesOf → List ℕ → Verdict
-verdict_by None bytes = classes_verdict standard bytes
-verdict_by (Some tables) bytes = characters_verdict standard (unit_by tables) bytes
+-- by these limits the verdict on a file of characters by tables, or without tables on one of classes
+abbrev pub verdict_by : LimitsOf → Option TablesOf → List ℕ → Verdict
+verdict_by limits None bytes = classes_verdict limits bytes
+verdict_by limits (Some tables) bytes = characters_verdict limits (unit_by tables) bytes

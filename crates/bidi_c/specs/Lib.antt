@@ -3,6 +3,7 @@ pub mod Kept
 pub mod Statuses
 pub mod Texts
 pub mod Holdings
+pub mod LimitsGiven
 pub mod Refusals
 pub mod RefusedCalls
 pub mod MadeTables

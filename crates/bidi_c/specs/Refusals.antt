@@ -1,7 +1,7 @@
 -- Why a text is not laid out.
-use Rattle.std.specs.Prelude.{ℕ, ◌<◌, ◌≡◌, ◌≢◌, Option, None, List, length, slice_index}
+use Rattle.std.specs.Prelude.{ℕ, ◌<◌, ◌≤◌, ◌≡◌, ◌≢◌, Option, None, List, length, slice_index}
 use Rattle.std.specs.Char.{IsScalar}
-use Rattle.lines.specs.LineBreaks.{IsFirstFault}
+use Rattle.lines.specs.LineBreaks.{AreBreaks, IsFirstFault}
 use Rattle.lines.specs.declared.breaks.BreakFault.TheVariants.{OutOfRange, NotRising}
 use Rattle.bidi_c.specs.Texts.{class_numbered}
 use Rattle.bidi_c.specs.declared.refusal.Refusal.{Refusal}
@@ -18,6 +18,18 @@ pub record IsFirstNoClass (numbers : List ℕ) (index : ℕ) : Type 0 where
   pub inside : index < length numbers
   pub outside : class_numbered (slice_index numbers index) ≡ None
   pub earlier : (k : ℕ) → k < index → class_numbered (slice_index numbers k) ≢ None
+
+-- a room for so many takes the text of these code points, with these breaks
+pub record TakesText (capacity : ℕ) (codes breaks : List ℕ) : Type 0 where
+  pub fits : length codes ≤ capacity
+  pub inside : AreBreaks breaks (length codes)
+  pub scalars : (k : ℕ) → k < length codes → IsScalar (slice_index codes k)
+
+-- a room for so many takes the text of the classes with these numbers, with these breaks
+pub record TakesClasses (capacity : ℕ) (numbers breaks : List ℕ) : Type 0 where
+  pub fits : length numbers ≤ capacity
+  pub inside : AreBreaks breaks (length numbers)
+  pub classes : (k : ℕ) → k < length numbers → class_numbered (slice_index numbers k) ≢ None
 
 -- a room for so many refuses the text of these code points for this reason
 abbrev pub RefusesText : ℕ → List ℕ → List ℕ → Refusal → Type 0

@@ -1,5 +1,6 @@
 // A judge that keeps its tables.
 ghost use Rattle.std.specs.Prelude.{◌≡◌, ◌++◌, ℕ, List, Option, Some};
+ghost use Rattle.units.specs.Limits.{LimitsOf};
 ghost use Rattle.ucdfiles.specs.Tables.{TablesOf};
 ghost use Rattle.bidtests.specs.Standing.{tables_of};
 ghost use Rattle.bidi_c.specs.Judged.{HasJudged, verdict_by};
@@ -30,7 +31,7 @@ fn kind_by(tables: &Option<Tables>) -> Kind<'_>
 impl TableJudge {
     /// Hands over the next bytes of the file.
     pub(crate) fn feed(&mut self, piece: &[u8])
-        ensures { (tables : Option TablesOf) (b : List ℕ) → HasJudged self.old tables b → HasJudged self.new tables (b ++ piece.now) }
+        ensures { (limits : LimitsOf) (tables : Option TablesOf) (b : List ℕ) → HasJudged limits self.old tables b → HasJudged limits self.new tables (b ++ piece.now) }
     {
         if let Some(state) = self.state.take() {
             let mut judge = Judge::of_state(kind_by(&self.tables), state);
@@ -41,7 +42,7 @@ impl TableJudge {
 
     /// The verdict on all bytes that were handed over, as the whole file.
     pub(crate) fn finish(&mut self) -> Option<Verdict>
-        ensures { (tables : Option TablesOf) (b : List ℕ) → HasJudged self.old tables b → result ≡ Some (verdict_by tables b) }
+        ensures { (limits : LimitsOf) (tables : Option TablesOf) (b : List ℕ) → HasJudged limits self.old tables b → result ≡ Some (verdict_by limits tables b) }
     {
         let state = self.state.take()?;
         Some(Judge::of_state(kind_by(&self.tables), state).finish())

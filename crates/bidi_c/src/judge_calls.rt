@@ -1,14 +1,17 @@
 // Test files judged.
-ghost use Rattle.std.specs.Prelude.{◌≡◌, ◌<◌, ◌++◌, ◌≢◌, ◌⊎◌, ℕ, true, List, [], Option, None, Some, IsSome, IfOk, IfErr, OnOk, OnErr};
+ghost use Rattle.std.specs.Prelude.{◌≡◌, ◌<◌, ◌++◌, ◌≢◌, ℕ, true, List, [], Option, None, Some, IsSome, IfOk, IfErr, OnOk, OnErr};
+ghost use Rattle.units.specs.Limits.{LimitsOf, AreAllowed, standard};
 ghost use Rattle.ucdfiles.specs.Tables.{TablesOf};
 ghost use Rattle.bidi_c.specs.Holdings.{tables_in};
 ghost use Rattle.bidi_c.specs.Judged.{verdict_by};
-ghost use Rattle.bidi_c.specs.JudgeCalls.{judge_in, IsFresh, HandleHasJudged, RefusesJudge, RefusesTableJudge, verdict_told, cause_number, direction_number};
+ghost use Rattle.bidi_c.specs.JudgeCalls.{judge_in, IsFresh, HandleHasJudged, RefusesJudge, RefusesTableJudge, RefusesJudgeWith, RefusesTableJudgeWith, verdict_told, cause_number, direction_number};
+ghost use Rattle.bidi_c.specs.LimitsGiven.{limits_in};
 ghost use Rattle.bidi_c.specs.Statuses.{IsRefusedFor};
 
 use crate::bidi_handle::BidiHandle;
 use crate::held::Held;
 use crate::judge::TableJudge;
+use crate::limits::BidiLimits;
 use crate::refusal::{DONE, Refusal};
 use bidtests::state::JudgeState;
 use bidtests::verdict::{Cause, Place, Verdict};
@@ -119,12 +122,12 @@ fn told(verdict: Verdict) -> BidiVerdict
     }
 }
 
-/// A judge of a BidiTest.txt, before its first byte.
-fn new_judge(alloc: Global) -> Result<Box<TableJudge>, Refusal>
-    ensures made { IfOk result (λ judge. IsFresh judge.value) }
+/// A judge of a BidiTest.txt, before its first byte, by these limits.
+fn new_judge(alloc: Global, limits: Limits) -> Result<Box<TableJudge>, Refusal>
+    ensures made { IfOk result (λ judge. IsFresh limits judge.value) }
     ensures refused { IfErr result RefusesJudge }
 {
-    let Ok(state) = JudgeState::new(alloc, Limits::standard()) else {
+    let Ok(state) = JudgeState::new(alloc, limits) else {
         return Err(Refusal::Memory);
     };
     let judge = TableJudge {
@@ -134,12 +137,12 @@ fn new_judge(alloc: Global) -> Result<Box<TableJudge>, Refusal>
     Box::new(alloc, judge).map_err(|_| Refusal::Memory)
 }
 
-fn make_classes_judge(alloc: Global, judge: &mut BidiHandle) -> Result<(), Refusal>
-    ensures made { OnOk result (HandleHasJudged judge.new.handle.value None []) }
+fn make_classes_judge(alloc: Global, judge: &mut BidiHandle, limits: Limits) -> Result<(), Refusal>
+    ensures made { OnOk result (HandleHasJudged limits judge.new.handle.value None []) }
     ensures kept { OnErr result (judge.new.handle.value ≡ judge.old.handle.value) }
     ensures refused { IfErr result RefusesJudge }
 {
-    let made = new_judge(alloc)?;
+    let made = new_judge(alloc, limits)?;
     if judge.hold(alloc, Held::Judge(made)) {
         Ok(())
     } else {
@@ -147,15 +150,48 @@ fn make_classes_judge(alloc: Global, judge: &mut BidiHandle) -> Result<(), Refus
     }
 }
 
-/// Makes a judge of a BidiTest.txt, before its first byte. What the handle held before is freed once the judge is
+/// Makes a judge of a BidiTest.txt by the standard limits, before its first byte. What the handle held before is freed once the judge is
 /// made; where it is refused, the handle holds that still.
 #[unsafe(no_mangle)]
 pub extern "C" fn bidi_judge_new_classes(alloc: Global, judge: &mut BidiHandle) -> u32
-    ensures made { result ≡ 0 → HandleHasJudged judge.new.handle.value None [] }
+    ensures made { result ≡ 0 → HandleHasJudged standard judge.new.handle.value None [] }
     ensures kept { 0 < result → judge.new.handle.value ≡ judge.old.handle.value }
     ensures refused { 0 < result → IsRefusedFor RefusesJudge result }
 {
-    match make_classes_judge(alloc, judge) {
+    match make_classes_judge(alloc, judge, Limits::standard()) {
+        Ok(()) => DONE,
+        Err(refusal) => refusal.code(),
+    }
+}
+
+fn make_classes_judge_with(
+    alloc: Global,
+    judge: &mut BidiHandle,
+    limits: BidiLimits,
+) -> Result<(), Refusal>
+    ensures made { OnOk result (HandleHasJudged (limits_in limits) judge.new.handle.value None []) }
+    ensures allowed { OnOk result (AreAllowed (limits_in limits)) }
+    ensures kept { OnErr result (judge.new.handle.value ≡ judge.old.handle.value) }
+    ensures refused { IfErr result (RefusesJudgeWith limits) }
+{
+    let allowed = limits.allowed()?;
+    make_classes_judge(alloc, judge, allowed)
+}
+
+/// Makes a judge of a BidiTest.txt as `bidi_judge_new_classes` does, that lays out by these limits in place of the
+/// standard ones.
+#[unsafe(no_mangle)]
+pub extern "C" fn bidi_judge_new_classes_with(
+    alloc: Global,
+    judge: &mut BidiHandle,
+    limits: BidiLimits,
+) -> u32
+    ensures made { result ≡ 0 → HandleHasJudged (limits_in limits) judge.new.handle.value None [] }
+    ensures allowed { result ≡ 0 → AreAllowed (limits_in limits) }
+    ensures kept { 0 < result → judge.new.handle.value ≡ judge.old.handle.value }
+    ensures refused { 0 < result → IsRefusedFor (RefusesJudgeWith limits) result }
+{
+    match make_classes_judge_with(alloc, judge, limits) {
         Ok(()) => DONE,
         Err(refusal) => refusal.code(),
     }
@@ -163,8 +199,7 @@ pub extern "C" fn bidi_judge_new_classes(alloc: Global, judge: &mut BidiHandle) 
 
 /// Puts the judge into the place of the tables, which it takes over; it answers whether these are tables.
 fn make_into_judge(held: &mut Held, judge: Box<TableJudge>) -> bool
-    requires { IsFresh judge.value }
-    ensures made { result ≡ true → HandleHasJudged (Some held.new) (tables_in (Some held.old)) [] }
+    ensures made { (limits : LimitsOf) → IsFresh limits judge.value → result ≡ true → HandleHasJudged limits (Some held.new) (tables_in (Some held.old)) [] }
     ensures tables { result ≡ true → IsSome (tables_in (Some held.old)) }
     ensures kept { result ≢ true → (held.new ≡ held.old) × (tables_in (Some held.old) ≡ None) }
 {
@@ -182,8 +217,9 @@ fn make_characters_judge(
     alloc: Global,
     tables: &mut BidiHandle,
     judge: &mut BidiHandle,
+    limits: Limits,
 ) -> Result<(), Refusal>
-    ensures made { OnOk result (IsSome (tables_in tables.old.handle.value) × HandleHasJudged judge.new.handle.value (tables_in tables.old.handle.value) []) }
+    ensures made { OnOk result (IsSome (tables_in tables.old.handle.value) × HandleHasJudged limits judge.new.handle.value (tables_in tables.old.handle.value) []) }
     ensures taken { OnOk result (tables.new.handle.value ≡ None) }
     ensures kept_tables { OnErr result (tables.new.handle.value ≡ tables.old.handle.value) }
     ensures kept { OnErr result (judge.new.handle.value ≡ judge.old.handle.value) }
@@ -192,7 +228,7 @@ fn make_characters_judge(
     let Some(mut held) = tables.take(alloc) else {
         return Err(Refusal::NoTables);
     };
-    let Ok(made) = new_judge(alloc) else {
+    let Ok(made) = new_judge(alloc, limits) else {
         tables.put(held);
         return Err(Refusal::Memory);
     };
@@ -205,8 +241,8 @@ fn make_characters_judge(
     Ok(())
 }
 
-/// Makes a judge of a BidiCharacterTest.txt, before its first byte, that takes over the tables: their handle is all
-/// zero then. What the judge's handle held before is freed once the judge is made; where it is refused, both handles
+/// Makes a judge of a BidiCharacterTest.txt by the standard limits, before its first byte, that takes over the tables:
+/// their handle is all zero then. What the judge's handle held before is freed once the judge is made; where it is refused, both handles
 /// hold what they held.
 #[unsafe(no_mangle)]
 pub extern "C" fn bidi_judge_new_characters(
@@ -214,13 +250,52 @@ pub extern "C" fn bidi_judge_new_characters(
     tables: &mut BidiHandle,
     judge: &mut BidiHandle,
 ) -> u32
-    ensures made { result ≡ 0 → IsSome (tables_in tables.old.handle.value) × HandleHasJudged judge.new.handle.value (tables_in tables.old.handle.value) [] }
+    ensures made { result ≡ 0 → IsSome (tables_in tables.old.handle.value) × HandleHasJudged standard judge.new.handle.value (tables_in tables.old.handle.value) [] }
     ensures taken { result ≡ 0 → tables.new.handle.value ≡ None }
     ensures kept_tables { 0 < result → tables.new.handle.value ≡ tables.old.handle.value }
     ensures kept { 0 < result → judge.new.handle.value ≡ judge.old.handle.value }
     ensures refused { 0 < result → IsRefusedFor (RefusesTableJudge tables.old.handle.value) result }
 {
-    match make_characters_judge(alloc, tables, judge) {
+    match make_characters_judge(alloc, tables, judge, Limits::standard()) {
+        Ok(()) => DONE,
+        Err(refusal) => refusal.code(),
+    }
+}
+
+fn make_characters_judge_with(
+    alloc: Global,
+    tables: &mut BidiHandle,
+    judge: &mut BidiHandle,
+    limits: BidiLimits,
+) -> Result<(), Refusal>
+    ensures made { OnOk result (IsSome (tables_in tables.old.handle.value) × HandleHasJudged (limits_in limits) judge.new.handle.value (tables_in tables.old.handle.value) []) }
+    ensures allowed { OnOk result (AreAllowed (limits_in limits)) }
+    ensures taken { OnOk result (tables.new.handle.value ≡ None) }
+    ensures kept_tables { OnErr result (tables.new.handle.value ≡ tables.old.handle.value) }
+    ensures kept { OnErr result (judge.new.handle.value ≡ judge.old.handle.value) }
+    ensures refused { IfErr result (RefusesTableJudgeWith limits tables.old.handle.value) }
+{
+    let allowed = limits.allowed()?;
+    make_characters_judge(alloc, tables, judge, allowed)
+}
+
+/// Makes a judge of a BidiCharacterTest.txt as `bidi_judge_new_characters` does, that lays out by these limits in place
+/// of the standard ones.
+#[unsafe(no_mangle)]
+pub extern "C" fn bidi_judge_new_characters_with(
+    alloc: Global,
+    tables: &mut BidiHandle,
+    judge: &mut BidiHandle,
+    limits: BidiLimits,
+) -> u32
+    ensures made { result ≡ 0 → IsSome (tables_in tables.old.handle.value) × HandleHasJudged (limits_in limits) judge.new.handle.value (tables_in tables.old.handle.value) [] }
+    ensures allowed { result ≡ 0 → AreAllowed (limits_in limits) }
+    ensures taken { result ≡ 0 → tables.new.handle.value ≡ None }
+    ensures kept_tables { 0 < result → tables.new.handle.value ≡ tables.old.handle.value }
+    ensures kept { 0 < result → judge.new.handle.value ≡ judge.old.handle.value }
+    ensures refused { 0 < result → IsRefusedFor (RefusesTableJudgeWith limits tables.old.handle.value) result }
+{
+    match make_characters_judge_with(alloc, tables, judge, limits) {
         Ok(()) => DONE,
         Err(refusal) => refusal.code(),
     }
@@ -235,9 +310,10 @@ pub extern "C" fn bidi_judge_free(alloc: Global, judge: &mut BidiHandle)
 }
 
 fn feed_held(held: &mut Held, piece: &[u8]) -> u32
-    ensures fed { (tables : Option TablesOf) (b : List ℕ)
-        → HandleHasJudged (Some held.old) tables b → HandleHasJudged (Some held.new) tables (b ++ piece.now) }
-    ensures done { (result ≡ 0) ⊎ ((result ≡ 16) × (judge_in (Some held.old) ≡ None) × (held.new ≡ held.old)) }
+    ensures fed { (limits : LimitsOf) (tables : Option TablesOf) (b : List ℕ)
+        → HandleHasJudged limits (Some held.old) tables b → HandleHasJudged limits (Some held.new) tables (b ++ piece.now) }
+    ensures done { IsSome (judge_in (Some held.old)) → result ≡ 0 }
+    ensures refused { judge_in (Some held.old) ≡ None → (result ≡ 16) × (held.new ≡ held.old) }
 {
     match held {
         Held::Judge(judge) => {
@@ -251,9 +327,10 @@ fn feed_held(held: &mut Held, piece: &[u8]) -> u32
 /// Hands over the next bytes of the file, as many or as few as there are. It takes no memory.
 #[unsafe(no_mangle)]
 pub extern "C" fn bidi_judge_feed(alloc: Global, judge: &mut BidiHandle, piece: &[u8]) -> u32
-    ensures fed { (tables : Option TablesOf) (b : List ℕ)
-        → HandleHasJudged judge.old.handle.value tables b → HandleHasJudged judge.new.handle.value tables (b ++ piece.now) }
-    ensures done { (result ≡ 0) ⊎ ((result ≡ 16) × (judge_in judge.old.handle.value ≡ None) × (judge.new.handle.value ≡ judge.old.handle.value)) }
+    ensures fed { (limits : LimitsOf) (tables : Option TablesOf) (b : List ℕ)
+        → HandleHasJudged limits judge.old.handle.value tables b → HandleHasJudged limits judge.new.handle.value tables (b ++ piece.now) }
+    ensures done { IsSome (judge_in judge.old.handle.value) → result ≡ 0 }
+    ensures refused { judge_in judge.old.handle.value ≡ None → (result ≡ 16) × (judge.new.handle.value ≡ judge.old.handle.value) }
 {
     let Some(mut held) = judge.take(alloc) else {
         return Refusal::NoJudge.code();
@@ -264,7 +341,7 @@ pub extern "C" fn bidi_judge_feed(alloc: Global, judge: &mut BidiHandle, piece: 
 }
 
 fn finish_held(held: &mut Held) -> Option<Verdict>
-    ensures verdict { (tables : Option TablesOf) (b : List ℕ) → HandleHasJudged (Some held.old) tables b → result ≡ Some (verdict_by tables b) }
+    ensures verdict { (limits : LimitsOf) (tables : Option TablesOf) (b : List ℕ) → HandleHasJudged limits (Some held.old) tables b → result ≡ Some (verdict_by limits tables b) }
     ensures kept { judge_in (Some held.old) ≡ None → (result ≡ None) × (held.new ≡ held.old) }
 {
     match held {
@@ -280,8 +357,8 @@ pub extern "C" fn bidi_judge_finish(
     judge: &mut BidiHandle,
     verdict: &mut BidiVerdict,
 ) -> u32
-    ensures verdict { (tables : Option TablesOf) (b : List ℕ) → HandleHasJudged judge.old.handle.value tables b
-        → (result ≡ 0) × (verdict.new ≡ verdict_told (verdict_by tables b)) × (judge.new.handle.value ≡ None) }
+    ensures verdict { (limits : LimitsOf) (tables : Option TablesOf) (b : List ℕ) → HandleHasJudged limits judge.old.handle.value tables b
+        → (result ≡ 0) × (verdict.new ≡ verdict_told (verdict_by limits tables b)) × (judge.new.handle.value ≡ None) }
     ensures refused { judge_in judge.old.handle.value ≡ None
         → (result ≡ 16) × (verdict.new ≡ verdict.old) × (judge.new.handle.value ≡ judge.old.handle.value) }
 {

@@ -10,6 +10,7 @@ pub mod held;
 pub mod judge;
 pub mod judge_calls;
 pub mod laying_out;
+pub mod limits;
 pub mod looking_up;
 mod loose;
 pub mod refusal;

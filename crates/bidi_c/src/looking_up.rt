@@ -1,5 +1,5 @@
 // What a room holds, copied out.
-ghost use Rattle.std.specs.Prelude.{◌≡◌, ◌≤◌, ◌<◌, Err, IsOk, OnOk, OnErr, IfErr, length, map, take, slice_index_or};
+ghost use Rattle.std.specs.Prelude.{◌≡◌, ◌≤◌, ◌<◌, Err, IsOk, OnOk, OnErr, IfErr, length, map, take, drop, slice_index_or};
 ghost use Rattle.units.specs.Isolates.{level_of_para};
 ghost use Rattle.lines.specs.Layouts.{view_of, no_line};
 ghost use Rattle.bidi_c.specs.Statuses.{IsRefusedFor};
@@ -38,8 +38,9 @@ pub(crate) fn byte_of(level: Option<Level>) -> u8
 /// Writes the levels to the front of `out`, if all have place there. It answers how many they are.
 fn write_levels(levels: &[Option<Level>], out: &mut [u8]) -> usize
     ensures count { result ≡ length levels.now }
-    ensures len { length out.new ≡ length out.old }
     ensures levels { length levels.now ≤ length out.old → take (length levels.now) out.new ≡ map level_byte levels.now }
+    ensures behind { drop (length levels.now) out.new ≡ drop (length levels.now) out.old }
+    ensures kept { length out.old < length levels.now → out.new ≡ out.old }
 {
     if levels.len() <= out.len() {
         for i in 0..levels.len() {
@@ -52,8 +53,9 @@ fn write_levels(levels: &[Option<Level>], out: &mut [u8]) -> usize
 /// Writes the paragraphs' levels to the front of `out`, if all have place there. It answers how many they are.
 fn write_para_levels(levels: &[ParaLevel], out: &mut [u8]) -> usize
     ensures count { result ≡ length levels.now }
-    ensures len { length out.new ≡ length out.old }
     ensures levels { length levels.now ≤ length out.old → take (length levels.now) out.new ≡ map level_of_para levels.now }
+    ensures behind { drop (length levels.now) out.new ≡ drop (length levels.now) out.old }
+    ensures kept { length out.old < length levels.now → out.new ≡ out.old }
 {
     if levels.len() <= out.len() {
         for i in 0..levels.len() {
@@ -67,6 +69,8 @@ fn write_para_levels(levels: &[ParaLevel], out: &mut [u8]) -> usize
 fn write_order(order: &[usize], out: &mut [usize]) -> usize
     ensures count { result ≡ length order.now }
     ensures order { length order.now ≤ length out.old → take (length order.now) out.new ≡ order.now }
+    ensures behind { drop (length order.now) out.new ≡ drop (length order.now) out.old }
+    ensures kept { length out.old < length order.now → out.new ≡ out.old }
 {
     if order.len() <= out.len() {
         out[..order.len()].copy_from_slice(order);
@@ -79,6 +83,8 @@ fn write_order_of(layout: &Layout<'_>, k: usize, out: &mut [usize]) -> usize
     ensures count { result ≡ length (slice_index_or (view_of layout.now).lines k no_line).order }
     ensures order { length (slice_index_or (view_of layout.now).lines k no_line).order ≤ length out.old
         → take (length (slice_index_or (view_of layout.now).lines k no_line).order) out.new ≡ (slice_index_or (view_of layout.now).lines k no_line).order }
+    ensures behind { drop result out.new ≡ drop result out.old }
+    ensures kept { length out.old < result → out.new ≡ out.old }
 {
     if layout.line_count() <= k {
         return 0;
@@ -111,6 +117,8 @@ pub extern "C" fn bidi_levels(alloc: Global, room: &mut BidiHandle, levels: &mut
     ensures count { result ≡ length (layout_held room.old.handle.value).levels }
     ensures written { length (layout_held room.old.handle.value).levels ≤ length levels.old
         → take (length (layout_held room.old.handle.value).levels) levels.new ≡ map level_byte (layout_held room.old.handle.value).levels }
+    ensures behind { drop result levels.new ≡ drop result levels.old }
+    ensures unwritten { length levels.old < result → levels.new ≡ levels.old }
 {
     let Some(held) = room.take(alloc) else {
         return 0;
@@ -130,6 +138,8 @@ pub extern "C" fn bidi_para_levels(alloc: Global, room: &mut BidiHandle, levels:
     ensures count { result ≡ length (layout_held room.old.handle.value).paras }
     ensures written { length (layout_held room.old.handle.value).paras ≤ length levels.old
         → take (length (layout_held room.old.handle.value).paras) levels.new ≡ (layout_held room.old.handle.value).paras }
+    ensures behind { drop result levels.new ≡ drop result levels.old }
+    ensures unwritten { length levels.old < result → levels.new ≡ levels.old }
 {
     let Some(held) = room.take(alloc) else {
         return 0;
@@ -213,6 +223,8 @@ pub extern "C" fn bidi_order(
     ensures count { result ≡ length (line_held room.old.handle.value k).order }
     ensures written { length (line_held room.old.handle.value k).order ≤ length order.old
         → take (length (line_held room.old.handle.value k).order) order.new ≡ (line_held room.old.handle.value k).order }
+    ensures behind { drop result order.new ≡ drop result order.old }
+    ensures unwritten { length order.old < result → order.new ≡ order.old }
 {
     let Some(held) = room.take(alloc) else {
         return 0;

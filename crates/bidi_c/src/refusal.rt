@@ -5,6 +5,7 @@ ghost use Rattle.bidi_c.specs.Statuses.{code_of, place_of};
 use lines::breaks::BreakFault;
 use lines::scratch::RoomFault;
 use ucdfiles::fault::TableFault;
+use units::limits::LimitFault;
 
 /// Why a call is refused.
 #[derive(Clone, Copy, Debug, PartialEq, Eq)]
@@ -35,6 +36,10 @@ pub enum Refusal {
     NoPlace,
     /// The handle holds no judge.
     NoJudge,
+    /// The depth that is handed in is 0 or above 125.
+    Depth,
+    /// The depth that is handed in is allowed, and the number of brackets is above 63.
+    Brackets,
     /// DerivedBidiClass.txt is faulty.
     ClassFile(TableFault),
     /// BidiBrackets.txt is faulty.
@@ -68,6 +73,8 @@ impl Refusal {
             Refusal::MirrorFile(_) => 14,
             Refusal::NoPlace => 15,
             Refusal::NoJudge => 16,
+            Refusal::Depth => 17,
+            Refusal::Brackets => 18,
         }
     }
 
@@ -106,6 +113,17 @@ pub fn of_room(fault: RoomFault) -> Refusal
     match fault {
         RoomFault::TooBig => Refusal::TooBig,
         RoomFault::Memory => Refusal::Memory,
+    }
+}
+
+/// How limits that are not allowed are refused.
+pub fn of_limits(fault: LimitFault) -> Refusal
+    ensures depth { fault ≡ LimitFault.Depth → result ≡ Refusal.Depth }
+    ensures brackets { fault ≡ LimitFault.Brackets → result ≡ Refusal.Brackets }
+{
+    match fault {
+        LimitFault::Depth => Refusal::Depth,
+        LimitFault::Brackets => Refusal::Brackets,
     }
 }
 

@@ -1,15 +1,15 @@
 // A room: the units of a text, and its layout.
-ghost use Rattle.std.specs.Prelude.{◌≡◌, ◌≢◌, ◌≤◌, ◌<◌, ◌↔◌, None, MatchOption, Err, length, take, map, IfOk, IfSome, OnOk, IfErr, OnErr, IsOk, IsNone};
+ghost use Rattle.std.specs.Prelude.{ℕ, ◌≡◌, ◌≢◌, ◌≤◌, ◌<◌, ◌↔◌, None, MatchOption, Err, length, slice_index, take, map, IfOk, IfSome, OnOk, IfErr, OnErr, IsOk, IsNone};
 ghost use Rattle.std.specs.Box.{boxed_slice_items};
+ghost use Rattle.std.specs.Char.{IsScalar};
 ghost use Rattle.units.specs.Layout.{layout_of};
-ghost use Rattle.units.specs.Limits.{standard};
 ghost use Rattle.lines.specs.Scratches.{room_of, layout_in, IsFilled};
 ghost use Rattle.bidi_c.specs.Texts.{units_by, class_numbered, unit_numbered, units_numbered};
-ghost use Rattle.bidi_c.specs.Refusals.{IsFirstNoCharacter, IsFirstNoClass, RefusesText, RefusesClasses};
+ghost use Rattle.bidi_c.specs.Refusals.{IsFirstNoCharacter, IsFirstNoClass, TakesText, TakesClasses, RefusesText, RefusesClasses};
 
 use crate::refusal::{Refusal, of_breaks};
 use lines::breaks::Breaks;
-use lines::lay_out::lay_in;
+use lines::lay_out::{lay_in, lay_in_with};
 use lines::scratch::{RoomFault, Scratch};
 use std::alloc::Global;
 use std::boxed::BoxedSlice;
@@ -17,6 +17,7 @@ use ucdfiles::tables::Tables;
 use units::bracket::{Bracket, Unit};
 use units::class::Class;
 use units::level::Direction;
+use units::limits::Limits;
 
 /// Room for a text's units and its layout. It holds a layout at all times, at first that of an empty text.
 #[derive(Drop)]
@@ -33,6 +34,7 @@ fn fill_units(units: &mut [Unit], tables: &Tables, codes: &[u32]) -> Option<usiz
     requires { length codes.now ≤ length units.old }
     ensures len { length units.new ≡ length units.old }
     ensures first { IfSome result (IsFirstNoCharacter codes.now) }
+    ensures scalars { IsNone result → (k : ℕ) → k < length codes.now → IsScalar (slice_index codes.now k) }
     ensures units { IsNone result → take (length codes.now) units.new ≡ units_by tables.now codes.now }
 {
     for i in 0..codes.len() {
@@ -93,6 +95,7 @@ fn fill_classes(units: &mut [Unit], numbers: &[u8]) -> Option<usize>
     requires { length numbers.now ≤ length units.old }
     ensures len { length units.new ≡ length units.old }
     ensures first { IfSome result (IsFirstNoClass numbers.now) }
+    ensures classes { IsNone result → (k : ℕ) → k < length numbers.now → class_numbered (slice_index numbers.now k) ≢ None }
     ensures units { IsNone result → take (length numbers.now) units.new ≡ units_numbered numbers.now }
 {
     for i in 0..numbers.len() {
@@ -130,32 +133,39 @@ impl Room {
         }
     }
 
-    /// Lays out the units that stand at the front of the column, so many as the breaks are made for.
-    fn lay_out_units(&mut self, direction: Direction, breaks: &Breaks) -> Result<(), Refusal>
+    /// Lays out the units that stand at the front of the column, so many as the breaks are made for, by these limits.
+    fn lay_out_units(
+        &mut self,
+        direction: Direction,
+        breaks: &Breaks,
+        limits: Limits,
+    ) -> Result<(), Refusal>
         requires { breaks.now.len ≤ room_of self.old.scratch }
         ensures room { room_of self.new.scratch ≡ room_of self.old.scratch }
         ensures done { IsOk result }
-        ensures laid_out { layout_in self.new.scratch ≡ layout_of standard (take breaks.now.len (boxed_slice_items self.old.units)) direction breaks.now.positions }
+        ensures laid_out { layout_in self.new.scratch ≡ layout_of limits (take breaks.now.len (boxed_slice_items self.old.units)) direction breaks.now.positions }
     {
         let text = &self.units[..breaks.text_len()];
-        match lay_in(&mut self.scratch, text, direction, breaks) {
+        match lay_in_with(&mut self.scratch, text, direction, breaks, limits) {
             Ok(()) => Ok(()),
             Err(_) => Err(Refusal::TooLong),
         }
     }
 
-    /// Lays out the text of these code points.
+    /// Lays out the text of these code points by these limits.
     pub fn lay_out(
         &mut self,
         tables: &Tables,
         codes: &[u32],
         direction: Direction,
         at: &[usize],
+        limits: Limits,
     ) -> Result<(), Refusal>
         ensures room { room_of self.new.scratch ≡ room_of self.old.scratch }
         ensures refused { IfErr result (RefusesText (room_of self.old.scratch) codes.now at.now) }
         ensures kept { OnErr result (self.new.scratch ≡ self.old.scratch) }
-        ensures laid_out { OnOk result (layout_in self.new.scratch ≡ layout_of standard (units_by tables.now codes.now) direction at.now) }
+        ensures taken { OnOk result (TakesText (room_of self.old.scratch) codes.now at.now) }
+        ensures laid_out { OnOk result (layout_in self.new.scratch ≡ layout_of limits (units_by tables.now codes.now) direction at.now) }
     {
         if self.scratch.room() < codes.len() {
             return Err(Refusal::TooLong);
@@ -167,20 +177,22 @@ impl Room {
         if let Some(index) = fill_units(&mut self.units, tables, codes) {
             return Err(Refusal::NoCharacter(index));
         }
-        self.lay_out_units(direction, &breaks)
+        self.lay_out_units(direction, &breaks, limits)
     }
 
-    /// Lays out a text of these classes, by their numbers.
+    /// Lays out a text of these classes, by their numbers, by these limits.
     pub fn lay_out_classes(
         &mut self,
         numbers: &[u8],
         direction: Direction,
         at: &[usize],
+        limits: Limits,
     ) -> Result<(), Refusal>
         ensures room { room_of self.new.scratch ≡ room_of self.old.scratch }
         ensures refused { IfErr result (RefusesClasses (room_of self.old.scratch) numbers.now at.now) }
         ensures kept { OnErr result (self.new.scratch ≡ self.old.scratch) }
-        ensures laid_out { OnOk result (layout_in self.new.scratch ≡ layout_of standard (units_numbered numbers.now) direction at.now) }
+        ensures taken { OnOk result (TakesClasses (room_of self.old.scratch) numbers.now at.now) }
+        ensures laid_out { OnOk result (layout_in self.new.scratch ≡ layout_of limits (units_numbered numbers.now) direction at.now) }
     {
         if self.scratch.room() < numbers.len() {
             return Err(Refusal::TooLong);
@@ -192,6 +204,6 @@ impl Room {
         if let Some(index) = fill_classes(&mut self.units, numbers) {
             return Err(Refusal::NoClass(index));
         }
-        self.lay_out_units(direction, &breaks)
+        self.lay_out_units(direction, &breaks, limits)
     }
 }

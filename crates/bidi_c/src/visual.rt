@@ -1,5 +1,5 @@
 // A line from left to right: the places of its positions, its runs, and its characters as they are shown.
-ghost use Rattle.std.specs.Prelude.{◌≡◌, ◌≢◌, ◌≤◌, ◌<◌, ◌+◌, ◌↔◌, ◌⊎◌, ℕ, true, false, Some, Err, IfOk, IfErr, length, take, slice_index, slice_index_or};
+ghost use Rattle.std.specs.Prelude.{◌≡◌, ◌≢◌, ◌≤◌, ◌<◌, ◌+◌, ◌↔◌, ◌⊎◌, ℕ, true, false, Some, Err, IfOk, IfErr, length, take, drop, slice_index, slice_index_or};
 ghost use Rattle.std.specs.Option.{unwrap_or};
 ghost use Rattle.std.specs.List.{All};
 ghost use Rattle.std.specs.Char.{IsScalar};
@@ -107,6 +107,7 @@ fn write_shown(
     requires codes { length codes.now ≡ length levels.now }
     requires place { length order.now ≤ length out.old }
     ensures len { length out.new ≡ length out.old }
+    ensures behind { drop (length order.now) out.new ≡ drop (length order.now) out.old }
     ensures shown { All IsScalar codes.now → take (length order.now) out.new ≡ shown_of (glyph_at tables.now.mirrors) levels.now codes.now order.now }
 {
     for i in 0..order.len() {
@@ -119,6 +120,8 @@ fn write_shown(
 fn write_places_of(layout: &Layout<'_>, k: usize, out: &mut [usize]) -> usize
     ensures count { result ≡ span_of (slice_index_or (view_of layout.now).lines k no_line) }
     ensures places { result ≤ length out.old → ArePlaces (slice_index_or (view_of layout.now).lines k no_line) out.new }
+    ensures behind { drop result out.new ≡ drop result out.old }
+    ensures kept { length out.old < result → out.new ≡ out.old }
 {
     if layout.line_count() <= k {
         return 0;
@@ -159,6 +162,8 @@ fn write_shown_of(
 ) -> usize
     ensures count { result ≡ length (shown_line (view_of layout.now) (Some tables.now) codes.now k) }
     ensures shown { All IsScalar codes.now → result ≤ length out.old → take result out.new ≡ shown_line (view_of layout.now) (Some tables.now) codes.now k }
+    ensures behind { drop result out.new ≡ drop result out.old }
+    ensures kept { length out.old < result → out.new ≡ out.old }
 {
     if layout.line_count() <= k || codes.len() != layout.levels().len() {
         return 0;
@@ -183,6 +188,8 @@ pub extern "C" fn bidi_places(
     ensures room { room.new.handle.value ≡ room.old.handle.value }
     ensures count { result ≡ span_of (line_held room.old.handle.value k) }
     ensures written { result ≤ length places.old → ArePlaces (line_held room.old.handle.value k) places.new }
+    ensures behind { drop result places.new ≡ drop result places.old }
+    ensures unwritten { length places.old < result → places.new ≡ places.old }
 {
     let Some(held) = room.take(alloc) else {
         return 0;
@@ -244,6 +251,8 @@ fn show(room: &Held, tables: &Held, codes: &[u32], k: usize, out: &mut [u32]) ->
     ensures count { result ≡ length (shown_line (layout_held (Some room.now)) (tables_in (Some tables.now)) codes.now k) }
     ensures shown { All IsScalar codes.now → result ≤ length out.old
         → take result out.new ≡ shown_line (layout_held (Some room.now)) (tables_in (Some tables.now)) codes.now k }
+    ensures behind { drop result out.new ≡ drop result out.old }
+    ensures kept { length out.old < result → out.new ≡ out.old }
 {
     let Some(layout) = room.layout() else {
         return 0;
@@ -272,6 +281,8 @@ pub extern "C" fn bidi_shown(
     ensures count { result ≡ length (shown_line (layout_held room.old.handle.value) (tables_in tables.old.handle.value) codes.now k) }
     ensures written { All IsScalar codes.now → result ≤ length shown.old
         → take result shown.new ≡ shown_line (layout_held room.old.handle.value) (tables_in tables.old.handle.value) codes.now k }
+    ensures behind { drop result shown.new ≡ drop result shown.old }
+    ensures unwritten { length shown.old < result → shown.new ≡ shown.old }
 {
     let Some(held) = room.take(alloc) else {
         return 0;

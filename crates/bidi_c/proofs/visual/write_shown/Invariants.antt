@@ -1,4 +1,4 @@
-use Rattle.std.proofs.Common.{◌≡◌, take, length}
+use Rattle.std.proofs.Common.{◌≡◌, take, drop, length}
 use Rattle.std.specs.List.{All}
 use Rattle.std.specs.Char.{IsScalar}
 use Rattle.units.specs.Reordering.{shown_of}
@@ -7,4 +7,4 @@ use Rattle.bidi_c.proofs.visual.write_shown.Given as goal
 
 -- the characters before i are written
 abbrev pub invariant-loop-i : goal.invariant-loop-i
-invariant-loop-i l = All IsScalar l.codes → take l.i l.out ≡ shown_of (glyph_at l.tables.mirrors) l.levels l.codes (take l.i l.order)
+invariant-loop-i l = (All IsScalar l.codes → take l.i l.out ≡ shown_of (glyph_at l.tables.mirrors) l.levels l.codes (take l.i l.order)) × (drop l.i l.out ≡ drop l.i l.fn.out)

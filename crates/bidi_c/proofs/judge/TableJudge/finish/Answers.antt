@@ -1,5 +1,4 @@
 use Rattle.std.proofs.Common.{◌≡◌, ◌∙◌, Option, Some, sym, subst, ap}
-use Rattle.units.specs.Limits.{standard}
 use Rattle.ucdfiles.specs.Tables.{TablesOf}
 use Rattle.bidtests.specs.Standing.{HoldsFor}
 use Rattle.bidi_c.specs.Judged.{verdict_by}
@@ -7,10 +6,10 @@ use Rattle.bidi_c.proofs.Judging.{verdict-by, has-state}
 use Rattle.bidi_c.proofs.judge.TableJudge.finish.Goals as goal
 
 pub returns : goal.returns
-returns c = λ tables b h.
+returns c = λ limits tables b h.
     let judge = c.args.self.now in
     let kind = c.kind_by.result in
     let state = c.in_ok-state.state in
-    let holds = subst (λ (t : Option TablesOf). HoldsFor standard t state b) (sym c.kind_by.ensures) (has-state judge tables b state (sym c.in_ok-state.ensures.value) h) in
-    ap (λ v. Some v) (c.finish.ensures.verdict standard kind b (c.of_state.ensures standard b holds) ∙ verdict-by kind b
-    ∙ ap (λ t. verdict_by t b) (c.kind_by.ensures ∙ h.by))
+    let holds = subst (λ (t : Option TablesOf). HoldsFor limits t state b) (sym c.kind_by.ensures) (has-state limits judge tables b state (sym c.in_ok-state.ensures.value) h) in
+    ap (λ v. Some v) (c.finish.ensures.verdict limits kind b (c.of_state.ensures limits b holds) ∙ verdict-by limits kind b
+    ∙ ap (λ t. verdict_by limits t b) (c.kind_by.ensures ∙ h.by))
