@@ -97,7 +97,8 @@ pub fn judge_characters<'a, S: ByteSource, W: Write>(
         (W.contents out.old) (W.contents out.new) name.now) }
 
     ensures verdict { IfOk result (λ status. (given : List ℕ) × S.gives source.old given source.new
-        × SaysVerdict (W.contents out.old) (W.contents out.new) (characters_verdict standard (unit_by tables.now) given) status) }
+        × SaysVerdict (W.contents out.old) (W.contents out.new)
+        (characters_verdict standard (unit_by tables.now) given) status) }
     ensures status { IfOk result (λ status. status ≤ 1) }
 {
     let judge = Judge::for_characters(alloc, tables)?;

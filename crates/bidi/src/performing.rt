@@ -6,7 +6,8 @@ ghost use Rattle.bidi.specs.Outcomes.{IsDone};
 ghost use Rattle.bidi.specs.Printed.{HasPrinted, most_text_bytes};
 ghost use Rattle.bidi.specs.PrintedTexts.{printed_levels, printed_reorder};
 ghost use Rattle.bidi.specs.ReadFiles.{most_file_bytes};
-ghost use Rattle.bidi.specs.Steps.{FailsIn, IsFirstFault, characters_steps, file_step, printing_steps, steps_of, text_steps};
+ghost use Rattle.bidi.specs.Steps.{FailsIn, IsFirstFault, characters_steps, file_step};
+ghost use Rattle.bidi.specs.Steps.{printing_steps, steps_of, text_steps};
 
 use crate::command_line::{FileKind, Request};
 use crate::fault::Fault;

@@ -57,7 +57,8 @@ fn read_classes<F: Files>(
     folder: &str,
 ) -> Result<ClassTable, Fault<'static>>
     ensures ok { IfOk result (λ table. (bytes : List ℕ)
-        × (F.facts files.now).Holds (in_folder folder.now class_name) most_file_bytes bytes × StatesClasses bytes (class_at table)) }
+        × (F.facts files.now).Holds (in_folder folder.now class_name) most_file_bytes bytes
+        × StatesClasses bytes (class_at table)) }
     ensures err { IfErr result (EndsTable
         (F.facts files.now) class_fault
         (in_folder folder.now class_name) class_name) }
@@ -76,7 +77,8 @@ fn read_brackets<F: Files>(
     folder: &str,
 ) -> Result<BracketTable, Fault<'static>>
     ensures ok { IfOk result (λ table. (bytes : List ℕ)
-        × (F.facts files.now).Holds (in_folder folder.now bracket_name) most_file_bytes bytes × StatesBrackets bytes (bracket_at table)) }
+        × (F.facts files.now).Holds (in_folder folder.now bracket_name) most_file_bytes bytes
+        × StatesBrackets bytes (bracket_at table)) }
     ensures err { IfErr result (EndsTable
         (F.facts files.now) bracket_fault
         (in_folder folder.now bracket_name) bracket_name) }
@@ -95,7 +97,8 @@ fn read_mirrors<F: Files>(
     folder: &str,
 ) -> Result<MirrorTable, Fault<'static>>
     ensures ok { IfOk result (λ table. (bytes : List ℕ)
-        × (F.facts files.now).Holds (in_folder folder.now mirror_name) most_file_bytes bytes × StatesMirrors bytes (glyph_at table)) }
+        × (F.facts files.now).Holds (in_folder folder.now mirror_name) most_file_bytes bytes
+        × StatesMirrors bytes (glyph_at table)) }
     ensures err { IfErr result (EndsTable
         (F.facts files.now) mirror_fault
         (in_folder folder.now mirror_name) mirror_name) }

@@ -117,11 +117,13 @@ impl<'a> Files for FailingFiles<'a> {
 
     ghost facts = { failing_facts };
 
-    ghost gave = { λ files _ _ opened now bytes stands given. begins-given files opened.left now.left bytes stands given };
+    ghost gave = { λ files _ _ opened now bytes stands given.
+        begins-given files opened.left now.left bytes stands given };
 
     ghost gave_all = { λ _ _ _ _ _ _ _ _ ended. absurd ended };
 
-    ghost gave_up = { λ files _ _ opened now bytes stands given _. begins-given files opened.left now.left bytes stands given };
+    ghost gave_up = { λ files _ _ opened now bytes stands given _.
+        begins-given files opened.left now.left bytes stands given };
 
     fn source(&self, _alloc: Global, _name: &str, most: u64) -> Result<Self::Source, OpenFault> {
         let bytes = self.bytes;
