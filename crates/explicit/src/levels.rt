@@ -45,10 +45,14 @@ impl Model for Explicit {
 }
 
 impl Explicit {
-    /// Room for paragraphs of at most `n` units. `Memory` where it is refused.
+    /// Room for paragraphs of at most `n` units. `Memory` where the room is refused, and for 2^32 - 1 units and more,
+    /// as by `IsolateMap::with_room`.
     pub fn with_room(alloc: Global, n: usize) -> Result<Explicit, Memory>
         ensures { IfOk result (λ explicit. length explicit ≡ n) }
     {
+        if n >= u32::MAX as usize {
+            return Err(Memory);
+        }
         let places = vec![in alloc; None; n]?.into_boxed_slice();
         Ok(Explicit {
             places,
