@@ -1,13 +1,14 @@
 #!/bin/bash
-# Lays the same texts out by the built program `bench` and by ICU, class look-up included, and prints one table. Of ordinary
-# texts it counts the instructions that a character takes, by valgrind, which are the same on each run; of hostile ones it takes
-# the time, which is not. Each text is one paragraph and one line, in direction auto; what is counted is done again and again
-# over what was made once.
+# Lays the same texts out by the built program `bench` and by ICU, class look-up included, and prints one table. Of
+# ordinary texts it counts the instructions that a character takes, by valgrind, which are the same on each run; of
+# hostile ones it takes the time, which is not. Each text is one paragraph and one line, in direction auto; what is
+# counted is done again and again over what was made once.
 #
 # usage: tools/beside_icu.sh [FOLDER]      (FOLDER, with the property files: /usr/share/unicode)
 #
-# It needs gcc, valgrind, python3 and libicu-dev, and ends with 2 where one of them, the program or a file is missing. Build the
-# program first, by `rt run` in crates/bench; BENCH may name another one. Not part of `rt ci`; it takes some minutes.
+# It needs gcc, valgrind, python3 and libicu-dev, and ends with 2 where one of them, the program or a file is missing.
+# Build the program first, by `rt run` in crates/bench; BENCH may name another one. Not part of `rt ci`; it takes some
+# minutes.
 set -u
 folder=${1:-/usr/share/unicode}
 tools=$(cd "$(dirname "$0")" && pwd)

@@ -1,7 +1,8 @@
 #!/bin/bash
-# Judges the official BidiTest.txt and BidiCharacterTest.txt by the built program, with the tables of the same folder, as
-# the package unicode-data installs them. It prints what the program prints, and ends with 0 where both verdicts are yes.
-# It ends with 2 where the program or one of the files is missing, and with 1 after any other answer of the program.
+# Judges the official BidiTest.txt and BidiCharacterTest.txt by the built program, with the tables of the same folder,
+# as the package unicode-data installs them. It prints what the program prints, and ends with 0 where both verdicts are
+# yes. It ends with 2 where the program or one of the files is missing, and with 1 after any other answer of the
+# program.
 #
 # usage: tools/judge_official_files.sh [FOLDER]      (FOLDER: /usr/share/unicode)
 #

@@ -1,16 +1,17 @@
 #!/usr/bin/env python3
-"""Puts random cases of the official conformance files as equations that the definitions must compute to, and checks them.
+"""Puts random cases of the official conformance files as equations that the definitions must compute to, and checks
+them.
 
 usage: official_cases.py classes|characters COUNT [--seed N] [--skip N] [--ucd FOLDER] [--batch N] [--print]
 
 classes: cases of BidiTest.txt (a row under one of its directions): levels and order.
-characters: rows of BidiCharacterTest.txt: the first paragraph's level, levels and order; classes and keys of brackets come from
-DerivedBidiClass.txt and BidiBrackets.txt.
+characters: rows of BidiCharacterTest.txt: the first paragraph's level, levels and order; classes and keys of brackets
+come from DerivedBidiClass.txt and BidiBrackets.txt.
 
-The cases are shuffled by the seed; COUNT of them are taken after the first --skip, so runs of one seed have no case in common.
-Each batch becomes a file of equations, each proved by `refl` alone, in a copy of crates/units outside the repository, which
-`rt check` then checks. With --print the equations are printed and nothing is checked. The files are those of Debian's package
-unicode-data (/usr/share/unicode)."""
+The cases are shuffled by the seed; COUNT of them are taken after the first --skip, so runs of one seed have no case in
+common. Each batch becomes a file of equations, each proved by `refl` alone, in a copy of crates/units outside the
+repository, which `rt check` then checks. With --print the equations are printed and nothing is checked. The files are
+those of Debian's package unicode-data (/usr/share/unicode)."""
 import argparse
 import bisect
 import os
