@@ -29,8 +29,8 @@ use units::text::trim::content;
 /// before it.
 const MOST_UNITS: usize = 32_768;
 
-/// The limits and the room for layouts, a row's text, the lists in force or those of a row, and the counts. What judges a line
-/// answers its fault: the no that it gives if it is malformed or wrong.
+/// The limits and the room for layouts, a row's text, the lists in force or those of a row, and the counts. What judges
+/// a line answers its fault: the no that it gives if it is malformed or wrong.
 #[derive(Drop)]
 pub struct Sheet {
     limits: Limits,

@@ -23,8 +23,8 @@ use units::memory::Memory;
 use units::steps::Steps;
 
 /// The explicit level and the current class of each position of a paragraph, or none where X9 removes it. Its room is
-/// made once and filled in place. Contracts see the list of all room. Beside it stands the stack of directional statuses,
-/// which is empty between calls.
+/// made once and filled in place. Contracts see the list of all room. Beside it stands the stack of directional
+/// statuses, which is empty between calls.
 #[derive(Drop)]
 pub struct Explicit {
     places: BoxedSlice<Option<(Level, Class)>>,

@@ -132,7 +132,8 @@ impl StatusStack {
         self.entries[self.entries.len() - 1]
     }
 
-    /// X5a to X6a: the level and the current class of a position of this class, which is neither removed nor a separator.
+    /// X5a to X6a: the level and the current class of a position of this class, which is neither removed nor a
+    /// separator.
     pub fn place_inside(&self, class: Class) -> (Level, Class)
         requires { IsKept self.now }
         ensures { (depth : ℕ) (cs : List Class) (base : ℕ) (qs : List ℕ) → is_removed class ≡ false → is_separator class ≡ false → Represents depth cs base qs self.now → Some result ≡ placed (state_within depth cs base qs) base class }
@@ -232,7 +233,8 @@ impl StatusStack {
         self.entries.push(entry);
     }
 
-    // X2 to X5c: counts an initiator that is not taken. An overflow embedding inside an overflow isolate is not counted.
+    // X2 to X5c: counts an initiator that is not taken. An overflow embedding inside an overflow isolate is not
+    // counted.
     fn refuse(&mut self, is_isolate: bool)
         requires { IsKept self.old }
         ensures opened { (depth : ℕ) (cs : List Class) (para : ℕ) (qs : List ℕ) (p : ℕ) → is_taken depth cs para p qs ≡ false → is_isolate ≡ is_isolate_initiator (class_at cs p) → Represents depth cs para qs self.old → Represents depth cs para (p ∷ qs) self.new }

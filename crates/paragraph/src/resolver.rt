@@ -344,8 +344,8 @@ impl Resolver {
     }
 
     /// Finds the level of a paragraph (P2, P3) and writes the resolved levels of its positions, none where X9 removes
-    /// one (X1 to I2), over what `levels` held. `limits` say how deep explicit levels go (BD2) and how many brackets can
-    /// be open (BD16). There is room for the paragraph, and no memory is taken.
+    /// one (X1 to I2), over what `levels` held. `limits` say how deep explicit levels go (BD2) and how many brackets
+    /// can be open (BD16). There is room for the paragraph, and no memory is taken.
     pub fn resolve<L: Ledger>(
         &mut self,
         para: &[Unit],

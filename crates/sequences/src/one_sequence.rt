@@ -88,8 +88,8 @@ fn only_head(level: Level, count: usize) -> Head
     }
 }
 
-/// Writes the positions that remain (X9) into the column, from the front on: all of them, and without a look at a class,
-/// if the paragraph is `whole`. Answers how many they are.
+/// Writes the positions that remain (X9) into the column, from the front on: all of them, and without a look at a
+/// class, if the paragraph is `whole`. Answers how many they are.
 fn place<L: Ledger>(para: &[Unit], whole: bool, column: &mut [u32], steps: &mut Steps<L>) -> usize
     requires whole { whole ≡ true → HasNone is_removed (classes_of para.now) }
     requires small { length para.now < u32.MAX }
