@@ -10,8 +10,8 @@
  *  - A handle that holds something is freed by its call, or given to a call that says that it takes it over.
  *    Else: its memory is lost, and nothing worse.
  *  - One call at a time uses a handle, a look-up too. Else: a call finds it empty, or half changed.
- *  - Another thread may use a handle only after what the first one did is known to it, as behind a lock, a start or
- *    a join. Else: as above.
+ *  - Between calls a handle may move to another thread (that it may is proved, as `Send`), where what the first one
+ *    did is known to it, as behind a lock, a start or a join. Else: as above.
  *  - Each pointer stands for as many items as its length says, also where that is 0: it is not null, and aligned for
  *    its type. Else: memory that is not the caller's is read or written. (A one-item array serves for length 0.)
  *  - What a call writes is used by no other argument of it. What it only reads may overlap. Else: what is written is

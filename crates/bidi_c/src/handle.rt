@@ -60,3 +60,6 @@ impl Handle {
         let Handle { at: _, alloc: _ } = self;
     }
 }
+
+// SAFETY: it owns what it points to, and so does what it points to.
+unsafe impl Send for Handle {}

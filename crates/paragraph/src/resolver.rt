@@ -411,7 +411,7 @@ impl Resolver {
         self.sequences
             .fill(para, &self.isolates, &self.explicit, level, limits, steps);
 
-        // W1 to I2.
+        // W1 to W7, BD14 to BD16 and N0, N1 and N2, I1 and I2, sequence by sequence.
         resolve_found(
             para,
             contents.has_weak(),
@@ -470,7 +470,7 @@ impl Resolver {
         self.sequences
             .fill_flat(para, contents.is_whole(), level, steps);
 
-        // W1 to I2.
+        // W1 to W7, BD14 to BD16 and N0, N1 and N2, I1 and I2.
         resolve_own(
             para,
             contents.has_weak(),
