@@ -91,3 +91,31 @@ fn as_many_mirror_images_as_allowed(rt: HostRuntime) -> Result<(), Fail> {
     );
     Ok(())
 }
+
+/// A character that an earlier line states is told behind few lines and behind many.
+#[test]
+fn characters_of_an_earlier_line(rt: HostRuntime) -> Result<(), Fail> {
+    let alloc = rt.alloc();
+    for count in [1_u32, 101, 4_097, 65_535] {
+        let line = (count as u64).saturating_add(1);
+        let mut classes = class_lines(alloc, count)?;
+        classes.extend_from_slice(b"10000 ; L\n")?;
+        assert_eq!(rt;
+            ClassTable::read(alloc, &mut SliceSource::new(&classes)).err(),
+            Some(TableFault::Overlap(line))
+        );
+        let mut brackets = bracket_lines(alloc, count)?;
+        brackets.extend_from_slice(b"10000; 0029; o\n")?;
+        assert_eq!(rt;
+            BracketTable::read(alloc, &mut SliceSource::new(&brackets)).err(),
+            Some(TableFault::Twice(line))
+        );
+        let mut mirrors = mirror_lines(alloc, count)?;
+        mirrors.extend_from_slice(b"10000; 10001\n")?;
+        assert_eq!(rt;
+            MirrorTable::read(alloc, &mut SliceSource::new(&mirrors)).err(),
+            Some(TableFault::Twice(line))
+        );
+    }
+    Ok(())
+}
