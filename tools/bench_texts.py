@@ -3,7 +3,7 @@
 
 usage: tools/bench_texts.py FOLDER
 
-The ordinary ones have about 1,000 characters. The others are hard for an engine that walks back and forth; each has its
+The ordinary ones have about 1,000 characters, two of them one. The others are hard for an engine that walks back and forth; each has its
 number of characters in its name.
 """
 import os
@@ -77,6 +77,8 @@ def ordinary_texts():
         'persian': filled(1000, PERSIAN),
         'isolates': with_pairs(text, 40, FSI, PDI),
         'embeddings': with_pairs(text, 60, RLE, PDF),
+        'one_latin': 'a',
+        'one_hebrew': '\u05d0',
     }
 
 

@@ -1,8 +1,8 @@
 #!/bin/bash
 # Runs the built program over files of the system, and compares its statuses and what it writes: a yes, a no, a missing
-# file, texts by tables, a full disk, a closed pipe. Where the package unicode-data is installed it reads the published
-# property files and judges the official test files too; else it says that it does not. It ends with 0 where all is as
-# it is to be, with 1 where not, and with 2 where the program is missing.
+# file, texts by tables and from standard input, a full disk, a closed pipe. Where the package unicode-data is installed
+# it reads the published property files and judges the official test files too; else it says that it does not. It ends
+# with 0 where all is as it is to be, with 1 where not, and with 2 where the program is missing.
 #
 # usage: tools/check_program.sh [FOLDER]      (FOLDER, with the property and test files: /usr/share/unicode)
 #
@@ -44,6 +44,7 @@ mkdir t
 printf '000A ; B\n0020 ; WS\n0028..0029 ; ON\n05D0..05EA ; R\n' > t/DerivedBidiClass.txt
 printf '0028; 0029; o\n0029; 0028; c\n' > t/BidiBrackets.txt
 printf '0028; 0029\n0029; 0028\n' > t/BidiMirroring.txt
+
 printf '@Levels: 1 1 0\n@Reorder: 1 0 2\nR B L; 1\n' > yes.txt
 printf '@Levels: 0\n@Reorder: 0\nL; 7\n' > no.txt
 printf '05D0 0028 0061 0029 05D1;1;1;1 1 2 1 1;4 3 2 1 0\n' > characters.txt
@@ -69,15 +70,31 @@ ends 3 '' 'bidi: cannot read large.txt' reorder --tables t large.txt
 ends 3 '' 'bidi: cannot read DerivedBidiClass.txt' levels --tables none text.txt
 printf '0041 ; Left_To_Right\n' > t/BidiMirroring.txt
 ends 3 '' 'bidi: BidiMirroring.txt: line 1: CodePoint' levels --tables t text.txt
-printf '' > t/BidiMirroring.txt
+printf '0028; 0029\n0029; 0028\n' > t/BidiMirroring.txt
 
-# Words that are refused, and help.
+# Standard input in the place of a file, also where it is closed or a file has its name.
+ends 0 $'a) \xd7\x90' '' reorder --tables t - < text.txt
+ends 0 $'paragraph 0 level 1\n0 05D0 R 1\n1 0020 WS 1\n2 0028 ON 1\n3 0061 L 2' '' levels --tables t - < <(cat text.txt)
+ends 1 'no: line 3: rtl: levels at 0' '' judge --kind classes - < no.txt
+ends 0 'yes: 1 rows, 1 cases' '' judge --kind characters --tables t - < <(cat characters.txt)
+ends 3 '' 'bidi: bytes.txt: not UTF-8' reorder --tables t bytes.txt < text.txt
+ends 3 '' 'bidi: -: not UTF-8' reorder --tables t - < bytes.txt
+ends 3 '' 'bidi: cannot read -' reorder --tables t - < large.txt
+ends 3 '' 'bidi: cannot read -' levels --tables t - <&-
+ends 3 '' 'bidi: cannot read -' levels --tables t - < t
+cp text.txt ./-
+ends 0 'yes: 1 rows, 1 cases' '' judge --kind classes - < yes.txt
+ends 0 $'a) \xd7\x90' '' reorder --tables t ./- < yes.txt
+
+# Words that are refused, help and the version.
 "$program" reorder --columns 0 --tables t text.txt > found_out 2> found_err
 is 'status of refused words' 2 $?
 is 'standard output of refused words' '' "$(cat found_out)"
 "$program" --help > found_out 2> found_err
 is 'status of --help' 0 $?
 is 'standard error of --help' '' "$(cat found_err)"
+
+ends 0 $'bidi (rules P1 to L4 of UAX #9, Unicode 15.0)\nproved with rattle-kit-13b logic dac8208d650f15bf' '' --version
 
 # A full disk, and a pipe that no one reads.
 for words in 'judge --kind classes yes.txt' 'judge --kind classes no.txt' 'levels --tables t text.txt' \

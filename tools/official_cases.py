@@ -25,15 +25,9 @@ import unicodedata
 
 HEAD = """-- Cases of the official conformance files.
 use Rattle.std.specs.Prelude.{Option, ℕ, ◌≡◌, List, [], ◌∷◌, Some, None, map, refl}
-use Rattle.units.specs.Isolates.{matching_pdi, matching_initiator, partner_of, isolate_holds, isolate_around, first_strong, para_level_of}
-use Rattle.units.specs.Explicit.{matching_pdf, embedding_holds, chain, entered, explicit_at}
-use Rattle.units.specs.Weak.{after_weak}
-use Rattle.units.specs.Brackets.{stop_of, bracket_pairs_of, closer_of, after_paired}
-use Rattle.units.specs.Neutral.{after_neutral}
-use Rattle.units.specs.Reordering.{after_resets, line_order}
-use Rattle.units.specs.Layout.{TextLayout, resolved_levels, layout_of, all_orders}
+use Rattle.units.specs.Layout.{TextLayout, layout_of, all_orders}
 use Rattle.units.specs.Limits.{standard}
-use Rattle.units.specs.Rows.{plain, laid_out}
+use Rattle.units.specs.Rows.{plain, laid_out, layouts_compute}
 use Rattle.units.specs.declared.class.Class.{Class}
 use Rattle.units.specs.declared.class.Class.TheVariants.{L, R, AL, EN, ES, ET, AN, CS, NSM, BN, B, S, WS, ON, LRE, LRO, RLE, RLO, PDF, LRI, RLI, FSI, PDI}
 use Rattle.units.specs.declared.bracket.Bracket.{Bracket}
@@ -56,9 +50,7 @@ abbrev pub with_level : List BidiUnit → Direction → Option ℕ × List (Opti
 with_level text direction = claimed (layout_of standard text direction [])
 """
 
-OPENED = ('matching_pdi matching_initiator partner_of isolate_holds isolate_around first_strong para_level_of matching_pdf '
-          'embedding_holds chain entered explicit_at after_weak stop_of bracket_pairs_of closer_of after_paired after_neutral '
-          'resolved_levels after_resets line_order layout_of')
+OPENED = 'layouts_compute'
 
 SHORT_NAMES = {'Left_To_Right': 'L', 'Right_To_Left': 'R', 'Arabic_Letter': 'AL', 'European_Terminator': 'ET', 'Boundary_Neutral': 'BN'}
 

@@ -4,7 +4,8 @@
 # refused, and no other. The program must end as ever, or say `bidi: out of memory` and end with 3. It prints, for each
 # crate that takes memory, how many growths were refused, and ends with 0 where all passed.
 #
-# usage: tools/refused_growths.sh [CRATE ..]    (of ucdfiles, paragraph, lines, bidtests, bidi; with none all of them)
+# usage: tools/refused_growths.sh [CRATE ..]    (of file_tests, engine_tests, layout_tests, bidi; with none
+#        all of them)
 #
 # It runs what `rt ci` leaves in crates/*/out, or `rt test` and `rt run` in a crate's folder, and takes some seconds. It
 # needs a C compiler (CC, else cc), and ends with 2 where that or a program is missing. Not part of the gate.
@@ -99,23 +100,24 @@ program_of_bidi() {
     echo "bidi: $growths growths refused, each in turn: the program, over files of the system"
 }
 
-for crate in ${*:-ucdfiles paragraph lines bidtests bidi}; do
+for crate in ${*:-file_tests engine_tests layout_tests bidi}; do
     case $crate in
-        ucdfiles)
-            tests_of ucdfiles 'the three readers, and a source that had failed' \
-                tests::says_that_memory_was_refused tests::a_source_that_had_failed ;;
-        paragraph)
-            tests_of paragraph \
+        file_tests)
+            tests_of file_tests 'the three readers of tables, and a source that had failed' \
+                table_faults::says_that_memory_was_refused table_faults::a_source_that_had_failed
+            tests_of file_tests 'both kinds of judge, and files judged after it' \
+                judging::no_growth_comes_after_making characters_rows::no_growth_comes_after_making ;;
+        engine_tests)
+            tests_of engine_tests \
                 'IsolateMap and Explicit of explicit, Sequences of sequences, Pairs of resolve, Resolver' \
-                tests::rooms::says_that_memory_was_refused ;;
-        lines)
-            tests_of lines 'Scratch, and a thousand layouts after it' tests::no_growth_comes_after_making ;;
-        bidtests)
-            tests_of bidtests 'both kinds of judge, and files judged after it' \
-                tests::no_growth_comes_after_making tests::characters::no_growth_comes_after_making ;;
+                rooms::says_that_memory_was_refused ;;
+        layout_tests)
+            tests_of layout_tests 'Scratch, and a thousand layouts after it' \
+                line_rows::no_growth_comes_after_making
+            tests_of layout_tests 'print_levels and print_reorder' \
+                printed_refused::prints_or_says_that_memory_was_refused ;;
         bidi)
-            tests_of bidi 'print_levels, print_reorder, and run over files in memory' \
-                tests::refused::prints_or_says_that_memory_was_refused \
+            tests_of bidi 'run over files in memory' \
                 tests::faults::answers_as_ever_or_says_that_memory_was_refused
             program_of_bidi ;;
         *) missing "$crate has no test made for refused memory" ;;

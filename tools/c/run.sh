@@ -1,39 +1,48 @@
 #!/bin/bash
-# Builds the programs of this folder with the library that C links, and runs them: the demo and every call against their
-# stored output, each refused allocation, a C++ program, and the official files, by gcc alone; then again under
-# -fsanitize=address,undefined and under valgrind, where these are installed.
+# Builds the library that C links and the programs of this folder, and runs them: the demo, every call and each refused
+# allocation against their stored output, a C++ program, and a program built as tools/c/install.sh installs the library;
+# then again under -fsanitize=address,undefined and under valgrind. Where the package unicode-data is installed it lays
+# out and judges the official files too. It says what it leaves out because something isn't installed, without gcc all.
 #
 # usage: tools/c/run.sh [FOLDER]      (FOLDER, with the files of the Unicode database: /usr/share/unicode)
 #
-# Build the library first, by `rt lib` in crates/bidi_c. It ends with 1 where a program ends otherwise than it should, and
-# with 2 where gcc, the library or a file is missing. Not part of `rt ci`.
+# `rt lib` makes the library: in seconds over what `rt check` or `rt lib` kept in crates/*/out, else by proving each crate
+# below it (rt ci keeps nothing for it). It ends with 0 where all is as it should be, with 1 where not, and with 2 where
+# the library can't be made.
 set -u
 here=$(cd "$(dirname "$0")" && pwd)
 folder=${1:-/usr/share/unicode}
-library=$here/../../crates/bidi_c/out/libbidi_c.a
-heap=${RATTLE_C:-$(dirname "$(readlink -f "$(command -v rt)")")/../c}/liblibc_c.a
+crate=$here/../../crates/bidi_c
+library=$crate/out/libbidi_c.a
 
-missing() {
-    echo "$1" >&2
-    exit 2
-}
-command -v gcc > /dev/null || missing "no gcc"
-[ -e "$library" ] || missing "no $library"
-[ -e "$heap" ] || missing "no $heap: name the kit's folder of it by RATTLE_C"
+if ! command -v gcc > /dev/null; then
+    echo "no gcc: the programs in C are not built"
+    exit 0
+fi
+kit=${RATTLE_C:-$(dirname "$(readlink -f "$(command -v rt)")")/../c}
+heap=$kit/liblibc_c.a
 work=$(mktemp -d) || exit 2
 trap 'rm -r "$work"' EXIT
-for name in DerivedBidiClass BidiBrackets BidiMirroring BidiTest BidiCharacterTest; do
-    found=$(find "$folder" -name "$name.txt" 2> /dev/null | sort | head -n 1)
-    [ -n "$found" ] || missing "no $name.txt in $folder"
-    cp "$found" "$work/$name.txt" || exit 2
-done
+if ! (cd "$crate" && rt lib) > "$work/lib" 2>&1 || [ ! -e "$library" ] || [ ! -e "$heap" ]; then
+    tail -n 5 "$work/lib" >&2
+    echo "no $library, or no $heap (RATTLE_C names its folder)" >&2
+    exit 2
+fi
 failures=0
+
+# fails WHAT: counts a failure, and shows what was printed.
+fails() {
+    echo "$1: otherwise"
+    head -n 5 "$work/errors"
+    failures=$((failures + 1))
+}
 
 # build NAME WORD..: a program of this folder, with these words for gcc.
 build() {
     local name=$1
     shift
-    gcc -O2 -Wall -Wextra -Wno-unused -o "$work/$name" "$here/$name.c" "$library" "$heap" "$@" || failures=$((failures + 1))
+    gcc -O2 -Wall -Wextra -Wno-unused -o "$work/$name" "$here/$name.c" "$library" "$heap" "$@" 2> "$work/errors" ||
+        fails "gcc $name"
 }
 
 # expect NAME STORED WORD..: what a command prints is what is stored in this file.
@@ -43,10 +52,8 @@ expect() {
     if "$@" > "$work/printed" 2> "$work/errors" && cmp -s "$work/printed" "$stored"; then
         echo "$name: as stored"
     else
-        echo "$name: otherwise"
-        diff "$stored" "$work/printed" | head -n 5
-        head -n 5 "$work/errors"
-        failures=$((failures + 1))
+        diff "$stored" "$work/printed" | head -n 5 >> "$work/errors"
+        fails "$name"
     fi
 }
 
@@ -54,9 +61,9 @@ expect() {
 all() {
     local label=$1
     shift
-    expect "$label demo" "$here/demo.out" "$@" "$work/demo" "$work" 20 < "$here/demo.txt"
-    expect "$label calls" "$here/calls.out" "$@" "$work/calls" "$work"
-    expect "$label refused" "$here/refused.out" "$@" "$work/refused" "$work"
+    expect "$label demo" "$here/demo.out" "$@" "$work/demo" "$here/ucd" 20 < "$here/demo.txt"
+    expect "$label calls" "$here/calls.out" "$@" "$work/calls" "$here/ucd"
+    expect "$label refused" "$here/refused.out" "$@" "$work/refused" "$here/ucd"
 }
 
 build_all() {
@@ -66,19 +73,45 @@ build_all() {
 }
 
 build_all
-build official
 all plain
-expect "plain official" "$here/official.out" "$work/official" "$work"
 if command -v g++ > /dev/null; then
-    g++ -O2 -Wall -Wextra -o "$work/header" "$here/header.cc" "$library" "$heap" || failures=$((failures + 1))
+    g++ -O2 -Wall -Wextra -o "$work/header" "$here/header.cc" "$library" "$heap" 2> "$work/errors" || fails "g++ header"
     expect "C++ header" "$here/header.out" "$work/header"
+else
+    echo "no g++: the C++ program is not built"
+fi
+if command -v pkg-config > /dev/null; then
+    RATTLE_C=$kit "$here/install.sh" "$work/installed"
+    # shellcheck disable=SC2046
+    gcc -O2 -o "$work/installed_demo" "$here/demo.c" \
+        $(PKG_CONFIG_PATH=$work/installed/lib/pkgconfig pkg-config --cflags --libs bidi_c) 2> "$work/errors" || fails "gcc installed"
+    expect "installed demo" "$here/demo.out" "$work/installed_demo" "$here/ucd" 20 < "$here/demo.txt"
+else
+    echo "no pkg-config: no program is built over the installed library"
 fi
 if command -v valgrind > /dev/null; then
     all valgrind valgrind -q --leak-check=full --error-exitcode=9
+else
+    echo "no valgrind: nothing is run under it"
 fi
-if echo 'int main(void) { return 0; }' | gcc -fsanitize=address,undefined -x c -o "$work/sanitized" - 2> "$work/errors"; then
+if echo 'int main(void) { return 0; }' | gcc -fsanitize=address,undefined -x c -o "$work/sanitized" - 2> /dev/null; then
     build_all -g -fsanitize=address,undefined -fno-sanitize-recover
     all sanitized
+else
+    echo "no sanitizers: nothing is run under them"
+fi
+mkdir "$work/published"
+for name in DerivedBidiClass BidiBrackets BidiMirroring BidiTest BidiCharacterTest; do
+    found=$(find "$folder" -name "$name.txt" 2> /dev/null | sort | head -n 1)
+    [ -z "$found" ] || cp "$found" "$work/published/$name.txt"
+done
+if [ -e "$work/published/BidiCharacterTest.txt" ]; then
+    build official
+    build refused -Wl,--wrap=malloc,--wrap=realloc
+    expect "official files" "$here/official.out" "$work/official" "$work/published"
+    "$work/refused" "$work/published" > "$work/printed" 2> "$work/errors" || fails "refused over the published files"
+else
+    echo "no official files in $folder (package unicode-data): they are not judged"
 fi
 echo "failures: $failures"
 [ "$failures" = 0 ]

@@ -31,8 +31,9 @@ fn report<E: Write>(
     case: &Case,
     room: &mut Scratch,
 ) -> io::Result<()> {
-    let (elapsed, lines) = least_time(rt, &case.text, case.rounds, room)?;
-    let (name, rounds, length) = (case.name, case.rounds, case.text.len());
+    let text = case.text(rt.alloc())?;
+    let (elapsed, lines) = least_time(rt, &text, case.rounds, room)?;
+    let (name, rounds, length) = (case.name, case.rounds, text.len());
     let tenths = tenths_each(elapsed, length.saturating_mul(rounds));
     let (whole, tenth) = (tenths / 10, tenths % 10);
     writeln!(
@@ -51,17 +52,16 @@ fn is_asked_for(words: &[String], name: &str) -> bool {
 
 /// Times the built-in texts that are asked for.
 fn time_cases(rt: &HostRuntime, words: &[String]) -> io::Result<()> {
-    let alloc = rt.alloc();
     let lengths = if words.is_empty() {
         Lengths::SHORT
     } else {
         Lengths::FULL
     };
-    let Ok(mut room) = Scratch::with_room(alloc, lengths.long) else {
+    let Ok(mut room) = Scratch::with_room(rt.alloc(), lengths.long) else {
         return Err(io::ErrorKind::OutOfMemory.into());
     };
     let mut err = rt.stderr();
-    for case in &cases(alloc, lengths)? {
+    for case in &cases(lengths) {
         if is_asked_for(words, case.name) {
             report(rt, &mut err, case, &mut room)?;
         }

@@ -6,17 +6,17 @@ use Rattle.ucdfiles.specs.ClassFile.{class_fault, class_file_fault}
 use Rattle.ucdfiles.specs.Faults.{first_fault}
 use Rattle.ucdfiles.specs.PairFiles.{bracket_fault, bracket_file_fault, mirror_fault, mirror_file_fault}
 use Rattle.ucdfiles.specs.Tables.{TablesOf}
-use Rattle.bidi.specs.ReadFiles.{AreTables, FileFacts, most_file_bytes}
+use Rattle.bidi.specs.ReadFiles.{AreTables, FileFacts, most_file_bytes, origin_of}
 use Rattle.bidi.specs.FaultText.{print_fault}
 use Rattle.bidi.specs.Outcomes.{IsDone}
 use Rattle.bidi.specs.Printed.{most_text_bytes}
 use Rattle.bidi.specs.Steps.{AreDone, EndsWriting, FailsIn, IsFirstFault, Step, file_step, printing_steps, steps_of, table_steps, text_steps}
-use Rattle.bidi.specs.declared.command_line.FileKind.TheVariants.{Classes, Characters}
-use Rattle.bidi.specs.declared.command_line.Request.{Request}
-use Rattle.bidi.specs.declared.command_line.Request.TheVariants.{Levels, Reorder, Judge}
+use Rattle.bidi.specs.declared.request.FileKind.TheVariants.{Classes, Characters}
+use Rattle.bidi.specs.declared.request.Request.{Request}
+use Rattle.bidi.specs.declared.request.Request.TheVariants.{Levels, Reorder, Judge}
 use Rattle.bidi.specs.declared.fault.Fault.{Fault}
-use Rattle.bidi.specs.declared.fault.PrintFault.{PrintFault}
-use Rattle.bidi.specs.declared.fault.PrintFault.TheVariants.{Write, Memory}
+use Rattle.printing.specs.declared.fault.PrintFault.{PrintFault}
+use Rattle.printing.specs.declared.fault.PrintFault.TheVariants.{Write, Memory}
 use Rattle.bidi.specs.declared.outcome.Outcome.{Outcome}
 use Rattle.bidi.specs.declared.outcome.Outcome.TheVariants.{Judged, Printed, Helped}
 
@@ -63,7 +63,7 @@ tables_done files folder tables h = (
 
 -- and so are all steps of the printing of a text
 pub text_done : (files : FileFacts) (folder file : List ℕ) (tables : TablesOf) → AreTables files folder tables
-    → (bytes : List ℕ) → files.Holds file most_text_bytes bytes → IsUtf8 bytes → AreDone (printing_steps files folder file)
+    → (bytes : List ℕ) → files.Holds (origin_of file) most_text_bytes bytes → IsUtf8 bytes → AreDone (printing_steps files folder file)
 unfolding printing_steps
 text_done files folder file tables h bytes whole utf8 =
     all_done (table_steps files folder) (text_steps files file) (tables_done files folder tables h) ((bytes, whole), ((bytes, whole, utf8), tt))

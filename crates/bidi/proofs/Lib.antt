@@ -1,10 +1,4 @@
-pub mod Appending
-pub mod Breaks
-pub mod Codes
 pub mod FirstFaults
-pub mod Lengths
-pub mod Passing
-pub mod Printing
-pub mod Showing
+pub mod KnownRuns
 pub mod SourceEnds
 pub mod TableEnds

@@ -3,7 +3,7 @@ use Rattle.std.proofs.Common.{◌≡◌, ℕ, List, [], ◌∷◌, Option, Resul
 use Rattle.std.specs.Str.{IsUtf8}
 use Rattle.bidi.specs.Judged.{EndsJudging}
 use Rattle.bidi.specs.Printed.{EndsReading, most_text_bytes}
-use Rattle.bidi.specs.ReadFiles.{FileFacts, most_file_bytes}
+use Rattle.bidi.specs.ReadFiles.{FileFacts, most_file_bytes, origin_of}
 use Rattle.bidi.specs.Steps.{FailsIn, IsFirstFault, file_step, text_steps}
 use Rattle.bidi.specs.declared.fault.Fault.{Fault}
 use Rattle.bidi.specs.declared.fault.Fault.TheVariants.{Refused, WordNotUtf8, TablesNeeded, CannotRead, FaultyLine, NotUtf8, CannotWrite, OutOfMemory}
@@ -11,11 +11,11 @@ use Rattle.bidi.specs.declared.fault.Fault.TheVariants.{Refused, WordNotUtf8, Ta
 -- bytes that were read whole and are no text
 pub record NoText (files : FileFacts) (file : List ℕ) : Type 0 where
   pub bytes : List ℕ
-  pub whole : files.Holds file most_text_bytes bytes
+  pub whole : files.Holds (origin_of file) most_text_bytes bytes
   pub no_text : ¬ (IsUtf8 bytes)
 
 pub text_ends : {A : Type 0} (files : FileFacts) (file : List ℕ) (failures : ℕ) (No : Type 0) (given : List ℕ) (r : Result A Fault)
-    → (failures ≡ 1 → files.Fails file most_text_bytes given) → (No → NoText files file)
+    → (failures ≡ 1 → files.Fails (origin_of file) most_text_bytes given) → (No → NoText files file)
     → IfErr r (EndsReading failures No file) → IfErr r (IsFirstFault (text_steps files file))
 text_ends files file failures No given (Ok text) failed none h = tt
 text_ends files file failures No given (Err (Refused e)) failed none h = absurd h
@@ -29,7 +29,7 @@ text_ends files file failures No given (Err CannotWrite) failed none h = absurd 
 text_ends files file failures No given (Err OutOfMemory) failed none h = inl tt
 
 pub judging_ends : {A : Type 0} (files : FileFacts) (file : List ℕ) (failures : ℕ) (ended : Type 0) (before after : Option (List ℕ)) (given : List ℕ) (r : Result A Fault)
-    → (failures ≡ 1 → files.Fails file most_file_bytes given) → (ended → files.Holds file most_file_bytes given)
+    → (failures ≡ 1 → files.Fails (origin_of file) most_file_bytes given) → (ended → files.Holds (origin_of file) most_file_bytes given)
     → IfErr r (EndsJudging failures ended before after file) → IfErr r (FailsIn (file_step files most_file_bytes file ∷ []) before after)
 judging_ends files file failures ended before after given (Ok status) failed whole h = tt
 judging_ends files file failures ended before after given (Err (Refused e)) failed whole h = absurd h

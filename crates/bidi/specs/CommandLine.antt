@@ -1,4 +1,5 @@
--- The command line, as it is read: the command with its subcommands and arguments, and the request that the values of a subcommand make.
+-- The command line, as it is read: the command with its subcommands and arguments, and the request that the values of a
+-- subcommand make.
 use Rattle.std.specs.Prelude.{◌≡◌, ◌⊎◌, List, [], ◌∷◌, Option, None, Some, Result, Ok, Err, IfOk, codes, map, option_map, pos, true, if◌then◌else◌}
 use Rattle.std.specs.Borrow.{Bor}
 use Rattle.std.specs.declared.num.NonZeroU16.{NonZeroU16}
@@ -17,11 +18,11 @@ use Rattle.clap.specs.declared.error.kind.ErrorKind.TheVariants.{MissingSubcomma
 use Rattle.clap.specs.declared.builder.value_parser.ValueParser.TheVariants as parser
 use Rattle.units.specs.declared.level.Direction.{Direction}
 use Rattle.units.specs.declared.level.Direction.TheVariants.{Auto, Ltr, Rtl, AutoRtl}
-use Rattle.bidi.specs.VerdictText.{direction_word}
-use Rattle.bidi.specs.declared.command_line.FileKind.{FileKind}
-use Rattle.bidi.specs.declared.command_line.FileKind.TheVariants.{Classes, Characters}
-use Rattle.bidi.specs.declared.command_line.Request.{Request}
-use Rattle.bidi.specs.declared.command_line.Request.TheVariants.{Levels, Reorder, Judge}
+use Rattle.bidtests.specs.VerdictText.{direction_word}
+use Rattle.bidi.specs.declared.request.FileKind.{FileKind}
+use Rattle.bidi.specs.declared.request.FileKind.TheVariants.{Classes, Characters}
+use Rattle.bidi.specs.declared.request.Request.{Request}
+use Rattle.bidi.specs.declared.request.Request.TheVariants.{Levels, Reorder, Judge}
 
 -- words that a value may be
 abbrev pub Choice : Type 0
@@ -77,11 +78,11 @@ direction_words = codes "auto" ∷ codes "ltr" ∷ codes "rtl" ∷ codes "auto-r
 abbrev pub kind_words : List Text
 kind_words = codes "classes" ∷ codes "characters" ∷ []
 
--- the command, whose three subcommands have these choices; one of them is needed
+-- the command, whose three subcommands have these choices; one of them is needed, but for help and the version
 abbrev pub bidi_app : Choice → Choice → Choice → App
 bidi_app of_levels of_reorder kinds =
     with_subcommand (with_subcommand (with_subcommand
-    (on_top (λ s. record s { subcommand_required = true }) (new_app (codes "bidi")))
+    (on_top (λ s. record s { has_version = true; subcommand_required = true }) (new_app (codes "bidi")))
     (levels_app of_levels).top) (reorder_app of_reorder).top) (judge_app kinds).top
 
 -- the command line of `bidi`
@@ -100,9 +101,9 @@ kind_word Classes = codes "classes"
 kind_word Characters = codes "characters"
 
 -- the direction that a word names: left to right, right to left, auto with right to left, and else auto
-abbrev pub direction_of : Option Text → Direction
-direction_of None = Auto
-direction_of (Some word) =
+abbrev pub direction_named : Option Text → Direction
+direction_named None = Auto
+direction_named (Some word) =
     if bytes_eq word (direction_word Ltr) then Ltr
     else (if bytes_eq word (direction_word Rtl) then Rtl else (if bytes_eq word (direction_word AutoRtl) then AutoRtl else Auto))
 
@@ -124,10 +125,10 @@ ColumnsAre (Some text) columns = ReadsOne ReadsColumns text columns
 -- the values of the subcommand of this name make this request
 abbrev pub AsksFor : Text → List Row → Request → Type 0
 AsksFor name rows (Levels tables direction file) = (name ≡ codes "levels")
-    × (first_of (codes "tables") rows ≡ Some tables.now) × (direction ≡ direction_of (first_of (codes "direction") rows))
+    × (first_of (codes "tables") rows ≡ Some tables.now) × (direction ≡ direction_named (first_of (codes "direction") rows))
     × (first_of (codes "file") rows ≡ Some file.now)
 AsksFor name rows (Reorder tables direction columns file) = (name ≡ codes "reorder")
-    × (first_of (codes "tables") rows ≡ Some tables.now) × (direction ≡ direction_of (first_of (codes "direction") rows))
+    × (first_of (codes "tables") rows ≡ Some tables.now) × (direction ≡ direction_named (first_of (codes "direction") rows))
     × ColumnsAre (one_of (codes "columns") rows) columns × (first_of (codes "file") rows ≡ Some file.now)
 AsksFor name rows (Judge kind tables file) = (name ≡ codes "judge")
     × (kind_named (first_of (codes "kind") rows) ≡ Some kind) × (first_of (codes "tables") rows ≡ option_map (λ folder. folder.now) tables)
@@ -146,7 +147,7 @@ pub record IsRead (words : List Text) (request : Request) : Type 0 where
   pub asked : IsAskedBy (subcommand_of app words) request
 
 -- the words are refused with this kind of error, or ask for help; or they pass and make no request
-pub record IsRefused (words : List Text) (kind : ErrorKind) : Type 0 where
+pub record WordsAreRefused (words : List Text) (kind : ErrorKind) : Type 0 where
   pub app : App
   pub is : IsBidi app
   pub refused : IsAmong kind (fault_of app words) ⊎ ((kind ≡ MissingSubcommand) × ((request : Request) → ¬ (IsAskedBy (subcommand_of app words) request)))
@@ -154,4 +155,4 @@ pub record IsRefused (words : List Text) (kind : ErrorKind) : Type 0 where
 -- what the words are read as: a request, or an error, unless memory was refused
 abbrev pub IsReadAs : List Text → Result Request Error → Type 0
 IsReadAs words (Ok request) = IsRead words request
-IsReadAs words (Err error) = (kind_of error ≡ OutOfMemory) ⊎ IsRefused words (kind_of error)
+IsReadAs words (Err error) = (kind_of error ≡ OutOfMemory) ⊎ WordsAreRefused words (kind_of error)

@@ -1,4 +1,4 @@
--- Files that all have the same bytes, of which a read fails behind the first.
+-- Files and standard input that all have the same bytes, of which a read fails behind the first.
 use Rattle.std.specs.Prelude.{◌≡◌, ℕ, List, ◌++◌}
 use Rattle.std.proofs.Common.{sym, ◌∙◌}
 use Rattle.bidi.specs.ReadFiles.{FileFacts}
@@ -10,9 +10,9 @@ BeginsWith bytes first = (rest : List ℕ) × (bytes ≡ first ++ rest)
 -- what is said of such files, by the bytes that can be read
 abbrev pub failing_facts : List ℕ → FileFacts
 failing_facts readable = record {
-  Begins = λ name most bytes. BeginsWith readable bytes;
-  Holds = λ name most bytes. ⊥;
-  Fails = λ name most bytes. BeginsWith readable bytes;
+  Begins = λ origin most bytes. BeginsWith readable bytes;
+  Holds = λ origin most bytes. ⊥;
+  Fails = λ origin most bytes. BeginsWith readable bytes;
 }
 
 pub begins-given : (readable left now first : List ℕ) → left ≡ readable → left ≡ first ++ now → BeginsWith readable first

@@ -5,13 +5,14 @@ use Rattle.std.specs.Fmt.{decimal}
 use Rattle.std.specs.Io.KnownBytes.{Appends}
 use Rattle.ucdfiles.specs.declared.fault.TableFault.{TableFault}
 use Rattle.ucdfiles.specs.Faults.{name_of}
-use Rattle.bidi.specs.declared.fault.PrintFault.{PrintFault}
-use Rattle.bidi.specs.declared.fault.PrintFault.TheVariants.{Write, Memory}
+use Rattle.printing.specs.declared.fault.PrintFault.{PrintFault}
+use Rattle.printing.specs.declared.fault.PrintFault.TheVariants.{Write, Memory}
 use Rattle.bidi.specs.declared.fault.Fault.{Fault}
 use Rattle.bidi.specs.declared.fault.Fault.TheVariants.{Refused, WordNotUtf8, TablesNeeded, CannotRead, FaultyLine, NotUtf8, CannotWrite, OutOfMemory}
-use Rattle.bidi.specs.VerdictText.{line_feed}
+use Rattle.printing.specs.LevelsText.{line_feed}
 
--- the line that says what is wrong with a line of a table's file: the file's name, the line's number from 1, and the fault's name
+-- the line that says what is wrong with a line of a table's file: the file's name, the line's number from 1, and the
+-- fault's name
 abbrev pub faulty_line_text : List ℕ → ℕ → TableFault → List ℕ
 faulty_line_text name line fault =
     concat (codes "bidi: " ∷ name ∷ codes ": line " ∷ decimal line ∷ codes ": " ∷ name_of fault ∷ line_feed ∷ [])

@@ -1,12 +1,12 @@
--- Files in memory: which has a name, and what a source over it hands out.
+-- Files and standard input in memory: which of them an origin names, and what a source over it hands out.
 use Rattle.std.specs.Prelude.{◌≡◌, ◌≤◌, ℕ, min, List, [], ◌++◌, Option, None, Some, length, find}
 use Rattle.std.specs.Borrow.{Bor}
 use Rattle.std.specs.Io.KnownBytes.{Consumes, IsAtEnd}
 use Rattle.std.specs.Str.{bytes_eq}
 use Rattle.std.proofs.Common.{append-nil, arith, sym, ap, subst, ◌∙◌}
-use Rattle.units.specs.HandsOut.{Reading, HandsOut, HasEnded, failures_of}
+use Rattle.units.specs.HandsOut.{Reading, HasEnded, failures_of}
 use Rattle.units.specs.declared.reader_source.State.TheVariants.{Open}
-use Rattle.bidi.specs.ReadFiles.{FileFacts}
+use Rattle.bidi.specs.ReadFiles.{FileFacts, FileNamed, Gives, Origin, StandardInput}
 
 -- a file: its name, its bytes, and how many of them can be read
 pub record StoredFile : Type 0 where
@@ -17,14 +17,20 @@ pub record StoredFile : Type 0 where
 abbrev pub stored_file : Bor (List ℕ) → Bor (List ℕ) → ℕ → StoredFile
 stored_file name bytes readable = record { name = name.now; bytes = bytes.now; readable = readable }
 
--- the first file of this name
-abbrev pub file_of : List StoredFile → List ℕ → Option StoredFile
-file_of files name = find (λ file. bytes_eq file.name name) files
+-- files, and standard input where there is one
+pub record Stored : Type 0 where
+  pub files : List StoredFile
+  pub input : Option StoredFile
+
+-- standard input, or the first file of the name
+abbrev pub stored_at : Stored → Origin → Option StoredFile
+stored_at stored StandardInput = stored.input
+stored_at stored (FileNamed name) = find (λ file. bytes_eq file.name name) stored.files
 
 -- the file begins with these bytes
-abbrev pub BeginsWith : Option StoredFile → List ℕ → Type 0
-BeginsWith None bytes = ⊥
-BeginsWith (Some file) bytes = (rest : List ℕ) × (file.bytes ≡ bytes ++ rest)
+abbrev pub FileBeginsWith : Option StoredFile → List ℕ → Type 0
+FileBeginsWith None bytes = ⊥
+FileBeginsWith (Some file) bytes = (rest : List ℕ) × (file.bytes ≡ bytes ++ rest)
 
 -- these are the file's bytes, and no more than may be read
 abbrev pub IsWhole : Option StoredFile → ℕ → List ℕ → Type 0
@@ -34,14 +40,14 @@ IsWhole (Some file) most bytes = (bytes ≡ file.bytes) × (length bytes ≤ min
 -- there is no such file, or it begins with these bytes
 abbrev pub StopsBehind : Option StoredFile → List ℕ → Type 0
 StopsBehind None bytes = bytes ≡ []
-StopsBehind (Some file) bytes = BeginsWith (Some file) bytes
+StopsBehind (Some file) bytes = FileBeginsWith (Some file) bytes
 
--- what is said of files in memory
-abbrev pub memory_facts : List StoredFile → FileFacts
-memory_facts files = record {
-  Begins = λ name most bytes. BeginsWith (file_of files name) bytes;
-  Holds = λ name most bytes. IsWhole (file_of files name) most bytes;
-  Fails = λ name most bytes. StopsBehind (file_of files name) bytes;
+-- what is said of files and standard input in memory
+abbrev pub memory_facts : Stored → FileFacts
+memory_facts stored = record {
+  Begins = λ origin most bytes. FileBeginsWith (stored_at stored origin) bytes;
+  Holds = λ origin most bytes. IsWhole (stored_at stored origin) most bytes;
+  Fails = λ origin most bytes. StopsBehind (stored_at stored origin) bytes;
 }
 
 -- a source stands over the file, with its limit, and was not read yet
@@ -49,17 +55,13 @@ abbrev pub StandsOver : Option StoredFile → ℕ → Reading → Type 0
 StandsOver None most source = ⊥
 StandsOver (Some file) most source = (source.remaining ≡ Some file.bytes) × (source.left ≡ min most file.readable) × (source.state ≡ Open)
 
--- a source handed out these bytes on the way from one state to another
-abbrev pub Gives : Reading → List ℕ → Reading → Type 0
-Gives opened bytes now = HandsOut opened.remaining now.remaining opened.left now.left opened.state now.state bytes
-
 first_rest : (known : Option (List ℕ)) (xs bytes : List ℕ) (rest : Option (List ℕ)) → known ≡ Some xs → Consumes known rest bytes
     → (more : List ℕ) × (xs ≡ bytes ++ more)
 first_rest known xs bytes None e h = absurd (subst (λ k. Consumes k None bytes) e h)
 first_rest known xs bytes (Some more) e h = (more, subst (λ k. Consumes k (Some more) bytes) e h)
 
 pub begins-gave : (file : Option StoredFile) (most : ℕ) (opened now : Reading) (bytes : List ℕ)
-    → StandsOver file most opened → Gives opened bytes now → BeginsWith file bytes
+    → StandsOver file most opened → Gives opened bytes now → FileBeginsWith file bytes
 begins-gave None most opened now bytes stands given = absurd stands
 begins-gave (Some file) most opened now bytes stands given = first_rest opened.remaining file.bytes bytes given.first.0 stands.0 given.first.1
 

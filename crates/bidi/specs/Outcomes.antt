@@ -3,9 +3,9 @@ use Rattle.std.specs.Prelude.{◌≡◌, ◌≢◌, ◌⊎◌, ℕ, List, Option
 use Rattle.clap.specs.Values.{kind_of}
 use Rattle.clap.specs.declared.error.Error.{Error}
 use Rattle.clap.specs.declared.error.kind.ErrorKind.TheVariants as kind
-use Rattle.bidi.specs.declared.command_line.FileKind.TheVariants.{Classes, Characters}
-use Rattle.bidi.specs.declared.command_line.Request.{Request}
-use Rattle.bidi.specs.declared.command_line.Request.TheVariants.{Levels, Reorder, Judge}
+use Rattle.bidi.specs.declared.request.FileKind.TheVariants.{Classes, Characters}
+use Rattle.bidi.specs.declared.request.Request.{Request}
+use Rattle.bidi.specs.declared.request.Request.TheVariants.{Levels, Reorder, Judge}
 use Rattle.bidi.specs.declared.fault.Fault.{Fault}
 use Rattle.bidi.specs.declared.fault.Fault.TheVariants.{Refused, CannotWrite, OutOfMemory}
 use Rattle.bidi.specs.declared.outcome.Outcome.{Outcome}
@@ -16,9 +16,9 @@ use Rattle.bidi.specs.Judged.{HasJudged, IsClassesVerdict, IsCharactersVerdict}
 use Rattle.bidi.specs.Printed.{HasPrinted}
 use Rattle.bidi.specs.ReadFiles.{FileFacts}
 use Rattle.bidi.specs.Steps.{FailsIn, steps_of}
-use Rattle.bidi.specs.PrintedTexts.{printed_levels, printed_reorder}
+use Rattle.printing.specs.PrintedTexts.{printed_levels, printed_reorder}
 
--- the exit status: that of the verdict, 0 after a text or help, and that of the fault
+-- the exit status: that of the verdict, 0 after a text, help or the version, and that of the fault
 abbrev pub outcome_status : Result Outcome Fault → ℕ
 outcome_status (Ok (Judged status)) = status
 outcome_status (Ok Printed) = 0
@@ -30,8 +30,8 @@ abbrev pub AsksForHelp : Error → Type 0
 AsksForHelp error = (kind_of error ≡ kind.DisplayHelp) ⊎ (kind_of error ≡ kind.DisplayVersion)
 
 -- the words are read, and refused
-abbrev pub IsRefusal : Error → Type 0
-IsRefusal error = (kind_of error ≢ kind.OutOfMemory) × (kind_of error ≢ kind.DisplayHelp) × (kind_of error ≢ kind.DisplayVersion)
+abbrev pub RefusesWords : Error → Type 0
+RefusesWords error = (kind_of error ≢ kind.OutOfMemory) × (kind_of error ≢ kind.DisplayHelp) × (kind_of error ≢ kind.DisplayVersion)
 
 -- what was asked for is done: the text is printed, or the file is judged, by the tables of the folder that is named
 abbrev pub IsDone : FileFacts → Option (List ℕ) → Option (List ℕ) → Request → Outcome → Type 0
@@ -45,19 +45,19 @@ IsDone files before after (Judge Characters (Some folder) file) (Judged status) 
     HasJudged files (IsCharactersVerdict files folder.now) file.now before after status
 IsDone files before after _ _ = ⊥
 
--- words that are a request come to what it asks for or fail; else help was asked for, or the words are refused and nothing is written
+-- words that are a request come to what it asks for or fail; else help or the version was asked for, or the words are refused and nothing is written
 abbrev pub ComesTo : FileFacts → Option (List ℕ) → Option (List ℕ) → Result Request Error → Result Outcome Fault → Type 0
 ComesTo files before after (Ok request) (Ok outcome) = IsDone files before after request outcome
 ComesTo files before after (Ok request) (Err fault) = FailsIn (steps_of files request) before after fault
 ComesTo files before after (Err error) (Ok Helped) = AsksForHelp error
 ComesTo files before after (Err error) (Ok _) = ⊥
-ComesTo files before after (Err error) (Err (Refused refusal)) = (refusal ≡ error) × IsRefusal error × (after ≡ before)
+ComesTo files before after (Err error) (Err (Refused refusal)) = (refusal ≡ error) × RefusesWords error × (after ≡ before)
 ComesTo files before after (Err error) (Err CannotWrite) = AsksForHelp error
 ComesTo files before after (Err error) (Err OutOfMemory) = (kind_of error ≡ kind.OutOfMemory) ⊎ AsksForHelp error
 ComesTo files before after (Err error) (Err _) = ⊥
 
 -- words that were read so came to what that asks for, and the run ended with its status
-pub record HasEnded (files : FileFacts) (before after : Option (List ℕ)) (read : Result Request Error) (status : ℕ) : Type 0 where
+pub record HasComeTo (files : FileFacts) (before after : Option (List ℕ)) (read : Result Request Error) (status : ℕ) : Type 0 where
   pub outcome : Result Outcome Fault
   pub comes : ComesTo files before after read outcome
   pub status_is : status ≡ outcome_status outcome
@@ -66,4 +66,4 @@ pub record HasEnded (files : FileFacts) (before after : Option (List ℕ)) (read
 pub record HasRun (files : FileFacts) (before after : Option (List ℕ)) (words : List (List ℕ)) (status : ℕ) : Type 0 where
   pub read : Result Request Error
   pub is : IsReadAs words read
-  pub ended : HasEnded files before after read status
+  pub ended : HasComeTo files before after read status

@@ -1,21 +1,37 @@
--- Files that were read, by their names, and the tables that three of them state.
-use Rattle.std.specs.Prelude.{ℕ, ◌^◌, List, [], ◌∷◌, codes}
+-- What was read, from standard input or from files by their names, and the tables that three files state.
+use Rattle.std.specs.Prelude.{ℕ, ◌^◌, List, [], ◌∷◌, codes, if◌then◌else◌}
 use Rattle.std.specs.List.{concat}
+use Rattle.std.specs.Str.{bytes_eq}
+use Rattle.units.specs.HandsOut.{Reading, HandsOut}
 use Rattle.ucdfiles.specs.ClassFile.{StatesClasses}
 use Rattle.ucdfiles.specs.PairFiles.{StatesBrackets, StatesMirrors}
-use Rattle.ucdfiles.specs.Tables.{TablesOf, class_at, bracket_at, glyph_at}
+use Rattle.ucdfiles.specs.Tables.{TablesOf, class_by, bracket_by, glyph_by}
 
--- what is said of a file, by its name, the limit that it is read with, and bytes
-abbrev pub OfFile : Type 1
-OfFile = List ℕ → ℕ → List ℕ → Type 0
+-- a source handed out these bytes on the way from one state to another
+abbrev pub Gives : Reading → List ℕ → Reading → Type 0
+Gives opened bytes now = HandsOut opened.remaining now.remaining opened.left now.left opened.state now.state bytes
 
--- what is said of files: that one begins with these bytes; that it holds them and no more; that it can't be opened, or a read behind them fails
+-- where bytes come from: standard input, or the file of a name
+pub data Origin : Type 0 where
+  StandardInput : Origin
+  FileNamed : List ℕ → Origin
+
+-- what the word FILE of a command line names: `-` standard input, and any other word the file of that name
+abbrev pub origin_of : List ℕ → Origin
+origin_of word = if bytes_eq word (codes "-") then StandardInput else FileNamed word
+
+-- what is said of an origin, by the limit that it is read with, and bytes
+abbrev pub OfOrigin : Type 1
+OfOrigin = Origin → ℕ → List ℕ → Type 0
+
+-- what is said of origins: that one begins with these bytes; that it holds them and no more; that it can't be opened,
+-- or a read behind them fails
 pub record FileFacts : Type 1 where
-  pub Begins : OfFile
-  pub Holds : OfFile
-  pub Fails : OfFile
+  pub Begins : OfOrigin
+  pub Holds : OfOrigin
+  pub Fails : OfOrigin
 
--- nothing is said of any file
+-- nothing is said of any origin
 abbrev pub no_facts : FileFacts
 no_facts = record { Begins = λ _ _ _. ⊥; Holds = λ _ _ _. ⊥; Fails = λ _ _ _. ⊥ }
 
@@ -40,11 +56,11 @@ in_folder folder name = concat (folder ∷ codes "/" ∷ name ∷ [])
 -- the tables are those that the bytes of the folder's three files state, each read whole
 pub record AreTables (files : FileFacts) (folder : List ℕ) (tables : TablesOf) : Type 0 where
   pub class_bytes : List ℕ
-  pub class_file : files.Holds (in_folder folder class_name) most_file_bytes class_bytes
-  pub classes : StatesClasses class_bytes (class_at tables.classes)
+  pub class_file : files.Holds (FileNamed (in_folder folder class_name)) most_file_bytes class_bytes
+  pub classes : StatesClasses class_bytes (class_by tables.classes)
   pub bracket_bytes : List ℕ
-  pub bracket_file : files.Holds (in_folder folder bracket_name) most_file_bytes bracket_bytes
-  pub brackets : StatesBrackets bracket_bytes (bracket_at tables.brackets)
+  pub bracket_file : files.Holds (FileNamed (in_folder folder bracket_name)) most_file_bytes bracket_bytes
+  pub brackets : StatesBrackets bracket_bytes (bracket_by tables.brackets)
   pub mirror_bytes : List ℕ
-  pub mirror_file : files.Holds (in_folder folder mirror_name) most_file_bytes mirror_bytes
-  pub mirrors : StatesMirrors mirror_bytes (glyph_at tables.mirrors)
+  pub mirror_file : files.Holds (FileNamed (in_folder folder mirror_name)) most_file_bytes mirror_bytes
+  pub mirrors : StatesMirrors mirror_bytes (glyph_by tables.mirrors)

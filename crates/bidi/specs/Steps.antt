@@ -4,13 +4,13 @@ use Rattle.std.specs.Str.{IsUtf8}
 use Rattle.ucdfiles.specs.ClassFile.{class_fault}
 use Rattle.ucdfiles.specs.PairFiles.{bracket_fault, mirror_fault}
 use Rattle.ucdfiles.specs.declared.fault.Fault.{Fault as LineFault}
-use Rattle.bidi.specs.declared.command_line.FileKind.TheVariants.{Classes, Characters}
-use Rattle.bidi.specs.declared.command_line.Request.{Request}
-use Rattle.bidi.specs.declared.command_line.Request.TheVariants.{Levels, Reorder, Judge}
+use Rattle.bidi.specs.declared.request.FileKind.TheVariants.{Classes, Characters}
+use Rattle.bidi.specs.declared.request.Request.{Request}
+use Rattle.bidi.specs.declared.request.Request.TheVariants.{Levels, Reorder, Judge}
 use Rattle.bidi.specs.declared.fault.Fault.{Fault}
 use Rattle.bidi.specs.declared.fault.Fault.TheVariants.{TablesNeeded, CannotRead, NotUtf8, CannotWrite, OutOfMemory}
 use Rattle.bidi.specs.Printed.{most_text_bytes}
-use Rattle.bidi.specs.ReadFiles.{FileFacts, class_name, bracket_name, mirror_name, in_folder, most_file_bytes}
+use Rattle.bidi.specs.ReadFiles.{FileFacts, class_name, bracket_name, mirror_name, in_folder, most_file_bytes, origin_of}
 use Rattle.bidi.specs.TableFaults.{EndsTable, IsFaultless}
 
 -- a step: that it is done, and the faults that end it
@@ -32,15 +32,15 @@ IsFirstFault (step ∷ steps) fault = step.EndsBy fault ⊎ (step.Done × IsFirs
 abbrev pub EndsUnnamed : Fault → Type 0
 EndsUnnamed fault = fault ≡ TablesNeeded
 
--- when a fault ends the reading of the file of this name: it can't be opened, a read of it fails, or memory was refused
+-- when a fault ends the reading of what FILE names: it can't be opened, a read of it fails, or memory was refused
 abbrev pub EndsFile : FileFacts → ℕ → List ℕ → Fault → Type 0
-EndsFile files most file (CannotRead unread) = (unread.now ≡ file) × (bytes : List ℕ) × files.Fails file most bytes
+EndsFile files most file (CannotRead unread) = (unread.now ≡ file) × (bytes : List ℕ) × files.Fails (origin_of file) most bytes
 EndsFile files most file OutOfMemory = Unit {0}
 EndsFile files most file _ = ⊥
 
--- when a fault ends the reading of the characters of the file of this name: its bytes are not UTF-8, or memory was refused
+-- when a fault ends the reading of the characters of what FILE names: its bytes are not UTF-8, or memory was refused
 abbrev pub EndsText : FileFacts → List ℕ → Fault → Type 0
-EndsText files file (NotUtf8 named) = (named.now ≡ file) × (bytes : List ℕ) × files.Holds file most_text_bytes bytes × ¬ (IsUtf8 bytes)
+EndsText files file (NotUtf8 named) = (named.now ≡ file) × (bytes : List ℕ) × files.Holds (origin_of file) most_text_bytes bytes × ¬ (IsUtf8 bytes)
 EndsText files file OutOfMemory = Unit {0}
 EndsText files file _ = ⊥
 
@@ -50,7 +50,8 @@ EndsWriting CannotWrite = Unit {0}
 EndsWriting OutOfMemory = Unit {0}
 EndsWriting _ = ⊥
 
--- the fault is that of the first step of reading that fails, and nothing is written; or all is read, and a write or memory failed
+-- the fault is that of the first step of reading that fails, and nothing is written; or all is read, and a write or
+-- memory failed
 abbrev pub FailsIn : List Step → Option (List ℕ) → Option (List ℕ) → Fault → Type 0
 FailsIn steps before after fault = (IsFirstFault steps fault × (after ≡ before)) ⊎ (AreDone steps × EndsWriting fault)
 
@@ -67,17 +68,17 @@ module _ (files : FileFacts) where
   table_steps folder =
       table_step class_fault folder class_name ∷ table_step bracket_fault folder bracket_name ∷ table_step mirror_fault folder mirror_name ∷ []
 
-  -- the reading of the file of this name to its end
+  -- the reading of what FILE names to its end
   abbrev pub file_step : ℕ → List ℕ → Step
   file_step most file = record {
-    Done = (bytes : List ℕ) × files.Holds file most bytes;
+    Done = (bytes : List ℕ) × files.Holds (origin_of file) most bytes;
     EndsBy = EndsFile files most file;
   }
 
   -- the reading of its characters
   abbrev pub characters_step : List ℕ → Step
   characters_step file = record {
-    Done = (bytes : List ℕ) × files.Holds file most_text_bytes bytes × IsUtf8 bytes;
+    Done = (bytes : List ℕ) × files.Holds (origin_of file) most_text_bytes bytes × IsUtf8 bytes;
     EndsBy = EndsText files file;
   }
 

@@ -1,17 +1,13 @@
--- What reading a file of the system came to, by the limit that it was opened with; of its name nothing is known.
+-- What reading a file of the system or its standard input came to, by the limit that it was opened with; of its name nothing is known.
 use Rattle.std.specs.Prelude.{◌≡◌, ◌⊎◌, ℕ, List, []}
-use Rattle.units.specs.HandsOut.{Reading, HandsOut, HasEnded, failures_of}
+use Rattle.units.specs.HandsOut.{Reading, HasEnded, failures_of}
 use Rattle.units.specs.declared.reader_source.State.TheVariants.{Open}
-use Rattle.bidi.specs.ReadFiles.{FileFacts}
+use Rattle.bidi.specs.ReadFiles.{FileFacts, Gives}
 
 -- a source with this limit that was not read yet
 pub record IsOpened (most : ℕ) (source : Reading) : Type 0 where
   pub left : source.left ≡ most
   pub state : source.state ≡ Open
-
--- a source handed out these bytes on the way from one state to another
-abbrev pub Gives : Reading → List ℕ → Reading → Type 0
-Gives opened bytes now = HandsOut opened.remaining now.remaining opened.left now.left opened.state now.state bytes
 
 -- a source was opened with this limit and handed out these bytes
 pub record HasBegun (most : ℕ) (bytes : List ℕ) : Type 0 where
@@ -40,7 +36,7 @@ pub record GaveUp (most : ℕ) (bytes : List ℕ) : Type 0 where
 abbrev pub HasFailed : ℕ → List ℕ → Type 0
 HasFailed most bytes = (bytes ≡ []) ⊎ GaveUp most bytes
 
--- what is said of files of the system
+-- what is said of files of the system and its standard input
 abbrev pub system_facts : FileFacts
 system_facts = record {
   Begins = λ _ most bytes. HasBegun most bytes;

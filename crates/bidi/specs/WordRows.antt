@@ -1,13 +1,15 @@
 -- Worked command lines: the subcommand that the words name, and the values that they give it.
 use Rattle.std.specs.Prelude.{◌≡◌, List, [], ◌∷◌, Option, None, Some, codes, option_map, refl}
 use Rattle.clap.proofs.OnLiterals.{clap_on_literals}
+use Rattle.clap.specs.Faults.{fault_of}
 use Rattle.clap.specs.Simple.{subcommand_of}
 use Rattle.clap.specs.Walk.{Row, Text, first_of, one_of}
+use Rattle.clap.specs.declared.error.kind.ErrorKind.TheVariants.{DisplayVersion}
 use Rattle.units.specs.declared.level.Direction.{Direction}
 use Rattle.units.specs.declared.level.Direction.TheVariants.{Auto, Rtl}
-use Rattle.bidi.specs.CommandLine.{Choice, bidi_app, direction_of, kind_named}
-use Rattle.bidi.specs.declared.command_line.FileKind.{FileKind}
-use Rattle.bidi.specs.declared.command_line.FileKind.TheVariants.{Characters}
+use Rattle.bidi.specs.CommandLine.{Choice, bidi_app, direction_named, kind_named}
+use Rattle.bidi.specs.declared.request.FileKind.{FileKind}
+use Rattle.bidi.specs.declared.request.FileKind.TheVariants.{Characters}
 
 -- a subcommand, with its folder, direction, text of columns, kind and file
 pub record Met : Type 0 where
@@ -22,7 +24,7 @@ abbrev pub met : Text × List Row → Met
 met p = record {
   name = p.0;
   tables = first_of (codes "tables") p.1;
-  direction = direction_of (first_of (codes "direction") p.1);
+  direction = direction_named (first_of (codes "direction") p.1);
   columns = one_of (codes "columns") p.1;
   kind = kind_named (first_of (codes "kind") p.1);
   file = first_of (codes "file") p.1;
@@ -40,6 +42,24 @@ pub levels_words : (a b kinds : Choice) → option_map met (subcommand_of (bidi_
     })
 unfolding clap_on_literals
 levels_words a b kinds = refl
+
+-- standard input
+pub input_words : (a b kinds : Choice) → option_map met (subcommand_of (bidi_app a b kinds)
+    (codes "bidi" ∷ codes "levels" ∷ codes "--tables" ∷ codes "t" ∷ codes "-" ∷ [])) ≡ Some (record {
+      name = codes "levels";
+      tables = Some (codes "t");
+      direction = Auto;
+      columns = None;
+      kind = None;
+      file = Some (codes "-");
+    })
+unfolding clap_on_literals
+input_words a b kinds = refl
+
+-- the version is asked for
+pub version_words : (a b kinds : Choice) → fault_of (bidi_app a b kinds) (codes "bidi" ∷ codes "--version" ∷ []) ≡ DisplayVersion ∷ []
+unfolding clap_on_literals
+version_words a b kinds = refl
 
 -- options in any order, with values behind `=` too
 pub reorder_words : (a b kinds : Choice) → option_map met (subcommand_of (bidi_app a b kinds)

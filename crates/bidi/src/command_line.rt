@@ -1,53 +1,14 @@
-// What the words of a command line ask for.
-ghost use Rattle.std.specs.Prelude.{◌≡◌, List, Some, codes, false, map, option_map, IfOk, IfSome, IfNone};
-ghost use Rattle.clap.specs.Matches.{found_of};
-ghost use Rattle.clap.specs.Simple.{app_of, subcommand_rows_of};
-ghost use Rattle.clap.specs.Walk.{first_of, one_of, rows_of, rule_of, texts};
+// The command line of `bidi`.
+ghost use Rattle.std.specs.Prelude.{◌≡◌, false, IfOk};
+ghost use Rattle.clap.specs.Simple.{app_of};
+ghost use Rattle.clap.specs.Walk.{rule_of};
 ghost use Rattle.clap.specs.declared.builder.command.Command.TheViews.{out-Command as fields_of};
-ghost use Rattle.bidi.specs.CommandLine.{AsksFor, Choice, ColumnsAre, IsAskedBy, IsBidi, IsReadAs};
-ghost use Rattle.bidi.specs.CommandLine.{columns_rule, direction_of, direction_rule, direction_words, file_rule};
-ghost use Rattle.bidi.specs.CommandLine.{judge_app, kind_named, kind_rule, kind_words, levels_app, reorder_app};
-ghost use Rattle.bidi.specs.CommandLine.{tables_rule, words_of};
-ghost use Rattle.bidi.specs.declared.command_line.Request.{Request as RequestOf};
+ghost use Rattle.bidi.specs.CommandLine.{Choice, IsBidi, columns_rule, direction_rule, direction_words, file_rule};
+ghost use Rattle.bidi.specs.CommandLine.{judge_app, kind_rule, kind_words, levels_app, reorder_app, tables_rule};
+ghost use Rattle.bidi.specs.CommandLine.{words_of};
 
-use clap::error::ErrorKind;
-use clap::{Arg, ArgMatches, Command, Error};
+use clap::{Arg, Command};
 use std::alloc::{AllocError, Global};
-use std::num::NonZeroU16;
-use units::level::Direction;
-
-/// The kinds of conformance files.
-#[derive(Clone, Copy, Debug, PartialEq, Eq)]
-pub enum FileKind {
-    /// In the form of BidiTest.txt: the rows are lists of classes.
-    Classes,
-    /// In the form of BidiCharacterTest.txt: the rows are lists of code points.
-    Characters,
-}
-
-/// What the words of a command line ask for. Files and folders are named as they were given.
-#[derive(Clone, Copy, Debug, PartialEq, Eq)]
-pub enum Request<'a> {
-    /// Print the levels of the file's text, by the tables of the folder.
-    Levels {
-        tables: &'a str,
-        direction: Direction,
-        file: &'a str,
-    },
-    /// Print the file's text as it is shown, by the tables of the folder, with a break at every so many columns.
-    Reorder {
-        tables: &'a str,
-        direction: Direction,
-        columns: Option<NonZeroU16>,
-        file: &'a str,
-    },
-    /// Judge a conformance file. The folder of the tables, where it is given, is needed for files of characters alone.
-    Judge {
-        kind: FileKind,
-        tables: Option<&'a str>,
-        file: &'a str,
-    },
-}
 
 const DIRECTIONS: [&str; 4] = ["auto", "ltr", "rtl", "auto-rtl"];
 
@@ -63,6 +24,9 @@ conformance files.
 Ends with status 0 where it is done or the verdict is yes, 1 where the verdict is no,
 2 where the command line is refused, and 3 where a file can't be read, a line of a
 table is faulty, a text is not UTF-8, a write fails or memory is refused.";
+
+const BIDI_VERSION: &str =
+    "(rules P1 to L4 of UAX #9, Unicode 15.0)\nproved with rattle-kit-13b logic dac8208d650f15bf";
 
 const BIDI_EXAMPLE: &str = "Example:\n  bidi levels --tables ucd text.txt";
 
@@ -112,7 +76,7 @@ fn file_argument<'a>(alloc: Global) -> Arg<'a>
     Arg::new(alloc, "file")
         .value_name("FILE")
         .required(true)
-        .help("The file to read")
+        .help("The file to read, or `-` for standard input")
 }
 
 fn tables_argument<'a>(alloc: Global) -> Arg<'a>
@@ -210,7 +174,8 @@ fn judge_command<'a>(alloc: Global) -> Result<Command<'a>, AllocError>
         .arg(file_argument(alloc))
 }
 
-fn bidi_command<'a>(alloc: Global) -> Result<Command<'a>, AllocError>
+/// The command `bidi`, as `clap` reads its words.
+pub fn bidi_command<'a>(alloc: Global) -> Result<Command<'a>, AllocError>
     ensures app { IfOk result (λ command. IsBidi (app_of command)) }
     ensures local { IfOk result (λ command. (fields_of command).has_globals ≡ false) }
 {
@@ -218,93 +183,9 @@ fn bidi_command<'a>(alloc: Global) -> Result<Command<'a>, AllocError>
         .about(BIDI_ABOUT)
         .long_about(BIDI_LONG_ABOUT)
         .after_help(BIDI_EXAMPLE)
+        .version(BIDI_VERSION)
         .subcommand_required(true)
         .subcommand(levels_command(alloc)?)?
         .subcommand(reorder_command(alloc)?)?
         .subcommand(judge_command(alloc)?)
-}
-
-/// The value of an argument, if it has one.
-fn text_of<'a>(matches: &ArgMatches<'a>, id: &str) -> Option<&'a str>
-    ensures { option_map (λ text. text.now) result ≡ first_of id.now (rows_of (found_of matches.now)) }
-{
-    matches.get_str(id)
-}
-
-fn direction_in(matches: &ArgMatches<'_>) -> Direction
-    ensures { result ≡ direction_of (first_of (codes "direction") (rows_of (found_of matches.now))) }
-{
-    match text_of(matches, "direction") {
-        Some("ltr") => Direction::Ltr,
-        Some("rtl") => Direction::Rtl,
-        Some("auto-rtl") => Direction::AutoRtl,
-        _ => Direction::Auto,
-    }
-}
-
-fn columns_in(matches: &ArgMatches<'_>) -> Option<NonZeroU16>
-    ensures { ColumnsAre (one_of (codes "columns") (rows_of (found_of matches.now))) result }
-{
-    matches.get_one::<NonZeroU16>("columns")
-}
-
-fn kind_in(matches: &ArgMatches<'_>) -> Option<FileKind>
-    ensures { result ≡ kind_named (first_of (codes "kind") (rows_of (found_of matches.now))) }
-{
-    match text_of(matches, "kind") {
-        Some("classes") => Some(FileKind::Classes),
-        Some("characters") => Some(FileKind::Characters),
-        _ => None,
-    }
-}
-
-/// What a subcommand of this name asks for, by its arguments.
-fn request_in<'a>(name: &str, matches: &ArgMatches<'a>) -> Option<Request<'a>>
-    ensures some { IfSome result (AsksFor name.now (rows_of (found_of matches.now))) }
-    ensures none { IfNone result ((request : RequestOf)
-        → ¬ (AsksFor name.now (rows_of (found_of matches.now)) request)) }
-{
-    let file = text_of(matches, "file")?;
-    match name {
-        "levels" => Some(Request::Levels {
-            tables: text_of(matches, "tables")?,
-            direction: direction_in(matches),
-            file,
-        }),
-        "reorder" => Some(Request::Reorder {
-            tables: text_of(matches, "tables")?,
-            direction: direction_in(matches),
-            columns: columns_in(matches),
-            file,
-        }),
-        "judge" => Some(Request::Judge {
-            kind: kind_in(matches)?,
-            tables: text_of(matches, "tables"),
-            file,
-        }),
-        _ => None,
-    }
-}
-
-/// What the subcommand that was met asks for.
-fn request_by<'a>(matches: &ArgMatches<'a>) -> Option<Request<'a>>
-    ensures some { IfSome result (IsAskedBy (subcommand_rows_of matches.now)) }
-    ensures none { IfNone result ((request : RequestOf)
-        → ¬ (IsAskedBy (subcommand_rows_of matches.now) request)) }
-{
-    let (name, inner) = matches.subcommand()?;
-    request_in(name, inner)
-}
-
-/// Reads the words of a command line, of which the first is the program's name. Words that are refused, or that ask for
-/// help, are answered as an error with the text for the user.
-pub fn request_of<'a>(alloc: Global, words: &'a [&'a str]) -> Result<Request<'a>, Error>
-    ensures { IsReadAs (texts words.now) result }
-{
-    let mut command = bidi_command(alloc)?;
-    let matches = command.try_get_matches_from_mut(words)?;
-    match request_by(&matches) {
-        Some(request) => Ok(request),
-        None => Err(command.error(ErrorKind::MissingSubcommand, "a subcommand is needed")?),
-    }
 }

@@ -3,42 +3,12 @@ ghost use Rattle.std.specs.Prelude.{◌≡◌, OnOk};
 ghost use Rattle.std.specs.Io.KnownBytes.{Appends};
 ghost use Rattle.bidi.specs.FaultText.{SaysFault, fault_status, faulty_line_text};
 
+use printing::fault::PrintFault;
 use std::alloc::AllocError;
 use std::io;
 use std::io::Write;
 use ucdfiles::fault::TableFault;
 use units::memory::Memory;
-
-/// Why a text was not printed whole.
-#[derive(Clone, Copy, Debug, PartialEq, Eq)]
-pub enum PrintFault {
-    /// A write failed. How much went out before is not known.
-    Write,
-    /// Memory was refused.
-    Memory,
-}
-
-impl From<io::Error> for PrintFault {
-    ghost use Rattle.std.specs.Prelude.{◌≡◌};
-    ghost use Rattle.bidi.specs.declared.fault.PrintFault.TheVariants.{Write};
-
-    ghost from_gives = { λ _ fault. fault ≡ Write };
-
-    fn from(_error: io::Error) -> Self {
-        Self::Write
-    }
-}
-
-impl From<Memory> for PrintFault {
-    ghost use Rattle.std.specs.Prelude.{◌≡◌};
-    ghost use Rattle.bidi.specs.declared.fault.PrintFault.TheVariants as print_fault;
-
-    ghost from_gives = { λ _ fault. fault ≡ print_fault.Memory };
-
-    fn from(_memory: Memory) -> Self {
-        Self::Memory
-    }
-}
 
 /// Why a run did not end well.
 #[derive(Debug, Drop)]
@@ -63,6 +33,17 @@ pub enum Fault<'a> {
     CannotWrite,
     /// Memory was refused.
     OutOfMemory,
+}
+
+impl From<io::Error> for Fault<'_> {
+    ghost use Rattle.std.specs.Prelude.{◌≡◌};
+    ghost use Rattle.bidi.specs.declared.fault.Fault.TheVariants.{CannotWrite};
+
+    ghost from_gives = { λ _ fault. fault ≡ CannotWrite };
+
+    fn from(_error: io::Error) -> Self {
+        Fault::CannotWrite
+    }
 }
 
 impl From<PrintFault> for Fault<'_> {

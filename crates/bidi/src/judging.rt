@@ -3,17 +3,17 @@ ghost use Rattle.std.specs.Prelude.{◌≡◌, ◌≤◌, ℕ, List, [], IfOk, I
 ghost use Rattle.units.specs.Limits.{standard};
 ghost use Rattle.bidtests.specs.CharactersFile.{characters_verdict};
 ghost use Rattle.bidtests.specs.ClassesFile.{classes_verdict};
-ghost use Rattle.bidtests.specs.FileKinds.{unit_by, verdict_of};
+ghost use Rattle.bidtests.specs.FileKinds.{verdict_of};
+ghost use Rattle.ucdfiles.specs.Tables.{unit_by};
 ghost use Rattle.bidtests.specs.Standing.{Judges};
 ghost use Rattle.bidtests.specs.declared.kind.Kind.{Kind};
-ghost use Rattle.bidi.specs.Judged.{EndsJudging, SaysVerdict};
-ghost use Rattle.bidi.specs.VerdictText.{verdict_status};
+ghost use Rattle.bidi.specs.Judged.{EndsJudging, SaysVerdict, verdict_status};
 
 use crate::fault::Fault;
-use crate::verdict_line::print_verdict;
 use bidtests::judge::Judge;
 use bidtests::reader::judge_reader;
 use bidtests::verdict::Verdict;
+use bidtests::verdict_line::print_verdict;
 use std::alloc::Global;
 use std::io::Write;
 use ucdfiles::tables::Tables;

@@ -1,26 +1,19 @@
 //! The command `bidi`: lays out bidirectional text, and judges conformance files of the bidirectional algorithm.
 #![tactic(auto)]
 
-mod columns;
 mod command_line;
 mod fault;
 mod files;
 mod judging;
-mod layout_text;
 mod opening;
 mod outcome;
 mod performing;
-mod position_line;
-mod print;
 mod reading;
-#[cfg(test)]
-mod reorder_tests;
-mod reorder_text;
+mod request;
 mod run;
 mod table_files;
 #[cfg(test)]
 mod tests;
-mod verdict_line;
 
 use fault::Fault;
 use files::SystemFiles;

@@ -9,12 +9,12 @@ pub enum Outcome {
     Judged(u8),
     /// A text was printed, by its levels or as it is shown.
     Printed,
-    /// Help was printed, as the words asked.
+    /// Help or the version was printed, as the words asked.
     Helped,
 }
 
 impl Outcome {
-    /// The exit status: that of the verdict, and 0 after a text or help.
+    /// The exit status: that of the verdict, and 0 after a text, help or the version.
     pub fn status(self) -> u8
         ensures { result ≡ outcome_status (Ok self) }
     {

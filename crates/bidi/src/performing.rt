@@ -1,29 +1,31 @@
 // What a request asks for, done.
 ghost use Rattle.std.specs.Prelude.{◌≡◌, ◌≤◌, ℕ, List, [], ◌∷◌, length, IfOk, IfErr, OnOk};
 ghost use Rattle.std.specs.Str.{chars, IsUtf8};
+ghost use Rattle.units.specs.Layout.{longest_text};
 ghost use Rattle.bidi.specs.Judged.{HasJudged, IsCharactersVerdict, IsClassesVerdict};
 ghost use Rattle.bidi.specs.Outcomes.{IsDone};
+ghost use Rattle.bidi.specs.declared.request.Request.TheVariants.{Judge};
 ghost use Rattle.bidi.specs.Printed.{HasPrinted, most_text_bytes};
-ghost use Rattle.bidi.specs.PrintedTexts.{printed_levels, printed_reorder};
-ghost use Rattle.bidi.specs.ReadFiles.{most_file_bytes};
+ghost use Rattle.printing.specs.PrintedTexts.{printed_levels, printed_reorder};
+ghost use Rattle.bidi.specs.ReadFiles.{most_file_bytes, origin_of};
 ghost use Rattle.bidi.specs.Steps.{FailsIn, IsFirstFault, characters_steps, file_step};
 ghost use Rattle.bidi.specs.Steps.{printing_steps, steps_of, text_steps};
 
-use crate::command_line::{FileKind, Request};
 use crate::fault::Fault;
 use crate::files::Files;
 use crate::judging::{judge_characters, judge_classes};
 use crate::opening::{MOST_FILE_BYTES, MOST_TEXT_BYTES, open};
 use crate::outcome::Outcome;
-use crate::print::{print_levels, print_reorder};
 use crate::reading::read_text;
+use crate::request::{FileKind, Request};
 use crate::table_files::read_tables;
+use printing::print::{print_levels, print_reorder};
 use std::alloc::Global;
 use std::io::Write;
 use std::num::NonZeroU16;
 use units::level::Direction;
 
-/// Judges the file of this name, whose rows are lists of classes, and answers the verdict's exit status.
+/// Judges what FILE names, whose rows are lists of classes, and answers the verdict's exit status.
 fn judge_file_of_classes<'a, F: Files, W: Write>(
     alloc: Global,
     file: &'a str,
@@ -35,11 +37,11 @@ fn judge_file_of_classes<'a, F: Files, W: Write>(
     ensures fault { IfErr result (FailsIn (file_step (F.facts files.now) most_file_bytes file.now ∷ [])
         (W.contents out.old) (W.contents out.new)) }
 {
-    let mut source = open(alloc, files, file, file, MOST_FILE_BYTES)?;
+    let mut source = open(alloc, files, file, MOST_FILE_BYTES)?;
     judge_classes(alloc, &mut source, file, out)
 }
 
-/// Judges the file of this name, whose rows are lists of code points, by the tables of the folder, which are read
+/// Judges what FILE names, whose rows are lists of code points, by the tables of the folder, which are read
 /// first. Answers the verdict's exit status.
 fn judge_file_of_characters<'a, F: Files, W: Write>(
     alloc: Global,
@@ -55,28 +57,52 @@ fn judge_file_of_characters<'a, F: Files, W: Write>(
         (W.contents out.old) (W.contents out.new)) }
 {
     let tables = read_tables(alloc, files, folder)?;
-    let mut source = open(alloc, files, file, file, MOST_FILE_BYTES)?;
+    let mut source = open(alloc, files, file, MOST_FILE_BYTES)?;
     judge_characters(alloc, &tables, &mut source, file, out)
 }
 
-/// The text in the file of this name.
+/// Judges what FILE names, as a file of this kind. Where tables are needed and none are named, nothing is opened.
+fn judge_file<'a, F: Files, W: Write>(
+    alloc: Global,
+    kind: FileKind,
+    tables: Option<&'a str>,
+    file: &'a str,
+    files: &F,
+    out: &mut W,
+) -> Result<Outcome, Fault<'a>>
+    ensures done { IfOk result (IsDone (F.facts files.now)
+        (W.contents out.old) (W.contents out.new) (Judge kind tables.entry file.entry)) }
+    ensures fault { IfErr result (FailsIn (steps_of (F.facts files.now) (Judge kind tables.entry file.entry))
+        (W.contents out.old) (W.contents out.new)) }
+{
+    let status = match (kind, tables) {
+        (FileKind::Classes, _) => judge_file_of_classes(alloc, file, files, out)?,
+        (FileKind::Characters, Some(folder)) => {
+            judge_file_of_characters(alloc, folder, file, files, out)?
+        }
+        (FileKind::Characters, None) => return Err(Fault::TablesNeeded),
+    };
+    Ok(Outcome::Judged(status))
+}
+
+/// The text in what FILE names.
 fn text_in_file<'a, F: Files>(
     alloc: Global,
     file: &'a str,
     files: &F,
 ) -> Result<Vec<char>, Fault<'a>>
     ensures text { IfOk result (λ text. (bytes : List ℕ)
-        × (F.facts files.now).Holds file.now most_text_bytes bytes
+        × (F.facts files.now).Holds (origin_of file.now) most_text_bytes bytes
         × IsUtf8 bytes × (text.items ≡ chars bytes)) }
-    ensures bound { IfOk result (λ text. length text.items ≤ 16777216) }
+    ensures bound { IfOk result (λ text. length text.items ≤ longest_text) }
     ensures fault { IfErr result
         (IsFirstFault (text_steps (F.facts files.now) file.now)) }
 {
-    let mut source = open(alloc, files, file, file, MOST_TEXT_BYTES)?;
+    let mut source = open(alloc, files, file, MOST_TEXT_BYTES)?;
     read_text(alloc, &mut source, file)
 }
 
-/// Prints the levels of the text in the file of this name, by the tables of the folder, which are read first.
+/// Prints the levels of the text in what FILE names, by the tables of the folder, which are read first.
 fn print_levels_of_file<'a, F: Files, W: Write>(
     alloc: Global,
     folder: &str,
@@ -97,8 +123,8 @@ fn print_levels_of_file<'a, F: Files, W: Write>(
     Ok(())
 }
 
-/// Prints the text in the file of this name as it is shown, with breaks at the columns, by the tables of the folder,
-/// which are read first.
+/// Prints the text in what FILE names as it is shown, with breaks at the columns, by the tables of the folder, which
+/// are read first.
 fn print_reorder_of_file<'a, F: Files, W: Write>(
     alloc: Global,
     folder: &str,
@@ -120,7 +146,7 @@ fn print_reorder_of_file<'a, F: Files, W: Write>(
     Ok(())
 }
 
-/// Does what is asked for. Where tables are needed and none are named, no file is opened.
+/// Does what is asked for.
 pub fn perform<'a, F: Files, W: Write>(
     alloc: Global,
     request: Request<'a>,
@@ -150,20 +176,6 @@ pub fn perform<'a, F: Files, W: Write>(
             print_reorder_of_file(alloc, tables, direction, columns, file, files, out)?;
             Ok(Outcome::Printed)
         }
-        Request::Judge {
-            kind: FileKind::Classes,
-            file,
-            ..
-        } => Ok(Outcome::Judged(judge_file_of_classes(alloc, file, files, out)?)),
-        Request::Judge {
-            kind: FileKind::Characters,
-            tables: Some(folder),
-            file,
-        } => Ok(Outcome::Judged(judge_file_of_characters(alloc, folder, file, files, out)?)),
-        Request::Judge {
-            kind: FileKind::Characters,
-            tables: None,
-            ..
-        } => Err(Fault::TablesNeeded),
+        Request::Judge { kind, tables, file } => judge_file(alloc, kind, tables, file, files, out),
     }
 }

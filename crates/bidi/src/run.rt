@@ -1,19 +1,20 @@
 // A run of the command.
 ghost use Rattle.std.specs.Prelude.{◌≡◌, ◌≤◌, Ok, Err, IfOk, IfErr};
-ghost use Rattle.bidi.specs.Outcomes.{ComesTo, HasEnded, HasRun, IsDone};
+ghost use Rattle.bidi.specs.Outcomes.{ComesTo, HasComeTo, HasRun, IsDone};
 ghost use Rattle.bidi.specs.CommandLine.{IsRead};
 ghost use Rattle.clap.specs.Walk.{texts};
 ghost use Rattle.bidi.specs.ReadFiles.{no_facts};
 ghost use Rattle.bidi.specs.Steps.{FailsIn, steps_of};
-ghost use Rattle.bidi.specs.declared.command_line.Request.{Request};
+ghost use Rattle.bidi.specs.declared.request.Request.{Request};
 
-use crate::command_line::{Request, request_of};
-use crate::fault::{Fault, PrintFault};
+use crate::fault::Fault;
 use crate::files::Files;
 use crate::outcome::Outcome;
 use crate::performing::perform;
+use crate::request::{Request, request_of};
 use clap::error::ErrorKind;
 use std::alloc::Global;
+use std::io;
 use std::io::Write;
 
 /// Does what is asked for, with all that was written handed on.
@@ -35,14 +36,13 @@ fn perform_and_flush<'a, F: Files, W: Write>(
     Ok(outcome)
 }
 
-/// Writes the text of help.
-fn print_help<W: Write>(out: &mut W, help: &clap::Error) -> Result<(), PrintFault> {
+/// Writes the text of help or of the version.
+fn print_help<W: Write>(out: &mut W, help: &clap::Error) -> io::Result<()> {
     write!(out, "{help}")?;
-    out.flush()?;
-    Ok(())
+    out.flush()
 }
 
-/// What words that are no request lead to: help, or the fault that is to be said.
+/// What words that are no request lead to: help, the version, or the fault that is to be said.
 fn outcome_of_error<'a, W: Write>(error: clap::Error, out: &mut W) -> Result<Outcome, Fault<'a>>
     ensures { ComesTo no_facts (W.contents out.old) (W.contents out.new) (Err error) result }
 {
@@ -81,7 +81,7 @@ fn run_as_read<'a, F: Files, W: Write, E: Write>(
     err: &mut E,
 ) -> u8
     ensures status { result ≤ 3 }
-    ensures ended { HasEnded (F.facts files.now) (W.contents out.old) (W.contents out.new) read.entry result }
+    ensures ended { HasComeTo (F.facts files.now) (W.contents out.old) (W.contents out.new) read.entry result }
     ensures no { result ≡ 1 → (request : Request) × (read.entry ≡ Ok request)
         × IsDone (F.facts files.now) (W.contents out.old) (W.contents out.new) request (Outcome.Judged 1) }
 {
@@ -92,9 +92,9 @@ fn run_as_read<'a, F: Files, W: Write, E: Write>(
 }
 
 /// Does what the words of a command line ask for, the first word being the program's name, and answers the exit
-/// status: 0 after a yes or help, 1 after a no, 2 where the words are refused or name no tables though they are
-/// needed, 3 where a file can't be read, a table is faulty, a write fails or memory is refused. After 2 and 3 `err`
-/// has a line that says so, if it took it.
+/// status: 0 after a yes, help or the version, 1 after a no, 2 where the words are refused or name no tables though
+/// they are needed, 3 where a file or standard input can't be read, a table is faulty, a write fails or memory is
+/// refused. After 2 and 3 `err` has a line that says so, if it took it.
 pub fn run<F: Files, W: Write, E: Write>(
     alloc: Global,
     words: &[&str],

@@ -2,15 +2,16 @@
 ghost use Rattle.std.specs.Prelude.{◌≡◌, ℕ, List, [], IfOk, IfErr};
 ghost use Rattle.ucdfiles.specs.ClassFile.{class_fault, StatesClasses};
 ghost use Rattle.ucdfiles.specs.PairFiles.{bracket_fault, mirror_fault, StatesBrackets, StatesMirrors};
-ghost use Rattle.ucdfiles.specs.Tables.{class_at, bracket_at, glyph_at};
+ghost use Rattle.ucdfiles.specs.Tables.{class_by, bracket_by, glyph_by};
 ghost use Rattle.bidi.specs.FaultText.{EndsOpening};
-ghost use Rattle.bidi.specs.ReadFiles.{AreTables, class_name, bracket_name, mirror_name, in_folder, most_file_bytes};
+ghost use Rattle.bidi.specs.ReadFiles.{AreTables, FileNamed, class_name, bracket_name};
+ghost use Rattle.bidi.specs.ReadFiles.{in_folder, mirror_name, most_file_bytes};
 ghost use Rattle.bidi.specs.Steps.{IsFirstFault, table_steps};
 ghost use Rattle.bidi.specs.TableFaults.{EndsTable, table_fault};
 
 use crate::fault::Fault;
 use crate::files::Files;
-use crate::opening::{MOST_FILE_BYTES, open};
+use crate::opening::{MOST_FILE_BYTES, open_file};
 use std::alloc::Global;
 use ucdfiles::bracket_table::BracketTable;
 use ucdfiles::class_table::ClassTable;
@@ -31,12 +32,12 @@ fn open_table<F: Files>(
     folder: &str,
     name: &'static str,
 ) -> Result<F::Source, Fault<'static>>
-    ensures opened { IfOk result (F.opens files.now (in_folder folder.now name.now) most_file_bytes) }
+    ensures opened { IfOk result (F.opens files.now (FileNamed (in_folder folder.now name.now)) most_file_bytes) }
     ensures fault { IfErr result
-        (EndsOpening ((F.facts files.now).Fails (in_folder folder.now name.now) most_file_bytes []) name.now) }
+        (EndsOpening ((F.facts files.now).Fails (FileNamed (in_folder folder.now name.now)) most_file_bytes []) name.now) }
 {
     let path = format!(in alloc; "{folder}/{name}")?;
-    open(alloc, files, path.as_str(), name, MOST_FILE_BYTES)
+    open_file(alloc, files, path.as_str(), name, MOST_FILE_BYTES)
 }
 
 /// How the fault of the table's file of this name is said.
@@ -57,8 +58,8 @@ fn read_classes<F: Files>(
     folder: &str,
 ) -> Result<ClassTable, Fault<'static>>
     ensures ok { IfOk result (λ table. (bytes : List ℕ)
-        × (F.facts files.now).Holds (in_folder folder.now class_name) most_file_bytes bytes
-        × StatesClasses bytes (class_at table)) }
+        × (F.facts files.now).Holds (FileNamed (in_folder folder.now class_name)) most_file_bytes bytes
+        × StatesClasses bytes (class_by table)) }
     ensures err { IfErr result (EndsTable
         (F.facts files.now) class_fault
         (in_folder folder.now class_name) class_name) }
@@ -77,8 +78,8 @@ fn read_brackets<F: Files>(
     folder: &str,
 ) -> Result<BracketTable, Fault<'static>>
     ensures ok { IfOk result (λ table. (bytes : List ℕ)
-        × (F.facts files.now).Holds (in_folder folder.now bracket_name) most_file_bytes bytes
-        × StatesBrackets bytes (bracket_at table)) }
+        × (F.facts files.now).Holds (FileNamed (in_folder folder.now bracket_name)) most_file_bytes bytes
+        × StatesBrackets bytes (bracket_by table)) }
     ensures err { IfErr result (EndsTable
         (F.facts files.now) bracket_fault
         (in_folder folder.now bracket_name) bracket_name) }
@@ -97,8 +98,8 @@ fn read_mirrors<F: Files>(
     folder: &str,
 ) -> Result<MirrorTable, Fault<'static>>
     ensures ok { IfOk result (λ table. (bytes : List ℕ)
-        × (F.facts files.now).Holds (in_folder folder.now mirror_name) most_file_bytes bytes
-        × StatesMirrors bytes (glyph_at table)) }
+        × (F.facts files.now).Holds (FileNamed (in_folder folder.now mirror_name)) most_file_bytes bytes
+        × StatesMirrors bytes (glyph_by table)) }
     ensures err { IfErr result (EndsTable
         (F.facts files.now) mirror_fault
         (in_folder folder.now mirror_name) mirror_name) }

@@ -2,8 +2,8 @@
 use Rattle.std.proofs.Common.{◌≡◌, ◌<◌, ◌↔◌, ℕ, Result, Ok, Err, IsOk, refl, subst}
 use Rattle.std.proofs.Math.Nat.{lt_irrefl}
 use Rattle.std.specs.Prelude.{IfErr}
-use Rattle.bidi_c.specs.Statuses.{IsRefused, code_of, place_of}
-use Rattle.bidi_c.specs.declared.refusal.Refusal.{Refusal}
+use Rattle.bidi_held.specs.Statuses.{IsRefused, code_of, place_of}
+use Rattle.bidi_held.specs.declared.refusal.Refusal.{Refusal}
 
 -- a call is refused for the reason for which what it was to do is refused
 pub refused_as : {X : Type 0} (Refuses : Refusal → Type 0) (done : Result X Refusal) (number place : ℕ) → ((number ≡ 0) ↔ IsOk done)

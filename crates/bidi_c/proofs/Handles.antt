@@ -23,7 +23,7 @@ use Rattle.std.proofs.alloc.Global.TheLaws as heap_laws
 use Rattle.std.specs.contracts.impls.GlobalAllocator.TheImpl.{ghosts}
 use Rattle.std_alloc.specs.Box.Ownership.{box_owns}
 use Rattle.bidi_c.specs.Kept.{kept}
-use Rattle.bidi_c.specs.contracts.held.Held as inner
+use Rattle.bidi_held.specs.contracts.held.Held as inner
 use Rattle.bidi_c.specs.contracts.handle.Handle as outer
 use Rattle.bidi_c.proofs.Values.{both, al, and_tt}
 

@@ -24,9 +24,9 @@ use Rattle.paragraph.specs.contracts.resolver.Resolver as resolver
 use Rattle.lines.specs.contracts.scratch.Scratch as scratch
 use Rattle.bidtests.specs.contracts.sheet.Sheet as sheet
 use Rattle.bidtests.specs.contracts.state.JudgeState as state
-use Rattle.bidi_c.specs.contracts.room.Room as room
-use Rattle.bidi_c.specs.contracts.judge.TableJudge as judge
-use Rattle.bidi_c.specs.contracts.held.Held as held
+use Rattle.bidi_held.specs.contracts.room.Room as room
+use Rattle.bidi_held.specs.contracts.judge.TableJudge as judge
+use Rattle.bidi_held.specs.contracts.held.Held as held
 
 class_sent : IsSend class.the_row
 class_sent = search (sendable, crosses) depth 80

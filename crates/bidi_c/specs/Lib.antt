@@ -1,14 +1,2 @@
--- What handles own, and what the exports say.
+-- What handles own.
 pub mod Kept
-pub mod Statuses
-pub mod Texts
-pub mod Holdings
-pub mod LimitsGiven
-pub mod Refusals
-pub mod RefusedCalls
-pub mod MadeTables
-pub mod LaidOut
-pub mod LinesOut
-pub mod Visual
-pub mod Judged
-pub mod JudgeCalls

@@ -2,8 +2,8 @@
 ghost use Rattle.std.specs.Prelude.{◌≡◌, ◌≢◌, ◌↔◌, IsSome, Some, None, true, MatchOption};
 
 use crate::handle::Handle;
-use crate::held::Held;
 use crate::loose::Loose;
+use bidi_held::held::Held;
 use std::alloc::Global;
 use std::mem::replace;
 
@@ -36,7 +36,8 @@ impl BidiHandle {
 
     /// What it holds, taken out of it.
     pub(crate) fn take(&mut self, alloc: Global) -> Option<Box<Held>>
-        ensures held { MatchOption result (self.old.handle.value ≡ None) (λ held. self.old.handle.value ≡ Some held.value) }
+        ensures held { MatchOption result (self.old.handle.value ≡ None)
+            (λ held. self.old.handle.value ≡ Some held.value) }
         ensures empty { self.new.handle.value ≡ None }
     {
         if !self.made {

@@ -1,9 +1,9 @@
 // What a handle holds as its pointer, in a form that C can keep.
 ghost use Rattle.std.specs.Prelude.{◌≡◌, Option, IsSome, Some, None};
-ghost use Rattle.bidi_c.specs.declared.held.Held.{Held as HeldOf};
+ghost use Rattle.bidi_held.specs.declared.held.Held.{Held as HeldOf};
 
-use crate::held::Held;
 use crate::loose::Loose;
+use bidi_held::held::Held;
 use std::alloc::Global;
 use std::marker::Model;
 use std::ptr::null_mut;
@@ -18,7 +18,7 @@ pub struct Handle {
 
 impl Model for Handle {
     ghost use Rattle.bidi_c.specs.Kept.{kept};
-    ghost use Rattle.bidi_c.specs.contracts.held.Held.{the_row};
+    ghost use Rattle.bidi_held.specs.contracts.held.Held.{the_row};
 
     ghost also_owns = { λ h. kept the_row h.alloc h.at h.value };
 }

@@ -6,15 +6,10 @@
 
 pub mod bidi_handle;
 pub mod handle;
-pub mod held;
-pub mod judge;
 pub mod judge_calls;
 pub mod laying_out;
-pub mod limits;
 pub mod looking_up;
 mod loose;
-pub mod refusal;
-pub mod room;
 pub mod room_calls;
 pub mod tables_calls;
 pub mod visual;

@@ -1,14 +1,14 @@
 // Rooms made and freed.
 ghost use Rattle.std.specs.Prelude.{◌≡◌, ◌<◌, None, Some, IfErr, OnOk, OnErr};
 ghost use Rattle.std.specs.Option.{unwrap_or};
-ghost use Rattle.bidi_c.specs.Holdings.{capacity_in};
-ghost use Rattle.bidi_c.specs.RefusedCalls.{RefusesRoom};
-ghost use Rattle.bidi_c.specs.Statuses.{IsRefusedFor};
+ghost use Rattle.bidi_held.specs.Holdings.{capacity_in};
+ghost use Rattle.bidi_held.specs.RefusedCalls.{RefusesRoom};
+ghost use Rattle.bidi_held.specs.Statuses.{IsRefusedFor};
 
 use crate::bidi_handle::BidiHandle;
-use crate::held::Held;
-use crate::refusal::{DONE, Refusal, of_room};
-use crate::room::Room;
+use bidi_held::held::Held;
+use bidi_held::refusal::{DONE, Refusal, of_room};
+use bidi_held::room::Room;
 use std::alloc::Global;
 
 fn make_room(alloc: Global, n: usize, room: &mut BidiHandle) -> Result<(), Refusal>

@@ -1,179 +1,15 @@
-// A line from left to right: the places of its positions, its runs, and its characters as they are shown.
-ghost use Rattle.std.specs.Prelude.{◌≡◌, ◌≢◌, ◌≤◌, ◌<◌, ◌+◌, ◌↔◌, ◌⊎◌, ℕ, true, false, Some, Err, IfOk, IfErr, length, take, drop, slice_index, slice_index_or};
-ghost use Rattle.std.specs.Option.{unwrap_or};
+// A line from left to right, copied out.
+ghost use Rattle.std.specs.Prelude.{◌≡◌, ◌≤◌, ◌<◌, IfOk, IfErr, length, take, drop};
 ghost use Rattle.std.specs.List.{All};
 ghost use Rattle.std.specs.Char.{IsScalar};
-ghost use Rattle.units.specs.Reordering.{is_odd_level, shown_of};
-ghost use Rattle.ucdfiles.specs.Tables.{glyph_at};
-ghost use Rattle.lines.specs.Layouts.{view_of, no_line};
-ghost use Rattle.bidi_c.specs.Holdings.{layout_held, line_held, tables_in};
-ghost use Rattle.bidi_c.specs.Statuses.{IsRefusedFor};
-ghost use Rattle.bidi_c.specs.Visual.{IsPlace, ArePlaces, IsRun, RefusesRun, span_of, shown_line, byte_at};
+ghost use Rattle.bidi_held.specs.Holdings.{layout_held, line_held, tables_in};
+ghost use Rattle.bidi_held.specs.Statuses.{IsRefusedFor};
+ghost use Rattle.bidi_held.specs.Visual.{ArePlaces, IsRun, RefusesRun, span_of, shown_line};
 
 use crate::bidi_handle::BidiHandle;
-use crate::held::Held;
-use crate::looking_up::byte_of;
-use crate::refusal::{DONE, Refusal};
-use crate::tables_calls::mirror_image;
-use lines::layout::Layout;
+use bidi_held::refusal::{DONE, Refusal};
+use bidi_held::visual_lines::{BidiRun, run_of, show, write_places_of};
 use std::alloc::Global;
-use ucdfiles::tables::Tables;
-use units::level::Level;
-
-/// A run of a line: positions of one level that stand side by side.
-#[repr(C)]
-#[derive(Clone, Copy)]
-pub struct BidiRun {
-    /// Its least position.
-    pub start: usize,
-    /// How many positions of the text it spans, the removed ones between its own included.
-    pub length: usize,
-    /// How many places of the line it takes.
-    pub shown: usize,
-    /// Its level; where it is odd, its positions stand in falling order.
-    pub level: u8,
-}
-
-/// Writes the place of each position from `start` on, so many as `out` is long, in the order of a line.
-fn write_places(order: &[usize], start: usize, out: &mut [usize])
-    ensures len { length out.new ≡ length out.old }
-    ensures places { (i : ℕ) → i < length out.old → IsPlace order.now (length order.now) (start + i) (slice_index out.new i) }
-{
-    out.fill(usize::MAX);
-    for place in 0..order.len() {
-        let position = order[place];
-        if start <= position && position - start < out.len() {
-            out[position - start] = place;
-        }
-    }
-}
-
-/// The first place behind `from` whose position has another level, or the order's length.
-fn run_end(levels: &[Option<Level>], order: &[usize], from: usize) -> usize
-    requires inside { All (λ p. p < length levels.now) order.now }
-    requires some { from < length order.now }
-    ensures behind { from < result }
-    ensures inside { result ≤ length order.now }
-    ensures same { (i : ℕ) → from ≤ i → i < result → byte_at levels.now order.now i ≡ byte_at levels.now order.now from }
-    ensures ends { result < length order.now → byte_at levels.now order.now result ≢ byte_at levels.now order.now from }
-{
-    let level = byte_of(levels[order[from]]);
-    for end in from + 1..order.len() {
-        if byte_of(levels[order[end]]) != level {
-            return end;
-        }
-    }
-    order.len()
-}
-
-/// The run of the order that begins at a place.
-fn run_from(levels: &[Option<Level>], order: &[usize], from: usize) -> BidiRun
-    requires inside { All (λ p. p < length levels.now) order.now }
-    requires some { from < length order.now }
-    ensures { IsRun levels.now order.now from result }
-{
-    let end = run_end(levels, order, from);
-    let first = order[from];
-    let last = order[end - 1];
-    let start = first.min(last);
-    BidiRun {
-        start,
-        length: first.max(last) - start + 1,
-        shown: end - from,
-        level: byte_of(levels[first]),
-    }
-}
-
-/// A character of this level as it is shown (L4).
-fn shown_code(tables: &Tables, level: Option<Level>, code: u32) -> u32
-    ensures even { is_odd_level level ≡ false → result ≡ code }
-    ensures odd { is_odd_level level ≡ true → IsScalar code → result ≡ unwrap_or (glyph_at tables.now.mirrors code) code }
-{
-    match level {
-        Some(level) if level.get() % 2 == 1 => mirror_image(tables, code),
-        _ => code,
-    }
-}
-
-/// Writes a line's characters as they are shown, mirrored where their level is odd (L4).
-fn write_shown(
-    tables: &Tables,
-    levels: &[Option<Level>],
-    codes: &[u32],
-    order: &[usize],
-    out: &mut [u32],
-)
-    requires inside { All (λ p. p < length levels.now) order.now }
-    requires codes { length codes.now ≡ length levels.now }
-    requires place { length order.now ≤ length out.old }
-    ensures len { length out.new ≡ length out.old }
-    ensures behind { drop (length order.now) out.new ≡ drop (length order.now) out.old }
-    ensures shown { All IsScalar codes.now → take (length order.now) out.new ≡ shown_of (glyph_at tables.now.mirrors) levels.now codes.now order.now }
-{
-    for i in 0..order.len() {
-        out[i] = shown_code(tables, levels[order[i]], codes[order[i]]);
-    }
-}
-
-/// Writes the places of the positions of the line with the number `k`, if all have place there. It answers how many
-/// positions the line has.
-fn write_places_of(layout: &Layout<'_>, k: usize, out: &mut [usize]) -> usize
-    ensures count { result ≡ span_of (slice_index_or (view_of layout.now).lines k no_line) }
-    ensures places { result ≤ length out.old → ArePlaces (slice_index_or (view_of layout.now).lines k no_line) out.new }
-    ensures behind { drop result out.new ≡ drop result out.old }
-    ensures kept { length out.old < result → out.new ≡ out.old }
-{
-    if layout.line_count() <= k {
-        return 0;
-    }
-    let line = layout.line(k);
-    let count = line.end - line.start;
-    if count <= out.len() {
-        write_places(line.order, line.start, &mut out[..count]);
-    }
-    count
-}
-
-/// The run of the line with the number `k` that begins at a place, if there are such a line and place.
-fn run_of(layout: &Layout<'_>, k: usize, from: usize) -> Result<BidiRun, Refusal>
-    ensures run { IfOk result (IsRun (view_of layout.now).levels (slice_index_or (view_of layout.now).lines k no_line).order from) }
-    ensures no_line { (result ≡ Err Refusal.NoLine) ↔ (length (view_of layout.now).lines ≤ k) }
-    ensures no_place { result ≡ Err Refusal.NoPlace → length (slice_index_or (view_of layout.now).lines k no_line).order ≤ from }
-    ensures only { IfErr result (λ refusal. (refusal ≡ Refusal.NoLine) ⊎ (refusal ≡ Refusal.NoPlace)) }
-{
-    if layout.line_count() <= k {
-        return Err(Refusal::NoLine);
-    }
-    let order = layout.line(k).order;
-    if order.len() <= from {
-        return Err(Refusal::NoPlace);
-    }
-    Ok(run_from(layout.levels(), order, from))
-}
-
-/// Writes the characters of the line with the number `k` as they are shown, if all have place there; `codes` are those
-/// of the whole text. It answers how many there are.
-fn write_shown_of(
-    layout: &Layout<'_>,
-    tables: &Tables,
-    codes: &[u32],
-    k: usize,
-    out: &mut [u32],
-) -> usize
-    ensures count { result ≡ length (shown_line (view_of layout.now) (Some tables.now) codes.now k) }
-    ensures shown { All IsScalar codes.now → result ≤ length out.old → take result out.new ≡ shown_line (view_of layout.now) (Some tables.now) codes.now k }
-    ensures behind { drop result out.new ≡ drop result out.old }
-    ensures kept { length out.old < result → out.new ≡ out.old }
-{
-    if layout.line_count() <= k || codes.len() != layout.levels().len() {
-        return 0;
-    }
-    let order = layout.line(k).order;
-    if order.len() <= out.len() {
-        write_shown(tables, layout.levels(), codes, order, out);
-    }
-    order.len()
-}
 
 /// How many positions the line with the number `k` has, 0 where there is no such line. The place of each in the order
 /// of the line is written to `places`, if all have place there: `SIZE_MAX` where a position was removed (X9). The
@@ -209,7 +45,8 @@ fn look_up_run(
     from: usize,
 ) -> Result<BidiRun, Refusal>
     ensures room { room.new.handle.value ≡ room.old.handle.value }
-    ensures run { IfOk result (IsRun (layout_held room.old.handle.value).levels (line_held room.old.handle.value k).order from) }
+    ensures run { IfOk result (IsRun (layout_held room.old.handle.value).levels
+        (line_held room.old.handle.value k).order from) }
     ensures refused { IfErr result (RefusesRun room.old.handle.value k from) }
 {
     let Some(held) = room.take(alloc) else {
@@ -234,7 +71,8 @@ pub extern "C" fn bidi_run(
     run: &mut BidiRun,
 ) -> u32
     ensures room { room.new.handle.value ≡ room.old.handle.value }
-    ensures run { result ≡ 0 → IsRun (layout_held room.old.handle.value).levels (line_held room.old.handle.value k).order from run.new }
+    ensures run { result ≡ 0 → IsRun (layout_held room.old.handle.value).levels
+        (line_held room.old.handle.value k).order from run.new }
     ensures kept { 0 < result → run.new ≡ run.old }
     ensures refused { 0 < result → IsRefusedFor (RefusesRun room.old.handle.value k from) result }
 {
@@ -245,22 +83,6 @@ pub extern "C" fn bidi_run(
         }
         Err(refusal) => refusal.code(),
     }
-}
-
-fn show(room: &Held, tables: &Held, codes: &[u32], k: usize, out: &mut [u32]) -> usize
-    ensures count { result ≡ length (shown_line (layout_held (Some room.now)) (tables_in (Some tables.now)) codes.now k) }
-    ensures shown { All IsScalar codes.now → result ≤ length out.old
-        → take result out.new ≡ shown_line (layout_held (Some room.now)) (tables_in (Some tables.now)) codes.now k }
-    ensures behind { drop result out.new ≡ drop result out.old }
-    ensures kept { length out.old < result → out.new ≡ out.old }
-{
-    let Some(layout) = room.layout() else {
-        return 0;
-    };
-    let Some(tables) = tables.tables() else {
-        return 0;
-    };
-    write_shown_of(&layout, tables, codes, k, out)
 }
 
 /// How many characters of the line with the number `k` are shown. They are written to `shown`, if all have place
@@ -278,9 +100,11 @@ pub extern "C" fn bidi_shown(
 ) -> usize
     ensures room { room.new.handle.value ≡ room.old.handle.value }
     ensures tables { tables.new.handle.value ≡ tables.old.handle.value }
-    ensures count { result ≡ length (shown_line (layout_held room.old.handle.value) (tables_in tables.old.handle.value) codes.now k) }
+    ensures count { result ≡ length (shown_line (layout_held room.old.handle.value)
+        (tables_in tables.old.handle.value) codes.now k) }
     ensures written { All IsScalar codes.now → result ≤ length shown.old
-        → take result shown.new ≡ shown_line (layout_held room.old.handle.value) (tables_in tables.old.handle.value) codes.now k }
+        → take result shown.new ≡ shown_line (layout_held room.old.handle.value)
+        (tables_in tables.old.handle.value) codes.now k }
     ensures behind { drop result shown.new ≡ drop result shown.old }
     ensures unwritten { length shown.old < result → shown.new ≡ shown.old }
 {

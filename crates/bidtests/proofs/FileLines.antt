@@ -13,9 +13,10 @@ use Rattle.bidtests.specs.declared.kind.Kind.{Kind}
 use Rattle.bidtests.specs.declared.kind.Kind.TheVariants.{Classes, Characters}
 use Rattle.bidtests.specs.declared.verdict.Cause.TheVariants.{LineTooLong}
 use Rattle.bidtests.specs.Verdicts.{Finding, Faulty}
-use Rattle.bidtests.specs.ClassesFile.{ClassesLine, classes_line, finding, findings_behind, levels_in_force, order_in_force, level_item, order_item}
-use Rattle.bidtests.specs.CharactersFile.{character_item, direction_field, para_field, row_claims, row_with, row_of_fields, line_of_content, characters_line}
-use Rattle.bidtests.specs.FileKinds.{unit_by, findings_by}
+use Rattle.bidtests.specs.ClassesFile.{ClassesLine, classes_line, comes_to, findings_behind, levels_in_force, order_in_force, level_item, order_item}
+use Rattle.bidtests.specs.CharactersFile.{character_item, direction_field, para_field, characters_row_as_read, characters_row_of_items, characters_row, characters_content, characters_line}
+use Rattle.bidtests.specs.FileKinds.{findings_by}
+use Rattle.ucdfiles.specs.Tables.{unit_by}
 use Rattle.bidtests.specs.Headline.{line_comes_to}
 use Rattle.bidtests.proofs.LineByLine.{length-findings}
 use Rattle.bidtests.proofs.Places.{same-held}
@@ -28,7 +29,7 @@ earlier-lines line lines earlier =
 
 -- what a line of a classes file comes to behind those before it, the nearest of them first
 abbrev behind : List ClassesLine → List ℕ → Finding
-behind earlier line = finding (levels_in_force earlier) (order_in_force earlier) (classes_line line)
+behind earlier line = comes_to (levels_in_force earlier) (order_in_force earlier) (classes_line line)
 
 found-behind : (earlier : List ClassesLine) (lines : List (List ℕ)) (k : ℕ) → k < length lines
     → slice_get (findings_behind earlier (map classes_line lines)) k ≡ Some (behind (reverse (map classes_line (take k lines)) ++ earlier) (slice_index_or lines k []))
@@ -48,7 +49,7 @@ line-found (Characters tables) lines k lt =
 
 module _ (unit_of : ℕ → BidiUnit) where
   claims-ordered : (text : Option (List BidiUnit)) (direction : Option Direction) (para : Option ParaLevel) (levels : Option (List (Option ℕ))) (order : Option (List ℕ))
-      → IsOrdered (row_claims text direction para levels order)
+      → IsOrdered (characters_row_as_read text direction para levels order)
   claims-ordered None direction para levels order = tt
   claims-ordered (Some text) None para levels order = tt
   claims-ordered (Some text) (Some direction) None levels order = tt
@@ -56,13 +57,13 @@ module _ (unit_of : ℕ → BidiUnit) where
   claims-ordered (Some text) (Some direction) (Some para) (Some levels) None = tt
   claims-ordered (Some text) (Some direction) (Some para) (Some levels) (Some order) = one-direction direction
 
-  items-ordered : (items : List (List ℕ)) (direction para levels order : List ℕ) → IsOrdered (row_with direction_field unit_of items direction para levels order)
+  items-ordered : (items : List (List ℕ)) (direction para levels order : List ℕ) → IsOrdered (characters_row_of_items direction_field unit_of items direction para levels order)
   items-ordered [] direction para levels order = tt
   items-ordered (item ∷ items) direction para levels order =
       claims-ordered (each_read (character_item unit_of) (item ∷ items)) (direction_field direction) (para_field para)
       (each_read level_item (items_of levels)) (each_read order_item (items_of order))
 
-  fields-ordered : (fields : List (List ℕ)) → IsOrdered (row_of_fields unit_of fields)
+  fields-ordered : (fields : List (List ℕ)) → IsOrdered (characters_row unit_of fields)
   fields-ordered [] = tt
   fields-ordered (a ∷ []) = tt
   fields-ordered (a ∷ b ∷ []) = tt
@@ -71,14 +72,14 @@ module _ (unit_of : ℕ → BidiUnit) where
   fields-ordered (characters ∷ direction ∷ para ∷ levels ∷ order ∷ []) = items-ordered (items_of characters) direction para levels order
   fields-ordered (a ∷ b ∷ c ∷ d ∷ e ∷ f ∷ fields) = tt
 
-  content-ordered : (content : List ℕ) → IsOrdered (line_of_content direction_field unit_of content)
+  content-ordered : (content : List ℕ) → IsOrdered (characters_content direction_field unit_of content)
   content-ordered [] = tt
   content-ordered (b ∷ bs) = fields-ordered (fields_of (b ∷ bs))
 
   characters-ordered : (line : List ℕ) → IsOrdered (characters_line unit_of line)
   unfolding characters_line
   characters-ordered line =
-      if-either IsOrdered (nat_lt longest_line (length line)) (Faulty LineTooLong) (line_of_content direction_field unit_of (content_of line)) tt (content-ordered (content_of line))
+      if-either IsOrdered (nat_lt longest_line (length line)) (Faulty LineTooLong) (characters_content direction_field unit_of (content_of line)) tt (content-ordered (content_of line))
 
 line-ordered : (kind : Kind) (lines : List (List ℕ)) (k : ℕ) → IsOrdered (line_comes_to kind lines k)
 line-ordered Classes lines k =

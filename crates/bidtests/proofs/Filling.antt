@@ -1,6 +1,6 @@
 -- A list that is filled with the items of a field.
 use Rattle.std.proofs.Common.{◌≡◌, ℕ, ◌+◌, ◌*◌, ◌<◌, ◌≤◌, true, false, Option, None, Some, List, [], ◌∷◌, ◌++◌, length, refl, sym, ap, ◌∙◌, arith, append_assoc, append-nil, length-append}
-use Rattle.units.specs.Text.{items_of, each_read, joined}
+use Rattle.units.specs.Text.{items_of, each_read, both_read}
 use Rattle.bidtests.specs.Readings.{if_read}
 
 -- these items, and what is read behind them
@@ -22,7 +22,7 @@ module _ {A : Type 0} (reading : List ℕ → Option A) where
   pub Fills-none : (field : List ℕ) → Fills field field []
   Fills-none field = record { read = none-behind (each_read reading (items_of field)); room = omega arith; more = λ h. omega arith }
 
-  joined-behind : (items : List A) (v : A) (o : Option (List A)) → read_behind (items ++ v ∷ []) o ≡ read_behind items (joined (Some v) o)
+  joined-behind : (items : List A) (v : A) (o : Option (List A)) → read_behind (items ++ v ∷ []) o ≡ read_behind items (both_read (Some v) o)
   joined-behind items v None = refl
   joined-behind items v (Some xs) = ap (λ ys. Some ys) (append_assoc items (v ∷ []) xs)
 
@@ -30,7 +30,7 @@ module _ {A : Type 0} (reading : List ℕ → Option A) where
       → read_behind (items ++ v ∷ []) (each_read reading (items_of rest)) ≡ read_behind items (each_read reading (items_of left))
   read-more left item rest items v e r =
       joined-behind items v (each_read reading (items_of rest))
-      ∙ ap (λ o. read_behind items (joined o (each_read reading (items_of rest)))) r
+      ∙ ap (λ o. read_behind items (both_read o (each_read reading (items_of rest)))) r
       ∙ ap (λ its. read_behind items (each_read reading its)) (sym e)
 
   pub Fills-more : (field left item rest : List ℕ) (items more : List A) (v : A) → Fills field left items → items_of left ≡ item ∷ items_of rest → Some v ≡ reading item
@@ -54,4 +54,4 @@ module _ {A : Type 0} (reading : List ℕ → Option A) where
   pub Fills-fault : (field left item rest : List ℕ) (items : List A) → Fills field left items → items_of left ≡ item ∷ items_of rest → None ≡ reading item
       → if_read false items ≡ each_read reading (items_of field)
   Fills-fault field left item rest items fills e r =
-      ap (λ o. read_behind items (joined o (each_read reading (items_of rest)))) r ∙ ap (λ its. read_behind items (each_read reading its)) (sym e) ∙ fills.read
+      ap (λ o. read_behind items (both_read o (each_read reading (items_of rest)))) r ∙ ap (λ its. read_behind items (each_read reading its)) (sym e) ∙ fills.read

@@ -13,10 +13,10 @@ use Rattle.bidtests.specs.declared.kind.Kind.TheVariants.{Classes, Characters}
 use Rattle.bidtests.specs.declared.verdict.Cause.TheVariants.{BitSet, DirectionField}
 use Rattle.bidtests.specs.declared.verdict.Verdict.TheVariants.{Malformed}
 use Rattle.bidtests.specs.Verdicts.{Finding, Faulty}
-use Rattle.bidtests.specs.ClassesFile.{ClassesLine, Broken, bit_set, unit_item, level_item, order_item, row_of, row_with, data_line_by, line_of_content, classes_line, findings_behind, classes_verdict}
-use Rattle.bidtests.specs.CharactersFile.{character_item, direction_field, para_field, row_claims, row_of_fields_by, characters_line, characters_verdict}
-use Rattle.bidtests.specs.CharactersFile as characters
-use Rattle.bidtests.specs.FileKinds.{unit_by, verdict_of}
+use Rattle.bidtests.specs.ClassesFile.{ClassesLine, Broken, bit_set, unit_item, level_item, order_item, classes_row_as_read, classes_row_of_items, classes_row_by, classes_content, classes_line, findings_behind, classes_verdict}
+use Rattle.bidtests.specs.CharactersFile.{character_item, direction_field, para_field, characters_row_as_read, characters_row_by, characters_line, characters_verdict, characters_content, characters_row_of_items}
+use Rattle.bidtests.specs.FileKinds.{verdict_of}
+use Rattle.ucdfiles.specs.Tables.{unit_by}
 use Rattle.bidtests.specs.ThreeDirections.{one_digit, zero_to_two, three_classes_line, three_characters_line, three_verdict_of}
 use Rattle.bidtests.proofs.SameUpTo.{AreSameUpTo, verdict-same}
 
@@ -71,26 +71,26 @@ direction_fields field = elim (cases_Bool (bytes_eq field (codes "0"))) [
 abbrev IsLineAlike : ClassesLine → ClassesLine → Type 0
 IsLineAlike few all = (few ≡ Broken BitSet) ⊎ (few ≡ all)
 
-row_of-alike : (text : Option (List BidiUnit)) (few all : Option (List Direction)) → IsSameOrNone few all → IsLineAlike (row_of text few) (row_of text all)
-row_of-alike None few all h = inr refl
-row_of-alike (Some text) few all (inl none) = inl (rw none refl)
-row_of-alike (Some text) few all (inr same) = inr (rw same refl)
+classes_row_as_read-alike : (text : Option (List BidiUnit)) (few all : Option (List Direction)) → IsSameOrNone few all → IsLineAlike (classes_row_as_read text few) (classes_row_as_read text all)
+classes_row_as_read-alike None few all h = inr refl
+classes_row_as_read-alike (Some text) few all (inl none) = inl (rw none refl)
+classes_row_as_read-alike (Some text) few all (inr same) = inr (rw same refl)
 
-row_with-alike : (names : List (List ℕ)) (bits : List ℕ) → IsLineAlike (row_with one_digit names bits) (row_with bit_set names bits)
-row_with-alike [] bits = inr refl
-row_with-alike (name ∷ names) bits = row_of-alike (each_read unit_item (name ∷ names)) (one_digit bits) (bit_set bits) (bit_sets bits)
+classes_row_of_items-alike : (names : List (List ℕ)) (bits : List ℕ) → IsLineAlike (classes_row_of_items one_digit names bits) (classes_row_of_items bit_set names bits)
+classes_row_of_items-alike [] bits = inr refl
+classes_row_of_items-alike (name ∷ names) bits = classes_row_as_read-alike (each_read unit_item (name ∷ names)) (one_digit bits) (bit_set bits) (bit_sets bits)
 
-data_line-alike : (fields : List (List ℕ)) → IsLineAlike (data_line_by one_digit fields) (data_line_by bit_set fields)
-data_line-alike [] = inr refl
-data_line-alike (names ∷ []) = inr refl
-data_line-alike (names ∷ bits ∷ []) = row_with-alike (items_of names) bits
-data_line-alike (names ∷ bits ∷ more ∷ fields) = inr refl
+classes_row_by-alike : (fields : List (List ℕ)) → IsLineAlike (classes_row_by one_digit fields) (classes_row_by bit_set fields)
+classes_row_by-alike [] = inr refl
+classes_row_by-alike (names ∷ []) = inr refl
+classes_row_by-alike (names ∷ bits ∷ []) = classes_row_of_items-alike (items_of names) bits
+classes_row_by-alike (names ∷ bits ∷ more ∷ fields) = inr refl
 
-content-alike : (content : List ℕ) → IsLineAlike (line_of_content one_digit content) (line_of_content bit_set content)
+content-alike : (content : List ℕ) → IsLineAlike (classes_content one_digit content) (classes_content bit_set content)
 content-alike [] = inr refl
 content-alike (b ∷ bs) = elim (cases_Bool (b == 64)) [
   | inl at ↦ inr (rw at refl)
-  | inr other ↦ rw other (data_line-alike (fields_of (b ∷ bs)))
+  | inr other ↦ rw other (classes_row_by-alike (fields_of (b ∷ bs)))
 ]
 
 line-alike : (line : List ℕ) → IsLineAlike (three_classes_line line) (classes_line line)
@@ -113,20 +113,20 @@ abbrev IsRowAlike : Finding → Finding → Type 0
 IsRowAlike few all = (few ≡ Faulty DirectionField) ⊎ (few ≡ all)
 
 claims-alike : (text : Option (List BidiUnit)) (few all : Option Direction) (para : Option ParaLevel) (levels : Option (List (Option ℕ))) (order : Option (List ℕ)) → IsSameOrNone few all
-    → IsRowAlike (row_claims text few para levels order) (row_claims text all para levels order)
+    → IsRowAlike (characters_row_as_read text few para levels order) (characters_row_as_read text all para levels order)
 claims-alike None few all para levels order h = inr refl
 claims-alike (Some text) few all para levels order (inl none) = inl (rw none refl)
 claims-alike (Some text) few all para levels order (inr same) = inr (rw same refl)
 
 module _ (unit_of : ℕ → BidiUnit) where
   characters-alike : (items : List (List ℕ)) (direction para levels order : List ℕ)
-      → IsRowAlike (characters.row_with zero_to_two unit_of items direction para levels order) (characters.row_with direction_field unit_of items direction para levels order)
+      → IsRowAlike (characters_row_of_items zero_to_two unit_of items direction para levels order) (characters_row_of_items direction_field unit_of items direction para levels order)
   characters-alike [] direction para levels order = inr refl
   characters-alike (item ∷ items) direction para levels order =
       claims-alike (each_read (character_item unit_of) (item ∷ items)) (zero_to_two direction) (direction_field direction) (para_field para)
       (each_read level_item (items_of levels)) (each_read order_item (items_of order)) (direction_fields direction)
 
-  fields-alike : (fields : List (List ℕ)) → IsRowAlike (row_of_fields_by zero_to_two unit_of fields) (row_of_fields_by direction_field unit_of fields)
+  fields-alike : (fields : List (List ℕ)) → IsRowAlike (characters_row_by zero_to_two unit_of fields) (characters_row_by direction_field unit_of fields)
   fields-alike [] = inr refl
   fields-alike (a ∷ []) = inr refl
   fields-alike (a ∷ b ∷ []) = inr refl
@@ -135,7 +135,7 @@ module _ (unit_of : ℕ → BidiUnit) where
   fields-alike (characters ∷ direction ∷ para ∷ levels ∷ order ∷ []) = characters-alike (items_of characters) direction para levels order
   fields-alike (a ∷ b ∷ c ∷ d ∷ e ∷ f ∷ fields) = inr refl
 
-  written-alike : (content : List ℕ) → IsRowAlike (characters.line_of_content zero_to_two unit_of content) (characters.line_of_content direction_field unit_of content)
+  written-alike : (content : List ℕ) → IsRowAlike (characters_content zero_to_two unit_of content) (characters_content direction_field unit_of content)
   written-alike [] = inr refl
   written-alike (b ∷ bs) = fields-alike (fields_of (b ∷ bs))
 

@@ -6,8 +6,7 @@ use Rattle.std.proofs.lemmas.Bool.{lt-ltb, false≢true}
 use Rattle.std.specs.Borrow.{Bor}
 use Rattle.units.specs.LineCutting.{Cutting, StandsFor}
 use Rattle.units.specs.Limits.{LimitsOf}
-use Rattle.units.specs.Lines.{EndsByFeed, IsLine, CutsInto, IsTooLongAfter}
-use Rattle.units.specs.Lines.{ended_lines}
+use Rattle.units.specs.Lines.{EndsByFeed, IsLine, CutsInto, IsTooLongAfter, line_number, ended_lines}
 use Rattle.units.specs.LineAnswers.{Answers, Finishes}
 use Rattle.units.specs.declared.line_cut.Step.{Step}
 use Rattle.units.specs.declared.line_cut.Step.TheVariants.{More, Line, TooLong}
@@ -18,13 +17,13 @@ use Rattle.units.specs.Text.{lines_of}
 use Rattle.bidtests.specs.declared.verdict.Verdict.{Verdict}
 use Rattle.bidtests.specs.declared.verdict.Verdict.TheVariants.{Yes, Malformed}
 use Rattle.bidtests.specs.declared.verdict.Cause.TheVariants.{LineTooLong}
-use Rattle.bidtests.specs.Verdicts.{line_number, verdict_on}
+use Rattle.bidtests.specs.Verdicts.{verdict_on}
 use Rattle.bidtests.specs.declared.kind.Kind.{Kind}
 use Rattle.bidtests.specs.declared.kind.Kind.TheVariants.{Classes, Characters}
 use Rattle.bidtests.specs.ClassesFile.{classes_line, classes_verdict}
 use Rattle.bidtests.specs.CharactersFile.{characters_line, characters_verdict}
 use Rattle.bidtests.specs.FileKinds.{findings_by, verdict_of}
-use Rattle.bidtests.specs.Standing.{Standing, at_start, Judging, Judges, IsBehind, IsOpen, JudgesBy, fault_at, fault_by, after_line, after_step, fault_or_yes, verdict_behind}
+use Rattle.bidtests.specs.Standing.{Standing, at_start, Judging, Judges, IsBehind, IsOpen, JudgesBy, no_at, no_by, after_line, after_step, no_or_yes, verdict_behind}
 use Rattle.bidtests.proofs.LineByLine.{verdict-fault, verdict-yes, behind-line, behind-none}
 use Rattle.bidtests.proofs.Lines.{lines_of-more, lines_of-empty, lines_of-rest, lines_of-over}
 
@@ -36,14 +35,14 @@ verdict-of limits (Characters tables) bytes = refl
 verdict-by : (limits : LimitsOf) (kind : Kind) (bytes : List ℕ) (lines : List (List ℕ)) → lines_of bytes ≡ lines → verdict_of limits kind bytes ≡ verdict_on limits (findings_by kind lines)
 verdict-by limits kind bytes lines e = verdict-of limits kind bytes ∙ ap (λ ls. verdict_on limits (findings_by kind ls)) e
 
-over_long : (kind : Kind) (line : List ℕ) → 65536 < length line → (s : Standing) (number : ℕ) → fault_at kind s number line ≡ Some (Malformed number LineTooLong)
+over_long : (kind : Kind) (line : List ℕ) → 65536 < length line → (s : Standing) (number : ℕ) → no_at kind s number line ≡ Some (Malformed number LineTooLong)
 unfolding classes_line characters_line
 over_long Classes line long s number = rw (lt-ltb 65536 (length line) long) refl
 over_long (Characters tables) line long s number = rw (lt-ltb 65536 (length line) long) refl
 
 module _ (limits : LimitsOf) (kind : Kind) (s : Standing) (lines : List (List ℕ)) (h : IsBehind limits kind s lines) where
   decided-line : (b : List ℕ) (line : List ℕ) (v : Verdict) → CutsInto b (lines ++ line ∷ []) []
-      → fault_at kind s (line_number (length lines)) line ≡ Some v → (more : List ℕ) → verdict_of limits kind (b ++ more) ≡ v
+      → no_at kind s (line_number (length lines)) line ≡ Some v → (more : List ℕ) → verdict_of limits kind (b ++ more) ≡ v
   decided-line b line v cut e more =
       verdict-by limits kind (b ++ more) _ (lines_of-more b (lines ++ line ∷ []) more cut ∙ append_assoc lines (line ∷ []) (lines_of more))
       ∙ verdict-fault limits kind s lines line h v e (lines_of more)
@@ -55,7 +54,7 @@ module _ (limits : LimitsOf) (kind : Kind) (s : Standing) (lines : List (List �
 
   -- a line that has ended, by whether it has a fault
   ends-line : (fault : Option Verdict) (new : Cutting) (t : Standing) (b line : List ℕ) → StandsFor new b → CutsInto b (lines ++ line ∷ []) []
-      → fault_at kind s (line_number (length lines)) line ≡ fault → (fault ≡ None → t ≡ after_line kind line s) → JudgesBy limits kind fault new t b
+      → no_at kind s (line_number (length lines)) line ≡ fault → (fault ≡ None → t ≡ after_line kind line s) → JudgesBy limits kind fault new t b
   ends-line None new t b line stands cut e after = record {
     cutter = stands;
     lines = lines ++ line ∷ [];
@@ -75,8 +74,8 @@ module _ (limits : LimitsOf) (kind : Kind) (old new : Cutting) (s t : Standing) 
   abbrev ended-old : ended_lines b ≡ o.lines
   ended-old = ended_lines-CutsInto b o.lines o.rest o.cut
 
-  pub judges-on : (step : Step) → Answers b piece used step → (fault_by kind s step ≡ None → t ≡ after_step kind step s)
-      → JudgesBy limits kind (fault_by kind s step) new t (b ++ take used piece)
+  pub judges-on : (step : Step) → Answers b piece used step → (no_by kind s step ≡ None → t ≡ after_step kind step s)
+      → JudgesBy limits kind (no_by kind s step) new t (b ++ take used piece)
   judges-on More a after =
       let all : take used piece ≡ piece = take_all used piece (omega (arith, a.1)) in
       let C : List ℕ → Type 0 = λ xs. CutsInto (b ++ xs) a.3.0 a.3.1 in
@@ -91,8 +90,8 @@ module _ (limits : LimitsOf) (kind : Kind) (old new : Cutting) (s t : Standing) 
       let D : List (List ℕ) → Type 0 = λ ls. CutsInto (b ++ take used piece) ls [] in
       let count : length a.2.0 ≡ length o.lines = same_count a.2.0 o.lines text.now same in
       let is : number ≡ line_number (length o.lines) = a.2.2 ∙ ap (λ n. line_number n) count in
-      ends-line limits kind s o.lines o.behind (fault_at kind s number text.now) new t (b ++ take used piece) text.now stands (subst D same a.2.1)
-      (ap (λ n. fault_at kind s n text.now) (sym is)) after
+      ends-line limits kind s o.lines o.behind (no_at kind s number text.now) new t (b ++ take used piece) text.now stands (subst D same a.2.1)
+      (ap (λ n. no_at kind s n text.now) (sym is)) after
   judges-on (TooLong number) a after = λ more.
       let same : a.0 ≡ o.lines = lines-before b piece used o.lines a.0 o.rest within through o.cut a.1 in
       let D : List (List ℕ) → Type 0 = λ ls. IsTooLongAfter (b ++ take used piece) ls in
@@ -108,7 +107,7 @@ verdict-decided limits kind v c s b j = sym (j []) ∙ ap (verdict_of limits kin
 
 last-fault : (limits : LimitsOf) (kind : Kind) (s : Standing) (lines : List (List ℕ)) (last b : List ℕ) → IsBehind limits kind s lines
     → verdict_of limits kind b ≡ verdict_on limits (findings_by kind (lines ++ last ∷ [])) → (fault : Option Verdict)
-    → fault_at kind s (line_number (length lines)) last ≡ fault → fault_or_yes fault (after_line kind last s) ≡ verdict_of limits kind b
+    → no_at kind s (line_number (length lines)) last ≡ fault → no_or_yes fault (after_line kind last s) ≡ verdict_of limits kind b
 last-fault limits kind s lines last b h whole None e =
     sym (whole ∙ verdict-yes limits kind (after_line kind last s) (lines ++ last ∷ []) (behind-line limits kind s lines last h e))
 last-fault limits kind s lines last b h whole (Some v) e = sym (whole ∙ verdict-fault limits kind s lines last h v e [])
@@ -130,18 +129,18 @@ module _ (limits : LimitsOf) (kind : Kind) (c : Cutting) (s : Standing) (b : Lis
         f.1.2 ∙ ap (λ (ls : List (List ℕ)). line_number (length ls)) same,
       )
 
-  last-by : (number : ℕ) (last : Bor (List ℕ)) → Finishes b (Some (number, last)) → (fault : Option Verdict) → fault_at kind s number last.now ≡ fault
-      → fault_or_yes fault (after_line kind last.now s) ≡ verdict_of limits kind b
+  last-by : (number : ℕ) (last : Bor (List ℕ)) → Finishes b (Some (number, last)) → (fault : Option Verdict) → no_at kind s number last.now ≡ fault
+      → no_or_yes fault (after_line kind last.now s) ≡ verdict_of limits kind b
   last-by number last f fault e =
       let l = last-lines number last f in
-      let at : fault_at kind s (line_number (length o.lines)) last.now ≡ fault = ap (λ n. fault_at kind s n last.now) (sym l.1) ∙ e in
+      let at : no_at kind s (line_number (length o.lines)) last.now ≡ fault = ap (λ n. no_at kind s n last.now) (sym l.1) ∙ e in
       let whole : verdict_of limits kind b ≡ verdict_on limits (findings_by kind (o.lines ++ last.now ∷ [])) = verdict-by limits kind b _ l.0 in
       last-fault limits kind s o.lines last.now b o.behind whole fault at
 
   -- the line that has begun decides, if one has
   pub verdict-last : (last : Option (ℕ × Bor (List ℕ))) → Finishes b last → verdict_behind kind s last ≡ verdict_of limits kind b
   verdict-last None f = verdict-ended f
-  verdict-last (Some last) f = last-by last.0 last.1 f (fault_at kind s last.0 last.1.now) refl
+  verdict-last (Some last) f = last-by last.0 last.1 f (no_at kind s last.0 last.1.now) refl
 
 -- what is decided, if anything is, and the bytes, of a judge of this kind
 kind-is : (limits : LimitsOf) (kind : Kind) (j : Judging) (b : List ℕ) → Judges limits kind j b → JudgesBy limits j.kind j.decided j.cutting j.standing b
@@ -170,7 +169,7 @@ module _ (j : Judging) (new : Cutting) (t : Standing) (decided : Option Verdict)
     (through : (b : List ℕ) (lines : List (List ℕ)) (r : List ℕ) → StandsFor j.cutting b → CutsInto b lines r → EndsByFeed used rest)
     (answers : (b : List ℕ) → StandsFor j.cutting b → Answers b rest used step)
     (stands : (b : List ℕ) → StandsFor j.cutting b → StandsFor new (b ++ take used rest))
-    (fault : decided ≡ fault_by j.kind j.standing step) (after : IsNone decided → t ≡ after_step j.kind step j.standing) where
+    (fault : decided ≡ no_by j.kind j.standing step) (after : IsNone decided → t ≡ after_step j.kind step j.standing) where
   -- a judge that has decided nothing, after what the cutter used
   pub feeds-on : (limits : LimitsOf) (kind : Kind) (b : List ℕ) → Judges limits kind j b → Judges limits kind (record { kind = j.kind; cutting = new; standing = t; decided = decided }) (b ++ take used rest)
   feeds-on limits kind b judges =

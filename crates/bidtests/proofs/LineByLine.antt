@@ -7,76 +7,79 @@ use Rattle.bidtests.specs.declared.verdict.Verdict.{Verdict}
 use Rattle.bidtests.specs.declared.verdict.Verdict.TheVariants.{Yes}
 use Rattle.bidtests.specs.declared.kind.Kind.{Kind}
 use Rattle.bidtests.specs.declared.kind.Kind.TheVariants.{Classes, Characters}
-use Rattle.bidtests.specs.Verdicts.{Finding, Silent, Claims, Faulty, fault_of, first_fault, or_else, line_number, is_row, cases_of, rows_in, cases_in, most_counted, verdict_on}
-use Rattle.bidtests.specs.ClassesFile.{ClassesLine, Nothing, LevelsAre, OrderIs, RowOf, Broken, classes_line, finding, findings_behind, findings_of, levels_in_force, order_in_force}
+use Rattle.bidtests.specs.Verdicts.{Finding, Silent, Row, Faulty, no_of, first_no, is_row, cases_of, rows_in, cases_in, verdict_on}
+use Rattle.std.specs.Option.{option_or}
+use Rattle.units.specs.Lines.{line_number, most_counted}
+use Rattle.bidtests.specs.ClassesFile.{ClassesLine, Nothing, LevelsAre, OrderIs, RowOf, Broken, classes_line, comes_to, findings_behind, classes_findings, levels_in_force, order_in_force}
 use Rattle.bidtests.specs.CharactersFile.{characters_line}
-use Rattle.bidtests.specs.FileKinds.{unit_by, findings_by}
-use Rattle.bidtests.specs.Standing.{Standing, at_start, AreInForce, levels_behind, order_behind, rows_behind, cases_behind, found_by, after_line, IsBehind}
+use Rattle.bidtests.specs.FileKinds.{findings_by}
+use Rattle.ucdfiles.specs.Tables.{unit_by}
+use Rattle.bidtests.specs.Standing.{Standing, at_start, AreInForce, levels_behind, order_behind, rows_behind, cases_behind, comes_to_behind, after_line, IsBehind}
 
 findings_behind-append : (earlier a b : List ClassesLine) → findings_behind earlier (a ++ b) ≡ findings_behind earlier a ++ findings_behind (reverse a ++ earlier) b
 findings_behind-append earlier [] b = refl
 findings_behind-append earlier (x ∷ a) b =
     let e : reverse (x ∷ a) ++ earlier ≡ reverse a ++ (x ∷ earlier) =
     ap (λ (l : List ClassesLine). l ++ earlier) (reverse-append (x ∷ []) a) ∙ append_assoc (reverse a) (x ∷ []) earlier in
-    rw e (ap (λ fs. finding (levels_in_force earlier) (order_in_force earlier) x ∷ fs) (findings_behind-append (x ∷ earlier) a b))
+    rw e (ap (λ fs. comes_to (levels_in_force earlier) (order_in_force earlier) x ∷ fs) (findings_behind-append (x ∷ earlier) a b))
 
 length-findings_behind : (earlier a : List ClassesLine) → length (findings_behind earlier a) ≡ length a
 length-findings_behind earlier [] = refl
 length-findings_behind earlier (x ∷ a) = omega (arith, length-findings_behind (x ∷ earlier) a)
 
-or_else_assoc : {A : Type 0} (a b c : Option A) → or_else a (or_else b c) ≡ or_else (or_else a b) c
-or_else_assoc None b c = refl
-or_else_assoc (Some x) b c = refl
+option_or-assoc : {A : Type 0} (a b c : Option A) → option_or a (option_or b c) ≡ option_or (option_or a b) c
+option_or-assoc None b c = refl
+option_or-assoc (Some x) b c = refl
 
-first_fault-append : (limits : LimitsOf) (k : ℕ) (a b : List Finding) → first_fault limits k (a ++ b) ≡ or_else (first_fault limits k a) (first_fault limits (k + length a) b)
-first_fault-append limits k [] b = ap (λ n. first_fault limits n b) (omega arith)
-first_fault-append limits k (f ∷ a) b =
-    let e : first_fault limits (k + 1) (a ++ b) ≡ or_else (first_fault limits (k + 1) a) (first_fault limits (k + length (f ∷ a)) b) =
-    first_fault-append limits (k + 1) a b ∙ ap (λ n. or_else (first_fault limits (k + 1) a) (first_fault limits n b)) (omega arith) in
-    rw e (or_else_assoc (fault_of limits (line_number k) f) (first_fault limits (k + 1) a) (first_fault limits (k + length (f ∷ a)) b))
+first_no-append : (limits : LimitsOf) (k : ℕ) (a b : List Finding) → first_no limits k (a ++ b) ≡ option_or (first_no limits k a) (first_no limits (k + length a) b)
+first_no-append limits k [] b = ap (λ n. first_no limits n b) (omega arith)
+first_no-append limits k (f ∷ a) b =
+    let e : first_no limits (k + 1) (a ++ b) ≡ option_or (first_no limits (k + 1) a) (first_no limits (k + length (f ∷ a)) b) =
+    first_no-append limits (k + 1) a b ∙ ap (λ n. option_or (first_no limits (k + 1) a) (first_no limits n b)) (omega arith) in
+    rw e (option_or-assoc (no_of limits (line_number k) f) (first_no limits (k + 1) a) (first_no limits (k + length (f ∷ a)) b))
 
 -- a line behind others, and what stands behind it
-findings_of-line : (lines : List (List ℕ)) (line : List ℕ) (others : List (List ℕ)) → (rest : List Finding)
-    × (findings_of (lines ++ line ∷ others) ≡ findings_of lines ++ finding (levels_in_force (reverse (map classes_line lines))) (order_in_force (reverse (map classes_line lines))) (classes_line line) ∷ rest)
-findings_of-line lines line others =
+classes_findings-line : (lines : List (List ℕ)) (line : List ℕ) (others : List (List ℕ)) → (rest : List Finding)
+    × (classes_findings (lines ++ line ∷ others) ≡ classes_findings lines ++ comes_to (levels_in_force (reverse (map classes_line lines))) (order_in_force (reverse (map classes_line lines))) (classes_line line) ∷ rest)
+classes_findings-line lines line others =
     let says = map classes_line lines in
-    let split : findings_of (lines ++ line ∷ others) ≡ findings_behind [] says ++ findings_behind (reverse says ++ []) (classes_line line ∷ map classes_line others) =
+    let split : classes_findings (lines ++ line ∷ others) ≡ findings_behind [] says ++ findings_behind (reverse says ++ []) (classes_line line ∷ map classes_line others) =
     ap (findings_behind []) (map-append classes_line lines (line ∷ others)) ∙ findings_behind-append [] says (classes_line line ∷ map classes_line others) in
-    let bare : findings_of (lines ++ line ∷ others) ≡ findings_behind [] says ++ findings_behind (reverse says) (classes_line line ∷ map classes_line others) =
+    let bare : classes_findings (lines ++ line ∷ others) ≡ findings_behind [] says ++ findings_behind (reverse says) (classes_line line ∷ map classes_line others) =
     split ∙ ap (λ (l : List ClassesLine). findings_behind [] says ++ findings_behind l (classes_line line ∷ map classes_line others)) (append-nil (reverse says)) in
     (findings_behind (classes_line line ∷ reverse says) (map classes_line others), bare)
 
-findings_of-last : (lines : List (List ℕ)) (line : List ℕ)
-    → findings_of (lines ++ line ∷ []) ≡ findings_of lines ++ finding (levels_in_force (reverse (map classes_line lines))) (order_in_force (reverse (map classes_line lines))) (classes_line line) ∷ []
-findings_of-last lines line =
+classes_findings-last : (lines : List (List ℕ)) (line : List ℕ)
+    → classes_findings (lines ++ line ∷ []) ≡ classes_findings lines ++ comes_to (levels_in_force (reverse (map classes_line lines))) (order_in_force (reverse (map classes_line lines))) (classes_line line) ∷ []
+classes_findings-last lines line =
     let says = map classes_line lines in
     ap (findings_behind []) (map-append classes_line lines (line ∷ [])) ∙ findings_behind-append [] says (classes_line line ∷ [])
     ∙ ap (λ (l : List ClassesLine). findings_behind [] says ++ findings_behind l (classes_line line ∷ [])) (append-nil (reverse says))
 
-length-findings_of : (lines : List (List ℕ)) → length (findings_of lines) ≡ length lines
-length-findings_of lines = length-findings_behind [] (map classes_line lines) ∙ length-map lines classes_line
+length-classes_findings : (lines : List (List ℕ)) → length (classes_findings lines) ≡ length lines
+length-classes_findings lines = length-findings_behind [] (map classes_line lines) ∙ length-map lines classes_line
 
 said-is : (s : Standing) (lines : List (List ℕ)) (line : List ℕ) → s.levels ≡ levels_in_force (reverse (map classes_line lines)) → s.order ≡ order_in_force (reverse (map classes_line lines))
-    → finding (levels_in_force (reverse (map classes_line lines))) (order_in_force (reverse (map classes_line lines))) (classes_line line) ≡ finding s.levels s.order (classes_line line)
+    → comes_to (levels_in_force (reverse (map classes_line lines))) (order_in_force (reverse (map classes_line lines))) (classes_line line) ≡ comes_to s.levels s.order (classes_line line)
 said-is s lines line l o = rw (l, o) refl
 
 -- what a line of either kind of file comes to stands behind what the lines before it come to
 findings-line : (kind : Kind) (s : Standing) (lines : List (List ℕ)) (line : List ℕ) (others : List (List ℕ)) → AreInForce kind s.levels s.order lines
-    → (rest : List Finding) × (findings_by kind (lines ++ line ∷ others) ≡ findings_by kind lines ++ found_by kind s line ∷ rest)
+    → (rest : List Finding) × (findings_by kind (lines ++ line ∷ others) ≡ findings_by kind lines ++ comes_to_behind kind s line ∷ rest)
 findings-line Classes s lines line others h =
-    let f = findings_of-line lines line others in
-    (f.0, f.1 ∙ ap (λ x. findings_of lines ++ x ∷ f.0) (said-is s lines line h.0 h.1))
+    let f = classes_findings-line lines line others in
+    (f.0, f.1 ∙ ap (λ x. classes_findings lines ++ x ∷ f.0) (said-is s lines line h.0 h.1))
 findings-line (Characters tables) s lines line others h =
     let reading = characters_line (unit_by tables.now) in
     (map reading others, map-append reading lines (line ∷ others))
 
 findings-last : (kind : Kind) (s : Standing) (lines : List (List ℕ)) (line : List ℕ) → AreInForce kind s.levels s.order lines
-    → findings_by kind (lines ++ line ∷ []) ≡ findings_by kind lines ++ found_by kind s line ∷ []
-findings-last Classes s lines line h = findings_of-last lines line ∙ ap (λ x. findings_of lines ++ x ∷ []) (said-is s lines line h.0 h.1)
+    → findings_by kind (lines ++ line ∷ []) ≡ findings_by kind lines ++ comes_to_behind kind s line ∷ []
+findings-last Classes s lines line h = classes_findings-last lines line ∙ ap (λ x. classes_findings lines ++ x ∷ []) (said-is s lines line h.0 h.1)
 findings-last (Characters tables) s lines line h = map-append (characters_line (unit_by tables.now)) lines (line ∷ [])
 
 pub length-findings : (kind : Kind) (lines : List (List ℕ)) → length (findings_by kind lines) ≡ length lines
-length-findings Classes lines = length-findings_of lines
+length-findings Classes lines = length-classes_findings lines
 length-findings (Characters tables) lines = length-map lines (characters_line (unit_by tables.now))
 
 -- the lists in force behind one line more
@@ -106,11 +109,11 @@ in-force Classes s lines line h =
 in-force (Characters tables) s lines line h = tt
 
 -- the counts are those before the line, with its own
-rows-after : (kind : Kind) (line : List ℕ) (s : Standing) → (after_line kind line s).rows ≡ rows_behind (found_by kind s line) s.rows
+rows-after : (kind : Kind) (line : List ℕ) (s : Standing) → (after_line kind line s).rows ≡ rows_behind (comes_to_behind kind s line) s.rows
 rows-after Classes line s = refl
 rows-after (Characters tables) line s = refl
 
-cases-after : (kind : Kind) (line : List ℕ) (s : Standing) → (after_line kind line s).cases ≡ cases_behind (found_by kind s line) s.cases
+cases-after : (kind : Kind) (line : List ℕ) (s : Standing) → (after_line kind line s).cases ≡ cases_behind (comes_to_behind kind s line) s.cases
 cases-after Classes line s = refl
 cases-after (Characters tables) line s = refl
 
@@ -126,14 +129,14 @@ cases-push s fs f c one e = min-add s (sum_by cases_of fs) c e ∙ ap (λ n. min
 capped : (s n : ℕ) → s ≡ min n most_counted → min (s + 0) most_counted ≡ s
 capped s n e = omega arith
 
-rows-behind : (limits : LimitsOf) (number : ℕ) (f : Finding) (rows : ℕ) (fs : List Finding) → fault_of limits number f ≡ None → rows ≡ rows_in fs → rows_behind f rows ≡ rows_in (fs ++ f ∷ [])
+rows-behind : (limits : LimitsOf) (number : ℕ) (f : Finding) (rows : ℕ) (fs : List Finding) → no_of limits number f ≡ None → rows ≡ rows_in fs → rows_behind f rows ≡ rows_in (fs ++ f ∷ [])
 rows-behind limits number Silent rows fs e r = sym (capped rows (count_by is_row fs) r) ∙ rows-push rows fs Silent 0 refl r
-rows-behind limits number (Claims claim) rows fs e r = rows-push rows fs (Claims claim) 1 refl r
+rows-behind limits number (Row claim) rows fs e r = rows-push rows fs (Row claim) 1 refl r
 rows-behind limits number (Faulty cause) rows fs e r = absurd (cc)
 
-cases-behind : (limits : LimitsOf) (number : ℕ) (f : Finding) (cases : ℕ) (fs : List Finding) → fault_of limits number f ≡ None → cases ≡ cases_in fs → cases_behind f cases ≡ cases_in (fs ++ f ∷ [])
+cases-behind : (limits : LimitsOf) (number : ℕ) (f : Finding) (cases : ℕ) (fs : List Finding) → no_of limits number f ≡ None → cases ≡ cases_in fs → cases_behind f cases ≡ cases_in (fs ++ f ∷ [])
 cases-behind limits number Silent cases fs e c = sym (capped cases (sum_by cases_of fs) c) ∙ cases-push cases fs Silent 0 refl c
-cases-behind limits number (Claims claim) cases fs e c = cases-push cases fs (Claims claim) (length claim.directions) refl c
+cases-behind limits number (Row claim) cases fs e c = cases-push cases fs (Row claim) (length claim.directions) refl c
 cases-behind limits number (Faulty cause) cases fs e c = absurd (cc)
 
 -- a line changes no limits
@@ -144,35 +147,35 @@ limits-after (Characters tables) line s = refl
 module _ (limits : LimitsOf) (kind : Kind) (s : Standing) (lines : List (List ℕ)) (line : List ℕ) (h : IsBehind limits kind s lines) where
   -- what the line comes to behind these
   abbrev found : Finding
-  found = found_by kind s line
+  found = comes_to_behind kind s line
 
   fault-at : (rest : List Finding)
-      → first_fault limits 0 (findings_by kind lines ++ found ∷ rest)
-      ≡ or_else (fault_of s.limits (line_number (length lines)) found) (first_fault limits (length lines + 1) rest)
+      → first_no limits 0 (findings_by kind lines ++ found ∷ rest)
+      ≡ option_or (no_of s.limits (line_number (length lines)) found) (first_no limits (length lines + 1) rest)
   fault-at rest =
-      first_fault-append limits 0 (findings_by kind lines) (found ∷ rest)
-      ∙ ap (λ o. or_else o (first_fault limits (0 + length (findings_by kind lines)) (found ∷ rest))) h.faultless
-      ∙ ap (λ n. first_fault limits n (found ∷ rest)) (omega (arith, length-findings kind lines))
-      ∙ ap (λ l. or_else (fault_of l (line_number (length lines)) found) (first_fault limits (length lines + 1) rest)) (sym h.under)
+      first_no-append limits 0 (findings_by kind lines) (found ∷ rest)
+      ∙ ap (λ o. option_or o (first_no limits (0 + length (findings_by kind lines)) (found ∷ rest))) h.faultless
+      ∙ ap (λ n. first_no limits n (found ∷ rest)) (omega (arith, length-findings kind lines))
+      ∙ ap (λ l. option_or (no_of l (line_number (length lines)) found) (first_no limits (length lines + 1) rest)) (sym h.under)
 
   -- the first fault decides, whatever stands behind it
-  pub verdict-fault : (v : Verdict) → fault_of s.limits (line_number (length lines)) (found_by kind s line) ≡ Some v
+  pub verdict-fault : (v : Verdict) → no_of s.limits (line_number (length lines)) (comes_to_behind kind s line) ≡ Some v
       → (others : List (List ℕ)) → verdict_on limits (findings_by kind (lines ++ line ∷ others)) ≡ v
   unfolding verdict_on
   verdict-fault v e others =
       let f = findings-line kind s lines line others h.lists in
-      let fault : first_fault limits 0 (findings_by kind (lines ++ line ∷ others)) ≡ Some v =
-      ap (first_fault limits 0) f.1 ∙ fault-at f.0 ∙ ap (λ o. or_else o (first_fault limits (length lines + 1) f.0)) e in
+      let fault : first_no limits 0 (findings_by kind (lines ++ line ∷ others)) ≡ Some v =
+      ap (first_no limits 0) f.1 ∙ fault-at f.0 ∙ ap (λ o. option_or o (first_no limits (length lines + 1) f.0)) e in
       rw fault refl
 
   -- a line without a fault
-  pub behind-line : fault_of s.limits (line_number (length lines)) (found_by kind s line) ≡ None → IsBehind limits kind (after_line kind line s) (lines ++ line ∷ [])
+  pub behind-line : no_of s.limits (line_number (length lines)) (comes_to_behind kind s line) ≡ None → IsBehind limits kind (after_line kind line s) (lines ++ line ∷ [])
   behind-line e =
       let number = line_number (length lines) in
       let all : findings_by kind (lines ++ line ∷ []) ≡ findings_by kind lines ++ found ∷ [] = findings-last kind s lines line h.lists in
       record {
         under = limits-after kind line s ∙ h.under;
-        faultless = ap (first_fault limits 0) all ∙ fault-at [] ∙ ap (λ o. or_else o None) e;
+        faultless = ap (first_no limits 0) all ∙ fault-at [] ∙ ap (λ o. option_or o None) e;
         lists = in-force kind s lines line h.lists;
         rows = rows-after kind line s ∙ rows-behind s.limits number found s.rows (findings_by kind lines) e h.rows ∙ ap rows_in (sym all);
         cases = cases-after kind line s ∙ cases-behind s.limits number found s.cases (findings_by kind lines) e h.cases ∙ ap cases_in (sym all);

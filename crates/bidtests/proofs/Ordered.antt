@@ -9,8 +9,8 @@ use Rattle.units.specs.declared.bracket.Unit.{Unit as BidiUnit}
 use Rattle.units.specs.declared.level.Direction.{Direction}
 use Rattle.units.specs.declared.level.Direction.TheVariants.{Auto, Ltr, Rtl, AutoRtl}
 use Rattle.bidtests.specs.declared.verdict.Cause.TheVariants.{LineTooLong, Directive}
-use Rattle.bidtests.specs.Verdicts.{Finding, Silent, Claims, Faulty}
-use Rattle.bidtests.specs.ClassesFile.{ClassesLine, Nothing, LevelsAre, OrderIs, RowOf, Broken, directions_in_order, directions_of, directions_by, names_direction, bit_set, levels_directive, order_directive, directive, level_item, order_item, row_of, row_with, unit_item, data_line, line_of_content, classes_line, claimed, finding, findings_behind, levels_in_force, order_in_force}
+use Rattle.bidtests.specs.Verdicts.{Finding, Silent, Row, Faulty}
+use Rattle.bidtests.specs.ClassesFile.{ClassesLine, Nothing, LevelsAre, OrderIs, RowOf, Broken, directions_in_order, directions_of, directions_by, names_direction, bit_set, levels_directive, order_directive, directive, level_item, order_item, classes_row_as_read, classes_row_of_items, unit_item, classes_row, classes_content, classes_line, row_under, comes_to, findings_behind, levels_in_force, order_in_force}
 use Rattle.bidtests.specs.Headline.{ComesBefore}
 use Rattle.bidtests.proofs.Places.{same-held}
 
@@ -55,7 +55,7 @@ at-contained ds i d e = (i, slice_get_within ds i d e, get_or_from_slice_get ds 
 abbrev pub IsOrdered : Finding → Type 0
 IsOrdered Silent = ⊤
 IsOrdered (Faulty cause) = ⊤
-IsOrdered (Claims claim) = AllPairs ComesBefore claim.directions
+IsOrdered (Row claim) = AllPairs ComesBefore claim.directions
 
 abbrev RowOrdered : ClassesLine → Type 0
 RowOrdered (RowOf text directions) = AllPairs ComesBefore directions
@@ -74,16 +74,16 @@ bits-ordered (Some bits) =
     let P : Option (List Direction) → Type 0 = λ o. IfSome o (AllPairs ComesBefore) in
     if-either P (bits == 0) None (Some (directions_of bits)) tt (AllPairs-filter ComesBefore (names_direction bits) directions_in_order in_order)
 
-row-ordered : (text : Option (List BidiUnit)) (directions : Option (List Direction)) → IfSome directions (AllPairs ComesBefore) → RowOrdered (row_of text directions)
+row-ordered : (text : Option (List BidiUnit)) (directions : Option (List Direction)) → IfSome directions (AllPairs ComesBefore) → RowOrdered (classes_row_as_read text directions)
 row-ordered None directions h = tt
 row-ordered (Some text) None h = tt
 row-ordered (Some text) (Some directions) h = h
 
-items-ordered : (names : List (List ℕ)) (bits : List ℕ) → RowOrdered (row_with bit_set names bits)
+items-ordered : (names : List (List ℕ)) (bits : List ℕ) → RowOrdered (classes_row_of_items bit_set names bits)
 items-ordered [] bits = tt
 items-ordered (name ∷ names) bits = row-ordered (each_read unit_item (name ∷ names)) (bit_set bits) (bits-ordered (number_up_to 15 bits))
 
-data-ordered : (fields : List (List ℕ)) → RowOrdered (data_line fields)
+data-ordered : (fields : List (List ℕ)) → RowOrdered (classes_row fields)
 data-ordered [] = tt
 data-ordered (names ∷ []) = tt
 data-ordered (names ∷ bits ∷ []) = items-ordered (items_of names) bits
@@ -107,26 +107,26 @@ directive-ordered content =
     (if-either RowOrdered (starts_with nat_eq content (codes "@Levels:")) levels third (levels-ordered (each_read level_item (items_of (drop 8 content))))
     (if-either RowOrdered (starts_with nat_eq content (codes "@Reorder:")) order (Broken Directive) (order-ordered (each_read order_item (items_of (drop 9 content)))) tt))
 
-content-ordered : (content : List ℕ) → RowOrdered (line_of_content bit_set content)
+content-ordered : (content : List ℕ) → RowOrdered (classes_content bit_set content)
 content-ordered [] = tt
-content-ordered (b ∷ bs) = if-either RowOrdered (b == 64) (directive (b ∷ bs)) (data_line (fields_of (b ∷ bs))) (directive-ordered (b ∷ bs)) (data-ordered (fields_of (b ∷ bs)))
+content-ordered (b ∷ bs) = if-either RowOrdered (b == 64) (directive (b ∷ bs)) (classes_row (fields_of (b ∷ bs))) (directive-ordered (b ∷ bs)) (data-ordered (fields_of (b ∷ bs)))
 
 line-ordered : (line : List ℕ) → RowOrdered (classes_line line)
 unfolding classes_line
-line-ordered line = if-either RowOrdered (nat_lt longest_line (length line)) (Broken LineTooLong) (line_of_content bit_set (content_of line)) tt (content-ordered (content_of line))
+line-ordered line = if-either RowOrdered (nat_lt longest_line (length line)) (Broken LineTooLong) (classes_content bit_set (content_of line)) tt (content-ordered (content_of line))
 
-claimed-ordered : (text : List BidiUnit) (directions : List Direction) (levels : Option (List (Option ℕ))) (order : Option (List ℕ)) → AllPairs ComesBefore directions
-    → IsOrdered (claimed text directions levels order)
-claimed-ordered text directions None order h = tt
-claimed-ordered text directions (Some levels) None h = tt
-claimed-ordered text directions (Some levels) (Some order) h = h
+row_under-ordered : (text : List BidiUnit) (directions : List Direction) (levels : Option (List (Option ℕ))) (order : Option (List ℕ)) → AllPairs ComesBefore directions
+    → IsOrdered (row_under text directions levels order)
+row_under-ordered text directions None order h = tt
+row_under-ordered text directions (Some levels) None h = tt
+row_under-ordered text directions (Some levels) (Some order) h = h
 
-found-ordered : (levels : Option (List (Option ℕ))) (order : Option (List ℕ)) (said : ClassesLine) → RowOrdered said → IsOrdered (finding levels order said)
+found-ordered : (levels : Option (List (Option ℕ))) (order : Option (List ℕ)) (said : ClassesLine) → RowOrdered said → IsOrdered (comes_to levels order said)
 found-ordered levels order Nothing h = tt
 found-ordered levels order (LevelsAre _) h = tt
 found-ordered levels order (OrderIs _) h = tt
 found-ordered levels order (Broken cause) h = tt
-found-ordered levels order (RowOf text directions) h = claimed-ordered text directions levels order h
+found-ordered levels order (RowOf text directions) h = row_under-ordered text directions levels order h
 
-pub classes-ordered : (levels : Option (List (Option ℕ))) (order : Option (List ℕ)) (line : List ℕ) → IsOrdered (finding levels order (classes_line line))
+pub classes-ordered : (levels : Option (List (Option ℕ))) (order : Option (List ℕ)) (line : List ℕ) → IsOrdered (comes_to levels order (classes_line line))
 classes-ordered levels order line = found-ordered levels order (classes_line line) (line-ordered line)

@@ -4,13 +4,14 @@ use Rattle.std.specs.Prelude.{if◌then◌else◌, nat_eq, IfSome, MatchBool}
 use Rattle.std.specs.List.{slice_get}
 use Rattle.std.proofs.lemmas.Bool.{eqb-true, eqb-false, cases_order, false≢true}
 use Rattle.std.proofs.lemmas.Option.{none-some}
-use Rattle.units.specs.Positions.{is_same}
-use Rattle.units.specs.Layout.{layout_of, all_orders}
+use Rattle.units.specs.Positions.{same_position}
+use Rattle.units.specs.Layout.{all_orders}
 use Rattle.units.specs.Limits.{LimitsOf}
 use Rattle.units.specs.declared.level.Direction.{Direction}
 use Rattle.bidtests.specs.declared.verdict.Place.{Place}
 use Rattle.bidtests.specs.declared.verdict.Place.TheVariants.{ParaLevel, Levels, Order}
-use Rattle.bidtests.specs.Verdicts.{Claim, first_difference, first_of, agrees, or_else, placed_in, wrong_place}
+use Rattle.bidtests.specs.Verdicts.{Claim, first_difference, first_of, agrees, placed_in, wrong_place_under}
+use Rattle.std.specs.Option.{option_or}
 use Rattle.bidtests.specs.Headline.{layout_under, IsParaRight, AreLevelsRight, IsOrderRight, IsCaseRight, IsFirstDifference, IsWrongAt}
 
 -- the lists are one, or n is their first difference, counted from `at`
@@ -57,13 +58,13 @@ difference_unique xs ys i j d e = elim (cases_order i j) [
 no_difference : {A : Type 0} (xs ys : List A) (i : ℕ) → xs ≡ ys → IsFirstDifference xs ys i → ⊥
 no_difference xs ys i e d = d.there (ap (λ zs. slice_get zs i) e)
 
-same_levels : (x y : Option ℕ) → is_same x y ≡ true → x ≡ y
+same_levels : (x y : Option ℕ) → same_position x y ≡ true → x ≡ y
 same_levels None None e = refl
 same_levels (Some p) (Some q) e = ap (λ n. Some n) (eqb-true p q e)
 same_levels None (Some q) e = absurd (false≢true e)
 same_levels (Some p) None e = absurd (false≢true e)
 
-other_levels : (x y : Option ℕ) → is_same x y ≡ false → x ≢ y
+other_levels : (x y : Option ℕ) → same_position x y ≡ false → x ≢ y
 other_levels None None e = λ _. false≢true (sym e)
 other_levels (Some p) (Some q) e = λ s. eqb-false p q e (same-held s)
 other_levels None (Some q) e = none-some q
@@ -95,7 +96,7 @@ module _ (limits : LimitsOf) (claim : Claim) (d : Direction) where
 
   chosen : (right : Bool) (l o : Option ℕ) → MatchBool right (IsParaRight limits claim d) (¬ IsParaRight limits claim d)
       → Compared claim.levels (layout_under limits claim d).levels 0 l → Compared claim.order (all_orders (layout_under limits claim d)) 0 o
-      → CaseIs limits claim d (if right then or_else (placed_in Levels l) (placed_in Order o) else Some ParaLevel)
+      → CaseIs limits claim d (if right then option_or (placed_in Levels l) (placed_in Order o) else Some ParaLevel)
   chosen false l o p c e = p
   chosen true None None p c e = record { para = p; levels = c; order = e }
   chosen true (Some n) o p c e = (p, from-start claim.levels (layout_under limits claim d).levels c.0 n c.1 c.2)
@@ -108,12 +109,12 @@ module _ (limits : LimitsOf) (claim : Claim) (d : Direction) where
       subst P (first_is paras) (para-is claim.para (first_of paras))
 
   -- what the search says
-  pub case-is : CaseIs limits claim d (wrong_place claim.para claim.levels claim.order (layout_of limits claim.text d []))
+  pub case-is : CaseIs limits claim d (wrong_place_under limits claim d)
   case-is =
       let layout = layout_under limits claim d in
-      chosen (agrees claim.para (first_of layout.paras)) (first_difference is_same claim.levels layout.levels 0) (first_difference nat_eq claim.order (all_orders layout) 0)
+      chosen (agrees claim.para (first_of layout.paras)) (first_difference same_position claim.levels layout.levels 0) (first_difference nat_eq claim.order (all_orders layout) 0)
       para-right
-      (compared is_same same_levels other_levels claim.levels layout.levels 0)
+      (compared same_position same_levels other_levels claim.levels layout.levels 0)
       (compared nat_eq (λ x y e. eqb-true x y e) (λ x y e. eqb-false x y e) claim.order (all_orders layout) 0)
 
   -- no case is both right and wrong

@@ -10,7 +10,7 @@ use Rattle.units.specs.Paragraphs.{paragraphs_of}
 use Rattle.units.specs.Layout.{layout_of, para_levels_of, resolved_levels}
 use Rattle.units.specs.Limits.{LimitsOf}
 use Rattle.bidtests.specs.Verdicts.{Claim, wrong_case}
-use Rattle.bidtests.specs.Comparisons.{IsRight}
+use Rattle.bidtests.specs.Comparisons.{HasNoWrongPlace}
 
 -- paragraphs of the same levels are resolved alike
 resolved-alike : (limits : LimitsOf) (paras : List (List BidiUnit)) (d e : Direction)
@@ -46,7 +46,7 @@ head-same same = cc
 
 -- a claim that is right under one direction is so under another that gives its text's only paragraph the same level
 pub also-right : (limits : LimitsOf) (claim : Claim) (d : Direction) (found : Option Direction) (levels : List ℕ) → levels ≡ para_levels_of claim.text d
-    → IfSome found (λ e. (classes : List Class) → levels ≡ para_level_of classes e ∷ []) → IsRight limits claim d → IfSome found (IsRight limits claim)
+    → IfSome found (λ e. (classes : List Class) → levels ≡ para_level_of classes e ∷ []) → HasNoWrongPlace limits claim d → IfSome found (HasNoWrongPlace limits claim)
 also-right limits claim d None levels are same right = tt
 also-right limits claim d (Some e) levels are same right =
     let one : para_levels_of claim.text d ≡ para_level_of [] e ∷ [] = sym are ∙ same [] in
@@ -55,6 +55,6 @@ also-right limits claim d (Some e) levels are same right =
     rw (← alike) right
 
 -- a direction under which the claim is right is passed over
-pub passed-over : (limits : LimitsOf) (claim : Claim) (ds : List Direction) (i : ℕ) (d : Direction) → i < length ds → IsRight limits claim (get_or ds i d) → wrong_case limits claim (drop i ds) ≡ wrong_case limits claim (drop (i + 1) ds)
+pub passed-over : (limits : LimitsOf) (claim : Claim) (ds : List Direction) (i : ℕ) (d : Direction) → i < length ds → HasNoWrongPlace limits claim (get_or ds i d) → wrong_case limits claim (drop i ds) ≡ wrong_case limits claim (drop (i + 1) ds)
 passed-over limits claim ds i d lt right =
     rw (add-one, drop-cons ds i d lt) (rw right refl)

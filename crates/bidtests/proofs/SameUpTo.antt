@@ -5,7 +5,9 @@ use Rattle.units.specs.Limits.{LimitsOf}
 use Rattle.bidtests.specs.declared.verdict.Cause.{Cause}
 use Rattle.bidtests.specs.declared.verdict.Verdict.{Verdict}
 use Rattle.bidtests.specs.declared.verdict.Verdict.TheVariants.{Malformed}
-use Rattle.bidtests.specs.Verdicts.{Finding, Faulty, fault_of, first_fault, line_number, or_else, or_yes, verdict_on}
+use Rattle.bidtests.specs.Verdicts.{Finding, Faulty, no_of, first_no, or_yes, verdict_on}
+use Rattle.std.specs.Option.{option_or}
+use Rattle.units.specs.Lines.{line_number}
 
 -- the findings are the same, up to the first that is malformed for this cause
 abbrev pub AreSameUpTo : Cause → List Finding → List Finding → Type 0
@@ -14,46 +16,46 @@ AreSameUpTo cause [] (g ∷ gs) = ⊥
 AreSameUpTo cause (f ∷ fs) [] = ⊥
 AreSameUpTo cause (f ∷ fs) (g ∷ gs) = (f ≡ Faulty cause) ⊎ ((f ≡ g) × AreSameUpTo cause fs gs)
 
-or_else-none : (a b : Option Verdict) → or_else a b ≡ None → b ≡ None
-or_else-none None b e = e
-or_else-none (Some v) b e = absurd cc
+option_or-none : (a b : Option Verdict) → option_or a b ≡ None → b ≡ None
+option_or-none None b e = e
+option_or-none (Some v) b e = absurd cc
 
-or_else-alike : (a b c : Option Verdict) (v : Verdict) → or_else a b ≡ Some v → (b ≡ Some v → c ≡ Some v) → or_else a c ≡ Some v
-or_else-alike None b c v e alike = alike e
-or_else-alike (Some u) b c v e alike = e
+option_or-alike : (a b c : Option Verdict) (v : Verdict) → option_or a b ≡ Some v → (b ≡ Some v → c ≡ Some v) → option_or a c ≡ Some v
+option_or-alike None b c v e alike = alike e
+option_or-alike (Some u) b c v e alike = e
 
-broken-has-fault : (limits : LimitsOf) (k : ℕ) (f : Finding) (cause : Cause) (rest : Option Verdict) → f ≡ Faulty cause → or_else (fault_of limits (line_number k) f) rest ≡ Some (Malformed (line_number k) cause)
+broken-has-fault : (limits : LimitsOf) (k : ℕ) (f : Finding) (cause : Cause) (rest : Option Verdict) → f ≡ Faulty cause → option_or (no_of limits (line_number k) f) rest ≡ Some (Malformed (line_number k) cause)
 broken-has-fault limits k f cause rest broken = rw broken refl
 
-faultless-same : (limits : LimitsOf) (cause : Cause) (k : ℕ) (fs gs : List Finding) → AreSameUpTo cause fs gs → first_fault limits k fs ≡ None → gs ≡ fs
+faultless-same : (limits : LimitsOf) (cause : Cause) (k : ℕ) (fs gs : List Finding) → AreSameUpTo cause fs gs → first_no limits k fs ≡ None → gs ≡ fs
 faultless-same limits cause k [] [] same none = refl
 faultless-same limits cause k [] (g ∷ gs) same none = absurd same
 faultless-same limits cause k (f ∷ fs) [] same none = absurd same
 faultless-same limits cause k (f ∷ fs) (g ∷ gs) (inl broken) none =
-    let e : Some (Malformed (line_number k) cause) ≡ None = sym (broken-has-fault limits k f cause (first_fault limits (k + 1) fs) broken) ∙ none in absurd cc
+    let e : Some (Malformed (line_number k) cause) ≡ None = sym (broken-has-fault limits k f cause (first_no limits (k + 1) fs) broken) ∙ none in absurd cc
 faultless-same limits cause k (f ∷ fs) (g ∷ gs) (inr same) none =
-    let rest : gs ≡ fs = faultless-same limits cause (k + 1) fs gs same.1 (or_else-none (fault_of limits (line_number k) f) (first_fault limits (k + 1) fs) none) in
+    let rest : gs ≡ fs = faultless-same limits cause (k + 1) fs gs same.1 (option_or-none (no_of limits (line_number k) f) (first_no limits (k + 1) fs) none) in
     let head : f ≡ g = same.0 in
     cc
 
-fault-same : (limits : LimitsOf) (cause : Cause) (k : ℕ) (fs gs : List Finding) (v : Verdict) → AreSameUpTo cause fs gs → first_fault limits k fs ≡ Some v → ((line : ℕ) → v ≡ Malformed line cause → ⊥) → first_fault limits k gs ≡ Some v
+fault-same : (limits : LimitsOf) (cause : Cause) (k : ℕ) (fs gs : List Finding) (v : Verdict) → AreSameUpTo cause fs gs → first_no limits k fs ≡ Some v → ((line : ℕ) → v ≡ Malformed line cause → ⊥) → first_no limits k gs ≡ Some v
 fault-same limits cause k [] [] v same e other = absurd cc
 fault-same limits cause k [] (g ∷ gs) v same e other = absurd same
 fault-same limits cause k (f ∷ fs) [] v same e other = absurd same
 fault-same limits cause k (f ∷ fs) (g ∷ gs) v (inl broken) e other =
-    let is : Some (Malformed (line_number k) cause) ≡ Some v = sym (broken-has-fault limits k f cause (first_fault limits (k + 1) fs) broken) ∙ e in
+    let is : Some (Malformed (line_number k) cause) ≡ Some v = sym (broken-has-fault limits k f cause (first_no limits (k + 1) fs) broken) ∙ e in
     absurd (other (line_number k) (cc))
 fault-same limits cause k (f ∷ fs) (g ∷ gs) v (inr same) e other =
-    rw (← same.0) (or_else-alike (fault_of limits (line_number k) f) (first_fault limits (k + 1) fs) (first_fault limits (k + 1) gs) v e (λ h. fault-same limits cause (k + 1) fs gs v same.1 h other))
+    rw (← same.0) (option_or-alike (no_of limits (line_number k) f) (first_no limits (k + 1) fs) (first_no limits (k + 1) gs) v e (λ h. fault-same limits cause (k + 1) fs gs v same.1 h other))
 
 -- the verdict is the same, unless that is that a line is malformed for this cause
 pub verdict-same : (limits : LimitsOf) (cause : Cause) (fs gs : List Finding) → AreSameUpTo cause fs gs → ((line : ℕ) → verdict_on limits fs ≡ Malformed line cause → ⊥) → verdict_on limits gs ≡ verdict_on limits fs
 unfolding verdict_on
-verdict-same limits cause fs gs same other = go (first_fault limits 0 fs) refl
+verdict-same limits cause fs gs same other = go (first_no limits 0 fs) refl
   where
-    go : (o : Option Verdict) → first_fault limits 0 fs ≡ o → or_yes gs (first_fault limits 0 gs) ≡ or_yes fs (first_fault limits 0 fs)
+    go : (o : Option Verdict) → first_no limits 0 fs ≡ o → or_yes gs (first_no limits 0 gs) ≡ or_yes fs (first_no limits 0 fs)
     go None e = let all : gs ≡ fs = faultless-same limits cause 0 fs gs same e in rw all refl
     go (Some v) e =
-        let is : or_yes fs (first_fault limits 0 fs) ≡ v = ap (or_yes fs) e in
-        let there : first_fault limits 0 gs ≡ Some v = fault-same limits cause 0 fs gs v same e (λ line h. other line (is ∙ h)) in
+        let is : or_yes fs (first_no limits 0 fs) ≡ v = ap (or_yes fs) e in
+        let there : first_no limits 0 gs ≡ Some v = fault-same limits cause 0 fs gs v same e (λ line h. other line (is ∙ h)) in
         ap (or_yes gs) there ∙ sym is

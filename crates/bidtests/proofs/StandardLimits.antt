@@ -7,9 +7,9 @@ use Rattle.units.specs.Text.{lines_of}
 use Rattle.units.specs.declared.bracket.Unit.{Unit as BidiUnit}
 use Rattle.units.specs.declared.level.Direction.{Direction}
 use Rattle.bidtests.specs.declared.kind.Kind.{Kind}
-use Rattle.bidtests.specs.Verdicts.{Claim, Finding, Silent, Claims, Faulty, wrong_case, wrong_at, fault_of, first_fault, or_yes, verdict_on}
+use Rattle.bidtests.specs.Verdicts.{Claim, Finding, Silent, Row, Faulty, wrong_case, wrong_at, no_of, first_no, or_yes, verdict_on}
 use Rattle.bidtests.specs.FileKinds.{findings_by, verdict_of}
-use Rattle.bidtests.specs.StandardVerdicts.{standard_wrong_case, standard_fault_of, standard_first_fault, standard_verdict_of}
+use Rattle.bidtests.specs.StandardVerdicts.{standard_wrong_case, standard_no_of, standard_first_no, standard_verdict_of}
 use Rattle.bidtests.proofs.Judged.{verdict-of}
 
 module _ (same : (text : List BidiUnit) (direction : Direction) (breaks : List ℕ) → layout_of standard text direction breaks ≡ standard_layout text direction breaks) where
@@ -17,12 +17,12 @@ module _ (same : (text : List BidiUnit) (direction : Direction) (breaks : List �
   standard-case claim [] = refl
   standard-case claim (d ∷ ds) = rw (same claim.text d [], standard-case claim ds) refl
 
-  standard-fault : (number : ℕ) (f : Finding) → fault_of standard number f ≡ standard_fault_of number f
+  standard-fault : (number : ℕ) (f : Finding) → no_of standard number f ≡ standard_no_of number f
   standard-fault number Silent = refl
   standard-fault number (Faulty cause) = refl
-  standard-fault number (Claims claim) = ap (wrong_at number) (standard-case claim claim.directions)
+  standard-fault number (Row claim) = ap (wrong_at number) (standard-case claim claim.directions)
 
-  standard-first : (k : ℕ) (fs : List Finding) → first_fault standard k fs ≡ standard_first_fault k fs
+  standard-first : (k : ℕ) (fs : List Finding) → first_no standard k fs ≡ standard_first_no k fs
   standard-first k [] = refl
   standard-first k (f ∷ fs) = rw (standard-fault _ f, standard-first (k + 1) fs) refl
 

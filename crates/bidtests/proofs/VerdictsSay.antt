@@ -3,14 +3,15 @@ use Rattle.std.proofs.Common.{◌≡◌, ◌≢◌, ◌↔◌, ℕ, zero, suc, �
 use Rattle.std.specs.List.{slice_get, Contains, AllPairs}
 use Rattle.std.proofs.lemmas.Bool.{cases_order}
 use Rattle.std.proofs.lemmas.Option.{slice_get_within, none-some}
-use Rattle.units.specs.Layout.{layout_of}
 use Rattle.units.specs.Limits.{LimitsOf}
 use Rattle.units.specs.declared.level.Direction.{Direction}
 use Rattle.bidtests.specs.declared.verdict.Cause.{Cause}
 use Rattle.bidtests.specs.declared.verdict.Place.{Place}
 use Rattle.bidtests.specs.declared.verdict.Verdict.{Verdict}
 use Rattle.bidtests.specs.declared.verdict.Verdict.TheVariants.{Yes, Malformed, Wrong}
-use Rattle.bidtests.specs.Verdicts.{Claim, Finding, Silent, Claims, Faulty, or_else, wrong_place, wrong_case, with_place, wrong_at, fault_of, first_fault, line_number, or_yes, verdict_on}
+use Rattle.bidtests.specs.Verdicts.{Claim, Finding, Silent, Row, Faulty, wrong_place_under, wrong_case, with_place, wrong_at, no_of, first_no, or_yes, verdict_on}
+use Rattle.std.specs.Option.{option_or}
+use Rattle.units.specs.Lines.{line_number}
 use Rattle.bidtests.specs.Headline.{IsMalformed, IsRow, IsCaseRight, IsWrongAt, ComesBefore, AreRight, FirstIsMalformed, FirstIsWrong, Says}
 use Rattle.bidtests.proofs.Places.{same-held, CaseIs, case-is, right-wrong, place-unique}
 use Rattle.bidtests.proofs.Ordered.{IsOrdered, never-behind, earlier-before, contained-at, at-contained}
@@ -33,7 +34,7 @@ module _ (limits : LimitsOf) where
   earlier-right claim d ds j right rest (suc i) e lt h = rest i e (omega arith) h
 
   cases-more : (claim : Claim) (d : Direction) (ds : List Direction) (place : Option Place) (rest : Option (Direction × Place))
-      → CaseIs limits claim d place → CasesAre claim ds rest → CasesAre claim (d ∷ ds) (or_else (with_place d place) rest)
+      → CaseIs limits claim d place → CasesAre claim ds rest → CasesAre claim (d ∷ ds) (option_or (with_place d place) rest)
   cases-more claim d ds None None right are = all-right claim d ds right are
   cases-more claim d ds None (Some x) right are = (suc are.0, are.1, earlier-right claim d ds are.0 right are.2, are.3)
   cases-more claim d ds (Some place) rest wrong are = (0, refl, (λ i e lt h. absurd (omega arith)), wrong)
@@ -41,25 +42,25 @@ module _ (limits : LimitsOf) where
   cases-are : (claim : Claim) (ds : List Direction) → CasesAre claim ds (wrong_case limits claim ds)
   cases-are claim [] = λ i d e. absurd (none-some d e)
   cases-are claim (d ∷ ds) =
-      cases-more claim d ds (wrong_place claim.para claim.levels claim.order (layout_of limits claim.text d [])) (wrong_case limits claim ds) (case-is limits claim d) (cases-are claim ds)
+      cases-more claim d ds (wrong_place_under limits claim d) (wrong_case limits claim ds) (case-is limits claim d) (cases-are claim ds)
 
   -- a line that gives no fault
   record IsLineRight (f : Finding) : Type 0 where
     well_formed : (cause : Cause) → f ≢ Faulty cause
-    right : (claim : Claim) (d : Direction) → f ≡ Claims claim → Contains claim.directions d → IsCaseRight limits claim d
+    right : (claim : Claim) (d : Direction) → f ≡ Row claim → Contains claim.directions d → IsCaseRight limits claim d
 
   claims-right : (n : ℕ) (claim : Claim) (o : Option (Direction × Place)) → wrong_at n o ≡ None → CasesAre claim claim.directions o
       → (d : Direction) → Contains claim.directions d → IsCaseRight limits claim d
   claims-right n claim None e are d h = let at = contained-at claim.directions d h in are at.0 d at.1
   claims-right n claim (Some x) e are d h = absurd (none-some _ (sym e))
 
-  same-claim : (a b : Claim) → Claims a ≡ Claims b → a ≡ b
+  same-claim : (a b : Claim) → Row a ≡ Row b → a ≡ b
   same-claim a b e = cc
 
-  line-right : (n : ℕ) (f : Finding) → fault_of limits n f ≡ None → IsLineRight f
+  line-right : (n : ℕ) (f : Finding) → no_of limits n f ≡ None → IsLineRight f
   line-right n Silent e = record { well_formed = λ cause h. absurd (cc); right = λ claim d h k. absurd (cc) }
   line-right n (Faulty cause) e = absurd (none-some _ (sym e))
-  line-right n (Claims claim) e =
+  line-right n (Row claim) e =
       let all : (d : Direction) → Contains claim.directions d → IsCaseRight limits claim d = claims-right n claim (wrong_case limits claim claim.directions) e (cases-are claim claim.directions) in
       let P : Claim → Type 0 = λ c. (d : Direction) → Contains c.directions d → IsCaseRight limits c d in
       record { well_formed = λ cause h. absurd (cc); right = λ other d h k. subst P (same-claim claim other h) all d k }
@@ -82,21 +83,21 @@ module _ (limits : LimitsOf) where
   -- all lines are right, or this is the fault of the first that is not
   abbrev LinesAre : List Finding → ℕ → Option Verdict → Type 0
   LinesAre fs o None = AreRight limits fs (length fs)
-  LinesAre fs o (Some v) = (k : ℕ) × (f : Finding) × (slice_get fs k ≡ Some f) × AreRight limits fs k × (fault_of limits (line_number (o + k)) f ≡ Some v)
+  LinesAre fs o (Some v) = (k : ℕ) × (f : Finding) × (slice_get fs k ≡ Some f) × AreRight limits fs k × (no_of limits (line_number (o + k)) f ≡ Some v)
 
-  lines-more : (f : Finding) (fs : List Finding) (o : ℕ) (here rest : Option Verdict) → fault_of limits (line_number o) f ≡ here → LinesAre fs (o + 1) rest
-      → LinesAre (f ∷ fs) o (or_else here rest)
+  lines-more : (f : Finding) (fs : List Finding) (o : ℕ) (here rest : Option Verdict) → no_of limits (line_number o) f ≡ here → LinesAre fs (o + 1) rest
+      → LinesAre (f ∷ fs) o (option_or here rest)
   lines-more f fs o None None e are = right-more f fs (length fs) (line-right (line_number o) f e) are
   lines-more f fs o None (Some v) e are =
       let at : o + suc are.0 ≡ o + 1 + are.0 = omega arith in
-      (suc are.0, are.1, are.2, right-more f fs are.0 (line-right (line_number o) f e) are.3, ap (λ n. fault_of limits (line_number n) are.1) at ∙ are.4)
+      (suc are.0, are.1, are.2, right-more f fs are.0 (line-right (line_number o) f e) are.3, ap (λ n. no_of limits (line_number n) are.1) at ∙ are.4)
   lines-more f fs o (Some v) rest e are =
       let at : o + 0 ≡ o = omega arith in
-      (0, f, refl, none-right (f ∷ fs), ap (λ n. fault_of limits (line_number n) f) at ∙ e)
+      (0, f, refl, none-right (f ∷ fs), ap (λ n. no_of limits (line_number n) f) at ∙ e)
 
-  lines-are : (fs : List Finding) (o : ℕ) → LinesAre fs o (first_fault limits o fs)
+  lines-are : (fs : List Finding) (o : ℕ) → LinesAre fs o (first_no limits o fs)
   lines-are [] o = none-right []
-  lines-are (f ∷ fs) o = lines-more f fs o (fault_of limits (line_number o) f) (first_fault limits (o + 1) fs) refl (lines-are fs (o + 1))
+  lines-are (f ∷ fs) o = lines-more f fs o (no_of limits (line_number o) f) (first_no limits (o + 1) fs) refl (lines-are fs (o + 1))
 
   -- the directions of a wrong row before the first wrong one
   module _ (claim : Claim) (ordered : AllPairs ComesBefore claim.directions) where
@@ -145,17 +146,17 @@ module _ (limits : LimitsOf) where
           claim = claim;
           row = row;
           names = at-contained claim.directions are.0 x.0 are.1;
-          before = before-wrong claim (ordered k (Claims claim) row) are.0 x.0 are.1 are.2;
+          before = before-wrong claim (ordered k (Row claim) row) are.0 x.0 are.1 are.2;
           wrong = are.3;
         } in
         subst (Says limits fs) (same-held e) says
 
-    fault-says : (k n : ℕ) (f : Finding) → slice_get fs k ≡ Some f → AreRight limits fs k → n ≡ line_number k → (v : Verdict) → fault_of limits n f ≡ Some v → Says limits fs v
+    fault-says : (k n : ℕ) (f : Finding) → slice_get fs k ≡ Some f → AreRight limits fs k → n ≡ line_number k → (v : Verdict) → no_of limits n f ≡ Some v → Says limits fs v
     fault-says k n Silent at right number v e = absurd (none-some v e)
     fault-says k n (Faulty cause) at right number v e =
         let says : FirstIsMalformed limits fs n cause = record { k = k; numbered = number; earlier = right; malformed = at } in
         subst (Says limits fs) (same-held e) says
-    fault-says k n (Claims claim) at right number v e =
+    fault-says k n (Row claim) at right number v e =
         row-says k n claim at right number (wrong_case limits claim claim.directions) (cases-are claim claim.directions) v e
 
     says-by : (o : Option Verdict) → LinesAre fs 0 o → Says limits fs (or_yes fs o)
@@ -166,7 +167,7 @@ module _ (limits : LimitsOf) where
 
     pub verdict-says : Says limits fs (verdict_on limits fs)
     unfolding verdict_on
-    verdict-says = says-by (first_fault limits 0 fs) (lines-are fs 0)
+    verdict-says = says-by (first_no limits 0 fs) (lines-are fs 0)
 
     same-line : (k j : ℕ) → (k < j → ⊥) → (j < k → ⊥) → k ≡ j
     same-line k j less more = elim (cases_order k j) [ inl same ↦ same | inr other ↦ elim other [ inl l ↦ absurd (less l) | inr m ↦ absurd (more m) ] ]
@@ -183,7 +184,7 @@ module _ (limits : LimitsOf) where
     not-both n m c d p a b =
         let same : a.k ≡ b.k = same-line a.k b.k (λ lt. b.earlier.well_formed a.k c lt a.malformed)
         (λ lt. right-wrong limits b.claim d p (a.earlier.right b.k b.claim d lt b.row b.names) b.wrong) in
-        let faults : Faulty c ≡ Claims b.claim = same-held (sym a.malformed ∙ ap (λ k. slice_get fs k) same ∙ b.row) in
+        let faults : Faulty c ≡ Row b.claim = same-held (sym a.malformed ∙ ap (λ k. slice_get fs k) same ∙ b.row) in
         absurd (cc)
 
     wrong-unique : (n m : ℕ) (d e : Direction) (p q : Place) → FirstIsWrong limits fs n d p → FirstIsWrong limits fs m e q → Wrong n d p ≡ Wrong m e q
@@ -195,7 +196,7 @@ module _ (limits : LimitsOf) where
         let Names : Claim → Type 0 = λ c. Contains c.directions e in
         let Before : Claim → Type 0 = λ c. (x : Direction) → Contains c.directions x → ComesBefore x e → IsCaseRight limits c x in
         let Wrongly : Claim → Type 0 = λ c. IsWrongAt limits c e q in
-        let case = same-case a.claim (ordered a.k (Claims a.claim) a.row) d e p q a.names (subst Names claim b.names) a.before (subst Before claim b.before) a.wrong (subst Wrongly claim b.wrong) in
+        let case = same-case a.claim (ordered a.k (Row a.claim) a.row) d e p q a.names (subst Names claim b.names) a.before (subst Before claim b.before) a.wrong (subst Wrongly claim b.wrong) in
         let direction : d ≡ e = case.0 in
         let place : p ≡ q = case.1 in
         cc
@@ -203,11 +204,11 @@ module _ (limits : LimitsOf) where
     says-unique : (v w : Verdict) → Says limits fs v → Says limits fs w → v ≡ w
     says-unique (Yes r c) (Yes s e) a b = let rows : r ≡ s = a.rows_counted ∙ sym b.rows_counted in let cases : c ≡ e = a.cases_counted ∙ sym b.cases_counted in cc
     says-unique (Yes r c) (Malformed n cause) a b = absurd (a.all.well_formed b.k cause (slice_get_within fs b.k (Faulty cause) b.malformed) b.malformed)
-    says-unique (Yes r c) (Wrong n d p) a b = absurd (right-wrong limits b.claim d p (a.all.right b.k b.claim d (slice_get_within fs b.k (Claims b.claim) b.row) b.row b.names) b.wrong)
+    says-unique (Yes r c) (Wrong n d p) a b = absurd (right-wrong limits b.claim d p (a.all.right b.k b.claim d (slice_get_within fs b.k (Row b.claim) b.row) b.row b.names) b.wrong)
     says-unique (Malformed n cause) (Yes r c) a b = absurd (b.all.well_formed a.k cause (slice_get_within fs a.k (Faulty cause) a.malformed) a.malformed)
     says-unique (Malformed n c) (Malformed m e) a b = malformed-unique n m c e a b
     says-unique (Malformed n c) (Wrong m d p) a b = absurd (not-both n m c d p a b)
-    says-unique (Wrong n d p) (Yes r c) a b = absurd (right-wrong limits a.claim d p (b.all.right a.k a.claim d (slice_get_within fs a.k (Claims a.claim) a.row) a.row a.names) a.wrong)
+    says-unique (Wrong n d p) (Yes r c) a b = absurd (right-wrong limits a.claim d p (b.all.right a.k a.claim d (slice_get_within fs a.k (Row a.claim) a.row) a.row a.names) a.wrong)
     says-unique (Wrong n d p) (Malformed m c) a b = absurd (not-both m n c d p b a)
     says-unique (Wrong n d p) (Wrong m e q) a b = wrong-unique n m d e p q a b
 

@@ -13,7 +13,7 @@ use Rattle.units.specs.declared.level.ParaLevel.TheVariants.{Zero, One}
 use Rattle.ucdfiles.specs.PairFiles.{char_of}
 use Rattle.bidtests.specs.declared.verdict.Cause.TheVariants.{LineTooLong, LevelItem, OrderItem, FieldCount, CodePoint, DirectionField, ParaField, EmptyRow}
 use Rattle.bidtests.specs.declared.verdict.Verdict.{Verdict}
-use Rattle.bidtests.specs.Verdicts.{Finding, Silent, Claims, Faulty, verdict_on}
+use Rattle.bidtests.specs.Verdicts.{Finding, Silent, Row, Faulty, verdict_on}
 use Rattle.bidtests.specs.ClassesFile.{level_item, order_item}
 
 -- an item of the first field: a code point that is no surrogate, as the unit that the tables give it
@@ -31,44 +31,48 @@ abbrev pub para_field : List ℕ → Option ParaLevel
 para_field field = if bytes_eq field (codes "0") then Some Zero else if bytes_eq field (codes "1") then Some One else None
 
 -- what a row claims whose fields are read as these, or the cause of the first that can't be read
-abbrev pub row_claims : Option (List BidiUnit) → Option Direction → Option ParaLevel → Option (List (Option ℕ)) → Option (List ℕ) → Finding
-row_claims None direction para levels order = Faulty CodePoint
-row_claims (Some text) None para levels order = Faulty DirectionField
-row_claims (Some text) (Some direction) None levels order = Faulty ParaField
-row_claims (Some text) (Some direction) (Some para) None order = Faulty LevelItem
-row_claims (Some text) (Some direction) (Some para) (Some levels) None = Faulty OrderItem
-row_claims (Some text) (Some direction) (Some para) (Some levels) (Some order) =
-    Claims (record { text = text; directions = direction ∷ []; para = Some (level_of_para para); levels = levels; order = order })
+abbrev pub characters_row_as_read : Option (List BidiUnit) → Option Direction → Option ParaLevel → Option (List (Option ℕ)) → Option (List ℕ) → Finding
+characters_row_as_read None direction para levels order = Faulty CodePoint
+characters_row_as_read (Some text) None para levels order = Faulty DirectionField
+characters_row_as_read (Some text) (Some direction) None levels order = Faulty ParaField
+characters_row_as_read (Some text) (Some direction) (Some para) None order = Faulty LevelItem
+characters_row_as_read (Some text) (Some direction) (Some para) (Some levels) None = Faulty OrderItem
+characters_row_as_read (Some text) (Some direction) (Some para) (Some levels) (Some order) =
+    Row (record { text = text; directions = direction ∷ []; para = Some (level_of_para para); levels = levels; order = order })
 
 -- what a row of these items claims: it has at least one; and by how direction fields are read
-abbrev pub row_with : (List ℕ → Option Direction) → (ℕ → BidiUnit) → List (List ℕ) → List ℕ → List ℕ → List ℕ → List ℕ → Finding
-row_with reads unit_of [] direction para levels order = Faulty EmptyRow
-row_with reads unit_of (item ∷ items) direction para levels order =
-    row_claims (each_read (character_item unit_of) (item ∷ items)) (reads direction) (para_field para)
+abbrev pub characters_row_of_items : (List ℕ → Option Direction) → (ℕ → BidiUnit) → List (List ℕ) → List ℕ → List ℕ → List ℕ → List ℕ → Finding
+characters_row_of_items reads unit_of [] direction para levels order = Faulty EmptyRow
+characters_row_of_items reads unit_of (item ∷ items) direction para levels order =
+    characters_row_as_read (each_read (character_item unit_of) (item ∷ items)) (reads direction) (para_field para)
     (each_read level_item (items_of levels)) (each_read order_item (items_of order))
 
 -- what a row of these fields claims: it has exactly five
-abbrev pub row_of_fields_by : (List ℕ → Option Direction) → (ℕ → BidiUnit) → List (List ℕ) → Finding
-row_of_fields_by reads unit_of (characters ∷ direction ∷ para ∷ levels ∷ order ∷ []) =
-    row_with reads unit_of (items_of characters) direction para levels order
-row_of_fields_by reads unit_of _ = Faulty FieldCount
+abbrev pub characters_row_by : (List ℕ → Option Direction) → (ℕ → BidiUnit) → List (List ℕ) → Finding
+characters_row_by reads unit_of (characters ∷ direction ∷ para ∷ levels ∷ order ∷ []) =
+    characters_row_of_items reads unit_of (items_of characters) direction para levels order
+characters_row_by reads unit_of _ = Faulty FieldCount
 
-abbrev pub row_of_fields : (ℕ → BidiUnit) → List (List ℕ) → Finding
-row_of_fields unit_of fields = row_of_fields_by direction_field unit_of fields
+abbrev pub characters_row : (ℕ → BidiUnit) → List (List ℕ) → Finding
+characters_row unit_of fields = characters_row_by direction_field unit_of fields
 
 -- what a content comes to: nothing if it is empty, else a row, also where it begins with `@`
-abbrev pub line_of_content : (List ℕ → Option Direction) → (ℕ → BidiUnit) → List ℕ → Finding
-line_of_content reads unit_of [] = Silent
-line_of_content reads unit_of (b ∷ bs) = row_of_fields_by reads unit_of (fields_of (b ∷ bs))
+abbrev pub characters_content : (List ℕ → Option Direction) → (ℕ → BidiUnit) → List ℕ → Finding
+characters_content reads unit_of [] = Silent
+characters_content reads unit_of (b ∷ bs) = characters_row_by reads unit_of (fields_of (b ∷ bs))
 
 -- what a line comes to, by the unit of each code point
 abbrev pub characters_line_by : (List ℕ → Option Direction) → (ℕ → BidiUnit) → List ℕ → Finding
 characters_line_by reads unit_of line =
-    if nat_lt longest_line (length line) then Faulty LineTooLong else line_of_content reads unit_of (content_of line)
+    if nat_lt longest_line (length line) then Faulty LineTooLong else characters_content reads unit_of (content_of line)
 
 unfoldable pub characters_line : (ℕ → BidiUnit) → List ℕ → Finding
 characters_line unit_of line = characters_line_by direction_field unit_of line
 
+-- what each of a file's lines comes to
+abbrev pub characters_findings : (ℕ → BidiUnit) → List (List ℕ) → List Finding
+characters_findings unit_of lines = map (characters_line unit_of) lines
+
 -- the verdict on the bytes of a BidiCharacterTest.txt, by the unit of each code point
 unfoldable pub characters_verdict : LimitsOf → (ℕ → BidiUnit) → List ℕ → Verdict
-characters_verdict limits unit_of bytes = verdict_on limits (map (characters_line unit_of) (lines_of bytes))
+characters_verdict limits unit_of bytes = verdict_on limits (characters_findings unit_of (lines_of bytes))

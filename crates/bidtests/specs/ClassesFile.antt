@@ -14,7 +14,7 @@ use Rattle.units.specs.declared.level.Direction.TheVariants.{Auto, Ltr, Rtl, Aut
 use Rattle.bidtests.specs.declared.verdict.Cause.{Cause}
 use Rattle.bidtests.specs.declared.verdict.Cause.TheVariants.{LineTooLong, Directive, LevelItem, OrderItem, ClassItem, BitSet, NoExpectation, FieldCount, EmptyRow}
 use Rattle.bidtests.specs.declared.verdict.Verdict.{Verdict}
-use Rattle.bidtests.specs.Verdicts.{Claim, Finding, Silent, Claims, Faulty, verdict_on}
+use Rattle.bidtests.specs.Verdicts.{Claim, Finding, Silent, Row, Faulty, verdict_on}
 
 -- `x`: the position is removed (X9)
 abbrev pub removed_item : List ℕ
@@ -78,41 +78,49 @@ abbrev pub order_directive : Option (List ℕ) → ClassesLine
 order_directive None = Broken OrderItem
 order_directive (Some order) = OrderIs order
 
+-- what `@Levels:` with this list says
+abbrev pub levels_said : List ℕ → ClassesLine
+levels_said list = levels_directive (each_read level_item (items_of list))
+
+-- what `@Reorder:` with this list says
+abbrev pub order_said : List ℕ → ClassesLine
+order_said list = order_directive (each_read order_item (items_of list))
+
 -- what a content says that begins with `@`
 abbrev pub directive : List ℕ → ClassesLine
 directive content =
     if starts_with nat_eq content (codes "@Type:") then Nothing
-    else if starts_with nat_eq content (codes "@Levels:") then levels_directive (each_read level_item (items_of (drop 8 content)))
-    else if starts_with nat_eq content (codes "@Reorder:") then order_directive (each_read order_item (items_of (drop 9 content)))
+    else if starts_with nat_eq content (codes "@Levels:") then levels_said (drop 8 content)
+    else if starts_with nat_eq content (codes "@Reorder:") then order_said (drop 9 content)
     else Broken Directive
 
 -- what a row says, by what its items and its bit set are read as: a wrong item comes before a wrong bit set
-abbrev pub row_of : Option (List BidiUnit) → Option (List Direction) → ClassesLine
-row_of None directions = Broken ClassItem
-row_of (Some text) None = Broken BitSet
-row_of (Some text) (Some directions) = RowOf text directions
+abbrev pub classes_row_as_read : Option (List BidiUnit) → Option (List Direction) → ClassesLine
+classes_row_as_read None directions = Broken ClassItem
+classes_row_as_read (Some text) None = Broken BitSet
+classes_row_as_read (Some text) (Some directions) = RowOf text directions
 
 -- what a row of these items says: it has at least one; and by how bit sets are read
-abbrev pub row_with : (List ℕ → Option (List Direction)) → List (List ℕ) → List ℕ → ClassesLine
-row_with reads [] bits = Broken EmptyRow
-row_with reads (name ∷ names) bits = row_of (each_read unit_item (name ∷ names)) (reads bits)
+abbrev pub classes_row_of_items : (List ℕ → Option (List Direction)) → List (List ℕ) → List ℕ → ClassesLine
+classes_row_of_items reads [] bits = Broken EmptyRow
+classes_row_of_items reads (name ∷ names) bits = classes_row_as_read (each_read unit_item (name ∷ names)) (reads bits)
 
 -- what a row of these fields says: it has exactly two
-abbrev pub data_line_by : (List ℕ → Option (List Direction)) → List (List ℕ) → ClassesLine
-data_line_by reads (names ∷ bits ∷ []) = row_with reads (items_of names) bits
-data_line_by reads _ = Broken FieldCount
+abbrev pub classes_row_by : (List ℕ → Option (List Direction)) → List (List ℕ) → ClassesLine
+classes_row_by reads (names ∷ bits ∷ []) = classes_row_of_items reads (items_of names) bits
+classes_row_by reads _ = Broken FieldCount
 
-abbrev pub data_line : List (List ℕ) → ClassesLine
-data_line fields = data_line_by bit_set fields
+abbrev pub classes_row : List (List ℕ) → ClassesLine
+classes_row fields = classes_row_by bit_set fields
 
 -- what a content says: nothing if it is empty, a directive if it begins with `@`, else a row
-abbrev pub line_of_content : (List ℕ → Option (List Direction)) → List ℕ → ClassesLine
-line_of_content reads [] = Nothing
-line_of_content reads (b ∷ bs) = if b == 64 then directive (b ∷ bs) else data_line_by reads (fields_of (b ∷ bs))
+abbrev pub classes_content : (List ℕ → Option (List Direction)) → List ℕ → ClassesLine
+classes_content reads [] = Nothing
+classes_content reads (b ∷ bs) = if b == 64 then directive (b ∷ bs) else classes_row_by reads (fields_of (b ∷ bs))
 
 -- what a line says by itself
 abbrev pub classes_line_by : (List ℕ → Option (List Direction)) → List ℕ → ClassesLine
-classes_line_by reads line = if nat_lt longest_line (length line) then Broken LineTooLong else line_of_content reads (content_of line)
+classes_line_by reads line = if nat_lt longest_line (length line) then Broken LineTooLong else classes_content reads (content_of line)
 
 unfoldable pub classes_line : List ℕ → ClassesLine
 classes_line line = classes_line_by bit_set line
@@ -130,32 +138,32 @@ order_in_force (OrderIs order ∷ earlier) = Some order
 order_in_force (_ ∷ earlier) = order_in_force earlier
 
 -- what a row claims: no paragraph level, and the lists in force
-abbrev pub row_claim : List BidiUnit → List Direction → List (Option ℕ) → List ℕ → Claim
-row_claim text directions levels order = record { text = text; directions = directions; para = None; levels = levels; order = order }
+abbrev pub claim_under : List BidiUnit → List Direction → List (Option ℕ) → List ℕ → Claim
+claim_under text directions levels order = record { text = text; directions = directions; para = None; levels = levels; order = order }
 
 -- what a row comes to where these lists are in force: it needs both
-abbrev pub claimed : List BidiUnit → List Direction → Option (List (Option ℕ)) → Option (List ℕ) → Finding
-claimed text directions (Some levels) (Some order) = Claims (row_claim text directions levels order)
-claimed text directions _ _ = Faulty NoExpectation
+abbrev pub row_under : List BidiUnit → List Direction → Option (List (Option ℕ)) → Option (List ℕ) → Finding
+row_under text directions (Some levels) (Some order) = Row (claim_under text directions levels order)
+row_under text directions _ _ = Faulty NoExpectation
 
 -- what a line comes to where these lists are in force
-abbrev pub finding : Option (List (Option ℕ)) → Option (List ℕ) → ClassesLine → Finding
-finding levels order Nothing = Silent
-finding levels order (LevelsAre _) = Silent
-finding levels order (OrderIs _) = Silent
-finding levels order (Broken cause) = Faulty cause
-finding levels order (RowOf text directions) = claimed text directions levels order
+abbrev pub comes_to : Option (List (Option ℕ)) → Option (List ℕ) → ClassesLine → Finding
+comes_to levels order Nothing = Silent
+comes_to levels order (LevelsAre _) = Silent
+comes_to levels order (OrderIs _) = Silent
+comes_to levels order (Broken cause) = Faulty cause
+comes_to levels order (RowOf text directions) = row_under text directions levels order
 
 -- what each of these lines comes to behind the earlier ones, the nearest of them first
 abbrev pub findings_behind : List ClassesLine → List ClassesLine → List Finding
 findings_behind earlier [] = []
 findings_behind earlier (line ∷ lines) =
-    finding (levels_in_force earlier) (order_in_force earlier) line ∷ findings_behind (line ∷ earlier) lines
+    comes_to (levels_in_force earlier) (order_in_force earlier) line ∷ findings_behind (line ∷ earlier) lines
 
 -- what each of a file's lines comes to
-abbrev pub findings_of : List (List ℕ) → List Finding
-findings_of lines = findings_behind [] (map classes_line lines)
+abbrev pub classes_findings : List (List ℕ) → List Finding
+classes_findings lines = findings_behind [] (map classes_line lines)
 
 -- the verdict on the bytes of a BidiTest.txt
 unfoldable pub classes_verdict : LimitsOf → List ℕ → Verdict
-classes_verdict limits bytes = verdict_on limits (findings_of (lines_of bytes))
+classes_verdict limits bytes = verdict_on limits (classes_findings (lines_of bytes))

@@ -1,4 +1,5 @@
--- What a verdict says of a file, by quantifiers over its lines, the directions that its rows name, and the places of their lists.
+-- What a verdict says of a file, by quantifiers over its lines, the directions that its rows name, and the places of
+-- their lists.
 use Rattle.std.specs.Prelude.{◌≡◌, ◌≢◌, Option, Some, ℕ, ◌<◌, List, [], length, map, reverse, take, IfSome, slice_index_or}
 use Rattle.std.specs.List.{slice_get, Contains}
 use Rattle.units.specs.Layout.{TextLayout, layout_of, all_orders}
@@ -11,16 +12,17 @@ use Rattle.bidtests.specs.declared.verdict.Place.{Place}
 use Rattle.bidtests.specs.declared.verdict.Place.TheVariants.{ParaLevel, Levels, Order}
 use Rattle.bidtests.specs.declared.verdict.Verdict.{Verdict}
 use Rattle.bidtests.specs.declared.verdict.Verdict.TheVariants.{Yes, Malformed, Wrong}
-use Rattle.bidtests.specs.Verdicts.{Claim, Finding, Claims, Faulty, line_number, rows_in, cases_in}
-use Rattle.bidtests.specs.ClassesFile.{directions_in_order, classes_line, finding, levels_in_force, order_in_force}
+use Rattle.bidtests.specs.Verdicts.{Claim, Finding, Row, Faulty, rows_in, cases_in}
+use Rattle.units.specs.Lines.{line_number}
+use Rattle.bidtests.specs.ClassesFile.{directions_in_order, classes_line, comes_to, levels_in_force, order_in_force}
 use Rattle.bidtests.specs.CharactersFile.{characters_line}
-use Rattle.bidtests.specs.FileKinds.{unit_by}
+use Rattle.ucdfiles.specs.Tables.{unit_by}
 
 -- what line k comes to, before which k lines stand: in a classes file by the lists in force behind these
 abbrev pub line_comes_to : Kind → List (List ℕ) → ℕ → Finding
 line_comes_to Classes lines k =
     let earlier = reverse (map classes_line (take k lines)) in
-    finding (levels_in_force earlier) (order_in_force earlier) (classes_line (slice_index_or lines k []))
+    comes_to (levels_in_force earlier) (order_in_force earlier) (classes_line (slice_index_or lines k []))
 line_comes_to (Characters tables) lines k = characters_line (unit_by tables.now) (slice_index_or lines k [])
 
 -- line k is malformed, for this cause, where the lines of a file come to these
@@ -29,7 +31,7 @@ IsMalformed found k cause = slice_get found k ≡ Some (Faulty cause)
 
 -- line k is a row that is well formed, and claims this
 abbrev pub IsRow : List Finding → ℕ → Claim → Type 0
-IsRow found k claim = slice_get found k ≡ Some (Claims claim)
+IsRow found k claim = slice_get found k ≡ Some (Row claim)
 
 -- P1 to L2: the layout of the claim's text under the direction, by these limits, without breaks
 abbrev pub layout_under : LimitsOf → Claim → Direction → TextLayout
@@ -88,8 +90,8 @@ pub record FirstIsMalformed (limits : LimitsOf) (found : List Finding) (number :
   pub earlier : AreRight limits found k
   pub malformed : IsMalformed found k cause
 
--- wrong: the line of this number is a row that is well formed and names the direction, at this place its claim first differs from the
--- layout, and all earlier lines and the earlier ones of its directions are right
+-- wrong: the line of this number is a row that is well formed and names the direction, at this place its claim first
+-- differs from the layout, and all earlier lines and the earlier ones of its directions are right
 pub record FirstIsWrong (limits : LimitsOf) (found : List Finding) (number : ℕ) (direction : Direction) (place : Place) : Type 0 where
   pub k : ℕ
   pub numbered : number ≡ line_number k

@@ -10,3 +10,4 @@ pub mod Readings
 pub mod Standing
 pub mod Rows
 pub mod CharactersRows
+pub mod VerdictText

@@ -8,7 +8,7 @@ use Rattle.units.specs.Isolates.{level_of_para}
 use Rattle.units.specs.declared.level.ParaLevel.{ParaLevel}
 use Rattle.std.specs.Option.{option_map}
 use Rattle.bidtests.specs.declared.claim.Claim.{Claim as RowClaim}
-use Rattle.bidtests.specs.Verdicts.{Claim, Finding, Claims, Faulty}
+use Rattle.bidtests.specs.Verdicts.{Claim, Finding, Row, Faulty}
 use Rattle.bidtests.specs.ClassesFile.{ClassesLine, RowOf, Broken}
 
 -- the list that was read, if it was
@@ -33,5 +33,5 @@ claim_of c = record { text = c.text.now; directions = c.directions.now; para = o
 -- the claim of a row of this direction and this paragraph level with these lists, or the cause
 abbrev pub claim_read : Result (Direction × ParaLevel) Cause → List BidiUnit → List (Option ℕ) → List ℕ → Finding
 claim_read (Ok asked) text levels order =
-    Claims (record { text = text; directions = asked.0 ∷ []; para = Some (level_of_para asked.1); levels = levels; order = order })
+    Row (record { text = text; directions = asked.0 ∷ []; para = Some (level_of_para asked.1); levels = levels; order = order })
 claim_read (Err cause) text levels order = Faulty cause

@@ -1,5 +1,6 @@
--- The verdict as it is where no row can ask for AutoRtl: a bit set is one digit of 1 to 7, and a direction field `0`, `1` or `2`.
-use Rattle.std.specs.Prelude.{Option, ℕ, Bool, false, ◌-◌, ◌%◌, ◌/◌, ◌==◌, ◌&&◌, nat_le, if◌then◌else◌, List, [], ◌∷◌, filter, map, Some, None, codes}
+-- The verdict as it is where no row can ask for AutoRtl: a bit set is one digit of 1 to 7, and a direction field `0`,
+-- `1` or `2`.
+use Rattle.std.specs.Prelude.{Option, ℕ, ◌≢◌, Bool, false, ◌-◌, ◌%◌, ◌/◌, ◌==◌, ◌&&◌, nat_le, if◌then◌else◌, List, [], ◌∷◌, filter, map, Some, None, codes}
 use Rattle.std.specs.Str.{bytes_eq}
 use Rattle.units.specs.Limits.{LimitsOf}
 use Rattle.units.specs.Text.{lines_of}
@@ -8,11 +9,13 @@ use Rattle.units.specs.declared.level.Direction.{Direction}
 use Rattle.units.specs.declared.level.Direction.TheVariants.{Auto, Ltr, Rtl, AutoRtl}
 use Rattle.bidtests.specs.declared.kind.Kind.{Kind}
 use Rattle.bidtests.specs.declared.kind.Kind.TheVariants.{Classes, Characters}
+use Rattle.bidtests.specs.declared.verdict.Cause.TheVariants.{BitSet, DirectionField}
 use Rattle.bidtests.specs.declared.verdict.Verdict.{Verdict}
+use Rattle.bidtests.specs.declared.verdict.Verdict.TheVariants.{Malformed}
 use Rattle.bidtests.specs.Verdicts.{Finding, verdict_on}
 use Rattle.bidtests.specs.ClassesFile.{ClassesLine, classes_line_by, findings_behind}
 use Rattle.bidtests.specs.CharactersFile.{characters_line_by}
-use Rattle.bidtests.specs.FileKinds.{unit_by}
+use Rattle.ucdfiles.specs.Tables.{unit_by}
 
 -- bit 1 names auto, bit 2 LTR, bit 4 RTL
 abbrev pub names_one_of_three : ℕ → Direction → Bool
@@ -43,3 +46,9 @@ three_characters_line unit_of line = characters_line_by zero_to_two unit_of line
 abbrev pub three_verdict_of : LimitsOf → Kind → List ℕ → Verdict
 three_verdict_of limits Classes bytes = verdict_on limits (findings_behind [] (map three_classes_line (lines_of bytes)))
 three_verdict_of limits (Characters tables) bytes = verdict_on limits (map (three_characters_line (unit_by tables.now)) (lines_of bytes))
+
+-- that verdict isn't that a bit set or a direction field is malformed
+abbrev pub IsOfThreeDirections : LimitsOf → Kind → List ℕ → Type 0
+IsOfThreeDirections limits kind bytes =
+    ((line : ℕ) → three_verdict_of limits kind bytes ≢ Malformed line BitSet)
+    × ((line : ℕ) → three_verdict_of limits kind bytes ≢ Malformed line DirectionField)

@@ -1,8 +1,10 @@
 -- The verdict on a test file: the least line that is malformed or holds a wrong case, or yes.
-use Rattle.std.specs.Prelude.{Option, ℕ, ◌+◌, ◌-◌, ◌^◌, min, Bool, true, false, nat_eq, if◌then◌else◌, List, [], ◌∷◌, length, sum_by, count_by, Some, None}
-use Rattle.units.specs.Positions.{is_same}
+use Rattle.std.specs.Prelude.{Option, ℕ, ◌+◌, Bool, true, false, nat_eq, if◌then◌else◌, List, [], ◌∷◌, length, sum_by, count_by, Some, None}
+use Rattle.std.specs.Option.{option_or}
+use Rattle.units.specs.Positions.{same_position}
 use Rattle.units.specs.Layout.{TextLayout, layout_of, all_orders}
 use Rattle.units.specs.Limits.{LimitsOf}
+use Rattle.units.specs.Lines.{line_number, saturated}
 use Rattle.units.specs.declared.bracket.Unit.{Unit as BidiUnit}
 use Rattle.units.specs.declared.level.Direction.{Direction}
 use Rattle.bidtests.specs.declared.verdict.Cause.{Cause}
@@ -11,7 +13,8 @@ use Rattle.bidtests.specs.declared.verdict.Place.TheVariants.{ParaLevel, Levels,
 use Rattle.bidtests.specs.declared.verdict.Verdict.{Verdict}
 use Rattle.bidtests.specs.declared.verdict.Verdict.TheVariants.{Yes, Malformed, Wrong}
 
--- what a row claims of its text under each of its directions: the first paragraph's level or nothing of it, the levels of all positions, and the order
+-- what a row claims of its text under each of its directions: the first paragraph's level or nothing of it, the levels
+-- of all positions, and the order
 pub record Claim : Type 0 where
   pub text : List BidiUnit
   pub directions : List Direction
@@ -19,10 +22,10 @@ pub record Claim : Type 0 where
   pub levels : List (Option ℕ)
   pub order : List ℕ
 
--- what a line comes to, with the lines before it: it says nothing, is a row with its claim, or is malformed
+-- what a line comes to behind the lines before it: it says nothing, is a row that claims this, or is malformed
 pub data Finding : Type 0 where
   Silent : Finding
-  Claims : (claim : Claim) → Finding
+  Row : (claim : Claim) → Finding
   Faulty : (cause : Cause) → Finding
 
 -- the first index, counted from `at`, at which two lists differ or one of them ends
@@ -40,46 +43,38 @@ first_of (x ∷ xs) = Some x
 -- no paragraph level is claimed, or this one
 abbrev pub agrees : Option ℕ → Option ℕ → Bool
 agrees None level = true
-agrees (Some claimed) level = is_same (Some claimed) level
-
--- the first of the two that is there
-abbrev pub or_else : {A : Type 0} → Option A → Option A → Option A
-or_else None b = b
-or_else (Some a) b = Some a
+agrees (Some claimed) level = same_position (Some claimed) level
 
 -- the place in such a list, where there is an index
 abbrev pub placed_in : (ℕ → Place) → Option ℕ → Option Place
 placed_in place None = None
 placed_in place (Some i) = Some (place i)
 
--- the first place at which these differ from the layout: the first paragraph's level, then the levels, then the orders of all lines joined
+-- the first place at which these differ from the layout: the first paragraph's level, then the levels, then the orders
+-- of all lines joined
 abbrev pub wrong_place : Option ℕ → List (Option ℕ) → List ℕ → TextLayout → Option Place
 wrong_place para levels order layout =
     if agrees para (first_of layout.paras)
-    then or_else
-    (placed_in Levels (first_difference is_same levels layout.levels 0))
+    then option_or
+    (placed_in Levels (first_difference same_position levels layout.levels 0))
     (placed_in Order (first_difference nat_eq order (all_orders layout) 0))
     else Some ParaLevel
+
+-- the first place at which a claim differs from the layout of its text under the direction (P1 to L2), by the limits
+-- and without breaks
+abbrev pub wrong_place_under : LimitsOf → Claim → Direction → Option Place
+wrong_place_under limits claim d = wrong_place claim.para claim.levels claim.order (layout_of limits claim.text d [])
 
 -- the direction with the place, where there is one
 abbrev pub with_place : Direction → Option Place → Option (Direction × Place)
 with_place d None = None
 with_place d (Some place) = Some (d, place)
 
--- the first of these directions whose case is wrong, and where: each case is compared with the layout of the row's text (P1 to L2) by the
--- limits, without breaks
+-- the first of these directions whose case is wrong, and where
 abbrev pub wrong_case : LimitsOf → Claim → List Direction → Option (Direction × Place)
 wrong_case limits claim [] = None
 wrong_case limits claim (d ∷ ds) =
-    or_else (with_place d (wrong_place claim.para claim.levels claim.order (layout_of limits claim.text d []))) (wrong_case limits claim ds)
-
--- the greatest number that is counted to
-abbrev pub most_counted : ℕ
-most_counted = 2 ^ 64 - 1
-
--- the number of the line before which k lines stand
-abbrev pub line_number : ℕ → ℕ
-line_number k = min (k + 1) most_counted
+    option_or (with_place d (wrong_place_under limits claim d)) (wrong_case limits claim ds)
 
 -- the no of a wrong case, where there is one
 abbrev pub wrong_at : ℕ → Option (Direction × Place) → Option Verdict
@@ -87,34 +82,34 @@ wrong_at number None = None
 wrong_at number (Some x) = Some (Wrong number x.0 x.1)
 
 -- the no that a line of this number gives, if it is malformed or holds a wrong case
-abbrev pub fault_of : LimitsOf → ℕ → Finding → Option Verdict
-fault_of limits number Silent = None
-fault_of limits number (Faulty cause) = Some (Malformed number cause)
-fault_of limits number (Claims claim) = wrong_at number (wrong_case limits claim claim.directions)
+abbrev pub no_of : LimitsOf → ℕ → Finding → Option Verdict
+no_of limits number Silent = None
+no_of limits number (Faulty cause) = Some (Malformed number cause)
+no_of limits number (Row claim) = wrong_at number (wrong_case limits claim claim.directions)
 
 -- how many cases a line holds: one for each direction that it names
 abbrev pub cases_of : Finding → ℕ
 cases_of Silent = 0
 cases_of (Faulty cause) = 0
-cases_of (Claims claim) = length claim.directions
+cases_of (Row claim) = length claim.directions
 
 -- the line is a row
 abbrev pub is_row : Finding → Bool
-is_row (Claims claim) = true
+is_row (Row claim) = true
 is_row _ = false
 
 -- the no of the least of these lines that gives one, where k lines stand before them
-abbrev pub first_fault : LimitsOf → ℕ → List Finding → Option Verdict
-first_fault limits k [] = None
-first_fault limits k (f ∷ fs) = or_else (fault_of limits (line_number k) f) (first_fault limits (k + 1) fs)
+abbrev pub first_no : LimitsOf → ℕ → List Finding → Option Verdict
+first_no limits k [] = None
+first_no limits k (f ∷ fs) = option_or (no_of limits (line_number k) f) (first_no limits (k + 1) fs)
 
 -- how many rows these lines hold
 abbrev pub rows_in : List Finding → ℕ
-rows_in fs = min (count_by is_row fs) most_counted
+rows_in fs = saturated (count_by is_row fs)
 
 -- how many cases these lines hold
 abbrev pub cases_in : List Finding → ℕ
-cases_in fs = min (sum_by cases_of fs) most_counted
+cases_in fs = saturated (sum_by cases_of fs)
 
 -- the no that is given, or else yes with the counts of these lines
 abbrev pub or_yes : List Finding → Option Verdict → Verdict
@@ -123,4 +118,4 @@ or_yes fs None = Yes (rows_in fs) (cases_in fs)
 
 -- the verdict on a file whose lines come to this
 unfoldable pub verdict_on : LimitsOf → List Finding → Verdict
-verdict_on limits fs = or_yes fs (first_fault limits 0 fs)
+verdict_on limits fs = or_yes fs (first_no limits 0 fs)

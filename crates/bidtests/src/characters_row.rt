@@ -1,8 +1,8 @@
 // Rows of characters files.
 ghost use Rattle.std.specs.Prelude.{◌≡◌, ◌≢◌, ◌+◌, ◌*◌, ◌≤◌, [], ◌∷◌, length, vec_capacity, MatchOption, IfSome, IfOk};
 ghost use Rattle.units.specs.Text.{fields_of};
-ghost use Rattle.bidtests.specs.CharactersFile.{direction_field, para_field, row_of_fields};
-ghost use Rattle.bidtests.specs.FileKinds.{unit_by};
+ghost use Rattle.bidtests.specs.CharactersFile.{direction_field, para_field, characters_row};
+ghost use Rattle.ucdfiles.specs.Tables.{unit_by};
 ghost use Rattle.bidtests.specs.Readings.{claim_read};
 
 use crate::item::{CharacterItems, LevelItems, OrderItems, read_items};
@@ -81,7 +81,8 @@ pub fn read_characters(
     requires text { length content.now ≤ 2 * vec_capacity text.old }
     requires levels { length content.now ≤ 2 * vec_capacity levels.old }
     requires order { length content.now ≤ 2 * vec_capacity order.old }
-    ensures row { claim_read result text.new.items levels.new.items order.new.items ≡ row_of_fields (unit_by tables.now) (fields_of content.now) }
+    ensures row { claim_read result text.new.items levels.new.items order.new.items
+        ≡ characters_row (unit_by tables.now) (fields_of content.now) }
     ensures count { IfOk result (λ _. 2 * length text.new.items ≤ length content.now + 1) }
     ensures text { vec_capacity text.new ≡ vec_capacity text.old }
     ensures levels { vec_capacity levels.new ≡ vec_capacity levels.old }

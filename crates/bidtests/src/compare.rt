@@ -1,17 +1,18 @@
 // Claims compared with layouts.
-ghost use Rattle.std.specs.Prelude.{◌≡◌, ◌<◌, ◌≤◌, ◌+◌, ◌++◌, ℕ, List, None, Some, [], ◌∷◌, drop, length, map, nat_eq, MatchOption, IfSome, IsSome};
+ghost use Rattle.std.specs.Prelude.{◌≡◌, ◌<◌, ◌≤◌, List, None, Some, [], ◌∷◌, length, map, nat_eq, MatchOption, IfSome};
+ghost use Rattle.std.specs.Prelude.{IsSome};
 ghost use Rattle.std.specs.Option.{option_map};
 ghost use Rattle.units.specs.Layout.{all_orders, layout_of};
 ghost use Rattle.units.specs.Limits.{LimitsOf};
 ghost use Rattle.units.specs.declared.class.Class.{Class};
 ghost use Rattle.units.specs.declared.level.Direction.{Direction};
 ghost use Rattle.units.specs.Isolates.{level_of_para, para_level_of};
-ghost use Rattle.units.specs.Positions.{is_same};
+ghost use Rattle.units.specs.Positions.{same_position};
 ghost use Rattle.lines.specs.Layouts.{view_of};
 ghost use Rattle.lines.specs.Scratches.{room_of};
-ghost use Rattle.bidtests.specs.Verdicts.{agrees, first_of, first_difference, wrong_case, fault_of, Claims};
+ghost use Rattle.bidtests.specs.Verdicts.{agrees, first_of, first_difference, wrong_case, no_of, Row};
 ghost use Rattle.bidtests.specs.Readings.{claim_of};
-ghost use Rattle.bidtests.specs.Comparisons.{Compares};
+ghost use Rattle.bidtests.specs.Comparisons.{Compares, DiffersAt, GoesOnBehind};
 
 use crate::claim::Claim;
 use crate::verdict::{Place, Verdict};
@@ -38,7 +39,7 @@ fn agrees_with(claimed: Option<ParaLevel>, defined: &[ParaLevel]) -> bool
 
 /// The first index at which the lists differ or one of them ends.
 fn differing_level(claimed: &[Option<Level>], defined: &[Option<Level>]) -> Option<usize>
-    ensures { result ≡ first_difference is_same claimed.now defined.now 0 }
+    ensures { result ≡ first_difference same_position claimed.now defined.now 0 }
 {
     let shorter = claimed.len().min(defined.len());
     for i in 0..shorter {
@@ -55,10 +56,7 @@ fn differing_level(claimed: &[Option<Level>], defined: &[Option<Level>]) -> Opti
 
 /// The first index of the line's order at which the claimed list differs or ends.
 fn differing_position(claimed: &[usize], line: &[usize]) -> Option<usize>
-    ensures { MatchOption result
-        ((length line.now ≤ length claimed.now) × ((more : List ℕ) (at : ℕ) → first_difference nat_eq claimed.now (line.now ++ more) at
-        ≡ first_difference nat_eq (drop (length line.now) claimed.now) more (at + length line.now)))
-        (λ i. (i ≤ length claimed.now) × ((more : List ℕ) (at : ℕ) → first_difference nat_eq claimed.now (line.now ++ more) at ≡ Some (at + i))) }
+    ensures { MatchOption result (GoesOnBehind claimed.now line.now) (DiffersAt claimed.now line.now) }
 {
     for i in 0..line.len() {
         if i >= claimed.len() || claimed[i] != line[i] {
@@ -105,7 +103,8 @@ enum Comparison {
 /// The direction that gives the paragraph of a text of one paragraph the level that it has, whatever its classes are.
 #[tactic(auto, unfolding(units::specs::Isolates::para_level_of))]
 fn direction_of(paras: &[ParaLevel]) -> Option<Direction>
-    ensures level { IfSome result (λ direction. (classes : List Class) → map level_of_para paras.now ≡ para_level_of classes direction ∷ []) }
+    ensures level { IfSome result (λ direction. (classes : List Class)
+        → map level_of_para paras.now ≡ para_level_of classes direction ∷ []) }
     ensures one { length paras.now ≡ 1 → IsSome result }
 {
     match paras {
@@ -117,7 +116,8 @@ fn direction_of(paras: &[ParaLevel]) -> Option<Direction>
 
 /// Compares a claim with a layout of its text, under whichever direction and by whichever limits it is.
 fn compare_with(claim: Claim<'_>, layout: &Layout<'_>) -> Comparison
-    ensures { (limits : LimitsOf) (direction : Direction) → view_of layout.now ≡ layout_of limits claim.entry.text.now direction []
+    ensures { (limits : LimitsOf) (direction : Direction)
+        → view_of layout.now ≡ layout_of limits claim.entry.text.now direction []
         → Compares limits result (claim_of claim.entry) direction }
 {
     if !agrees_with(claim.para, layout.para_levels()) {
@@ -202,7 +202,7 @@ pub fn row_fault(
     limits: Limits,
 ) -> Option<Verdict>
     requires { length claim.text.now ≤ room_of scratch.old }
-    ensures fault { result ≡ fault_of limits number (Claims (claim_of claim.entry)) }
+    ensures fault { result ≡ no_of limits number (Row (claim_of claim.entry)) }
     ensures room { room_of scratch.new ≡ room_of scratch.old }
 {
     let (direction, place) = first_wrong(scratch, claim, limits)?;

@@ -4,7 +4,7 @@ ghost use Rattle.units.specs.Text.{items_of, each_read};
 ghost use Rattle.ucdfiles.specs.PairFiles.{char_of};
 ghost use Rattle.bidtests.specs.ClassesFile.{level_item, order_item, unit_item};
 ghost use Rattle.bidtests.specs.CharactersFile.{character_item};
-ghost use Rattle.bidtests.specs.FileKinds.{unit_by};
+ghost use Rattle.ucdfiles.specs.Tables.{unit_by};
 ghost use Rattle.bidtests.specs.Readings.{if_read};
 
 use ucdfiles::tables::Tables;

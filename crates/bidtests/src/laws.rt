@@ -23,11 +23,13 @@ ghost use Rattle.bidtests.specs.Headline.{line_comes_to, AllAreRight, FirstIsMal
 /// RTL, AutoRtl, is malformed or wrong. `line`: what these say of a line is what it comes to by itself and, in a
 /// BidiTest.txt, by the lists in force behind the lines before it.
 pub fn verdict_law()
-    ensures line { (kind : Kind) (lines : List (List ℕ)) (k : ℕ) → k < length lines → slice_get (findings_by kind lines) k ≡ Some (line_comes_to kind lines k) }
+    ensures line { (kind : Kind) (lines : List (List ℕ)) (k : ℕ)
+        → k < length lines → slice_get (findings_by kind lines) k ≡ Some (line_comes_to kind lines k) }
     ensures yes { (limits : LimitsOf) (kind : Kind) (b : List ℕ) (rows cases : ℕ)
         → (verdict_of limits kind b ≡ Yes rows cases) ↔ AllAreRight limits (findings_by kind (lines_of b)) rows cases }
     ensures malformed { (limits : LimitsOf) (kind : Kind) (b : List ℕ) (number : ℕ) (cause : Cause)
-        → (verdict_of limits kind b ≡ Malformed number cause) ↔ FirstIsMalformed limits (findings_by kind (lines_of b)) number cause }
+        → (verdict_of limits kind b ≡ Malformed number cause)
+        ↔ FirstIsMalformed limits (findings_by kind (lines_of b)) number cause }
     ensures wrong { (limits : LimitsOf) (kind : Kind) (b : List ℕ) (number : ℕ) (direction : Direction) (place : Place)
         → (verdict_of limits kind b ≡ Wrong number direction place)
         ↔ FirstIsWrong limits (findings_by kind (lines_of b)) number direction place }

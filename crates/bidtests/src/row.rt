@@ -1,7 +1,7 @@
 // Rows of classes files.
 ghost use Rattle.std.specs.Prelude.{◌≡◌, ◌+◌, ◌*◌, ◌≤◌, length, vec_capacity};
 ghost use Rattle.units.specs.Text.{fields_of};
-ghost use Rattle.bidtests.specs.ClassesFile.{data_line};
+ghost use Rattle.bidtests.specs.ClassesFile.{classes_row};
 ghost use Rattle.bidtests.specs.Readings.{row_read};
 
 use crate::directions::directions;
@@ -14,7 +14,7 @@ use units::text::cut::two_fields;
 /// Reads a row's text into the list, and hands out its directions.
 pub fn read_row(content: &[u8], text: &mut Vec<Unit>) -> Result<&'static [Direction], Cause>
     requires { length content.now ≤ 2 * vec_capacity text.old }
-    ensures row { row_read result text.new.items ≡ data_line (fields_of content.now) }
+    ensures row { row_read result text.new.items ≡ classes_row (fields_of content.now) }
     ensures count { 2 * length text.new.items ≤ length content.now + 1 }
     ensures room { vec_capacity text.new ≡ vec_capacity text.old }
 {

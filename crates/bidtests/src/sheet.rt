@@ -1,10 +1,10 @@
 // What a judge keeps between two lines.
 ghost use Rattle.std.specs.Prelude.{◌≡◌, ◌≤◌, None, Some, IfOk, IsNone, length};
-ghost use Rattle.units.specs.Text.{items_of, each_read, fields_of, longest_line};
-ghost use Rattle.bidtests.specs.Verdicts.{fault_of};
-ghost use Rattle.bidtests.specs.ClassesFile.{classes_line, directive, levels_directive, order_directive, data_line, level_item, order_item};
-ghost use Rattle.bidtests.specs.CharactersFile.{characters_line, row_of_fields};
-ghost use Rattle.bidtests.specs.FileKinds.{unit_by};
+ghost use Rattle.units.specs.Text.{fields_of, longest_line};
+ghost use Rattle.bidtests.specs.Verdicts.{no_of};
+ghost use Rattle.bidtests.specs.ClassesFile.{classes_line, directive, levels_said, order_said, classes_row};
+ghost use Rattle.bidtests.specs.CharactersFile.{characters_line, characters_row};
+ghost use Rattle.ucdfiles.specs.Tables.{unit_by};
 ghost use Rattle.lines.specs.Scratches.{room_of};
 
 use crate::characters_row::read_characters;
@@ -53,9 +53,16 @@ impl Model for Sheet {
 
     ghost Value = { Standing };
 
-    ghost view = { λ s. record { limits = s.limits; levels = if_read s.has_levels s.levels.items; order = if_read s.has_order s.order.items; rows = s.rows; cases = s.cases } };
+    ghost view = { λ s. record {
+      limits = s.limits;
+      levels = if_read s.has_levels s.levels.items;
+      order = if_read s.has_order s.order.items;
+      rows = s.rows;
+      cases = s.cases;
+    } };
 
-    ghost invariant = { λ s. (room_of s.scratch ≡ MOST_UNITS) × (MOST_UNITS ≤ vec_capacity s.text) × (MOST_UNITS ≤ vec_capacity s.levels) × (MOST_UNITS ≤ vec_capacity s.order) };
+    ghost invariant = { λ s. (room_of s.scratch ≡ MOST_UNITS) × (MOST_UNITS ≤ vec_capacity s.text)
+        × (MOST_UNITS ≤ vec_capacity s.levels) × (MOST_UNITS ≤ vec_capacity s.order) };
 }
 
 fn malformed(number: u64, cause: Cause) -> Option<Verdict>
@@ -75,7 +82,8 @@ fn scratch(alloc: Global) -> Result<Scratch, Memory>
 }
 
 impl Sheet {
-    ghost use Rattle.bidtests.specs.Standing.{at_start, unlisted, counted, HasNoLists, fault_in, fault_at, after_said, after_line};
+    ghost use Rattle.bidtests.specs.Standing.{at_start, unlisted, counted, HasNoLists, no_in, no_at, after_said};
+    ghost use Rattle.bidtests.specs.Standing.{after_line};
 
     /// A sheet before the first line.
     pub fn new(alloc: Global, limits: Limits) -> Result<Self, Memory>
@@ -101,8 +109,8 @@ impl Sheet {
     /// Puts the levels in force that `@Levels:` lists.
     fn set_levels(&mut self, number: u64, field: &[u8]) -> Option<Verdict>
         requires { length field.now ≤ longest_line }
-        ensures fault { result ≡ fault_in self.old number (levels_directive (each_read level_item (items_of field.now))) }
-        ensures standing { IsNone result → self.new ≡ after_said (levels_directive (each_read level_item (items_of field.now))) self.old }
+        ensures fault { result ≡ no_in self.old number (levels_said field.now) }
+        ensures standing { IsNone result → self.new ≡ after_said (levels_said field.now) self.old }
     {
         self.has_levels = read_items(&LevelItems, field, &mut self.levels);
         if self.has_levels {
@@ -115,8 +123,8 @@ impl Sheet {
     /// Puts the order in force that `@Reorder:` lists.
     fn set_order(&mut self, number: u64, field: &[u8]) -> Option<Verdict>
         requires { length field.now ≤ longest_line }
-        ensures fault { result ≡ fault_in self.old number (order_directive (each_read order_item (items_of field.now))) }
-        ensures standing { IsNone result → self.new ≡ after_said (order_directive (each_read order_item (items_of field.now))) self.old }
+        ensures fault { result ≡ no_in self.old number (order_said field.now) }
+        ensures standing { IsNone result → self.new ≡ after_said (order_said field.now) self.old }
     {
         self.has_order = read_items(&OrderItems, field, &mut self.order);
         if self.has_order {
@@ -129,7 +137,7 @@ impl Sheet {
     /// Judges a content that begins with `@`.
     fn judge_directive(&mut self, number: u64, content: &[u8]) -> Option<Verdict>
         requires { length content.now ≤ longest_line }
-        ensures fault { result ≡ fault_in self.old number (directive content.now) }
+        ensures fault { result ≡ no_in self.old number (directive content.now) }
         ensures standing { IsNone result → self.new ≡ after_said (directive content.now) self.old }
     {
         if content.starts_with(b"@Type:") {
@@ -146,8 +154,8 @@ impl Sheet {
     /// Judges a row of classes by the lists in force.
     fn judge_row(&mut self, number: u64, content: &[u8]) -> Option<Verdict>
         requires { length content.now ≤ longest_line }
-        ensures fault { result ≡ fault_in self.old number (data_line (fields_of content.now)) }
-        ensures standing { IsNone result → self.new ≡ after_said (data_line (fields_of content.now)) self.old }
+        ensures fault { result ≡ no_in self.old number (classes_row (fields_of content.now)) }
+        ensures standing { IsNone result → self.new ≡ after_said (classes_row (fields_of content.now)) self.old }
     {
         let directions = match read_row(content, &mut self.text) {
             Err(cause) => return malformed(number, cause),
@@ -173,8 +181,10 @@ impl Sheet {
     fn judge_characters(&mut self, number: u64, content: &[u8], tables: &Tables) -> Option<Verdict>
         requires short { length content.now ≤ longest_line }
         requires lists { HasNoLists self.old }
-        ensures fault { result ≡ fault_of self.old.limits number (row_of_fields (unit_by tables.now) (fields_of content.now)) }
-        ensures standing { IsNone result → self.new ≡ counted (row_of_fields (unit_by tables.now) (fields_of content.now)) self.old }
+        ensures fault { result
+            ≡ no_of self.old.limits number (characters_row (unit_by tables.now) (fields_of content.now)) }
+        ensures standing { IsNone result → self.new
+            ≡ counted (characters_row (unit_by tables.now) (fields_of content.now)) self.old }
     {
         let (direction, para) = match read_characters(
             content,
@@ -202,7 +212,7 @@ impl Sheet {
     /// Judges a line of a classes file.
     fn judge_classes_line(&mut self, number: u64, line: &[u8]) -> Option<Verdict>
         requires { length line.now ≤ longest_line }
-        ensures fault { result ≡ fault_in self.old number (classes_line line.now) }
+        ensures fault { result ≡ no_in self.old number (classes_line line.now) }
         ensures standing { IsNone result → self.new ≡ after_said (classes_line line.now) self.old }
     {
         let content = content(line);
@@ -223,8 +233,9 @@ impl Sheet {
         tables: &Tables,
     ) -> Option<Verdict>
         requires { length line.now ≤ longest_line }
-        ensures fault { result ≡ fault_of self.old.limits number (characters_line (unit_by tables.now) line.now) }
-        ensures standing { IsNone result → self.new ≡ counted (characters_line (unit_by tables.now) line.now) (unlisted self.old) }
+        ensures fault { result ≡ no_of self.old.limits number (characters_line (unit_by tables.now) line.now) }
+        ensures standing { IsNone result → self.new
+            ≡ counted (characters_line (unit_by tables.now) line.now) (unlisted self.old) }
     {
         self.has_levels = false;
         self.has_order = false;
@@ -239,7 +250,7 @@ impl Sheet {
     /// Judges a line of a file of this kind by what the lines before it said.
     pub fn judge_line(&mut self, kind: Kind<'_>, number: u64, line: &[u8]) -> Option<Verdict>
         requires { length line.now ≤ longest_line }
-        ensures fault { result ≡ fault_at kind.entry self.old number line.now }
+        ensures fault { result ≡ no_at kind.entry self.old number line.now }
         ensures standing { IsNone result → self.new ≡ after_line kind.entry line.now self.old }
     {
         match kind {

@@ -1,23 +1,29 @@
 //! What a judge has come to, apart from the tables that it borrows.
-ghost use Rattle.std.specs.Prelude.{◌≡◌, Option, [], IfOk};
+ghost use Rattle.std.specs.Prelude.{◌≡◌, ◌≤◌, ◌++◌, ℕ, List, [], Option, IfOk, IfSome, IsNone, length};
+ghost use Rattle.units.specs.LineAnswers.{StepIsShort};
+ghost use Rattle.units.specs.Limits.{LimitsOf};
+ghost use Rattle.units.specs.Text.{longest_line};
 ghost use Rattle.ucdfiles.specs.Tables.{TablesOf};
-ghost use Rattle.bidtests.specs.Standing.{HoldsFor};
+ghost use Rattle.bidtests.specs.FileKinds.{verdict_of};
+ghost use Rattle.bidtests.specs.Standing.{HoldsFor, tables_of, no_by, after_step, verdict_behind};
 
+use crate::kind::Kind;
 use crate::sheet::Sheet;
-use crate::verdict::Verdict;
+use crate::verdict::{Cause, Verdict};
 use std::alloc::Global;
 use std::marker::Model;
 use units::limits::Limits;
-use units::line_cut::LineCut;
+use units::line_cut::{LineCut, Step};
 use units::memory::Memory;
 
-/// What a judge has come to, for a caller that keeps it while it borrows no tables: `Judge::of_state` goes on with it,
-/// by the same tables. It keeps the limits by which it lays out. Contracts say which bytes it stands for.
+/// What a judge has come to, for a caller that keeps it while it borrows no tables: each call is handed the kind of
+/// file again, with the same tables. It keeps the limits by which it lays out. Contracts say which bytes it stands
+/// for: those that were handed over, joined.
 #[derive(Drop)]
 pub struct JudgeState {
-    pub(crate) cutter: LineCut,
-    pub(crate) sheet: Sheet,
-    pub(crate) decided: Option<Verdict>,
+    cutter: LineCut,
+    sheet: Sheet,
+    decided: Option<Verdict>,
 }
 
 impl Model for JudgeState {
@@ -26,6 +32,35 @@ impl Model for JudgeState {
     ghost Value = { StateOf };
 
     ghost view = { λ s. record { cutting = s.cutter; standing = s.sheet; decided = s.decided } };
+}
+
+/// Judges the line that a step ends, if it ends one.
+fn judge_step(kind: Kind<'_>, sheet: &mut Sheet, step: Step<'_>) -> Option<Verdict>
+    requires { StepIsShort step }
+    ensures fault { result ≡ no_by kind.entry sheet.old step.entry }
+    ensures standing { IsNone result → sheet.new ≡ after_step kind.entry step.entry sheet.old }
+{
+    match step {
+        Step::More => None,
+        Step::Line { number, text } => sheet.judge_line(kind, number, text),
+        Step::TooLong { number } => Some(Verdict::Malformed {
+            line: number,
+            cause: Cause::LineTooLong,
+        }),
+    }
+}
+
+/// Judges the line that has begun, if one has.
+fn judge_last(kind: Kind<'_>, sheet: &mut Sheet, last: Option<(u64, &[u8])>) -> Verdict
+    requires { IfSome last (λ line. length line.1.now ≤ longest_line) }
+    ensures { result ≡ verdict_behind kind.entry sheet.old last.entry }
+{
+    if let Some((number, text)) = last {
+        if let Some(verdict) = sheet.judge_line(kind, number, text) {
+            return verdict;
+        }
+    }
+    sheet.yes()
 }
 
 impl JudgeState {
@@ -39,5 +74,33 @@ impl JudgeState {
             sheet: Sheet::new(alloc, limits)?,
             decided: None,
         })
+    }
+
+    /// Hands over the next bytes of a file of this kind, as many or as few as there are: where pieces begin and end
+    /// changes nothing. Once a no is decided, further bytes change nothing. It takes no memory and always succeeds.
+    pub fn feed(&mut self, kind: Kind<'_>, piece: &[u8])
+        ensures { (limits : LimitsOf) (b : List ℕ) → HoldsFor limits (tables_of kind.entry) self.old b → HoldsFor limits (tables_of kind.entry) self.new (b ++ piece.now) }
+    {
+        let mut at = 0;
+        while at < piece.len() {
+            if self.decided.is_some() {
+                return;
+            }
+            let (used, step) = self.cutter.take(&piece[at..]);
+            self.decided = judge_step(kind, &mut self.sheet, step);
+            at += used;
+        }
+    }
+
+    /// The verdict on all bytes that were handed over, as the whole of a file of this kind. It takes no memory and
+    /// always succeeds; what the state stands for afterwards isn't said.
+    pub fn finish(&mut self, kind: Kind<'_>) -> Verdict
+        ensures { (limits : LimitsOf) (b : List ℕ) → HoldsFor limits (tables_of kind.entry) self.old b → result ≡ verdict_of limits kind.entry b }
+    {
+        if let Some(verdict) = self.decided {
+            return verdict;
+        }
+        let last = self.cutter.finish();
+        judge_last(kind, &mut self.sheet, last)
     }
 }

@@ -1,15 +1,13 @@
 //! What bit 8 and direction field `3` change of the verdicts.
-ghost use Rattle.std.specs.Prelude.{◌≡◌, ◌≢◌, ℕ, List};
+ghost use Rattle.std.specs.Prelude.{◌≡◌, ℕ, List};
 ghost use Rattle.units.specs.Limits.{LimitsOf};
 ghost use Rattle.bidtests.specs.FileKinds.{verdict_of};
-ghost use Rattle.bidtests.specs.ThreeDirections.{three_verdict_of};
+ghost use Rattle.bidtests.specs.ThreeDirections.{three_verdict_of, IsOfThreeDirections};
 ghost use Rattle.bidtests.specs.declared.kind.Kind.{Kind as FileKind};
-ghost use Rattle.bidtests.specs.declared.verdict.Cause.TheVariants.{BitSet, DirectionField};
-ghost use Rattle.bidtests.specs.declared.verdict.Verdict.TheVariants.{Malformed};
 
 /// A file that asks for three directions has the verdict that it has where no row can ask for the fourth: they differ
 /// only where that one is that a bit set or a direction field is malformed.
 pub fn three_directions_are_judged_alike()
-    ensures { (limits : LimitsOf) (kind : FileKind) (bytes : List ℕ) → ((line : ℕ) → three_verdict_of limits kind bytes ≢ Malformed line BitSet)
-        → ((line : ℕ) → three_verdict_of limits kind bytes ≢ Malformed line DirectionField) → verdict_of limits kind bytes ≡ three_verdict_of limits kind bytes }
+    ensures { (limits : LimitsOf) (kind : FileKind) (bytes : List ℕ) → IsOfThreeDirections limits kind bytes
+        → verdict_of limits kind bytes ≡ three_verdict_of limits kind bytes }
 {}

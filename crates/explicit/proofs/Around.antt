@@ -3,7 +3,7 @@ use Rattle.std.proofs.Common.{◌≡◌, ℕ, ◌<◌, List, Some, None}
 use Rattle.std.proofs.lemmas.Bool.{false_from_ne_true}
 use Rattle.units.specs.Isolates.{isolate_around}
 use Rattle.units.specs.declared.class.Class.{Class}
-use Rattle.explicit.proofs.Positions.{last_below_some, last_below_is, last_below_nowhere}
+use Rattle.units.proofs.Positions.{last_below_some, last_below_is, last_below_nowhere}
 use Rattle.explicit.proofs.Nesting.{IsHeld, held, holds_from}
 
 -- what the answer says

@@ -1,10 +1,10 @@
 -- Matching by counting, for any two tests of positions that exclude each other: those that open and those that close.
-use Rattle.std.proofs.Common.{◌≡◌, ◌≢◌, ℕ, zero, suc, ◌+◌, ◌-◌, ◌<◌, ◌≤◌, ◌==◌, Bool, true, false, cond, ◌∷◌, Option, Some, None, inl, inr, refl, sym, ◌∙◌, arith}
+use Rattle.std.proofs.Common.{◌≡◌, ◌≢◌, ℕ, zero, suc, ◌+◌, ◌-◌, ◌<◌, ◌≤◌, Bool, true, false, cond, ◌∷◌, Option, Some, None, inl, inr, refl, sym, ◌∙◌, arith}
 use Rattle.std.specs.Prelude.{count_by}
 use Rattle.std.proofs.lemmas.Bool.{cases_Bool, cases_order, true≢false, eqb-true, eq-eqb, false_from_ne_true}
 use Rattle.std.proofs.lemmas.List.Sums.{sum_by-cons}
-use Rattle.units.specs.Positions.{positions_from, first_after}
-use Rattle.explicit.proofs.Positions.{or_else, first_from_more, first_from_some, first_from_is}
+use Rattle.units.specs.Positions.{positions_from, as_many, first_after}
+use Rattle.units.proofs.Positions.{or_else, first_from_more, first_from_some, first_from_is}
 
 -- no position both opens and closes
 pub record Exclude (o : ℕ → Bool) (c : ℕ → Bool) : Type 0 where
@@ -15,13 +15,9 @@ unfoldable pub ups : (ℕ → Bool) → ℕ → ℕ
 ups test zero = zero
 ups test (suc p) = ups test p + cond (test p) 1 0
 
--- among the positions from i to j as many open as close
-abbrev pub is_level : (ℕ → Bool) → (ℕ → Bool) → ℕ → ℕ → Bool
-is_level o c i j = count_by o (positions_from i (j + 1 - i)) == count_by c (positions_from i (j + 1 - i))
-
--- the first position after i and below n at which that is so
+-- the first position after i and below n through which as many open as close
 unfoldable pub match_of : (ℕ → Bool) → (ℕ → Bool) → ℕ → ℕ → Option ℕ
-match_of o c n i = first_after (is_level o c i) i n
+match_of o c n i = first_after (as_many o c i) i n
 
 pub ups_yes : (test : ℕ → Bool) (p : ℕ) → test p ≡ true → ups test (p + 1) ≡ ups test p + 1
 unfolding ups
@@ -45,24 +41,24 @@ ups_part test i (suc d) =
 pub ups_between : (test : ℕ → Bool) (i j : ℕ) → i ≤ j + 1 → ups test i + count_by test (positions_from i (j + 1 - i)) ≡ ups test (j + 1)
 ups_between test i j h = let n : i + (j + 1 - i) ≡ j + 1 = omega arith in let part = ups_part test i (j + 1 - i) in rw n at part
 
-pub level_surplus : (o c : ℕ → Bool) (i j : ℕ) → i ≤ j + 1 → is_level o c i j ≡ true → ups o (j + 1) + ups c i ≡ ups c (j + 1) + ups o i
+pub level_surplus : (o c : ℕ → Bool) (i j : ℕ) → i ≤ j + 1 → as_many o c i j ≡ true → ups o (j + 1) + ups c i ≡ ups c (j + 1) + ups o i
 level_surplus o c i j h e =
     let a = ups_between o i j h in
     let b = ups_between c i j h in
     let same : count_by o (positions_from i (j + 1 - i)) ≡ count_by c (positions_from i (j + 1 - i)) = eqb-true _ _ e in
     omega (arith, a, b, same)
 
-pub surplus_level : (o c : ℕ → Bool) (i j : ℕ) → i ≤ j + 1 → ups o (j + 1) + ups c i ≡ ups c (j + 1) + ups o i → is_level o c i j ≡ true
+pub surplus_level : (o c : ℕ → Bool) (i j : ℕ) → i ≤ j + 1 → ups o (j + 1) + ups c i ≡ ups c (j + 1) + ups o i → as_many o c i j ≡ true
 surplus_level o c i j h e =
     let a = ups_between o i j h in
     let b = ups_between c i j h in
     let same : count_by o (positions_from i (j + 1 - i)) ≡ count_by c (positions_from i (j + 1 - i)) = omega (arith, a, b, e) in
     eq-eqb _ _ same
 
-pub unlevel_surplus : (o c : ℕ → Bool) (i j : ℕ) → i ≤ j + 1 → is_level o c i j ≡ false → ups o (j + 1) + ups c i ≢ ups c (j + 1) + ups o i
+pub unlevel_surplus : (o c : ℕ → Bool) (i j : ℕ) → i ≤ j + 1 → as_many o c i j ≡ false → ups o (j + 1) + ups c i ≢ ups c (j + 1) + ups o i
 unlevel_surplus o c i j h e same = true≢false (sym (surplus_level o c i j h same) ∙ e)
 
-pub surplus_unlevel : (o c : ℕ → Bool) (i j : ℕ) → i ≤ j + 1 → ups o (j + 1) + ups c i ≢ ups c (j + 1) + ups o i → is_level o c i j ≡ false
+pub surplus_unlevel : (o c : ℕ → Bool) (i j : ℕ) → i ≤ j + 1 → ups o (j + 1) + ups c i ≢ ups c (j + 1) + ups o i → as_many o c i j ≡ false
 surplus_unlevel o c i j h ne = false_from_ne_true _ (λ t. absurd (ne (level_surplus o c i j h t)))
 
 -- what a position does
@@ -79,12 +75,12 @@ turn_of o c p ex =
     ]
 
 -- the match as the end moves on
-pub match_more : (o c : ℕ → Bool) (k i : ℕ) → i < k → match_of o c (k + 1) i ≡ or_else (match_of o c k i) (cond (is_level o c i k) (Some k) None)
+pub match_more : (o c : ℕ → Bool) (k i : ℕ) → i < k → match_of o c (k + 1) i ≡ or_else (match_of o c k i) (cond (as_many o c i k) (Some k) None)
 unfolding match_of
 match_more o c k i h =
     let n : k + 1 - (i + 1) ≡ suc (k - (i + 1)) = omega arith in
     let at : i + 1 + (k - (i + 1)) ≡ k = omega arith in
-    let step = first_from_more (is_level o c i) (i + 1) (k - (i + 1)) in
+    let step = first_from_more (as_many o c i) (i + 1) (k - (i + 1)) in
     let step' = rw at at step in
     rw n step'
 
@@ -105,33 +101,33 @@ match_none_before o c k i h e = go (match_of o c k i) refl
 pub match_extends : (o c : ℕ → Bool) (k n i j : ℕ) → k ≤ n → match_of o c k i ≡ Some j → match_of o c n i ≡ Some j
 unfolding match_of
 match_extends o c k n i j h e =
-    let found = first_from_some (is_level o c i) (i + 1) (k - (i + 1)) j e in
+    let found = first_from_some (as_many o c i) (i + 1) (k - (i + 1)) j e in
     let within : j < i + 1 + (n - (i + 1)) = omega (arith, found.within, found.from) in
-    first_from_is (is_level o c i) (i + 1) (n - (i + 1)) j found.from within found.passes found.fails_before
+    first_from_is (as_many o c i) (i + 1) (n - (i + 1)) j found.from within found.passes found.fails_before
 
 pub match_within : (o c : ℕ → Bool) (k n i j : ℕ) → j < k → match_of o c n i ≡ Some j → match_of o c k i ≡ Some j
 unfolding match_of
 match_within o c k n i j h e =
-    let found = first_from_some (is_level o c i) (i + 1) (n - (i + 1)) j e in
+    let found = first_from_some (as_many o c i) (i + 1) (n - (i + 1)) j e in
     let within : j < i + 1 + (k - (i + 1)) = omega (arith, found.within, found.from) in
-    first_from_is (is_level o c i) (i + 1) (k - (i + 1)) j found.from within found.passes found.fails_before
+    first_from_is (as_many o c i) (i + 1) (k - (i + 1)) j found.from within found.passes found.fails_before
 
 pub match_of_bounds : (o c : ℕ → Bool) (n i j : ℕ) → match_of o c n i ≡ Some j → (i < j) × (j < n)
 unfolding match_of
 match_of_bounds o c n i j e =
-    let found = first_from_some (is_level o c i) (i + 1) (n - (i + 1)) j e in
+    let found = first_from_some (as_many o c i) (i + 1) (n - (i + 1)) j e in
     (omega (arith, found.from), omega (arith, found.within, found.from))
 
 pub match_of_surplus : (o c : ℕ → Bool) (n i j : ℕ) → match_of o c n i ≡ Some j → ups o (j + 1) + ups c i ≡ ups c (j + 1) + ups o i
 unfolding match_of
 match_of_surplus o c n i j e =
-    let found = first_from_some (is_level o c i) (i + 1) (n - (i + 1)) j e in
+    let found = first_from_some (as_many o c i) (i + 1) (n - (i + 1)) j e in
     level_surplus o c i j (omega (arith, found.from)) found.passes
 
-pub gets_closed : (o c : ℕ → Bool) (k i : ℕ) → i < k → match_of o c k i ≡ None → is_level o c i k ≡ true → match_of o c (k + 1) i ≡ Some k
+pub gets_closed : (o c : ℕ → Bool) (k i : ℕ) → i < k → match_of o c k i ≡ None → as_many o c i k ≡ true → match_of o c (k + 1) i ≡ Some k
 gets_closed o c k i h e t = rw (match_more o c k i h, e, t) refl
 
-pub stays_unclosed : (o c : ℕ → Bool) (k i : ℕ) → i < k → match_of o c k i ≡ None → is_level o c i k ≡ false → match_of o c (k + 1) i ≡ None
+pub stays_unclosed : (o c : ℕ → Bool) (k i : ℕ) → i < k → match_of o c k i ≡ None → as_many o c i k ≡ false → match_of o c (k + 1) i ≡ None
 stays_unclosed o c k i h e t = rw (match_more o c k i h, e, t) refl
 
 -- while i is open, more open than close from it on
@@ -144,7 +140,7 @@ surplus_by o c i (suc d) ex opener none =
     let none' : match_of o c (i + 1 + d + 1) i ≡ None = rw e at none in
     let lt : i < i + 1 + d = omega arith in
     let before : match_of o c (i + 1 + d) i ≡ None = match_none_before o c (i + 1 + d) i lt none' in
-    let unlevel : is_level o c i (i + 1 + d) ≡ false = false_from_ne_true _ (λ t. absurd (let now = gets_closed o c (i + 1 + d) i lt before t in cc)) in
+    let unlevel : as_many o c i (i + 1 + d) ≡ false = false_from_ne_true _ (λ t. absurd (let now = gets_closed o c (i + 1 + d) i lt before t in cc)) in
     let ne = unlevel_surplus o c i (i + 1 + d) (omega arith) unlevel in
     let ih = surplus_by o c i d ex opener before in
     rw e (go (turn_of o c (i + 1 + d) ex) ne ih)

@@ -79,6 +79,7 @@ holders-are_open cs (suc y) l =
     let ih = holders-are_open cs y (omega arith) in
     rw (holders-left cs y l ih) (opened-is_open cs (suc y) (Left cs y (opened cs y (holders cs y))) (role (class_at cs (suc y))) l (left-next cs y l ih))
 
--- the initiators that hold the next position are those that its class leaves open, of those that hold this one and this one
+-- the initiators that hold the next position are those that its class leaves open, of those that hold this one and this
+-- one
 pub holders-step : (cs : List Class) (y : ℕ) → suc y < length cs → holders cs (suc y) ≡ left_open cs (class_at cs (suc y)) (opened cs y (holders cs y))
 holders-step cs y l = holders-left cs y l (holders-are_open cs y (omega arith))

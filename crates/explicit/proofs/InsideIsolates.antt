@@ -8,7 +8,8 @@ use Rattle.units.specs.Classes.{class_at, classes_of, is_removed, is_separator}
 use Rattle.units.specs.Isolates.{matching_pdi}
 use Rattle.units.specs.Explicit.{explicit_at}
 use Rattle.units.specs.Paragraphs.{SeparatorOnlyLast}
-use Rattle.units.specs.Runs.{leveled_of, level_of, remains, matched_pdi, IsNested}
+use Rattle.units.specs.Runs.{leveled_of, level_of, remains, matched_pdi}
+use Rattle.explicit.specs.Leveled.{IsNested}
 use Rattle.units.specs.declared.bracket.Unit.{Unit as BidiUnit}
 use Rattle.units.specs.declared.class.Class.{Class}
 use Rattle.explicit.specs.StatusStacks.{state_within, is_taken}
@@ -16,7 +17,7 @@ use Rattle.explicit.proofs.Open.{holders, holds}
 use Rattle.explicit.proofs.Taken.{asked, next-above, state-taken, state-refused, taken-outer}
 use Rattle.explicit.proofs.Nesting.{match_bounds, match_injective}
 use Rattle.explicit.proofs.Matching.{matching_pdi_opens}
-use Rattle.explicit.proofs.MatchedIsolates.{Stacked, holders-stacked, is_among, among-filtered, holds-before, level-placed, level-of_isolate, levels-matched}
+use Rattle.explicit.proofs.MatchedIsolates.{Stacked, holders-stacked, is_among, among-filtered, holds-before, level-place_in, level-of_isolate, levels-matched}
 use Rattle.explicit.proofs.Leveled.{level-read, matched-is}
 
 -- inside further initiators the level does not fall
@@ -97,7 +98,7 @@ level-inside depth units para r p only low high left =
     let n : length (classes_of units) ≡ length units = length-map _ _ in
     let read = level-read depth (classes_of units) para p (omega arith) in
     let kept = remains-kept depth (classes_of units) para p (ap is_some (sym read) ∙ left) in
-    read ∙ level-placed depth (classes_of units) para p kept (not_separator units p only (omega (arith, n)))
+    read ∙ level-place_in depth (classes_of units) para p kept (not_separator units p only (omega (arith, n)))
 
 pub nested : (depth : ℕ) (units : List BidiUnit) (para : ℕ) → SeparatorOnlyLast units → IsNested (leveled_of depth (classes_of units) para)
 nested depth units para only = record {

@@ -10,7 +10,7 @@ use Rattle.explicit.specs.declared.side.Side.TheVariants.{LeftToRight, RightToLe
 use Rattle.explicit.specs.SideLevels.{level_by_side, level_under}
 use Rattle.explicit.specs.Sides.{side_at}
 
-level_of_side : (b : Bool) (otherwise : ℕ) → level_by_side (cond b RightToLeft LeftToRight) otherwise ≡ cond b 1 0
+pub level_of_side : (b : Bool) (otherwise : ℕ) → level_by_side (cond b RightToLeft LeftToRight) otherwise ≡ cond b 1 0
 level_of_side true otherwise = refl
 level_of_side false otherwise = refl
 

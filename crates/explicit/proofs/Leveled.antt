@@ -8,10 +8,11 @@ use Rattle.units.specs.Positions.{positions_of}
 use Rattle.units.specs.Classes.{class_at, is_isolate_initiator}
 use Rattle.units.specs.Isolates.{matching_pdi, partner_of}
 use Rattle.units.specs.Explicit.{explicit_at, explicit_of}
-use Rattle.units.specs.Runs.{leveled_of, level_of, size_of, matched_pdi, IsLeveled}
+use Rattle.units.specs.Runs.{leveled_of, level_of, size_of, matched_pdi}
+use Rattle.explicit.specs.Leveled.{IsLeveled}
 use Rattle.units.specs.declared.class.Class.{Class}
 use Rattle.units.specs.declared.class.Class.TheVariants.{L}
-use Rattle.explicit.proofs.Positions.{length-positions_from, get_or-positions_from}
+use Rattle.units.proofs.Positions.{length-positions_from, get_or-positions_from}
 use Rattle.explicit.proofs.Matching.{matching_pdi_none, opener_is_no_pdi}
 use Rattle.explicit.proofs.Nesting.{match_bounds}
 use Rattle.explicit.proofs.PartnerOf.{partner_of_other}

@@ -19,12 +19,12 @@ pub mod OpenStack
 pub mod PartnerOf
 pub mod Partners
 pub mod Places
-pub mod Positions
 pub mod Represented
 pub mod Roles
 pub mod InnermostOpen
 pub mod Sides
 pub mod Taken
+pub mod WantedLevels
 pub mod TheTail
 pub mod StrongInside
 pub mod LevelUnder

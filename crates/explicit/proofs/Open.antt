@@ -8,7 +8,7 @@ use Rattle.units.specs.Isolates.{matching_pdi, isolate_holds, isolate_around}
 use Rattle.units.specs.Explicit.{matching_pdf, lies_in, embedding_holds}
 use Rattle.units.specs.declared.class.Class.{Class}
 use Rattle.explicit.specs.OpenInitiators.{is_isolate, opened}
-use Rattle.explicit.proofs.Positions.{is_before-earlier, last_below_some}
+use Rattle.units.proofs.Positions.{is_before-earlier, last_below_some}
 
 -- the positions below p, falling
 abbrev pub below : ℕ → List ℕ

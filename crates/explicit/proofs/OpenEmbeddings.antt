@@ -2,12 +2,12 @@
 use Rattle.std.proofs.Common.{◌≡◌, ℕ, suc, ◌+◌, ◌<◌, ◌≤◌, Bool, true, false, List, [], ◌∷◌, length, arith, refl, sym, ap, ◌∙◌, cond, inl, inr}
 use Rattle.std.specs.Prelude.{Some, nat_lt}
 use Rattle.std.proofs.lemmas.Bool.{cases_Bool, lt-ltb, false≢true, ne_eqb, and_left, and_right}
-use Rattle.units.specs.Positions.{is_before, is_same}
+use Rattle.units.specs.Positions.{is_before, same_position}
 use Rattle.units.specs.Classes.{class_at, is_embedding_initiator, is_pdf}
 use Rattle.units.specs.Isolates.{isolate_around}
 use Rattle.units.specs.Explicit.{beside, matching_pdf, lies_in, embedding_holds}
 use Rattle.units.specs.declared.class.Class.{Class}
-use Rattle.explicit.proofs.Positions.{is_same_refl}
+use Rattle.units.proofs.Positions.{same_position_refl}
 use Rattle.explicit.proofs.Embeddings.{opens_beside, closes_beside, opens_beside_itself, matching_pdf_is}
 use Rattle.explicit.proofs.StillOpen.{bit, IsOpenAt, open_first, open_next, open_closed, before_match, at_match}
 use Rattle.explicit.proofs.Roles.{Has}
@@ -30,7 +30,7 @@ abbrev pub Nested : List Class → List ℕ → Type 0
 Nested cs [] = Unit {0}
 Nested cs (q ∷ qs) = (isolate_around cs q ≡ innermost cs qs) × AllBelow q qs × Nested cs qs
 
-innermost-differs : (cs : List Class) (i : ℕ) (qs : List ℕ) → AllBelow i qs → is_same (Some i) (innermost cs qs) ≡ false
+innermost-differs : (cs : List Class) (i : ℕ) (qs : List ℕ) → AllBelow i qs → same_position (Some i) (innermost cs qs) ≡ false
 innermost-differs cs i [] a = refl
 innermost-differs cs i (q ∷ qs) a =
     let l : q < i = a.0 in
@@ -52,10 +52,10 @@ open_embedding-next cs y k m q a h e = record {
   still = open_next (opens_beside cs q) (closes_beside cs q) (suc y) (suc k) m q (omega arith) h.still (omega (arith, e));
 }
 
-beside-elsewhere : (cs : List Class) (kind : Class → Bool) (q p : ℕ) → is_same (isolate_around cs p) (isolate_around cs q) ≡ false → beside cs kind q p ≡ false
-beside-elsewhere cs kind q p h = and_right (kind (class_at cs p)) (is_same (isolate_around cs p) (isolate_around cs q)) h
+beside-elsewhere : (cs : List Class) (kind : Class → Bool) (q p : ℕ) → same_position (isolate_around cs p) (isolate_around cs q) ≡ false → beside cs kind q p ≡ false
+beside-elsewhere cs kind q p h = and_right (kind (class_at cs p)) (same_position (isolate_around cs p) (isolate_around cs q)) h
 
-beside-here : (cs : List Class) (kind : Class → Bool) (q p : ℕ) → is_same (isolate_around cs p) (isolate_around cs q) ≡ true → beside cs kind q p ≡ kind (class_at cs p)
+beside-here : (cs : List Class) (kind : Class → Bool) (q p : ℕ) → same_position (isolate_around cs p) (isolate_around cs q) ≡ true → beside cs kind q p ≡ kind (class_at cs p)
 beside-here cs kind q p h =
     elim (cases_Bool (kind (class_at cs p))) [
       | inl u ↦ rw (u, h) refl
@@ -67,7 +67,7 @@ pub OpenEmbeddings-around : (cs : List Class) (y i k : ℕ) (qs : List ℕ) → 
 OpenEmbeddings-around cs y i k [] a n d s h = tt
 OpenEmbeddings-around cs y i k (q ∷ qs) a n d s h =
     let l : q < suc y = a.0 in
-    let x : is_same (isolate_around cs (suc y)) (isolate_around cs q) ≡ false = rw (s, n.0) (innermost-differs cs i qs d.1) in (
+    let x : same_position (isolate_around cs (suc y)) (isolate_around cs q) ≡ false = rw (s, n.0) (innermost-differs cs i qs d.1) in (
       λ u. open_embedding-next cs y k k q (omega arith) (h.0 u) (rw (beside-elsewhere cs is_embedding_initiator q (suc y) x, beside-elsewhere cs is_pdf q (suc y) x) refl),
       OpenEmbeddings-around cs y i (cond (is_isolate cs q) 0 (suc k)) qs a.1 n.2 d.1 s h.1,
     )
@@ -80,7 +80,7 @@ OpenEmbeddings-next cs y k m (q ∷ qs) a n s e h =
       | inl u ↦ (λ v. absurd (false≢true (sym v ∙ u)), rw u (OpenEmbeddings-around cs y q 0 qs a.1 n.2 n.1 (s ∙ rw u refl) (rw u at h.1)))
       | inr u ↦
           let t : isolate_around cs (suc y) ≡ innermost cs qs = s ∙ rw u refl in
-          let x : is_same (isolate_around cs (suc y)) (isolate_around cs q) ≡ true = rw (t, n.0) (is_same_refl (innermost cs qs)) in (
+          let x : same_position (isolate_around cs (suc y)) (isolate_around cs q) ≡ true = rw (t, n.0) (same_position_refl (innermost cs qs)) in (
             λ v. open_embedding-next cs y k m q (omega arith) (h.0 v) (rw (beside-here cs is_embedding_initiator q (suc y) x, beside-here cs is_pdf q (suc y) x) e),
             rw u (OpenEmbeddings-next cs y (suc k) (suc m) qs a.1 n.2 t (omega arith) (rw u at h.1)),
           )
@@ -104,7 +104,7 @@ holds-past_isolate cs y q u = and_right (is_embedding_initiator (class_at cs q))
 pub holds-closed_embedding : (cs : List Class) (y q : ℕ) → q ≤ y → suc y < length cs → Has (class_at cs (suc y)) false false false true → isolate_around cs (suc y) ≡ isolate_around cs q → IsOpenEmbedding cs y 0 q → embedding_holds cs q (suc y) ≡ false
 unfolding embedding_holds
 holds-closed_embedding cs y q a b r s h =
-    let x : is_same (isolate_around cs (suc y)) (isolate_around cs q) ≡ true = rw s (is_same_refl (isolate_around cs q)) in
+    let x : same_position (isolate_around cs (suc y)) (isolate_around cs q) ≡ true = rw s (same_position_refl (isolate_around cs q)) in
     let opens : opens_beside cs q (suc y) ≡ false = beside-here cs is_embedding_initiator q (suc y) x ∙ r.embedding_is in
     let closes : closes_beside cs q (suc y) ≡ true = beside-here cs is_pdf q (suc y) x ∙ r.pdf_is in
     let now = open_closed (opens_beside cs q) (closes_beside cs q) (suc y) 1 q (omega arith) h.still (rw (opens, closes) refl) in

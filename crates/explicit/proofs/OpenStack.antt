@@ -1,7 +1,8 @@
 -- The stack of what is open, for any two tests of positions that exclude each other.
 use Rattle.std.proofs.Common.{◌≡◌, ℕ, suc, ◌+◌, ◌-◌, ◌<◌, Bool, true, false, Some, None, inl, inr, sym, ap, ◌∙◌, arith}
 use Rattle.std.proofs.lemmas.Bool.{cases_eq, true≢false}
-use Rattle.explicit.proofs.Balance.{is_level, match_of, match_none_before}
+use Rattle.units.specs.Positions.{as_many}
+use Rattle.explicit.proofs.Balance.{match_of, match_none_before}
 use Rattle.explicit.proofs.StillOpen.{bit, IsOpenAt, open_unlevel, open_first, open_next, open_closed}
 
 -- the open positions below k, m of them, the last one at s (m - 1)
@@ -34,13 +35,13 @@ does_closing : (o c : ℕ → Bool) (k : ℕ) → o k ≡ false → c k ≡ true
 does_closing o c k ok ck = record { opens_is = ap bit ok; closes_is = ap bit ck }
 
 -- whether the counts agree at k, from an open position on
-pub unlevel_at_other : (o c : ℕ → Bool) (k m : ℕ) (s : ℕ → ℕ) → IsStack o c k m s → o k ≡ false → c k ≡ false → (a : ℕ) → a < m → is_level o c (s a) k ≡ false
+pub unlevel_at_other : (o c : ℕ → Bool) (k m : ℕ) (s : ℕ → ℕ) → IsStack o c k m s → o k ≡ false → c k ≡ false → (a : ℕ) → a < m → as_many o c (s a) k ≡ false
 unlevel_at_other o c k m s stack ok ck a h = let d = does_other o c k ok ck in open_unlevel o c k (m - a) (m - a - 1) (s a) (stack.before a h) (stack.still a h) (omega (arith, d.opens_is, d.closes_is))
 
-pub unlevel_at_opening : (o c : ℕ → Bool) (k m : ℕ) (s : ℕ → ℕ) → IsStack o c k m s → o k ≡ true → c k ≡ false → (a : ℕ) → a < m → is_level o c (s a) k ≡ false
+pub unlevel_at_opening : (o c : ℕ → Bool) (k m : ℕ) (s : ℕ → ℕ) → IsStack o c k m s → o k ≡ true → c k ≡ false → (a : ℕ) → a < m → as_many o c (s a) k ≡ false
 unlevel_at_opening o c k m s stack ok ck a h = let d = does_opening o c k ok ck in open_unlevel o c k (m - a) (m - a) (s a) (stack.before a h) (stack.still a h) (omega (arith, d.opens_is, d.closes_is))
 
-pub unlevel_at_closing : (o c : ℕ → Bool) (k n : ℕ) (s : ℕ → ℕ) → IsStack o c k (suc n) s → o k ≡ false → c k ≡ true → (a : ℕ) → a < n → is_level o c (s a) k ≡ false
+pub unlevel_at_closing : (o c : ℕ → Bool) (k n : ℕ) (s : ℕ → ℕ) → IsStack o c k (suc n) s → o k ≡ false → c k ≡ true → (a : ℕ) → a < n → as_many o c (s a) k ≡ false
 unlevel_at_closing o c k n s stack ok ck a h = let d = does_closing o c k ok ck in open_unlevel o c k (suc n - a) (n - a - 1) (s a) (stack.before a (omega arith)) (stack.still a (omega arith)) (omega (arith, d.opens_is, d.closes_is))
 
 -- an open position as the place moves on, with n more

@@ -5,13 +5,14 @@ use Rattle.units.specs.Classes.{class_at, is_isolate_initiator, is_pdi}
 use Rattle.units.specs.Isolates.{matching_pdi, matching_initiator, partner_of}
 use Rattle.units.specs.declared.class.Class.{Class}
 use Rattle.explicit.proofs.Roles.{Kind, opening, closing, other, kind_of}
-use Rattle.explicit.proofs.Balance.{is_level, match_new, match_stays, match_extends, match_within, match_of_bounds, stays_unclosed}
+use Rattle.units.specs.Positions.{as_many}
+use Rattle.explicit.proofs.Balance.{match_new, match_stays, match_extends, match_within, match_of_bounds, stays_unclosed}
 use Rattle.explicit.proofs.OpenStack.{unlevel_at_other, unlevel_at_opening, unlevel_at_closing, stack_empty, stack_stays, stack_push, top_is_closed, stack_pop, stack_none_left}
 use Rattle.explicit.proofs.Matching.{opens_at, closes_at, matching_before, IsOpenStack, matching_pdi_of, matching_pdi_none, matching_pdi_opens, matching_pdi_before}
-use Rattle.explicit.proofs.Positions.{last_below_is, last_below_nowhere, is_same_true, is_same_refl}
+use Rattle.units.proofs.Positions.{last_below_is, last_below_nowhere, same_position_true, same_position_refl}
 
 -- what an initiator has after one more position
-pub matching_kept : (cs : List Class) (k i : ℕ) → i < k → (matching_before cs k i ≡ None → is_level (opens_at cs) (closes_at cs) i k ≡ false) → matching_before cs (k + 1) i ≡ matching_before cs k i
+pub matching_kept : (cs : List Class) (k i : ℕ) → i < k → (matching_before cs k i ≡ None → as_many (opens_at cs) (closes_at cs) i k ≡ false) → matching_before cs (k + 1) i ≡ matching_before cs k i
 matching_kept cs k i h u = go (matching_before cs k i) refl
   where
     go : (o : Option ℕ) → matching_before cs k i ≡ o → matching_before cs (k + 1) i ≡ o
@@ -65,7 +66,7 @@ pub initiator_none : (cs : List Class) (k : ℕ) (s : ℕ → ℕ) → IsOpenSta
 unfolding matching_initiator
 initiator_none cs k s stack =
     last_below_nowhere _ k (λ i h. false_from_ne_true _ (λ t.
-    let at = matched_at cs k i (is_same_true _ _ t) in
+    let at = matched_at cs k i (same_position_true _ _ t) in
     let found = stack.complete i h at.1 (new_match_is_open cs k i h at.2) in
     absurd (omega (arith, found.1))))
 
@@ -75,8 +76,8 @@ initiator_top cs k n s inside stack o c =
     let lt : n < suc n = omega arith in
     let now : matching_before cs (k + 1) (s n) ≡ Some k = top_is_closed (opens_at cs) (closes_at cs) k n s stack o c in
     let whole : matching_pdi cs (s n) ≡ Some k = matched_to cs k (s n) inside (stack.opener n lt) now in
-    last_below_is _ k (s n) (stack.before n lt) (rw whole (is_same_refl (Some k))) (λ i a b. false_from_ne_true _ (λ t.
-    let at = matched_at cs k i (is_same_true _ _ t) in
+    last_below_is _ k (s n) (stack.before n lt) (rw whole (same_position_refl (Some k))) (λ i a b. false_from_ne_true _ (λ t.
+    let at = matched_at cs k i (same_position_true _ _ t) in
     let none = new_match_is_open cs k i b at.2 in
     let kept = kept_at_closing cs k n i s stack o c b at.1 (λ e. absurd (omega arith)) in
     let no : None ≡ Some k = sym none ∙ sym kept ∙ at.2 in

@@ -11,9 +11,9 @@ use Rattle.units.specs.Explicit.{State, entered, state_of, chain, explicit_at}
 use Rattle.units.specs.declared.class.Class.{Class}
 use Rattle.explicit.specs.OpenInitiators.{opened, left_open}
 use Rattle.units.specs.declared.class.Class.TheVariants.{L, R, AL, EN, ES, ET, AN, CS, NSM, S, WS, ON}
-use Rattle.explicit.specs.StatusStacks.{state_within, placed, is_ordinary, Represents, IsKept}
+use Rattle.explicit.specs.StatusStacks.{state_within, place_in, is_ordinary, Represents, IsKept}
 use Rattle.explicit.specs.declared.status.StatusStack.{StatusStack}
-use Rattle.explicit.proofs.Positions.{positions_from-next}
+use Rattle.units.proofs.Positions.{positions_from-next}
 use Rattle.explicit.proofs.Open.{below, holders, holds}
 use Rattle.explicit.proofs.HoldersStep.{holders-step}
 
@@ -65,13 +65,13 @@ unfolding chain
 state-of_chain depth cs para p = within-filtered depth cs para (holds cs p) p
 
 -- the level and the class at p by what holds inside the initiators that hold it
-pub explicit-placed : (depth : ℕ) (cs : List Class) (para p : ℕ) → placed (state_within depth cs para (holders cs p)) para (class_at cs p) ≡ explicit_at depth cs para p
+pub explicit-place_in : (depth : ℕ) (cs : List Class) (para p : ℕ) → place_in (state_within depth cs para (holders cs p)) para (class_at cs p) ≡ explicit_at depth cs para p
 unfolding explicit_at
-explicit-placed depth cs para p = ap (λ s. placed s para (class_at cs p)) (sym (state-of_chain depth cs para p))
+explicit-place_in depth cs para p = ap (λ s. place_in s para (class_at cs p)) (sym (state-of_chain depth cs para p))
 
 -- what the pass keeps when it comes to p
 pub is-kept : (depth : ℕ) (para : List Unit) (base p : ℕ) (n : StatusStack) → depth ≤ 125 → base ≤ 1 → p < 2 ^ 63 → Represents depth (classes_of para) base (holders (classes_of para) p) n → IsKept n
-is-kept depth para base p n d b l r = record { depth = depth; classes = classes_of para; para = base; initiators = holders (classes_of para) p; represents = r; base = b; within = d; few = omega (arith, holders-few (classes_of para) p) }
+is-kept depth para base p n d b l r = record { depth = depth; classes = classes_of para; para_level = base; initiators = holders (classes_of para) p; represents = r; base = b; within = d; few = omega (arith, holders-few (classes_of para) p) }
 
 pub left-is : (depth : ℕ) (cs : List Class) (base p : ℕ) (class : Class) (n : StatusStack) → p < length cs → class ≡ class_at cs p → Represents depth cs base (left_open cs class (open_before cs p)) n → Represents depth cs base (holders cs p) n
 left-is depth cs base p class n l e r = let P : List ℕ → Type 0 = λ qs. Represents depth cs base qs n in subst P (ap (λ k. left_open cs k (open_before cs p)) e ∙ left_before cs p l) r
@@ -137,12 +137,12 @@ pub ordinary_opened : (cs : List Class) (p : ℕ) (qs : List ℕ) → is_ordinar
 ordinary_opened cs p qs h = let o = ordinary_is (class_at cs p) h in rw o.initiator_is refl
 
 -- X9: none stands exactly where the position is removed
-placed-none : (s : State) (para : ℕ) (own : Class) → is_none (placed s para own) ≡ is_removed own
-placed-none s para own =
+place_in-none : (s : State) (para : ℕ) (own : Class) → is_none (place_in s para own) ≡ is_removed own
+place_in-none s para own =
     elim (cases_Bool (is_removed own)) [
       | inl removed ↦ rw removed refl
       | inr kept ↦ elim (cases_Bool (is_separator own)) [ inl last ↦ rw (kept, last) refl | inr other ↦ rw (kept, other) refl ]
     ]
 
 pub explicit-none : (depth : ℕ) (cs : List Class) (para p : ℕ) → is_none (explicit_at depth cs para p) ≡ is_removed (class_at cs p)
-explicit-none depth cs para p = ap is_none (sym (explicit-placed depth cs para p)) ∙ placed-none (state_within depth cs para (holders cs p)) para (class_at cs p)
+explicit-none depth cs para p = ap is_none (sym (explicit-place_in depth cs para p)) ∙ place_in-none (state_within depth cs para (holders cs p)) para (class_at cs p)

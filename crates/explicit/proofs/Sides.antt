@@ -8,10 +8,10 @@ use Rattle.units.specs.Classes.{is_right_to_left as is_class_right_to_left}
 use Rattle.units.specs.Isolates.{isolate_around, first_strong}
 use Rattle.units.specs.declared.class.Class.{Class}
 use Rattle.units.specs.declared.class.Class.TheVariants.{L, R, AL}
-use Rattle.explicit.specs.Sides.{HasSides, side_of, noted, noted_at, side_at}
+use Rattle.explicit.specs.Sides.{HasSides, strong_side, noted, noted_at, side_at}
 use Rattle.explicit.specs.declared.side.Side.{Side}
 use Rattle.explicit.specs.declared.side.Side.TheVariants.{Unknown}
-use Rattle.explicit.proofs.Positions.{or_else, first_from_more, first_from_nowhere, is_same_refl}
+use Rattle.units.proofs.Positions.{or_else, first_from_more, first_from_nowhere, same_position_refl}
 use Rattle.explicit.proofs.Around.{around_holds}
 use Rattle.explicit.proofs.Matching.{IsOpenStack}
 use Rattle.explicit.proofs.InnermostOpen.{around_none_open, around_last_open}
@@ -32,7 +32,7 @@ or_nothing : (o : Option ℕ) → or_else o None ≡ o
 or_nothing None = refl
 or_nothing (Some p) = refl
 
-noted_once : (c d : Class) → noted (side_of c) d ≡ side_of c
+noted_once : (c d : Class) → noted (strong_side c) d ≡ strong_side c
 noted_once c d = elim (cases_Bool (is_class_right_to_left c)) [ inl t ↦ rw t refl | inr f ↦ rw f refl ]
 
 or_here : (cs : List Class) (k : ℕ) (o : Option ℕ) → side_at cs (or_else o (Some k)) ≡ noted (side_at cs o) (class_at cs k)
@@ -97,7 +97,7 @@ module _ {cs : List Class} {k : ℕ} {sides : List Side} {outside : Side} (now :
   strong_kept isolate ne = side_kept cs isolate k (elsewhere cs isolate k ne)
 
   strong_here : (isolate : Option ℕ) → is_strong (class_at cs k) ≡ true → isolate_around cs k ≡ isolate → is_strong_in cs isolate k ≡ true
-  strong_here isolate strong here = and_from _ _ strong (rw here (is_same_refl isolate))
+  strong_here isolate strong here = and_from _ _ strong (rw here (same_position_refl isolate))
 
   not_opener : (i : ℕ) → is_strong (class_at cs k) ≡ true → is_isolate_initiator (class_at cs i) ≡ true → i < k + 1 → i < k
   not_opener i strong opener h =

@@ -1,8 +1,8 @@
 -- A position that opened and has no match yet, from one place to the next, for any two tests of positions.
 use Rattle.std.proofs.Common.{◌≡◌, ℕ, suc, ◌+◌, ◌<◌, Bool, true, false, cond, Option, Some, None, inl, inr, refl, arith}
 use Rattle.std.proofs.lemmas.Bool.{cases_lt, lt-ltb, le-ltb}
-use Rattle.units.specs.Positions.{is_before}
-use Rattle.explicit.proofs.Balance.{ups, is_level, surplus_level, surplus_unlevel, match_of, match_new, match_within, match_extends, gets_closed, stays_unclosed}
+use Rattle.units.specs.Positions.{as_many, is_before}
+use Rattle.explicit.proofs.Balance.{ups, surplus_level, surplus_unlevel, match_of, match_new, match_within, match_extends, gets_closed, stays_unclosed}
 
 -- 1 for true, 0 for false
 abbrev pub bit : Bool → ℕ
@@ -22,12 +22,12 @@ surplus_next : (o c : ℕ → Bool) (k m n q : ℕ) → IsOpenAt o c k m q → b
 surplus_next o c k m n q h e = omega (arith, ups_next o k, ups_next c k, h.surplus, e)
 
 -- whether they agree there
-pub open_unlevel : (o c : ℕ → Bool) (k m n q : ℕ) → q < k → IsOpenAt o c k m q → bit (o k) + m ≡ bit (c k) + suc n → is_level o c q k ≡ false
+pub open_unlevel : (o c : ℕ → Bool) (k m n q : ℕ) → q < k → IsOpenAt o c k m q → bit (o k) + m ≡ bit (c k) + suc n → as_many o c q k ≡ false
 open_unlevel o c k m n q lt h e =
     let next : k + 1 ≡ suc k = omega arith in
     surplus_unlevel o c q k (omega arith) (rw next (λ same. let s = surplus_next o c k m (suc n) q h e in omega (arith, s, same)))
 
-pub open_level : (o c : ℕ → Bool) (k m q : ℕ) → q < k → IsOpenAt o c k m q → bit (o k) + m ≡ bit (c k) → is_level o c q k ≡ true
+pub open_level : (o c : ℕ → Bool) (k m q : ℕ) → q < k → IsOpenAt o c k m q → bit (o k) + m ≡ bit (c k) → as_many o c q k ≡ true
 open_level o c k m q lt h e =
     let next : k + 1 ≡ suc k = omega arith in
     let s = surplus_next o c k m 0 q h (omega (arith, e)) in

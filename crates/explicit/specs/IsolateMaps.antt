@@ -1,11 +1,14 @@
 -- What a map of isolates keeps of the paragraph that it was filled from.
-use Rattle.std.specs.Prelude.{◌≡◌, ℕ, ◌<◌, ◌≤◌, List, length, Option, None, slice_index_or}
-use Rattle.units.specs.Isolates.{partner_of, first_strong}
+use Rattle.std.specs.Prelude.{◌≡◌, ℕ, ◌<◌, ◌≤◌, Bool, true, List, length, Option, Some, None, slice_index_or}
+use Rattle.units.specs.Classes.{class_at, is_isolate_initiator}
+use Rattle.units.specs.Isolates.{partner_of, first_strong, begins_right_to_left}
+use Rattle.units.specs.OptionalPositions.{no_position}
 use Rattle.units.specs.declared.class.Class.{Class}
 use Rattle.explicit.specs.Sides.{side_at, HasSides}
 use Rattle.explicit.specs.declared.side.Side.{Side}
 
--- BD9, P2, P3: the partner of each position; at an initiator the side on which its isolate begins; the side on which what lies outside does
+-- BD9, P2, P3: the partner of each position; at an initiator the side on which its isolate begins; the side on which
+-- what lies outside does
 pub record Isolates : Type 0 where
   pub partners : List (Option ℕ)
   pub sides : List Side
@@ -19,7 +22,7 @@ room map = length map.partners
 pub record FitsTogether (partners openers sides : ℕ) : Type 0 where
   pub openers_fit : openers ≡ partners
   pub sides_fit : sides ≡ partners
-  pub few : partners ≤ 4294967295
+  pub few : partners ≤ no_position
 
 -- BD9: these are the partners in a paragraph with these classes
 pub record HasPartners (partners : List (Option ℕ)) (cs : List Class) : Type 0 where
@@ -31,3 +34,10 @@ pub record IsFilledFrom (map : Isolates) (cs : List Class) : Type 0 where
   pub matched : HasPartners map.partners cs
   pub sides : HasSides map.sides cs
   pub outside : map.outside ≡ side_at cs (first_strong cs None)
+
+-- P2, P3: whether the first strong class directly inside the isolate that begins at p is R or AL, in whatever paragraph
+-- the map was filled from
+abbrev pub IsSideInside : Isolates → ℕ → Bool → Type 0
+IsSideInside map p right_to_left =
+    (cs : List Class) → IsFilledFrom map cs → p < length cs → is_isolate_initiator (class_at cs p) ≡ true
+    → right_to_left ≡ begins_right_to_left cs (first_strong cs (Some p))

@@ -4,5 +4,8 @@ pub mod SideLevels
 pub mod IsolateMaps
 pub mod OpenInitiators
 pub mod StatusStacks
+pub mod StackChanges
 pub mod ExplicitLevels
+pub mod WantedLevels
 pub mod IsolateNesting
+pub mod Leveled

@@ -8,30 +8,31 @@ use Rattle.explicit.specs.declared.side.Side.{Side}
 use Rattle.explicit.specs.declared.side.Side.TheVariants.{Unknown, LeftToRight, RightToLeft}
 
 -- the side of a strong class
-abbrev pub side_of : Class → Side
-side_of c = if is_class_right_to_left c then RightToLeft else LeftToRight
+abbrev pub strong_side : Class → Side
+strong_side c = if is_class_right_to_left c then RightToLeft else LeftToRight
 
 -- the side that was found, or that of this strong class where none was
 abbrev pub noted : Side → Class → Side
-noted Unknown c = side_of c
+noted Unknown c = strong_side c
 noted LeftToRight c = LeftToRight
 noted RightToLeft c = RightToLeft
 
 -- R or AL was found
-abbrev pub is_right_to_left : Side → Bool
-is_right_to_left Unknown = false
-is_right_to_left LeftToRight = false
-is_right_to_left RightToLeft = true
+abbrev pub found_right_to_left : Side → Bool
+found_right_to_left Unknown = false
+found_right_to_left LeftToRight = false
+found_right_to_left RightToLeft = true
 
 -- the side of the strong class at the position that is given
 abbrev pub side_at : List Class → Option ℕ → Side
 side_at cs None = Unknown
-side_at cs (Some p) = side_of (class_at cs p)
+side_at cs (Some p) = strong_side (class_at cs p)
 
 -- at each initiator stands the side of the first strong class directly inside its isolate
 abbrev pub HasSides : List Side → List Class → Type 0
 HasSides sides cs =
-    (p : ℕ) → p < length cs → is_isolate_initiator (class_at cs p) ≡ true → slice_index_or sides p Unknown ≡ side_at cs (first_strong cs (Some p))
+    (p : ℕ) → p < length cs → is_isolate_initiator (class_at cs p) ≡ true
+    → slice_index_or sides p Unknown ≡ side_at cs (first_strong cs (Some p))
 
 -- what was found, with this strong class noted at a position
 abbrev pub noted_at : List Side → ℕ → Class → List Side

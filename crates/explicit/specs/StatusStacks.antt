@@ -1,7 +1,7 @@
 -- What the pass keeps of the open initiators, which are lists with the innermost first.
 use Rattle.std.specs.List.{list_any, suffix_len}
-use Rattle.std.specs.Prelude.{count_by, not, Option, None, Some, unwrap_or, if◌then◌else◌, ◌≡◌, ℕ, ◌+◌, ◌<◌, ◌≤◌, ◌^◌, length, cond, Bool, true, false, ◌||◌, List, [], ◌∷◌, ◌++◌, nat_lt}
-use Rattle.units.specs.Explicit.{State, entered}
+use Rattle.std.specs.Prelude.{count_by, not, reverse, Option, None, Some, unwrap_or, if◌then◌else◌, ◌≡◌, ℕ, ◌+◌, ◌<◌, ◌≤◌, ◌^◌, length, cond, Bool, true, false, ◌||◌, List, [], ◌∷◌, ◌++◌, nat_lt}
+use Rattle.units.specs.Explicit.{State, chain, entered}
 use Rattle.units.specs.Classes.{is_initiator, is_pdi, is_removed, is_separator}
 use Rattle.units.specs.declared.class.Class.{Class}
 use Rattle.explicit.specs.OpenInitiators.{is_isolate}
@@ -9,17 +9,17 @@ use Rattle.explicit.specs.declared.status.Status.{Status}
 use Rattle.explicit.specs.declared.status.StatusStack.{StatusStack}
 
 -- X1: how many entries the stack has
-abbrev pub size_of : StatusStack → ℕ
-size_of n = length n.entries.items
+abbrev pub entry_count : StatusStack → ℕ
+entry_count n = length n.entries.items
 
 -- X1 to X5c: what holds inside these initiators
 abbrev pub state_within : ℕ → List Class → ℕ → List ℕ → State
-state_within depth cs para [] = record { level = para; override = None; sound = true }
-state_within depth cs para (q ∷ qs) = entered depth cs (state_within depth cs para qs) q
+state_within depth cs para_level [] = record { level = para_level; override = None; sound = true }
+state_within depth cs para_level (q ∷ qs) = entered depth cs (state_within depth cs para_level qs) q
 
 -- X2 to X5c: the initiator at q was taken, neither above this depth nor inside one that was refused
 abbrev pub is_taken : ℕ → List Class → ℕ → ℕ → List ℕ → Bool
-is_taken depth cs para q qs = (state_within depth cs para (q ∷ qs)).sound
+is_taken depth cs para_level q qs = (state_within depth cs para_level (q ∷ qs)).sound
 
 -- X1: the entry that keeps this state
 abbrev pub entry_of : State → Bool → Status
@@ -27,36 +27,41 @@ entry_of s isolate = record { level = s.level; override_class = s.override; is_i
 
 -- X2 to X5c: the entry of the initiator at q, where it was taken
 abbrev pub entry_at : ℕ → List Class → ℕ → ℕ → List ℕ → Status
-entry_at depth cs para q qs = entry_of (state_within depth cs para (q ∷ qs)) (is_isolate cs q)
+entry_at depth cs para_level q qs = entry_of (state_within depth cs para_level (q ∷ qs)) (is_isolate cs q)
 
 -- X1 to X5c: an entry for the paragraph and for each initiator that was taken, the outermost first
 abbrev pub entries_of : ℕ → List Class → ℕ → List ℕ → List Status
-entries_of depth cs para [] = entry_of (state_within depth cs para []) false ∷ []
-entries_of depth cs para (q ∷ qs) =
-    cond (is_taken depth cs para q qs) (entries_of depth cs para qs ++ entry_at depth cs para q qs ∷ []) (entries_of depth cs para qs)
+entries_of depth cs para_level [] = entry_of (state_within depth cs para_level []) false ∷ []
+entries_of depth cs para_level (q ∷ qs) =
+    cond (is_taken depth cs para_level q qs)
+    (entries_of depth cs para_level qs ++ entry_at depth cs para_level q qs ∷ [])
+    (entries_of depth cs para_level qs)
 
 -- X5a to X5c: how many isolates were taken (the valid isolate count)
 abbrev pub taken_isolates : ℕ → List Class → ℕ → List ℕ → ℕ
-taken_isolates depth cs para [] = 0
-taken_isolates depth cs para (q ∷ qs) = cond (is_taken depth cs para q qs) (cond (is_isolate cs q) 1 0) 0 + taken_isolates depth cs para qs
+taken_isolates depth cs para_level [] = 0
+taken_isolates depth cs para_level (q ∷ qs) =
+    cond (is_taken depth cs para_level q qs) (cond (is_isolate cs q) 1 0) 0 + taken_isolates depth cs para_level qs
 
 -- X5a to X5c: how many isolates were refused (the overflow isolate count)
 abbrev pub refused_isolates : ℕ → List Class → ℕ → List ℕ → ℕ
-refused_isolates depth cs para [] = 0
-refused_isolates depth cs para (q ∷ qs) = cond (is_taken depth cs para q qs) 0 (cond (is_isolate cs q) 1 0) + refused_isolates depth cs para qs
+refused_isolates depth cs para_level [] = 0
+refused_isolates depth cs para_level (q ∷ qs) =
+    cond (is_taken depth cs para_level q qs) 0 (cond (is_isolate cs q) 1 0) + refused_isolates depth cs para_level qs
 
 -- X2 to X5: how many embeddings were refused outside of refused isolates (the overflow embedding count)
 abbrev pub refused_embeddings : ℕ → List Class → ℕ → List ℕ → ℕ
-refused_embeddings depth cs para [] = 0
-refused_embeddings depth cs para (q ∷ qs) =
-    cond (is_taken depth cs para q qs || (is_isolate cs q || nat_lt 0 (refused_isolates depth cs para qs))) 0 1 + refused_embeddings depth cs para qs
+refused_embeddings depth cs para_level [] = 0
+refused_embeddings depth cs para_level (q ∷ qs) =
+    cond (is_taken depth cs para_level q qs || (is_isolate cs q || nat_lt 0 (refused_isolates depth cs para_level qs))) 0 1
+    + refused_embeddings depth cs para_level qs
 
 -- X1 to X8: this is what the pass keeps of these initiators
-pub record Represents (depth : ℕ) (cs : List Class) (para : ℕ) (qs : List ℕ) (n : StatusStack) : Type 0 where
-  pub entries : n.entries.items ≡ entries_of depth cs para qs
-  pub overflow_isolates : n.overflow_isolates ≡ refused_isolates depth cs para qs
-  pub overflow_embeddings : n.overflow_embeddings ≡ refused_embeddings depth cs para qs
-  pub valid_isolates : n.valid_isolates ≡ taken_isolates depth cs para qs
+pub record Represents (depth : ℕ) (cs : List Class) (para_level : ℕ) (qs : List ℕ) (n : StatusStack) : Type 0 where
+  pub entries : n.entries.items ≡ entries_of depth cs para_level qs
+  pub overflow_isolates : n.overflow_isolates ≡ refused_isolates depth cs para_level qs
+  pub overflow_embeddings : n.overflow_embeddings ≡ refused_embeddings depth cs para_level qs
+  pub valid_isolates : n.valid_isolates ≡ taken_isolates depth cs para_level qs
 
 -- X6a: the entries before the last isolate's, or none
 abbrev pub before_isolate : List Status → List Status
@@ -67,10 +72,10 @@ before_isolate (x ∷ xs) = cond (list_any (λ e. e.is_isolate) xs) (x ∷ befor
 pub record IsKept (n : StatusStack) : Type 0 where
   pub depth : ℕ
   pub classes : List Class
-  pub para : ℕ
+  pub para_level : ℕ
   pub initiators : List ℕ
-  pub represents : Represents depth classes para initiators n
-  pub base : para ≤ 1
+  pub represents : Represents depth classes para_level initiators n
+  pub base : para_level ≤ 1
   pub within : depth ≤ 125
   pub few : length initiators < 2 ^ 63
 
@@ -79,15 +84,26 @@ abbrev pub is_ordinary : Class → Bool
 is_ordinary c = not (is_initiator c || (is_pdi c || (is_removed c || is_separator c)))
 
 -- X5a to X9: the level and the current class of a position of this class in this state, or none where it is removed
-abbrev pub placed : State → ℕ → Class → Option (ℕ × Class)
-placed s para own = if is_removed own then None else if is_separator own then Some (para, own) else Some (s.level, unwrap_or s.override own)
+abbrev pub place_in : State → ℕ → Class → Option (ℕ × Class)
+place_in s para_level own =
+    if is_removed own then None
+    else if is_separator own then Some (para_level, own)
+    else Some (s.level, unwrap_or s.override own)
 
--- X1 to X5c: the refused initiators stand inside all that were taken; the entries are those of the paragraph and of each
--- that was taken; the three counts are of the refused isolates, of the refused embeddings outside of these, and of the taken isolates
-pub record IsRefusedTail (depth : ℕ) (cs : List Class) (para : ℕ) (refused taken : List ℕ) : Type 0 where
-  pub sound : (state_within depth cs para taken).sound ≡ true
-  pub entries : entries_of depth cs para (refused ++ taken) ≡ entries_of depth cs para taken
-  pub one_each : length (entries_of depth cs para taken) ≡ length taken + 1
-  pub overflow_isolates : refused_isolates depth cs para (refused ++ taken) ≡ count_by (is_isolate cs) refused
-  pub overflow_embeddings : refused_embeddings depth cs para (refused ++ taken) ≡ suffix_len (λ q. not (is_isolate cs q)) refused
-  pub valid_isolates : taken_isolates depth cs para (refused ++ taken) ≡ count_by (is_isolate cs) taken
+-- X1 to X5c: the refused initiators stand inside all that were taken; the entries are those of the paragraph and of
+-- each that was taken; the three counts are of the refused isolates, of the refused embeddings outside of these, and of
+-- the taken isolates
+pub record IsRefusedTail (depth : ℕ) (cs : List Class) (para_level : ℕ) (refused taken : List ℕ) : Type 0 where
+  pub sound : (state_within depth cs para_level taken).sound ≡ true
+  pub entries : entries_of depth cs para_level (refused ++ taken) ≡ entries_of depth cs para_level taken
+  pub one_each : length (entries_of depth cs para_level taken) ≡ length taken + 1
+  pub overflow_isolates : refused_isolates depth cs para_level (refused ++ taken) ≡ count_by (is_isolate cs) refused
+  pub overflow_embeddings : refused_embeddings depth cs para_level (refused ++ taken)
+      ≡ suffix_len (λ q. not (is_isolate cs q)) refused
+  pub valid_isolates : taken_isolates depth cs para_level (refused ++ taken) ≡ count_by (is_isolate cs) taken
+
+-- X1: the initiators that hold p, the outermost first, are those that were taken and then those that were refused
+abbrev pub EndsInRefused : ℕ → List Class → ℕ → ℕ → Type 0
+EndsInRefused depth cs para_level p =
+    (refused : List ℕ) × (taken : List ℕ)
+    × (chain cs p ≡ reverse taken ++ reverse refused) × IsRefusedTail depth cs para_level refused taken

@@ -39,7 +39,8 @@ impl<'a> Paragraphs<'a> {
 /// A text has one cutting into pieces that are not empty, have a unit of class B in last place alone, and end
 /// with one where another follows (P1).
 pub fn one_cutting()
-    ensures { (text : List BidiUnit) (pieces : List (List BidiUnit)) → IsCutting text pieces ↔ (pieces ≡ paragraphs_of text) }
+    ensures { (text : List BidiUnit) (pieces : List (List BidiUnit))
+        → IsCutting text pieces ↔ (pieces ≡ paragraphs_of text) }
 {}
 
 // Where the first separator stands.

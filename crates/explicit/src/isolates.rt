@@ -3,7 +3,7 @@ ghost use Rattle.std.specs.Prelude.{◌≡◌, ◌+◌, ◌<◌, ◌≤◌, ℕ,
 ghost use Rattle.units.specs.Classes.{class_at, classes_of, is_isolate_initiator};
 ghost use Rattle.units.specs.Isolates.{partner_of, first_strong, begins_right_to_left};
 ghost use Rattle.units.specs.declared.class.Class.{Class};
-ghost use Rattle.explicit.specs.IsolateMaps.{room, HasPartners, IsFilledFrom};
+ghost use Rattle.explicit.specs.IsolateMaps.{room, HasPartners, IsFilledFrom, IsSideInside};
 ghost use Rattle.explicit.specs.Sides.{HasSides, side_at, noted, noted_at};
 
 use crate::side::Side;
@@ -90,7 +90,7 @@ impl IsolateMap {
     // P2, P3: whether the first strong class directly inside the isolate that begins at p is R or AL.
     pub(crate) fn is_right_to_left(&self, p: usize) -> bool
         requires { p < room self.now }
-        ensures { (cs : List Class) → IsFilledFrom self.now cs → p < length cs → is_isolate_initiator (class_at cs p) ≡ true → result ≡ begins_right_to_left cs (first_strong cs (Some p)) }
+        ensures { IsSideInside self.now p result }
     {
         self.sides[p].is_right_to_left()
     }
@@ -115,7 +115,8 @@ fn note_strong(
     requires open { depth ≤ length openers.now }
     requires within { (d : ℕ) → depth ≡ d + 1 → slice_index_or openers.now d 0 < length sides.old }
     ensures outside { depth ≡ 0 → (result ≡ noted outside class) × (sides.new ≡ sides.old) }
-    ensures inside { (d : ℕ) → depth ≡ d + 1 → (result ≡ outside) × (sides.new ≡ noted_at sides.old (slice_index_or openers.now d 0) class) }
+    ensures inside { (d : ℕ) → depth ≡ d + 1
+        → (result ≡ outside) × (sides.new ≡ noted_at sides.old (slice_index_or openers.now d 0) class) }
 {
     if depth == 0 {
         return outside.noting(class);

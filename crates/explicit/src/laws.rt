@@ -1,15 +1,18 @@
 //! Laws of isolates and of explicit levels, for the layers above.
-ghost use Rattle.std.specs.Prelude.{◌≡◌, ◌<◌, ◌≤◌, ◌++◌, ◌⊎◌, ℕ, List, Some, IfSome, is_none, reverse};
+ghost use Rattle.std.specs.Prelude.{◌≡◌, ◌<◌, ◌≤◌, ◌+◌, ◌++◌, ◌⊎◌, ℕ, true, false, List, Some, IfSome, is_none, length, reverse};
 ghost use Rattle.std.specs.Option.{option_map};
 ghost use Rattle.units.specs.Classes.{class_at, classes_of, is_removed};
-ghost use Rattle.units.specs.Explicit.{chain, explicit_at};
+ghost use Rattle.units.specs.Explicit.{explicit_at, explicit_level_at, next_even, next_odd, wanted_level, wants_odd};
 ghost use Rattle.units.specs.Isolates.{matching_pdi};
 ghost use Rattle.units.specs.Paragraphs.{SeparatorOnlyLast};
-ghost use Rattle.units.specs.Runs.{leveled_of, IsLeveled, IsNested};
+ghost use Rattle.units.specs.Runs.{leveled_of};
+ghost use Rattle.explicit.specs.Leveled.{IsLeveled, IsNested};
 ghost use Rattle.units.specs.declared.bracket.Unit.{Unit as BidiUnit};
 ghost use Rattle.units.specs.declared.class.Class.{Class};
 ghost use Rattle.explicit.specs.IsolateNesting.{IsWithin, AreApart};
-ghost use Rattle.explicit.specs.StatusStacks.{IsRefusedTail};
+ghost use Rattle.explicit.specs.StatusStacks.{EndsInRefused, Represents, entries_of, entry_count};
+ghost use Rattle.explicit.specs.WantedLevels.{IsLeastAbove};
+ghost use Rattle.explicit.specs.declared.status.StatusStack.{StatusStack};
 
 /// Isolates nest or are apart (BD9): the one that begins later lies within the other, or no position lies in both.
 pub fn isolates_nest()
@@ -18,33 +21,56 @@ pub fn isolates_nest()
 
 /// No position has an explicit level above the depth (BD2), if the paragraph's level isn't above it.
 pub fn levels_are_bounded()
-    ensures { (depth : ℕ) (cs : List Class) (para p : ℕ) → para ≤ depth → IfSome (explicit_at depth cs para p) (λ place. place.0 ≤ depth) }
+    ensures { (depth : ℕ) (cs : List Class) (para_level p : ℕ)
+        → para_level ≤ depth → IfSome (explicit_at depth cs para_level p) (λ place. place.0 ≤ depth) }
 {}
 
 /// A position has no explicit level exactly where it is removed (X9).
 pub fn removed_have_no_level()
-    ensures { (depth : ℕ) (cs : List Class) (para p : ℕ) → is_none (explicit_at depth cs para p) ≡ is_removed (class_at cs p) }
+    ensures { (depth : ℕ) (cs : List Class) (para_level p : ℕ)
+        → is_none (explicit_at depth cs para_level p) ≡ is_removed (class_at cs p) }
 {}
 
 /// A matched isolate initiator and its PDI have one explicit level (X5a to X6a).
 pub fn matched_levels_are_equal()
-    ensures { (depth : ℕ) (cs : List Class) (para i j : ℕ) → matching_pdi cs i ≡ Some j → option_map (λ place. place.0) (explicit_at depth cs para i) ≡ option_map (λ place. place.0) (explicit_at depth cs para j) }
+    ensures { (depth : ℕ) (cs : List Class) (para_level i j : ℕ) → matching_pdi cs i ≡ Some j
+        → explicit_level_at depth cs para_level i ≡ explicit_level_at depth cs para_level j }
+{}
+
+/// The level that an initiator asks for is the least odd level above the one that it stands at, or the least even one
+/// (X2 to X5c): it is above and of that parity, and no lesser level is both.
+pub fn wanted_levels_are_least()
+    ensures odd { (level : ℕ) → IsLeastAbove level true (next_odd level) }
+    ensures even { (level : ℕ) → IsLeastAbove level false (next_even level) }
+    ensures wanted { (cs : List Class) (level q : ℕ)
+        → IsLeastAbove level (wants_odd cs q (class_at cs q)) (wanted_level cs level q) }
+{}
+
+/// The stack of directional statuses never has more than depth + 1 entries, whichever initiators are open, if the
+/// paragraph's level isn't above the depth: of the max_depth + 2 that X1 makes room for, one is never used.
+pub fn entries_are_few()
+    ensures defined { (depth : ℕ) (cs : List Class) (para_level : ℕ) (qs : List ℕ) → para_level ≤ depth
+        → length (entries_of depth cs para_level qs) ≤ depth + 1 }
+    ensures kept { (depth : ℕ) (cs : List Class) (para_level : ℕ) (qs : List ℕ) (stack : StatusStack) → para_level ≤ depth
+        → Represents depth cs para_level qs stack → entry_count stack ≤ depth + 1 }
 {}
 
 /// The initiators around a position that were refused are a tail of its chain, and the three counts of X1 are those of
 /// the isolates in that tail, of the embeddings in it before its first isolate, and of the isolates before it.
 pub fn refused_are_a_tail()
-    ensures { (depth : ℕ) (cs : List Class) (para p : ℕ) → (refused : List ℕ) × (taken : List ℕ) × (chain cs p ≡ reverse taken ++ reverse refused) × IsRefusedTail depth cs para refused taken }
+    ensures { (depth : ℕ) (cs : List Class) (para_level p : ℕ) → EndsInRefused depth cs para_level p }
 {}
 
 /// What isolating run sequences need of the levels and the matching PDIs of a list of classes, at each depth that is
 /// allowed: levels up to 125, and that a matching PDI comes later (X1 to X9, BD9).
 pub fn explicit_is_leveled()
-    ensures { (depth : ℕ) (cs : List Class) (para : ℕ) → depth ≤ 125 → para ≤ 1 → IsLeveled (leveled_of depth cs para) }
+    ensures { (depth : ℕ) (cs : List Class) (para_level : ℕ)
+        → depth ≤ 125 → para_level ≤ 1 → IsLeveled (leveled_of depth cs para_level) }
 {}
 
 /// What isolating run sequences need of the isolates of a paragraph: a matched initiator and its PDI are at one level,
 /// no other initiator has that PDI, and what remains between them is all at that level or not at all (X1 to X9, BD9).
 pub fn explicit_is_nested()
-    ensures { (depth : ℕ) (units : List BidiUnit) (para : ℕ) → SeparatorOnlyLast units → IsNested (leveled_of depth (classes_of units) para) }
+    ensures { (depth : ℕ) (units : List BidiUnit) (para_level : ℕ)
+        → SeparatorOnlyLast units → IsNested (leveled_of depth (classes_of units) para_level) }
 {}

@@ -2,12 +2,12 @@
 ghost use Rattle.std.specs.Prelude.{◌≡◌, ◌+◌, ◌*◌, ◌<◌, ◌≤◌, ℕ, List, Option, Some, None, length, slice_index_or, IfOk, IfSome};
 ghost use Rattle.units.specs.Classes.{class_at, classes_of};
 ghost use Rattle.units.specs.Isolates.{begins_right_to_left, first_strong, level_of_para};
-ghost use Rattle.units.specs.Explicit.{explicit_at, wants_odd};
+ghost use Rattle.units.specs.Explicit.{wants_odd};
 ghost use Rattle.units.specs.declared.class.Class.{Class};
 ghost use Rattle.units.specs.declared.class.Class.TheVariants.{FSI};
 ghost use Rattle.explicit.specs.IsolateMaps.{IsFilledFrom};
-ghost use Rattle.explicit.specs.ExplicitLevels.{HoldsLevels};
-ghost use Rattle.explicit.specs.StatusStacks.{size_of};
+ghost use Rattle.explicit.specs.ExplicitLevels.{HoldsLevels, IsExplicitAt, IsWithinDepth};
+ghost use Rattle.explicit.specs.StatusStacks.{entry_count};
 
 use crate::isolates::IsolateMap;
 use crate::status::{StatusStack, is_ordinary};
@@ -35,13 +35,13 @@ impl Model for Explicit {
     ghost use Rattle.std.specs.Prelude.{◌≡◌, ℕ, List, Option};
     ghost use Rattle.std.specs.Box.{boxed_slice_items};
     ghost use Rattle.units.specs.declared.class.Class.{Class};
-    ghost use Rattle.explicit.specs.StatusStacks.{size_of};
+    ghost use Rattle.explicit.specs.StatusStacks.{entry_count};
 
     ghost Value = { List (Option (ℕ × Class)) };
 
     ghost view = { λ explicit. boxed_slice_items explicit.places };
 
-    ghost invariant = { λ explicit. size_of explicit.stack ≡ 0 };
+    ghost invariant = { λ explicit. entry_count explicit.stack ≡ 0 };
 }
 
 impl Explicit {
@@ -65,8 +65,8 @@ impl Explicit {
     pub fn at(&self, p: usize) -> Option<(Level, Class)>
         requires { p < length self.now }
         ensures kept { result ≡ slice_index_or self.now p None }
-        ensures found { (depth : ℕ) (cs : List Class) (para : ℕ) → HoldsLevels self.now depth cs para → p < length cs → result ≡ explicit_at depth cs para p }
-        ensures within { (depth : ℕ) (cs : List Class) (para : ℕ) → HoldsLevels self.now depth cs para → para ≤ depth → p < length cs → IfSome result (λ place. place.0 ≤ depth) }
+        ensures found { IsExplicitAt self.now p result }
+        ensures within { IsWithinDepth self.now p result }
     {
         self.places[p]
     }
@@ -74,7 +74,9 @@ impl Explicit {
 
 // X2, X4, X5a, X5c: whether an initiator asks for an odd level; an FSI does where what it holds begins right to left.
 fn asks_odd(class: Class, right_to_left: bool) -> bool
-    ensures { (cs : List Class) (q : ℕ) → class ≡ class_at cs q → (class ≡ FSI → right_to_left ≡ begins_right_to_left cs (first_strong cs (Some q))) → result ≡ wants_odd cs q class }
+    ensures { (cs : List Class) (q : ℕ) → class ≡ class_at cs q
+        → (class ≡ FSI → right_to_left ≡ begins_right_to_left cs (first_strong cs (Some q)))
+        → result ≡ wants_odd cs q class }
 {
     match class {
         Class::RLE | Class::RLO | Class::RLI => true,
@@ -97,9 +99,9 @@ fn find_places<L: Ledger>(
     requires within { depth ≤ 125 }
     requires room { length para.now ≤ length places.old }
     requires filled { IsFilledFrom map.now (classes_of para.now) }
-    requires empty { size_of stack.old ≡ 0 }
+    requires empty { entry_count stack.old ≡ 0 }
     ensures found { HoldsLevels places.new depth (classes_of para.now) base }
-    ensures empty { size_of stack.new ≡ 0 }
+    ensures empty { entry_count stack.new ≡ 0 }
     ensures least_steps { steps.old + length para.now ≤ steps.new }
     ensures most_steps { steps.new ≤ steps.old + (2 * length para.now + 1) }
 {

@@ -11,8 +11,6 @@ pub mod levels;
 pub mod para_level;
 pub mod side;
 mod status;
-#[cfg(test)]
-mod tests;
 
 use cutting::Paragraphs;
 use units::bracket::Unit;

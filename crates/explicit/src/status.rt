@@ -4,7 +4,8 @@ ghost use Rattle.units.specs.Classes.{class_at, is_isolate_initiator, is_removed
 ghost use Rattle.units.specs.Explicit.{next_odd, next_even, override_of, wants_odd};
 ghost use Rattle.units.specs.declared.class.Class.{Class};
 ghost use Rattle.explicit.specs.OpenInitiators.{after_pdi, after_pdf, left_open, opened};
-ghost use Rattle.explicit.specs.StatusStacks.{Represents, IsKept, before_isolate, is_taken, entry_at, state_within, placed, size_of, is_ordinary};
+ghost use Rattle.explicit.specs.StatusStacks.{Represents, IsKept, before_isolate, entry_count, is_ordinary};
+ghost use Rattle.explicit.specs.StackChanges.{Closes, Opens, TakesInitiator, RefusesInitiator, GivesPlaceInside, GivesPlace};
 
 use arrayvec::ArrayVec;
 use std::sync::ledger::Ledger;
@@ -89,7 +90,7 @@ fn overridden_by(class: Class) -> Option<Class>
 impl StatusStack {
     /// A stack with no entry, as it is between paragraphs.
     pub fn empty() -> Self
-        ensures { size_of result ≡ 0 }
+        ensures { entry_count result ≡ 0 }
     {
         StatusStack {
             entries: ArrayVec::new(),
@@ -101,9 +102,9 @@ impl StatusStack {
 
     /// X1: begins a paragraph of this level, in which no initiator is open yet.
     pub fn begin(&mut self, base: Level)
-        requires { size_of self.old ≡ 0 }
+        requires { entry_count self.old ≡ 0 }
         ensures represents { (depth : ℕ) (cs : List Class) → Represents depth cs base [] self.new }
-        ensures size { size_of self.new ≡ 1 }
+        ensures size { entry_count self.new ≡ 1 }
     {
         self.entries.push(Status {
             level: base,
@@ -117,8 +118,8 @@ impl StatusStack {
 
     /// Drops what is left at a paragraph's end. Each entry is a step.
     pub fn clear<L: Ledger>(&mut self, steps: &mut Steps<L>)
-        ensures empty { size_of self.new ≡ 0 }
-        ensures steps { steps.new ≡ steps.old + size_of self.old }
+        ensures empty { entry_count self.new ≡ 0 }
+        ensures steps { steps.new ≡ steps.old + entry_count self.old }
     {
         steps.add(self.entries.len());
         self.entries.clear();
@@ -126,8 +127,8 @@ impl StatusStack {
 
     // What holds inside the innermost initiator that was taken.
     fn current(&self) -> Status
-        requires { 0 < size_of self.now }
-        ensures { result ≡ slice_index_or self.now.entries.items (size_of self.now - 1) result }
+        requires { 0 < entry_count self.now }
+        ensures { result ≡ slice_index_or self.now.entries.items (entry_count self.now - 1) result }
     {
         self.entries[self.entries.len() - 1]
     }
@@ -136,7 +137,7 @@ impl StatusStack {
     /// separator.
     pub fn place_inside(&self, class: Class) -> (Level, Class)
         requires { IsKept self.now }
-        ensures { (depth : ℕ) (cs : List Class) (base : ℕ) (qs : List ℕ) → is_removed class ≡ false → is_separator class ≡ false → Represents depth cs base qs self.now → Some result ≡ placed (state_within depth cs base qs) base class }
+        ensures { GivesPlaceInside self.now class result }
     {
         let current = self.current();
         (current.level, current.override_class.unwrap_or(class))
@@ -145,7 +146,7 @@ impl StatusStack {
     /// X5a to X9: the level and the current class of a position of this class, or none where it is removed.
     pub fn place(&self, class: Class, base: Level) -> Option<(Level, Class)>
         requires { IsKept self.now }
-        ensures { (depth : ℕ) (cs : List Class) (qs : List ℕ) → Represents depth cs base qs self.now → result ≡ placed (state_within depth cs base qs) base class }
+        ensures { GivesPlace self.now base class result }
     {
         if class.is_removed() {
             return None;
@@ -163,7 +164,7 @@ impl StatusStack {
         ensures overflow_embeddings { self.new.overflow_embeddings ≡ self.old.overflow_embeddings }
         ensures valid_isolates { self.new.valid_isolates ≡ self.old.valid_isolates }
         ensures least_steps { steps.old ≤ steps.new }
-        ensures all_steps { steps.new + size_of self.new ≡ steps.old + size_of self.old }
+        ensures all_steps { steps.new + entry_count self.new ≡ steps.old + entry_count self.old }
     {
         while let Some(entry) = self.entries.pop() {
             steps.tick();
@@ -175,9 +176,9 @@ impl StatusStack {
 
     // X6a: a PDI closes the innermost open isolate and all in it.
     fn close_isolate<L: Ledger>(&mut self, steps: &mut Steps<L>)
-        ensures closed { (depth : ℕ) (cs : List Class) (para : ℕ) (qs : List ℕ) → Represents depth cs para qs self.old → Represents depth cs para (after_pdi cs qs) self.new }
+        ensures closed { Closes after_pdi self.old self.new }
         ensures least_steps { steps.old ≤ steps.new }
-        ensures all_steps { steps.new + size_of self.new ≡ steps.old + size_of self.old }
+        ensures all_steps { steps.new + entry_count self.new ≡ steps.old + entry_count self.old }
     {
         if self.overflow_isolates > 0 {
             self.overflow_isolates -= 1;
@@ -190,8 +191,8 @@ impl StatusStack {
 
     // X7: a PDF closes the innermost open initiator, where that is an embedding.
     fn close_embedding(&mut self)
-        ensures closed { (depth : ℕ) (cs : List Class) (para : ℕ) (qs : List ℕ) → Represents depth cs para qs self.old → Represents depth cs para (after_pdf cs qs) self.new }
-        ensures size { size_of self.new ≤ size_of self.old }
+        ensures closed { Closes after_pdf self.old self.new }
+        ensures size { entry_count self.new ≤ entry_count self.old }
     {
         if self.overflow_isolates > 0 {
             return;
@@ -205,9 +206,9 @@ impl StatusStack {
 
     /// X6a, X7: closes what this class closes. Each entry that is dropped is a step.
     pub fn close<L: Ledger>(&mut self, class: Class, steps: &mut Steps<L>)
-        ensures closed { (depth : ℕ) (cs : List Class) (para : ℕ) (qs : List ℕ) → Represents depth cs para qs self.old → Represents depth cs para (left_open cs class qs) self.new }
+        ensures closed { Closes (λ cs. left_open cs class) self.old self.new }
         ensures least_steps { steps.old ≤ steps.new }
-        ensures most_steps { steps.new + size_of self.new ≤ steps.old + size_of self.old }
+        ensures most_steps { steps.new + entry_count self.new ≤ steps.old + entry_count self.old }
     {
         match class {
             Class::PDI => self.close_isolate(steps),
@@ -218,7 +219,8 @@ impl StatusStack {
 
     // BD2, X2 to X5c: an initiator that asks for this level is taken.
     fn takes(&self, level: u8, depth: u8) -> bool
-        ensures { result ≡ ((self.now.overflow_isolates == 0 && self.now.overflow_embeddings == 0) && nat_le level depth) }
+        ensures { result
+            ≡ ((self.now.overflow_isolates == 0 && self.now.overflow_embeddings == 0) && nat_le level depth) }
     {
         self.overflow_isolates == 0 && self.overflow_embeddings == 0 && level <= depth
     }
@@ -226,8 +228,8 @@ impl StatusStack {
     // X2 to X5c: opens an initiator that is taken.
     fn take(&mut self, entry: Status)
         requires { IsKept self.old }
-        ensures opened { (depth : ℕ) (cs : List Class) (para : ℕ) (qs : List ℕ) (p : ℕ) → is_taken depth cs para p qs ≡ true → entry ≡ entry_at depth cs para p qs → Represents depth cs para qs self.old → Represents depth cs para (p ∷ qs) self.new }
-        ensures size { size_of self.new ≡ size_of self.old + 1 }
+        ensures opened { TakesInitiator entry self.old self.new }
+        ensures size { entry_count self.new ≡ entry_count self.old + 1 }
     {
         self.valid_isolates += usize::from(entry.is_isolate);
         self.entries.push(entry);
@@ -237,8 +239,8 @@ impl StatusStack {
     // counted.
     fn refuse(&mut self, is_isolate: bool)
         requires { IsKept self.old }
-        ensures opened { (depth : ℕ) (cs : List Class) (para : ℕ) (qs : List ℕ) (p : ℕ) → is_taken depth cs para p qs ≡ false → is_isolate ≡ is_isolate_initiator (class_at cs p) → Represents depth cs para qs self.old → Represents depth cs para (p ∷ qs) self.new }
-        ensures size { size_of self.new ≡ size_of self.old }
+        ensures opened { RefusesInitiator is_isolate self.old self.new }
+        ensures size { entry_count self.new ≡ entry_count self.old }
     {
         if is_isolate {
             self.overflow_isolates += 1;
@@ -251,8 +253,8 @@ impl StatusStack {
     fn open_initiator(&mut self, class: Class, odd: bool, depth: u8)
         requires kept { IsKept self.old }
         requires within { depth ≤ 125 }
-        ensures opened { (cs : List Class) (para : ℕ) (qs : List ℕ) (p : ℕ) → class ≡ class_at cs p → odd ≡ wants_odd cs p class → Represents depth cs para qs self.old → Represents depth cs para (p ∷ qs) self.new }
-        ensures size { size_of self.new ≤ size_of self.old + 1 }
+        ensures opened { Opens (λ cs p qs. p ∷ qs) depth class odd self.old self.new }
+        ensures size { entry_count self.new ≤ entry_count self.old + 1 }
     {
         let level = self.current().level;
         let by = rise(level, odd);
@@ -272,8 +274,8 @@ impl StatusStack {
     pub fn open(&mut self, class: Class, odd: bool, depth: u8)
         requires kept { IsKept self.old }
         requires within { depth ≤ 125 }
-        ensures opened { (cs : List Class) (para : ℕ) (qs : List ℕ) (p : ℕ) → class ≡ class_at cs p → odd ≡ wants_odd cs p class → Represents depth cs para qs self.old → Represents depth cs para (opened cs p qs) self.new }
-        ensures size { size_of self.new ≤ size_of self.old + 1 }
+        ensures opened { Opens opened depth class odd self.old self.new }
+        ensures size { entry_count self.new ≤ entry_count self.old + 1 }
     {
         if class.is_initiator() {
             self.open_initiator(class, odd, depth);

@@ -25,9 +25,9 @@ pairs_before-none bs none (suc p) =
     ap (λ ps. ps ++ ended_with p (last_below (λ o. is_open_at bs ps o && closes (bracket_at bs o) (bracket_at bs p)) p)) earlier
     ∙ ap (ended_with p) closed
 
-pub bracket_pairs_of-none : (room : ℕ) (bs : List Bracket) → ((p : ℕ) → is_open (bracket_at bs p) ≡ false) → bracket_pairs_of room bs ≡ []
+pub bracket_pairs_of-none : (most_open : ℕ) (bs : List Bracket) → ((p : ℕ) → is_open (bracket_at bs p) ≡ false) → bracket_pairs_of most_open bs ≡ []
 unfolding bracket_pairs_of
-bracket_pairs_of-none room bs none = ap (filter (λ (pair : ℕ × ℕ). is_before pair.1 (stop_of room bs))) (pairs_before-none bs none (length bs))
+bracket_pairs_of-none most_open bs none = ap (filter (λ (pair : ℕ × ℕ). is_before pair.1 (stop_of most_open bs))) (pairs_before-none bs none (length bs))
 
 pub closer_of-none : (o : ℕ) → closer_of [] o ≡ None
 unfolding closer_of
@@ -68,9 +68,9 @@ units_at-closed us ps none = (λ k d lt.
     ap (λ (u : BidiUnit). is_open u.bracket) (get_or-map (λ p. get_or us p no_unit) ps k 0 d l) ∙ closed)
 
 -- N0 changes nothing in a sequence of units of which none opens
-pub after_brackets-none : (room : ℕ) (s : SequenceView) (us : List BidiUnit) (before weak : List Class) → HasNoOpening us → after_brackets room s us before weak ≡ weak
-after_brackets-none room s us before weak none =
+pub after_brackets-none : (most_open : ℕ) (s : SequenceView) (us : List BidiUnit) (before weak : List Class) → HasNoOpening us → after_brackets most_open s us before weak ≡ weak
+after_brackets-none most_open s us before weak none =
     let bs : List Bracket = acting_brackets (units_at us s.positions) weak in
     let closed : (p : ℕ) → is_open (bracket_at bs p) ≡ false = acting_brackets-closed (units_at us s.positions) weak (units_at-closed us s.positions none) in
-    after_paired-none (direction_of s.level) s.sos before (closer_of (bracket_pairs_of room bs))
-    (λ o. ap (λ ps. closer_of ps o) (bracket_pairs_of-none room bs closed) ∙ closer_of-none o) weak
+    after_paired-none (direction_of s.level) s.sos before (closer_of (bracket_pairs_of most_open bs))
+    (λ o. ap (λ ps. closer_of ps o) (bracket_pairs_of-none most_open bs closed) ∙ closer_of-none o) weak

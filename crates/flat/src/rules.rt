@@ -8,5 +8,6 @@ ghost use Rattle.flat.specs.IdleRules.{HasNoOpening};
 
 /// N0 without an opening bracket in the paragraph changes nothing, however many brackets can be open.
 pub fn idle_brackets()
-    ensures { (room : ℕ) → (s : SequenceView) → (us : List BidiUnit) → (before : List Class) → (weak : List Class) → HasNoOpening us → after_brackets room s us before weak ≡ weak }
+    ensures { (most_open : ℕ) → (s : SequenceView) → (us : List BidiUnit) → (before : List Class) → (weak : List Class)
+        → HasNoOpening us → after_brackets most_open s us before weak ≡ weak }
 {}

@@ -12,22 +12,17 @@ use Rattle.units.specs.Classes.{classes_of, is_separator}
 use Rattle.units.specs.Layout.{resolved_levels, para_levels_of, text_levels}
 use Rattle.units.specs.Limits.{LimitsOf}
 use Rattle.units.specs.Paragraphs.{EndsWithSeparator, IsCut, SeparatorOnlyLast, joined, paragraphs_of}
-use Rattle.units.specs.Positions.{positions_of}
-use Rattle.units.specs.Reordering.{para_at}
+use Rattle.units.specs.Reordering.{para_level_at}
 use Rattle.units.specs.declared.bracket.Unit.{Unit as BidiUnit}
 use Rattle.units.specs.declared.class.Class.{Class}
 use Rattle.units.specs.declared.level.Direction.{Direction}
 use Rattle.explicit.proofs.OneCutting.{IsCut-paragraphs_of, joined-paragraphs_of}
-use Rattle.explicit.proofs.Positions.{length-positions_from}
 use Rattle.paragraph.specs.Resolvers.{StaysAt}
 use Rattle.paragraph.proofs.FlatLevels.{kept_stays, levels_are_kept}
 use Rattle.lines.specs.Kept.{keeps_own_level}
 use Rattle.lines.specs.Spaces.{AreAtParas}
 use Rattle.lines.proofs.TextLevels.{para_level, para_levels}
-
-length-resolved : (limits : LimitsOf) (us : List BidiUnit) (para : ℕ) → length (resolved_levels limits us para) ≡ length us
-unfolding resolved_levels
-length-resolved limits us para = length-map (positions_of us) _ ∙ length-positions_from 0 (length us)
+use Rattle.units.proofs.Lengths.{length-resolved_levels}
 
 count-cons : (u : BidiUnit) (cs : List Class) → count_by is_separator (u.class ∷ cs) ≡ cond (is_separator u.class) 1 0 + count_by is_separator cs
 count-cons u cs = sum_by-cons (λ c. cond (is_separator c) 1 0) u.class cs
@@ -63,14 +58,14 @@ some_pieces f (us ∷ pieces) q v e = omega arith
 
 module _ (limits : LimitsOf) (direction : Direction) where
   joined_at : (pieces : List (List BidiUnit)) → IsCut pieces → All (Stays limits direction) pieces → (p v : ℕ) → get_or (flat_map (para_levels limits direction) pieces) p None ≡ Some v →
-      v ≡ para_at (classes_of (joined pieces)) (map (para_level direction) pieces) p
+      v ≡ para_level_at (classes_of (joined pieces)) (map (para_level direction) pieces) p
   joined_at [] cut all p v e = absurd (none-some v (sym (get_or_past [] p None (omega arith)) ∙ e))
   joined_at (us ∷ pieces) cut all p v e =
       let own : List Class = classes_of us in
       let others : List Class = classes_of (joined pieces) in
       let paras : List ℕ = map (para_level direction) pieces in
       let rest : List (Option ℕ) = flat_map (para_levels limits direction) pieces in
-      let long : length (para_levels limits direction us) ≡ length us = length-resolved limits us (para_level direction us) in
+      let long : length (para_levels limits direction us) ≡ length us = length-resolved_levels limits us (para_level direction us) in
       let n : length own ≡ length us = length-map us (λ (u : BidiUnit). u.class) in
       let split : classes_of (us ++ joined pieces) ≡ own ++ others = map-append (λ (u : BidiUnit). u.class) us (joined pieces) in
       elim (cases_lt p (length us)) [
@@ -101,7 +96,7 @@ module _ (limits : LimitsOf) (direction : Direction) where
   text_at_paras text all = record {
     same = λ p v e.
         joined_at (paragraphs_of text) (IsCut-paragraphs_of text) all p v e
-        ∙ ap (λ (us : List BidiUnit). para_at (classes_of us) (para_levels_of text direction) p) (joined-paragraphs_of text);
+        ∙ ap (λ (us : List BidiUnit). para_level_at (classes_of us) (para_levels_of text direction) p) (joined-paragraphs_of text);
   }
 
   -- paragraphs that keep their levels stay at them

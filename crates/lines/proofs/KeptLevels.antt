@@ -2,7 +2,7 @@
 use Rattle.std.proofs.Common.{◌≡◌, ℕ, ◌<◌, Bool, true, false, cond, Option, None, Some, List, length, get_or, refl, sym, ap, ◌∙◌, arith}
 use Rattle.std.proofs.lemmas.List.{ext_get_or}
 use Rattle.units.specs.declared.class.Class.{Class}
-use Rattle.units.specs.Reordering.{after_resets, is_reset, para_at, reset_to}
+use Rattle.units.specs.Reordering.{after_resets, is_reset, para_level_at, reset_to}
 use Rattle.lines.specs.Spaces.{AreAtParas}
 use Rattle.lines.proofs.TextEnd.{length-after_resets, get_or-after_resets}
 
@@ -20,4 +20,4 @@ levels_kept own breaks paras levels h =
     (λ k lt.
     let l : k < length levels = omega (arith, length-after_resets own breaks paras levels) in
     get_or-after_resets own breaks paras levels k l
-    ∙ reset_same (is_reset own breaks k) (para_at own paras k) (get_or levels k None) (λ v e. h.same k v e))
+    ∙ reset_same (is_reset own breaks k) (para_level_at own paras k) (get_or levels k None) (λ v e. h.same k v e))

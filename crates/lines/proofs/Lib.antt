@@ -7,9 +7,11 @@ pub mod LineOrder
 pub mod Levels
 pub mod Separators
 pub mod BreakAt
+pub mod Lengths
 pub mod LineEnd
 pub mod TextEnd
 pub mod KeptLevels
+pub mod RemovedLevels
 pub mod Cuts
 pub mod NextLine
 pub mod ParagraphLines

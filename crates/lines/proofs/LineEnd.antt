@@ -1,11 +1,11 @@
 -- White space at a line's end (L1), from the end on.
-use Rattle.std.proofs.Common.{◌≡◌, ℕ, ◌+◌, ◌<◌, Bool, true, false, cond, Option, Some, List, length, get_or, zero, suc, refl, sym, ap, ◌∙◌, arith}
+use Rattle.std.proofs.Common.{◌≡◌, ℕ, ◌+◌, ◌<◌, Bool, true, false, cond, Option, Some, List, length, get_or, suc, refl, sym, ◌∙◌}
 use Rattle.std.specs.Prelude.{not, ◌&&◌, ◌||◌}
 use Rattle.std.proofs.lemmas.List.{get_or-map}
 use Rattle.units.specs.declared.class.Class.{Class}
 use Rattle.units.specs.declared.class.Class.TheVariants.{L, BN, B, S, WS, LRE, LRO, RLE, RLO, PDF, LRI, RLI, FSI, PDI}
 use Rattle.units.specs.Classes.{class_at, is_removed}
-use Rattle.units.specs.Positions.{positions_from, first_from}
+use Rattle.units.specs.Positions.{first_from}
 use Rattle.units.specs.Classes.{is_line_separator}
 use Rattle.units.specs.Reordering.{is_trailing_space, ends_spaces}
 use Rattle.units.specs.declared.bracket.Unit.{Unit as TextUnit}
@@ -63,16 +63,6 @@ class_reset PDI true = refl
 class_reset PDI false = refl
 class_reset _ true = refl
 class_reset _ false = refl
-
-pub length-positions_from : (start count : ℕ) → length (positions_from start count) ≡ count
-length-positions_from start zero = refl
-length-positions_from start (suc count) = ap suc (length-positions_from (start + 1) count)
-
-pub get_or-positions_from : (start count k : ℕ) → k < count → get_or (positions_from start count) k 0 ≡ start + k
-get_or-positions_from start zero k h = absurd (omega arith)
-get_or-positions_from start (suc count) zero h = omega arith
-get_or-positions_from start (suc count) (suc k) h =
-    let e = get_or-positions_from (start + 1) count k (omega arith) in omega (arith, e)
 
 -- the class of a unit that was read
 pub class_read : (own : List TextUnit) (p : ℕ) (d : TextUnit) → p < length own → (get_or own p d).class ≡ class_at (classes_of own) p

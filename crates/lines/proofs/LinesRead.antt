@@ -6,7 +6,7 @@ use Rattle.units.specs.Positions.{positions_from}
 use Rattle.lines.specs.declared.bounds.Bound.{Bound}
 use Rattle.lines.specs.Bounds.{line_in, lines_in}
 use Rattle.lines.specs.Layouts.{no_line}
-use Rattle.lines.proofs.LineEnd.{length-positions_from, get_or-positions_from}
+use Rattle.units.proofs.Positions.{length-positions_from, get_or-positions_from}
 
 pub length-lines_in : (orders : List ℕ) (bounds : List Bound) → length (lines_in orders bounds) ≡ length bounds - 1
 length-lines_in orders bounds =
@@ -17,4 +17,4 @@ line_read orders bounds k h =
     let n = length bounds - 1 in
     let e : 0 + k ≡ k = omega arith in
     get_or-map (line_in orders bounds) (positions_from 0 n) k 0 no_line (omega (arith, length-positions_from 0 n))
-    ∙ ap (line_in orders bounds) (get_or-positions_from 0 n k h ∙ e)
+    ∙ ap (line_in orders bounds) (get_or-positions_from 0 n k 0 h ∙ e)

@@ -15,7 +15,7 @@ use Rattle.lines.specs.declared.bounds.Bound.{Bound}
 use Rattle.lines.specs.Bounds.{first_bound, bound_at, line_between, line_in, lines_in, Follows, AreBounds}
 use Rattle.lines.proofs.Cuts.{Cuts, lines_left, lines_left-next}
 use Rattle.lines.proofs.Law.{line_order-places}
-use Rattle.lines.proofs.Remaining.{positions-next}
+use Rattle.units.proofs.Positions.{positions_from-next}
 
 -- the lines before the position start are written
 pub record Filling (levels : List (Option ℕ)) (test : ℕ → Bool) (start : ℕ) (orders : List ℕ) (bounds : List Bound) : Type 0 where
@@ -101,7 +101,7 @@ lines_in-more levels orders more bounds start end b last =
     ∙ ap line (range_new orders more) in
     let there : 0 + n ≡ n = omega arith in
     ap (λ m. map (line_in orders2 bounds2) (positions_from 0 m)) e
-    ∙ ap (map (line_in orders2 bounds2)) (positions-next 0 n ∙ ap (λ m. positions_from 0 n ++ m ∷ []) there)
+    ∙ ap (map (line_in orders2 bounds2)) (positions_from-next 0 n ∙ ap (λ m. positions_from 0 n ++ m ∷ []) there)
     ∙ map_push (line_in orders2 bounds2) (positions_from 0 n) n
     ∙ ap (λ ls. ls ++ line_in orders2 bounds2 n ∷ []) (map_same (line_in orders2 bounds2) (line_in orders bounds) 0 n same)
     ∙ ap (λ l. lines_in orders bounds ++ l ∷ []) here

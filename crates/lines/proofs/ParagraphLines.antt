@@ -9,7 +9,7 @@ use Rattle.units.specs.declared.level.ParaLevel.TheVariants.{Zero}
 use Rattle.units.specs.Classes.{class_at, classes_of, is_separator}
 use Rattle.units.specs.Isolates.{level_of_para}
 use Rattle.units.specs.Paragraphs.{paragraphs_of}
-use Rattle.units.specs.Reordering.{para_at}
+use Rattle.units.specs.Reordering.{para_level_at}
 use Rattle.lines.specs.LineEnds.{EndsAt}
 use Rattle.lines.specs.Spaces.{AreAtParas}
 use Rattle.lines.specs.Turning.{IsUniform}
@@ -68,7 +68,7 @@ counted_on own start limit end before closed e within is last =
     omega arith
 
 -- positions at their paragraphs' levels have one level in a line
-pub line_uniform : (own : List Class) (paras : List ℕ) (levels : List (Option ℕ)) (start limit end : ℕ) → AreAtParas own paras levels → EndsAt own start limit end → end ≤ length own → IsUniform levels start end (para_at own paras start)
+pub line_uniform : (own : List Class) (paras : List ℕ) (levels : List (Option ℕ)) (start limit end : ℕ) → AreAtParas own paras levels → EndsAt own start limit end → end ≤ length own → IsUniform levels start end (para_level_at own paras start)
 line_uniform own paras levels start limit end all e within =
     record {
       same = λ p v low high h.
@@ -76,6 +76,6 @@ line_uniform own paras levels start limit end all e within =
     }
 
 -- the level of a paragraph, read by its number
-pub para_read : (own : List Class) (paras : List ParaLevel) (p number : ℕ) → number ≡ count_by is_separator (take p own) → number < length paras → level_of_para (slice_index_or paras number Zero) ≡ para_at own (map level_of_para paras) p
+pub para_read : (own : List Class) (paras : List ParaLevel) (p number : ℕ) → number ≡ count_by is_separator (take p own) → number < length paras → level_of_para (slice_index_or paras number Zero) ≡ para_level_at own (map level_of_para paras) p
 para_read own paras p number is lt =
     sym (get_or-map level_of_para paras number Zero 0 lt) ∙ ap (λ n. slice_index_or (map level_of_para paras) n 0) is

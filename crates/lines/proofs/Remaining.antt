@@ -1,12 +1,13 @@
 -- The remaining positions of a line, rising.
-use Rattle.std.proofs.Common.{◌≡◌, ℕ, ◌+◌, ◌-◌, ◌<◌, ◌≤◌, Bool, true, false, cond, Option, None, Some, List, [], ◌∷◌, ◌++◌, length, zero, suc, refl, sym, ap, ◌∙◌, inl, inr, arith}
+use Rattle.std.proofs.Common.{◌≡◌, ℕ, ◌+◌, ◌-◌, ◌<◌, ◌≤◌, Bool, true, false, cond, Option, None, Some, List, [], ◌∷◌, ◌++◌, zero, suc, refl, sym, ap, ◌∙◌, inl, inr, arith}
 use Rattle.std.specs.Prelude.{filter, reverse, slice_index_or}
 use Rattle.std.specs.Option.{is_some}
 use Rattle.std.proofs.lemmas.Bool.{cases_lt}
 use Rattle.std.proofs.lemmas.List.{append-nil, reverse-append}
 use Rattle.std.proofs.lemmas.List.Elements.{filter-append}
 use Rattle.units.specs.Positions.{positions_from}
-use Rattle.lines.specs.Turning.{Holds, Ordered, is_remaining, remaining}
+use Rattle.lines.specs.Turning.{ListsRemaining, Ordered, is_remaining, remaining}
+use Rattle.units.proofs.Positions.{positions_from-next}
 
 some_level : (o : Option ℕ) → is_some o ≡ true → (v : ℕ) × (o ≡ Some v)
 some_level None h = cc
@@ -18,7 +19,7 @@ no_level (Some w) v h e = cc
 
 -- rising remaining positions of a line
 pub record Rising (levels : List (Option ℕ)) (start end : ℕ) (xs : List ℕ) : Type 0 where
-  pub holds : Holds levels start end xs
+  pub holds : ListsRemaining levels start end xs
   pub ordered : Ordered (λ a b. a < b) xs
 
 rising_more : (levels : List (Option ℕ)) (i end : ℕ) (xs : List ℕ) (b : Bool) → i < end → is_remaining levels i ≡ b → Rising levels (i + 1) end xs → Rising levels i end (cond b (i ∷ xs) xs)
@@ -64,24 +65,14 @@ rising_from levels i (suc count) end e =
 pub remaining-rising : (levels : List (Option ℕ)) (start end : ℕ) → start ≤ end → Rising levels start end (remaining levels start end)
 remaining-rising levels start end le = rising_from levels start (end - start) end (omega arith)
 
-pub positions-next : (start count : ℕ) → positions_from start (suc count) ≡ positions_from start count ++ (start + count) ∷ []
-positions-next start zero = let e : start ≡ start + 0 = omega arith in ap (λ n. n ∷ []) e
-positions-next start (suc count) =
-    let e : start + 1 + count ≡ start + suc count = omega arith in
-    ap (λ xs. start ∷ xs) (positions-next (start + 1) count ∙ ap (λ n. positions_from (start + 1) count ++ n ∷ []) e)
-
 -- those of one position more
 pub remaining-next : (levels : List (Option ℕ)) (start position : ℕ) → start ≤ position → remaining levels start (position + 1) ≡ remaining levels start position ++ cond (is_remaining levels position) (position ∷ []) []
 remaining-next levels start position le =
     let e : position + 1 - start ≡ suc (position - start) = omega arith in
     let f : start + (position - start) ≡ position = omega arith in
     ap (λ n. filter (is_remaining levels) (positions_from start n)) e
-    ∙ ap (filter (is_remaining levels)) (positions-next start (position - start) ∙ ap (λ n. positions_from start (position - start) ++ n ∷ []) f)
+    ∙ ap (filter (is_remaining levels)) (positions_from-next start (position - start) ∙ ap (λ n. positions_from start (position - start) ++ n ∷ []) f)
     ∙ filter-append (is_remaining levels) (positions_from start (position - start)) (position ∷ [])
-
-length_if : (b : Bool) (x : ℕ) (xs : List ℕ) (n : ℕ) → length xs ≤ n → length (cond b (x ∷ xs) xs) ≤ suc n
-length_if true x xs n h = omega arith
-length_if false x xs n h = omega arith
 
 reverse_if : (b : Bool) (x : ℕ) (xs : List ℕ) → reverse (cond b (x ∷ xs) xs) ≡ reverse xs ++ cond b (x ∷ []) []
 reverse_if true x xs = reverse-append (x ∷ []) xs

@@ -6,7 +6,7 @@ use Rattle.units.specs.Reordering.{line_order}
 use Rattle.lines.specs.declared.runs.Chain.{Chain}
 use Rattle.lines.specs.declared.runs.Run.{Run}
 use Rattle.lines.specs.Turning.{Has, remaining}
-use Rattle.lines.specs.RunLinks.{IsChainOf, IsLevelRun, Leads, run_at, spelled, units_in}
+use Rattle.lines.specs.RunLinks.{IsChainOf, IsLevelRun, Leads, run_in, spelled, units_in}
 use Rattle.lines.proofs.Lists.{has_right}
 use Rattle.lines.proofs.LineOrder.{line_order-in_order}
 use Rattle.lines.proofs.RunChains.{has_spelled, once}
@@ -27,11 +27,12 @@ pub run-some : (levels : List (Option ℕ)) (start end : ℕ) → IsLevelRun lev
 run-some levels start end r =
     none_has (line_order levels start end) start ((line_order-in_order levels start end (omega (arith, r.rises))).holds.complete start r.level (omega arith) r.rises r.has)
 
--- the positions of a line are those that are written and those of the runs that are left; there are places and steps for these
+-- the positions of a line are those that are written and those of the runs that are left; there are places and steps
+-- for these
 pub record Writes (levels : List (Option ℕ)) (runs : List Run) (positions : List ℕ) (last places most : ℕ) (order : List ℕ) (count position steps : ℕ) : Type 0 where
   pub rest : List ℕ
   pub leads : Leads runs position rest last
-  pub are_runs : (x : ℕ) → Has (rest ++ last ∷ []) x → IsLevelRun levels x (run_at runs x).end
+  pub are_runs : (x : ℕ) → Has (rest ++ last ∷ []) x → IsLevelRun levels x (run_in runs x).end
   pub is : positions ≡ take count order ++ spelled levels runs (rest ++ last ∷ [])
   pub apart : Has rest last → ⊥
   pub room : count + units_in runs (rest ++ last ∷ []) ≤ places
@@ -51,21 +52,21 @@ writes_start levels runs start end most chain order steps le h budget =
 
 -- the run that is written next, and what is left then
 pub record Next (levels : List (Option ℕ)) (runs : List Run) (positions : List ℕ) (last places most : ℕ) (order : List ℕ) (count position steps : ℕ) : Type 0 where
-  pub run : IsLevelRun levels position (run_at runs position).end
+  pub run : IsLevelRun levels position (run_in runs position).end
   pub has : Has positions position
-  pub room : count + ((run_at runs position).end - position) ≤ places
-  pub budget : steps + 2 * ((run_at runs position).end - position) ≤ most
-  pub ends : position ≡ last → positions ≡ take count order ++ line_order levels position (run_at runs position).end
-  pub goes_on : (order2 : List ℕ) (count2 steps2 : ℕ) → (position ≡ last → ⊥) → take count2 order2 ≡ take count order ++ line_order levels position (run_at runs position).end → count2 ≤ count + ((run_at runs position).end - position) → steps2 ≤ steps + 1 + ((run_at runs position).end - position) → Writes levels runs positions last places most order2 count2 (run_at runs position).next steps2
+  pub room : count + ((run_in runs position).end - position) ≤ places
+  pub budget : steps + 2 * ((run_in runs position).end - position) ≤ most
+  pub ends : position ≡ last → positions ≡ take count order ++ line_order levels position (run_in runs position).end
+  pub goes_on : (order2 : List ℕ) (count2 steps2 : ℕ) → (position ≡ last → ⊥) → take count2 order2 ≡ take count order ++ line_order levels position (run_in runs position).end → count2 ≤ count + ((run_in runs position).end - position) → steps2 ≤ steps + 1 + ((run_in runs position).end - position) → Writes levels runs positions last places most order2 count2 (run_in runs position).next steps2
 
-next_from : (levels : List (Option ℕ)) (runs : List Run) (positions : List ℕ) (last places most : ℕ) (order : List ℕ) (count position steps : ℕ) (rest : List ℕ) → Leads runs position rest last → ((x : ℕ) → Has (rest ++ last ∷ []) x → IsLevelRun levels x (run_at runs x).end) → positions ≡ take count order ++ spelled levels runs (rest ++ last ∷ []) → (Has rest last → ⊥) → count + units_in runs (rest ++ last ∷ []) ≤ places → steps + 2 * units_in runs (rest ++ last ∷ []) ≤ most → Next levels runs positions last places most order count position steps
+next_from : (levels : List (Option ℕ)) (runs : List Run) (positions : List ℕ) (last places most : ℕ) (order : List ℕ) (count position steps : ℕ) (rest : List ℕ) → Leads runs position rest last → ((x : ℕ) → Has (rest ++ last ∷ []) x → IsLevelRun levels x (run_in runs x).end) → positions ≡ take count order ++ spelled levels runs (rest ++ last ∷ []) → (Has rest last → ⊥) → count + units_in runs (rest ++ last ∷ []) ≤ places → steps + 2 * units_in runs (rest ++ last ∷ []) ≤ most → Next levels runs positions last places most order count position steps
 next_from levels runs positions last places most order count position steps [] leads all is apart room budget =
     subst (λ n. Next levels runs positions last places most order count n steps) (sym leads) (record {
       run = all last (inl refl);
       has = subst (λ ps. Has ps last) (sym is) (has_right (take count order) (spelled levels runs (last ∷ [])) last (has_spelled levels runs (last ∷ []) all last (inl refl)));
       room = omega arith;
       budget = omega (arith, (all last (inl refl)).rises);
-      ends = λ e. is ∙ ap (λ ps. take count order ++ ps) (append-nil (line_order levels last (run_at runs last).end));
+      ends = λ e. is ∙ ap (λ ps. take count order ++ ps) (append-nil (line_order levels last (run_in runs last).end));
       goes_on = λ order2 count2 steps2 ne written few quick. absurd (ne refl);
     })
 next_from levels runs positions last places most order count position steps (x ∷ xs) leads all is apart room budget =
@@ -82,7 +83,7 @@ next_from levels runs positions last places most order count position steps (x �
         are_runs = λ y h. all y (inr h);
         is =
             is
-            ∙ sym (append_assoc (take count order) (line_order levels x (run_at runs x).end) (spelled levels runs (xs ++ last ∷ [])))
+            ∙ sym (append_assoc (take count order) (line_order levels x (run_in runs x).end) (spelled levels runs (xs ++ last ∷ [])))
             ∙ ap (λ ps. ps ++ spelled levels runs (xs ++ last ∷ [])) (sym written);
         apart = λ h. apart (inr h);
         room = omega arith;

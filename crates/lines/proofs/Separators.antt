@@ -1,5 +1,5 @@
 -- As many paragraphs as separators, and one more where the last has none.
-use Rattle.std.proofs.Common.{◌≡◌, ℕ, ◌+◌, ◌-◌, ◌<◌, ◌≤◌, Bool, true, false, cond, List, [], ◌∷◌, length, take, zero, suc, refl, sym, ap, ◌∙◌, arith, get_or}
+use Rattle.std.proofs.Common.{◌≡◌, ℕ, ◌+◌, ◌-◌, ◌<◌, Bool, true, false, cond, List, [], ◌∷◌, length, take, zero, suc, refl, sym, ap, ◌∙◌, arith, get_or}
 use Rattle.std.specs.Prelude.{count_by, not}
 use mir.Val.{bool_byte}
 use Rattle.std.proofs.lemmas.List.Sums.{sum_by-cons}
@@ -69,16 +69,3 @@ paragraph_at us paragraphs p same h = omega (arith, count-before us p h)
 pub open_by : (closed : Bool) → bool_byte (not closed) ≡ cond closed 0 1
 open_by true = refl
 open_by false = refl
-
-at_most_one : (b : Bool) → cond b 1 0 ≤ 1
-at_most_one true = omega arith
-at_most_one false = omega arith
-
--- there are no more paragraphs than units
-pub paragraphs-few : (us : List BidiUnit) → length (paragraphs_of us) ≤ length us
-paragraphs-few [] = omega arith
-paragraphs-few (u ∷ []) = omega arith
-paragraphs-few (u ∷ v ∷ us) =
-    let next = paragraphs-few (v ∷ us) in
-    let some = length-paragraphs v us in
-    omega (arith, length-begin_with u (paragraphs_of (v ∷ us)) some, at_most_one (is_separator u.class))

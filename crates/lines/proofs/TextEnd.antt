@@ -12,8 +12,9 @@ use Rattle.units.specs.Positions.{positions_from, first_from}
 use Rattle.lines.specs.LineBreaks.{AreBreaks}
 use Rattle.lines.specs.Spaces.{resets_before}
 use Rattle.units.specs.Reordering.{begins_line, is_break}
-use Rattle.units.specs.Reordering.{line_from, is_reset, para_at, reset_to, after_resets}
-use Rattle.lines.proofs.LineEnd.{resets_at, resets_at-suc, may_reset, class_reset, length-positions_from, get_or-positions_from}
+use Rattle.units.specs.Reordering.{line_from, is_reset, para_level_at, reset_to, after_resets}
+use Rattle.units.proofs.Positions.{length-positions_from, get_or-positions_from}
+use Rattle.lines.proofs.LineEnd.{resets_at, resets_at-suc, may_reset, class_reset}
 use Rattle.lines.proofs.BreakAt.{or_true, is_break_at, is_break_none, rising_le}
 
 -- spaces before p are reset, if no line begins at p
@@ -104,19 +105,19 @@ pub record Resetting (own : List Class) (at : List ℕ) (paras : List ℕ) (old 
   pub coming : 0 < ahead → slice_index at (ahead - 1) ≤ p
   pub flag : resets ≡ resets_to own at p
   pub below : (k : ℕ) → k < p → get_or levels k None ≡ get_or old k None
-  pub done : (k : ℕ) → p ≤ k → k < length old → get_or levels k None ≡ reset_to (is_reset own at k) (para_at own paras k) (get_or old k None)
+  pub done : (k : ℕ) → p ≤ k → k < length old → get_or levels k None ≡ reset_to (is_reset own at k) (para_level_at own paras k) (get_or old k None)
 
 pub length-after_resets : (own : List Class) (at : List ℕ) (paras : List ℕ) (levels : List (Option ℕ)) → length (after_resets own at paras levels) ≡ length levels
 unfolding after_resets
 length-after_resets own at paras levels =
-    length-map (positions_from 0 (length levels)) (λ p. reset_to (is_reset own at p) (para_at own paras p) (slice_index_or levels p None)) ∙ length-positions_from 0 (length levels)
+    length-map (positions_from 0 (length levels)) (λ p. reset_to (is_reset own at p) (para_level_at own paras p) (slice_index_or levels p None)) ∙ length-positions_from 0 (length levels)
 
-pub get_or-after_resets : (own : List Class) (at : List ℕ) (paras : List ℕ) (levels : List (Option ℕ)) (k : ℕ) → k < length levels → get_or (after_resets own at paras levels) k None ≡ reset_to (is_reset own at k) (para_at own paras k) (get_or levels k None)
+pub get_or-after_resets : (own : List Class) (at : List ℕ) (paras : List ℕ) (levels : List (Option ℕ)) (k : ℕ) → k < length levels → get_or (after_resets own at paras levels) k None ≡ reset_to (is_reset own at k) (para_level_at own paras k) (get_or levels k None)
 unfolding after_resets
 get_or-after_resets own at paras levels k h =
     let n = length-positions_from 0 (length levels) in
-    let e : get_or (positions_from 0 (length levels)) k 0 ≡ k = get_or-positions_from 0 (length levels) k h ∙ omega arith in
-    let f : ℕ → Option ℕ = λ p. reset_to (is_reset own at p) (para_at own paras p) (slice_index_or levels p None) in
+    let e : get_or (positions_from 0 (length levels)) k 0 ≡ k = get_or-positions_from 0 (length levels) k 0 h ∙ omega arith in
+    let f : ℕ → Option ℕ = λ p. reset_to (is_reset own at p) (para_level_at own paras p) (slice_index_or levels p None) in
     get_or-map f (positions_from 0 (length levels)) k 0 None (omega (arith, n)) ∙ ap f e
 
 pub resetting_end : (own : List Class) (at : List ℕ) (paras : List ℕ) (old : List (Option ℕ)) (ahead paragraph : ℕ) (resets : Bool) (levels : List (Option ℕ)) → Resetting own at paras old 0 ahead paragraph resets levels → levels ≡ after_resets own at paras old
@@ -194,7 +195,7 @@ broken-is at len p ahead false breaks says from b =
       | inr l ↦ let g = b.passed k l h in omega arith
     ]))
 
-pub resetting_more : (own : List Class) (at : List ℕ) (paras : List ℕ) (old : List (Option ℕ)) (p ahead paragraph para : ℕ) (ends broken resets resets2 : Bool) (levels levels2 : List (Option ℕ)) → AreBreaks at (length own) → p < length own → ends ≡ is_separator (class_at own p) → (broken ≡ true → Comes at ahead (p + 1)) → (Comes at ahead (p + 1) → broken ≡ true) → resets2 ≡ resets_before (class_at own p) (ends || broken || resets) → para ≡ para_at own paras p → levels2 ≡ set levels p (reset_to (resets2 && may_reset (class_at own p)) para (get_or levels p None)) → Resetting own at paras old (p + 1) ahead paragraph resets levels → Resetting own at paras old p (ahead - cond broken 1 0) (paragraph - cond ends 1 0) resets2 levels2
+pub resetting_more : (own : List Class) (at : List ℕ) (paras : List ℕ) (old : List (Option ℕ)) (p ahead paragraph para : ℕ) (ends broken resets resets2 : Bool) (levels levels2 : List (Option ℕ)) → AreBreaks at (length own) → p < length own → ends ≡ is_separator (class_at own p) → (broken ≡ true → Comes at ahead (p + 1)) → (Comes at ahead (p + 1) → broken ≡ true) → resets2 ≡ resets_before (class_at own p) (ends || broken || resets) → para ≡ para_level_at own paras p → levels2 ≡ set levels p (reset_to (resets2 && may_reset (class_at own p)) para (get_or levels p None)) → Resetting own at paras old (p + 1) ahead paragraph resets levels → Resetting own at paras old p (ahead - cond broken 1 0) (paragraph - cond ends 1 0) resets2 levels2
 resetting_more own at paras old p ahead paragraph para ends broken resets resets2 levels levels2 breaks lt e says from flag value is r =
     let b : Breaking at (p + 1) ahead = record { in_breaks = r.in_breaks; passed = r.passed; coming = r.coming } in
     let b2 = breaking_step at (length own) p ahead broken breaks says from b in
@@ -216,12 +217,12 @@ resetting_more own at paras old p ahead paragraph para ends broken resets resets
       done = λ k low high. elim (cases_eq k p) [
         | inl q ↦
             let g : (resets2 && may_reset (class_at own p)) ≡ is_reset own at p = ap (λ t. t && may_reset (class_at own p)) f ∙ sym (is_reset-is own at p) in
-            let t : get_or levels2 p None ≡ reset_to (is_reset own at p) (para_at own paras p) (get_or old p None) =
+            let t : get_or levels2 p None ≡ reset_to (is_reset own at p) (para_level_at own paras p) (get_or old p None) =
             ap (λ xs. get_or xs p None) is ∙ get_or-set_same levels p put None within
             ∙ ap (λ t. reset_to t para (get_or levels p None)) g
             ∙ ap (λ v. reset_to (is_reset own at p) v (get_or levels p None)) value
-            ∙ ap (reset_to (is_reset own at p) (para_at own paras p)) (r.below p (omega arith)) in
-            subst (λ m. get_or levels2 m None ≡ reset_to (is_reset own at m) (para_at own paras m) (get_or old m None)) (sym q) t
+            ∙ ap (reset_to (is_reset own at p) (para_level_at own paras p)) (r.below p (omega arith)) in
+            subst (λ m. get_or levels2 m None ≡ reset_to (is_reset own at m) (para_level_at own paras m) (get_or old m None)) (sym q) t
         | inr ne ↦ ap (λ xs. get_or xs k None) is ∙ get_or-set_other levels p k put None ne ∙ r.done k (omega arith) high
       ];
     }
@@ -251,10 +252,10 @@ pub resetting_on : (own : List Class) (at : List ℕ) (paras : List ℕ) (old : 
 resetting_on own at paras old p ahead paragraph levels breaks lt solid whole r =
     let c = none_separates (class_at own p) solid in
     let level = get_or levels p None in
-    let same : levels ≡ set levels p (reset_to (false && may_reset (class_at own p)) (para_at own paras p) level) =
-    sym (ap (set levels p) (reset_to-false (para_at own paras p) level) ∙ set-get_or levels p None) in
+    let same : levels ≡ set levels p (reset_to (false && may_reset (class_at own p)) (para_level_at own paras p) level) =
+    sym (ap (set levels p) (reset_to-false (para_level_at own paras p) level) ∙ set-get_or levels p None) in
     let e : ahead - 0 ≡ ahead = omega arith in
     let f : paragraph - 0 ≡ paragraph = omega arith in
     let next : Resetting own at paras old p (ahead - 0) (paragraph - 0) false levels =
-    resetting_more own at paras old p ahead paragraph (para_at own paras p) false false false false levels levels breaks lt c.0 (λ h. cc) (λ h. absurd (whole h)) c.1 refl same r in
+    resetting_more own at paras old p ahead paragraph (para_level_at own paras p) false false false false levels levels breaks lt c.0 (λ h. cc) (λ h. absurd (whole h)) c.1 refl same r in
     subst (λ n. Resetting own at paras old p n paragraph false levels) e (subst (λ n. Resetting own at paras old p (ahead - 0) n false levels) f next)

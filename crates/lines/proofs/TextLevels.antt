@@ -5,7 +5,7 @@ use Rattle.std.proofs.Common.{arith, ap, sym, subst, ◌∙◌}
 use Rattle.std.proofs.lemmas.List.{append_assoc, append-nil, length-append}
 use Rattle.units.specs.Classes.{classes_of}
 use Rattle.units.specs.Isolates.{level_of_para, para_level_of}
-use Rattle.units.specs.Layout.{LineLayout, TextLayout, layout_of, lines_of, para_levels_of, resolved_levels, text_layout, text_levels, with_lines}
+use Rattle.units.specs.Layout.{LineLayout, TextLayout, layout_of, lines_cut_at, para_levels_of, resolved_levels, text_layout, text_levels, with_lines}
 use Rattle.units.specs.Limits.{LimitsOf}
 use Rattle.units.specs.Reordering.{after_resets, cuts_of}
 use Rattle.units.specs.Paragraphs.{IsCut, SeparatorOnlyLast, joined, paragraphs_of}
@@ -87,7 +87,7 @@ module _ {limits : LimitsOf} {text : List BidiUnit} {direction : Direction} {sta
 -- the parts that were written are those of the layout
 pub laid_out : (limits : LimitsOf) (text : List BidiUnit) (direction : Direction) (breaks : List ℕ) (paras : List ℕ) (resolved levels front : List (Option ℕ)) (lines : List LineLayout) →
     front ≡ levels → paras ≡ para_levels_of text direction → resolved ≡ text_levels limits text direction → levels ≡ after_resets (classes_of text) breaks paras resolved →
-    lines ≡ lines_of levels (cuts_of (classes_of text) breaks) →
+    lines ≡ lines_cut_at levels (cuts_of (classes_of text) breaks) →
     (let shown : TextLayout = record { paras = paras; levels = front; lines = lines } in shown ≡ layout_of limits text direction breaks)
 unfolding layout_of
 laid_out limits text direction breaks paras resolved levels front lines e p r l w =

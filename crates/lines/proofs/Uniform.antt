@@ -2,7 +2,7 @@
 use Rattle.std.proofs.Common.{◌≡◌, ℕ, ◌+◌, ◌<◌, ◌≤◌, ◌%◌, Option, List, ap, ◌∙◌, arith}
 use Rattle.std.specs.Prelude.{reverse}
 use Rattle.units.specs.Reordering.{line_order}
-use Rattle.lines.specs.Turning.{Before, Has, Holds, Ordered, IsUniform, least, remaining, turns}
+use Rattle.lines.specs.Turning.{Before, Has, ListsRemaining, Ordered, IsUniform, least, remaining, turns}
 use Rattle.lines.proofs.Least.{least-attained}
 use Rattle.lines.proofs.Lists.{has_reverse, has_reversed, ordered_reverse}
 use Rattle.lines.proofs.Levels.{AllBelow, LowestOdd, finished, rising_before}
@@ -23,7 +23,7 @@ uniform-rising levels start end v le even u =
     (finished levels start end (v + 1) (remaining levels start end) r.holds lowest (rising_before levels start end (v + 1) (remaining levels start end) r.holds below r.ordered))
 
 -- two positions of the line are turned round at their level
-turned_round : (levels : List (Option ℕ)) (start end v a b : ℕ) → Holds levels start end (remaining levels start end) → IsUniform levels start end v → Has (remaining levels start end) a → Has (remaining levels start end) b → a < b → Before levels v b a
+turned_round : (levels : List (Option ℕ)) (start end v a b : ℕ) → ListsRemaining levels start end (remaining levels start end) → IsUniform levels start end v → Has (remaining levels start end) a → Has (remaining levels start end) b → a < b → Before levels v b a
 turned_round levels start end v a b h u ha hb lt =
     let sa = h.sound a ha in
     let sb = h.sound b hb in
@@ -40,7 +40,7 @@ pub uniform-falling : (levels : List (Option ℕ)) (start end v : ℕ) → start
 uniform-falling levels start end v le odd u =
     let xs = remaining levels start end in
     let r = remaining-rising levels start end le in
-    let holds : Holds levels start end (reverse xs) = record {
+    let holds : ListsRemaining levels start end (reverse xs) = record {
       sound = λ p hp. r.holds.sound p (has_reverse xs p hp);
       complete = λ p w low high h. has_reversed xs p (r.holds.complete p w low high h);
     } in

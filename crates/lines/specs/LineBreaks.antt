@@ -3,7 +3,7 @@ use Rattle.std.specs.Prelude.{ℕ, ◌<◌, ◌≤◌, ◌-◌, ◌≡◌, ◌�
 use Rattle.lines.specs.declared.breaks.BreakFault.{BreakFault}
 use Rattle.lines.specs.declared.breaks.BreakFault.TheVariants.{OutOfRange, NotRising}
 
--- L1: breaks of a text of a length
+-- breaks of a text of a length
 pub record BreaksView : Type 0 where
   pub positions : List ℕ
   pub len : ℕ
@@ -22,13 +22,17 @@ pub record AreBreaksBelow (at : List ℕ) (len end : ℕ) : Type 0 where
   pub inside : (index : ℕ) → index < end → IsInside at len index
   pub rising : (index : ℕ) → index < end → Rises at index
 
--- L1: the breaks rise, and are all inside the text
+-- the breaks rise, and are all inside the text
 abbrev pub AreBreaks : List ℕ → ℕ → Type 0
 AreBreaks at len = AreBreaksBelow at len (length at)
 
+-- these are the breaks of a text of that length
+abbrev pub AreBreaksOf : List ℕ → ℕ → BreaksView → Type 0
+AreBreaksOf at len breaks = (breaks ≡ record { positions = at; len = len }) × AreBreaks at len
+
 -- the fault is the one of the least faulty index, and there being out of range comes first
-abbrev pub IsFirstFault : List ℕ → ℕ → BreakFault → Type 0
-IsFirstFault at len (OutOfRange index) =
+abbrev pub IsFirstBreakFault : List ℕ → ℕ → BreakFault → Type 0
+IsFirstBreakFault at len (OutOfRange index) =
     (index < length at) × AreBreaksBelow at len index × ((slice_index at index ≡ 0) ⊎ (len ≤ slice_index at index))
-IsFirstFault at len (NotRising index) =
+IsFirstBreakFault at len (NotRising index) =
     (index < length at) × AreBreaksBelow at len index × IsInside at len index × (0 < index) × (slice_index at index ≤ slice_index at (index - 1))

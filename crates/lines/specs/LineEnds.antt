@@ -1,4 +1,4 @@
--- Where a line ends (P1, L1).
+-- Where a line ends: behind a separator (P1), or at a break.
 use Rattle.std.specs.Prelude.{ℕ, ◌-◌, ◌<◌, ◌≤◌, ◌≡◌, true, false, List}
 use Rattle.units.specs.Classes.{class_at, is_separator}
 use Rattle.units.specs.declared.class.Class.{Class}

@@ -1,8 +1,11 @@
 -- White space at the end of a line (L1), as a walk from the end sees it.
-use Rattle.std.specs.Prelude.{Bool, Option, Some, None, ℕ, ◌≡◌, ◌||◌, ◌&&◌, List, slice_index_or}
+use Rattle.std.specs.Prelude.{Bool, Option, Some, None, ℕ, ◌≡◌, ◌||◌, ◌&&◌, List, map, slice_index_or}
+use Rattle.units.specs.declared.bracket.Unit.{Unit as BidiUnit}
 use Rattle.units.specs.declared.class.Class.{Class}
-use Rattle.units.specs.Classes.{is_removed, is_line_separator}
-use Rattle.units.specs.Reordering.{is_trailing_space, para_at}
+use Rattle.units.specs.declared.level.ParaLevel.{ParaLevel}
+use Rattle.units.specs.Classes.{classes_of, is_removed, is_line_separator}
+use Rattle.units.specs.Isolates.{level_of_para}
+use Rattle.units.specs.Reordering.{after_resets, is_trailing_space, para_level_at}
 
 -- L1: spaces before a position of this class are reset, where those after it are if the flag says so
 abbrev pub resets_before : Class → Bool → Bool
@@ -10,4 +13,12 @@ resets_before c later = is_line_separator c || ((is_removed c || is_trailing_spa
 
 -- L1: each remaining position has the level of its paragraph
 pub record AreAtParas (own : List Class) (paras : List ℕ) (levels : List (Option ℕ)) : Type 0 where
-  pub same : (p v : ℕ) → slice_index_or levels p None ≡ Some v → v ≡ para_at own paras p
+  pub same : (p v : ℕ) → slice_index_or levels p None ≡ Some v → v ≡ para_level_at own paras p
+
+-- the same of a text, by its units and the levels of its paragraphs
+abbrev pub StaysAtParas : List BidiUnit → List ParaLevel → List (Option ℕ) → Type 0
+StaysAtParas text paras levels = AreAtParas (classes_of text) (map level_of_para paras) levels
+
+-- L1: the levels of a text after resets, by its units, its breaks and the levels of its paragraphs
+abbrev pub levels_reset : List BidiUnit → List ℕ → List ParaLevel → List (Option ℕ) → List (Option ℕ)
+levels_reset text breaks paras levels = after_resets (classes_of text) breaks (map level_of_para paras) levels

@@ -46,7 +46,7 @@ Ordered r [] = Unit {0}
 Ordered r (x ∷ xs) = ((y : ℕ) → Has xs y → r x y) × Ordered r xs
 
 -- a list of exactly the remaining positions from start up to end
-pub record Holds (levels : List (Option ℕ)) (start end : ℕ) (xs : List ℕ) : Type 0 where
+pub record ListsRemaining (levels : List (Option ℕ)) (start end : ℕ) (xs : List ℕ) : Type 0 where
   pub sound : (p : ℕ) → Has xs p → (start ≤ p) × (p < end) × ((v : ℕ) × HasLevel levels p v)
   pub complete : (p v : ℕ) → start ≤ p → p < end → HasLevel levels p v → Has xs p
 

@@ -28,13 +28,13 @@ impl<'b> Model for Breaks<'b> {
 
 impl<'b> Breaks<'b> {
     ghost use Rattle.std.specs.Prelude.{◌≡◌, MatchResult};
-    ghost use Rattle.lines.specs.LineBreaks.{AreBreaks, IsFirstFault};
+    ghost use Rattle.lines.specs.LineBreaks.{AreBreaks, AreBreaksOf, IsFirstBreakFault};
 
     /// The breaks of a text of `len` units, each of which begins a new line at its position; `at` lists them rising.
     ///
     /// Of the faulty breaks the one of the least index is named, and there `OutOfRange` comes before `NotRising`.
     pub fn new(at: &'b [usize], len: usize) -> Result<Breaks<'b>, BreakFault>
-        ensures { MatchResult result (λ b. (b ≡ record { positions = at.now; len = len }) × AreBreaks at.now len) (λ fault. IsFirstFault at.now len fault) }
+        ensures { MatchResult result (AreBreaksOf at.now len) (IsFirstBreakFault at.now len) }
     {
         let mut before = 0;
         for (index, position) in at.iter().enumerate() {

@@ -1,12 +1,13 @@
-ghost use Rattle.std.specs.Prelude.{◌≡◌, ◌<◌, ◌≤◌, ◌+◌, ◌-◌, ◌*◌, ◌^◌, ◌++◌, ◌∷◌, [], IfSome, IsTrue, length, map, slice_index, take};
+ghost use Rattle.std.specs.Prelude.{◌≡◌, ◌<◌, ◌≤◌, ◌+◌, ◌-◌, ◌*◌, ◌^◌, ◌++◌, ◌∷◌, [], IfSome, IsTrue, length};
+ghost use Rattle.std.specs.Prelude.{slice_index, take};
 ghost use Rattle.units.specs.Classes.{classes_of};
 ghost use Rattle.units.specs.Isolates.{level_of_para};
-ghost use Rattle.units.specs.Layout.{lines_of};
+ghost use Rattle.units.specs.Layout.{lines_cut_at};
 ghost use Rattle.units.specs.Paragraphs.{paragraphs_of};
-ghost use Rattle.units.specs.Reordering.{cuts_of, line_order, para_at};
-ghost use Rattle.lines.specs.Bounds.{AreBounds, lines_in};
+ghost use Rattle.units.specs.Reordering.{cuts_of, line_order};
+ghost use Rattle.lines.specs.Bounds.{AreBounds, bound_behind, bounds_filled, lines_filled, orders_filled};
 ghost use Rattle.lines.specs.LineEnds.{EndsAt};
-ghost use Rattle.lines.specs.Spaces.{AreAtParas};
+ghost use Rattle.lines.specs.Spaces.{StaysAtParas};
 ghost use Rattle.lines.specs.Turning.{IsUniform};
 
 use crate::bounds::Bound;
@@ -80,14 +81,16 @@ fn write_line<L: Ledger>(
     requires line { start ≤ end }
     requires within { end ≤ length levels.now }
     requires small { length levels.now < 2 ^ 32 }
-    requires uniform { IfSome uniform (λ para. IsUniform levels.now start end (level_of_para para)) }
+    requires uniform { IfSome uniform (λ level. IsUniform levels.now start end (level_of_para level)) }
     requires few { filled.positions ≤ start }
     requires runs { end ≤ length runs.old }
     requires orders { end ≤ length orders.old }
     requires bounds { filled.lines + 1 < length bounds.old }
-    ensures order { take result.positions orders.new ≡ take filled.positions orders.old ++ line_order levels.now start end }
+    ensures order { orders_filled result orders.new
+        ≡ orders_filled filled orders.old ++ line_order levels.now start end }
     ensures few { result.positions ≤ end }
-    ensures bound { take (result.lines + 1) bounds.new ≡ take (filled.lines + 1) bounds.old ++ record { position = end; order = result.positions } ∷ [] }
+    ensures bound { bounds_filled result bounds.new
+        ≡ bounds_filled filled bounds.old ++ bound_behind end result.positions ∷ [] }
     ensures lines { result.lines ≡ filled.lines + 1 }
     ensures at_least { steps.old + (end - start) ≤ steps.new }
     ensures at_most { steps.new ≤ steps.old + 6 * (end - start) }
@@ -132,13 +135,14 @@ pub fn fill_lines<L: Ledger>(
     requires len { breaks.now.len ≡ length own.now }
     requires paras { length paras.now ≡ length (paragraphs_of own.now) }
     requires levels { length levels.now ≡ length own.now }
-    requires uniform { IsTrue uniform → AreAtParas (classes_of own.now) (map level_of_para paras.now) levels.now }
+    requires uniform { IsTrue uniform → StaysAtParas own.now paras.now levels.now }
     requires small { length own.now < 2 ^ 32 }
     requires runs { length own.now ≤ length runs.old }
     requires orders { length own.now ≤ length orders.old }
     requires bounds { length own.now < length bounds.old }
-    ensures bounds { AreBounds levels.now (take result.positions orders.new) (take (result.lines + 1) bounds.new) }
-    ensures lines { lines_in (take result.positions orders.new) (take (result.lines + 1) bounds.new) ≡ lines_of levels.now (cuts_of (classes_of own.now) breaks.now.positions) }
+    ensures bounds { AreBounds levels.now (orders_filled result orders.new) (bounds_filled result bounds.new) }
+    ensures lines { lines_filled result orders.new bounds.new
+        ≡ lines_cut_at levels.now (cuts_of (classes_of own.now) breaks.now.positions) }
     ensures few_lines { result.lines ≤ length own.now }
     ensures few_positions { result.positions ≤ length own.now }
     ensures at_least { steps.old + length own.now ≤ steps.new }

@@ -1,9 +1,12 @@
-ghost use Rattle.std.specs.Prelude.{◌≡◌, ◌≤◌, ◌<◌, ◌%◌, List, ℕ, length, map, reverse};
+ghost use Rattle.std.specs.Prelude.{◌≡◌, ◌≤◌, ◌<◌, ◌%◌, List, ℕ, None, is_none, length, reverse, slice_index_or};
 ghost use Rattle.std.specs.List.{All};
-ghost use Rattle.units.specs.Classes.{classes_of};
-ghost use Rattle.units.specs.Isolates.{level_of_para};
-ghost use Rattle.units.specs.Reordering.{IsLineOrder, after_resets, line_order};
-ghost use Rattle.lines.specs.Spaces.{AreAtParas};
+ghost use Rattle.units.specs.Classes.{class_at, classes_of, is_removed};
+ghost use Rattle.units.specs.Layout.{layout_of};
+ghost use Rattle.units.specs.Limits.{LimitsOf, AreAllowed};
+ghost use Rattle.units.specs.Reordering.{IsLineOrder, line_order};
+ghost use Rattle.units.specs.declared.bracket.Unit.{Unit as BidiUnit};
+ghost use Rattle.units.specs.declared.level.Direction.{Direction};
+ghost use Rattle.lines.specs.Spaces.{StaysAtParas, levels_reset};
 ghost use Rattle.lines.specs.Turning.{IsUniform, remaining};
 
 use crate::breaks::Breaks;
@@ -31,6 +34,14 @@ pub fn uniform_law(levels: &[Option<Level>], start: usize, end: usize, level: Le
 
 /// Where each remaining position has the level of its paragraph, L1 changes nothing.
 pub fn reset_law(own: &[Unit], breaks: &Breaks, paras: &[ParaLevel], levels: &[Option<Level>])
-    requires { AreAtParas (classes_of own.now) (map level_of_para paras.now) levels.now }
-    ensures { after_resets (classes_of own.now) breaks.now.positions (map level_of_para paras.now) levels.now ≡ levels.now }
+    requires { StaysAtParas own.now paras.now levels.now }
+    ensures { levels_reset own.now breaks.now.positions paras.now levels.now ≡ levels.now }
+{}
+
+/// A position of a text has no level in its layout exactly where X9 removes it: L1 gives none to a removed position,
+/// and takes none away.
+pub fn removed_have_no_level()
+    ensures { (limits : LimitsOf) (text : List BidiUnit) (direction : Direction) (breaks : List ℕ) (p : ℕ)
+        → AreAllowed limits → p < length text
+        → is_none (slice_index_or (layout_of limits text direction breaks).levels p None) ≡ is_removed (class_at (classes_of text) p) }
 {}

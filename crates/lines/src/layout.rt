@@ -29,13 +29,12 @@ pub struct Layout<'s> {
 }
 
 impl<'s> Layout<'s> {
-    ghost use Rattle.std.specs.Prelude.{◌≡◌, ◌<◌, ◌≤◌, ◌+◌, length, map, slice_index_or};
+    ghost use Rattle.std.specs.Prelude.{◌≡◌, ◌<◌, ◌≤◌, ◌+◌, length, map};
     ghost use Rattle.std.specs.List.{All};
     ghost use Rattle.units.specs.Isolates.{level_of_para};
-    ghost use Rattle.units.specs.Reordering.{shown_of};
-    ghost use Rattle.ucdfiles.specs.Tables.{glyph_at};
-    ghost use Rattle.lines.specs.Bounds.{AreBounds, Follows, line_between, lines_in};
-    ghost use Rattle.lines.specs.Layouts.{view_of, no_line, IsLineAt};
+    ghost use Rattle.ucdfiles.specs.Tables.{glyph_by};
+    ghost use Rattle.lines.specs.Bounds.{AreBounds, Follows, line_between};
+    ghost use Rattle.lines.specs.Layouts.{layout_view, line_at, line_shown, view_of, IsLineAt};
     ghost use Rattle.lines.specs.Showing.{shown_left};
 
     pub(crate) fn new(
@@ -45,7 +44,7 @@ impl<'s> Layout<'s> {
         bounds: &'s [Bound],
     ) -> Layout<'s>
         requires { AreBounds levels.now orders.now bounds.now }
-        ensures { view_of result ≡ record { paras = map level_of_para paras.now; levels = levels.now; lines = lines_in orders.now bounds.now } }
+        ensures { view_of result ≡ layout_view paras.now levels.now orders.now bounds.now }
     {
         Layout {
             paras,
@@ -79,7 +78,7 @@ impl<'s> Layout<'s> {
     /// The bounds of the line with the number `k`.
     fn bounds_of(&self, k: usize) -> (Bound, Bound)
         requires { k + 1 < length self.now.bounds.now }
-        ensures line { slice_index_or (view_of self.now).lines k no_line ≡ line_between self.now.orders.now result.0 result.1 }
+        ensures line { line_at (view_of self.now) k ≡ line_between self.now.orders.now result.0 result.1 }
         ensures rising { Follows result.0 result.1 }
         ensures inside { result.1.position ≤ length self.now.levels.now }
         ensures written { result.1.order ≤ length self.now.orders.now }
@@ -112,7 +111,7 @@ impl<'s> Layout<'s> {
     pub fn shown<'a>(&'a self, mirrors: &'a MirrorTable, chars: &'a [char], k: usize) -> Shown<'a>
         requires line { k < length (view_of self.now).lines }
         requires chars { length chars.now ≡ length (view_of self.now).levels }
-        ensures { shown_left result ≡ shown_of (glyph_at mirrors.now) (view_of self.now).levels chars.now (slice_index_or (view_of self.now).lines k no_line).order }
+        ensures { shown_left result ≡ line_shown (glyph_by mirrors.now) chars.now (view_of self.now) k }
     {
         let line = self.line(k);
         Shown::new(mirrors, self.levels, chars, line.order)

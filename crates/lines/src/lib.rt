@@ -14,5 +14,3 @@ mod resolving;
 pub mod runs;
 pub mod scratch;
 pub mod shown;
-#[cfg(test)]
-mod tests;

@@ -72,7 +72,8 @@ fn write_all<L: Ledger>(
     requires line { start ≤ end }
     requires room { end - start ≤ length order.old }
     ensures even { level_of_para level ≡ 0 → take (end - start) order.new ≡ positions_from start (end - start) }
-    ensures odd { level_of_para level ≡ 1 → take (end - start) order.new ≡ reverse (positions_from start (end - start)) }
+    ensures odd { level_of_para level ≡ 1
+        → take (end - start) order.new ≡ reverse (positions_from start (end - start)) }
     ensures steps { steps.new ≡ steps.old + (end - start) }
 {
     let places = &mut order[..end - start];
@@ -214,7 +215,7 @@ pub fn write_order<L: Ledger>(
 ) -> usize
     requires line { start ≤ end }
     requires within { end ≤ length levels.now }
-    requires uniform { IfSome uniform (λ para. IsUniform levels.now start end (level_of_para para)) }
+    requires uniform { IfSome uniform (λ level. IsUniform levels.now start end (level_of_para level)) }
     requires runs { end ≤ length runs.old }
     requires small { end < 2 ^ 32 }
     requires room { end - start ≤ length order.old }

@@ -1,9 +1,9 @@
-ghost use Rattle.std.specs.Prelude.{◌≡◌, ◌<◌, ◌≤◌, ◌+◌, ◌-◌, ◌↔◌, ◌||◌, ℕ, IsTrue, length, slice_index, take, count_by, map};
+ghost use Rattle.std.specs.Prelude.{◌≡◌, ◌<◌, ◌≤◌, ◌+◌, ◌-◌, ◌↔◌, ◌||◌, IsTrue, length, slice_index, count_by};
 ghost use Rattle.units.specs.Classes.{classes_of, is_line_separator as separates_line, is_separator};
 ghost use Rattle.units.specs.Isolates.{level_of_para};
 ghost use Rattle.units.specs.Paragraphs.{paragraphs_of};
-ghost use Rattle.units.specs.Reordering.{after_resets, is_trailing_space, reset_to};
-ghost use Rattle.lines.specs.Spaces.{AreAtParas, resets_before};
+ghost use Rattle.units.specs.Reordering.{is_trailing_space, reset_to};
+ghost use Rattle.lines.specs.Spaces.{StaysAtParas, levels_reset, resets_before};
 
 use crate::breaks::Breaks;
 use std::sync::ledger::Ledger;
@@ -87,7 +87,7 @@ pub fn reset_text<L: Ledger>(
     requires len { breaks.now.len ≡ length own.now }
     requires levels { length levels.old ≡ length own.now }
     requires paras { length paras.now ≡ length (paragraphs_of own.now) }
-    ensures levels { levels.new ≡ after_resets (classes_of own.now) breaks.now.positions (map level_of_para paras.now) levels.old }
+    ensures levels { levels.new ≡ levels_reset own.now breaks.now.positions paras.now levels.old }
     ensures steps { steps.new ≡ steps.old + length own.now }
 {
     let at = breaks.positions();
@@ -122,9 +122,9 @@ pub(crate) fn reset_unless_uniform<L: Ledger>(
     requires len { breaks.now.len ≡ length own.now }
     requires levels { length levels.old ≡ length own.now }
     requires paras { length paras.now ≡ length (paragraphs_of own.now) }
-    requires uniform { IsTrue uniform → AreAtParas (classes_of own.now) (map level_of_para paras.now) levels.old }
-    ensures levels { levels.new ≡ after_resets (classes_of own.now) breaks.now.positions (map level_of_para paras.now) levels.old }
-    ensures uniform { IsTrue uniform → AreAtParas (classes_of own.now) (map level_of_para paras.now) levels.new }
+    requires uniform { IsTrue uniform → StaysAtParas own.now paras.now levels.old }
+    ensures levels { levels.new ≡ levels_reset own.now breaks.now.positions paras.now levels.old }
+    ensures uniform { IsTrue uniform → StaysAtParas own.now paras.now levels.new }
     ensures at_least { steps.old ≤ steps.new }
     ensures at_most { steps.new ≤ steps.old + length own.now }
     ensures light { IsTrue uniform → steps.new ≡ steps.old }

@@ -1,10 +1,9 @@
 //! The paragraph levels and the resolved levels of a text (P1 to I2).
 ghost use Rattle.std.specs.Prelude.{◌≡◌, ◌≤◌, ◌+◌, ◌*◌, length, map, take, true};
-ghost use Rattle.units.specs.Classes.{classes_of};
 ghost use Rattle.units.specs.Isolates.{level_of_para};
 ghost use Rattle.units.specs.Layout.{para_levels_of, text_levels};
 ghost use Rattle.lines.specs.Kept.{keeps_levels};
-ghost use Rattle.lines.specs.Spaces.{AreAtParas};
+ghost use Rattle.lines.specs.Spaces.{StaysAtParas};
 
 use paragraph::contents::FirstParagraph;
 use paragraph::resolver::Resolver;
@@ -43,7 +42,8 @@ pub(crate) fn resolve_text<L: Ledger>(
     ensures few { result.paragraphs ≤ length text.now }
     ensures levels { take (length text.now) levels.new ≡ text_levels limits text.now direction }
     ensures known { result.uniform ≡ keeps_levels text.now direction }
-    ensures uniform { result.uniform ≡ true → AreAtParas (classes_of text.now) (map level_of_para (take result.paragraphs paras.new)) (take (length text.now) levels.new) }
+    ensures uniform { result.uniform ≡ true
+        → StaysAtParas text.now (take result.paragraphs paras.new) (take (length text.now) levels.new) }
     ensures at_least { steps.old + 2 * length text.now ≤ steps.new }
     ensures at_most { steps.new ≤ steps.old + 84 * length text.now }
     ensures light { result.uniform ≡ true → steps.new ≤ steps.old + 4 * length text.now }

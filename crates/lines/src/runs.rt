@@ -1,7 +1,8 @@
 //! The runs of a line (L2): stretches of one level, linked as they stand on the line from left to right.
 ghost use Rattle.std.specs.Prelude.{◌≡◌, ◌≢◌, ◌≤◌, ◌<◌, ◌+◌, ◌-◌, ◌*◌, ◌^◌, ◌⊎◌, ℕ, [], MatchOption, length};
 ghost use Rattle.units.specs.Reordering.{line_order};
-ghost use Rattle.lines.specs.RunLinks.{BeginsRun, IsChainOf, IsFollowed, IsJoined, IsLinked, StopsBelow, run_at};
+ghost use Rattle.lines.specs.RunLinks.{BeginsRun, IsLineChain, IsFollowed, IsJoined, IsLinkedStretch, StopsBelow};
+ghost use Rattle.lines.specs.RunLinks.{run_in};
 ghost use Rattle.lines.specs.Turning.{HasLevel, IsUniform};
 
 use std::sync::ledger::Ledger;
@@ -145,11 +146,11 @@ fn link_from<L: Ledger>(
     requires small { end < 2 ^ 32 }
     requires level { HasLevel levels.now position level }
     requires least { least ≤ level }
-    ensures linked { IsLinked levels.now runs.new position result }
+    ensures linked { IsLinkedStretch levels.now runs.new position result }
     ensures within { result.end ≤ end }
     ensures least { least ≤ result.level }
     ensures stops { StopsBelow levels.now least result.end end }
-    ensures kept { (p : ℕ) → p < position → run_at runs.new p ≡ run_at runs.old p }
+    ensures kept { (p : ℕ) → p < position → run_in runs.new p ≡ run_in runs.old p }
     ensures at_least { steps.old + (result.end - position) ≤ steps.new }
     ensures at_most { steps.new + 1 ≤ steps.old + 4 * (result.end - position) }
 {
@@ -186,7 +187,8 @@ pub(crate) fn link_line<L: Ledger>(
     requires within { end ≤ length levels.now }
     requires room { end ≤ length runs.old }
     requires small { end < 2 ^ 32 }
-    ensures linked { MatchOption result (line_order levels.now start end ≡ []) (λ chain. IsChainOf levels.now runs.new (end - start) (line_order levels.now start end) chain) }
+    ensures linked { MatchOption result (line_order levels.now start end ≡ [])
+        (IsLineChain levels.now runs.new start end) }
     ensures at_least { steps.old + (end - start) ≤ steps.new }
     ensures at_most { steps.new ≤ steps.old + 4 * (end - start) }
 {

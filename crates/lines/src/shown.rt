@@ -26,7 +26,7 @@ fn is_odd(level: Option<Level>) -> bool
 }
 
 impl<'a> Shown<'a> {
-    ghost use Rattle.ucdfiles.specs.Tables.{glyph_at};
+    ghost use Rattle.ucdfiles.specs.Tables.{glyph_by};
     ghost use Rattle.lines.specs.Showing.{shown_left};
 
     pub(crate) fn new(
@@ -37,7 +37,7 @@ impl<'a> Shown<'a> {
     ) -> Shown<'a>
         requires leveled { All (λ p. p < length levels.now) order.now }
         requires written { length chars.now ≡ length levels.now }
-        ensures { shown_left result ≡ shown_of (glyph_at mirrors.now) levels.now chars.now order.now }
+        ensures { shown_left result ≡ shown_of (glyph_by mirrors.now) levels.now chars.now order.now }
     {
         Shown {
             mirrors,
@@ -50,7 +50,7 @@ impl<'a> Shown<'a> {
     /// The character at a position as it is shown.
     fn char_at(&self, position: usize) -> char
         requires { position < length self.now.levels.now }
-        ensures { result ≡ shown_at (glyph_at self.now.mirrors.now) self.now.levels.now self.now.chars.now position }
+        ensures { result ≡ shown_at (glyph_by self.now.mirrors.now) self.now.levels.now self.now.chars.now position }
     {
         let c = self.chars[position];
         if is_odd(self.levels[position]) {

@@ -17,7 +17,7 @@ use Rattle.units.specs.declared.class.Class.{Class}
 use Rattle.explicit.specs.ExplicitLevels.{HoldsLevels}
 use Rattle.explicit.proofs.InsideIsolates.{nested}
 use Rattle.explicit.proofs.Leveled.{leveled, size-is, get_or-of_positions, length-of_positions}
-use Rattle.explicit.proofs.Positions.{length-positions_from, get_or-positions_from}
+use Rattle.units.proofs.Positions.{length-positions_from, get_or-positions_from}
 use Rattle.sequences.specs.Links.{ArePositions}
 use Rattle.sequences.specs.Once.{HoldsOnce}
 use Rattle.sequences.proofs.Fits.{length-flat, sequences_fit}
@@ -25,7 +25,7 @@ use Rattle.sequences.proofs.Forward.{successor_later}
 use Rattle.sequences.proofs.Links.{followed_rises, rising_positions}
 use Rattle.sequences.proofs.Once.{sequences_hold_once}
 use Rattle.resolve.proofs.OwnClasses.{current-own}
-use Rattle.paragraph.specs.Covering.{AreApart, HasLevelsBy}
+use Rattle.paragraph.specs.Covering.{AreDisjoint, HasLevelsBy}
 use Rattle.resolve.specs.Sought.{AreOwn}
 
 at_most_one : (b : Bool) → (if b then 1 else 0) ≤ 1
@@ -58,7 +58,7 @@ module _ (depth : ℕ) (deep : depth ≤ 125) (us : List BidiUnit) (para : ℕ) 
       (followed_rises (successor leveled_here) (size_of leveled_here) (successor_later leveled_here (leveled depth (classes_of us) para deep low)) p h) in
       All-from_get_or (λ q. q < length us) (sequence_from leveled_here p) 0 (λ i g. omega (arith, are.within i g, size_here))
 
-  pub sequences_are_apart : AreApart (length us) (sequences_of leveled_here)
+  pub sequences_are_apart : AreDisjoint (length us) (sequences_of leveled_here)
   sequences_are_apart =
       let l = leveled depth (classes_of us) para deep low in
       let once : HoldsOnce leveled_here (sequences_of leveled_here) = sequences_hold_once leveled_here l (nested depth us para only) in

@@ -15,7 +15,7 @@ use Rattle.units.specs.declared.bracket.Unit.{Unit as BidiUnit}
 use Rattle.units.specs.declared.class.Class.{Class}
 use Rattle.sequences.specs.Once.{times}
 use Rattle.sequences.proofs.Once.{one_if, one_if-same, times-append, times-cons}
-use Rattle.paragraph.specs.Covering.{positions_in, AreApart, HasLevelsBy}
+use Rattle.paragraph.specs.Covering.{positions_in, AreDisjoint, HasLevelsBy}
 use Rattle.resolve.specs.Raised.{resolved_at}
 use Rattle.resolve.specs.Resolved.{HasLevels, KeepsOtherLevels}
 use Rattle.resolve.specs.Rewritten.{KeepsOthers}
@@ -57,7 +57,7 @@ found_some (x ∷ ps) (v ∷ vs) p n l =
           ))
     ]
 
-found-append : (xs ys : List (ℕ × ℕ)) (p : ℕ) → level_found xs p ≡ None → level_found (xs ++ ys) p ≡ level_found ys p
+pub found-append : (xs ys : List (ℕ × ℕ)) (p : ℕ) → level_found xs p ≡ None → level_found (xs ++ ys) p ≡ level_found ys p
 found-append [] ys p e = refl
 found-append (x ∷ xs) ys p e =
     elim (cases_Bool (x.0 == p)) [
@@ -80,22 +80,22 @@ found-append_none (x ∷ xs) ys p e =
           ∙ ap (option_map (λ (y : ℕ × ℕ). y.1)) (sym (cond-false (x.0 == p) (Some x) (find (λ (y : ℕ × ℕ). y.0 == p) xs) other))
     ]
 
-module _ (room : ℕ) (us : List BidiUnit) (before : List Class) where
+module _ (most_open : ℕ) (us : List BidiUnit) (before : List Class) where
   -- sequences that do not hold a position give it no level
-  unfound : (all : List SequenceView) (p : ℕ) → times (positions_in all) p ≡ 0 → level_found (flat_map (levels_in room us before) all) p ≡ None
+  pub unfound : (all : List SequenceView) (p : ℕ) → times (positions_in all) p ≡ 0 → level_found (flat_map (levels_in most_open us before) all) p ≡ None
   unfound [] p e = refl
   unfound (s ∷ all) p e =
       let t = times-append s.positions (positions_in all) p in
-      found-append (levels_in room us before s) (flat_map (levels_in room us before) all) p (found_none s.positions (levels_of_sequence room s us (classes_at before s.positions)) p (omega arith))
+      found-append (levels_in most_open us before s) (flat_map (levels_in most_open us before) all) p (found_none s.positions (levels_of_sequence most_open s us (classes_at before s.positions)) p (omega arith))
       ∙ unfound all p (omega arith)
 
 -- what these sequences leave: their positions have their levels, and the classes at all others are those before W1
-pub record IsCovered (room : ℕ) (us : List BidiUnit) (before : List Class) (done : List SequenceView) (classes : List Class) (levels : List (Option ℕ)) : Type 0 where
-  pub found : HasLevelsBy room us before done levels
+pub record IsCovered (most_open : ℕ) (us : List BidiUnit) (before : List Class) (done : List SequenceView) (classes : List Class) (levels : List (Option ℕ)) : Type 0 where
+  pub found : HasLevelsBy most_open us before done levels
   pub kept : (p : ℕ) → times (positions_in done) p ≡ 0 → class_at classes p ≡ class_at before p
 
-pub covered_none : (room : ℕ) (us : List BidiUnit) (before : List Class) (levels : List (Option ℕ)) → ((p : ℕ) → resolved_at levels p ≡ None) → IsCovered room us before [] before levels
-covered_none room us before levels fresh = record { found = λ p h. fresh p; kept = λ p h. refl }
+pub covered_none : (most_open : ℕ) (us : List BidiUnit) (before : List Class) (levels : List (Option ℕ)) → ((p : ℕ) → resolved_at levels p ≡ None) → IsCovered most_open us before [] before levels
+covered_none most_open us before levels fresh = record { found = λ p h. fresh p; kept = λ p h. refl }
 
 times_in-append : (xs ys : List SequenceView) (p : ℕ) → times (positions_in (xs ++ ys)) p ≡ times (positions_in xs) p + times (positions_in ys) p
 times_in-append [] ys p = omega arith
@@ -133,7 +133,7 @@ contained (s ∷ all) zero d h p c = Contains-append_left s.positions (positions
 contained (s ∷ all) (suc k) d h p c = Contains-append_right s.positions (positions_in all) p (contained all k d (omega arith) p c)
 
 -- no position of the sequence stands in an earlier one
-module _ {extent : ℕ} {all : List SequenceView} (apart : AreApart extent all) {k : ℕ} {s : SequenceView} (at : slice_get all k ≡ Some s) (inside : k < length all) where
+module _ {extent : ℕ} {all : List SequenceView} (apart : AreDisjoint extent all) {k : ℕ} {s : SequenceView} (at : slice_get all k ≡ Some s) (inside : k < length all) where
   pub take_next : take (k + 1) all ≡ take k all ++ (s ∷ [])
   take_next = take_more all k s inside ∙ ap (λ (x : SequenceView). take k all ++ (x ∷ [])) (get_or_from_slice_get all k s s at)
 
@@ -165,23 +165,23 @@ module _ {extent : ℕ} {all : List SequenceView} (apart : AreApart extent all) 
       λ p c. same p (apart_from_earlier p (within_extent p c) (times_some s.positions p c)) in
       map_where (class_at classes) (class_at before) s.positions one
 
-  pub covered_next : (room : ℕ) (us : List BidiUnit) (before classes now_classes : List Class) (levels now_levels : List (Option ℕ)) → length us ≡ extent →
-      IsCovered room us before (take k all) classes levels →
-      HasLevels room s us before now_levels → KeepsOtherLevels s.positions levels now_levels → KeepsOthers s.positions classes now_classes →
-      IsCovered room us before (take (k + 1) all) now_classes now_levels
-  covered_next room us before classes now_classes levels now_levels n covered has keeps_levels keeps_classes =
-      let own : List (ℕ × ℕ) = levels_in room us before s in
-      let earlier : List (ℕ × ℕ) = flat_map (levels_in room us before) (take k all) in
-      let joined : flat_map (levels_in room us before) (take (k + 1) all) ≡ earlier ++ own =
-      ap (flat_map (levels_in room us before)) take_next ∙ flat-append (levels_in room us before) (take k all) (s ∷ []) ∙ ap (λ (xs : List (ℕ × ℕ)). earlier ++ xs) (append-nil own) in
-      let values : List ℕ = levels_of_sequence room s us (classes_at before s.positions) in
-      let long : length values ≡ length s.positions = length-levels_of_sequence room s us (classes_at before s.positions) ∙ length-map s.positions (class_at before) in
+  pub covered_next : (most_open : ℕ) (us : List BidiUnit) (before classes now_classes : List Class) (levels now_levels : List (Option ℕ)) → length us ≡ extent →
+      IsCovered most_open us before (take k all) classes levels →
+      HasLevels most_open s us before now_levels → KeepsOtherLevels s.positions levels now_levels → KeepsOthers s.positions classes now_classes →
+      IsCovered most_open us before (take (k + 1) all) now_classes now_levels
+  covered_next most_open us before classes now_classes levels now_levels n covered has keeps_levels keeps_classes =
+      let own : List (ℕ × ℕ) = levels_in most_open us before s in
+      let earlier : List (ℕ × ℕ) = flat_map (levels_in most_open us before) (take k all) in
+      let joined : flat_map (levels_in most_open us before) (take (k + 1) all) ≡ earlier ++ own =
+      ap (flat_map (levels_in most_open us before)) take_next ∙ flat-append (levels_in most_open us before) (take k all) (s ∷ []) ∙ ap (λ (xs : List (ℕ × ℕ)). earlier ++ xs) (append-nil own) in
+      let values : List ℕ = levels_of_sequence most_open s us (classes_at before s.positions) in
+      let long : length values ≡ length s.positions = length-levels_of_sequence most_open s us (classes_at before s.positions) ∙ length-map s.positions (class_at before) in
       record {
         found = λ p h.
             elim (cases_lt 0 (times s.positions p)) [
               | inl some ↦
                   (let w = found_some s.positions values p long some in
-                  let none : level_found earlier p ≡ None = unfound room us before (take k all) p (apart_from_earlier p (omega (arith, h, n)) some) in
+                  let none : level_found earlier p ≡ None = unfound most_open us before (take k all) p (apart_from_earlier p (omega (arith, h, n)) some) in
                   ap (resolved_at now_levels) (sym w.2) ∙ has w.0 w.1 ∙ sym w.3 ∙ sym (found-append earlier own p none))
               | inr others ↦
                   (let none : times s.positions p ≡ 0 = omega arith in

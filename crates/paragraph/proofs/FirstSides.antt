@@ -1,18 +1,14 @@
 -- P2, P3: the level by the side of the first strong class, where nothing stands in an isolate.
-use Rattle.std.proofs.Common.{◌≡◌, ℕ, Bool, true, false, Option, Some, None, List, refl, cond}
+use Rattle.std.proofs.Common.{◌≡◌, ℕ, Option, Some, None, List, refl}
 use Rattle.std.specs.Prelude.{find}
 use Rattle.units.specs.Classes.{is_strong, is_right_to_left}
 use Rattle.units.specs.declared.class.Class.{Class}
 use Rattle.units.specs.declared.level.Direction.{Direction}
 use Rattle.units.specs.declared.level.Direction.TheVariants.{Auto, Ltr, Rtl, AutoRtl}
-use Rattle.explicit.specs.declared.side.Side.TheVariants.{LeftToRight, RightToLeft}
 use Rattle.explicit.specs.SideLevels.{level_by_side, level_under}
 use Rattle.flat.specs.Flat.{flat_para_level, level_by_strong}
 use Rattle.paragraph.specs.FirstSides.{side_by}
-
-level_of_side : (b : Bool) (otherwise : ℕ) → level_by_side (cond b RightToLeft LeftToRight) otherwise ≡ cond b 1 0
-level_of_side true otherwise = refl
-level_of_side false otherwise = refl
+use Rattle.explicit.proofs.LevelUnder.{level_of_side}
 
 by_strong : (o : Option Class) (otherwise : ℕ) → level_by_side (side_by o) otherwise ≡ level_by_strong otherwise o
 by_strong None otherwise = refl

@@ -17,7 +17,7 @@ use Rattle.units.specs.declared.class.Class.TheVariants.{L}
 use Rattle.flat.specs.Flat.{is_flat, is_kept, IsFlat, remaining_of, flat_sequences}
 use Rattle.flat.specs.IdleRules.{HasNone}
 use Rattle.flat.specs.Uniform.{kept_level, may_rise}
-use Rattle.flat.proofs.Listed.{length-positions_from, get_or-positions_from}
+use Rattle.units.proofs.Positions.{length-positions_from, get_or-positions_from}
 use Rattle.flat.proofs.OneSequence.{sequences_of-flat}
 use Rattle.flat.proofs.Staying.{resolved_levels-uniform}
 use Rattle.flat.proofs.WholeLevels.{resolved_levels-flat}

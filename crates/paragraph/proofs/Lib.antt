@@ -5,3 +5,4 @@ pub mod FlatLevels
 pub mod ClassKinds
 pub mod Scan
 pub mod FirstSides
+pub mod Unresolved

@@ -7,38 +7,38 @@ use Rattle.units.specs.declared.class.Class.TheVariants.{L, R, AL, EN, ES, ET, A
 use Rattle.paragraph.specs.declared.class_set.ClassSet.{ClassSet}
 
 -- the place of a class among the 23
-abbrev pub number_of : Class → ℕ
-number_of L = 0
-number_of R = 1
-number_of AL = 2
-number_of EN = 3
-number_of ES = 4
-number_of ET = 5
-number_of AN = 6
-number_of CS = 7
-number_of NSM = 8
-number_of BN = 9
-number_of B = 10
-number_of S = 11
-number_of WS = 12
-number_of ON = 13
-number_of LRE = 14
-number_of LRO = 15
-number_of RLE = 16
-number_of RLO = 17
-number_of PDF = 18
-number_of LRI = 19
-number_of RLI = 20
-number_of FSI = 21
-number_of PDI = 22
+abbrev pub class_number : Class → ℕ
+class_number L = 0
+class_number R = 1
+class_number AL = 2
+class_number EN = 3
+class_number ES = 4
+class_number ET = 5
+class_number AN = 6
+class_number CS = 7
+class_number NSM = 8
+class_number BN = 9
+class_number B = 10
+class_number S = 11
+class_number WS = 12
+class_number ON = 13
+class_number LRE = 14
+class_number LRO = 15
+class_number RLE = 16
+class_number RLO = 17
+class_number PDF = 18
+class_number LRI = 19
+class_number RLI = 20
+class_number FSI = 21
+class_number PDI = 22
 
 -- the two are one class
 abbrev pub is_class : Class → Class → Bool
-is_class c d = number_of c == number_of d
+is_class c d = class_number c == class_number d
 
 -- the bit of a class
 abbrev pub bit_of : Class → ℕ
-bit_of c = 2 ^ number_of c
+bit_of c = 2 ^ class_number c
 
 -- the set holds these classes and no others
 pub record IsSetOf (set : ClassSet) (cs : List Class) : Type 0 where

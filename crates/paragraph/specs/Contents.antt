@@ -17,7 +17,7 @@ has_none test cs = list_all (λ c. not (test c)) cs
 
 -- X1 to I2: these classes leave each position at the paragraph's level
 abbrev pub keeps_level : ℕ → List Class → Bool
-keeps_level para cs = list_all is_flat cs && has_none (may_rise para) cs
+keeps_level para_level cs = list_all is_flat cs && has_none (may_rise para_level) cs
 
 -- what the paragraph of these classes contains
 abbrev pub Describes : Contents → List Class → Type 0

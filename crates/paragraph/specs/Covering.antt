@@ -13,7 +13,7 @@ abbrev pub positions_in : List SequenceView → List ℕ
 positions_in all = flat_map (λ s. s.positions) all
 
 -- sequences of a paragraph of so many positions, none of which stands in two of them or twice in one
-pub record AreApart (extent : ℕ) (all : List SequenceView) : Type 0 where
+pub record AreDisjoint (extent : ℕ) (all : List SequenceView) : Type 0 where
   pub extents : All (λ s. s.extent ≡ extent) all
   pub within : All (λ s. All (λ p. p < extent) s.positions) all
   pub once : (p : ℕ) → p < extent → times (positions_in all) p ≤ 1
@@ -23,4 +23,5 @@ pub record AreApart (extent : ℕ) (all : List SequenceView) : Type 0 where
 -- W1 to I2: each position has the level that these sequences give it, by the classes before W1 and with room for so
 -- many open brackets, and none if it stands in none of them
 abbrev pub HasLevelsBy : ℕ → List BidiUnit → List Class → List SequenceView → List (Option ℕ) → Type 0
-HasLevelsBy room us before all levels = (p : ℕ) → p < length us → resolved_at levels p ≡ level_found (flat_map (levels_in room us before) all) p
+HasLevelsBy most_open us before all levels =
+    (p : ℕ) → p < length us → resolved_at levels p ≡ level_found (flat_map (levels_in most_open us before) all) p

@@ -2,7 +2,7 @@
 use Rattle.std.specs.Prelude.{Option, Some, None, ℕ, ◌≡◌, List, slice_index_or}
 
 -- each part has room for as many positions
-pub record HasRoom (room isolates explicit sequences pairs classes : ℕ) : Type 0 where
+pub record HasRoomForParagraphs (room isolates explicit sequences pairs classes : ℕ) : Type 0 where
   pub for_isolates : isolates ≡ room
   pub for_explicit : explicit ≡ room
   pub for_sequences : sequences ≡ room

@@ -99,10 +99,10 @@ impl Contents {
     }
 
     /// X1 to I2: whether each position that remains keeps the paragraph's level, if it is this one.
-    pub fn keeps(&self, para: ParaLevel) -> bool
-        ensures { (cs : List BidiClass) → Describes self.now cs → result ≡ keeps_level (level_of_para para) cs }
+    pub fn keeps(&self, level: ParaLevel) -> bool
+        ensures { (cs : List BidiClass) → Describes self.now cs → result ≡ keeps_level (level_of_para level) cs }
     {
-        match para {
+        match level {
             ParaLevel::Zero => !has_initiator(self.classes) & !may_rise_at_even(self.classes),
             ParaLevel::One => !has_initiator(self.classes) & !may_rise_at_odd(self.classes),
         }

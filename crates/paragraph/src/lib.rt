@@ -3,6 +3,5 @@
 
 pub mod class_set;
 pub mod contents;
+pub mod laws;
 pub mod resolver;
-#[cfg(test)]
-mod tests;

@@ -13,7 +13,7 @@ ghost use Rattle.flat.specs.IdleRules.{HasNone};
 ghost use Rattle.flat.specs.Uniform.{kept_level};
 ghost use Rattle.paragraph.specs.Contents.{Describes, keeps_level};
 ghost use Rattle.paragraph.specs.FirstSides.{side_by};
-ghost use Rattle.paragraph.specs.Covering.{AreApart, HasLevelsBy, positions_in};
+ghost use Rattle.paragraph.specs.Covering.{AreDisjoint, HasLevelsBy, positions_in};
 ghost use Rattle.paragraph.specs.Resolvers.{StaysAt};
 ghost use Rattle.resolve.specs.Raised.{resolved_at};
 ghost use Rattle.resolve.specs.Sought.{AreOwn, IsSoughtIn, may_weaken};
@@ -52,13 +52,13 @@ impl Model for Resolver {
     ghost use Rattle.std.specs.Prelude.{ℕ, length};
     ghost use Rattle.std.specs.Box.{boxed_slice_items};
     ghost use Rattle.explicit.specs.IsolateMaps.{room};
-    ghost use Rattle.paragraph.specs.Resolvers.{HasRoom};
+    ghost use Rattle.paragraph.specs.Resolvers.{HasRoomForParagraphs};
 
     ghost Value = { ℕ };
 
     ghost view = { λ r. length (boxed_slice_items r.before) };
 
-    ghost invariant = { λ r. HasRoom (length (boxed_slice_items r.before)) (room r.isolates) (length r.explicit) r.sequences.room (length r.pairs) (length (boxed_slice_items r.classes)) };
+    ghost invariant = { λ r. HasRoomForParagraphs (length (boxed_slice_items r.before)) (room r.isolates) (length r.explicit) r.sequences.room (length r.pairs) (length (boxed_slice_items r.classes)) };
 }
 
 /// What is known of a paragraph that was resolved.
@@ -204,7 +204,7 @@ fn resolve_each<L: Ledger>(
     levels: &mut [Option<Level>],
     steps: &mut Steps<L>,
 )
-    requires apart { AreApart (length para.now) sequences.now.all }
+    requires apart { AreDisjoint (length para.now) sequences.now.all }
     requires sought { IsSoughtIn sought para.now }
     requires own { AreOwn (positions_in sequences.now.all) para.now before.now }
     requires before { length before.now ≡ length para.now }
@@ -242,13 +242,14 @@ fn resolve_found<L: Ledger>(
 )
     requires weak { weak ≡ false → list_any may_weaken (classes_of para.now) ≡ false }
     requires found { length para.now ≤ length explicit.now }
-    requires apart { AreApart (length para.now) sequences.now.all }
+    requires apart { AreDisjoint (length para.now) sequences.now.all }
     requires own { AreOwn (positions_in sequences.now.all) para.now (current_of (take (length para.now) explicit.now)) }
     requires pairs { length para.now ≤ length pairs.old }
     requires before { length para.now ≤ length before.old }
     requires classes { length para.now ≤ length classes.old }
     requires levels { length levels.old ≡ length para.now }
-    ensures levels { HasLevelsBy limits.brackets para.now (current_of (take (length para.now) explicit.now)) sequences.now.all levels.new }
+    ensures levels { HasLevelsBy limits.brackets para.now
+        (current_of (take (length para.now) explicit.now)) sequences.now.all levels.new }
     ensures room { length pairs.new ≡ length pairs.old }
     ensures at_least { steps.old + length para.now ≤ steps.new }
     ensures at_most { steps.new ≤ steps.old + 75 * length para.now }
@@ -276,7 +277,7 @@ fn resolve_own<L: Ledger>(
     steps: &mut Steps<L>,
 )
     requires weak { weak ≡ false → list_any may_weaken (classes_of para.now) ≡ false }
-    requires apart { AreApart (length para.now) sequences.now.all }
+    requires apart { AreDisjoint (length para.now) sequences.now.all }
     requires pairs { length para.now ≤ length pairs.old }
     requires before { length para.now ≤ length before.old }
     requires classes { length para.now ≤ length classes.old }
@@ -446,7 +447,8 @@ impl Resolver {
         requires flat { IsFlat (classes_of para.now) }
         requires levels { length levels.old ≡ length para.now }
         ensures level { level_of_para result.level ≡ flat_para_level (classes_of para.now) direction }
-        ensures levels { levels.new ≡ resolved_levels limits para.now (flat_para_level (classes_of para.now) direction) }
+        ensures levels { levels.new
+            ≡ resolved_levels limits para.now (flat_para_level (classes_of para.now) direction) }
         ensures known { result.uniform ≡ keeps_level (level_of_para result.level) (classes_of para.now) }
         ensures uniform { result.uniform ≡ true → StaysAt (level_of_para result.level) levels.new }
         ensures room { self.new ≡ self.old }

@@ -10,8 +10,9 @@ use Rattle.units.specs.Classes.{is_nonspacing}
 use Rattle.units.specs.Brackets.{follows_bracket, given_to}
 use Rattle.units.specs.declared.class.Class.{Class}
 use Rattle.units.specs.declared.class.Class.TheVariants.{L}
-use Rattle.resolve.proofs.AtEach.{length-at_each, class_at-at_each, same_classes}
-use Rattle.explicit.proofs.Positions.{positions_from-next}
+use Rattle.units.proofs.Lengths.{length-at_each}
+use Rattle.resolve.proofs.AtEach.{class_at-at_each, same_classes}
+use Rattle.units.proofs.Positions.{positions_from-next}
 
 abbrev marks : List Class → ℕ → ℕ → Bool
 marks before b j = list_all (λ i. is_nonspacing (class_at before i)) (positions_from (b + 1) (j - b))

@@ -1,9 +1,9 @@
 -- Without room for an open bracket the first opener is the stop, and no pair counts.
 use Rattle.std.proofs.Common.{◌≡◌, ℕ, zero, suc, ◌<◌, Bool, true, false, List, [], length, refl, sym, ap, ◌∙◌, arith, eqb, inl, inr}
 use Rattle.std.proofs.lemmas.Bool.{and_from, and_parts, both_ways, eq-eqb, false_from_ne_true}
-use Rattle.units.specs.Brackets.{bracket_at, is_open, is_open_at, is_uncovered, pairs_before, open_before, is_stop, stop_of, bracket_pairs_of}
+use Rattle.units.specs.Brackets.{bracket_at, is_open, is_open_at, is_uncovered, pairs_before, open_before, has_no_room, stop_of, bracket_pairs_of}
 use Rattle.units.specs.declared.bracket.Bracket.{Bracket}
-use Rattle.explicit.proofs.Positions.{first_from_is, first_from_nowhere}
+use Rattle.units.proofs.Positions.{first_from_is, first_from_nowhere}
 use Rattle.resolve.specs.PairLaws.{StopsAtFirstOpener}
 use Rattle.resolve.proofs.Positions.{first_from-cases, length-passing_below-less}
 use Rattle.resolve.proofs.BracketSteps.{opener_at, open_before-below, pairs_before-none}
@@ -12,7 +12,7 @@ use Rattle.resolve.proofs.Depth.{few_open}
 use Rattle.resolve.proofs.Nesting.{ends_somewhere, matched}
 
 -- nothing pairs up to a stop
-none_paired : (bs : List Bracket) (p : ℕ) → ((j : ℕ) → j < p → is_stop 0 bs j ≡ false) → pairs_before bs p ≡ []
+none_paired : (bs : List Bracket) (p : ℕ) → ((j : ℕ) → j < p → has_no_room 0 bs j ≡ false) → pairs_before bs p ≡ []
 none_paired bs zero going = refl
 none_paired bs (suc p) going =
     elim (opener_cases (opener_at bs p)) [
@@ -31,24 +31,24 @@ no_pair_counts bs =
     w.1.pairs ∙ none_paired bs w.0 w.1.going
 
 -- what is no stop is no opener
-shut_at : (bs : List Bracket) (p : ℕ) → ((j : ℕ) → j < p → is_stop 0 bs j ≡ false) → is_stop 0 bs p ≡ false → is_open (bracket_at bs p) ≡ false
+shut_at : (bs : List Bracket) (p : ℕ) → ((j : ℕ) → j < p → has_no_room 0 bs j ≡ false) → has_no_room 0 bs p ≡ false → is_open (bracket_at bs p) ≡ false
 shut_at bs p going here =
     let none : length (open_before bs p) ≡ 0 = omega (arith, few_open 0 bs p going) in
     false_from_ne_true (is_open (bracket_at bs p)) (λ opens.
-    both_ways (is_stop 0 bs p) here (and_from (is_open (bracket_at bs p)) (eqb (length (open_before bs p)) 0) opens (eq-eqb (length (open_before bs p)) 0 none)))
+    both_ways (has_no_room 0 bs p) here (and_from (is_open (bracket_at bs p)) (eqb (length (open_before bs p)) 0) opens (eq-eqb (length (open_before bs p)) 0 none)))
 
 pub stops_at_first_opener : (bs : List Bracket) → StopsAtFirstOpener bs
 unfolding stop_of
 stops_at_first_opener bs =
     let opens : ℕ → Bool = λ p. is_open (bracket_at bs p) in
-    elim (first_from-cases (is_stop 0 bs) 0 (length bs)) [
+    elim (first_from-cases (has_no_room 0 bs) 0 (length bs)) [
       | inl none ↦
-          (let going : (j : ℕ) → j < length bs → is_stop 0 bs j ≡ false = λ j lt. none j (omega arith) (omega arith) in
-          first_from_nowhere (is_stop 0 bs) 0 (length bs) none
+          (let going : (j : ℕ) → j < length bs → has_no_room 0 bs j ≡ false = λ j lt. none j (omega arith) (omega arith) in
+          first_from_nowhere (has_no_room 0 bs) 0 (length bs) none
           ∙ sym (first_from_nowhere opens 0 (length bs) (λ p ge lt. shut_at bs p (λ j below. going j (omega arith)) (going p (omega arith)))))
       | inr w ↦
-          (let going : (j : ℕ) → j < w.0 → is_stop 0 bs j ≡ false = λ j lt. w.4 j (omega arith) lt in
+          (let going : (j : ℕ) → j < w.0 → has_no_room 0 bs j ≡ false = λ j lt. w.4 j (omega arith) lt in
           let here = and_parts (is_open (bracket_at bs w.0)) (eqb (length (open_before bs w.0)) 0) w.3 in
-          first_from_is (is_stop 0 bs) 0 (length bs) w.0 w.1 w.2 w.3 w.4
+          first_from_is (has_no_room 0 bs) 0 (length bs) w.0 w.1 w.2 w.3 w.4
           ∙ sym (first_from_is opens 0 (length bs) w.0 w.1 w.2 here.0 (λ p ge lt. shut_at bs p (λ j below. going j (omega arith)) (going p lt))))
     ]

@@ -7,15 +7,16 @@ use Rattle.units.specs.declared.bracket.Bracket.{Bracket}
 
 -- BD16: o and c are the brackets of a pair that counts
 abbrev pub IsPair : ℕ → List Bracket → ℕ → ℕ → Type 0
-IsPair room bs o c = closer_of (bracket_pairs_of room bs) o ≡ Some c
+IsPair most_open bs o c = closer_of (bracket_pairs_of most_open bs) o ≡ Some c
 
 -- BD16: a closer stands after its opener, within the sequence
 abbrev pub PairsAreOrdered : ℕ → List Bracket → Type 0
-PairsAreOrdered room bs = (o c : ℕ) → IsPair room bs o c → (o < c) × (c < length bs)
+PairsAreOrdered most_open bs = (o c : ℕ) → IsPair most_open bs o c → (o < c) × (c < length bs)
 
 -- BD16: of two pairs, the later ends first, or begins after the earlier has ended
 abbrev pub PairsNest : ℕ → List Bracket → Type 0
-PairsNest room bs = (o c o2 c2 : ℕ) → IsPair room bs o c → IsPair room bs o2 c2 → o < o2 → (c < o2) ⊎ (c2 < c)
+PairsNest most_open bs =
+    (o c o2 c2 : ℕ) → IsPair most_open bs o c → IsPair most_open bs o2 c2 → o < o2 → (c < o2) ⊎ (c2 < c)
 
 -- N0: an index stands strictly inside a pair
 abbrev pub stands_inside : ℕ → ℕ × ℕ → Bool
@@ -23,7 +24,7 @@ stands_inside k pair = nat_lt pair.0 k && nat_lt k pair.1
 
 -- BD16: an index stands inside no more pairs than there is room for open brackets
 abbrev pub PairsAreShallow : ℕ → List Bracket → Type 0
-PairsAreShallow room bs = (k : ℕ) → count_by (stands_inside k) (bracket_pairs_of room bs) ≤ room
+PairsAreShallow most_open bs = (k : ℕ) → count_by (stands_inside k) (bracket_pairs_of most_open bs) ≤ most_open
 
 -- how many indices stand inside the pairs, counted for each pair
 abbrev pub total_inside : List (ℕ × ℕ) → ℕ
@@ -31,7 +32,7 @@ total_inside pairs = sum_by (λ pair. pair.1 - (pair.0 + 1)) pairs
 
 -- BD16: together they are at most so many times the length
 abbrev pub InsidesAreFew : ℕ → List Bracket → Type 0
-InsidesAreFew room bs = total_inside (bracket_pairs_of room bs) ≤ room * length bs
+InsidesAreFew most_open bs = total_inside (bracket_pairs_of most_open bs) ≤ most_open * length bs
 
 -- the sum of f over the indices below an end
 abbrev pub sum_below : (ℕ → ℕ) → ℕ → ℕ
@@ -45,8 +46,8 @@ inside_of o (Some c) = c - (o + 1)
 
 -- BD16: the same, counted opener by opener
 abbrev pub InsidesAreFewByOpener : ℕ → List Bracket → Type 0
-InsidesAreFewByOpener room bs =
-    sum_below (λ o. inside_of o (closer_of (bracket_pairs_of room bs) o)) (length bs) ≤ room * length bs
+InsidesAreFewByOpener most_open bs =
+    sum_below (λ o. inside_of o (closer_of (bracket_pairs_of most_open bs) o)) (length bs) ≤ most_open * length bs
 
 -- BD16: with no room the first opening bracket is the stop
 abbrev pub StopsAtFirstOpener : List Bracket → Type 0

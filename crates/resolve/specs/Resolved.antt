@@ -10,8 +10,10 @@ use Rattle.resolve.specs.Raised.{resolved_at}
 -- each position of the sequence has its resolved level, by the paragraph's units and its classes before W1, with this
 -- room for open brackets
 abbrev pub HasLevels : ℕ → SequenceView → List BidiUnit → List Class → List (Option ℕ) → Type 0
-HasLevels room s us before levels =
-    (k : ℕ) → k < length s.positions → resolved_at levels (slice_index s.positions k) ≡ Some (slice_index (levels_of_sequence room s us (classes_at before s.positions)) k)
+HasLevels most_open s us before levels =
+    (k : ℕ) → k < length s.positions
+    → resolved_at levels (slice_index s.positions k)
+    ≡ Some (slice_index (levels_of_sequence most_open s us (classes_at before s.positions)) k)
 
 -- nothing changes at a position that is none of these
 abbrev pub KeepsOtherLevels : List ℕ → List (Option ℕ) → List (Option ℕ) → Type 0

@@ -32,4 +32,5 @@ is_imposed _ = false
 
 -- at these positions, any other class is the unit's own
 abbrev pub AreOwn : List ℕ → List BidiUnit → List Class → Type 0
-AreOwn ps us before = (p : ℕ) → Contains ps p → is_imposed (class_at before p) ≡ false → class_at before p ≡ class_at (classes_of us) p
+AreOwn ps us before =
+    (p : ℕ) → Contains ps p → is_imposed (class_at before p) ≡ false → class_at before p ≡ class_at (classes_of us) p

@@ -3,9 +3,8 @@
 ghost use Rattle.std.specs.Prelude.{◌≡◌, ℕ, List, [], false, true};
 ghost use Rattle.units.specs.Brackets.{bracket_pairs_of};
 ghost use Rattle.units.specs.Classes.{class_at, is_nonspacing};
-ghost use Rattle.units.specs.Explicit.{explicit_of};
 ghost use Rattle.std.specs.List.{list_any};
-ghost use Rattle.units.specs.Layout.{current_of};
+ghost use Rattle.units.specs.Layout.{current_at};
 ghost use Rattle.units.specs.Weak.{after_weak};
 ghost use Rattle.units.specs.declared.bracket.Bracket.{Bracket};
 ghost use Rattle.units.specs.declared.class.Class.{Class};
@@ -14,24 +13,24 @@ ghost use Rattle.resolve.specs.Sought.{is_imposed, may_weaken};
 
 /// A pair that counts ends after it begins, within the sequence.
 pub fn pairs_are_ordered()
-    ensures { (room : ℕ) (bs : List Bracket) → PairsAreOrdered room bs }
+    ensures { (most_open : ℕ) (bs : List Bracket) → PairsAreOrdered most_open bs }
 {}
 
 /// Pairs that count nest or are apart.
 pub fn pairs_nest()
-    ensures { (room : ℕ) (bs : List Bracket) → PairsNest room bs }
+    ensures { (most_open : ℕ) (bs : List Bracket) → PairsNest most_open bs }
 {}
 
 /// An index stands inside no more of the pairs that count than there is room for open brackets.
 pub fn pairs_are_shallow()
-    ensures { (room : ℕ) (bs : List Bracket) → PairsAreShallow room bs }
+    ensures { (most_open : ℕ) (bs : List Bracket) → PairsAreShallow most_open bs }
 {}
 
 /// The numbers of indices strictly inside the pairs that count add up to at most the length of the sequence, times the
 /// number of brackets that can be open.
 pub fn insides_are_few()
-    ensures by_pair { (room : ℕ) (bs : List Bracket) → InsidesAreFew room bs }
-    ensures by_opener { (room : ℕ) (bs : List Bracket) → InsidesAreFewByOpener room bs }
+    ensures by_pair { (most_open : ℕ) (bs : List Bracket) → InsidesAreFew most_open bs }
+    ensures by_opener { (most_open : ℕ) (bs : List Bracket) → InsidesAreFewByOpener most_open bs }
 {}
 
 /// With no room for an open bracket the first opening bracket is the stop, and no pair counts (BD16).
@@ -43,12 +42,14 @@ pub fn no_pair_counts_without_room()
 /// The classes after X1 to X8 are the own ones, but for the L or R of an override and the BN of a position that is
 /// removed.
 pub fn classes_are_own()
-    ensures { (depth : ℕ) (cs : List Class) (para p : ℕ) → is_imposed (class_at (current_of (explicit_of depth cs para)) p) ≡ false → class_at (current_of (explicit_of depth cs para)) p ≡ class_at cs p }
+    ensures { (depth : ℕ) (cs : List Class) (para_level p : ℕ)
+        → is_imposed (current_at depth cs para_level p) ≡ false → current_at depth cs para_level p ≡ class_at cs p }
 {}
 
 /// What is a mark after X1 to X8 is one by its own class: no override makes a mark.
 pub fn marks_are_own()
-    ensures { (depth : ℕ) (cs : List Class) (para p : ℕ) → is_nonspacing (class_at (current_of (explicit_of depth cs para)) p) ≡ true → is_nonspacing (class_at cs p) ≡ true }
+    ensures { (depth : ℕ) (cs : List Class) (para_level p : ℕ)
+        → is_nonspacing (current_at depth cs para_level p) ≡ true → is_nonspacing (class_at cs p) ≡ true }
 {}
 
 /// Where no class of a sequence is AL, EN, ES, ET, CS or NSM, W1 to W7 change nothing.

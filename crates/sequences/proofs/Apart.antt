@@ -3,7 +3,8 @@ use Rattle.std.specs.Prelude.{Some, ℕ, zero, suc, ◌<◌, ◌≤◌, ◌≡�
 use Rattle.std.specs.List.{flat_map}
 use Rattle.std.proofs.Common.{arith, ap, inl, inr}
 use Rattle.std.proofs.lemmas.Bool.{cases_Bool, cases_lt, cond-true, cond-false}
-use Rattle.units.specs.Runs.{SequenceView, LeveledView, IsLeveled, IsNested, size_of, remains, sequences_of}
+use Rattle.units.specs.Runs.{SequenceView, LeveledView, size_of, remains, sequences_of}
+use Rattle.explicit.specs.Leveled.{IsLeveled, IsNested}
 use Rattle.sequences.specs.Once.{times}
 use Rattle.sequences.proofs.Once.{one_if-same, one_if-other, times-cons, times-append, sequences_hold_once}
 use Rattle.sequences.proofs.Fits.{AreBelow, flat_below}

@@ -8,11 +8,12 @@ use Rattle.std.proofs.lemmas.List.{append-nil, length-append, take_at, take-appe
 use Rattle.std.proofs.lemmas.List.Elements.{filter-append, All-nil, All-cons}
 use Rattle.std.proofs.lemmas.List.Concat.{flat_map-append}
 use Rattle.units.specs.Positions.{positions_from}
-use Rattle.units.specs.Runs.{SequenceView, LeveledView, IsLeveled, size_of, level_of, successor, begins_sequence, sequence_from, sequence_at, sequences_of}
+use Rattle.units.specs.Runs.{SequenceView, LeveledView, size_of, level_of, successor, begins_sequence, sequence_from, sequence_at, sequences_of}
+use Rattle.explicit.specs.Leveled.{IsLeveled}
 use Rattle.sequences.specs.declared.heads.Head.{Head}
 use Rattle.sequences.specs.Links.{link_at, ArePositions, IsChain}
-use Rattle.sequences.specs.Heads.{head_at, heads_from, heads_of, firsts_before, column_before, column_of, view_of, IsHead}
-use Rattle.units.specs.Runs.{IsNested}
+use Rattle.sequences.specs.Heads.{head_at, heads_from, heads_of, firsts_before, column_before, column_of, sequence_of_head, IsHead}
+use Rattle.explicit.specs.Leveled.{IsNested}
 use Rattle.sequences.proofs.Forward.{successor_later}
 use Rattle.sequences.proofs.Links.{followed_rises, followed_chain, rising_positions}
 use Rattle.sequences.proofs.Marks.{positions_more}
@@ -115,18 +116,18 @@ rest_is t spare (p ∷ ps) =
     ∙ sym (append_assoc (sequence_from t p) (flat_map (sequence_from t) ps) spare)
 
 views_are : (t : LeveledView) (spare before : List ℕ) (start : ℕ) → start ≡ length before → (ps : List ℕ) →
-    map (view_of (before ++ rest_of t spare ps) (size_of t)) (heads_from t start ps) ≡ map (sequence_at t) ps
+    map (sequence_of_head (before ++ rest_of t spare ps) (size_of t)) (heads_from t start ps) ≡ map (sequence_at t) ps
 views_are t spare before start s [] = refl
 views_are t spare before start s (p ∷ ps) =
     let column : List ℕ = before ++ rest_of t spare (p ∷ ps) in
     let n : ℕ = length (sequence_from t p) in
     let positions : slice_range column start (start + n) ≡ sequence_from t p =
     ap (λ k. slice_range column k (k + n)) s ∙ slice_here before (sequence_from t p) (rest_of t spare ps) in
-    let first : view_of column (size_of t) (head_at t p start) ≡ sequence_at t p =
+    let first : sequence_of_head column (size_of t) (head_at t p start) ≡ sequence_at t p =
     ap (λ (qs : List ℕ). let v : SequenceView = record { positions = qs; level = (sequence_at t p).level; sos = (sequence_at t p).sos; eos = (sequence_at t p).eos; extent = size_of t } in v) positions in
     let moved : (before ++ sequence_from t p) ++ rest_of t spare ps ≡ column = append_assoc before (sequence_from t p) (rest_of t spare ps) in
-    let rest : map (view_of column (size_of t)) (heads_from t (start + n) ps) ≡ map (sequence_at t) ps =
-    ap (λ (qs : List ℕ). map (view_of qs (size_of t)) (heads_from t (start + n) ps)) (sym moved)
+    let rest : map (sequence_of_head column (size_of t)) (heads_from t (start + n) ps) ≡ map (sequence_at t) ps =
+    ap (λ (qs : List ℕ). map (sequence_of_head qs (size_of t)) (heads_from t (start + n) ps)) (sym moved)
     ∙ views_are t spare (before ++ sequence_from t p) (start + n) (omega (arith, s, length-append before (sequence_from t p))) ps in
     cc
 
@@ -141,10 +142,10 @@ column_is t column front =
     rest_is t spare (firsts_before t (size_of t)) ∙ ap (λ (ps : List ℕ). ps ++ spare) (sym front) ∙ take-append-drop (length (column_of t)) column
 
 -- the heads over the column are the sequences
-pub views_of_heads : (t : LeveledView) (column : List ℕ) → IsInFront t column → map (view_of column (size_of t)) (heads_of t) ≡ sequences_of t
+pub views_of_heads : (t : LeveledView) (column : List ℕ) → IsInFront t column → map (sequence_of_head column (size_of t)) (heads_of t) ≡ sequences_of t
 views_of_heads t column front =
     let spare : List ℕ = drop (length (column_of t)) column in
-    ap (λ (ps : List ℕ). map (view_of ps (size_of t)) (heads_of t)) (sym (column_is t column front))
+    ap (λ (ps : List ℕ). map (sequence_of_head ps (size_of t)) (heads_of t)) (sym (column_is t column front))
     ∙ views_are t spare [] 0 refl (firsts_before t (size_of t))
 
 level_within : (o : Option ℕ) (base : ℕ) → IfSome o (λ l. l ≤ 125) → base ≤ 1 → unwrap_or o base ≤ 125

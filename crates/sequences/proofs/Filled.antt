@@ -3,8 +3,9 @@ use Rattle.std.specs.Prelude.{Option, Some, None, ℕ, zero, suc, false, ◌<◌
 use Rattle.std.proofs.Common.{arith, ap, sym, ◌∙◌, subst, drop, inl, inr}
 use Rattle.std.proofs.lemmas.Bool.{cases_lt, cond-false}
 use Rattle.std.proofs.lemmas.List.{get_or_past, take_at}
-use Rattle.units.specs.Runs.{followed, LeveledView, IsLeveled, size_of, level_of, remains, next_remaining, successor_by, successor}
-use Rattle.sequences.specs.Links.{link_at, linked, IsLinked}
+use Rattle.units.specs.Runs.{followed, LeveledView, size_of, level_of, remains, next_remaining, successor_by, successor}
+use Rattle.explicit.specs.Leveled.{IsLeveled}
+use Rattle.sequences.specs.Links.{link_at, linked, LinksForward}
 use Rattle.sequences.specs.Heads.{AreSuccessors}
 use Rattle.sequences.proofs.Forward.{successor_later}
 
@@ -31,7 +32,7 @@ module _ (t : LeveledView) (links : List (Option ℕ)) (fit : length links ≡ s
         | inr g ↦ get_or_past links p None (omega (arith, fit)) ∙ sym (removed_successor t p (get_or_past t.levels p None g))
       ]
 
-  pub links_lead_on : IsLeveled t → IsLinked links
+  pub links_lead_on : IsLeveled t → LinksForward links
   links_lead_on h p =
       let P : Option ℕ → Type 0 = λ o. IfSome o (λ q. (p < q) × (q < length links)) in
       let Q : ℕ → Type 0 = λ n. IfSome (successor t p) (λ q. (p < q) × (q < n)) in

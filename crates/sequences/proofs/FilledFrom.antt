@@ -4,11 +4,11 @@ use Rattle.std.specs.List.{list_any}
 use Rattle.std.specs.Option.{option_map}
 use Rattle.std.proofs.Common.{arith, ap, sym, ◌∙◌, subst}
 use Rattle.std.proofs.lemmas.Bool.{cond-true, or_parts}
-use Rattle.std.proofs.lemmas.List.{length-map}
 use Rattle.units.specs.Classes.{class_at, classes_of, is_isolate_initiator, is_separator}
 use Rattle.units.specs.Isolates.{partner_of, level_of_para}
 use Rattle.units.specs.Paragraphs.{SeparatorOnlyLast}
-use Rattle.units.specs.Runs.{LeveledView, IsLeveled, leveled_of, size_of, level_of, matched_pdi}
+use Rattle.units.specs.Runs.{LeveledView, leveled_of, size_of, level_of, matched_pdi}
+use Rattle.explicit.specs.Leveled.{IsLeveled}
 use Rattle.units.specs.declared.bracket.Unit.{Unit as BidiUnit}
 use Rattle.units.specs.declared.class.Class.{Class}
 use Rattle.units.specs.declared.level.ParaLevel.{ParaLevel}
@@ -16,9 +16,7 @@ use Rattle.units.specs.declared.level.ParaLevel.TheVariants.{Zero, One}
 use Rattle.explicit.specs.IsolateMaps.{Isolates}
 use Rattle.explicit.proofs.Leveled.{get_or-of_positions, level-read, size-is}
 use Rattle.sequences.specs.FilledFrom.{AreOfParagraph}
-
-pub length-classes_of : (units : List BidiUnit) → length (classes_of units) ≡ length units
-length-classes_of units = length-map units (λ (u : BidiUnit). u.class)
+use Rattle.units.proofs.Lengths.{length-classes_of}
 
 -- P2, P3: a paragraph's level is 0 or 1
 pub level_of_para-low : (level : ParaLevel) → level_of_para level ≤ 1

@@ -7,8 +7,9 @@ use Rattle.std.proofs.lemmas.Bool.Decides.{nat_tests}
 use Rattle.std.proofs.lemmas.List.{length-append}
 use Rattle.std.proofs.lemmas.List.Sums.{sum_by-cons}
 use Rattle.units.specs.Positions.{positions_from}
-use Rattle.units.specs.Runs.{SequenceView, LeveledView, IsLeveled, size_of, remains, successor, begins_sequence, sequence_from, sequence_at, sequences_of}
-use Rattle.units.specs.Runs.{IsNested}
+use Rattle.units.specs.Runs.{SequenceView, LeveledView, size_of, remains, successor, begins_sequence, sequence_from, sequence_at, sequences_of}
+use Rattle.explicit.specs.Leveled.{IsLeveled}
+use Rattle.explicit.specs.Leveled.{IsNested}
 use Rattle.sequences.specs.Once.{times, HoldsOnce}
 use Rattle.sequences.proofs.Once.{one_if, times-cons, times-positions, sequences_hold_once}
 use Rattle.sequences.proofs.Forward.{successor_later}

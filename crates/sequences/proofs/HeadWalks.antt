@@ -4,10 +4,11 @@ use Rattle.std.proofs.Common.{arith, ap, sym, take, ◌∙◌}
 use Rattle.std.proofs.lemmas.Bool.{cond-true, cond-false}
 use Rattle.std.proofs.lemmas.Option.{IfSome_then}
 use Rattle.std.proofs.lemmas.List.{length_push, length-take-le}
-use Rattle.units.specs.Runs.{LeveledView, IsLeveled, size_of, remains, last_remaining, begins_sequence, sequence_from}
+use Rattle.units.specs.Runs.{LeveledView, size_of, remains, last_remaining, begins_sequence, sequence_from}
+use Rattle.explicit.specs.Leveled.{IsLeveled}
 use Rattle.sequences.specs.declared.heads.Head.{Head}
 use Rattle.sequences.specs.Heads.{head_at, heads_from, firsts_before, column_before}
-use Rattle.units.specs.Runs.{IsNested}
+use Rattle.explicit.specs.Leveled.{IsNested}
 use Rattle.sequences.proofs.Column.{heads_push, heads_same, column_push, column_same, column_room}
 
 -- the sequences that begin before k are stored

@@ -1,10 +1,9 @@
 -- What a walk along links passes: each position and then the rest, rising.
 use Rattle.std.specs.Prelude.{Option, ℕ, zero, suc, ◌+◌, ◌<◌, ◌≤◌, ◌≡◌, List, [], ◌∷◌, ◌++◌, length, Some, None, IfSome, slice_index, slice_get, refl}
 use Rattle.std.proofs.Common.{arith, ap, sym, ◌∙◌, subst, append_assoc}
-use Rattle.std.proofs.lemmas.List.{append-nil}
 use Rattle.std.proofs.lemmas.Option.{IfSome_then}
 use Rattle.units.specs.Runs.{followed}
-use Rattle.sequences.specs.Links.{link_at, linked, IsForward, IsLinked, ArePositions}
+use Rattle.sequences.specs.Links.{link_at, linked, IsForward, LinksForward, ArePositions}
 
 -- each position is at least low and below high, and they rise
 abbrev pub IsRising : ℕ → ℕ → List ℕ → Type 0
@@ -50,7 +49,7 @@ module _ (next : ℕ → Option ℕ) (end : ℕ) (h : IsForward next end) where
   steps_on p steps e = IfSome_then (next p) (h p) (λ q w. (w.1, omega (arith, w.0)))
 
   -- more steps than are left change nothing
-  followed-steps : (a b : ℕ) (at : Option ℕ) → HasSteps end a at → HasSteps end b at → followed next a at ≡ followed next b at
+  pub followed-steps : (a b : ℕ) (at : Option ℕ) → HasSteps end a at → HasSteps end b at → followed next a at ≡ followed next b at
   followed-steps zero zero at ha hb = refl
   followed-steps zero (suc b) None ha hb = refl
   followed-steps (suc a) zero None ha hb = refl
@@ -94,19 +93,16 @@ module _ (next : ℕ → Option ℕ) (end : ℕ) (h : IsForward next end) where
       chained end (Some p) (w, omega arith) k l ∙ ap (slice_get (followed next end (Some p))) one
 
 -- a walk along links
-pub linked-some : (links : List (Option ℕ)) (p : ℕ) → IsLinked links → p < length links →
+pub linked-some : (links : List (Option ℕ)) (p : ℕ) → LinksForward links → p < length links →
     linked links (Some p) ≡ p ∷ linked links (link_at links p)
 linked-some links p h l = followed-some (link_at links) (length links) h p l
-
-pub linked-none : (links : List (Option ℕ)) → linked links None ≡ []
-linked-none links = followed-none (link_at links) (length links)
 
 -- what is pushed, and what the links still lead to, is the whole
 pub record IsPushed (links : List (Option ℕ)) (whole pushed : List ℕ) (at : Option ℕ) : Type 0 where
   pub within : IfSome at (λ p. p < length links)
   pub all : pushed ++ linked links at ≡ whole
 
-module _ {links : List (Option ℕ)} {whole pushed : List ℕ} {at : Option ℕ} (h : IsLinked links) (w : IsPushed links whole pushed at) where
+module _ {links : List (Option ℕ)} {whole pushed : List ℕ} {at : Option ℕ} (h : LinksForward links) (w : IsPushed links whole pushed at) where
   pub pushed_within : (p : ℕ) → at ≡ Some p → p < length links
   pushed_within p e = let P : Option ℕ → Type 0 = λ o. IfSome o (λ q. q < length links) in subst P e w.within
 
@@ -119,6 +115,3 @@ module _ {links : List (Option ℕ)} {whole pushed : List ℕ} {at : Option ℕ}
         within = IfSome_then (link_at links p) (h p) (λ q v. v.1);
         all = append_assoc pushed (p ∷ []) (linked links (link_at links p)) ∙ ap (λ (ps : List ℕ). pushed ++ ps) (sym (pushed_step p e)) ∙ w.all;
       })
-
-  pub pushed_whole : at ≡ None → pushed ≡ whole
-  pushed_whole e = sym (append-nil pushed) ∙ ap (λ (ps : List ℕ). pushed ++ ps) (sym (ap (linked links) e ∙ linked-none links)) ∙ w.all

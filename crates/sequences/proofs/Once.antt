@@ -5,10 +5,11 @@ use Rattle.std.proofs.Common.{arith, ap, sym, ◌∙◌, subst, inl, inr}
 use Rattle.std.proofs.lemmas.Bool.{cases_Bool, cases_eq, cases_lt, cond-true, cond-false, false≢true, eqb-true, eq-eqb, ne_eqb, and_parts, and_from, not-true, not_from_false}
 use Rattle.std.proofs.lemmas.List.{get_or_past}
 use Rattle.std.proofs.lemmas.List.Sums.{sum_by-cons, sum_by-append}
-use Rattle.units.specs.Positions.{is_same, positions_from}
+use Rattle.units.specs.Positions.{same_position, positions_from}
 use Rattle.units.specs.Runs.{followed}
-use Rattle.units.specs.Runs.{LeveledView, IsLeveled, size_of, remains, successor, begins_sequence, sequence_at, sequence_from, sequences_of}
-use Rattle.units.specs.Runs.{IsNested}
+use Rattle.units.specs.Runs.{LeveledView, size_of, remains, successor, begins_sequence, sequence_at, sequence_from, sequences_of}
+use Rattle.explicit.specs.Leveled.{IsLeveled}
+use Rattle.explicit.specs.Leveled.{IsNested}
 use Rattle.sequences.specs.Once.{times, HoldsOnce}
 use Rattle.units.specs.Runs.{SequenceView}
 use Rattle.sequences.proofs.Forward.{successor_later}
@@ -31,11 +32,11 @@ one_if-same x p e = cond-true (x == p) 1 0 (eq-eqb x p e)
 pub one_if-other : (x p : ℕ) → (x ≡ p → ⊥) → one_if x p ≡ 0
 one_if-other x p e = cond-false (x == p) 1 0 (ne_eqb x p e)
 
-same_from : (o : Option ℕ) (p : ℕ) → is_same o (Some p) ≡ true → o ≡ Some p
+same_from : (o : Option ℕ) (p : ℕ) → same_position o (Some p) ≡ true → o ≡ Some p
 same_from None p e = absurd (false≢true e)
 same_from (Some x) p e = ap Some (eqb-true x p e)
 
-same_to : (o : Option ℕ) (p : ℕ) → o ≡ Some p → is_same o (Some p) ≡ true
+same_to : (o : Option ℕ) (p : ℕ) → o ≡ Some p → same_position o (Some p) ≡ true
 same_to None p e = absurd cc
 same_to (Some x) p e = let s : x ≡ p = cc in eq-eqb x p s
 
@@ -43,7 +44,7 @@ if_some : (P : ℕ → Type 0) (o : Option ℕ) → ((y : ℕ) → o ≡ Some y 
 if_some P None f = tt
 if_some P (Some y) f = f y refl
 
-remains_within : (t : LeveledView) (p : ℕ) → remains t p ≡ true → p < size_of t
+pub remains_within : (t : LeveledView) (p : ℕ) → remains t p ≡ true → p < size_of t
 remains_within t p e =
     elim (cases_lt p (size_of t)) [ inl l ↦ l | inr g ↦ absurd (false≢true (sym (ap is_some (get_or_past t.levels p None g)) ∙ e)) ]
 
@@ -84,10 +85,10 @@ module _ (t : LeveledView) (h : IsLeveled t) (n : IsNested t) where
   -- where a sequence begins, nothing leads to
   begins_first : (p : ℕ) → begins_sequence t p ≡ true → (q : ℕ) → successor t q ≡ Some p → ⊥
   begins_first p b q e =
-      let led : Bool = list_any (λ q. is_same (successor t q) (Some p)) (positions_from 0 (size_of t)) in
+      let led : Bool = list_any (λ q. same_position (successor t q) (Some p)) (positions_from 0 (size_of t)) in
       let none : led ≡ false = not-true led (and_parts (remains t p) (not led) b).1 in
       let l : q < size_of t = remains_within t q (successor_remains t q p e) in
-      false≢true (sym (any_none (λ q. is_same (successor t q) (Some p)) 0 (size_of t) none q (omega arith) (omega arith)) ∙ same_to (successor t q) p e)
+      false≢true (sym (any_none (λ q. same_position (successor t q) (Some p)) 0 (size_of t) none q (omega arith) (omega arith)) ∙ same_to (successor t q) p e)
 
   leads_to_remaining : (x : ℕ) → IfSome (successor t x) (λ y. remains t y ≡ true)
   leads_to_remaining x =
@@ -195,9 +196,9 @@ module _ (t : LeveledView) (h : IsLeveled t) (n : IsNested t) where
   held_once zero p l r = absurd (omega arith)
   held_once (suc k) p l r =
       let within : p < size_of t = remains_within t p r in
-      elim (cases_Bool (list_any (λ q. is_same (successor t q) (Some p)) (positions_from 0 (size_of t)))) [
+      elim (cases_Bool (list_any (λ q. same_position (successor t q) (Some p)) (positions_from 0 (size_of t)))) [
         | inl led ↦
-            let found = any_from (λ q. is_same (successor t q) (Some p)) 0 (size_of t) led in
+            let found = any_from (λ q. same_position (successor t q) (Some p)) 0 (size_of t) led in
             let e : successor t found.0 ≡ Some p = same_from (successor t found.0) p found.1 in
             let P : Option ℕ → Type 0 = λ o. IfSome o (λ y. (found.0 < y) × (y < size_of t)) in
             let later : (found.0 < p) × (p < size_of t) = subst P e (successor_later t h found.0) in

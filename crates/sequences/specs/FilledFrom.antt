@@ -9,7 +9,8 @@ use Rattle.explicit.specs.ExplicitLevels.{HoldsLevels}
 
 -- these are the isolates (BD9) and the explicit levels, up to a depth that is allowed (X1 to X9), of a paragraph of
 -- this level, which has B in last place alone (P1)
-pub record AreOfParagraph (units : List BidiUnit) (isolates : Isolates) (places : List (Option (ℕ × Class))) (depth base : ℕ) : Type 0 where
+pub record AreOfParagraph (units : List BidiUnit) (isolates : Isolates) (places : List (Option (ℕ × Class)))
+    (depth base : ℕ) : Type 0 where
   pub separators : SeparatorOnlyLast units
   pub matched : IsFilledFrom isolates (classes_of units)
   pub levels : HoldsLevels places depth (classes_of units) base

@@ -24,8 +24,8 @@ abbrev pub IsForward : (ℕ → Option ℕ) → ℕ → Type 0
 IsForward next end = (p : ℕ) → IfSome (next p) (λ q. (p < q) × (q < end))
 
 -- each link leads to a later position
-abbrev pub IsLinked : List (Option ℕ) → Type 0
-IsLinked links = IsForward (link_at links) (length links)
+abbrev pub LinksForward : List (Option ℕ) → Type 0
+LinksForward links = IsForward (link_at links) (length links)
 
 -- positions of a paragraph of so many, rising
 pub record ArePositions (ps : List ℕ) (extent : ℕ) : Type 0 where

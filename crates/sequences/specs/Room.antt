@@ -1,12 +1,14 @@
 -- The fixed room of the sequences.
 use Rattle.std.specs.Prelude.{Option, ℕ, ◌<◌, ◌≤◌, ◌≡◌, Bool, List, length, take, All}
+use Rattle.units.specs.OptionalPositions.{no_position}
 use Rattle.units.specs.declared.class.Class.{Class}
 use Rattle.sequences.specs.declared.heads.Head.{Head}
 use Rattle.sequences.specs.Heads.{IsHead}
 
 -- the columns have room for as many positions, of which the first are in use, and so are the first heads
-pub record HasRoom (links : List (Option ℕ)) (ends : List Class) (joined : List Bool) (heads : List Head) (column : List ℕ) (count size : ℕ) : Type 0 where
-  pub small : length links < 4294967295
+pub record HasRoomForSequences (links : List (Option ℕ)) (ends : List Class) (joined : List Bool) (heads : List Head)
+    (column : List ℕ) (count size : ℕ) : Type 0 where
+  pub small : length links < no_position
   pub ends_fit : length ends ≡ length links
   pub joined_fit : length joined ≡ length links
   pub heads_fit : length heads ≡ length links

@@ -1,6 +1,6 @@
 ghost use Rattle.std.specs.Prelude.{◌≡◌, ◌≤◌, ◌+◌, ◌++◌, ◌<◌, IfSome, Some, length, take};
 ghost use Rattle.units.specs.Runs.{size_of, last_remaining, begins_sequence, sequence_from};
-ghost use Rattle.sequences.specs.Links.{linked, IsLinked};
+ghost use Rattle.sequences.specs.Links.{linked, LinksForward};
 ghost use Rattle.sequences.specs.Heads.{IsMarked, HasEnds, AreSuccessors, head_at, heads_of, column_of};
 
 use crate::leveled::Leveled;
@@ -41,7 +41,7 @@ fn write_linked<L: Ledger>(
     steps: &mut Steps<L>,
 ) -> usize
     requires small { length links.now < u32.MAX }
-    requires linked { IsLinked links.now }
+    requires linked { LinksForward links.now }
     requires first { first < length links.now }
     requires room { start + length (linked links.now (Some first)) ≤ length column.old }
     ensures column { take result column.new ≡ take start column.old ++ linked links.now (Some first) }

@@ -8,5 +8,3 @@ mod linking;
 mod one_sequence;
 pub mod sequence;
 pub mod sequences;
-#[cfg(test)]
-mod tests;

@@ -1,5 +1,5 @@
 ghost use Rattle.std.specs.Prelude.{◌≡◌, ◌+◌, ◌<◌, ◌≤◌, IfSome, length};
-ghost use Rattle.units.specs.Runs.{size_of, is_level, level_or_base, next_remaining, successor, eos_by};
+ghost use Rattle.units.specs.Runs.{size_of, at_one_level, level_or_base, next_remaining, successor, eos_by};
 ghost use Rattle.sequences.specs.Links.{marked};
 ghost use Rattle.sequences.specs.Heads.{AreSuccessors, HasEnds, IsMarked};
 ghost use Rattle.sequences.specs.Ends.{end_by};
@@ -12,8 +12,8 @@ use units::optional_position::OptionalPosition;
 use units::steps::Steps;
 
 /// Both remain at one level.
-fn is_level(a: Option<Level>, b: Option<Level>) -> bool
-    ensures { result ≡ is_level a b }
+fn at_one_level(a: Option<Level>, b: Option<Level>) -> bool
+    ensures { result ≡ at_one_level a b }
 {
     match (a, b) {
         (Some(a), Some(b)) => a.get() == b.get(),
@@ -47,7 +47,7 @@ fn successor(t: &Leveled, p: usize, next: Option<usize>) -> Option<usize>
         return None;
     }
     let q = next?;
-    if is_level(t.level(p), t.level(q)) {
+    if at_one_level(t.level(p), t.level(q)) {
         Some(q)
     } else {
         t.matched_pdi(p)

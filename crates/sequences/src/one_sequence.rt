@@ -159,7 +159,9 @@ pub fn fill_one_sequence<L: Ledger>(
     requires links { length para.now ≤ length links.old }
     requires heads { length para.now ≤ length heads.old }
     requires column { length para.now ≤ length column.old }
-    ensures filled { (depth : ℕ) → HoldSequences (sequences_of (leveled_of depth (classes_of para.now) (level_of_para level))) (length para.now) result links.new heads.new column.new }
+    ensures filled { (depth : ℕ) → HoldSequences
+        (sequences_of (leveled_of depth (classes_of para.now) (level_of_para level)))
+        (length para.now) result links.new heads.new column.new }
     ensures steps { steps.new ≡ steps.old + length para.now + length (remaining_of (classes_of para.now)) }
 {
     let count = place(para, whole, column, steps);

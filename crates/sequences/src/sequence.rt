@@ -1,6 +1,7 @@
-ghost use Rattle.std.specs.Prelude.{◌≡◌, ℕ, ◌+◌, ◌<◌, ◌≤◌, List, length, slice_index, slice_get, IfSome, Contains};
+ghost use Rattle.std.specs.Prelude.{◌≡◌, ℕ, ◌+◌, ◌<◌, ◌≤◌, List, Some, length, slice_index, slice_get, IfSome, Contains};
 ghost use Rattle.std.specs.Iterator.{YieldsFirst, item_count};
-ghost use Rattle.units.specs.Runs.{SequenceView};
+ghost use Rattle.units.specs.Runs.{LeveledView, SequenceView, sequences_of, successor};
+ghost use Rattle.explicit.specs.Leveled.{IsLeveled};
 ghost use Rattle.sequences.specs.Links.{ArePositions, IsChain};
 
 use std::marker::Model;
@@ -93,10 +94,13 @@ impl<'a> Sequence<'a> {
         self.eos
     }
 
-    /// The position after `p` in the sequence, or none where `p` is its last.
+    /// The position after `p` in the sequence, its successor (BD13), or none where `p` is its last.
     pub fn after(&self, p: usize) -> Option<usize>
         requires { Contains self.now.positions p }
-        ensures value { (k : ℕ) → k < length self.now.positions → slice_index self.now.positions k ≡ p → result ≡ slice_get self.now.positions (k + 1) }
+        ensures value { (k : ℕ) → k < length self.now.positions → slice_index self.now.positions k ≡ p
+            → result ≡ slice_get self.now.positions (k + 1) }
+        ensures successor { (t : LeveledView) (j : ℕ) → IsLeveled t → slice_get (sequences_of t) j ≡ Some self.now
+            → result ≡ successor t p }
         ensures later { IfSome result (λ q. (p < q) × (q < self.now.extent)) }
     {
         let links = self.links;

@@ -9,9 +9,9 @@ ghost use Rattle.explicit.specs.IsolateMaps.{IsFilledFrom};
 ghost use Rattle.sequences.specs.View.{SequencesView};
 ghost use Rattle.flat.specs.Flat.{IsFlat, remaining_of};
 ghost use Rattle.flat.specs.IdleRules.{HasNone};
-ghost use Rattle.sequences.specs.Heads.{view_of, column_of, AreFilled};
+ghost use Rattle.sequences.specs.Heads.{sequence_of_head, column_of, AreFilled};
 ghost use Rattle.sequences.specs.Once.{HoldsOnce};
-ghost use Rattle.sequences.specs.Room.{HasRoom};
+ghost use Rattle.sequences.specs.Room.{HasRoomForSequences};
 
 use crate::heads::{Head, fill_heads};
 use crate::leveled::Leveled;
@@ -49,9 +49,9 @@ pub struct Sequences {
 impl Model for Sequences {
     ghost Value = { SequencesView };
 
-    ghost view = { λ s. record { all = map (view_of (boxed_slice_items s.column) s.size) (take s.count (boxed_slice_items s.heads)); extent = s.size; room = boxed_slice_len s.links } };
+    ghost view = { λ s. record { all = map (sequence_of_head (boxed_slice_items s.column) s.size) (take s.count (boxed_slice_items s.heads)); extent = s.size; room = boxed_slice_len s.links } };
 
-    ghost invariant = { λ s. HasRoom (boxed_slice_items s.links) (boxed_slice_items s.ends) (boxed_slice_items s.joined) (boxed_slice_items s.heads) (boxed_slice_items s.column) s.count s.size };
+    ghost invariant = { λ s. HasRoomForSequences (boxed_slice_items s.links) (boxed_slice_items s.ends) (boxed_slice_items s.joined) (boxed_slice_items s.heads) (boxed_slice_items s.column) s.count s.size };
 }
 
 /// Fills the columns, of which the paragraph takes the fronts. Answers how many sequences there are.
@@ -143,7 +143,8 @@ impl Sequences {
         requires separators { SeparatorOnlyLast para.now }
         requires isolates { IsFilledFrom isolates.now (classes_of para.now) }
         requires levels { HoldsLevels explicit.now limits.depth (classes_of para.now) (level_of_para level) }
-        ensures all { self.new.all ≡ sequences_of (leveled_of limits.depth (classes_of para.now) (level_of_para level)) }
+        ensures all { self.new.all
+            ≡ sequences_of (leveled_of limits.depth (classes_of para.now) (level_of_para level)) }
         ensures extent { self.new.extent ≡ length para.now }
         ensures room { self.new.room ≡ self.old.room }
         ensures once { HoldsOnce (leveled_of limits.depth (classes_of para.now) (level_of_para level)) self.new.all }
@@ -167,7 +168,8 @@ impl Sequences {
         requires room { length para.now ≤ self.old.room }
         requires flat { IsFlat (classes_of para.now) }
         requires whole { whole ≡ true → HasNone is_removed (classes_of para.now) }
-        ensures all { (depth : ℕ) → self.new.all ≡ sequences_of (leveled_of depth (classes_of para.now) (level_of_para level)) }
+        ensures all { (depth : ℕ)
+            → self.new.all ≡ sequences_of (leveled_of depth (classes_of para.now) (level_of_para level)) }
         ensures extent { self.new.extent ≡ length para.now }
         ensures room { self.new.room ≡ self.old.room }
         ensures steps { steps.new ≡ steps.old + length para.now + length (remaining_of (classes_of para.now)) }

@@ -11,7 +11,8 @@ use Rattle.units.specs.declared.class.Class.TheVariants.{L}
 use Rattle.sequences.specs.Links.{ArePositions}
 use Rattle.resolve.specs.Rewritten.{Rewrites}
 use Rattle.resolve.proofs.Ahead.{class_or-if}
-use Rattle.resolve.proofs.AtEach.{length-at_each, class_at-at_each}
+use Rattle.units.proofs.Lengths.{length-at_each}
+use Rattle.resolve.proofs.AtEach.{class_at-at_each}
 use Rattle.resolve.proofs.Gathered.{length-classes_at}
 use Rattle.resolve.proofs.Passes.{Pass, pass_start, pass_reads, pass_within, pass_write}
 

@@ -10,7 +10,7 @@ use Rattle.units.specs.Weak.{class_or, nearest_before, nearest_after, is_any, by
 use Rattle.units.specs.declared.class.Class.{Class}
 use Rattle.units.specs.declared.class.Class.TheVariants.{L, ON}
 use Rattle.sequences.specs.Links.{ArePositions}
-use Rattle.resolve.proofs.AtEach.{length-at_each}
+use Rattle.units.proofs.Lengths.{length-at_each}
 use Rattle.resolve.proofs.Gathered.{length-classes_at, class_at-classes_at}
 use Rattle.resolve.proofs.Passes.{Pass, pass_start, pass_reads, pass_rest}
 use Rattle.stages.proofs.RulePasses.{pass_each, pass_nearest_here}

@@ -8,7 +8,8 @@ use Rattle.units.specs.declared.class.Class.{Class}
 use Rattle.sequences.specs.Links.{ArePositions}
 use Rattle.resolve.specs.Ahead.{first_class}
 use Rattle.resolve.proofs.Ahead.{nearest_after-first}
-use Rattle.resolve.proofs.AtEach.{class_at-at_each, length-at_each, drop-class_at}
+use Rattle.units.proofs.Lengths.{length-at_each}
+use Rattle.resolve.proofs.AtEach.{class_at-at_each, drop-class_at}
 use Rattle.resolve.proofs.Gathered.{length-classes_at, classes_at-drop}
 use Rattle.resolve.proofs.Passes.{Pass, pass_start, pass_reads, pass_within, pass_rest, pass_write}
 use Rattle.stages.proofs.RulePasses.{pass_keep, pass_nearest_here, pass_nearest_same}

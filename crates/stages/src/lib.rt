@@ -4,6 +4,4 @@
 pub mod neutral;
 mod rules;
 mod runs;
-#[cfg(test)]
-mod tests;
 pub mod weak;

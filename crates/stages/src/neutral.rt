@@ -16,7 +16,8 @@ use units::steps::Steps;
 /// outside the sequence stay.
 pub fn neutrals<L: Ledger>(s: &Sequence, classes: &mut [Class], steps: &mut Steps<L>)
     requires { length classes.old ≡ s.now.extent }
-    ensures classes { Rewrites (after_neutral (direction_of s.now.level) s.now.sos s.now.eos) s.now.positions classes.old classes.new }
+    ensures classes { Rewrites
+        (after_neutral (direction_of s.now.level) s.now.sos s.now.eos) s.now.positions classes.old classes.new }
     ensures at_least { steps.old + length s.now.positions ≤ steps.new }
     ensures at_most { steps.new ≤ steps.old + 2 * length s.now.positions }
 {

@@ -9,31 +9,32 @@ use Rattle.std.proofs.Math.ListN.{drop_of_length-le}
 use Rattle.units.specs.Text.{content_of, trimmed, fields_of, without_blanks_before}
 use Rattle.units.specs.ClassNames.{class_of_short}
 use Rattle.ucdfiles.specs.declared.span.FileLine.TheVariants.{Silent, Data}
-use Rattle.ucdfiles.specs.ClassFile.{class_line_says, content_says, comment_says, says, range_in}
+use Rattle.ucdfiles.specs.ClassFile.{class_line_says, class_content_says, comment_says, range_in}
+use Rattle.ucdfiles.specs.Statements.{span_says}
 
-class_line_says-short : (line : List ℕ) → length line ≤ 65536 → class_line_says line ≡ content_says line (content_of line)
+class_line_says-short : (line : List ℕ) → length line ≤ 65536 → class_line_says line ≡ class_content_says line (content_of line)
 unfolding class_line_says
 class_line_says-short line le = let e : nat_lt 65536 (length line) ≡ false = le-ltb _ _ le in rw e refl
 
-content_says-some : (line content : List ℕ) → 0 < length content → content_says line content ≡ says Data (range_in class_of_short (fields_of content))
-content_says-some line [] lt = absurd (omega arith)
-content_says-some line (b ∷ bs) lt = refl
+class_content_says-some : (line content : List ℕ) → 0 < length content → class_content_says line content ≡ span_says Data (range_in class_of_short (fields_of content))
+class_content_says-some line [] lt = absurd (omega arith)
+class_content_says-some line (b ∷ bs) lt = refl
 
-content_says-none : (line content : List ℕ) → length content ≡ 0 → content_says line content ≡ comment_says (without_blanks_before (after_first (λ b. b == 35) line))
-content_says-none line [] e = refl
-content_says-none line (b ∷ bs) e = absurd (omega arith)
+class_content_says-none : (line content : List ℕ) → length content ≡ 0 → class_content_says line content ≡ comment_says (without_blanks_before (after_first (λ b. b == 35) line))
+class_content_says-none line [] e = refl
+class_content_says-none line (b ∷ bs) e = absurd (omega arith)
 
 pub class_line_says-data : (line before content : List ℕ) → length line ≤ 65536 → before ≡ before_first (λ b. b == 35) line → content ≡ trimmed before → 0 < length content
-    → class_line_says line ≡ says Data (range_in class_of_short (fields_of content))
+    → class_line_says line ≡ span_says Data (range_in class_of_short (fields_of content))
 class_line_says-data line before content le cut trim some =
     let e : content ≡ content_of line = trim ∙ ap trimmed cut in
-    class_line_says-short line le ∙ ap (content_says line) (sym e) ∙ content_says-some line content some
+    class_line_says-short line le ∙ ap (class_content_says line) (sym e) ∙ class_content_says-some line content some
 
 pub class_line_says-comment : (line before content comment : List ℕ) → length line ≤ 65536 → before ≡ before_first (λ b. b == 35) line → content ≡ trimmed before → length content ≡ 0
     → comment ≡ after_first (λ b. b == 35) line → class_line_says line ≡ comment_says (without_blanks_before comment)
 class_line_says-comment line before content comment le cut trim none behind =
     let e : content ≡ content_of line = trim ∙ ap trimmed cut in
-    class_line_says-short line le ∙ ap (content_says line) (sym e) ∙ content_says-none line content none ∙ ap (λ t. comment_says (without_blanks_before t)) (sym behind)
+    class_line_says-short line le ∙ ap (class_content_says line) (sym e) ∙ class_content_says-none line content none ∙ ap (λ t. comment_says (without_blanks_before t)) (sym behind)
 
 no_comment : (line : List ℕ) → before_first (λ b. b == 35) line ≡ line → [] ≡ after_first (λ b. b == 35) line
 no_comment line e =

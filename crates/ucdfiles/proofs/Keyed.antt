@@ -15,7 +15,7 @@ use Rattle.ucdfiles.specs.Faults.{first_fault}
 use Rattle.ucdfiles.specs.Spans.{holds, value_by}
 use Rattle.ucdfiles.specs.Statements.{Stated, Stands}
 use Rattle.ucdfiles.specs.Keys.{number_in, IsNumbering, Keeps, key_in, keyed_value, keyed_span, IsNumbered, AreNumbered, AreKeyed}
-use Rattle.ucdfiles.specs.PairFiles.{pair_line_says, bracket_in, bracket_fault, bracket_file_fault, bracket_of, bracket_by, bracket_with, IsEquivalent, IsKeyed, StatesBrackets}
+use Rattle.ucdfiles.specs.PairFiles.{pair_line_says, bracket_in, bracket_fault, bracket_file_fault, bracket_of, bracket_stated, bracket_with, IsEquivalent, IsKeyed, StatesBrackets}
 use Rattle.ucdfiles.proofs.Rising.{find-revalued}
 use Rattle.ucdfiles.proofs.PairValues.{value_of-pairs}
 use Rattle.ucdfiles.proofs.Bools.{known}
@@ -74,9 +74,9 @@ keys-equal numbers a b numbering ha hb = (
   λ same. ap (λ d. record { 0 = unwrap_or (number_in numbers d) 0 }) same,
 )
 
-bracket_by-keyed : (key : ℕ → Key) (o : Option (Span SidedBracket)) → unwrap_or (value_by (option_map (keyed_span key) o) None) No ≡ bracket_by key (value_by o None)
-bracket_by-keyed key None = refl
-bracket_by-keyed key (Some span) = refl
+bracket_stated-keyed : (key : ℕ → Key) (o : Option (Span SidedBracket)) → unwrap_or (value_by (option_map (keyed_span key) o) None) No ≡ bracket_stated key (value_by o None)
+bracket_stated-keyed key None = refl
+bracket_stated-keyed key (Some span) = refl
 
 module _ (bytes : List ℕ) (stated : Stated SidedBracket) (stands : Stands (pair_line_says bracket_in) stated (lines_of bytes)) (brackets : List (Span Bracket)) (keyed : AreKeyed stated.data_lines brackets) where
   bracket_of-data : (c : ℕ) → bracket_of bytes c ≡ value_by (find (holds c) stated.data_lines) None
@@ -98,5 +98,5 @@ module _ (bytes : List ℕ) (stated : Stated SidedBracket) (stands : Stands (pai
     stated = λ c within.
         looks c within ∙ ap (λ bs. unwrap_or (value_by (find (holds c) bs) None) No) keyed.keyed
         ∙ ap (λ o. unwrap_or (value_by o None) No) (find-revalued (keyed_value (key_in keyed.numbers)) c stated.data_lines)
-        ∙ bracket_by-keyed (key_in keyed.numbers) (find (holds c) stated.data_lines) ∙ ap (bracket_by (key_in keyed.numbers)) (sym (bracket_of-data c));
+        ∙ bracket_stated-keyed (key_in keyed.numbers) (find (holds c) stated.data_lines) ∙ ap (bracket_stated (key_in keyed.numbers)) (sym (bracket_of-data c));
   }

@@ -9,8 +9,8 @@ use Rattle.ucdfiles.specs.declared.span.Span.{Span}
 use Rattle.ucdfiles.specs.declared.span.FileLine.{FileLine}
 use Rattle.ucdfiles.specs.declared.span.FileLine.TheVariants.{Silent, Data, Default, Faulty}
 use Rattle.ucdfiles.specs.Spans.{holds, value_by, value_in}
-use Rattle.ucdfiles.specs.Statements.{Stated, Stands, defaults_of, value_of}
-use Rattle.ucdfiles.specs.PairFiles.{pair_line_says, content_says, says}
+use Rattle.ucdfiles.specs.Statements.{Stated, Stands, defaults_of, value_of, span_says}
+use Rattle.ucdfiles.specs.PairFiles.{pair_line_says, pair_content_says}
 use Rattle.ucdfiles.proofs.Stating.{value_in-stands}
 
 -- not a default line
@@ -21,17 +21,17 @@ IsNoDefault (Default span) = ⊥
 IsNoDefault (Faulty fault) = Unit {0}
 
 module _ {V : Type 0} (read : List (List ℕ) → Result (Span V) Fault) where
-  says-data : (r : Result (Span V) Fault) → IsNoDefault (says r)
+  says-data : (r : Result (Span V) Fault) → IsNoDefault (span_says Data r)
   says-data (Ok span) = tt
   says-data (Err fault) = tt
 
-  content-data : (content : List ℕ) → IsNoDefault (content_says read content)
+  content-data : (content : List ℕ) → IsNoDefault (pair_content_says read content)
   content-data [] = tt
   content-data (b ∷ bs) = says-data _
 
   line-data : (line : List ℕ) → IsNoDefault (pair_line_says read line)
   unfolding pair_line_says
-  line-data line = elim (nat_lt longest_line (length line)) as (λ t. IsNoDefault (if t then Faulty LineTooLong else content_says read (content_of line))) [
+  line-data line = elim (nat_lt longest_line (length line)) as (λ t. IsNoDefault (if t then Faulty LineTooLong else pair_content_says read (content_of line))) [
     | true ↦ tt
     | false ↦ content-data (content_of line)
   ]

@@ -1,5 +1,5 @@
 -- Spans in order: where one that holds a code point stands, and one more among them.
-use Rattle.std.proofs.Common.{◌≡◌, ℕ, zero, suc, ◌+◌, ◌-◌, ◌<◌, ◌≤◌, Bool, true, false, ltb, leb, ◌||◌, Option, None, Some, List, [], ◌∷◌, ◌++◌, length, map, get_or, take, drop, insert, refl, sym, ap, ◌∙◌, arith, inl, inr}
+use Rattle.std.proofs.Common.{◌≡◌, ℕ, suc, ◌+◌, ◌-◌, ◌<◌, ◌≤◌, Bool, true, false, ltb, leb, ◌||◌, Option, None, Some, List, [], ◌∷◌, ◌++◌, length, map, get_or, take, drop, insert, refl, sym, ap, ◌∙◌, arith, inl, inr}
 use Rattle.std.specs.List.{find, list_any, AllWithin}
 use Rattle.std.specs.List.Sorted.{IsPartitionedBy}
 use Rattle.std.specs.Option.{option_map, option_or}
@@ -42,14 +42,6 @@ module _ {V : Type 0} where
   list_any-none p (r ∷ rs) none =
       let e : p r ≡ false = none 0 r (omega arith) in
       rw e (list_any-none p rs (λ k d lt. none (suc k) d (omega arith)))
-
-  -- the first element that passes
-  find-first : (p : Span V → Bool) (rs : List (Span V)) (n : ℕ) (d : Span V) → n < length rs → ((k : ℕ) (d : Span V) → k < n → p (get_or rs k d) ≡ false) → p (get_or rs n d) ≡ true → find p rs ≡ Some (get_or rs n d)
-  find-first p [] n d lt none pass = absurd (omega arith)
-  find-first p (r ∷ rs) zero d lt none pass = rw pass refl
-  find-first p (r ∷ rs) (suc n) d lt none pass =
-      let e : p r ≡ false = none 0 r (omega arith) in
-      rw e (find-first p rs n d (omega arith) (λ k f lt. none (suc k) f (omega arith)) pass)
 
   not_held_behind : (code : ℕ) (r : Span V) → r.last < code → holds code r ≡ false
   not_held_behind code r lt = let e : leb code r.last ≡ false = lt-leb _ _ lt in rw e (and_false (leb r.first code))
@@ -175,31 +167,6 @@ module _ {V : Type 0} where
             | inr over ↦ omega (arith, ap last (back d i over), ap first (back d j (omega arith)), rising.apart (i - 1) (j - 1) d (omega arith) (omega arith))
           ]
         ];
-      }
-
-  -- the first of spans in order
-  pub rising-take : (rs : List (Span V)) (n : ℕ) → IsRising rs → IsRising (take n rs)
-  rising-take rs n rising =
-      let within : length (take n rs) ≤ n = omega (arith, length-take n rs) in
-      let size : length (take n rs) ≤ length rs = omega (arith, length-take n rs) in
-      let at = λ (k : ℕ) (d : Span V) (lt : k < length (take n rs)). (let e : get_or (take n rs) k d ≡ get_or rs k d = get_or-take n rs k d (omega (arith, within)) in e) in
-      let first = λ (r : Span V). r.first in
-      let last = λ (r : Span V). r.last in
-      record {
-        each = λ k d lt. omega (arith, ap first (at k d lt), ap last (at k d lt), rising.each k d (omega (arith, size)));
-        apart = λ i j d less lt. omega (arith, ap last (at i d (omega arith)), ap first (at j d lt), rising.apart i j d less (omega (arith, size)));
-      }
-
-  -- and those behind a place
-  pub rising-drop : (rs : List (Span V)) (m : ℕ) → IsRising rs → IsRising (drop m rs)
-  rising-drop rs m rising =
-      let size : length (drop m rs) ≡ length rs - m = length-drop m rs in
-      let at = λ (k : ℕ) (d : Span V). (let e : get_or (drop m rs) k d ≡ get_or rs (m + k) d = get_or-drop m rs k d in e) in
-      let first = λ (r : Span V). r.first in
-      let last = λ (r : Span V). r.last in
-      record {
-        each = λ k d lt. omega (arith, ap first (at k d), ap last (at k d), rising.each (m + k) d (omega (arith, size)));
-        apart = λ i j d less lt. omega (arith, ap last (at i d), ap first (at j d), rising.apart (m + i) (m + j) d (omega arith) (omega (arith, size)));
       }
 
   -- spans that end before a code point don't hold it

@@ -1,5 +1,5 @@
 -- Blocks of values, one after the other.
-use Rattle.std.proofs.Common.{◌≡◌, ℕ, ◌+◌, ◌*◌, ◌/◌, ◌%◌, ◌<◌, ◌≤◌, List, [], ◌∷◌, ◌++◌, length, get_or, sym, ap, ◌∙◌, arith, inl, inr, length-append}
+use Rattle.std.proofs.Common.{◌≡◌, ℕ, ◌+◌, ◌*◌, ◌%◌, ◌<◌, ◌≤◌, List, [], ◌∷◌, ◌++◌, length, get_or, sym, ap, ◌∙◌, arith, inl, inr, length-append}
 use Rattle.std.specs.Option.{unwrap_or}
 use Rattle.std.proofs.lemmas.Bool.{cases_lt}
 use Rattle.std.proofs.lemmas.List.{get_or_default}
@@ -7,7 +7,7 @@ use Rattle.std.proofs.Math.ListN.{get_or-append}
 use Rattle.std.proofs.Math.Seq.{get_or-append_seam}
 use Rattle.ucdfiles.specs.declared.span.Span.{Span}
 use Rattle.ucdfiles.specs.Spans.{value_in}
-use Rattle.ucdfiles.specs.Stages.{AreStages, HasBlock, stage_at}
+use Rattle.ucdfiles.specs.Stages.{AreStages, HasBlock}
 
 module _ {V : Type 0} where
   -- the blocks before the n-th
@@ -51,8 +51,3 @@ module _ {V : Type 0} where
   module _ (spans defaults : List (Span V)) (none : V) (places : List ℕ) (values : List V) (h : AreStagesUpTo 8704 spans defaults none places values) where
     pub all-stages : AreStages (record { places = places; values = values })
     all-stages = record { blocks = h.size; within = λ k d lt. (let e : get_or places k d ≡ get_or places k 0 = get_or_default places k d 0 lt in omega (arith, e, h.within k (omega (arith, h.size)))) }
-
-    pub stage_at-all : (c : ℕ) (d : V) → c ≤ 0x10FFFF → stage_at (record { places = places; values = values }) c d ≡ unwrap_or (value_in spans defaults c) none
-    stage_at-all c d le =
-        let whole : c / 128 * 128 + c % 128 ≡ c = omega arith in
-        h.stated (c / 128) (c % 128) d (omega arith) (omega arith) ∙ ap (λ k. unwrap_or (value_in spans defaults k) none) whole

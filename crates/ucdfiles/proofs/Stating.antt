@@ -8,7 +8,7 @@ use Rattle.ucdfiles.specs.declared.span.Span.{Span}
 use Rattle.ucdfiles.specs.declared.span.FileLine.{FileLine}
 use Rattle.ucdfiles.specs.declared.span.FileLine.TheVariants.{Silent, Data, Default, Faulty}
 use Rattle.ucdfiles.specs.Spans.{holds, overlaps, Adds, default_fault, value_in}
-use Rattle.ucdfiles.specs.Statements.{data_of, defaults_of, fault_behind, line_fault, value_stated, Stated, stated_fault, Becomes, Holds, Stands}
+use Rattle.ucdfiles.specs.Statements.{data_of, defaults_of, fault_behind, line_fault, value_stated, Stated, stated_fault, Becomes, IsStatedBy, Stands}
 
 module _ {V : Type 0} where
   data_of-push : (lines : List (FileLine V)) (line : FileLine V) → data_of (lines ++ line ∷ []) ≡ data_of lines ++ data_of (line ∷ [])
@@ -26,15 +26,15 @@ module _ {V : Type 0} where
   defaults_of-push (Default span ∷ lines) line = ap (λ ss. span ∷ ss) (defaults_of-push lines line)
 
   -- the fault of a line behind those that state this
-  fault-same : (taken : Fault) (stated : Stated V) (lines : List (FileLine V)) (said : FileLine V) → Holds stated lines → stated_fault taken stated said ≡ fault_behind taken lines said
+  fault-same : (taken : Fault) (stated : Stated V) (lines : List (FileLine V)) (said : FileLine V) → IsStatedBy stated lines → stated_fault taken stated said ≡ fault_behind taken lines said
   fault-same taken stated lines Silent h = refl
   fault-same taken stated lines (Faulty fault) h = refl
   fault-same taken stated lines (Data span) h = rw (h.counts, h.meets span) refl
   fault-same taken stated lines (Default span) h = ap default_fault h.defaults
 
   -- a line that adds no data
-  same_data : (old new : Stated V) (lines : List (FileLine V)) (line : FileLine V) → Holds old lines → new.data_lines ≡ old.data_lines → data_of (line ∷ []) ≡ []
-      → new.default_lines ≡ old.default_lines ++ defaults_of (line ∷ []) → Holds new (lines ++ line ∷ [])
+  same_data : (old new : Stated V) (lines : List (FileLine V)) (line : FileLine V) → IsStatedBy old lines → new.data_lines ≡ old.data_lines → data_of (line ∷ []) ≡ []
+      → new.default_lines ≡ old.default_lines ++ defaults_of (line ∷ []) → IsStatedBy new (lines ++ line ∷ [])
   same_data old new lines line h same none defaults =
       let said : data_of (lines ++ line ∷ []) ≡ data_of lines = data_of-push lines line ∙ ap (λ ss. data_of lines ++ ss) none ∙ append-nil (data_of lines) in
       record {
@@ -45,8 +45,8 @@ module _ {V : Type 0} where
       }
 
   -- a data line
-  more_data : (old new : Stated V) (lines : List (FileLine V)) (span : Span V) → Holds old lines → Adds old.data_lines span new.data_lines → new.default_lines ≡ old.default_lines
-      → Holds new (lines ++ Data span ∷ [])
+  more_data : (old new : Stated V) (lines : List (FileLine V)) (span : Span V) → IsStatedBy old lines → Adds old.data_lines span new.data_lines → new.default_lines ≡ old.default_lines
+      → IsStatedBy new (lines ++ Data span ∷ [])
   more_data old new lines span h adds same =
       let said : data_of (lines ++ Data span ∷ []) ≡ data_of lines ++ span ∷ [] = data_of-push lines (Data span) in
       record {
@@ -56,8 +56,8 @@ module _ {V : Type 0} where
         defaults = same ∙ h.defaults ∙ sym (defaults_of-push lines (Data span) ∙ append-nil (defaults_of lines));
       }
 
-  becomes : (taken : Fault) (old new : Stated V) (lines : List (FileLine V)) (said : FileLine V) → Holds old lines → Becomes taken old said new
-      → (fault_behind taken lines said ≡ None) × Holds new (lines ++ said ∷ [])
+  becomes : (taken : Fault) (old new : Stated V) (lines : List (FileLine V)) (said : FileLine V) → IsStatedBy old lines → Becomes taken old said new
+      → (fault_behind taken lines said ≡ None) × IsStatedBy new (lines ++ said ∷ [])
   becomes taken old new lines Silent h b = (refl, same_data old new lines Silent h (ap (λ (t : Stated V). t.data_lines) b) refl (ap (λ (t : Stated V). t.default_lines) b ∙ sym (append-nil old.default_lines)))
   becomes taken old new lines (Faulty fault) h b = absurd b
   becomes taken old new lines (Data span) h b = (sym (fault-same taken old lines (Data span) h) ∙ b.1, more_data old new lines span h b.0 b.2)
@@ -69,11 +69,8 @@ module _ {V : Type 0} where
     stands-becomes old new lines line said e s b =
         let made = becomes taken old new (map says lines) said s b in (
           ap (fault_behind taken (map says lines)) e ∙ made.0,
-          let P : List (FileLine V) → Type 0 = λ ls. Holds new ls in subst P (sym (map-append says lines (line ∷ []) ∙ ap (λ l. map says lines ++ l ∷ []) e)) made.1,
+          let P : List (FileLine V) → Type 0 = λ ls. IsStatedBy new ls in subst P (sym (map-append says lines (line ∷ []) ∙ ap (λ l. map says lines ++ l ∷ []) e)) made.1,
         )
-
-    pub fault-stands : (stated : Stated V) (lines : List (List ℕ)) (line : List ℕ) (said : FileLine V) → says line ≡ said → Stands says stated lines → stated_fault taken stated said ≡ line_fault says taken lines line
-    fault-stands stated lines line said e s = fault-same taken stated (map says lines) said s ∙ ap (fault_behind taken (map says lines)) (sym e)
 
     -- what all lines state gives each code point its value
     pub value_in-stands : (stated : Stated V) (lines : List (List ℕ)) (c : ℕ) → Stands says stated lines → value_in stated.data_lines stated.default_lines c ≡ value_stated (map says lines) c

@@ -12,7 +12,7 @@ use Rattle.ucdfiles.specs.declared.fault.TableFault.{TableFault}
 use Rattle.ucdfiles.specs.declared.span.Span.{Span}
 use Rattle.ucdfiles.specs.declared.span.FileLine.{FileLine}
 use Rattle.ucdfiles.specs.declared.span.FileLine.TheVariants.{Silent, Data, Default, Faulty}
-use Rattle.ucdfiles.specs.Statements.{line_fault, file_fault, value_of}
+use Rattle.ucdfiles.specs.Statements.{span_says, line_fault, file_fault, value_of}
 
 -- the class that has this short or long name, as default lines may name it
 abbrev pub class_of_name : List ℕ → Option Class
@@ -33,24 +33,19 @@ abbrev pub range_in : (List ℕ → Option Class) → List (List ℕ) → Result
 range_in named (range ∷ name ∷ []) = range_read (ends_of range) (named name)
 range_in named _ = Err Fields
 
--- the line of this kind, or its fault
-abbrev pub says : (Span Class → FileLine Class) → Result (Span Class) Fault → FileLine Class
-says kind (Ok span) = kind span
-says kind (Err fault) = Faulty fault
-
 -- what a comment says: a default if it begins with `@missing:`
 abbrev pub comment_says : List ℕ → FileLine Class
 comment_says comment =
-    if starts_with nat_eq comment (codes "@missing:") then says Default (range_in class_of_name (fields_of (content_of (drop 9 comment)))) else Silent
+    if starts_with nat_eq comment (codes "@missing:") then span_says Default (range_in class_of_name (fields_of (content_of (drop 9 comment)))) else Silent
 
 -- what a line with this content says: only where that is empty its comment is read
-abbrev pub content_says : List ℕ → List ℕ → FileLine Class
-content_says line [] = comment_says (without_blanks_before (after_first (λ b. b == 35) line))
-content_says line (b ∷ bs) = says Data (range_in class_of_short (fields_of (b ∷ bs)))
+abbrev pub class_content_says : List ℕ → List ℕ → FileLine Class
+class_content_says line [] = comment_says (without_blanks_before (after_first (λ b. b == 35) line))
+class_content_says line (b ∷ bs) = span_says Data (range_in class_of_short (fields_of (b ∷ bs)))
 
 -- what a line says
 unfoldable pub class_line_says : List ℕ → FileLine Class
-class_line_says line = if nat_lt longest_line (length line) then Faulty LineTooLong else content_says line (content_of line)
+class_line_says line = if nat_lt longest_line (length line) then Faulty LineTooLong else class_content_says line (content_of line)
 
 -- the fault of a line behind the earlier ones
 abbrev pub class_fault : List (List ℕ) → List ℕ → Option Fault
@@ -60,7 +55,8 @@ class_fault earlier line = line_fault class_line_says Overlap earlier line
 unfoldable pub class_file_fault : List ℕ → Option TableFault
 class_file_fault bytes = file_fault class_line_says Overlap bytes
 
--- the class of a code point: that of the one data line that holds it, else that of the last default line that holds it, else L
+-- the class of a code point: that of the one data line that holds it, else that of the last default line that holds it,
+-- else L
 unfoldable pub class_of : List ℕ → ℕ → Class
 class_of bytes c = unwrap_or (value_of class_line_says bytes c) L
 

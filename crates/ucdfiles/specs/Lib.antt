@@ -9,3 +9,4 @@ pub mod Keys
 pub mod Stages
 pub mod Tables
 pub mod Rows
+pub mod Files

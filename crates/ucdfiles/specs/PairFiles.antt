@@ -1,4 +1,5 @@
--- BidiBrackets.txt and BidiMirroring.txt: what a line says by itself, and the brackets and mirror images that the lines state.
+-- BidiBrackets.txt and BidiMirroring.txt: what a line says by itself, and the brackets and mirror images that the lines
+-- state.
 use Rattle.std.specs.Prelude.{◌≡◌, ◌≤◌, ◌↔◌, Option, ℕ, Bool, ◌&&◌, nat_le, nat_lt, if◌then◌else◌, List, [], ◌∷◌, length, Some, None, Result, Ok, Err, codes}
 use Rattle.std.specs.Str.{bytes_eq}
 use Rattle.unicode_normalization.specs.Forms.{nfd}
@@ -15,7 +16,7 @@ use Rattle.ucdfiles.specs.declared.span.FileLine.TheVariants.{Silent, Data, Faul
 use Rattle.ucdfiles.specs.declared.sided_bracket.Side.{Side}
 use Rattle.ucdfiles.specs.declared.sided_bracket.Side.TheVariants.{Open, Close}
 use Rattle.ucdfiles.specs.declared.sided_bracket.SidedBracket.{SidedBracket}
-use Rattle.ucdfiles.specs.Statements.{line_fault, file_fault, value_of}
+use Rattle.ucdfiles.specs.Statements.{span_says, line_fault, file_fault, value_of}
 
 -- D800 to DFFF
 abbrev pub is_surrogate : ℕ → Bool
@@ -35,8 +36,8 @@ abbrev pub single : {V : Type 0} → ℕ → V → Span V
 single c v = record { first = c; last = c; value = v }
 
 -- `o` or `c`
-abbrev pub side_of : List ℕ → Option Side
-side_of field = if bytes_eq field (codes "o") then Some Open else if bytes_eq field (codes "c") then Some Close else None
+abbrev pub side_named : List ℕ → Option Side
+side_named field = if bytes_eq field (codes "o") then Some Open else if bytes_eq field (codes "c") then Some Close else None
 
 -- a bracket of this side: the key of an opening one is that of its paired bracket, the key of a closing one its own
 abbrev pub bracket_read : ℕ → ℕ → Option Side → Result (Span SidedBracket) Fault
@@ -52,7 +53,7 @@ bracket_chars None paired side = Err CodePoint
 
 -- what three fields say: a bracket, its paired bracket, and its side
 abbrev pub bracket_in : List (List ℕ) → Result (Span SidedBracket) Fault
-bracket_in (char ∷ paired ∷ side ∷ []) = bracket_chars (char_of char) (char_of paired) (side_of side)
+bracket_in (char ∷ paired ∷ side ∷ []) = bracket_chars (char_of char) (char_of paired) (side_named side)
 bracket_in _ = Err Fields
 
 -- a character and its mirror image
@@ -66,19 +67,14 @@ abbrev pub mirror_in : List (List ℕ) → Result (Span ℕ) Fault
 mirror_in (char ∷ image ∷ []) = mirror_chars (char_of char) (char_of image)
 mirror_in _ = Err Fields
 
--- a data line, or its fault
-abbrev pub says : {V : Type 0} → Result (Span V) Fault → FileLine V
-says (Ok span) = Data span
-says (Err fault) = Faulty fault
-
 -- what a content says: an empty one nothing
-abbrev pub content_says : {V : Type 0} → (List (List ℕ) → Result (Span V) Fault) → List ℕ → FileLine V
-content_says read [] = Silent
-content_says read (b ∷ bs) = says (read (fields_of (b ∷ bs)))
+abbrev pub pair_content_says : {V : Type 0} → (List (List ℕ) → Result (Span V) Fault) → List ℕ → FileLine V
+pair_content_says read [] = Silent
+pair_content_says read (b ∷ bs) = span_says Data (read (fields_of (b ∷ bs)))
 
 -- what a line says, by what its fields say
 unfoldable pub pair_line_says : {V : Type 0} → (List (List ℕ) → Result (Span V) Fault) → List ℕ → FileLine V
-pair_line_says read line = if nat_lt longest_line (length line) then Faulty LineTooLong else content_says read (content_of line)
+pair_line_says read line = if nat_lt longest_line (length line) then Faulty LineTooLong else pair_content_says read (content_of line)
 
 -- the fault of a line of BidiBrackets.txt behind the earlier ones
 abbrev pub bracket_fault : List (List ℕ) → List ℕ → Option Fault
@@ -115,9 +111,9 @@ bracket_with Open key = bracket.Open key
 bracket_with Close key = bracket.Close key
 
 -- the bracket of a character by its line: none, or one with the key of the stated character
-abbrev pub bracket_by : (ℕ → Key) → Option SidedBracket → Bracket
-bracket_by key None = bracket.No
-bracket_by key (Some stated) = bracket_with stated.side (key stated.keyed_by)
+abbrev pub bracket_stated : (ℕ → Key) → Option SidedBracket → Bracket
+bracket_stated key None = bracket.No
+bracket_stated key (Some stated) = bracket_with stated.side (key stated.keyed_by)
 
 -- BD16: canonically equivalent: the texts of one character each have one canonical decomposition
 abbrev pub IsEquivalent : ℕ → ℕ → Type 0
@@ -127,9 +123,10 @@ IsEquivalent a b = nfd (a ∷ []) ≡ nfd (b ∷ [])
 abbrev pub IsKeyed : List ℕ → ℕ → Type 0
 IsKeyed bytes a = (c : ℕ) × (stated : SidedBracket) × (c ≤ 0x10FFFF) × (bracket_of bytes c ≡ Some stated) × (stated.keyed_by ≡ a)
 
--- BD14 to BD16: the bytes are not faulty, and these are the brackets of the characters by them; keys are equal exactly if their characters are canonically equivalent
+-- BD14 to BD16: the bytes are not faulty, and these are the brackets of the characters by them; keys are equal exactly
+-- if their characters are canonically equivalent
 pub record StatesBrackets (bytes : List ℕ) (brackets : ℕ → Bracket) : Type 0 where
   pub faultless : bracket_file_fault bytes ≡ None
   pub key : ℕ → Key
   pub keys : (a b : ℕ) → IsKeyed bytes a → IsKeyed bytes b → (key a ≡ key b) ↔ IsEquivalent a b
-  pub stated : (c : ℕ) → c ≤ 0x10FFFF → brackets c ≡ bracket_by key (bracket_of bytes c)
+  pub stated : (c : ℕ) → c ≤ 0x10FFFF → brackets c ≡ bracket_stated key (bracket_of bytes c)

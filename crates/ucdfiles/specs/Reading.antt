@@ -1,6 +1,5 @@
 -- A table that is made of the lines of a source.
 use Rattle.std.specs.Prelude.{Option, ℕ, ◌≡◌, ◌≢◌, ◌<◌, ◌⊎◌, List, [], ◌∷◌, ◌++◌, length, Some, None, Result, Ok, Err}
-use Rattle.std.specs.Option.{option_map}
 use Rattle.units.specs.Text.{lines_of, settled_lines}
 use Rattle.units.specs.LineCutting.{Cutting, StandsFor}
 use Rattle.units.specs.Lines.{CutsInto}
@@ -9,7 +8,7 @@ use Rattle.units.specs.declared.line_cut.Step.TheVariants.{More, Line, TooLong}
 use Rattle.ucdfiles.specs.declared.fault.Fault.{Fault}
 use Rattle.ucdfiles.specs.declared.fault.TableFault.{TableFault}
 use Rattle.ucdfiles.specs.declared.fault.TableFault.TheVariants.{Read, Memory, LineTooLong}
-use Rattle.ucdfiles.specs.Faults.{fault_at, first_fault}
+use Rattle.ucdfiles.specs.Faults.{RefusesAt, first_fault}
 
 -- a cutter and a table that were handed these bytes, in any pieces, and no line that ended was faulty
 pub record Reads (stands : List (List ℕ) → Type 0) (fault : List (List ℕ) → List ℕ → Option Fault) (cutter : Cutting) (bytes : List ℕ) : Type 0 where
@@ -20,21 +19,45 @@ pub record Reads (stands : List (List ℕ) → Type 0) (fault : List (List ℕ) 
   pub table : stands lines
   pub faultless : first_fault fault [] lines ≡ None
 
+-- a line behind those of a table has no fault, and is put behind them
+abbrev pub TakesLine : (List (List ℕ) → Type 0) → (List (List ℕ) → Type 0) → (List (List ℕ) → List ℕ → Option Fault) → List ℕ → Type 0
+TakesLine before after fault line =
+    (lines : List (List ℕ)) → before lines → (fault lines line ≡ None) × after (lines ++ line ∷ [])
+
+-- why a line of this number behind those of a table is refused
+abbrev pub IsLineRefusal : (List (List ℕ) → Type 0) → (List (List ℕ) → List ℕ → Option Fault) → ℕ → List ℕ → TableFault → Type 0
+IsLineRefusal before fault number line e = (lines : List (List ℕ)) → before lines → RefusesAt number (fault lines line) e
+
 -- what a step does to a table
 abbrev pub IsStep : (List (List ℕ) → Type 0) → (List (List ℕ) → Type 0) → (List (List ℕ) → List ℕ → Option Fault) → Step → Type 0
 IsStep before after fault More = (lines : List (List ℕ)) → before lines → after lines
-IsStep before after fault (Line number text) = (lines : List (List ℕ)) → before lines → (fault lines text.now ≡ None) × after (lines ++ text.now ∷ [])
+IsStep before after fault (Line number text) = TakesLine before after fault text.now
 IsStep before after fault (TooLong number) = ⊥
 
 -- why a step is refused
 abbrev pub IsRefusal : (List (List ℕ) → Type 0) → (List (List ℕ) → List ℕ → Option Fault) → Step → TableFault → Type 0
 IsRefusal before fault More e = ⊥
-IsRefusal before fault (Line number text) e = (lines : List (List ℕ)) → before lines → (e ≡ Memory) ⊎ (option_map (λ f. fault_at f number) (fault lines text.now) ≡ Some e)
+IsRefusal before fault (Line number text) e = IsLineRefusal before fault number text.now e
 IsRefusal before fault (TooLong number) e = e ≡ LineTooLong number
 
 -- a growth was refused, or this is the fault of the least faulty of the settled lines
 abbrev pub Refuses : (List (List ℕ) → List ℕ → Option Fault) → List ℕ → TableFault → Type 0
 Refuses fault bytes e = (e ≡ Memory) ⊎ (first_fault fault [] (settled_lines bytes) ≡ Some e)
+
+-- a cutter and a table that were handed some bytes were handed this piece behind them
+abbrev pub ReadsOn : (List (List ℕ) → Type 0) → (List (List ℕ) → Type 0) → (List (List ℕ) → List ℕ → Option Fault) → Cutting → Cutting → List ℕ → Type 0
+ReadsOn before after fault old new piece =
+    (b : List ℕ) → Reads before fault old b → Reads after fault new (b ++ piece)
+
+-- all lines of the bytes that were handed over, the last one too, state the table
+abbrev pub EndsFaultless : (List (List ℕ) → Type 0) → (List (List ℕ) → Type 0) → (List (List ℕ) → List ℕ → Option Fault) → Cutting → Type 0
+EndsFaultless before after fault cutter =
+    (b : List ℕ) → Reads before fault cutter b → (first_fault fault [] (lines_of b) ≡ None) × after (lines_of b)
+
+-- a growth was refused at the end of these bytes, or this is the fault of their least faulty line
+abbrev pub EndsFaulty : (List (List ℕ) → Type 0) → (List (List ℕ) → List ℕ → Option Fault) → Cutting → TableFault → Type 0
+EndsFaulty before fault cutter e =
+    (b : List ℕ) → Reads before fault cutter b → (e ≡ Memory) ⊎ (first_fault fault [] (lines_of b) ≡ Some e)
 
 -- what a reader says of the bytes that its source handed out; it asks for memory only behind a read that did not fail
 pub record IsFault (fault : List (List ℕ) → List ℕ → Option Fault) (ended : Type 0) (bytes : List ℕ) (e : TableFault) : Type 0 where

@@ -21,7 +21,8 @@ most_data = 65536
 abbrev pub most_defaults : ℕ
 most_defaults = 1024
 
--- the fault of a data line behind such ones: there are enough of them, or one has a code point of it, which is called Overlap or Twice
+-- the fault of a data line behind such ones: there are enough of them, or one has a code point of it, which is called
+-- Overlap or Twice
 abbrev pub data_fault : {V : Type 0} → Fault → List (Span V) → Span V → Option Fault
 data_fault taken earlier span = if nat_le most_data (length earlier) then Some TooMany else if list_any (overlaps span) earlier then Some taken else None
 

@@ -12,6 +12,11 @@ abbrev pub value_over_all : {V : Type 0} → ℕ → List (Span V) → V → V
 value_over_all c [] v = v
 value_over_all c (span ∷ spans) v = value_over_all c spans (value_over c span v)
 
+-- the values from a code point on are those that were there, each changed so
+abbrev pub IsPainted : {V : Type 0} → ℕ → (ℕ → V → V) → List V → List V → Type 0
+IsPainted {V} first change old new =
+    (k : ℕ) (d : V) → k < length old → slice_index_or new k d ≡ change (first + k) (slice_index_or old k d)
+
 -- the places of the blocks, and the values of the blocks one after the other
 pub record Stages (V : Type 0) : Type 0 where
   pub places : List ℕ

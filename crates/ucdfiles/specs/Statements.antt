@@ -1,5 +1,5 @@
 -- What the lines of a property file state: the fault of a line behind the earlier ones, and the value of a code point.
-use Rattle.std.specs.Prelude.{Option, ℕ, ◌≡◌, ◌≤◌, List, [], ◌∷◌, ◌++◌, length, map, Some, None}
+use Rattle.std.specs.Prelude.{Option, ℕ, ◌≡◌, ◌≤◌, List, [], ◌∷◌, ◌++◌, length, map, Some, None, Result, Ok, Err}
 use Rattle.std.specs.List.{find, list_any}
 use Rattle.units.specs.Text.{lines_of}
 use Rattle.ucdfiles.specs.declared.fault.Fault.{Fault}
@@ -9,6 +9,11 @@ use Rattle.ucdfiles.specs.declared.span.FileLine.{FileLine}
 use Rattle.ucdfiles.specs.declared.span.FileLine.TheVariants.{Silent, Data, Default, Faulty}
 use Rattle.ucdfiles.specs.Faults.{first_fault}
 use Rattle.ucdfiles.specs.Spans.{holds, overlaps, Adds, data_fault, default_fault, value_in}
+
+-- a line of this kind, or its fault
+abbrev pub span_says : {V : Type 0} → (Span V → FileLine V) → Result (Span V) Fault → FileLine V
+span_says kind (Ok span) = kind span
+span_says kind (Err fault) = Faulty fault
 
 -- the data lines
 abbrev pub data_of : {V : Type 0} → List (FileLine V) → List (Span V)
@@ -37,7 +42,8 @@ line_fault says taken earlier line = fault_behind taken (map says earlier) (says
 abbrev pub file_fault : {V : Type 0} → (List ℕ → FileLine V) → Fault → List ℕ → Option TableFault
 file_fault says taken bytes = first_fault (line_fault says taken) [] (lines_of bytes)
 
--- the value of a code point by these lines: that of the one data line that holds it, else that of the last default line that holds it
+-- the value of a code point by these lines: that of the one data line that holds it, else that of the last default line
+-- that holds it
 abbrev pub value_stated : {V : Type 0} → List (FileLine V) → ℕ → Option V
 value_stated lines c = value_in (data_of lines) (defaults_of lines) c
 
@@ -65,7 +71,7 @@ Becomes taken old (Data span) new = Adds old.data_lines span new.data_lines × (
 Becomes taken old (Default span) new = (new.default_lines ≡ old.default_lines ++ span ∷ []) × (default_fault old.default_lines ≡ None) × (new.data_lines ≡ old.data_lines)
 
 -- what is stated is what these lines say
-pub record Holds {V : Type 0} (stated : Stated V) (lines : List (FileLine V)) : Type 0 where
+pub record IsStatedBy {V : Type 0} (stated : Stated V) (lines : List (FileLine V)) : Type 0 where
   pub finds : (c : ℕ) → find (holds c) stated.data_lines ≡ find (holds c) (data_of lines)
   pub meets : (span : Span V) → list_any (overlaps span) stated.data_lines ≡ list_any (overlaps span) (data_of lines)
   pub counts : length stated.data_lines ≡ length (data_of lines)
@@ -73,7 +79,7 @@ pub record Holds {V : Type 0} (stated : Stated V) (lines : List (FileLine V)) : 
 
 -- the same of lines of bytes
 abbrev pub Stands : {V : Type 0} → (List ℕ → FileLine V) → Stated V → List (List ℕ) → Type 0
-Stands says stated lines = Holds stated (map says lines)
+Stands says stated lines = IsStatedBy stated (map says lines)
 
 -- the span of a data line is not turned round
 abbrev pub IsRisingLine : {V : Type 0} → FileLine V → Type 0

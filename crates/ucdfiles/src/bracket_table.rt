@@ -30,7 +30,7 @@ impl LineTable for Statements<SidedBracket> {
     }
 }
 
-/// BD14 to BD16: the brackets of the characters, with their keys. Contracts see them by `bracket_at`.
+/// BD14 to BD16: the brackets of the characters, with their keys. Contracts see them by `bracket_by`.
 #[derive(Drop)]
 pub struct BracketTable {
     brackets: TwoStage<Bracket>,
@@ -52,7 +52,7 @@ impl Model for BracketTable {
 impl BracketTable {
     ghost use Rattle.ucdfiles.specs.PairFiles.{bracket_fault, StatesBrackets};
     ghost use Rattle.ucdfiles.specs.Reading.{IsFault};
-    ghost use Rattle.ucdfiles.specs.Tables.{bracket_at, IsTableOf};
+    ghost use Rattle.ucdfiles.specs.Tables.{bracket_by, IsTableOf};
 
     /// The bracket table that the source's bytes state, read to the source's end; or the fault of the least faulty
     /// line. `Read` is answered exactly if the source has failed, and then no line that is complete is faulty, and
@@ -60,8 +60,10 @@ impl BracketTable {
     /// from before the call. How far the source was read after a fault is not said.
     pub fn read<S: ByteSource>(alloc: Global, source: &mut S) -> Result<BracketTable, TableFault>
         ensures read { (result ≡ Err TableFault.Read) ↔ (S.failures source.new ≡ 1) }
-        ensures ok { IfOk result (λ table. (given : List ℕ) × S.gives source.old given source.new × S.ended source.new × StatesBrackets given (bracket_at table)) }
-        ensures err { IfErr result (λ e. (given : List ℕ) × S.gives source.old given source.new × IsFault bracket_fault (S.ended source.new) given e) }
+        ensures ok { IfOk result (λ table. (given : List ℕ) × S.gives source.old given source.new
+            × S.ended source.new × StatesBrackets given (bracket_by table)) }
+        ensures err { IfErr result (λ e. (given : List ℕ) × S.gives source.old given source.new
+            × IsFault bracket_fault (S.ended source.new) given e) }
     {
         let mut lines = Statements::new(alloc);
         read_lines(&mut lines, source)?;
@@ -74,11 +76,11 @@ impl BracketTable {
         }
     }
 
-    #[tactic(auto, unfolding(crate::specs::Tables::bracket_at))]
+    #[tactic(auto, unfolding(crate::specs::Tables::bracket_by))]
     /// The bracket of a character: `No` without a line, else `Open` with the key of its second field or `Close` with
     /// the key of its first.
     pub fn bracket(&self, c: char) -> Bracket
-        ensures { result ≡ bracket_at self.now c }
+        ensures { result ≡ bracket_by self.now c }
     {
         self.brackets.value(c)
     }

@@ -27,7 +27,7 @@ impl LineTable for Statements<Class> {
     }
 }
 
-/// The classes of the characters. Contracts see them by `class_at`.
+/// The classes of the characters. Contracts see them by `class_by`.
 #[derive(Drop)]
 pub struct ClassTable {
     classes: TwoStage<Class>,
@@ -45,7 +45,7 @@ impl Model for ClassTable {
 impl ClassTable {
     ghost use Rattle.ucdfiles.specs.ClassFile.{class_fault, StatesClasses};
     ghost use Rattle.ucdfiles.specs.Reading.{IsFault};
-    ghost use Rattle.ucdfiles.specs.Tables.{class_at};
+    ghost use Rattle.ucdfiles.specs.Tables.{class_by};
 
     /// The class table that the source's bytes state, read to the source's end; or the fault of the least faulty
     /// line. `Read` is answered exactly if the source has failed, and then no line that is complete is faulty, and
@@ -53,8 +53,10 @@ impl ClassTable {
     /// from before the call. How far the source was read after a fault is not said.
     pub fn read<S: ByteSource>(alloc: Global, source: &mut S) -> Result<ClassTable, TableFault>
         ensures read { (result ≡ Err TableFault.Read) ↔ (S.failures source.new ≡ 1) }
-        ensures ok { IfOk result (λ table. (given : List ℕ) × S.gives source.old given source.new × S.ended source.new × StatesClasses given (class_at table)) }
-        ensures err { IfErr result (λ e. (given : List ℕ) × S.gives source.old given source.new × IsFault class_fault (S.ended source.new) given e) }
+        ensures ok { IfOk result (λ table. (given : List ℕ) × S.gives source.old given source.new
+            × S.ended source.new × StatesClasses given (class_by table)) }
+        ensures err { IfErr result (λ e. (given : List ℕ) × S.gives source.old given source.new
+            × IsFault class_fault (S.ended source.new) given e) }
     {
         let mut lines = Statements::new(alloc);
         read_lines(&mut lines, source)?;
@@ -64,11 +66,11 @@ impl ClassTable {
         }
     }
 
-    #[tactic(auto, unfolding(crate::specs::Tables::class_at))]
+    #[tactic(auto, unfolding(crate::specs::Tables::class_by))]
     /// The class of a character: that of the one data line that holds it, else that of the last `@missing` line that
     /// holds it, else L.
     pub fn class(&self, c: char) -> Class
-        ensures { result ≡ class_at self.now c }
+        ensures { result ≡ class_by self.now c }
     {
         self.classes.value(c)
     }

@@ -1,6 +1,6 @@
 // What is wrong with a file.
 ghost use Rattle.std.specs.Prelude.{◌≡◌};
-ghost use Rattle.ucdfiles.specs.Faults.{fault_at, name_of, line_of};
+ghost use Rattle.ucdfiles.specs.Faults.{fault_at, name_of, line_of_fault};
 
 use thiserror::Error;
 
@@ -80,7 +80,7 @@ impl TableFault {
 
     /// The number of the faulty line, counted from 1; none for `Read` and `Memory`.
     pub fn line(self) -> Option<u64>
-        ensures { result ≡ line_of self }
+        ensures { result ≡ line_of_fault self }
     {
         match self {
             TableFault::CodePoint(line)

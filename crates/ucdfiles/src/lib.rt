@@ -5,15 +5,15 @@ pub mod bracket_table;
 pub mod class_line;
 pub mod class_table;
 pub mod fault;
+pub mod files;
 pub mod keys;
 pub mod mirror_table;
 pub mod pair_line;
 pub mod reading;
 pub mod sided_bracket;
+pub mod small;
 pub mod span;
 pub mod spans;
 pub mod statements;
 pub mod tables;
-#[cfg(test)]
-mod tests;
 pub mod two_stage;

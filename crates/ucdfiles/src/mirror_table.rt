@@ -45,7 +45,7 @@ fn images(alloc: Global, spans: &[Span<char>]) -> Result<Vec<Span<Option<char>>>
     Ok(images)
 }
 
-/// L4: the mirror images of the characters. Contracts see them by `glyph_at`.
+/// L4: the mirror images of the characters. Contracts see them by `glyph_by`.
 #[derive(Drop)]
 pub struct MirrorTable {
     glyphs: TwoStage<Option<char>>,
@@ -63,7 +63,7 @@ impl Model for MirrorTable {
 impl MirrorTable {
     ghost use Rattle.ucdfiles.specs.PairFiles.{mirror_fault, StatesMirrors};
     ghost use Rattle.ucdfiles.specs.Reading.{IsFault};
-    ghost use Rattle.ucdfiles.specs.Tables.{glyph_at};
+    ghost use Rattle.ucdfiles.specs.Tables.{glyph_by};
 
     /// The mirror table that the source's bytes state, read to the source's end; or the fault of the least faulty
     /// line. `Read` is answered exactly if the source has failed, and then no line that is complete is faulty, and
@@ -71,8 +71,10 @@ impl MirrorTable {
     /// from before the call. How far the source was read after a fault is not said.
     pub fn read<S: ByteSource>(alloc: Global, source: &mut S) -> Result<MirrorTable, TableFault>
         ensures read { (result ≡ Err TableFault.Read) ↔ (S.failures source.new ≡ 1) }
-        ensures ok { IfOk result (λ table. (given : List ℕ) × S.gives source.old given source.new × S.ended source.new × StatesMirrors given (glyph_at table)) }
-        ensures err { IfErr result (λ e. (given : List ℕ) × S.gives source.old given source.new × IsFault mirror_fault (S.ended source.new) given e) }
+        ensures ok { IfOk result (λ table. (given : List ℕ) × S.gives source.old given source.new
+            × S.ended source.new × StatesMirrors given (glyph_by table)) }
+        ensures err { IfErr result (λ e. (given : List ℕ) × S.gives source.old given source.new
+            × IsFault mirror_fault (S.ended source.new) given e) }
     {
         let mut lines = Statements::new(alloc);
         read_lines(&mut lines, source)?;
@@ -85,10 +87,10 @@ impl MirrorTable {
         }
     }
 
-    #[tactic(auto, unfolding(crate::specs::Tables::glyph_at))]
+    #[tactic(auto, unfolding(crate::specs::Tables::glyph_by))]
     /// The mirror image of a character, if it has one.
     pub fn glyph(&self, c: char) -> Option<char>
-        ensures { result ≡ glyph_at self.now c }
+        ensures { result ≡ glyph_by self.now c }
     {
         self.glyphs.value(c)
     }

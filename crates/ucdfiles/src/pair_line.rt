@@ -1,7 +1,7 @@
 // One line of BidiBrackets.txt or BidiMirroring.txt.
 ghost use Rattle.std.specs.Prelude.{◌≡◌, ◌≤◌, IfOk};
 ghost use Rattle.units.specs.Text.{fields_of};
-ghost use Rattle.ucdfiles.specs.PairFiles.{char_of, side_of, bracket_in, mirror_in, pair_line_says};
+ghost use Rattle.ucdfiles.specs.PairFiles.{char_of, side_named, bracket_in, mirror_in, pair_line_says};
 ghost use Rattle.ucdfiles.specs.Statements.{IsRisingLine};
 
 use crate::fault::Fault;
@@ -20,7 +20,7 @@ fn character(field: &[u8]) -> Option<char>
 }
 
 fn side(field: &[u8]) -> Option<Side>
-    ensures { result ≡ side_of field.now }
+    ensures { result ≡ side_named field.now }
 {
     match field {
         b"o" => Some(Side::Open),

@@ -1,9 +1,10 @@
 // Reads a source line by line into a table.
-ghost use Rattle.std.specs.Prelude.{◌≡◌, ◌≢◌, ℕ, ◌<◌, ◌⊎◌, ◌↔◌, List, [], ◌∷◌, ◌++◌, length, Option, None, Some, Err, take, IfErr, OnOk};
-ghost use Rattle.std.specs.Option.{option_map};
-ghost use Rattle.ucdfiles.specs.Faults.{fault_at, over_long_line, first_fault};
-ghost use Rattle.units.specs.Text.{lines_of};
-ghost use Rattle.ucdfiles.specs.Reading.{Reads, IsStep, IsRefusal, Refuses, IsOutcome};
+ghost use Rattle.std.specs.Prelude.{◌≡◌, ◌≢◌, ℕ, ◌<◌, ◌↔◌, List, [], ◌++◌, length, Option, Some, Err, take, IfErr};
+ghost use Rattle.std.specs.Prelude.{OnOk};
+ghost use Rattle.ucdfiles.specs.Faults.{over_long_line};
+ghost use Rattle.units.specs.Text.{longest_line};
+ghost use Rattle.ucdfiles.specs.Reading.{Reads, ReadsOn, TakesLine, IsLineRefusal, EndsFaultless, EndsFaulty, IsStep};
+ghost use Rattle.ucdfiles.specs.Reading.{IsRefusal, Refuses, IsOutcome};
 ghost use Rattle.ucdfiles.specs.declared.fault.Fault.{Fault as FaultKind};
 
 use crate::fault::TableFault;
@@ -20,11 +21,12 @@ pub trait LineTable {
 
     /// One more line, with its number, counted from 1; or the fault of it.
     fn add(&mut self, line: &[u8], number: u64) -> Result<(), TableFault>
-        ensures ok { OnOk result ((lines : List (List ℕ)) → stands self.old lines → (fault lines line.now ≡ None) × stands self.new (lines ++ line.now ∷ [])) }
-        ensures err { IfErr result (λ e. (lines : List (List ℕ)) → stands self.old lines → (e ≡ TableFault.Memory) ⊎ (option_map (λ f. fault_at f number) (fault lines line.now) ≡ Some e)) }
+        ensures ok { OnOk result (TakesLine (stands self.old) (stands self.new) fault line.now) }
+        ensures err { IfErr result (IsLineRefusal (stands self.old) fault number line.now) }
         ensures not_read { IfErr result (λ e. e ≢ TableFault.Read) };
 
-    ghost over_long: { (lines : List (List ℕ)) (line : List ℕ) → 65536 < length line → fault lines line ≡ Some over_long_line };
+    ghost over_long: { (lines : List (List ℕ)) (line : List ℕ) → longest_line < length line
+        → fault lines line ≡ Some over_long_line };
 }
 
 fn take_step<T: LineTable>(table: &mut T, step: Step<'_>) -> Result<(), TableFault>
@@ -40,8 +42,10 @@ fn take_step<T: LineTable>(table: &mut T, step: Step<'_>) -> Result<(), TableFau
 }
 
 fn feed<T: LineTable>(table: &mut T, cutter: &mut LineCut, piece: &[u8]) -> Result<(), TableFault>
-    ensures ok { OnOk result ((b : List ℕ) → Reads (T.stands table.old) T.fault cutter.old b → Reads (T.stands table.new) T.fault cutter.new (b ++ piece.now)) }
-    ensures err { IfErr result (λ e. (b : List ℕ) → Reads (T.stands table.old) T.fault cutter.old b → Refuses T.fault (b ++ piece.now) e) }
+    ensures ok { OnOk result (ReadsOn (T.stands table.old) (T.stands table.new) T.fault cutter.old cutter.new
+        piece.now) }
+    ensures err { IfErr result (λ e. (b : List ℕ) → Reads (T.stands table.old) T.fault cutter.old b
+        → Refuses T.fault (b ++ piece.now) e) }
     ensures not_read { IfErr result (λ e. e ≢ TableFault.Read) }
 {
     let mut at = 0;
@@ -55,8 +59,8 @@ fn feed<T: LineTable>(table: &mut T, cutter: &mut LineCut, piece: &[u8]) -> Resu
 
 // The line that the end of the bytes ends.
 fn end<T: LineTable>(table: &mut T, cutter: &LineCut) -> Result<(), TableFault>
-    ensures ok { OnOk result ((b : List ℕ) → Reads (T.stands table.old) T.fault cutter.now b → (first_fault T.fault [] (lines_of b) ≡ None) × T.stands table.new (lines_of b)) }
-    ensures err { IfErr result (λ e. (b : List ℕ) → Reads (T.stands table.old) T.fault cutter.now b → (e ≡ TableFault.Memory) ⊎ (first_fault T.fault [] (lines_of b) ≡ Some e)) }
+    ensures ok { OnOk result (EndsFaultless (T.stands table.old) (T.stands table.new) T.fault cutter.now) }
+    ensures err { IfErr result (EndsFaulty (T.stands table.old) T.fault cutter.now) }
     ensures not_read { IfErr result (λ e. e ≢ TableFault.Read) }
 {
     match cutter.finish() {
@@ -71,7 +75,8 @@ pub fn read_lines<T: LineTable, S: ByteSource>(
     source: &mut S,
 ) -> Result<(), TableFault>
     ensures read { (result ≡ Err TableFault.Read) ↔ (S.failures source.new ≡ 1) }
-    ensures outcome { T.stands table.old [] → (given : List ℕ) × S.gives source.old given source.new × IsOutcome (T.stands table.new) T.fault (S.ended source.new) given result }
+    ensures outcome { T.stands table.old [] → (given : List ℕ) × S.gives source.old given source.new
+        × IsOutcome (T.stands table.new) T.fault (S.ended source.new) given result }
 {
     let mut cutter = LineCut::new();
     let mut buf = [0; 4096];

@@ -1,9 +1,8 @@
 // Spans in order.
-ghost use Rattle.std.specs.Prelude.{◌≡◌, ◌<◌, ◌≤◌, ◌⊎◌, ◌≢◌, ℕ, length, Some, None, IfErr, OnOk};
+ghost use Rattle.std.specs.Prelude.{◌≡◌, ◌<◌, ◌≤◌, ◌≢◌, ℕ, length, None, IfErr, OnOk};
 ghost use Rattle.std.specs.List.{find, AllWithin};
-ghost use Rattle.std.specs.Option.{option_map};
 ghost use Rattle.ucdfiles.specs.Spans.{holds, IsRising, Adds, data_fault};
-ghost use Rattle.ucdfiles.specs.Faults.{fault_at};
+ghost use Rattle.ucdfiles.specs.Faults.{RefusesAt};
 
 use crate::fault::{Fault, TableFault, at};
 use crate::span::Span;
@@ -34,8 +33,9 @@ pub fn add_span<V: Copy>(
     requires rising { IsRising spans.old.items }
     requires span { span.first ≤ span.last }
     ensures rising { IsRising spans.new.items }
-    ensures ok { OnOk result (Adds spans.old.items span spans.new.items × (data_fault taken spans.old.items span ≡ None)) }
-    ensures err { IfErr result (λ e. (e ≡ TableFault.Memory) ⊎ (option_map (λ f. fault_at f line) (data_fault taken spans.old.items span) ≡ Some e)) }
+    ensures ok { OnOk result (Adds spans.old.items span spans.new.items
+        × (data_fault taken spans.old.items span ≡ None)) }
+    ensures err { IfErr result (RefusesAt line (data_fault taken spans.old.items span)) }
     ensures not_read { IfErr result (λ e. e ≢ TableFault.Read) }
 {
     if spans.len() >= MOST_DATA {

@@ -1,7 +1,6 @@
 // What the lines of a file have stated.
-ghost use Rattle.std.specs.Prelude.{◌≡◌, ◌≢◌, ◌⊎◌, List, [], ◌∷◌, ◌++◌, None, Some, OnOk, IfErr};
-ghost use Rattle.std.specs.Option.{option_map};
-ghost use Rattle.ucdfiles.specs.Faults.{fault_at};
+ghost use Rattle.std.specs.Prelude.{◌≡◌, ◌≢◌, [], ◌∷◌, ◌++◌, None, OnOk, IfErr};
+ghost use Rattle.ucdfiles.specs.Faults.{RefusesAt};
 ghost use Rattle.ucdfiles.specs.Spans.{default_fault};
 ghost use Rattle.ucdfiles.specs.Statements.{IsRisingLine, Becomes, stated_fault};
 
@@ -35,8 +34,9 @@ fn add_default<V: Copy>(
     span: Span<V>,
     line: u64,
 ) -> Result<(), TableFault>
-    ensures ok { OnOk result ((defaults.new.items ≡ defaults.old.items ++ span ∷ []) × (default_fault defaults.old.items ≡ None)) }
-    ensures err { IfErr result (λ e. (e ≡ TableFault.Memory) ⊎ (option_map (λ f. fault_at f line) (default_fault defaults.old.items) ≡ Some e)) }
+    ensures ok { OnOk result ((defaults.new.items ≡ defaults.old.items ++ span ∷ [])
+        × (default_fault defaults.old.items ≡ None)) }
+    ensures err { IfErr result (RefusesAt line (default_fault defaults.old.items)) }
     ensures not_read { IfErr result (λ e. e ≢ TableFault.Read) }
 {
     if defaults.len() >= MOST_DEFAULTS {
@@ -49,12 +49,12 @@ fn add_default<V: Copy>(
 }
 
 impl<V: Copy> Statements<V> {
-    ghost use Rattle.ucdfiles.specs.Statements.{Holds};
+    ghost use Rattle.ucdfiles.specs.Statements.{IsStatedBy};
     ghost use Rattle.ucdfiles.specs.Spans.{IsRising};
 
     /// No line yet.
     pub fn new(alloc: Global) -> Self
-        ensures { Holds result [] }
+        ensures { IsStatedBy result [] }
     {
         Statements {
             data: Vec::new(alloc),
@@ -71,7 +71,7 @@ impl<V: Copy> Statements<V> {
     ) -> Result<(), TableFault>
         requires { IsRisingLine line }
         ensures ok { OnOk result (Becomes taken self.old line self.new) }
-        ensures err { IfErr result (λ e. (e ≡ TableFault.Memory) ⊎ (option_map (λ f. fault_at f number) (stated_fault taken self.old line) ≡ Some e)) }
+        ensures err { IfErr result (RefusesAt number (stated_fault taken self.old line)) }
         ensures not_read { IfErr result (λ e. e ≢ TableFault.Read) }
     {
         match line {

@@ -1,7 +1,7 @@
 // The three tables together.
 ghost use Rattle.std.specs.Prelude.{◌≡◌, true, ℕ};
 ghost use Rattle.ucdfiles.specs.Spans.{holds};
-ghost use Rattle.ucdfiles.specs.Tables.{class_at, AreNeutral};
+ghost use Rattle.ucdfiles.specs.Tables.{class_by, AreNeutral};
 ghost use Rattle.units.specs.declared.class.Class.TheVariants.{ON};
 
 use crate::bracket_table::BracketTable;
@@ -34,7 +34,7 @@ impl Model for Tables {
 
 // Whether the span is one character, whose class is ON.
 fn is_neutral(classes: &ClassTable, span: &Span<Bracket>) -> bool
-    ensures { result ≡ true → (c : ℕ) → holds c span.now ≡ true → class_at classes.now c ≡ ON }
+    ensures { result ≡ true → (c : ℕ) → holds c span.now ≡ true → class_by classes.now c ≡ ON }
 {
     match char::from_u32(span.first) {
         Some(c) => span.first == span.last && matches!(classes.class(c), Class::ON),
@@ -55,7 +55,7 @@ fn are_neutral(classes: &ClassTable, brackets: &BracketTable) -> bool
 }
 
 impl Tables {
-    ghost use Rattle.ucdfiles.specs.Tables.{TablesOf, unit_at};
+    ghost use Rattle.ucdfiles.specs.Tables.{TablesOf, unit_by};
 
     /// These three tables.
     pub fn new(classes: ClassTable, brackets: BracketTable, mirrors: MirrorTable) -> Self
@@ -72,7 +72,7 @@ impl Tables {
 
     /// What the algorithm knows of a character: its class and its bracket.
     pub fn unit(&self, c: char) -> Unit
-        ensures { result ≡ unit_at self.now c }
+        ensures { result ≡ unit_by self.now c }
     {
         let class = self.classes.class(c);
         if self.brackets_are_neutral && !matches!(class, Class::ON) {

@@ -1,9 +1,10 @@
 // A value for each code point, found by two loads.
-ghost use Rattle.std.specs.Prelude.{◌≡◌, false, ◌<◌, ◌≤◌, ◌+◌, ◌*◌, ◌%◌, ℕ, length, true, IfOk, OnOk, slice_index_or, List, ◌++◌};
+ghost use Rattle.std.specs.Prelude.{◌≡◌, false, ◌<◌, ◌≤◌, ◌+◌, ◌*◌, ◌%◌, ℕ, length, true, IfOk, OnOk, slice_index_or};
+ghost use Rattle.std.specs.Prelude.{List, ◌++◌};
 ghost use Rattle.std.specs.List.{find};
 ghost use Rattle.std.specs.Option.{unwrap_or};
 ghost use Rattle.ucdfiles.specs.Spans.{holds, IsRising, value_in};
-ghost use Rattle.ucdfiles.specs.Stages.{value_over, value_over_all, stage_at, HasBlock};
+ghost use Rattle.ucdfiles.specs.Stages.{IsPainted, value_over, value_over_all, stage_at, HasBlock};
 
 use crate::span::Span;
 use crate::spans::{beginning_by, ending_from};
@@ -54,7 +55,7 @@ fn held_places<V>(span: &Span<V>, first: u32, len: usize) -> (usize, usize)
 fn paint<V: Copy>(block: &mut [V], first: u32, span: &Span<V>)
     requires { first + length block.old ≤ 0x110000 }
     ensures len { length block.new ≡ length block.old }
-    ensures values { (k : ℕ) (d : V) → k < length block.old → slice_index_or block.new k d ≡ value_over (first + k) span.now (slice_index_or block.old k d) }
+    ensures values { IsPainted first (λ c. value_over c span.now) block.old block.new }
 {
     let (from, to) = held_places(span, first, block.len());
     for k in from..to {
@@ -66,7 +67,7 @@ fn paint<V: Copy>(block: &mut [V], first: u32, span: &Span<V>)
 fn paint_all<V: Copy>(block: &mut [V], first: u32, spans: &[Span<V>])
     requires { first + length block.old ≤ 0x110000 }
     ensures len { length block.new ≡ length block.old }
-    ensures values { (k : ℕ) (d : V) → k < length block.old → slice_index_or block.new k d ≡ value_over_all (first + k) spans.now (slice_index_or block.old k d) }
+    ensures values { IsPainted first (λ c. value_over_all c spans.now) block.old block.new }
 {
     for span in spans {
         paint(block, first, span);
@@ -95,7 +96,8 @@ fn fill_block<V: Copy>(
     requires first { first + 128 ≤ 0x110000 }
     requires len { length block.old ≡ 128 }
     ensures len { length block.new ≡ 128 }
-    ensures values { (k : ℕ) (d : V) → k < 128 → slice_index_or block.new k d ≡ unwrap_or (value_in spans.now defaults.now (first + k)) none }
+    ensures values { (k : ℕ) (d : V) → k < 128
+        → slice_index_or block.new k d ≡ unwrap_or (value_in spans.now defaults.now (first + k)) none }
 {
     let everything = Span {
         first: 0,
@@ -139,7 +141,8 @@ impl<V: Copy + PartialEq> TwoStage<V> {
     ) -> Result<TwoStage<V>, AllocError>
         requires rising { IsRising spans.now }
         requires exact { (x y : V) → V.eq x y ≡ true → x ≡ y }
-        ensures { IfOk result (λ stages. (c : ℕ) (d : V) → c ≤ 0x10FFFF → stage_at stages c d ≡ unwrap_or (value_in spans.now defaults.now c) none) }
+        ensures { IfOk result (λ stages. (c : ℕ) (d : V) → c ≤ 0x10FFFF
+            → stage_at stages c d ≡ unwrap_or (value_in spans.now defaults.now c) none) }
     {
         let mut places = Vec::with_capacity(alloc, BLOCKS as usize)?;
         let mut values = Vec::new(alloc);

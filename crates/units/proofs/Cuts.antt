@@ -1,9 +1,8 @@
 -- What a search for a separator says of the pieces round it.
-use Rattle.std.proofs.Common.{◌≡◌, ℕ, suc, ◌+◌, ◌-◌, ◌<◌, ◌≤◌, ◌==◌, Bool, List, [], ◌∷◌, length, get_or, take, drop, refl, sym, ap, ◌∙◌, arith, None, Some, reverse}
-use Rattle.std.specs.List.{position_or_len, before_first, after_first, slice_split, take_while, prefix_len, suffix_len}
+use Rattle.std.proofs.Common.{◌≡◌, ℕ, suc, ◌+◌, ◌-◌, ◌<◌, ◌≤◌, ◌==◌, Bool, List, [], ◌∷◌, length, get_or, take, drop, refl, sym, ap, ◌∙◌, arith, None, Some}
+use Rattle.std.specs.List.{position_or_len, before_first, after_first, slice_split}
 use Rattle.std.proofs.lemmas.Bool.{false_from_ne_true}
 use Rattle.std.proofs.lemmas.List.{take_rest, take_all, get_or_default}
-use Rattle.std.proofs.lemmas.List.Folds.{length-prefix_len}
 use Rattle.std.proofs.lemmas.List.Sums.{position_or_len_is}
 use Rattle.std.proofs.lemmas.List.Splits.{slice_split_none, slice_split_first, length-slice_split}
 use Rattle.memchr.specs.Find.{IsFirstByte}
@@ -32,12 +31,6 @@ pub pieces-some : (p : ℕ → Bool) (xs : List ℕ) (k : ℕ) → IsFirstByte p
 pieces-some p xs k some =
     let lt : position_or_len p xs < length xs = omega (arith, position-some p xs k some, some.0.high) in
     rw (before_first-some p xs k some, after_first-some p xs k some) (slice_split_first p xs 0 lt)
-
-pub without_before : (p : ℕ → Bool) (xs : List ℕ) (n : ℕ) → n ≡ length (take_while p xs) → take (length xs - n) (drop n xs) ≡ drop (prefix_len p xs) xs
-without_before p xs n e = take_rest xs n ∙ ap (λ m. drop m xs) (e ∙ length-prefix_len p xs)
-
-pub without_behind : (p : ℕ → Bool) (xs : List ℕ) (n : ℕ) → n ≡ length (take_while p (reverse xs)) → take (length xs - n) xs ≡ take (length xs - suffix_len p xs) xs
-without_behind p xs n e = ap (λ m. take (length xs - m) xs) (e ∙ length-prefix_len p (reverse xs))
 
 length-each_trimmed : (xs : List (List ℕ)) → length (each_trimmed xs) ≡ length xs
 length-each_trimmed [] = refl

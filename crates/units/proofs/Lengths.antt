@@ -1,20 +1,20 @@
--- Each rule over a sequence gives as many classes as there were (W1 to I2).
-use Rattle.std.specs.Prelude.{Option, ℕ, zero, suc, Some, None, ◌+◌, ◌≡◌, List, [], ◌∷◌, length, fold, refl}
-use Rattle.std.proofs.Common.{◌∙◌, arith}
+-- Each rule over a sequence gives as many classes as there were (W1 to I2), and all of them a level or none for each
+-- unit.
+use Rattle.std.specs.Prelude.{Option, ℕ, Some, None, ◌≡◌, List, [], ◌∷◌, length, fold, refl}
+use Rattle.std.proofs.Common.{◌∙◌}
 use Rattle.std.proofs.lemmas.List.{length-map}
-use Rattle.units.specs.Positions.{positions_from, positions_of}
+use Rattle.units.specs.Positions.{positions_of}
 use Rattle.units.specs.Runs.{SequenceView, direction_of}
 use Rattle.units.specs.Weak.{at_each, by_w3, by_w6, after_w1, after_w2, after_w3, after_w4, after_w5, after_w6, after_w7, after_weak}
 use Rattle.units.specs.Brackets.{acting_brackets, bracket_pairs_of, closer_of, given_to, with_direction, after_pair, after_paired}
 use Rattle.units.specs.Implicit.{implicit_level}
 use Rattle.units.specs.Neutral.{after_neutral}
-use Rattle.units.specs.Layout.{units_at, after_brackets, after_rules, levels_of_sequence}
+use Rattle.units.specs.Classes.{classes_of}
+use Rattle.units.specs.Layout.{units_at, after_brackets, after_rules, levels_of_sequence, resolved_levels}
+use Rattle.units.specs.Limits.{LimitsOf}
 use Rattle.units.specs.declared.bracket.Unit.{Unit as BidiUnit}
 use Rattle.units.specs.declared.class.Class.{Class}
-
-length-positions_from : (start count : ℕ) → length (positions_from start count) ≡ count
-length-positions_from start zero = refl
-length-positions_from start (suc count) = omega (arith, length-positions_from (start + 1) count)
+use Rattle.units.proofs.Positions.{length-positions_from}
 
 pub length-at_each : (f : ℕ → Class) (cs : List Class) → length (at_each f cs) ≡ length cs
 length-at_each f cs = length-map (positions_of cs) f ∙ length-positions_from 0 (length cs)
@@ -74,3 +74,10 @@ length-levels_of_sequence room s us before =
     ∙ length-after_neutral (direction_of s.level) s.sos s.eos paired
     ∙ length-after_paired (direction_of s.level) s.sos before (closer_of (bracket_pairs_of room (acting_brackets (units_at us s.positions) weak))) weak
     ∙ length-after_weak s.sos before
+
+pub length-classes_of : (us : List BidiUnit) → length (classes_of us) ≡ length us
+length-classes_of us = length-map us (λ (u : BidiUnit). u.class)
+
+pub length-resolved_levels : (limits : LimitsOf) (us : List BidiUnit) (para_level : ℕ) → length (resolved_levels limits us para_level) ≡ length us
+unfolding resolved_levels
+length-resolved_levels limits us para_level = length-map (positions_of us) _ ∙ length-positions_from 0 (length us)

@@ -1,6 +1,7 @@
 pub mod CodePoints
 pub mod Cuts
 pub mod FirstItem
+pub mod HandingOut
 pub mod Lengths
 pub mod LineAppending
 pub mod LineReading
@@ -8,3 +9,4 @@ pub mod LineRunning
 pub mod LineStanding
 pub mod Numbers
 pub mod Ranges
+pub mod Positions

@@ -3,10 +3,8 @@ use Rattle.std.proofs.Common.{◌≡◌, ◌≢◌, ℕ, ◌<◌, ◌≤◌, ◌
 use Rattle.std.proofs.lemmas.Bool.{ne_eqb}
 use Rattle.std.proofs.lemmas.List.Elements.{All-head, All-tail, All-same, All-push}
 use Rattle.std.proofs.Math.Seq.{get_or-append_seam}
+use Rattle.units.specs.Text.{longest_line}
 use Rattle.units.specs.Lines.{HasNoFeed, ended, IsLine, CutsInto, IsTooLongAfter, cut_lines}
-use Rattle.units.specs.LineCutting.{Cutting, Holds, StandsFor}
-use Rattle.units.specs.declared.line_cut.Phase.{Phase}
-use Rattle.units.specs.declared.line_cut.Phase.TheVariants.{Within, Ended, Failed}
 use Rattle.std.specs.List.{onto_first}
 
 -- a line that a line feed ends
@@ -63,26 +61,5 @@ never_both bytes lines others rest over cut =
     let each : All IsLine (lines ++ first.0 ∷ first.1) = All-same IsLine (lines ++ first.0 ∷ first.1) (others ++ rest ∷ []) (sym there) (All-push IsLine others rest cut.each cut.partial) in
     let at : get_or (lines ++ first.0 ∷ first.1) (length lines) [] ≡ first.0 = get_or-append_seam lines first.0 first.1 [] in
     let inside : length lines < length (lines ++ first.0 ∷ first.1) = omega (arith, length-append lines (first.0 ∷ first.1)) in
-    let short : length (get_or (lines ++ first.0 ∷ first.1) (length lines) []) ≤ 65536 = (each (length lines) [] inside).short in
+    let short : length (get_or (lines ++ first.0 ∷ first.1) (length lines) []) ≤ longest_line = (each (length lines) [] inside).short in
     omega (arith, short, ap length at, first.3, over.above)
-
-over_more : (b xs : List ℕ) (lines : List (List ℕ)) → IsTooLongAfter b lines → IsTooLongAfter (b ++ xs) lines
-over_more b xs lines over = record {
-  long = over.long;
-  more = over.more ++ xs;
-  whole = ap (λ v. v ++ xs) over.whole ∙ append_assoc (flat_map ended lines ++ over.long) over.more xs;
-  each = over.each;
-  feeds = over.feeds;
-  above = over.above;
-}
-
--- a byte list that goes on to one with no over-long line has none
-before-at : (p : Phase) (done : ℕ) (held b xs : List ℕ) (own lines : List (List ℕ)) (rest : List ℕ) → Holds p done held b own → CutsInto (b ++ xs) lines rest
-    → (before : List (List ℕ)) × (partial : List ℕ) × CutsInto b before partial
-before-at Within done held b xs own lines rest h cut = (own, held, h.0)
-before-at Ended done held b xs own lines rest h cut = (own ++ held ∷ [], [], h.0)
-before-at Failed done held b xs own lines rest h cut = absurd (never_both (b ++ xs) own lines rest (over_more b xs own h.0) cut)
-
-pub cutting-before : (c : Cutting) (b xs : List ℕ) (lines : List (List ℕ)) (rest : List ℕ) → StandsFor c b → CutsInto (b ++ xs) lines rest
-    → (before : List (List ℕ)) × (partial : List ℕ) × CutsInto b before partial
-cutting-before c b xs lines rest s cut = before-at c.phase c.done c.held b xs s.lines lines rest s.holds cut

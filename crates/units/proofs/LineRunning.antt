@@ -4,10 +4,11 @@ use Rattle.std.proofs.lemmas.List.Elements.{All-head, All-tail, All-same, All-pu
 use Rattle.std.proofs.lemmas.List.{take_more, append-nil}
 use Rattle.std.proofs.lemmas.Bool.{cases_lt, cases_eq}
 use Rattle.std.proofs.Math.Seq.{get_or-append_seam}
+use Rattle.units.specs.Text.{longest_line}
 use Rattle.units.specs.Lines.{HasNoFeed, EndsByFeed, ended, IsLine, CutsInto, IsTooLongAfter, cut_lines}
 use Rattle.units.proofs.LineReading.{cut_lines-line, cut_lines-rest, cut_lines-long, cut_lines-ended}
 
-not_later : (ys os : List (List ℕ)) (first : List ℕ) (tail : List (List ℕ)) → All IsLine ys → ys ≡ os ++ first ∷ tail → 65536 < length first → ⊥
+not_later : (ys os : List (List ℕ)) (first : List ℕ) (tail : List (List ℕ)) → All IsLine ys → ys ≡ os ++ first ∷ tail → longest_line < length first → ⊥
 not_later ys os first tail each e long =
     let inside : length os < length ys = omega (arith, ap length e, length-append os (first ∷ tail)) in
     let at : get_or ys (length os) [] ≡ first = ap (λ (l : List (List ℕ)). get_or l (length os) []) e ∙ get_or-append_seam os first tail [] in
@@ -15,7 +16,7 @@ not_later ys os first tail each e long =
 
 -- lines up to the first that is over-long, of lists where short ones may stand behind it: the same lines
 same_before : (lines others : List (List ℕ)) (y : List ℕ) (ys : List (List ℕ)) (first : List ℕ) (tail : List (List ℕ))
-    → All IsLine lines → All IsLine ys → 65536 < length first → lines ++ y ∷ ys ≡ others ++ first ∷ tail → others ≡ lines
+    → All IsLine lines → All IsLine ys → longest_line < length first → lines ++ y ∷ ys ≡ others ++ first ∷ tail → others ≡ lines
 same_before [] [] y ys first tail each short long e = refl
 same_before [] (o ∷ os) y ys first tail each short long e = absurd (not_later ys os first tail short (cc) long)
 same_before (l ∷ ls) [] y ys first tail each short long e =

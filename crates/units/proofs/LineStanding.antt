@@ -5,8 +5,9 @@ use Rattle.std.proofs.lemmas.List.{length-take, get_or-take, take_more, take_all
 use Rattle.memchr.specs.Find.{IsFirstByte, is_byte}
 use Rattle.std.proofs.lemmas.List.Elements.{All-append, All-push, All-nil, All-from_get_or}
 use Rattle.std.proofs.lemmas.Grind.{flat_map-append}
+use Rattle.units.specs.Text.{longest_line}
 use Rattle.units.specs.Lines.{HasNoFeed, EndsAtFeed, ended, IsLine, CutsInto, IsTooLongAfter, saturated, ended_lines}
-use Rattle.units.specs.LineCutting.{Cutting, Holds, StandsFor, Reaches}
+use Rattle.units.specs.LineCutting.{Cutting, HoldsAfter, StandsFor, Reaches}
 use Rattle.units.specs.LineAnswers.{Answers}
 use Rattle.units.proofs.LineReading.{never_both}
 use Rattle.units.proofs.LineAppending.{ended_lines-free, ended_lines-line}
@@ -24,14 +25,6 @@ saturated-suc d n e = omega arith
 empty_line : IsLine []
 empty_line = record { feeds = All-nil (λ x. x ≢ 10); short = omega arith }
 
-cuts_more : (b : List ℕ) (lines : List (List ℕ)) (rest text : List ℕ) → HasNoFeed text → length rest + length text ≤ 65536
-    → CutsInto b lines rest → CutsInto (b ++ text) lines (rest ++ text)
-cuts_more b lines rest text free fits cut = record {
-  whole = ap (λ v. v ++ text) cut.whole ∙ append_assoc (flat_map ended lines) rest text;
-  each = cut.each;
-  partial = record { feeds = All-append (λ x. x ≢ 10) rest text cut.partial.feeds free; short = omega (arith, length-append rest text) };
-}
-
 cuts_line_whole : (b : List ℕ) (lines : List (List ℕ)) (rest : List ℕ) → b ≡ flat_map ended lines ++ rest
     → b ++ 10 ∷ [] ≡ flat_map ended (lines ++ rest ∷ []) ++ []
 cuts_line_whole b lines rest e = rw (e, flat_map-append) (simp (append_assoc, append-nil))
@@ -47,7 +40,7 @@ cuts_over_whole : (b : List ℕ) (lines : List (List ℕ)) (rest text : List ℕ
     → b ++ text ≡ (flat_map ended lines ++ (rest ++ text)) ++ []
 cuts_over_whole b lines rest text e = rw e (simp (append_assoc, append-nil))
 
-cuts_over : (b : List ℕ) (lines : List (List ℕ)) (rest text : List ℕ) → HasNoFeed text → 65536 < length rest + length text
+cuts_over : (b : List ℕ) (lines : List (List ℕ)) (rest text : List ℕ) → HasNoFeed text → longest_line < length rest + length text
     → CutsInto b lines rest → IsTooLongAfter (b ++ text) lines
 cuts_over b lines rest text free over cut = record {
   long = rest ++ text;
@@ -68,52 +61,36 @@ over_more b xs lines over = record {
   above = over.above;
 }
 
-pub starts : StandsFor (at Within 0 []) []
-starts = record { lines = []; holds = (record { whole = refl; each = All-nil IsLine; partial = empty_line }, omega arith) }
-
-pub begins : (c : Cutting) (b : List ℕ) → c.phase ≡ Ended → StandsFor c b → StandsFor (at Within c.done []) b
-begins c b e s =
-    let P : Phase → Type 0 = λ p. Holds p c.done c.held b s.lines in
-    let h = subst P e s.holds in
-    record { lines = s.lines ++ c.held ∷ []; holds = (h.0, h.1 ∙ ap saturated (sym (length-append s.lines (c.held ∷ [])))) }
-
-pub holds_more : (c : Cutting) (b text : List ℕ) → c.phase ≡ Within → HasNoFeed text → length c.held + length text ≤ 65536
-    → StandsFor c b → StandsFor (at Within c.done (c.held ++ text)) (b ++ text)
-holds_more c b text e free fits s =
-    let P : Phase → Type 0 = λ p. Holds p c.done c.held b s.lines in
-    let h = subst P e s.holds in
-    record { lines = s.lines; holds = (cuts_more b s.lines c.held text free fits h.0, h.1) }
-
-pub holds_over : (c : Cutting) (b text held : List ℕ) → c.phase ≡ Within → HasNoFeed text → 65536 < length c.held + length text
+pub holds_over : (c : Cutting) (b text held : List ℕ) → c.phase ≡ Within → HasNoFeed text → longest_line < length c.held + length text
     → StandsFor c b → StandsFor (at Failed c.done held) (b ++ text)
 holds_over c b text held e free over s =
-    let P : Phase → Type 0 = λ p. Holds p c.done c.held b s.lines in
+    let P : Phase → Type 0 = λ p. HoldsAfter p c.done c.held b s.lines in
     let h = subst P e s.holds in
     record { lines = s.lines; holds = (cuts_over b s.lines c.held text free over h.0, h.1) }
 
 pub ends : (c : Cutting) (b : List ℕ) → c.phase ≡ Within → StandsFor c b → StandsFor (at Ended (saturated (c.done + 1)) c.held) (b ++ 10 ∷ [])
 ends c b e s =
-    let P : Phase → Type 0 = λ p. Holds p c.done c.held b s.lines in
+    let P : Phase → Type 0 = λ p. HoldsAfter p c.done c.held b s.lines in
     let h = subst P e s.holds in
     record { lines = s.lines; holds = (cuts_line b s.lines c.held h.0, saturated-suc c.done (length s.lines) h.1) }
 
 pub fails_on : (c : Cutting) (b xs : List ℕ) → c.phase ≡ Failed → StandsFor c b → StandsFor c (b ++ xs)
 fails_on c b xs e s =
-    let P : Phase → Type 0 = λ p. Holds p c.done c.held b s.lines in
-    let Q : Phase → Type 0 = λ p. Holds p c.done c.held (b ++ xs) s.lines in
+    let P : Phase → Type 0 = λ p. HoldsAfter p c.done c.held b s.lines in
+    let Q : Phase → Type 0 = λ p. HoldsAfter p c.done c.held (b ++ xs) s.lines in
     let h = subst P e s.holds in
     record { lines = s.lines; holds = subst Q (sym e) (over_more b xs s.lines h.0, h.1) }
 
 pub never_failed : (c : Cutting) (b : List ℕ) (lines : List (List ℕ)) (rest : List ℕ) → c.phase ≡ Failed → StandsFor c b → CutsInto b lines rest → ⊥
 never_failed c b lines rest e s cut =
-    let P : Phase → Type 0 = λ p. Holds p c.done c.held b s.lines in
+    let P : Phase → Type 0 = λ p. HoldsAfter p c.done c.held b s.lines in
     let h = subst P e s.holds in
     never_both b s.lines lines rest h.0 cut
 
 -- a cutter that has not failed stands for no bytes with an over-long line
 pub never_long : (c : Cutting) (b : List ℕ) (lines : List (List ℕ)) → c.phase ≡ Within → StandsFor c b → IsTooLongAfter b lines → ⊥
 never_long c b lines e s over =
-    let P : Phase → Type 0 = λ p. Holds p c.done c.held b s.lines in
+    let P : Phase → Type 0 = λ p. HoldsAfter p c.done c.held b s.lines in
     let h = subst P e s.holds in
     never_both b lines s.lines c.held over h.0
 
@@ -151,15 +128,10 @@ reaches_feed Within used piece f e = absurd (f refl)
 reaches_feed Ended used piece f e = e
 reaches_feed Failed used piece f e = tt
 
-pub reaches_end : (p : Phase) (piece : List ℕ) → p ≢ Ended → HasNoFeed piece → Reaches p (length piece) piece
-reaches_end Within piece f free = (free, refl)
-reaches_end Ended piece f free = absurd (f refl)
-reaches_end Failed piece f free = tt
-
 module _ (v : Cutting) (b piece : List ℕ) (used : ℕ) (s : StandsFor v (b ++ take used piece)) (r : Reaches v.phase used piece) where
   pub answers_more : v.phase ≡ Within → Answers b piece used More
   answers_more e =
-      let P : Phase → Type 0 = λ p. Holds p v.done v.held (b ++ take used piece) s.lines in
+      let P : Phase → Type 0 = λ p. HoldsAfter p v.done v.held (b ++ take used piece) s.lines in
       let R : Phase → Type 0 = λ p. Reaches p used piece in
       let h = subst P e s.holds in
       let reached = subst R e r in
@@ -169,7 +141,7 @@ module _ (v : Cutting) (b piece : List ℕ) (used : ℕ) (s : StandsFor v (b ++ 
 
   pub answers_line : (number : ℕ) (text : Bor (List ℕ)) → v.phase ≡ Ended → number ≡ v.done → text.now ≡ v.held → Answers b piece used (Line number text)
   answers_line number text e n t =
-      let P : Phase → Type 0 = λ p. Holds p v.done v.held (b ++ take used piece) s.lines in
+      let P : Phase → Type 0 = λ p. HoldsAfter p v.done v.held (b ++ take used piece) s.lines in
       let R : Phase → Type 0 = λ p. Reaches p used piece in
       let h = subst P e s.holds in
       let C : List ℕ → Type 0 = λ xs. CutsInto (b ++ take used piece) (s.lines ++ xs ∷ []) [] in
@@ -178,6 +150,6 @@ module _ (v : Cutting) (b piece : List ℕ) (used : ℕ) (s : StandsFor v (b ++ 
 
   pub answers_long : (number : ℕ) → v.phase ≡ Failed → number ≡ saturated (v.done + 1) → Answers b piece used (TooLong number)
   answers_long number e n =
-      let P : Phase → Type 0 = λ p. Holds p v.done v.held (b ++ take used piece) s.lines in
+      let P : Phase → Type 0 = λ p. HoldsAfter p v.done v.held (b ++ take used piece) s.lines in
       let h = subst P e s.holds in
       (s.lines, h.0, n ∙ saturated-suc v.done (length s.lines) h.1)

@@ -2,9 +2,8 @@
 use Rattle.std.proofs.Common.{◌≡◌, ℕ, ◌+◌, ◌-◌, ◌*◌, ◌<◌, ◌≤◌, true, false, Bool, ◌&&◌, if◌then◌else◌, Some, None, List, [], ◌∷◌, length, get_or, take, drop, refl, sym, ap, ◌∙◌, arith}
 use Rattle.std.specs.List.{list_all, fold}
 use Rattle.std.specs.Prelude.{nat_le}
-use Rattle.std.proofs.lemmas.List.{take_all, take-append-drop}
+use Rattle.std.proofs.lemmas.List.{take-append-drop}
 use Rattle.std.proofs.lemmas.List.Sums.{fold_more, fold-append}
-use Rattle.std.proofs.lemmas.List.Folds.{list_all_more, list_all-append}
 use Rattle.std.proofs.lemmas.Bool.Decides.{nat_tests}
 use Rattle.units.specs.Text.{is_digit, decimal_value, begins_number, number_up_to}
 
@@ -14,24 +13,9 @@ pub record ReadsNumber (bytes : List ℕ) (greatest value : ℕ) : Type 0 where
   pub is : value ≡ decimal_value bytes
   pub small : value ≤ greatest
 
-pub ReadsNumber-none : (greatest : ℕ) → ReadsNumber [] greatest 0
-ReadsNumber-none greatest = record { digits = refl; is = refl; small = omega arith }
-
 value-more : (item : List ℕ) (i value digit : ℕ) → i < length item → value ≡ decimal_value (take i item) → digit ≡ get_or item i 0 - 48
     → value * 10 + digit ≡ decimal_value (take (i + 1) item)
 value-more item i value digit lt is d = sym (fold_more (λ n b. n * 10 + (b - 48)) 0 item i 0 lt ∙ rw (← is, ← d) refl)
-
-digits-more : (item : List ℕ) (i : ℕ) → i < length item → list_all is_digit (take i item) ≡ true → is_digit (get_or item i 0) ≡ true → list_all is_digit (take (i + 1) item) ≡ true
-digits-more item i lt digits one = list_all_more is_digit item i 0 lt ∙ rw (digits, one) refl
-
-pub ReadsNumber-more : (item : List ℕ) (greatest i value digit : ℕ) → i < length item → ReadsNumber (take i item) greatest value
-    → (is_digit (get_or item i 0) ≡ true) × (digit ≡ get_or item i 0 - 48) × (digit ≤ 9) → value * 10 + digit ≤ greatest
-    → ReadsNumber (take (i + 1) item) greatest (value * 10 + digit)
-ReadsNumber-more item greatest i value digit lt reads read small =
-    record { digits = digits-more item i lt reads.digits read.0; is = value-more item i value digit lt reads.is read.1; small = small }
-
-none_left : (item : List ℕ) (n : ℕ) → list_all is_digit (take n item) ≡ false → list_all is_digit item ≡ false
-none_left item n h = ap (λ t. list_all is_digit t) (sym (take-append-drop n item)) ∙ list_all-append is_digit (take n item) (drop n item) ∙ rw h refl
 
 -- more digits make no smaller number
 fold-grows : (n : ℕ) (xs : List ℕ) → n ≤ fold (λ m b. m * 10 + (b - 48)) n xs
@@ -44,22 +28,10 @@ value-grows item n =
     ap decimal_value (sym (take-append-drop n item)) ∙ fold-append (λ m b. m * 10 + (b - 48)) 0 (take n item) (drop n item) in
     omega (arith, e, fold-grows (decimal_value (take n item)) (drop n item))
 
-not_digits : (b small : Bool) (value : ℕ) → None ≡ (if (b && false) && small then Some value else None)
-not_digits true small value = refl
-not_digits false small value = refl
-
 not_small : (b digits : Bool) (value : ℕ) → None ≡ (if (b && digits) && false then Some value else None)
 not_small true true value = refl
 not_small true false value = refl
 not_small false digits value = refl
-
-pub number-begins : (item : List ℕ) (greatest : ℕ) → begins_number item ≡ false → None ≡ number_up_to greatest item
-number-begins item greatest e = rw e refl
-
-pub number-digit : (item : List ℕ) (greatest i value : ℕ) → i < length item → ReadsNumber (take i item) greatest value → is_digit (get_or item i 0) ≡ false → None ≡ number_up_to greatest item
-number-digit item greatest i value lt reads fails =
-    let e : list_all is_digit item ≡ false = none_left item (i + 1) (list_all_more is_digit item i 0 lt ∙ rw (reads.digits, fails) refl) in
-    rw e (not_digits (begins_number item) (nat_le (decimal_value item) greatest) (decimal_value item))
 
 pub number-large : (item : List ℕ) (greatest i value digit : ℕ) → i < length item → ReadsNumber (take i item) greatest value
     → (is_digit (get_or item i 0) ≡ true) × (digit ≡ get_or item i 0 - 48) × (digit ≤ 9) → greatest < value * 10 + digit → None ≡ number_up_to greatest item
@@ -68,12 +40,3 @@ number-large item greatest i value digit lt reads read large =
     let above : greatest < decimal_value item = omega (arith, v, value-grows item (i + 1)) in
     let e : nat_le (decimal_value item) greatest ≡ false = grind (arith, nat_tests) in
     rw e (not_small (begins_number item) (list_all is_digit item) (decimal_value item))
-
-pub number-read : (item : List ℕ) (greatest i value : ℕ) → begins_number item ≡ true → length item ≤ i → ReadsNumber (take i item) greatest value → Some value ≡ number_up_to greatest item
-number-read item greatest i value begins le reads =
-    let t : take i item ≡ item = take_all i item le in
-    let digits : list_all is_digit item ≡ true = ap (λ f. list_all is_digit f) (sym t) ∙ reads.digits in
-    let is : value ≡ decimal_value item = reads.is ∙ ap decimal_value t in
-    let small : value ≤ greatest = reads.small in
-    let e : nat_le value greatest ≡ true = grind (arith, nat_tests) in
-    rw (begins, digits, ← is, e) refl

@@ -59,7 +59,9 @@ long_name PDI = codes "Pop_Directional_Isolate"
 
 -- all values
 abbrev pub classes : List Class
-classes = L ∷ R ∷ AL ∷ EN ∷ ES ∷ ET ∷ AN ∷ CS ∷ NSM ∷ BN ∷ B ∷ S ∷ WS ∷ ON ∷ LRE ∷ LRO ∷ RLE ∷ RLO ∷ PDF ∷ LRI ∷ RLI ∷ FSI ∷ PDI ∷ []
+classes =
+    L ∷ R ∷ AL ∷ EN ∷ ES ∷ ET ∷ AN ∷ CS ∷ NSM ∷ BN ∷ B ∷ S ∷ WS ∷ ON ∷ LRE ∷ LRO ∷ RLE ∷ RLO ∷ PDF ∷ LRI ∷ RLI ∷ FSI
+    ∷ PDI ∷ []
 
 -- the class has this short name
 abbrev pub is_short_name : List ℕ → Class → Bool

@@ -6,7 +6,8 @@ use Rattle.units.specs.declared.reader_source.State.{State}
 use Rattle.units.specs.declared.reader_source.State.TheVariants.{Open, Ended, Failed}
 use Rattle.units.specs.Joined.{splits_joined}
 
--- a source over a reader: what the reader still gives, where it is known, how many bytes may still come, and where the source stands
+-- a source over a reader: what the reader still gives, where it is known, how many bytes may still come, and where the
+-- source stands
 pub record Reading : Type 0 where
   pub remaining : Option (List ℕ)
   pub left : ℕ
@@ -27,9 +28,10 @@ failures_of Failed = 1
 abbrev pub Begins : Option (List ℕ) → List ℕ → Type 0
 Begins known bytes = (rest : Option (List ℕ)) × Consumes known rest bytes
 
--- a source handed out these bytes, the first of what its reader gives, and took no others unless it has failed; once it has failed it
--- hands out nothing and asks its reader no more
-pub record HandsOut (before after : Option (List ℕ)) (left left' : ℕ) (state state' : State) (bytes : List ℕ) : Type 0 where
+-- a source handed out these bytes, the first of what its reader gives, and took no others unless it has failed; once it
+-- has failed it hands out nothing and asks its reader no more
+pub record HandsOut (before after : Option (List ℕ)) (left left' : ℕ) (state state' : State)
+    (bytes : List ℕ) : Type 0 where
   pub first : Begins before bytes
   pub consumed : failures_of state' ≡ 0 → Consumes before after bytes
   pub falls : left' + length bytes ≡ left
@@ -37,11 +39,12 @@ pub record HandsOut (before after : Option (List ℕ)) (left left' : ℕ) (state
   pub asks_no_more : failures_of state ≡ 1 → after ≡ before
   pub gives_no_more : failures_of state ≡ 1 → bytes ≡ []
 
-Consumes-nothing : (known : Option (List ℕ)) → Consumes known known []
+pub Consumes-nothing : (known : Option (List ℕ)) → Consumes known known []
 Consumes-nothing None = tt
 Consumes-nothing (Some xs) = refl
 
-Consumes-joined : (a b c : Option (List ℕ)) (xs ys : List ℕ) → Consumes a b xs → Consumes b c ys → Consumes a c (xs ++ ys)
+Consumes-joined : (a b c : Option (List ℕ)) (xs ys : List ℕ) → Consumes a b xs → Consumes b c ys
+    → Consumes a c (xs ++ ys)
 Consumes-joined None b c xs ys f g = tt
 Consumes-joined (Some s) None c xs ys f g = absurd f
 Consumes-joined (Some s) (Some t) None xs ys f g = absurd g
@@ -52,7 +55,8 @@ failures-cases Open t z f = refl
 failures-cases Ended t z f = refl
 failures-cases Failed t z f = absurd (let e : 1 ≡ 1 = refl in let k = f e in let bad : ⊥ = omega (arith, k, z) in bad)
 
-first-joined : (a b : Option (List ℕ)) (t : State) (xs ys : List ℕ) → Begins a xs → Begins b ys → (failures_of t ≡ 0 → Consumes a b xs) → (failures_of t ≡ 1 → ys ≡ [])
+first-joined : (a b : Option (List ℕ)) (t : State) (xs ys : List ℕ) → Begins a xs → Begins b ys
+    → (failures_of t ≡ 0 → Consumes a b xs) → (failures_of t ≡ 1 → ys ≡ [])
     → Begins a (xs ++ ys)
 first-joined a b Open xs ys f g c n = (g.0, Consumes-joined a b g.0 xs ys (c refl) g.1)
 first-joined a b Ended xs ys f g c n = (g.0, Consumes-joined a b g.0 xs ys (c refl) g.1)
@@ -63,7 +67,8 @@ first-joined a b Failed xs ys f g c n =
 joined-nothing : (xs ys : List ℕ) → xs ≡ [] → ys ≡ [] → xs ++ ys ≡ []
 joined-nothing xs ys e f = rw (e, f) refl
 
-pub HandsOut-nothing : (known : Option (List ℕ)) (left : ℕ) (state : State) → HandsOut known known left left state state []
+pub HandsOut-nothing : (known : Option (List ℕ)) (left : ℕ) (state : State)
+    → HandsOut known known left left state state []
 HandsOut-nothing known left state = record {
   first = (known, Consumes-nothing known);
   consumed = λ _. Consumes-nothing known;
@@ -82,30 +87,4 @@ HandsOut-joined a b c l m n s t u xs ys f g = record {
   keeps_failing = λ h. g.keeps_failing (f.keeps_failing h);
   asks_no_more = λ h. g.asks_no_more (f.keeps_failing h) ∙ f.asks_no_more h;
   gives_no_more = λ h. joined-nothing xs ys (f.gives_no_more h) (g.gives_no_more (f.keeps_failing h));
-}
-
-from-open : (state : State) → state ≡ Open → failures_of state ≡ 1 → ⊥
-from-open state is failed = let open' : failures_of state ≡ 0 = ap failures_of is in absurd (omega (arith, open', failed))
-
--- a source that had not failed took these bytes from its reader
-pub HandsOut-taken : (before after : Option (List ℕ)) (left left' : ℕ) (state state' : State) (bytes : List ℕ)
-    → state ≡ Open → Consumes before after bytes → left' + length bytes ≡ left → HandsOut before after left left' state state' bytes
-HandsOut-taken before after left left' state state' bytes is taken falls = record {
-  first = (after, taken);
-  consumed = λ _. taken;
-  falls = falls;
-  keeps_failing = λ h. absurd (from-open state is h);
-  asks_no_more = λ h. absurd (from-open state is h);
-  gives_no_more = λ h. absurd (from-open state is h);
-}
-
--- a source that had not failed fails
-pub HandsOut-failed : (before after : Option (List ℕ)) (left : ℕ) (state : State) → state ≡ Open → HandsOut before after left left state Failed []
-HandsOut-failed before after left state is = record {
-  first = (before, Consumes-nothing before);
-  consumed = λ z. absurd (omega (arith, z));
-  falls = omega arith;
-  keeps_failing = λ _. refl;
-  asks_no_more = λ h. absurd (from-open state is h);
-  gives_no_more = λ _. refl;
 }

@@ -15,6 +15,15 @@ pub mod Reordering
 pub mod Layout
 pub mod StandardLimits
 pub mod Rows
+pub mod ExplicitRows
+pub mod ParagraphRows
+pub mod SequenceRows
+pub mod WeakRows
+pub mod BracketRows
+pub mod NeutralRows
+pub mod LimitRows
+pub mod LineRows
+pub mod MirrorRows
 pub mod Text
 pub mod Cuts
 pub mod Lines

@@ -1,6 +1,7 @@
 -- What a cutter that stands for a byte list answers.
 use Rattle.std.specs.Prelude.{◌≡◌, ℕ, ◌+◌, ◌<◌, ◌≤◌, List, [], ◌∷◌, ◌++◌, length, take, Option, None, Some, ◌⊎◌}
 use Rattle.std.specs.Borrow.{Bor}
+use Rattle.units.specs.Text.{longest_line}
 use Rattle.units.specs.Lines.{HasNoFeed, EndsAtFeed, CutsInto, IsTooLongAfter, saturated, ended_lines}
 use Rattle.units.specs.declared.line_cut.Step.{Step}
 use Rattle.units.specs.declared.line_cut.Step.TheVariants.{More, Line, TooLong}
@@ -12,7 +13,8 @@ Answers bytes piece used More =
     × ((lines : List (List ℕ)) × (rest : List ℕ) × CutsInto (bytes ++ piece) lines rest)
 Answers bytes piece used (Line number text) =
     EndsAtFeed used piece × (ended_lines (bytes ++ take used piece) ≡ ended_lines bytes ++ text.now ∷ [])
-    × ((lines : List (List ℕ)) × CutsInto (bytes ++ take used piece) (lines ++ text.now ∷ []) [] × (number ≡ saturated (length lines + 1)))
+    × ((lines : List (List ℕ)) × CutsInto (bytes ++ take used piece) (lines ++ text.now ∷ []) []
+    × (number ≡ saturated (length lines + 1)))
 Answers bytes piece used (TooLong number) =
     (lines : List (List ℕ)) × IsTooLongAfter (bytes ++ take used piece) lines × (number ≡ saturated (length lines + 1))
 
@@ -27,5 +29,5 @@ Finishes bytes (Some last) =
 -- the line that a step ends is not over-long
 abbrev pub StepIsShort : Step → Type 0
 StepIsShort More = Unit {0}
-StepIsShort (Line number text) = length text.now ≤ 65536
+StepIsShort (Line number text) = length text.now ≤ longest_line
 StepIsShort (TooLong number) = Unit {0}

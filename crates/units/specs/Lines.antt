@@ -1,6 +1,6 @@
 -- The lines of a byte list: its cuttings at LF, as a relation, and as a function.
 use Rattle.std.specs.Prelude.{◌≡◌, ◌≢◌, ℕ, ◌-◌, ◌+◌, ◌^◌, ◌<◌, ◌≤◌, min, List, [], ◌∷◌, ◌++◌, length, take, flat_map, slice_index, All, ◌⊎◌}
-use Rattle.units.specs.Text.{cut_at}
+use Rattle.units.specs.Text.{longest_line, cut_at}
 
 -- no byte is a line feed
 abbrev pub HasNoFeed : List ℕ → Type 0
@@ -29,7 +29,7 @@ ended line = line ++ 10 ∷ []
 -- a line that is not over-long
 pub record IsLine (line : List ℕ) : Type 0 where
   pub feeds : HasNoFeed line
-  pub short : length line ≤ 65536
+  pub short : length line ≤ longest_line
 
 -- the bytes are these lines, each with its line feed, and then a line that has not ended; none is over-long
 pub record CutsInto (bytes : List ℕ) (lines : List (List ℕ)) (rest : List ℕ) : Type 0 where
@@ -44,11 +44,19 @@ pub record IsTooLongAfter (bytes : List ℕ) (lines : List (List ℕ)) : Type 0 
   pub whole : bytes ≡ (flat_map ended lines ++ long) ++ more
   pub each : All IsLine lines
   pub feeds : HasNoFeed long
-  pub above : 65536 < length long
+  pub above : longest_line < length long
 
--- a number that stays where it would pass 2^64 - 1
+-- the greatest number that is counted to
+abbrev pub most_counted : ℕ
+most_counted = 2 ^ 64 - 1
+
+-- a number that stays where it would pass that
 abbrev pub saturated : ℕ → ℕ
-saturated n = min n (2 ^ 64 - 1)
+saturated n = min n most_counted
+
+-- the number of the line before which k lines stand: lines are numbered from 1
+abbrev pub line_number : ℕ → ℕ
+line_number k = saturated (k + 1)
 
 -- the pieces between line feeds, the last of which has not ended and may be empty
 abbrev pub cut_lines : List ℕ → List (List ℕ)

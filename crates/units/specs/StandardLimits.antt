@@ -9,16 +9,17 @@ use Rattle.units.specs.Isolates.{partner_of, para_level_of}
 use Rattle.units.specs.Explicit.{State, chain, wanted_level, override_of}
 use Rattle.units.specs.Runs.{LeveledView, SequenceView, sequences_of, direction_of}
 use Rattle.units.specs.Weak.{after_weak}
-use Rattle.units.specs.Brackets.{acting_brackets, is_open, bracket_at, open_before, pairs_before, closer_of, after_paired}
+use Rattle.units.specs.Brackets.{is_open, bracket_at, open_before, pairs_before, closer_of, after_paired}
 use Rattle.units.specs.Neutral.{after_neutral}
 use Rattle.units.specs.Implicit.{implicit_level}
-use Rattle.units.specs.Layout.{TextLayout, units_at, current_of, level_found, para_levels_of, text_layout}
+use Rattle.units.specs.Layout.{TextLayout, brackets_of, current_of, level_found, para_levels_of, text_layout}
 use Rattle.units.specs.declared.class.Class.{Class}
 use Rattle.units.specs.declared.bracket.Bracket.{Bracket}
 use Rattle.units.specs.declared.bracket.Unit.{Unit as BidiUnit}
 use Rattle.units.specs.declared.level.Direction.{Direction}
 
--- X2 to X5c: the state inside the initiator at q, which is refused above level 125 and inside a refused one
+-- X2 to X5c: the state inside the initiator at q, which is refused (it overflows) above level 125 and inside a refused
+-- one
 unfoldable pub entered_to_125 : List Class → State → ℕ → State
 entered_to_125 cs s q =
     let wanted = wanted_level cs s.level q in
@@ -28,37 +29,38 @@ entered_to_125 cs s q =
 
 -- X1: the state inside these initiators, the outermost first
 abbrev pub state_to_125 : List Class → ℕ → List ℕ → State
-state_to_125 cs para qs = fold (entered_to_125 cs) (record { level = para; override = None; sound = true }) qs
+state_to_125 cs para_level qs =
+    fold (entered_to_125 cs) (record { level = para_level; override = None; sound = true }) qs
 
--- X1 to X9: the level and the current class of p, or none where p is removed
+-- X1 to X9: the level and the current class of p, as in Explicit
 unfoldable pub explicit_at_to_125 : List Class → ℕ → ℕ → Option (ℕ × Class)
-explicit_at_to_125 cs para p =
+explicit_at_to_125 cs para_level p =
     let own = class_at cs p in
-    let s = state_to_125 cs para (chain cs p) in
+    let s = state_to_125 cs para_level (chain cs p) in
     if is_removed own then None
-    else if is_separator own then Some (para, own)
+    else if is_separator own then Some (para_level, own)
     else Some (s.level, unwrap_or s.override own)
 
 -- X1 to X9: the same of all positions
 abbrev pub explicit_to_125 : List Class → ℕ → List (Option (ℕ × Class))
-explicit_to_125 cs para = map (explicit_at_to_125 cs para) (positions_of cs)
+explicit_to_125 cs para_level = map (explicit_at_to_125 cs para_level) (positions_of cs)
 
 -- a paragraph with the levels of X1 to X9 and the partners of BD9
 abbrev pub leveled_to_125 : List Class → ℕ → LeveledView
-leveled_to_125 cs para = record {
+leveled_to_125 cs para_level = record {
   classes = cs;
-  levels = map (option_map (λ place. place.0)) (explicit_to_125 cs para);
+  levels = map (option_map (λ place. place.0)) (explicit_to_125 cs para_level);
   partners = map (partner_of cs) (positions_of cs);
-  base = para;
+  base = para_level;
 }
 
 -- BD16: p is an opening bracket at which 63 are open
-abbrev pub is_stop_at_63 : List Bracket → ℕ → Bool
-is_stop_at_63 bs p = is_open (bracket_at bs p) && (length (open_before bs p) == 63)
+abbrev pub has_63_open : List Bracket → ℕ → Bool
+has_63_open bs p = is_open (bracket_at bs p) && (length (open_before bs p) == 63)
 
 -- the first opening bracket at which 63 are open
 unfoldable pub stop_at_63 : List Bracket → Option ℕ
-stop_at_63 bs = first_from (is_stop_at_63 bs) 0 (length bs)
+stop_at_63 bs = first_from (has_63_open bs) 0 (length bs)
 
 -- BD16: the pairs that count: those that end before the stop
 unfoldable pub pairs_of_63 : List Bracket → List (ℕ × ℕ)
@@ -67,7 +69,7 @@ pairs_of_63 bs = filter (λ pair. is_before pair.1 (stop_at_63 bs)) (pairs_befor
 -- BD14 to N0: the classes of a sequence after N0, by those before W1 and those after W7
 abbrev pub after_brackets_of_63 : SequenceView → List BidiUnit → List Class → List Class → List Class
 after_brackets_of_63 s us before weak =
-    let pairs = pairs_of_63 (acting_brackets (units_at us s.positions) weak) in
+    let pairs = pairs_of_63 (brackets_of s us weak) in
     after_paired (direction_of s.level) s.sos before (closer_of pairs) weak
 
 -- W1 to I2: the resolved levels of a sequence, by the classes before W1
@@ -82,10 +84,10 @@ standard_levels_in us current s = zip s.positions (standard_levels_of_sequence s
 
 -- X1 to I2: the resolved levels of a paragraph, none where a position is removed
 unfoldable pub standard_resolved_levels : List BidiUnit → ℕ → List (Option ℕ)
-standard_resolved_levels us para =
+standard_resolved_levels us para_level =
     let cs = classes_of us in
-    let current = current_of (explicit_to_125 cs para) in
-    let sequences = sequences_of (leveled_to_125 cs para) in
+    let current = current_of (explicit_to_125 cs para_level) in
+    let sequences = sequences_of (leveled_to_125 cs para_level) in
     map (level_found (flat_map (standard_levels_in us current) sequences)) (positions_of us)
 
 -- P1 to I2: the resolved levels of a text

@@ -13,6 +13,4 @@ pub mod reader_source;
 pub mod slice_source;
 pub mod source;
 pub mod steps;
-#[cfg(test)]
-mod tests;
 pub mod text;

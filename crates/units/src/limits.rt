@@ -91,7 +91,9 @@ impl Limits {
 /// layouts are those of the rules in which the numbers 125 and 63 stand.
 pub fn standard_limits_are_the_standard()
     ensures states { (cs : List Class) (s : State) (q : ℕ) → entered standard.depth cs s q ≡ entered_to_125 cs s q }
-    ensures levels { (cs : List Class) (para : ℕ) → explicit_of standard.depth cs para ≡ explicit_to_125 cs para }
+    ensures levels { (cs : List Class) (para_level : ℕ)
+        → explicit_of standard.depth cs para_level ≡ explicit_to_125 cs para_level }
     ensures pairs { (bs : List Bracket) → bracket_pairs_of standard.brackets bs ≡ pairs_of_63 bs }
-    ensures layouts { (text : List BidiUnit) (direction : Direction) (breaks : List ℕ) → layout_of standard text direction breaks ≡ standard_layout text direction breaks }
+    ensures layouts { (text : List BidiUnit) (direction : Direction) (breaks : List ℕ)
+        → layout_of standard text direction breaks ≡ standard_layout text direction breaks }
 {}

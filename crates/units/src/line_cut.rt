@@ -1,6 +1,7 @@
 // Cuts pieces of a stream into lines, in a buffer of its own.
 ghost use Rattle.std.specs.Prelude.{◌≡◌, ◌≢◌, ℕ, ◌+◌, ◌<◌, ◌≤◌, List, [], ◌∷◌, ◌++◌, length, take, drop, IfSome};
 ghost use Rattle.units.specs.Lines.{HasNoFeed, EndsByFeed, UsesOneLine, CutsInto, IsTooLongAfter, cut_lines};
+ghost use Rattle.units.specs.Text.{longest_line};
 
 use memchr::memchr;
 use std::marker::Model;
@@ -35,7 +36,7 @@ pub enum Step<'c> {
 /// over, joined.
 #[derive(Drop)]
 pub struct LineCut {
-    buffer: [u8; 65536],
+    buffer: [u8; ROOM],
     len: usize,
     done: u64,
     phase: Phase,
@@ -44,12 +45,13 @@ pub struct LineCut {
 impl Model for LineCut {
     ghost use Rattle.std.specs.Prelude.{◌≤◌, take};
     ghost use Rattle.units.specs.LineCutting.{Cutting};
+    ghost use Rattle.units.specs.Text.{longest_line};
 
     ghost Value = { Cutting };
 
     ghost view = { λ s. record { phase = s.phase; done = s.done; held = take s.len s.buffer } };
 
-    ghost invariant = { λ s. s.len ≤ 65536 };
+    ghost invariant = { λ s. s.len ≤ longest_line };
 }
 
 // Writes the bytes from a place on.
@@ -61,7 +63,7 @@ fn put(buffer: &mut [u8], at: usize, bytes: &[u8])
 }
 
 impl LineCut {
-    ghost use Rattle.units.specs.LineCutting.{Cutting, StandsFor, Reaches};
+    ghost use Rattle.units.specs.LineCutting.{Cutting, StandsFor, GoesOn, IfCut, IfTooLong, Reaches};
     ghost use Rattle.units.specs.LineAnswers.{Answers, Finishes, StepIsShort};
     ghost use Rattle.units.specs.Lines.{saturated};
     ghost use Rattle.units.specs.contracts.line_cut.LineCut.{the_row};
@@ -73,7 +75,7 @@ impl LineCut {
         ensures { StandsFor result [] }
     {
         LineCut {
-            buffer: [0; 65536],
+            buffer: [0; ROOM],
             len: 0,
             done: 0,
             phase: Phase::Within,
@@ -95,7 +97,7 @@ impl LineCut {
     fn hold(&mut self, text: &[u8])
         requires within { self.old.phase ≡ Phase.Within }
         requires feeds { HasNoFeed text.now }
-        ensures stands { (b : List ℕ) → StandsFor self.old b → StandsFor self.new (b ++ text.now) }
+        ensures stands { GoesOn self.old text.now self.new }
         ensures open { self.new.phase ≢ Phase.Ended }
     {
         if text.len() > ROOM - self.len {
@@ -109,7 +111,7 @@ impl LineCut {
     // The line feed of a line.
     fn end(&mut self)
         requires { self.old.phase ≢ Phase.Ended }
-        ensures stands { (b : List ℕ) → StandsFor self.old b → StandsFor self.new (b ++ 10 ∷ []) }
+        ensures stands { GoesOn self.old (10 ∷ []) self.new }
         ensures ended { self.new.phase ≢ Phase.Within }
     {
         if let Phase::Within = self.phase {
@@ -121,12 +123,12 @@ impl LineCut {
     // Takes the piece through its first LF, or whole, and answers how many bytes were used.
     fn advance(&mut self, piece: &[u8]) -> usize
         ensures used { result ≤ length piece.now }
-        ensures stands { (b : List ℕ) → StandsFor self.old b → StandsFor self.new (b ++ take result piece.now) }
+        ensures stands { GoesOn self.old (take result piece.now) self.new }
         ensures some { 0 < length piece.now → 0 < result }
         ensures reaches { Reaches self.new.phase result piece.now }
-        ensures through { (b : List ℕ) (lines : List (List ℕ)) (rest : List ℕ) → StandsFor self.old b → CutsInto b lines rest → EndsByFeed result piece.now }
-        ensures line { (b : List ℕ) (lines : List (List ℕ)) (rest : List ℕ) → StandsFor self.old b → CutsInto b lines rest → UsesOneLine result piece.now }
-        ensures whole { (b : List ℕ) (lines : List (List ℕ)) → StandsFor self.old b → IsTooLongAfter b lines → result ≡ length piece.now }
+        ensures through { IfCut self.old (EndsByFeed result piece.now) }
+        ensures line { IfCut self.old (UsesOneLine result piece.now) }
+        ensures whole { IfTooLong self.old (result ≡ length piece.now) }
     {
         self.begin();
         if let Phase::Failed = self.phase {
@@ -147,7 +149,7 @@ impl LineCut {
 
     fn text(&self) -> &[u8]
         ensures held { result.now ≡ self.now.held }
-        ensures short { length result.now ≤ 65536 }
+        ensures short { length result.now ≤ longest_line }
     {
         &self.buffer[..self.len]
     }
@@ -158,12 +160,12 @@ impl LineCut {
     pub fn take(&mut self, piece: &[u8]) -> (usize, Step<'_>)
         ensures used { result.0 ≤ length piece.now }
         ensures some { 0 < length piece.now → 0 < result.0 }
-        ensures through { (b : List ℕ) (lines : List (List ℕ)) (rest : List ℕ) → StandsFor self.old b → CutsInto b lines rest → EndsByFeed result.0 piece.now }
-        ensures line { (b : List ℕ) (lines : List (List ℕ)) (rest : List ℕ) → StandsFor self.old b → CutsInto b lines rest → UsesOneLine result.0 piece.now }
-        ensures whole { (b : List ℕ) (lines : List (List ℕ)) → StandsFor self.old b → IsTooLongAfter b lines → result.0 ≡ length piece.now }
+        ensures through { IfCut self.old (EndsByFeed result.0 piece.now) }
+        ensures line { IfCut self.old (UsesOneLine result.0 piece.now) }
+        ensures whole { IfTooLong self.old (result.0 ≡ length piece.now) }
         ensures short { StepIsShort result.1 }
         ensures answer { (b : List ℕ) → StandsFor self.old b → Answers b piece.now result.0 result.1 }
-        ensures* after { sem 𝓛 (Rests the_row self.entry (λ new. (b : List ℕ) → StandsFor self.old b → StandsFor new (b ++ take result.0 piece.now))) }
+        ensures* after { sem 𝓛 (Rests the_row self.entry (GoesOn self.old (take result.0 piece.now))) }
     {
         let used = self.advance(piece);
         let done = self.done;
@@ -184,7 +186,7 @@ impl LineCut {
     /// line.
     pub fn finish(&self) -> Option<(u64, &[u8])>
         ensures last { (b : List ℕ) → StandsFor self.now b → Finishes b result }
-        ensures short { IfSome result (λ last. length last.1.now ≤ 65536) }
+        ensures short { IfSome result (λ last. length last.1.now ≤ longest_line) }
     {
         match self.phase {
             Phase::Within => {
@@ -202,10 +204,12 @@ impl LineCut {
 
 /// A cutting into lines is the one that the bytes have, whatever the pieces were.
 pub fn reads_as_its_lines()
-    ensures { (bytes : List ℕ) (lines : List (List ℕ)) (rest : List ℕ) → CutsInto bytes lines rest → cut_lines bytes ≡ lines ++ rest ∷ [] }
+    ensures { (bytes : List ℕ) (lines : List (List ℕ)) (rest : List ℕ)
+        → CutsInto bytes lines rest → cut_lines bytes ≡ lines ++ rest ∷ [] }
 {}
 
 /// A byte list with an over-long line has no cutting into lines.
 pub fn reads_one_way()
-    ensures { (bytes : List ℕ) (lines others : List (List ℕ)) (rest : List ℕ) → IsTooLongAfter bytes lines → ¬ CutsInto bytes others rest }
+    ensures { (bytes : List ℕ) (lines others : List (List ℕ)) (rest : List ℕ)
+        → IsTooLongAfter bytes lines → ¬ CutsInto bytes others rest }
 {}

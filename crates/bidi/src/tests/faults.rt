@@ -1,11 +1,8 @@
-use crate::fault::PrintFault;
 use crate::run::run;
 use crate::tests::memory::{
     FailingFiles, FixedWriter, MemoryFile, MemoryFiles, NoMemory, ShortWriter, cut, outcome_of,
     outcome_over, tables_and, whole,
 };
-use crate::verdict_line::print_verdict;
-use bidtests::verdict::Verdict;
 
 const WRONG_UNDER_RTL: &[u8] = b"@Levels: 0\n@Reorder: 0\nL; 7\n";
 
@@ -248,13 +245,6 @@ fn says_the_first_table_that_is_not_read(rt: HostRuntime) {
 #[test]
 fn says_that_a_write_failed(rt: HostRuntime) {
     let alloc = rt.alloc();
-    let verdict = Verdict::Yes { rows: 0, cases: 0 };
-    let mut short = ShortWriter {
-        left: 5,
-        flushes: true,
-    };
-    assert_eq!(rt; print_verdict(&mut short, &verdict), Err(PrintFault::Write));
-
     let help: [&str; 2] = ["bidi", "--help"];
     let rows: [(&[&str], usize, bool); 9] = [
         (&CLASSES_FILE, 5, true),

@@ -1,7 +1,4 @@
 use crate::tests::memory::{FixedWriter, outcome_of, tables_and, whole};
-use crate::verdict_line::print_verdict;
-use bidtests::verdict::{Cause, Place, Verdict};
-use units::level::Direction;
 
 const CLASSES_FILE: [&str; 5] = ["bidi", "judge", "--kind", "classes", "FILE"];
 
@@ -157,45 +154,4 @@ fn reads_no_tables_for_classes(rt: HostRuntime) {
     let outcome = outcome_of(rt.alloc(), &words, &[whole("FILE", b"")]);
     assert_eq!(rt; outcome.status, 0);
     assert_eq!(rt; outcome.out.written(), b"yes: 0 rows, 0 cases\n".as_slice());
-}
-
-#[test]
-fn prints_each_form_of_verdict(rt: HostRuntime) {
-    let rows: [(Verdict, &[u8]); 4] = [
-        (
-            Verdict::Yes {
-                rows: 1,
-                cases: 18_446_744_073_709_551_615,
-            },
-            b"yes: 1 rows, 18446744073709551615 cases\n",
-        ),
-        (
-            Verdict::Malformed {
-                line: 1,
-                cause: Cause::LineTooLong,
-            },
-            b"no: line 1: malformed: LineTooLong\n",
-        ),
-        (
-            Verdict::Wrong {
-                line: 20,
-                direction: Direction::Auto,
-                place: Place::ParaLevel,
-            },
-            b"no: line 20: auto: paragraph level\n",
-        ),
-        (
-            Verdict::Wrong {
-                line: 3,
-                direction: Direction::Ltr,
-                place: Place::Order(32_768),
-            },
-            b"no: line 3: ltr: order at 32768\n",
-        ),
-    ];
-    for (verdict, line) in rows {
-        let mut out = FixedWriter::new();
-        assert_eq!(rt; print_verdict(&mut out, &verdict), Ok(()));
-        assert_eq!(rt; out.written(), line);
-    }
 }

@@ -2,8 +2,8 @@
 ghost use Rattle.std.specs.Prelude.{◌≡◌, ◌++◌, codes, true};
 ghost use Rattle.bidi.specs.KnownRuns.{alef_line};
 
-use crate::command_line::{FileKind, Request};
 use crate::performing::perform;
+use crate::request::{FileKind, Request};
 use crate::tests::memory::{MemoryFiles, whole};
 use std::alloc::Global;
 use units::level::Direction;
@@ -49,15 +49,41 @@ fn print_lines_of_alef(alloc: Global, tables: &str, file: &str, out: &mut Vec<u8
     perform(alloc, request, &MemoryFiles::new(&files), out).is_ok()
 }
 
-/// Judges a file of one row, which is right, and answers whether that was done.
+/// Judges a standard input of one row, which is right, and answers whether that was done.
 fn judge_a_right_row(alloc: Global, file: &str, out: &mut Vec<u8>) -> bool
-    requires { file.now ≡ codes "FILE" }
+    requires { file.now ≡ codes "-" }
     ensures { result ≡ true → out.new.items ≡ out.old.items ++ codes "yes: 1 rows, 1 cases\n" }
 {
-    let files = [whole("FILE", b"@Levels: 1 1 0\n@Reorder: 1 0 2\nR B L; 1\n")];
+    let input = whole("", b"@Levels: 1 1 0\n@Reorder: 1 0 2\nR B L; 1\n");
+    let files = MemoryFiles::new(&[]).with_input(input);
     let request = Request::Judge {
         kind: FileKind::Classes,
         tables: None,
+        file,
+    };
+    perform(alloc, request, &files, out).is_ok()
+}
+
+/// Judges a file of one row of characters, which is right, and answers whether that was done.
+fn judge_a_right_row_of_characters(
+    alloc: Global,
+    tables: &str,
+    file: &str,
+    out: &mut Vec<u8>,
+) -> bool
+    requires tables { tables.now ≡ codes "t" }
+    requires file { file.now ≡ codes "FILE" }
+    ensures { result ≡ true → out.new.items ≡ out.old.items ++ codes "yes: 1 rows, 1 cases\n" }
+{
+    let files = [
+        whole("t/DerivedBidiClass.txt", b"05D0 ; R\n"),
+        whole("t/BidiBrackets.txt", b""),
+        whole("t/BidiMirroring.txt", b""),
+        whole("FILE", b"05D0;2;1;1;0\n"),
+    ];
+    let request = Request::Judge {
+        kind: FileKind::Characters,
+        tables: Some(tables),
         file,
     };
     perform(alloc, request, &MemoryFiles::new(&files), out).is_ok()
@@ -69,9 +95,10 @@ fn prints_what_the_contracts_say(rt: HostRuntime) {
     let mut out = Vec::new(alloc);
     assert!(rt; print_levels_of_alef(alloc, "t", "FILE", &mut out));
     assert!(rt; print_lines_of_alef(alloc, "t", "FILE", &mut out));
-    assert!(rt; judge_a_right_row(alloc, "FILE", &mut out));
+    assert!(rt; judge_a_right_row(alloc, "-", &mut out));
+    assert!(rt; judge_a_right_row_of_characters(alloc, "t", "FILE", &mut out));
     assert_eq!(rt;
         out.as_slice(),
-        b"paragraph 0 level 1\n0 05D0 R 1\n\xd7\x90\nyes: 1 rows, 1 cases\n".as_slice()
+        b"paragraph 0 level 1\n0 05D0 R 1\n\xd7\x90\nyes: 1 rows, 1 cases\nyes: 1 rows, 1 cases\n".as_slice()
     );
 }

@@ -1,7 +1,7 @@
-// Files and writers in memory.
+// Files, standard input and writers in memory.
 ghost use Rattle.std.specs.Prelude.{◌≡◌, ℕ, List};
 ghost use Rattle.bidi.specs.FailingFiles.{begins-given, failing_facts};
-ghost use Rattle.bidi.specs.MemoryFiles.{StandsOver, begins-gave, file_of, memory_facts, stops-gave, whole-gave};
+ghost use Rattle.bidi.specs.MemoryFiles.{StandsOver, begins-gave, memory_facts, stops-gave, stored_at, whole-gave};
 ghost use Rattle.bidi.specs.ReadFiles.{no_facts};
 
 use crate::files::{Files, OpenFault};
@@ -9,6 +9,7 @@ use crate::run::run;
 use std::alloc::Global;
 use std::io::{self, Write};
 use std::marker::Model;
+use ucdfiles::small::{BRACKETS, CLASSES, MIRRORS};
 use units::cut_source::CutSource;
 use units::reader_source::ReaderSource;
 
@@ -40,56 +41,82 @@ pub fn cut<'a>(name: &'a str, bytes: &'a [u8], readable: u64) -> MemoryFile<'a> 
     }
 }
 
-/// Files in memory. Contracts see them by their names, their bytes, and how many of those can be read.
+/// Files in memory, and standard input. Contracts see them by their names, their bytes, and how many of those can be
+/// read.
 #[derive(Drop)]
 pub struct MemoryFiles<'a> {
     files: &'a [MemoryFile<'a>],
+    input: Option<MemoryFile<'a>>,
 }
 
 impl<'a> Model for MemoryFiles<'a> {
-    ghost use Rattle.std.specs.Prelude.{List, map};
-    ghost use Rattle.bidi.specs.MemoryFiles.{StoredFile, stored_file};
+    ghost use Rattle.std.specs.Prelude.{map, option_map};
+    ghost use Rattle.bidi.specs.MemoryFiles.{Stored, stored_file};
 
-    ghost Value = { List StoredFile };
+    ghost Value = { Stored };
 
-    ghost view = { λ t. map (λ file. stored_file file.name file.bytes file.readable) t.files.now };
+    ghost view = { λ t. record {
+      files = map (λ file. stored_file file.name file.bytes file.readable) t.files.now;
+      input = option_map (λ file. stored_file file.name file.bytes file.readable) t.input;
+    } };
 }
 
 impl<'a> MemoryFiles<'a> {
-    ghost use Rattle.std.specs.Prelude.{◌≡◌, map};
+    ghost use Rattle.std.specs.Prelude.{◌≡◌, None, Some, map};
     ghost use Rattle.bidi.specs.MemoryFiles.{stored_file};
 
-    /// These files, of which the first of a name is the one that has it.
+    /// These files, of which the first of a name is the one that has it, and no standard input.
     pub fn new(files: &'a [MemoryFile<'a>]) -> Self
-        ensures { result ≡ map (λ file. stored_file file.name file.bytes file.readable) files.now }
+        ensures { result ≡ record {
+          files = map (λ file. stored_file file.name file.bytes file.readable) files.now;
+          input = None;
+        } }
     {
-        MemoryFiles { files }
+        MemoryFiles { files, input: None }
+    }
+
+    /// The same files, and a standard input that holds what this one holds.
+    pub fn with_input(self, input: MemoryFile<'a>) -> Self
+        ensures { result ≡ record self.entry { input = Some (stored_file input.entry.name input.entry.bytes input.entry.readable) } }
+    {
+        MemoryFiles {
+            files: self.files,
+            input: Some(input),
+        }
     }
 }
 
 impl<'a> Files for MemoryFiles<'a> {
     type Source = ReaderSource<&'a [u8]>;
 
-    ghost opens = { λ files name most source. StandsOver (file_of files name) most source };
+    ghost opens = { λ files origin most source. StandsOver (stored_at files origin) most source };
 
     ghost facts = { memory_facts };
 
-    ghost gave = { λ files name most opened now bytes. begins-gave (file_of files name) most opened now bytes };
+    ghost gave = { λ files origin most opened now bytes. begins-gave (stored_at files origin) most opened now bytes };
 
-    ghost gave_all = { λ files name most opened now bytes. whole-gave (file_of files name) most opened now bytes };
+    ghost gave_all = { λ files origin most opened now bytes. whole-gave (stored_at files origin) most opened now bytes };
 
-    ghost gave_up = { λ files name most opened now bytes stands given _.
-        stops-gave (file_of files name) most opened now bytes stands given };
+    ghost gave_up = { λ files origin most opened now bytes stands given _.
+        stops-gave (stored_at files origin) most opened now bytes stands given };
 
-    fn source(&self, _alloc: Global, name: &str, most: u64) -> Result<Self::Source, OpenFault> {
+    fn file(&self, _alloc: Global, name: &str, most: u64) -> Result<Self::Source, OpenFault> {
         match self.files.iter().find(|file| file.name == name) {
+            Some(file) => Ok(ReaderSource::new(file.bytes, most.min(file.readable))),
+            None => Err(OpenFault::Cannot),
+        }
+    }
+
+    fn input(&self, _alloc: Global, most: u64) -> Result<Self::Source, OpenFault> {
+        match self.input {
             Some(file) => Ok(ReaderSource::new(file.bytes, most.min(file.readable))),
             None => Err(OpenFault::Cannot),
         }
     }
 }
 
-/// Files of which each has the same bytes, and fails behind the first of them. Contracts see the bytes before that.
+/// Files of which each has the same bytes, and fails behind the first of them; standard input is one more. Contracts
+/// see the bytes before that.
 #[derive(Drop)]
 pub struct FailingFiles<'a> {
     bytes: &'a [u8],
@@ -125,7 +152,11 @@ impl<'a> Files for FailingFiles<'a> {
     ghost gave_up = { λ files _ _ opened now bytes stands given _.
         begins-given files opened.left now.left bytes stands given };
 
-    fn source(&self, _alloc: Global, _name: &str, most: u64) -> Result<Self::Source, OpenFault> {
+    fn file(&self, alloc: Global, _name: &str, most: u64) -> Result<Self::Source, OpenFault> {
+        self.input(alloc, most)
+    }
+
+    fn input(&self, _alloc: Global, most: u64) -> Result<Self::Source, OpenFault> {
         let bytes = self.bytes;
         if bytes.len() as u64 > most {
             return Err(OpenFault::Cannot);
@@ -134,7 +165,7 @@ impl<'a> Files for FailingFiles<'a> {
     }
 }
 
-/// Files of which none finds memory to be opened.
+/// Files and a standard input of which none finds memory to be opened.
 #[derive(Drop)]
 pub struct NoMemory;
 
@@ -151,7 +182,11 @@ impl Files for NoMemory {
 
     ghost gave_up = { λ _ _ _ _ _ _ opened _ _. absurd opened };
 
-    fn source(&self, _alloc: Global, _name: &str, _most: u64) -> Result<Self::Source, OpenFault> {
+    fn file(&self, _alloc: Global, _name: &str, _most: u64) -> Result<Self::Source, OpenFault> {
+        Err(OpenFault::Memory)
+    }
+
+    fn input(&self, _alloc: Global, _most: u64) -> Result<Self::Source, OpenFault> {
         Err(OpenFault::Memory)
     }
 }
@@ -240,47 +275,12 @@ pub fn outcome_of(alloc: Global, words: &[&str], files: &[MemoryFile<'_>]) -> Ou
     outcome_over(alloc, words, MemoryFiles::new(files))
 }
 
-pub const CLASS_FILE: &[u8] = b"# @missing: 0000..10FFFF; Left_To_Right
-000A ; B
-000D ; B
-0020 ; WS
-0028..0029 ; ON
-002C ; CS
-0031..0032 ; EN
-003C ; ON
-003E ; ON
-005B ; ON
-005D ; ON
-05D0..05D1 ; R
-0627 ; AL
-2329..232A ; ON
-3008..3009 ; ON
-";
-
-pub const BRACKET_FILE: &[u8] = b"0028; 0029; o
-0029; 0028; c
-005B; 005D; o
-005D; 005B; c
-2329; 232A; o
-232A; 2329; c
-3008; 3009; o
-3009; 3008; c
-";
-
-pub const MIRROR_FILE: &[u8] = b"0028; 0029
-0029; 0028
-003C; 003E
-003E; 003C
-005B; 005D
-005D; 005B
-";
-
 /// The tables of the folder `t`, and a file `FILE`.
 pub fn tables_and<'a>(bytes: &'a [u8]) -> [MemoryFile<'a>; 4] {
     [
-        whole("t/DerivedBidiClass.txt", CLASS_FILE),
-        whole("t/BidiBrackets.txt", BRACKET_FILE),
-        whole("t/BidiMirroring.txt", MIRROR_FILE),
+        whole("t/DerivedBidiClass.txt", CLASSES),
+        whole("t/BidiBrackets.txt", BRACKETS),
+        whole("t/BidiMirroring.txt", MIRRORS),
         whole("FILE", bytes),
     ]
 }

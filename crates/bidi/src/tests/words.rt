@@ -92,3 +92,16 @@ fn prints_help(rt: HostRuntime) {
         assert!(rt; outcome.err.written().is_empty(), "{words:?}");
     }
 }
+
+#[test]
+fn prints_the_version(rt: HostRuntime) {
+    for word in ["--version", "-V"] {
+        let outcome = outcome_of(rt.alloc(), &["bidi", word], &[]);
+        assert_eq!(rt; outcome.status, 0, "{word}");
+        assert_eq!(rt;
+            outcome.out.written(),
+            b"bidi (rules P1 to L4 of UAX #9, Unicode 15.0)\nproved with rattle-kit-13b logic dac8208d650f15bf\n".as_slice()
+        );
+        assert!(rt; outcome.err.written().is_empty(), "{word}");
+    }
+}

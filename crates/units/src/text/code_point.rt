@@ -5,7 +5,8 @@ ghost use Rattle.units.specs.Text.{is_hex_digit, hex_digit_value, code_point_of,
 use crate::text::cut::cut;
 
 fn hex_digit(byte: u8) -> Option<u32>
-    ensures { MatchOption result (is_hex_digit byte ≡ false) (λ digit. (is_hex_digit byte ≡ true) × (digit ≡ hex_digit_value byte) × (digit < 16)) }
+    ensures { MatchOption result (is_hex_digit byte ≡ false)
+        (λ digit. (is_hex_digit byte ≡ true) × (digit ≡ hex_digit_value byte) × (digit < 16)) }
 {
     match byte {
         b'0'..=b'9' => Some(u32::from(byte - b'0')),

@@ -11,7 +11,9 @@ use memchr::memchr;
 pub fn cut(bytes: &[u8], separator: u8) -> (&[u8], Option<&[u8]>)
     ensures pieces { cut_at separator bytes.now ≡ result.0.now ∷ pieces_behind separator result.1 }
     ensures before { result.0.now ≡ before_first (λ b. b == separator) bytes.now }
-    ensures behind { MatchOption result.1 (before_first (λ b. b == separator) bytes.now ≡ bytes.now) (λ rest. rest.now ≡ after_first (λ b. b == separator) bytes.now) }
+    ensures behind { MatchOption result.1
+        (before_first (λ b. b == separator) bytes.now ≡ bytes.now)
+        (λ rest. rest.now ≡ after_first (λ b. b == separator) bytes.now) }
     ensures short { length result.0.now ≤ length bytes.now }
     ensures less { IfSome result.1 (λ rest. length rest.now ≤ length bytes.now) }
 {
@@ -33,7 +35,8 @@ pub fn cut_field(content: &[u8]) -> (&[u8], Option<&[u8]>)
 
 /// The fields of a content that has two.
 pub fn two_fields(content: &[u8]) -> Option<(&[u8], &[u8])>
-    ensures fields { MatchOption result (length (fields_of content.now) ≢ 2) (λ f. fields_of content.now ≡ f.0.now ∷ f.1.now ∷ []) }
+    ensures fields { MatchOption result (length (fields_of content.now) ≢ 2)
+        (λ f. fields_of content.now ≡ f.0.now ∷ f.1.now ∷ []) }
     ensures short { IfSome result (λ f. length f.0.now ≤ length content.now) }
 {
     let (first, rest) = cut_field(content);
@@ -46,7 +49,8 @@ pub fn two_fields(content: &[u8]) -> Option<(&[u8], &[u8])>
 
 /// The fields of a content that has three.
 pub fn three_fields(content: &[u8]) -> Option<(&[u8], &[u8], &[u8])>
-    ensures { MatchOption result (length (fields_of content.now) ≢ 3) (λ f. fields_of content.now ≡ f.0.now ∷ f.1.now ∷ f.2.now ∷ []) }
+    ensures { MatchOption result (length (fields_of content.now) ≢ 3)
+        (λ f. fields_of content.now ≡ f.0.now ∷ f.1.now ∷ f.2.now ∷ []) }
 {
     let (first, rest) = cut_field(content);
     let (second, rest) = cut_field(rest?);

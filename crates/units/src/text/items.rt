@@ -14,7 +14,8 @@ fn first_blank(bytes: &[u8]) -> Option<usize>
 
 /// The first item, and what stands behind it and the blank that ends it.
 pub fn next_item(field: &[u8]) -> Option<(&[u8], &[u8])>
-    ensures items { MatchOption result (items_of field.now ≡ []) (λ cut. items_of field.now ≡ cut.0.now ∷ items_of cut.1.now) }
+    ensures items { MatchOption result (items_of field.now ≡ [])
+        (λ cut. items_of field.now ≡ cut.0.now ∷ items_of cut.1.now) }
     ensures falls { IfSome result (λ cut. length cut.1.now < length field.now) }
     ensures two { IfSome result (λ cut. 0 < length cut.1.now → length cut.1.now + 2 ≤ length field.now) }
 {

@@ -3,7 +3,8 @@ ghost use Rattle.std.specs.Prelude.{◌≡◌, ◌-◌, ◌≤◌, true, false, 
 ghost use Rattle.units.specs.Text.{is_digit, number_up_to, begins_number as begins};
 
 fn digit(byte: u8) -> Option<u32>
-    ensures { MatchOption result (is_digit byte ≡ false) (λ digit. (is_digit byte ≡ true) × (digit ≡ byte - 48) × (digit ≤ 9)) }
+    ensures { MatchOption result (is_digit byte ≡ false)
+        (λ digit. (is_digit byte ≡ true) × (digit ≡ byte - 48) × (digit ≤ 9)) }
 {
     match byte {
         b'0'..=b'9' => Some(u32::from(byte - b'0')),

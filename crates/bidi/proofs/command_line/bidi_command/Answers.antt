@@ -8,8 +8,10 @@ pub returns-clause-app : goal.returns-clause-app
 returns-clause-app c =
     let named : app_of c.after_help.result ≡ new_app (codes "bidi") =
     ap app_of_fields c.after_help.ensures ∙ ap app_of_fields c.long_about.ensures ∙ ap app_of_fields c.about.ensures ∙ c.new.ensures.app in
-    let plain : app_of c.subcommand_required.result ≡ on_top (λ s. record s { subcommand_required = true }) (new_app (codes "bidi")) =
-    ap app_of_fields c.subcommand_required.ensures ∙ ap (on_top (λ s. record s { subcommand_required = true })) named in
+    let versioned : app_of c.version.result ≡ on_top (λ s. record s { has_version = true }) (new_app (codes "bidi")) =
+    ap app_of_fields c.version.ensures ∙ ap (on_top (λ s. record s { has_version = true })) named in
+    let plain : app_of c.subcommand_required.result ≡ on_top (λ s. record s { has_version = true; subcommand_required = true }) (new_app (codes "bidi")) =
+    ap app_of_fields c.subcommand_required.ensures ∙ ap (on_top (λ s. record s { subcommand_required = true })) versioned in
     let levels = c.in_ok-levels_command.ensures.app in
     let with_levels = c.in_ok-subcommand.ensures.shape c.in_ok-levels_command.ensures.local ∙ ap₂ with_subcommand plain (ap (λ (a : App). a.top) levels.2) in
     let reorder = c.in_ok-reorder_command.ensures.app in
@@ -29,7 +31,8 @@ returns-clause-app c =
 pub returns-clause-local : goal.returns-clause-local
 returns-clause-local c =
     let plain : (fields_of c.subcommand_required.result).has_globals ≡ false =
-    ap (λ f. f.has_globals) c.subcommand_required.ensures ∙ ap (λ f. f.has_globals) c.after_help.ensures
+    ap (λ f. f.has_globals) c.subcommand_required.ensures ∙ ap (λ f. f.has_globals) c.version.ensures
+    ∙ ap (λ f. f.has_globals) c.after_help.ensures
     ∙ ap (λ f. f.has_globals) c.long_about.ensures ∙ ap (λ f. f.has_globals) c.about.ensures ∙ c.new.ensures.local in
     let with_levels = c.in_ok-subcommand.ensures.globals ∙ ap₂ ◌||◌ plain c.in_ok-levels_command.ensures.local in
     let with_reorder = c.in_ok-subcommand-2.ensures.globals ∙ ap₂ ◌||◌ with_levels c.in_ok-reorder_command.ensures.local in

@@ -4,8 +4,8 @@ use Rattle.units.specs.Limits.{standard}
 use Rattle.bidtests.specs.declared.verdict.Verdict.{Verdict}
 use Rattle.bidtests.specs.declared.kind.Kind.{Kind}
 use Rattle.bidtests.specs.Standing.{Judges}
-use Rattle.bidi.specs.Judged.{SaysVerdict}
-use Rattle.bidi.specs.VerdictText.{verdict_text, verdict_status}
+use Rattle.bidtests.specs.VerdictText.{verdict_text}
+use Rattle.bidi.specs.Judged.{SaysVerdict, verdict_status}
 use Rattle.bidi.proofs.judging.judge_source.Goals as goal
 
 says : (before after : Option (List ℕ)) (v w : Verdict) (status : ℕ) → v ≡ w → status ≡ verdict_status v
@@ -21,5 +21,5 @@ returns-clause-verdict g c =
       judged.0,
       judged.1,
       λ (kind : Kind) (stands : Judges standard kind c.args.judge []).
-          says _ _ c.in-Ok.verdict _ _ (judged.2 standard kind [] stands) c.status_of.ensures.status c.in_ok-print_verdict.ensures.text,
+          says _ _ c.in-Ok.verdict _ _ (judged.2 standard kind [] stands) c.status_of.ensures.status c.in_ok-print_verdict.ensures,
     )

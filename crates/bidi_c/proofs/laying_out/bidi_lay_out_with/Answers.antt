@@ -1,4 +1,4 @@
-use Rattle.bidi_c.specs.RefusedCalls.{RefusesLayoutWith}
+use Rattle.bidi_held.specs.RefusedCalls.{RefusesLayoutWith}
 use Rattle.bidi_c.proofs.Answered.{refused_as}
 use Rattle.bidi_c.proofs.laying_out.bidi_lay_out_with.Goals as goal
 

@@ -3,7 +3,7 @@ use Rattle.std.proofs.lemmas.List.{length-map}
 use Rattle.units.specs.Isolates.{level_of_para}
 use Rattle.units.specs.Layout.{TextLayout, layout_of, para_levels_of}
 use Rattle.units.specs.Paragraphs.{paragraphs_of}
-use Rattle.bidtests.specs.Comparisons.{IsRight}
+use Rattle.bidtests.specs.Comparisons.{HasNoWrongPlace}
 use Rattle.bidtests.specs.Readings.{claim_of}
 use Rattle.bidtests.proofs.SameLayout.{also-right}
 use Rattle.bidtests.proofs.compare.compare_with.Goals as goal
@@ -12,7 +12,7 @@ pub returns-in-None : goal.returns-in-None
 unfolding layout_of
 returns-in-None c =
     λ limits direction laid.
-    let right : IsRight limits (claim_of c.args.claim) direction = search rules in
+    let right : HasNoWrongPlace limits (claim_of c.args.claim) direction = search rules in
     let paras : map level_of_para c.para_levels-in-None.result.now ≡ para_levels_of c.args.claim.text.now direction =
     c.para_levels-in-None.ensures ∙ ap (λ (v : TextLayout). v.paras) laid in (
       right,

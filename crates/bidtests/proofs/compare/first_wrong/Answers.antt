@@ -4,7 +4,7 @@ use Rattle.std.specs.Option.{option_eq}
 use Rattle.units.specs.declared.level.Direction.{Direction}
 use Rattle.units.specs.declared.level.Direction.TheVariants.{Auto}
 use Rattle.bidtests.specs.Readings.{claim_of}
-use Rattle.bidtests.specs.Comparisons.{IsRight}
+use Rattle.bidtests.specs.Comparisons.{HasNoWrongPlace}
 use Rattle.bidtests.proofs.SameLayout.{passed-over}
 use Rattle.bidtests.proofs.compare.first_wrong.Goals as goal
 
@@ -17,8 +17,8 @@ at-equal eq (Some e) d P same is holds = rw (← same e d is) holds
 pub loop-direction-preserved-then-eq : goal.loop-direction-preserved-then-eq
 loop-direction-preserved-then-eq c =
     let d = get_or c.args.claim.directions.now c.loop-direction.direction-index Auto in
-    let right : IsRight c.args.limits (claim_of c.args.claim) d =
-    at-equal _ c.loop-direction.right d (IsRight c.args.limits (claim_of c.args.claim)) (λ a b h. search rules) (sym c.eq.ensures ∙ c.if-eq.true) c.loop-direction.invariant.right in
+    let right : HasNoWrongPlace c.args.limits (claim_of c.args.claim) d =
+    at-equal _ c.loop-direction.right d (HasNoWrongPlace c.args.limits (claim_of c.args.claim)) (λ a b h. search rules) (sym c.eq.ensures ∙ c.if-eq.true) c.loop-direction.invariant.right in
     record {
       rest = c.loop-direction.invariant.rest ∙ passed-over c.args.limits (claim_of c.args.claim) c.args.claim.directions.now c.loop-direction.direction-index Auto c.loop-direction-test.true right;
       right = c.loop-direction.invariant.right;

@@ -3,10 +3,10 @@ use Rattle.std.proofs.lemmas.List.{length-map}
 use Rattle.units.specs.Classes.{classes_of, is_isolate_initiator}
 use Rattle.units.specs.Layout.{no_unit}
 use Rattle.units.specs.declared.class.Class.{Class}
-use Rattle.explicit.specs.StatusStacks.{Represents, is_ordinary, placed, state_within}
+use Rattle.explicit.specs.StatusStacks.{Represents, is_ordinary, place_in, state_within}
 use Rattle.explicit.proofs.Open.{holders}
 use Rattle.explicit.proofs.Roles.{class_read}
-use Rattle.explicit.proofs.Places.{open_before, left-is, open_before-next, explicit-placed, kept-at, places-more, ordinary_is, ordinary_left, ordinary_opened}
+use Rattle.explicit.proofs.Places.{open_before, left-is, open_before-next, explicit-place_in, kept-at, places-more, ordinary_is, ordinary_left, ordinary_opened}
 use Rattle.explicit.proofs.levels.find_places.Goals as goal
 use Rattle.explicit.proofs.levels.find_places.Goals.{then-is_ordinary, else-is_ordinary}
 
@@ -49,7 +49,7 @@ loop-p-preserved g c =
           let P : List ℕ → Type 0 = λ qs. Represents c.args.depth cs c.args.base qs c.loop-p.stack in
           let r = left-is c.args.depth cs c.args.base p _ c.loop-p.stack l e (subst P (sym (ordinary_left cs _ (open_before cs p) ordinary)) c.loop-p.invariant.keeps) in
           let over = ordinary_is _ ordinary in
-          let found = w.place_inside.ensures c.args.depth cs c.args.base (holders cs p) over.removed_is over.separator_is r ∙ ap (λ x. placed (state_within c.args.depth cs c.args.base (holders cs p)) c.args.base x) e ∙ explicit-placed c.args.depth cs c.args.base p in
+          let found = w.place_inside.ensures c.args.depth cs c.args.base (holders cs p) over.removed_is over.separator_is r ∙ ap (λ x. place_in (state_within c.args.depth cs c.args.base (holders cs p)) c.args.base x) e ∙ explicit-place_in c.args.depth cs c.args.base p in
           rw (w.stack-is, w.places-is, w.steps-is) (record {
             keeps = subst P (sym (ordinary_opened cs p (holders cs p) (ap is_ordinary (sym e) ∙ ordinary)) ∙ open_before-next cs p) r;
             filled = places-more c.args.depth cs c.args.base p c.loop-p.places _ short found c.loop-p.invariant.filled;
@@ -61,7 +61,7 @@ loop-p-preserved g c =
           let o = w.asks_odd-odd.ensures cs p e (λ f. w.is_right_to_left.ensures cs c.requires.filled l (ap is_isolate_initiator (sym e ∙ f))) in
           let k = w.open.ensures.opened cs c.args.base (holders cs p) p e o r in
           let P : List ℕ → Type 0 = λ qs. Represents c.args.depth cs c.args.base qs w.open.new.self in
-          let found = w.place.ensures c.args.depth cs (holders cs p) r ∙ ap (λ x. placed (state_within c.args.depth cs c.args.base (holders cs p)) c.args.base x) e ∙ explicit-placed c.args.depth cs c.args.base p in
+          let found = w.place.ensures c.args.depth cs (holders cs p) r ∙ ap (λ x. place_in (state_within c.args.depth cs c.args.base (holders cs p)) c.args.base x) e ∙ explicit-place_in c.args.depth cs c.args.base p in
           rw (w.stack-is, w.places-is, w.steps-is) (record {
             keeps = subst P (open_before-next cs p) k;
             filled = places-more c.args.depth cs c.args.base p c.loop-p.places w.place.result short found c.loop-p.invariant.filled;

@@ -2,7 +2,7 @@ use Rattle.std.proofs.Common.{◌≡◌, ℕ, ◌+◌, ◌*◌, ◌<◌, ◌≤�
 use Rattle.std.specs.Prelude.{None}
 use Rattle.units.specs.Classes.{classes_of}
 use Rattle.units.specs.Explicit.{explicit_at}
-use Rattle.explicit.specs.StatusStacks.{Represents, size_of}
+use Rattle.explicit.specs.StatusStacks.{Represents, entry_count}
 use Rattle.explicit.proofs.Places.{open_before}
 use Rattle.explicit.proofs.levels.find_places.Given as goal
 
@@ -11,5 +11,5 @@ invariant-loop-p g l = record {
   keeps : Represents l.depth (classes_of l.para) l.base (open_before (classes_of l.para) l.p) l.stack;
   filled : (k : ℕ) → k < l.p → get_or l.places k None ≡ explicit_at l.depth (classes_of l.para) l.base k;
   least : l.fn.steps + l.p ≤ l.steps;
-  most : l.steps + size_of l.stack ≤ l.fn.steps + (2 * l.p + 1);
+  most : l.steps + entry_count l.stack ≤ l.fn.steps + (2 * l.p + 1);
 }

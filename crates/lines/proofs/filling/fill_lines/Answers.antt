@@ -7,7 +7,7 @@ use Rattle.units.specs.Classes.{classes_of, is_separator}
 use Rattle.units.specs.Isolates.{level_of_para}
 use Rattle.units.specs.declared.level.ParaLevel.{ParaLevel}
 use Rattle.units.specs.declared.level.ParaLevel.TheVariants.{Zero}
-use Rattle.units.specs.Reordering.{begins_line, para_at}
+use Rattle.units.specs.Reordering.{begins_line, para_level_at}
 use Rattle.lines.specs.Bounds.{first_bound}
 use Rattle.lines.specs.declared.bounds.Bound.{Bound}
 use Rattle.lines.specs.LineBreaks.{AreBreaks}
@@ -17,7 +17,8 @@ use Rattle.lines.proofs.NextLine.{IsLimit, ends_line, limit_within, passing_none
 use Rattle.lines.proofs.LineEnd.{class_read}
 use Rattle.lines.proofs.LinesWritten.{filling_start, filling_more}
 use Rattle.lines.proofs.ParagraphLines.{counted_on, line_uniform, para_read}
-use Rattle.lines.proofs.Separators.{paragraph_at, paragraphs-few}
+use Rattle.explicit.proofs.OneCutting.{no_more_paragraphs}
+use Rattle.lines.proofs.Separators.{paragraph_at}
 use Rattle.lines.proofs.filling.fill_lines.Goals as goal
 
 byte_is : (b : Bool) → bool_byte b ≡ cond b 1 0
@@ -55,7 +56,7 @@ pub overflow_add-paragraph : goal.overflow_add-paragraph
 overflow_add-paragraph g c =
     let l = c.loop-start in
     let bound = paragraph_at c.args.own.now (length c.args.paras.now) l.start c.requires.paras (omega arith) in
-    omega (arith, l.invariant.counted, bound, c.requires.paras, paragraphs-few c.args.own.now, c.from-paragraph.ensures, byte_small c.is_separator.result)
+    omega (arith, l.invariant.counted, bound, c.requires.paras, no_more_paragraphs c.args.own.now, c.from-paragraph.ensures, byte_small c.is_separator.result)
 
 pub write_line-filled-requires-clause-uniform : goal.write_line-filled-requires-clause-uniform
 write_line-filled-requires-clause-uniform g c =
@@ -77,7 +78,7 @@ write_line-filled-requires-clause-uniform g c =
     let bound = paragraph_at c.args.own.now (length paras) l.start c.requires.paras (omega arith) in
     let para = para_read own paras l.start l.paragraph l.invariant.counted (omega (arith, bound, l.invariant.counted)) in
     subst (λ o. IfSome o (λ p. IsUniform levels l.start end (level_of_para p))) (sym c.then_some-level.ensures)
-    (known_level c.args.uniform levels l.start end (para_at own (map level_of_para paras) l.start) (slice_index_or paras l.paragraph Zero) para
+    (known_level c.args.uniform levels l.start end (para_level_at own (map level_of_para paras) l.start) (slice_index_or paras l.paragraph Zero) para
     (λ known. line_uniform own (map level_of_para paras) levels l.start limit end (c.requires.uniform known) e within))
 
 pub loop-start-init : goal.loop-start-init

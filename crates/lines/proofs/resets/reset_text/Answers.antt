@@ -8,7 +8,7 @@ use Rattle.lines.specs.LineBreaks.{AreBreaks}
 use Rattle.units.specs.Classes.{classes_of}
 use Rattle.units.specs.Isolates.{level_of_para}
 use Rattle.lines.specs.Spaces.{resets_before}
-use Rattle.units.specs.Reordering.{para_at, reset_to, after_resets}
+use Rattle.units.specs.Reordering.{para_level_at, reset_to, after_resets}
 use Rattle.lines.proofs.Separators.{paragraph_at}
 use Rattle.lines.proofs.LineEnd.{class_read, may_reset}
 use Rattle.lines.proofs.TextEnd.{Comes, Resetting, resetting_start, resetting_more, resetting_on, resetting_end, counted_step}
@@ -85,7 +85,7 @@ loop-position-preserved-then-resets-broken g c =
     let level = c.index-levels-position.is ∙ get_or_default l.levels p c.index-levels-position.result None (omega (arith, before.len, before.all)) in
     let resets2 = c.resets_spaces_before-resets.result in
     let para = level_of_para (slice_index_or c.args.paras.now (l.paragraph - c.from-paragraph.result) Zero) in
-    let value : para ≡ para_at own paras p =
+    let value : para ≡ para_level_at own paras p =
     ap (λ i. level_of_para (slice_index_or c.args.paras.now i Zero)) index ∙ sym (get_or-map level_of_para c.args.paras.now (count_by is_separator (take p own)) Zero 0 (paragraph_at c.args.own.now (length c.args.paras.now) p c.requires.paras (omega arith))) in
     let written : set l.levels p c.reset_level.result ≡ set l.levels p (reset_to (resets2 && may_reset (class_at own p)) para (get_or l.levels p None)) =
     ap (set l.levels p) (c.reset_level.ensures ∙ ap (λ m. reset_to (resets2 && m) para c.index-levels-position.result) may ∙ ap (reset_to (resets2 && may_reset (class_at own p)) para) level) in

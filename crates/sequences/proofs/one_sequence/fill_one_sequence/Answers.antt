@@ -5,7 +5,8 @@ use Rattle.units.specs.Isolates.{level_of_para}
 use Rattle.units.specs.Positions.{positions_from}
 use Rattle.flat.specs.Flat.{remaining_of}
 use Rattle.sequences.specs.Links.{ArePositions}
-use Rattle.sequences.proofs.FilledFrom.{length-classes_of, level_of_para-low}
+use Rattle.units.proofs.Lengths.{length-classes_of}
+use Rattle.sequences.proofs.FilledFrom.{level_of_para-low}
 use Rattle.sequences.proofs.Remaining.{all_remain, none_filled, one_filled, remaining_rise}
 use Rattle.sequences.proofs.one_sequence.fill_one_sequence.Goals as goal
 

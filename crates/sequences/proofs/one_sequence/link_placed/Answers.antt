@@ -1,5 +1,5 @@
 use Rattle.std.proofs.Common.{arith, ap, sym, length, ℕ, List, subst}
-use Rattle.flat.proofs.Listed.{length-positions_from}
+use Rattle.units.proofs.Positions.{length-positions_from}
 use Rattle.sequences.specs.Links.{IsChain}
 use Rattle.sequences.proofs.one_sequence.link_placed.Goals as goal
 

@@ -2,8 +2,8 @@ use Rattle.std.proofs.Common.{arith, ap, sym, ◌≡◌, ◌∙◌, length, ℕ}
 use Rattle.units.specs.Classes.{classes_of}
 use Rattle.units.specs.Positions.{positions_from}
 use Rattle.flat.specs.Flat.{remaining_of}
-use Rattle.flat.proofs.Listed.{length-positions_from}
-use Rattle.sequences.proofs.FilledFrom.{length-classes_of}
+use Rattle.units.proofs.Positions.{length-positions_from}
+use Rattle.units.proofs.Lengths.{length-classes_of}
 use Rattle.sequences.proofs.Remaining.{all_remain}
 use Rattle.sequences.proofs.one_sequence.place.Goals as goal
 

@@ -1,6 +1,7 @@
 use Rattle.std.proofs.Common.{◌≡◌, ◌<◌, ◌∙◌, sym, ap, length, arith}
 use Rattle.std.proofs.lemmas.Bool.{eqb-true, eqb-false}
-use Rattle.ucdfiles.specs.ClassFile.{comment_says, says}
+use Rattle.ucdfiles.specs.ClassFile.{comment_says}
+use Rattle.ucdfiles.specs.Statements.{span_says}
 use Rattle.ucdfiles.specs.declared.span.FileLine.TheVariants.{Data}
 use Rattle.ucdfiles.proofs.ClassLines.{class_line_says-data, class_line_says-comment, class_line_says-silent}
 use Rattle.ucdfiles.specs.LongLines.{class_line_says-long}
@@ -23,9 +24,9 @@ returns-in-Some-clause-value c =
 pub returns-in-Ok-clause-value : goal.returns-in-Ok-clause-value
 returns-in-Ok-clause-value c =
     let some : 0 < length c.trim-content.result.now = omega (arith, eqb-false _ _ (sym c.if-is_empty.ensures)) in
-    class_line_says-data c.args.line.now c.cut.result.0.now c.trim-content.result.now c.if-line-gt-ROOM.false c.cut.ensures.before c.trim-content.ensures.rest some ∙ ap (says Data) c.in-Ok.ensures.value
+    class_line_says-data c.args.line.now c.cut.result.0.now c.trim-content.result.now c.if-line-gt-ROOM.false c.cut.ensures.before c.trim-content.ensures.rest some ∙ ap (span_says Data) c.in-Ok.ensures.value
 
 pub returns-in-Err-clause-value : goal.returns-in-Err-clause-value
 returns-in-Err-clause-value c =
     let some : 0 < length c.trim-content.result.now = omega (arith, eqb-false _ _ (sym c.if-is_empty.ensures)) in
-    class_line_says-data c.args.line.now c.cut.result.0.now c.trim-content.result.now c.if-line-gt-ROOM.false c.cut.ensures.before c.trim-content.ensures.rest some ∙ ap (says Data) c.in-Err.ensures.value
+    class_line_says-data c.args.line.now c.cut.result.0.now c.trim-content.result.now c.if-line-gt-ROOM.false c.cut.ensures.before c.trim-content.ensures.rest some ∙ ap (span_says Data) c.in-Err.ensures.value

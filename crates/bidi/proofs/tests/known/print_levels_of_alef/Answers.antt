@@ -1,5 +1,5 @@
 use Rattle.std.proofs.Common.{rules, ◌≡◌}
-use Rattle.bidi.specs.KnownRuns.{alef_files, levels_done, when_ok}
+use Rattle.bidi.proofs.KnownRuns.{alef_files, levels_done, when_ok}
 use Rattle.bidi.proofs.tests.known.print_levels_of_alef.Goals as goal
 
 pub returns : goal.returns

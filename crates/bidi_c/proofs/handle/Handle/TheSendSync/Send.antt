@@ -10,7 +10,7 @@ use Rattle.std.specs.declared.alloc.Global.{Global}
 use Rattle.std.proofs.Crossing.{crosses, frees}
 use Rattle.std_alloc.proofs.SendSync.{lies}
 use Rattle.bidi_c.specs.Kept.{kept}
-use Rattle.bidi_c.specs.contracts.held.Held as held
+use Rattle.bidi_held.specs.contracts.held.Held as held
 use Rattle.bidi_c.specs.contracts.handle.Handle.{the_row, the_type}
 use Rattle.bidi_c.proofs.Sent.{held_sent}
 

@@ -1,26 +1,11 @@
-use Rattle.std.proofs.Common.{length, take, drop, ◌-◌, ◌++◌, sym, ◌∙◌}
-use Rattle.bidtests.specs.Standing.{Judging}
-use Rattle.bidtests.proofs.Judged.{feeds-on, feeds-some, none-from}
-use Rattle.bidtests.proofs.Pieces.{joined, within}
+use Rattle.std.proofs.Common.{◌≡◌, ◌++◌, sym, subst}
+use Rattle.bidtests.specs.Standing.{Judging, Judges, judging}
+use Rattle.bidtests.proofs.SameTables.{state-of, judges-of}
 use Rattle.bidtests.proofs.judge.Judge.feed.Goals as goal
 
-pub returns-then-is_some : goal.returns-then-is_some
-returns-then-is_some c = λ limits kind b j.
-    feeds-some limits kind _ b c.args.piece.now c.loop-at.at (sym c.is_some.ensures ∙ c.if-is_some.true) (c.loop-at.invariant.judges limits kind b j)
-
-pub loop-at-preserved : goal.loop-at-preserved
-loop-at-preserved c =
-    let piece = c.args.piece.now in
-    let at = c.loop-at.at in
-    let used = c.take.result.0 in
-    let rest = take (length piece - at) (drop at piece) in
-    let self = c.loop-at.self-inside in
-    let j : Judging = record { kind = self.kind; cutting = self.cutter; standing = self.sheet; decided = self.decided } in
-    record {
-      within = within at used piece c.loop-at.invariant.within c.take.ensures.used;
-      judges = λ limits kind b s.
-          rw (joined at used piece b)
-          (feeds-on j c.take.follows.lender-at-none c.judge_step-self-inside.new.sheet c.judge_step-self-inside.result rest used c.take.result.1
-          (none-from self.decided (sym c.is_some.ensures ∙ c.if-is_some.false)) c.take.ensures.used c.take.ensures.through c.take.ensures.answer c.take.follows.holds-at-none
-          c.judge_step-self-inside.ensures.fault c.judge_step-self-inside.ensures.standing limits kind (b ++ take at piece) (c.loop-at.invariant.judges limits kind b s));
-    }
+pub returns : goal.returns
+returns c = λ limits kind b judges.
+    let inside = c.self.inside in
+    let P : Judging → Type 0 = λ j. Judges limits kind j b in
+    let before : Judges limits kind (judging inside.kind inside.state) b = subst P (sym c.self.view_is) judges in
+    judges-of limits kind inside.kind c.feed.new.self (b ++ c.args.piece.now) before.of (c.feed.ensures limits b (state-of limits kind inside.kind inside.state b before))

@@ -1,5 +1,5 @@
 use Rattle.std.proofs.Common.{◌≡◌, ◌<◌, length, rules, refl}
-use Rattle.bidtests.specs.ClassesFile.{Nothing, classes_line, directive, data_line}
+use Rattle.bidtests.specs.ClassesFile.{Nothing, classes_line, directive, classes_row}
 use Rattle.units.specs.Text.{fields_of}
 use Rattle.bidtests.proofs.LineSays.{not_empty, says-nothing, says-directive, says-row}
 use Rattle.bidtests.proofs.sheet.Sheet.judge_classes_line.Goals as goal
@@ -20,6 +20,6 @@ returns-then-content-eq64 c =
 pub returns-else-content-eq64 : goal.returns-else-content-eq64
 returns-else-content-eq64 c =
     let some : 0 < length c.content-content.result.now = not_empty c.content-content.result.now _ c.is_empty.ensures c.if-is_empty.false in
-    let e : classes_line c.args.line.now ≡ data_line (fields_of c.content-content.result.now) =
+    let e : classes_line c.args.line.now ≡ classes_row (fields_of c.content-content.result.now) =
     says-row c.args.line.now _ c.content-content.ensures.content c.requires some c.if-content-eq64.false in
     record { fault = rw e c.judge_row.ensures.fault; standing = λ h. rw e (c.judge_row.ensures.standing h) }

@@ -1,5 +1,5 @@
 use Rattle.std.proofs.Common.{◌≡◌, ◌+◌, ◌≤◌}
-use Rattle.explicit.specs.StatusStacks.{before_isolate, size_of}
+use Rattle.explicit.specs.StatusStacks.{before_isolate, entry_count}
 use Rattle.explicit.proofs.status.StatusStack.pop_isolate.Given as goal
 
 abbrev pub invariant-loop-entry : goal.invariant-loop-entry
@@ -9,8 +9,8 @@ invariant-loop-entry g l = record {
   embeddings : l.self.overflow_embeddings ≡ l.initial.self.overflow_embeddings;
   valid : l.self.valid_isolates ≡ l.initial.self.valid_isolates;
   more : l.fn.steps ≤ l.steps;
-  taken : l.steps + size_of l.self ≡ l.fn.steps + size_of l.initial.self;
+  taken : l.steps + entry_count l.self ≡ l.fn.steps + entry_count l.initial.self;
 }
 
 abbrev pub decreases-loop-entry : goal.decreases-loop-entry
-decreases-loop-entry g l = size_of l.self
+decreases-loop-entry g l = entry_count l.self

@@ -7,7 +7,7 @@ use Rattle.units.specs.declared.bracket.Unit.{Unit as BidiUnit}
 use Rattle.flat.specs.Uniform.{kept_level}
 use Rattle.sequences.proofs.FilledFrom.{level_of_para-low}
 use Rattle.paragraph.specs.Contents.{keeps_level}
-use Rattle.paragraph.specs.Covering.{AreApart}
+use Rattle.paragraph.specs.Covering.{AreDisjoint}
 use Rattle.paragraph.proofs.AllSequences.{sequences_are_apart}
 use Rattle.paragraph.proofs.FlatLevels.{flat_levels, kept_stays, levels_are_kept, none_from, remaining_few}
 use Rattle.paragraph.proofs.resolver.Resolver.resolve_flat.Goals as goal
@@ -37,7 +37,7 @@ fill_flat-requires-clause-whole g c = λ e.
 pub resolve_own-requires-clause-apart : goal.resolve_own-requires-clause-apart
 resolve_own-requires-clause-apart g c =
     let level : ℕ = level_of_para c.flat_level-level.result in
-    let P : List SequenceView → Type 0 = λ all. AreApart (length c.args.para.now) all in
+    let P : List SequenceView → Type 0 = λ all. AreDisjoint (length c.args.para.now) all in
     subst P (sym (c.fill_flat.ensures.all c.args.limits.depth)) (sequences_are_apart c.args.limits.depth (omega arith) c.args.para.now level (level_of_para-low c.flat_level-level.result) c.requires.separators)
 
 pub returns-clause-levels : goal.returns-clause-levels

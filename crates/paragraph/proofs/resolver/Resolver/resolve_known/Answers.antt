@@ -6,7 +6,7 @@ use Rattle.units.specs.Runs.{SequenceView}
 use Rattle.units.specs.declared.level.ParaLevel.{ParaLevel}
 use Rattle.flat.specs.Flat.{IsFlat}
 use Rattle.flat.proofs.FlatParagraph.{para_level_of-flat}
-use Rattle.paragraph.specs.Covering.{AreApart, positions_in}
+use Rattle.paragraph.specs.Covering.{AreDisjoint, positions_in}
 use Rattle.sequences.proofs.FilledFrom.{level_of_para-low}
 use Rattle.paragraph.proofs.AllSequences.{sequences_are_apart, found_own, found_levels}
 use Rattle.paragraph.proofs.FlatLevels.{flat_from}
@@ -29,7 +29,7 @@ returns-then-is_flat-clause-levels g c =
 pub resolve_found-requires-clause-apart : goal.resolve_found-requires-clause-apart
 resolve_found-requires-clause-apart g c =
     let level : ParaLevel = c.para_level-level.result in
-    let P : List SequenceView → Type 0 = λ all. AreApart (length c.args.para.now) all in
+    let P : List SequenceView → Type 0 = λ all. AreDisjoint (length c.args.para.now) all in
     subst P (sym c.fill-2.ensures.all) (sequences_are_apart c.args.limits.depth (omega arith) c.args.para.now (level_of_para level) (level_of_para-low level) c.requires.separators)
 
 pub resolve_found-requires-clause-own : goal.resolve_found-requires-clause-own

@@ -1,6 +1,7 @@
 use Rattle.std.proofs.Common.{rules, ◌≡◌}
 use Rattle.units.specs.declared.reader_source.State.TheVariants.{Open}
-use Rattle.units.specs.HandsOut.{HandsOut-nothing, HandsOut-taken, HandsOut-failed}
+use Rattle.units.specs.HandsOut.{HandsOut-nothing}
+use Rattle.units.proofs.HandingOut.{HandsOut-taken, HandsOut-failed}
 use Rattle.units.proofs.reader_source.ReaderSourceByteSource.read.Goals as goal
 
 pub returns-in-Ended-clause-given : goal.returns-in-Ended-clause-given

@@ -1,0 +1,41 @@
+-- What a handle holds.
+use Rattle.std.specs.Prelude.{ℕ, Option, Some, None, List, [], slice_index_or}
+use Rattle.std.specs.Option.{option_map}
+use Rattle.units.specs.Layout.{TextLayout, LineLayout}
+use Rattle.ucdfiles.specs.Tables.{TablesOf}
+use Rattle.lines.specs.Layouts.{no_line}
+use Rattle.lines.specs.Scratches.{layout_in, room_of}
+use Rattle.bidi_held.specs.declared.held.Held.{Held}
+use Rattle.bidi_held.specs.declared.held.Held.TheVariants.{Tables, Room}
+use Rattle.bidi_held.specs.declared.room.Room.{Room as RoomOf}
+
+-- the tables that it holds, if it holds tables
+abbrev pub tables_in : Option Held → Option TablesOf
+tables_in (Some (Tables tables)) = Some tables
+tables_in _ = None
+
+-- the room that it holds, if it holds a room
+abbrev pub room_in : Option Held → Option RoomOf
+room_in (Some (Room room)) = Some room
+room_in _ = None
+
+-- the length of the longest text that it has room for, if it holds a room
+abbrev pub capacity_in : Option Held → Option ℕ
+capacity_in handle = option_map (λ room. room_of room.scratch) (room_in handle)
+
+-- no text has no layout
+abbrev pub no_layout : TextLayout
+no_layout = record { paras = []; levels = []; lines = [] }
+
+-- the layout that a room holds
+abbrev pub layout_of_room : Option RoomOf → TextLayout
+layout_of_room (Some room) = layout_in room.scratch
+layout_of_room None = no_layout
+
+-- the layout that it holds; without a room that of no text
+abbrev pub layout_held : Option Held → TextLayout
+layout_held handle = layout_of_room (room_in handle)
+
+-- its line with the number k
+abbrev pub line_held : Option Held → ℕ → LineLayout
+line_held handle k = slice_index_or (layout_held handle).lines k no_line

@@ -1,0 +1,13 @@
+-- What handles hold, and what the calls from C say of it.
+pub mod Statuses
+pub mod Texts
+pub mod Holdings
+pub mod LimitsGiven
+pub mod Refusals
+pub mod RefusedCalls
+pub mod MadeTables
+pub mod LaidOut
+pub mod LinesOut
+pub mod Visual
+pub mod Judged
+pub mod JudgeCalls

@@ -1,0 +1,17 @@
+-- The limits that C hands in.
+use Rattle.std.specs.Prelude.{ℕ, ◌≡◌, ◌<◌, ◌≤◌, ◌⊎◌}
+use Rattle.units.specs.Limits.{LimitsOf}
+use Rattle.bidi_held.specs.declared.limits.BidiLimits.{BidiLimits}
+use Rattle.bidi_held.specs.declared.refusal.Refusal.{Refusal}
+use Rattle.bidi_held.specs.declared.refusal.Refusal.TheVariants.{Depth, Brackets}
+
+-- BD2, BD16: the limits that are handed in
+abbrev pub limits_in : BidiLimits → LimitsOf
+limits_in limits = record { depth = limits.depth; brackets = limits.brackets }
+
+-- the limits are refused for this reason: the depth is none of 1 to 125, or it is one, and there may not be so many
+-- brackets
+abbrev pub RefusesLimits : BidiLimits → Refusal → Type 0
+RefusesLimits limits Depth = (limits.depth ≡ 0) ⊎ (125 < limits.depth)
+RefusesLimits limits Brackets = (1 ≤ limits.depth) × (limits.depth ≤ 125) × (63 < limits.brackets)
+RefusesLimits limits _ = ⊥

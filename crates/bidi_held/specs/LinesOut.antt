@@ -1,0 +1,19 @@
+-- Lines as C is told of them.
+use Rattle.std.specs.Prelude.{ℕ, ◌≡◌, ◌≤◌, ◌⊎◌, Option, None, length}
+use Rattle.units.specs.Layout.{LineLayout}
+use Rattle.bidi_held.specs.Holdings.{room_in, layout_held}
+use Rattle.bidi_held.specs.declared.held.Held.{Held}
+use Rattle.bidi_held.specs.declared.refusal.Refusal.{Refusal}
+use Rattle.bidi_held.specs.declared.refusal.Refusal.TheVariants.{NoRoom, NoLine}
+use Rattle.bidi_held.specs.declared.lines_out.BidiLine.{BidiLine}
+
+-- this tells of the line: where it begins and ends, and how many positions its order has
+pub record TellsLine (line : LineLayout) (told : BidiLine) : Type 0 where
+  pub start : told.start ≡ line.start
+  pub end : told.end ≡ line.end
+  pub shown : told.shown ≡ length line.order
+
+-- the line with the number k is refused for this reason: there is no room, or no such line
+abbrev pub RefusesLine : Option Held → ℕ → Refusal → Type 0
+RefusesLine room k refusal =
+    ((refusal ≡ NoRoom) × (room_in room ≡ None)) ⊎ ((refusal ≡ NoLine) × (length (layout_held room).lines ≤ k))

@@ -1,0 +1,65 @@
+-- Tables made of the bytes of their files.
+use Rattle.std.specs.Prelude.{ℕ, ◌≡◌, ◌⊎◌, Option, Some, None, List, MatchOption}
+use Rattle.std.specs.Option.{unwrap_or}
+use Rattle.ucdfiles.specs.ClassFile.{class_fault}
+use Rattle.ucdfiles.specs.PairFiles.{bracket_fault, mirror_fault}
+use Rattle.ucdfiles.specs.Files.{IsFaulty, StateTables}
+use Rattle.ucdfiles.specs.Tables.{TablesOf, glyph_by}
+use Rattle.ucdfiles.specs.declared.fault.Fault.{Fault as LineFault}
+use Rattle.ucdfiles.specs.declared.fault.TableFault.{TableFault}
+use Rattle.ucdfiles.specs.declared.fault.TableFault.TheVariants as table
+use Rattle.bidi_held.specs.Holdings.{tables_in}
+use Rattle.bidi_held.specs.Statuses.{code_of, place_of}
+use Rattle.bidi_held.specs.declared.held.Held.{Held}
+use Rattle.bidi_held.specs.declared.refusal.Refusal.{Refusal}
+use Rattle.bidi_held.specs.declared.refusal.Refusal.TheVariants.{Memory, ClassFile, BracketFile, MirrorFile}
+
+-- the handle holds tables, and they are what the bytes state
+abbrev pub HaveTables : Option Held → List ℕ → List ℕ → List ℕ → Type 0
+HaveTables handle classes brackets mirrors = MatchOption (tables_in handle) ⊥ (StateTables classes brackets mirrors)
+
+-- a file with these bytes is refused for this reason: memory, or what is wrong with it
+abbrev pub RefusesFile : (List (List ℕ) → List ℕ → Option LineFault) → (TableFault → Refusal) → List ℕ → Refusal → Type 0
+RefusesFile fault names bytes refusal = (refusal ≡ Memory) ⊎ ((e : TableFault) × (refusal ≡ names e) × IsFaulty fault bytes e)
+
+-- files with these bytes are refused for this reason
+abbrev pub RefusesTables : List ℕ → List ℕ → List ℕ → Refusal → Type 0
+RefusesTables classes brackets mirrors refusal =
+    RefusesFile class_fault ClassFile classes refusal
+    ⊎ (RefusesFile bracket_fault BracketFile brackets refusal
+    ⊎ RefusesFile mirror_fault MirrorFile mirrors refusal)
+
+-- the number of the kind of a fault, 0 where it is none of a line
+abbrev pub fault_number : TableFault → ℕ
+fault_number (table.CodePoint line) = 1
+fault_number (table.Backwards line) = 2
+fault_number (table.ClassName line) = 3
+fault_number (table.Fields line) = 4
+fault_number (table.Overlap line) = 5
+fault_number (table.Twice line) = 6
+fault_number (table.BracketKind line) = 7
+fault_number (table.LineTooLong line) = 8
+fault_number (table.TooMany line) = 9
+fault_number table.Read = 0
+fault_number table.Memory = 0
+
+-- the number of the kind of the fault that a refusal names, 0 where it names none
+abbrev pub fault_number_in : Refusal → ℕ
+fault_number_in (ClassFile fault) = fault_number fault
+fault_number_in (BracketFile fault) = fault_number fault
+fault_number_in (MirrorFile fault) = fault_number fault
+fault_number_in _ = 0
+
+-- a call that answers this number, names this line and this kind of fault is refused for a reason that it may be
+-- refused for
+pub record IsRefusedAt (Refuses : Refusal → Type 0) (number line kind : ℕ) : Type 0 where
+  pub refusal : Refusal
+  pub coded : number ≡ code_of refusal
+  pub placed : line ≡ place_of refusal
+  pub told : kind ≡ fault_number_in refusal
+  pub reason : Refuses refusal
+
+-- the mirror image of a character by the tables, itself where it has none
+abbrev pub image_by : Option TablesOf → ℕ → ℕ
+image_by (Some tables) c = unwrap_or (glyph_by tables.mirrors c) c
+image_by None c = c

@@ -1,0 +1,62 @@
+// What a handle may hold.
+ghost use Rattle.std.specs.Prelude.{◌≡◌, ◌≢◌, true, Some, None, IsSome, MatchOption};
+ghost use Rattle.lines.specs.Layouts.{view_of};
+ghost use Rattle.bidi_held.specs.Holdings.{capacity_in, tables_in, room_in, layout_held};
+
+use crate::judge::TableJudge;
+use crate::room::Room;
+use lines::layout::Layout;
+use ucdfiles::tables::Tables;
+
+/// What a handle may hold.
+#[derive(Drop)]
+pub enum Held {
+    /// The tables of the three property files.
+    Tables(Tables),
+    /// Room for texts, with the layout of the last one.
+    Room(Room),
+    /// A judge of a test file, with its tables. It is boxed because it has room for a line within it.
+    Judge(Box<TableJudge>),
+}
+
+impl Held {
+    /// The length of the longest text that there is room for, if this is a room.
+    pub fn capacity(&self) -> Option<usize>
+        ensures { result ≡ capacity_in (Some self.now) }
+    {
+        match self {
+            Held::Room(room) => Some(room.scratch.room()),
+            _ => None,
+        }
+    }
+
+    /// The layout that is held, if this is a room.
+    pub fn layout(&self) -> Option<Layout<'_>>
+        ensures { MatchOption result (room_in (Some self.now) ≡ None)
+            (λ layout. view_of layout ≡ layout_held (Some self.now)) }
+    {
+        match self {
+            Held::Room(room) => Some(room.scratch.layout()),
+            _ => None,
+        }
+    }
+
+    /// The tables, if these are tables.
+    pub fn tables(&self) -> Option<&Tables>
+        ensures { MatchOption result (tables_in (Some self.now) ≡ None)
+            (λ tables. tables_in (Some self.now) ≡ Some tables.now) }
+    {
+        match self {
+            Held::Tables(tables) => Some(tables),
+            _ => None,
+        }
+    }
+
+    /// Whether these are tables.
+    pub fn is_tables(&self) -> bool
+        ensures some { result ≡ true → IsSome (tables_in (Some self.now)) }
+        ensures none { result ≢ true → tables_in (Some self.now) ≡ None }
+    {
+        matches!(self, Held::Tables(_))
+    }
+}

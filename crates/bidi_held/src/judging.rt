@@ -1,0 +1,77 @@
+// Judges made, fed and finished.
+ghost use Rattle.std.specs.Prelude.{◌≡◌, ◌++◌, ◌≢◌, ℕ, true, List, [], Option, None, Some, IsSome, IfOk, IfErr};
+ghost use Rattle.units.specs.Limits.{LimitsOf};
+ghost use Rattle.ucdfiles.specs.Tables.{TablesOf};
+ghost use Rattle.bidi_held.specs.Holdings.{tables_in};
+ghost use Rattle.bidi_held.specs.Judged.{verdict_by};
+ghost use Rattle.bidi_held.specs.JudgeCalls.{judge_in, IsFresh, HandleWasFed, RefusesJudge};
+
+use crate::held::Held;
+use crate::judge::TableJudge;
+use crate::refusal::{DONE, Refusal};
+use bidtests::state::JudgeState;
+use bidtests::verdict::Verdict;
+use std::alloc::Global;
+use std::mem::replace;
+use units::limits::Limits;
+
+/// A judge of a BidiTest.txt, before its first byte, by these limits.
+pub fn new_judge(alloc: Global, limits: Limits) -> Result<Box<TableJudge>, Refusal>
+    ensures made { IfOk result (λ judge. IsFresh limits judge.value) }
+    ensures refused { IfErr result RefusesJudge }
+{
+    let Ok(state) = JudgeState::new(alloc, limits) else {
+        return Err(Refusal::Memory);
+    };
+    let judge = TableJudge {
+        tables: None,
+        state,
+    };
+    Box::new(alloc, judge).map_err(|_| Refusal::Memory)
+}
+
+/// Puts the judge into the place of the tables, which it takes over; it answers whether these are tables.
+pub fn make_into_judge(held: &mut Held, judge: Box<TableJudge>) -> bool
+    ensures made { (limits : LimitsOf) → IsFresh limits judge.value → result ≡ true
+        → HandleWasFed limits (Some held.new) (tables_in (Some held.old)) [] }
+    ensures tables { result ≡ true → IsSome (tables_in (Some held.old)) }
+    ensures kept { result ≢ true → (held.new ≡ held.old) × (tables_in (Some held.old) ≡ None) }
+{
+    if !held.is_tables() {
+        return false;
+    }
+    let before = replace(held, Held::Judge(judge));
+    if let (Held::Tables(tables), Held::Judge(judge)) = (before, held) {
+        judge.tables = Some(tables);
+    }
+    true
+}
+
+/// Hands over the next bytes of the file, if this is a judge.
+pub fn feed_held(held: &mut Held, piece: &[u8]) -> u32
+    ensures fed { (limits : LimitsOf) (tables : Option TablesOf) (b : List ℕ)
+        → HandleWasFed limits (Some held.old) tables b
+        → HandleWasFed limits (Some held.new) tables (b ++ piece.now) }
+    ensures done { IsSome (judge_in (Some held.old)) → result ≡ 0 }
+    ensures refused { judge_in (Some held.old) ≡ None → (result ≡ 16) × (held.new ≡ held.old) }
+{
+    match held {
+        Held::Judge(judge) => {
+            judge.feed(piece);
+            DONE
+        }
+        _ => Refusal::NoJudge.code(),
+    }
+}
+
+/// The verdict on all bytes that were handed over, as the whole file, if this is a judge.
+pub fn finish_held(held: &mut Held) -> Option<Verdict>
+    ensures verdict { (limits : LimitsOf) (tables : Option TablesOf) (b : List ℕ)
+        → HandleWasFed limits (Some held.old) tables b → result ≡ Some (verdict_by limits tables b) }
+    ensures kept { judge_in (Some held.old) ≡ None → (result ≡ None) × (held.new ≡ held.old) }
+{
+    match held {
+        Held::Judge(judge) => Some(judge.finish()),
+        _ => None,
+    }
+}

@@ -1,0 +1,76 @@
+// Texts laid out in what is held.
+ghost use Rattle.std.specs.Prelude.{◌≡◌, IfErr, OnOk, OnErr, Some};
+ghost use Rattle.bidi_held.specs.RefusedCalls.{RoomTakes, RoomTakesClasses, RefusesLayout, RefusesClassLayout};
+ghost use Rattle.bidi_held.specs.Texts.{direction_numbered};
+ghost use Rattle.bidi_held.specs.Holdings.{capacity_in, tables_in, layout_held};
+ghost use Rattle.bidi_held.specs.LaidOut.{IsLayout, IsClassLayout};
+
+use crate::held::Held;
+use crate::refusal::Refusal;
+use units::level::Direction;
+use units::limits::Limits;
+
+/// The direction with this number, if there is one.
+fn direction_of(number: u32) -> Option<Direction>
+    ensures { result ≡ direction_numbered number }
+{
+    match number {
+        0 => Some(Direction::Ltr),
+        1 => Some(Direction::Rtl),
+        2 => Some(Direction::Auto),
+        3 => Some(Direction::AutoRtl),
+        _ => None,
+    }
+}
+
+/// Lays out a text of code points by these limits, if these are a room and tables and the number is a direction.
+pub fn lay_out_held(
+    room: &mut Held,
+    tables: &Held,
+    codes: &[u32],
+    direction: u32,
+    breaks: &[usize],
+    limits: Limits,
+) -> Result<(), Refusal>
+    ensures capacity { capacity_in (Some room.new) ≡ capacity_in (Some room.old) }
+    ensures kept { OnErr result (layout_held (Some room.new) ≡ layout_held (Some room.old)) }
+    ensures refused { IfErr result (RefusesLayout (Some room.old) (Some tables.now) codes.now direction breaks.now) }
+    ensures taken { OnOk result (RoomTakes (Some room.old) codes.now breaks.now) }
+    ensures laid_out { OnOk result (IsLayout limits (tables_in (Some tables.now)) codes.now direction breaks.now
+        (layout_held (Some room.new))) }
+{
+    let Held::Room(room) = room else {
+        return Err(Refusal::NoRoom);
+    };
+    let Held::Tables(tables) = tables else {
+        return Err(Refusal::NoTables);
+    };
+    match direction_of(direction) {
+        Some(direction) => room.lay_out(tables, codes, direction, breaks, limits),
+        None => Err(Refusal::NoDirection),
+    }
+}
+
+/// Lays out a text of classes, by their numbers, by these limits, if this is a room and the number is a direction.
+pub fn lay_out_classes_held(
+    room: &mut Held,
+    numbers: &[u8],
+    direction: u32,
+    breaks: &[usize],
+    limits: Limits,
+) -> Result<(), Refusal>
+    ensures capacity { capacity_in (Some room.new) ≡ capacity_in (Some room.old) }
+    ensures kept { OnErr result (layout_held (Some room.new) ≡ layout_held (Some room.old)) }
+    ensures refused { IfErr result (RefusesClassLayout (Some room.old) numbers.now direction breaks.now) }
+    ensures taken { OnOk result (RoomTakesClasses (Some room.old) numbers.now breaks.now) }
+    ensures laid_out { OnOk result (IsClassLayout limits numbers.now direction breaks.now
+        (layout_held (Some room.new))) }
+{
+    let Held::Room(room) = room else {
+        return Err(Refusal::NoRoom);
+    };
+    match direction_of(direction) {
+        Some(direction) => room.lay_out_classes(numbers, direction, breaks, limits),
+        None => Err(Refusal::NoDirection),
+    }
+}

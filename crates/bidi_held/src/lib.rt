@@ -1,0 +1,15 @@
+//! What a handle for C holds, and the work on it: tables, rooms and judges, texts laid out in rooms, layouts written
+//! out, and test files judged. No pointer stands here.
+#![tactic(auto)]
+
+pub mod held;
+pub mod judge;
+pub mod judging;
+pub mod layouts;
+pub mod limits;
+pub mod lines_out;
+pub mod read_tables;
+pub mod refusal;
+pub mod room;
+pub mod told_verdict;
+pub mod visual_lines;

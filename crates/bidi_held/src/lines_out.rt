@@ -1,0 +1,109 @@
+// What a room holds, written out.
+ghost use Rattle.std.specs.Prelude.{◌≡◌, ◌≤◌, ◌<◌, Err, IsOk, length, map, take, drop, slice_index_or};
+ghost use Rattle.units.specs.Isolates.{level_of_para};
+ghost use Rattle.lines.specs.Layouts.{view_of, no_line};
+ghost use Rattle.bidi_held.specs.Texts.{level_byte};
+ghost use Rattle.bidi_held.specs.LinesOut.{TellsLine};
+
+use crate::refusal::Refusal;
+use lines::layout::Layout;
+use units::level::{Level, ParaLevel};
+
+/// Where a line begins and ends, and how many positions its order has.
+#[repr(C)]
+#[derive(Clone, Copy)]
+pub struct BidiLine {
+    /// The position of the text at which it begins.
+    pub start: usize,
+    /// The position of the text behind its last one.
+    pub end: usize,
+    /// How many of its positions remain (X9): so many has its order.
+    pub shown: usize,
+}
+
+/// A level as a byte, 255 where there is none.
+pub(crate) fn byte_of(level: Option<Level>) -> u8
+    ensures { result ≡ level_byte level }
+{
+    match level {
+        Some(level) => level.get(),
+        None => 255,
+    }
+}
+
+/// Writes the levels to the front of `out`, if all have place there. It answers how many they are.
+pub fn write_levels(levels: &[Option<Level>], out: &mut [u8]) -> usize
+    ensures count { result ≡ length levels.now }
+    ensures levels { length levels.now ≤ length out.old → take (length levels.now) out.new ≡ map level_byte levels.now }
+    ensures behind { drop (length levels.now) out.new ≡ drop (length levels.now) out.old }
+    ensures kept { length out.old < length levels.now → out.new ≡ out.old }
+{
+    if levels.len() <= out.len() {
+        for i in 0..levels.len() {
+            out[i] = byte_of(levels[i]);
+        }
+    }
+    levels.len()
+}
+
+/// Writes the paragraphs' levels to the front of `out`, if all have place there. It answers how many they are.
+pub fn write_para_levels(levels: &[ParaLevel], out: &mut [u8]) -> usize
+    ensures count { result ≡ length levels.now }
+    ensures levels { length levels.now ≤ length out.old
+        → take (length levels.now) out.new ≡ map level_of_para levels.now }
+    ensures behind { drop (length levels.now) out.new ≡ drop (length levels.now) out.old }
+    ensures kept { length out.old < length levels.now → out.new ≡ out.old }
+{
+    if levels.len() <= out.len() {
+        for i in 0..levels.len() {
+            out[i] = levels[i].level().get();
+        }
+    }
+    levels.len()
+}
+
+/// Writes positions to the front of `out`, if all have place there. It answers how many they are.
+fn write_order(order: &[usize], out: &mut [usize]) -> usize
+    ensures count { result ≡ length order.now }
+    ensures order { length order.now ≤ length out.old → take (length order.now) out.new ≡ order.now }
+    ensures behind { drop (length order.now) out.new ≡ drop (length order.now) out.old }
+    ensures kept { length out.old < length order.now → out.new ≡ out.old }
+{
+    if order.len() <= out.len() {
+        out[..order.len()].copy_from_slice(order);
+    }
+    order.len()
+}
+
+/// Writes the order of the line with the number `k`, if there is one.
+pub fn write_order_of(layout: &Layout<'_>, k: usize, out: &mut [usize]) -> usize
+    ensures count { result ≡ length (slice_index_or (view_of layout.now).lines k no_line).order }
+    ensures order { length (slice_index_or (view_of layout.now).lines k no_line).order ≤ length out.old
+        → take (length (slice_index_or (view_of layout.now).lines k no_line).order) out.new ≡
+        (slice_index_or (view_of layout.now).lines k no_line).order }
+    ensures behind { drop result out.new ≡ drop result out.old }
+    ensures kept { length out.old < result → out.new ≡ out.old }
+{
+    if layout.line_count() <= k {
+        return 0;
+    }
+    write_order(layout.line(k).order, out)
+}
+
+/// The line with the number `k`, if there is one.
+pub fn line_of(layout: &Layout<'_>, k: usize, line: &mut BidiLine) -> Result<(), Refusal>
+    ensures none { length (view_of layout.now).lines ≤ k → (result ≡ Err Refusal.NoLine) × (line.new ≡ line.old) }
+    ensures line { k < length (view_of layout.now).lines
+        → IsOk result × TellsLine (slice_index_or (view_of layout.now).lines k no_line) line.new }
+{
+    if layout.line_count() <= k {
+        return Err(Refusal::NoLine);
+    }
+    let found = layout.line(k);
+    *line = BidiLine {
+        start: found.start,
+        end: found.end,
+        shown: found.order.len(),
+    };
+    Ok(())
+}

@@ -1,0 +1,143 @@
+// Why a call is refused, and the numbers that say so.
+ghost use Rattle.std.specs.Prelude.{◌≡◌, ◌↔◌, ℕ, IsOk, IfErr};
+ghost use Rattle.bidi_held.specs.Statuses.{code_of, place_of};
+
+use lines::breaks::BreakFault;
+use lines::scratch::RoomFault;
+use ucdfiles::fault::TableFault;
+use units::limits::LimitFault;
+
+/// Why a call is refused.
+#[derive(Clone, Copy, Debug, PartialEq, Eq)]
+pub enum Refusal {
+    /// Memory was refused.
+    Memory,
+    /// More room was asked for than there may be.
+    TooBig,
+    /// The text is longer than the room.
+    TooLong,
+    /// The code point at this index is no scalar value.
+    NoCharacter(usize),
+    /// The number at this index is no class.
+    NoClass(usize),
+    /// The break at this index is 0 or not below the text's length.
+    BreakOutOfRange(usize),
+    /// The break at this index is not above the one before.
+    BreakNotRising(usize),
+    /// The number is no direction.
+    NoDirection,
+    /// The handle holds no room.
+    NoRoom,
+    /// The handle holds no tables.
+    NoTables,
+    /// The number of a line is not below their count.
+    NoLine,
+    /// The place is not below the number of those of its line.
+    NoPlace,
+    /// The handle holds no judge.
+    NoJudge,
+    /// The depth that is handed in is 0 or above 125.
+    Depth,
+    /// The depth that is handed in is allowed, and the number of brackets is above 63.
+    Brackets,
+    /// DerivedBidiClass.txt is faulty.
+    ClassFile(TableFault),
+    /// BidiBrackets.txt is faulty.
+    BracketFile(TableFault),
+    /// BidiMirroring.txt is faulty.
+    MirrorFile(TableFault),
+}
+
+/// What a call answers that has done what it was asked for.
+pub const DONE: u32 = 0;
+
+impl Refusal {
+    /// What a call answers that is refused so.
+    pub fn code(self) -> u32
+        ensures { result ≡ code_of self }
+    {
+        match self {
+            Refusal::Memory => 1,
+            Refusal::TooBig => 2,
+            Refusal::TooLong => 3,
+            Refusal::NoCharacter(_) => 4,
+            Refusal::NoClass(_) => 5,
+            Refusal::BreakOutOfRange(_) => 6,
+            Refusal::BreakNotRising(_) => 7,
+            Refusal::NoDirection => 8,
+            Refusal::NoRoom => 9,
+            Refusal::NoTables => 10,
+            Refusal::NoLine => 11,
+            Refusal::ClassFile(_) => 12,
+            Refusal::BracketFile(_) => 13,
+            Refusal::MirrorFile(_) => 14,
+            Refusal::NoPlace => 15,
+            Refusal::NoJudge => 16,
+            Refusal::Depth => 17,
+            Refusal::Brackets => 18,
+        }
+    }
+
+    /// The place that it names: an index, or the number of a line; 0 where it names none.
+    pub fn place(self) -> u64
+        ensures { result ≡ place_of self }
+    {
+        match self {
+            Refusal::NoCharacter(index)
+            | Refusal::NoClass(index)
+            | Refusal::BreakOutOfRange(index)
+            | Refusal::BreakNotRising(index) => index as u64,
+            Refusal::ClassFile(fault) | Refusal::BracketFile(fault) | Refusal::MirrorFile(fault) =>
+                fault.line().unwrap_or(0),
+            _ => 0,
+        }
+    }
+}
+
+/// How faulty breaks are refused.
+pub fn of_breaks(fault: BreakFault) -> Refusal
+    ensures range { (index : ℕ) → fault ≡ BreakFault.OutOfRange index → result ≡ Refusal.BreakOutOfRange index }
+    ensures rising { (index : ℕ) → fault ≡ BreakFault.NotRising index → result ≡ Refusal.BreakNotRising index }
+{
+    match fault {
+        BreakFault::OutOfRange(index) => Refusal::BreakOutOfRange(index),
+        BreakFault::NotRising(index) => Refusal::BreakNotRising(index),
+    }
+}
+
+/// How room that is not made is refused.
+pub fn of_room(fault: RoomFault) -> Refusal
+    ensures too_big { (result ≡ Refusal.TooBig) ↔ (fault ≡ RoomFault.TooBig) }
+    ensures memory { (result ≡ Refusal.Memory) ↔ (fault ≡ RoomFault.Memory) }
+{
+    match fault {
+        RoomFault::TooBig => Refusal::TooBig,
+        RoomFault::Memory => Refusal::Memory,
+    }
+}
+
+/// How limits that are not allowed are refused.
+pub fn of_limits(fault: LimitFault) -> Refusal
+    ensures depth { fault ≡ LimitFault.Depth → result ≡ Refusal.Depth }
+    ensures brackets { fault ≡ LimitFault.Brackets → result ≡ Refusal.Brackets }
+{
+    match fault {
+        LimitFault::Depth => Refusal::Depth,
+        LimitFault::Brackets => Refusal::Brackets,
+    }
+}
+
+/// What a call answers, and the place that it names; where it is not refused, the place stays as it was.
+pub fn answer(done: Result<(), Refusal>, place: &mut u64) -> u32
+    ensures done { (result ≡ 0) ↔ IsOk done }
+    ensures refused { IfErr done (λ refusal. (result ≡ code_of refusal) × (place.new ≡ place_of refusal)) }
+    ensures kept { result ≡ 0 → place.new ≡ place.old }
+{
+    match done {
+        Ok(()) => DONE,
+        Err(refusal) => {
+            *place = refusal.place();
+            refusal.code()
+        }
+    }
+}

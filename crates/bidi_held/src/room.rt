@@ -1,0 +1,215 @@
+// A room: the units of a text, and its layout.
+ghost use Rattle.std.specs.Prelude.{ℕ, ◌≡◌, ◌≢◌, ◌≤◌, ◌<◌, ◌↔◌, None, MatchOption, Err, length, slice_index, take, map, IfOk, IfSome, OnOk, IfErr, OnErr, IsOk, IsNone};
+ghost use Rattle.std.specs.Box.{boxed_slice_items};
+ghost use Rattle.std.specs.Char.{IsScalar};
+ghost use Rattle.units.specs.Layout.{layout_of, longest_text};
+ghost use Rattle.lines.specs.Scratches.{room_of, layout_in, IsFilled};
+ghost use Rattle.bidi_held.specs.Texts.{class_numbered, unit_numbered, units_numbered};
+ghost use Rattle.ucdfiles.specs.Tables.{units_by};
+ghost use Rattle.bidi_held.specs.Refusals.{IsFirstNoCharacter, IsFirstNoClass, TakesText, TakesClasses, RefusesText, RefusesClasses};
+
+use crate::refusal::{Refusal, of_breaks};
+use lines::breaks::Breaks;
+use lines::lay_out::{lay_in, lay_in_with};
+use lines::scratch::{RoomFault, Scratch};
+use std::alloc::Global;
+use std::boxed::BoxedSlice;
+use ucdfiles::tables::Tables;
+use units::bracket::{Bracket, Unit};
+use units::class::Class;
+use units::level::Direction;
+use units::limits::Limits;
+
+/// Room for a text's units and its layout. It holds a layout at all times, at first that of an empty text.
+#[derive(Drop)]
+pub struct Room {
+    pub(crate) scratch: Scratch,
+    units: BoxedSlice<Unit>,
+    ghost fits: { length (boxed_slice_items units) ≡ room_of scratch },
+    ghost filled: { IsFilled scratch },
+}
+
+/// Writes the units of code points to the front of the column. It answers the index of the first code point that is
+/// no scalar value, if one is not.
+fn fill_units(units: &mut [Unit], tables: &Tables, codes: &[u32]) -> Option<usize>
+    requires { length codes.now ≤ length units.old }
+    ensures len { length units.new ≡ length units.old }
+    ensures first { IfSome result (IsFirstNoCharacter codes.now) }
+    ensures scalars { IsNone result → (k : ℕ) → k < length codes.now → IsScalar (slice_index codes.now k) }
+    ensures units { IsNone result → take (length codes.now) units.new ≡ units_by tables.now codes.now }
+{
+    for i in 0..codes.len() {
+        let Some(c) = char::from_u32(codes[i]) else {
+            return Some(i);
+        };
+        units[i] = tables.unit(c);
+    }
+    None
+}
+
+/// The class with this number, if there is one.
+fn class_of(number: u8) -> Option<Class>
+    ensures { result ≡ class_numbered number }
+{
+    Some(match number {
+        0 => Class::L,
+        1 => Class::R,
+        2 => Class::AL,
+        3 => Class::EN,
+        4 => Class::ES,
+        5 => Class::ET,
+        6 => Class::AN,
+        7 => Class::CS,
+        8 => Class::NSM,
+        9 => Class::BN,
+        10 => Class::B,
+        11 => Class::S,
+        12 => Class::WS,
+        13 => Class::ON,
+        14 => Class::LRE,
+        15 => Class::LRO,
+        16 => Class::RLE,
+        17 => Class::RLO,
+        18 => Class::PDF,
+        19 => Class::LRI,
+        20 => Class::RLI,
+        21 => Class::FSI,
+        22 => Class::PDI,
+        _ => return None,
+    })
+}
+
+/// The unit of the class with this number, if there is one; it is no bracket.
+fn unit_of(number: u8) -> Option<Unit>
+    ensures { MatchOption result (class_numbered number ≡ None)
+        (λ unit. (class_numbered number ≢ None) × (unit ≡ unit_numbered number)) }
+{
+    let class = class_of(number)?;
+    Some(Unit {
+        class,
+        bracket: Bracket::No,
+    })
+}
+
+/// Writes the units of classes, by their numbers, to the front of the column. It answers the index of the first
+/// number that is no class, if one is not.
+fn fill_classes(units: &mut [Unit], numbers: &[u8]) -> Option<usize>
+    requires { length numbers.now ≤ length units.old }
+    ensures len { length units.new ≡ length units.old }
+    ensures first { IfSome result (IsFirstNoClass numbers.now) }
+    ensures classes { IsNone result → (k : ℕ) → k < length numbers.now
+        → class_numbered (slice_index numbers.now k) ≢ None }
+    ensures units { IsNone result → take (length numbers.now) units.new ≡ units_numbered numbers.now }
+{
+    for i in 0..numbers.len() {
+        let Some(unit) = unit_of(numbers[i]) else {
+            return Some(i);
+        };
+        units[i] = unit;
+    }
+    None
+}
+
+impl Room {
+    /// Room for texts of up to `n` units, at most 16,777,216.
+    pub fn with_room(alloc: Global, n: usize) -> Result<Room, RoomFault>
+        ensures made { IfOk result (λ room. room_of room.scratch ≡ n) }
+        ensures too_big { (result ≡ Err RoomFault.TooBig) ↔ (longest_text < n) }
+    {
+        let mut scratch = Scratch::with_room(alloc, n)?;
+        let none = Unit {
+            class: Class::L,
+            bracket: Bracket::No,
+        };
+        let Ok(units) = Vec::from_elem(alloc, none, n) else {
+            return Err(RoomFault::Memory);
+        };
+        let Ok(breaks) = Breaks::new(&[], 0) else {
+            return Err(RoomFault::Memory);
+        };
+        match lay_in(&mut scratch, &[], Direction::Auto, &breaks) {
+            Ok(()) => Ok(Room {
+                scratch,
+                units: units.into_boxed_slice(),
+            }),
+            Err(_) => Err(RoomFault::Memory),
+        }
+    }
+
+    /// Lays out the units that stand at the front of the column, so many as the breaks are made for, by these limits.
+    fn lay_out_units(
+        &mut self,
+        direction: Direction,
+        breaks: &Breaks,
+        limits: Limits,
+    ) -> Result<(), Refusal>
+        requires { breaks.now.len ≤ room_of self.old.scratch }
+        ensures room { room_of self.new.scratch ≡ room_of self.old.scratch }
+        ensures done { IsOk result }
+        ensures laid_out { layout_in self.new.scratch ≡ layout_of limits
+            (take breaks.now.len (boxed_slice_items self.old.units)) direction breaks.now.positions }
+    {
+        let text = &self.units[..breaks.text_len()];
+        match lay_in_with(&mut self.scratch, text, direction, breaks, limits) {
+            Ok(()) => Ok(()),
+            Err(_) => Err(Refusal::TooLong),
+        }
+    }
+
+    /// Lays out the text of these code points by these limits.
+    pub fn lay_out(
+        &mut self,
+        tables: &Tables,
+        codes: &[u32],
+        direction: Direction,
+        at: &[usize],
+        limits: Limits,
+    ) -> Result<(), Refusal>
+        ensures room { room_of self.new.scratch ≡ room_of self.old.scratch }
+        ensures refused { IfErr result (RefusesText (room_of self.old.scratch) codes.now at.now) }
+        ensures kept { OnErr result (self.new.scratch ≡ self.old.scratch) }
+        ensures taken { OnOk result (TakesText (room_of self.old.scratch) codes.now at.now) }
+        ensures laid_out { OnOk result (layout_in self.new.scratch ≡ layout_of limits
+            (units_by tables.now codes.now) direction at.now) }
+    {
+        if self.scratch.room() < codes.len() {
+            return Err(Refusal::TooLong);
+        }
+        let breaks = match Breaks::new(at, codes.len()) {
+            Ok(breaks) => breaks,
+            Err(fault) => return Err(of_breaks(fault)),
+        };
+        if let Some(index) = fill_units(&mut self.units, tables, codes) {
+            return Err(Refusal::NoCharacter(index));
+        }
+        self.lay_out_units(direction, &breaks, limits)
+    }
+
+    /// Lays out a text of these classes, by their numbers, by these limits.
+    pub fn lay_out_classes(
+        &mut self,
+        numbers: &[u8],
+        direction: Direction,
+        at: &[usize],
+        limits: Limits,
+    ) -> Result<(), Refusal>
+        ensures room { room_of self.new.scratch ≡ room_of self.old.scratch }
+        ensures refused { IfErr result (RefusesClasses (room_of self.old.scratch) numbers.now at.now) }
+        ensures kept { OnErr result (self.new.scratch ≡ self.old.scratch) }
+        ensures taken { OnOk result (TakesClasses (room_of self.old.scratch) numbers.now at.now) }
+        ensures laid_out { OnOk result (layout_in self.new.scratch ≡ layout_of limits
+            (units_numbered numbers.now) direction at.now) }
+    {
+        if self.scratch.room() < numbers.len() {
+            return Err(Refusal::TooLong);
+        }
+        let breaks = match Breaks::new(at, numbers.len()) {
+            Ok(breaks) => breaks,
+            Err(fault) => return Err(of_breaks(fault)),
+        };
+        if let Some(index) = fill_classes(&mut self.units, numbers) {
+            return Err(Refusal::NoClass(index));
+        }
+        self.lay_out_units(direction, &breaks, limits)
+    }
+}

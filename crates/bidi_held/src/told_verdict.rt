@@ -1,0 +1,108 @@
+// A verdict as numbers.
+ghost use Rattle.std.specs.Prelude.{◌≡◌};
+ghost use Rattle.bidi_held.specs.JudgeCalls.{verdict_told, cause_number, direction_number};
+
+use bidtests::verdict::{Cause, Place, Verdict};
+use units::level::Direction;
+
+/// A verdict on a test file, as numbers; those that it doesn't name are 0.
+#[repr(C)]
+#[derive(Clone, Copy)]
+pub struct BidiVerdict {
+    /// 0 where all is right, 1 where a line is malformed, 2 where a case is wrong.
+    pub answer: u32,
+    /// Of a malformed line the number of the cause, from 1; of a wrong case 1 the paragraph's level, 2 the levels, 3
+    /// the order.
+    pub reason: u32,
+    /// Of a wrong case the number of the direction.
+    pub direction: u32,
+    /// The number of the line, from 1.
+    pub line: u64,
+    /// Of a wrong case the index in the list of levels or of the order, from 0.
+    pub index: usize,
+    /// Where all is right, how many rows the file has.
+    pub rows: u64,
+    /// Where all is right, how many cases the file has.
+    pub cases: u64,
+}
+
+/// The number of a cause, from 1.
+fn number_of_cause(cause: Cause) -> u32
+    ensures { result ≡ cause_number cause }
+{
+    match cause {
+        Cause::LineTooLong => 1,
+        Cause::Directive => 2,
+        Cause::LevelItem => 3,
+        Cause::OrderItem => 4,
+        Cause::ClassItem => 5,
+        Cause::BitSet => 6,
+        Cause::NoExpectation => 7,
+        Cause::FieldCount => 8,
+        Cause::CodePoint => 9,
+        Cause::DirectionField => 10,
+        Cause::ParaField => 11,
+        Cause::EmptyRow => 12,
+    }
+}
+
+/// The number of a direction.
+fn number_of_direction(direction: Direction) -> u32
+    ensures { result ≡ direction_number direction }
+{
+    match direction {
+        Direction::Ltr => 0,
+        Direction::Rtl => 1,
+        Direction::Auto => 2,
+        Direction::AutoRtl => 3,
+    }
+}
+
+/// A verdict that names nothing.
+const NOTHING_TOLD: BidiVerdict = BidiVerdict {
+    answer: 0,
+    reason: 0,
+    direction: 0,
+    line: 0,
+    index: 0,
+    rows: 0,
+    cases: 0,
+};
+
+/// A verdict as numbers.
+pub fn told(verdict: Verdict) -> BidiVerdict
+    ensures { result ≡ verdict_told verdict }
+{
+    match verdict {
+        Verdict::Yes { rows, cases } => BidiVerdict {
+            rows,
+            cases,
+            ..NOTHING_TOLD
+        },
+        Verdict::Malformed { line, cause } => BidiVerdict {
+            answer: 1,
+            reason: number_of_cause(cause),
+            line,
+            ..NOTHING_TOLD
+        },
+        Verdict::Wrong {
+            line,
+            direction,
+            place,
+        } => {
+            let (reason, index) = match place {
+                Place::ParaLevel => (1, 0),
+                Place::Levels(index) => (2, index),
+                Place::Order(index) => (3, index),
+            };
+            BidiVerdict {
+                answer: 2,
+                reason,
+                direction: number_of_direction(direction),
+                line,
+                index,
+                ..NOTHING_TOLD
+            }
+        }
+    }
+}

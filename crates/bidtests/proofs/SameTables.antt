@@ -1,0 +1,73 @@
+-- What a judge has come to depends on the tables of its file's kind, not on where they stand.
+use Rattle.std.proofs.Common.{◌≡◌, ℕ, Option, None, Some, List, ◌++◌, map, refl, sym, ap, subst, ◌∙◌}
+use Rattle.units.specs.LineCutting.{Cutting}
+use Rattle.units.specs.Limits.{LimitsOf}
+use Rattle.ucdfiles.specs.Tables.{TablesOf, unit_by}
+use Rattle.bidtests.specs.declared.kind.Kind.{Kind}
+use Rattle.bidtests.specs.declared.kind.Kind.TheVariants.{Classes, Characters}
+use Rattle.bidtests.specs.declared.verdict.Verdict.{Verdict}
+use Rattle.bidtests.specs.Verdicts.{Finding, first_no, rows_in, cases_in}
+use Rattle.bidtests.specs.ClassesFile.{classes_findings, classes_verdict}
+use Rattle.bidtests.specs.CharactersFile.{characters_line, characters_verdict}
+use Rattle.bidtests.specs.FileKinds.{findings_by, verdict_of}
+use Rattle.bidtests.specs.Standing.{Standing, StateOf, AreInForce, IsBehind, JudgesBy, Judges, HoldsFor, judging, tables_of}
+
+abbrev findings_with : Option TablesOf → List (List ℕ) → List Finding
+findings_with None lines = classes_findings lines
+findings_with (Some tables) lines = map (characters_line (unit_by tables)) lines
+
+abbrev verdict_with : LimitsOf → Option TablesOf → List ℕ → Verdict
+verdict_with limits None bytes = classes_verdict limits bytes
+verdict_with limits (Some tables) bytes = characters_verdict limits (unit_by tables) bytes
+
+findings-with : (kind : Kind) (lines : List (List ℕ)) → findings_by kind lines ≡ findings_with (tables_of kind) lines
+findings-with Classes lines = refl
+findings-with (Characters tables) lines = refl
+
+verdict-with : (limits : LimitsOf) (kind : Kind) (bytes : List ℕ) → verdict_of limits kind bytes ≡ verdict_with limits (tables_of kind) bytes
+verdict-with limits Classes bytes = refl
+verdict-with limits (Characters tables) bytes = refl
+
+in-force-as : (kind other : Kind) → tables_of other ≡ tables_of kind → (levels : Option (List (Option ℕ))) (order : Option (List ℕ)) (lines : List (List ℕ))
+    → AreInForce kind levels order lines → AreInForce other levels order lines
+in-force-as Classes Classes e levels order lines h = h
+in-force-as Classes (Characters tables) e levels order lines h = tt
+in-force-as (Characters tables) Classes e levels order lines h = absurd (cc)
+in-force-as (Characters tables) (Characters others) e levels order lines h = tt
+
+module _ (limits : LimitsOf) (kind other : Kind) (same : tables_of other ≡ tables_of kind) where
+  findings-as : (lines : List (List ℕ)) → findings_by kind lines ≡ findings_by other lines
+  findings-as lines = findings-with kind lines ∙ ap (λ t. findings_with t lines) (sym same) ∙ sym (findings-with other lines)
+
+  behind-as : (s : Standing) (lines : List (List ℕ)) → IsBehind limits kind s lines → IsBehind limits other s lines
+  behind-as s lines h =
+      let e = findings-as lines in
+      record {
+        under = h.under;
+        faultless = ap (first_no limits 0) (sym e) ∙ h.faultless;
+        lists = in-force-as kind other same s.levels s.order lines h.lists;
+        rows = h.rows ∙ ap rows_in e;
+        cases = h.cases ∙ ap cases_in e;
+      }
+
+  judges-as : (decided : Option Verdict) (cutting : Cutting) (s : Standing) (b : List ℕ) → JudgesBy limits kind decided cutting s b → JudgesBy limits other decided cutting s b
+  judges-as None cutting s b h =
+      record { cutter = h.cutter; lines = h.lines; rest = h.rest; cut = h.cut; behind = behind-as s h.lines h.behind }
+  judges-as (Some verdict) cutting s b h = λ more.
+      verdict-with limits other (b ++ more) ∙ ap (λ t. verdict_with limits t (b ++ more)) same ∙ sym (verdict-with limits kind (b ++ more)) ∙ h more
+
+-- a judge of a file of one kind has come so far for each kind with the same tables
+pub holds-for : (limits : LimitsOf) (kind : Kind) (state : StateOf) (b : List ℕ) → JudgesBy limits kind state.decided state.cutting state.standing b
+    → HoldsFor limits (tables_of kind) state b
+holds-for limits kind state b h = λ other same. judges-as limits kind other same state.decided state.cutting state.standing b h
+
+-- what a judge of this kind has come to
+pub state-of : (limits : LimitsOf) (kind own : Kind) (state : StateOf) (b : List ℕ) → Judges limits kind (judging own state) b → HoldsFor limits (tables_of own) state b
+state-of limits kind own state b judges =
+    let P : Kind → Type 0 = λ k. HoldsFor limits (tables_of k) state b in
+    subst P (sym judges.of) (holds-for limits kind state b judges.is)
+
+-- a judge of this kind that has come so far
+pub judges-of : (limits : LimitsOf) (kind own : Kind) (state : StateOf) (b : List ℕ) → own ≡ kind → HoldsFor limits (tables_of own) state b → Judges limits kind (judging own state) b
+judges-of limits kind own state b of holds =
+    record { of = of; is = holds kind (ap tables_of (sym of)) }

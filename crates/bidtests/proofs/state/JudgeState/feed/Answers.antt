@@ -1,0 +1,38 @@
+use Rattle.std.proofs.Common.{length, take, drop, ◌-◌, ◌++◌, refl, sym, ◌∙◌}
+use Rattle.bidtests.specs.Standing.{StateOf, judging, tables_of}
+use Rattle.bidtests.proofs.Judged.{feeds-on, feeds-some, none-from}
+use Rattle.bidtests.proofs.Pieces.{joined, within}
+use Rattle.bidtests.proofs.SameTables.{holds-for}
+use Rattle.bidtests.proofs.state.JudgeState.feed.Goals as goal
+
+pub returns-then-is_some : goal.returns-then-is_some
+returns-then-is_some c = λ limits b h.
+    let kind = c.args.kind in
+    let self = c.loop-at.self-inside in
+    let state : StateOf = record { cutting = self.cutter; standing = self.sheet; decided = self.decided } in
+    holds-for limits kind state (b ++ c.args.piece.now)
+    (feeds-some limits kind (judging kind state) b c.args.piece.now c.loop-at.at (sym c.is_some.ensures ∙ c.if-is_some.true)
+    (record { of = refl; is = c.loop-at.invariant.holds limits b h kind refl })).is
+
+pub loop-at-preserved : goal.loop-at-preserved
+loop-at-preserved c =
+    let kind = c.args.kind in
+    let piece = c.args.piece.now in
+    let at = c.loop-at.at in
+    let used = c.take.result.0 in
+    let rest = take (length piece - at) (drop at piece) in
+    let self = c.loop-at.self-inside in
+    let state : StateOf = record { cutting = self.cutter; standing = self.sheet; decided = self.decided } in
+    let sheet = c.judge_step-self-inside.new.sheet in
+    let decided = c.judge_step-self-inside.result in
+    let next : StateOf = record { cutting = c.take.follows.lender-at-none; standing = sheet; decided = decided } in
+    record {
+      within = within at used piece c.loop-at.invariant.within c.take.ensures.used;
+      holds = λ limits b h.
+          rw (joined at used piece b)
+          (holds-for limits kind next ((b ++ take at piece) ++ take used rest)
+          (feeds-on (judging kind state) c.take.follows.lender-at-none sheet decided rest used c.take.result.1
+          (none-from self.decided (sym c.is_some.ensures ∙ c.if-is_some.false)) c.take.ensures.used c.take.ensures.through c.take.ensures.answer c.take.follows.holds-at-none
+          c.judge_step-self-inside.ensures.fault c.judge_step-self-inside.ensures.standing limits kind (b ++ take at piece)
+          (record { of = refl; is = c.loop-at.invariant.holds limits b h kind refl })).is);
+    }

@@ -1,0 +1,18 @@
+//! Tests of the engine: worked rows of each stage, from the cutting into paragraphs to the resolved levels. They stand
+//! here, and not beside what they test, so that no crate is proved a second time with its tests.
+#![tactic(auto)]
+
+#[cfg(test)]
+mod explicit_rows;
+#[cfg(test)]
+mod given;
+#[cfg(test)]
+mod paragraph_rows;
+#[cfg(test)]
+mod resolve_rows;
+#[cfg(test)]
+mod rooms;
+#[cfg(test)]
+mod sequence_rows;
+#[cfg(test)]
+mod stage_rows;

@@ -1,0 +1,39 @@
+//! Rooms of few and of many positions, of each list that the crates below keep.
+use explicit::isolates::IsolateMap;
+use explicit::levels::Explicit;
+use paragraph::resolver::Resolver;
+use resolve::pairs::Pairs;
+use sequences::sequences::Sequences;
+use std::alloc::Global;
+use std::test::Fail;
+use units::memory::Memory;
+
+/// What making each kind of room for so many positions answers, where it is refused.
+fn refusals(alloc: Global, n: usize) -> [Option<Memory>; 5] {
+    [
+        IsolateMap::with_room(alloc, n).err(),
+        Explicit::with_room(alloc, n).err(),
+        Sequences::with_room(alloc, n).err(),
+        Pairs::with_room(alloc, n).err(),
+        Resolver::with_room(alloc, n).err(),
+    ]
+}
+
+#[test]
+fn rooms_of_any_size_are_made(rt: HostRuntime) {
+    for n in [0, 1, 40_001, 65_536, 1_000_000] {
+        assert_eq!(rt; refusals(rt.alloc(), n), [None; 5], "for {n}");
+    }
+}
+
+#[test]
+fn too_much_room(rt: HostRuntime) {
+    assert_eq!(rt; refusals(rt.alloc(), usize::MAX), [Some(Memory); 5]);
+}
+
+// To be run with each growth refused in turn: one room at most is refused by it.
+#[test]
+fn says_that_memory_was_refused(rt: HostRuntime) {
+    let refused = refusals(rt.alloc(), 64).iter().flatten().count();
+    assert!(rt; refused <= 1, "{refused}");
+}

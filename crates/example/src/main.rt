@@ -1,0 +1,37 @@
+//! Lays out a text by small tables, and prints the level of each character and each line as it is shown.
+#![tactic(auto)]
+
+use std::error::Error;
+use texts::{Direction, Tables, Text};
+
+const CLASSES: &[u8] = b"0020 ; WS\n0028..0029 ; ON\n0030..0039 ; EN\n05D0..05EA ; R\n";
+
+const BRACKETS: &[u8] = b"0028; 0029; o\n0029; 0028; c\n";
+
+const MIRRORS: &[u8] = b"0028; 0029\n0029; 0028\n";
+
+/// Prints each character that has a level, with it.
+fn print_levels(rt: &HostRuntime, text: &Text<'_>) -> anyhow::Result<()> {
+    for (c, level) in text.chars().iter().zip(text.layout().levels()) {
+        if let Some(level) = level {
+            println!(rt; "{c} {}", level.get())?;
+        }
+    }
+    Ok(())
+}
+
+/// Prints each line as it is shown.
+fn print_lines(rt: &HostRuntime, text: &Text<'_>) -> anyhow::Result<()> {
+    for k in 0..text.layout().line_count() {
+        println!(rt; "{}", text.shown_line(rt.alloc(), k)?)?;
+    }
+    Ok(())
+}
+
+fn main(rt: HostRuntime) -> anyhow::Result<()> {
+    let tables = Tables::read(rt.alloc(), CLASSES, BRACKETS, MIRRORS)?;
+    let words = "ab (\u{5D2}\u{5D3}) 12";
+    let text = Text::lay_out(rt.alloc(), &tables, words, Direction::Rtl, &[])?;
+    print_levels(&rt, &text)?;
+    print_lines(&rt, &text)
+}

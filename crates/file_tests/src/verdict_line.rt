@@ -1,0 +1,55 @@
+//! The line that is printed of a verdict.
+use bidtests::verdict::{Cause, Place, Verdict};
+use bidtests::verdict_line::print_verdict;
+use units::level::Direction;
+
+#[test]
+fn prints_each_form_of_verdict(rt: HostRuntime) {
+    let rows: [(Verdict, &[u8]); 4] = [
+        (
+            Verdict::Yes {
+                rows: 1,
+                cases: 18_446_744_073_709_551_615,
+            },
+            b"yes: 1 rows, 18446744073709551615 cases\n",
+        ),
+        (
+            Verdict::Malformed {
+                line: 1,
+                cause: Cause::LineTooLong,
+            },
+            b"no: line 1: malformed: LineTooLong\n",
+        ),
+        (
+            Verdict::Wrong {
+                line: 20,
+                direction: Direction::Auto,
+                place: Place::ParaLevel,
+            },
+            b"no: line 20: auto: paragraph level\n",
+        ),
+        (
+            Verdict::Wrong {
+                line: 3,
+                direction: Direction::Ltr,
+                place: Place::Order(32_768),
+            },
+            b"no: line 3: ltr: order at 32768\n",
+        ),
+    ];
+    for (verdict, line) in rows {
+        let mut out = Vec::new(rt.alloc());
+        assert!(rt; print_verdict(&mut out, &verdict).is_ok());
+        assert_eq!(rt; out.as_slice(), line);
+    }
+}
+
+#[test]
+fn says_that_a_write_failed(rt: HostRuntime) {
+    let verdict = Verdict::Yes { rows: 0, cases: 0 };
+    for taken in [0, 5, 20] {
+        let mut bytes = [0; 20];
+        let mut short = &mut bytes[..taken];
+        assert!(rt; print_verdict(&mut short, &verdict).is_err());
+    }
+}

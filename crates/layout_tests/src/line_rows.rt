@@ -1,0 +1,133 @@
+//! Rows of several lines: breaks, and what a room holds after a refusal.
+use crate::given::{levels, shows, tables, units, units_of};
+use lines::breaks::{BreakFault, Breaks};
+use lines::lay_out::lay_in;
+use lines::layout::Layout;
+use lines::scratch::{RoomFault, Scratch};
+use std::alloc::Global;
+use std::process::Abort;
+use std::test::Fail;
+use units::bracket::Unit;
+use units::level::{Direction, Level, ParaLevel};
+
+#[test]
+fn names_the_first_fault(rt: HostRuntime) {
+    assert_eq!(rt; Breaks::new(&[0], 3).err(), Some(BreakFault::OutOfRange(0)));
+    assert_eq!(rt;
+        Breaks::new(&[2, 2], 3).err(),
+        Some(BreakFault::NotRising(1))
+    );
+    assert_eq!(rt;
+        Breaks::new(&[2, 0], 3).err(),
+        Some(BreakFault::OutOfRange(1))
+    );
+    assert!(rt; Breaks::new(&[], 0).is_ok());
+    let breaks = Breaks::new(&[1, 2], 3).ok();
+    assert!(rt;
+        matches!(&breaks, Some(found) if found.positions() == [1, 2].as_slice() && found.text_len() == 3)
+    );
+}
+
+/// Compares a line's levels and its order.
+fn line_shows(
+    rt: &impl Abort,
+    layout: &Layout,
+    k: usize,
+    levels: &[Option<Level>],
+    order: &[usize],
+) {
+    assert!(rt; k < layout.line_count());
+    let line = layout.line(k);
+    assert_eq!(rt; line.levels, levels);
+    assert_eq!(rt; line.order, order);
+}
+
+/// Two Hebrew letters with a blank between them, from left to right, broken before the second.
+fn lays_out_broken(rt: &impl Abort, room: &mut Scratch, text: &[Unit]) -> Result<(), Fail> {
+    let at = [2];
+    let breaks = Breaks::new(&at, text.len())?;
+    lay_in(room, text, Direction::Ltr, &breaks)?;
+    let layout = room.layout();
+    assert_eq!(rt; layout.line_count(), 2);
+    line_shows(rt, &layout, 0, &[Level::new(1), Level::new(0)], &[0, 1]);
+    line_shows(rt, &layout, 1, &[Level::new(1)], &[2]);
+    Ok(())
+}
+
+#[test]
+fn no_growth_comes_after_making(rt: HostRuntime) -> Result<(), Fail> {
+    let mut room = match Scratch::with_room(rt.alloc(), 64) {
+        Ok(room) => room,
+        Err(fault) => {
+            assert_eq!(rt; fault, RoomFault::Memory);
+            return Ok(());
+        }
+    };
+    let text = units(rt.alloc(), "R WS R")?;
+    let whole = [Level::new(1), Level::new(1), Level::new(1)];
+    for _ in 0..1_000 {
+        lays_out_broken(&rt, &mut room, &text)?;
+        shows(&rt, &mut room, &text, Direction::Ltr, &whole, &[2, 1, 0])?;
+    }
+    Ok(())
+}
+
+#[test]
+fn lays_out_after_too_long(rt: HostRuntime) -> Result<(), Fail> {
+    let alloc = rt.alloc();
+    let long = units(alloc, "R WS R")?;
+    let text = units(alloc, "L L")?;
+    let expected = levels(alloc, "0 0")?;
+    let mut room = Scratch::with_room(alloc, 2)?;
+    let breaks = Breaks::new(&[], long.len())?;
+    assert!(&rt; lay_in(&mut room, &long, Direction::Ltr, &breaks).is_err());
+    shows(&rt, &mut room, &text, Direction::Ltr, &expected, &[0, 1])
+}
+
+/// A Hebrew letter and a digit, a separator, and a Latin letter.
+fn two_paragraphs(alloc: Global) -> Result<Vec<Unit>, Fail> {
+    units_of(alloc, &tables(alloc)?, "\u{5D0}1\na")
+}
+
+#[test]
+fn a_break_behind_a_separator_adds_nothing(rt: HostRuntime) -> Result<(), Fail> {
+    let text = two_paragraphs(rt.alloc())?;
+    let mut room = Scratch::with_room(rt.alloc(), 4)?;
+    let at = [3];
+    let breaks = Breaks::new(&at, text.len())?;
+    lay_in(&mut room, &text, Direction::Auto, &breaks)?;
+    let layout = room.layout();
+    assert_eq!(&rt;
+        layout.para_levels(),
+        [ParaLevel::One, ParaLevel::Zero].as_slice()
+    );
+    assert_eq!(&rt; layout.line_count(), 2);
+    let first = [Level::new(1), Level::new(2), Level::new(1)];
+    line_shows(&rt, &layout, 0, &first, &[2, 1, 0]);
+    line_shows(&rt, &layout, 1, &[Level::new(0)], &[3]);
+    Ok(())
+}
+
+#[test]
+fn a_break_begins_a_line(rt: HostRuntime) -> Result<(), Fail> {
+    let text = two_paragraphs(rt.alloc())?;
+    let mut room = Scratch::with_room(rt.alloc(), 4)?;
+    let at = [1];
+    let breaks = Breaks::new(&at, text.len())?;
+    lay_in(&mut room, &text, Direction::Auto, &breaks)?;
+    let layout = room.layout();
+    assert_eq!(&rt; layout.line_count(), 3);
+    line_shows(&rt, &layout, 0, &[Level::new(1)], &[0]);
+    line_shows(&rt, &layout, 1, &[Level::new(2), Level::new(1)], &[2, 1]);
+    line_shows(&rt, &layout, 2, &[Level::new(0)], &[3]);
+    Ok(())
+}
+
+#[test]
+fn refuses_too_much_room(rt: HostRuntime) {
+    assert_eq!(rt;
+        Scratch::with_room(rt.alloc(), 16_777_217).err(),
+        Some(RoomFault::TooBig)
+    );
+    assert!(rt; Scratch::with_room(rt.alloc(), 0).is_ok());
+}

@@ -1,0 +1,51 @@
+//! Refused memory: to be run with each growth refused in turn. The answer is that memory was refused, or the ordinary
+//! one, and no other.
+use crate::given::tables;
+use printing::fault::PrintFault;
+use printing::print::{print_levels, print_reorder};
+use std::num::NonZeroU16;
+use std::process::Abort;
+use ucdfiles::fault::TableFault;
+use units::level::Direction;
+
+/// Expects that memory was refused, or that this was written into the bytes, of which so many are left.
+fn refused_or_written(
+    rt: &impl Abort,
+    answer: Result<(), PrintFault>,
+    bytes: &[u8],
+    left: usize,
+    expected: &[u8],
+) {
+    match answer {
+        Ok(()) => {
+            assert!(rt; bytes.starts_with(expected));
+            assert_eq!(rt; left, bytes.len().saturating_sub(expected.len()));
+        }
+        Err(fault) => assert_eq!(rt; fault, PrintFault::Memory),
+    }
+}
+
+#[test]
+fn prints_or_says_that_memory_was_refused(rt: HostRuntime) {
+    let alloc = rt.alloc();
+    let tables = match tables(alloc) {
+        Ok(tables) => tables,
+        Err(fault) => {
+            assert_eq!(rt; fault, TableFault::Memory);
+            return;
+        }
+    };
+    let text = ['\u{5D0}', '<', 'a'];
+    let mut bytes = [0; 64];
+    let mut out = bytes.as_mut_slice();
+    let answer = print_levels(alloc, &mut out, &tables, &text, Direction::Ltr);
+    let left = out.len();
+    let lines = b"paragraph 0 level 0\n0 05D0 R 1\n1 003C ON 0\n2 0061 L 0\n";
+    refused_or_written(&rt, answer, &bytes, left, lines);
+
+    let mut out = bytes.as_mut_slice();
+    let columns = NonZeroU16::new(2);
+    let answer = print_reorder(alloc, &mut out, &tables, &text, Direction::Rtl, columns);
+    let left = out.len();
+    refused_or_written(&rt, answer, &bytes, left, b">\xd7\x90\na\n");
+}

@@ -1,0 +1,7 @@
+pub mod Appending
+pub mod Breaks
+pub mod Codes
+pub mod Lengths
+pub mod Passing
+pub mod Printing
+pub mod Showing

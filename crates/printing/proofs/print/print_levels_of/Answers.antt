@@ -1,0 +1,9 @@
+use Rattle.std.proofs.Common.{◌∙◌, ap, length}
+use Rattle.units.specs.Layout.{TextLayout}
+use Rattle.printing.proofs.Lengths.{length-levels}
+use Rattle.printing.proofs.print.print_levels_of.Goals as goal
+
+pub print_paragraphs-requires-clause-levels : goal.print_paragraphs-requires-clause-levels
+print_paragraphs-requires-clause-levels g c =
+    let laid = rw c.unwrap-layout.ensures at c.lay_out.ensures.laid_out in
+    ap (λ (layout : TextLayout). length layout.levels) laid ∙ length-levels _ _ _ _ ∙ c.requires.units

@@ -1,0 +1,5 @@
+pub mod Columns
+pub mod LevelsText
+pub mod PrintedTexts
+pub mod ReorderText
+pub mod Rows

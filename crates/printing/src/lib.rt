@@ -1,0 +1,10 @@
+//! What is printed of a text by tables: its levels, position by position, and its lines as they are shown.
+#![tactic(auto)]
+
+mod columns;
+pub mod fault;
+mod layout_text;
+mod position_line;
+pub mod print;
+mod reorder_text;
+pub mod text_units;

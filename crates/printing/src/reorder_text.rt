@@ -1,0 +1,68 @@
+// The text of `reorder`, over the parts of a layout.
+ghost use Rattle.std.specs.Prelude.{◌≡◌, ◌<◌, length, slice_index_or, OnOk};
+ghost use Rattle.std.specs.Io.KnownBytes.{Appends};
+ghost use Rattle.units.specs.Classes.{is_separator};
+ghost use Rattle.ucdfiles.specs.Tables.{glyph_by};
+ghost use Rattle.lines.specs.Layouts.{view_of, no_line};
+ghost use Rattle.printing.specs.ReorderText.{text_unless, shown_line_text, reorder_text};
+
+use lines::layout::Layout;
+use std::io;
+use std::io::Write;
+use ucdfiles::mirror_table::MirrorTable;
+use units::bracket::Unit;
+use units::class::Class;
+
+/// Writes a character in UTF-8 as it is shown, unless a paragraph separator stands there.
+fn print_shown<W: Write>(w: &mut W, class: Class, character: char) -> io::Result<()>
+    ensures { OnOk result (Appends (W.contents w.old) (W.contents w.new)
+        (text_unless (is_separator class) character)) }
+{
+    if class.is_separator() {
+        return Ok(());
+    }
+    write!(w, "{character}")
+}
+
+/// Writes the line with the number `k` from left to right, and LF. Whether a position holds a paragraph separator is
+/// asked of its own unit, not of the character that it is shown by.
+fn print_line<W: Write>(
+    w: &mut W,
+    mirrors: &MirrorTable,
+    chars: &[char],
+    text: &[Unit],
+    layout: &Layout<'_>,
+    k: usize,
+) -> io::Result<()>
+    requires units { length text.now ≡ length chars.now }
+    requires levels { length (view_of layout.now).levels ≡ length chars.now }
+    requires line { k < length (view_of layout.now).lines }
+    ensures { OnOk result (Appends (W.contents w.old) (W.contents w.new)
+        (shown_line_text (glyph_by mirrors.now) chars.now text.now (view_of layout.now).levels
+        (slice_index_or (view_of layout.now).lines k no_line))) }
+{
+    let order = layout.line(k).order;
+    for (position, character) in order.iter().zip(layout.shown(mirrors, chars, k)) {
+        print_shown(w, text[*position].class, character)?;
+    }
+    writeln!(w)
+}
+
+/// Writes the lines of a text, each from left to right as it is shown (L2, L4), and LF behind each.
+pub fn print_lines<W: Write>(
+    w: &mut W,
+    mirrors: &MirrorTable,
+    chars: &[char],
+    text: &[Unit],
+    layout: &Layout<'_>,
+) -> io::Result<()>
+    requires units { length text.now ≡ length chars.now }
+    requires levels { length (view_of layout.now).levels ≡ length chars.now }
+    ensures { OnOk result (Appends (W.contents w.old) (W.contents w.new)
+        (reorder_text (glyph_by mirrors.now) chars.now text.now (view_of layout.now))) }
+{
+    for k in 0..layout.line_count() {
+        print_line(w, mirrors, chars, text, layout, k)?;
+    }
+    Ok(())
+}

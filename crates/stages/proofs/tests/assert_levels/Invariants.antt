@@ -1,4 +1,0 @@
-use Rattle.stages.proofs.tests.assert_levels.Given as goal
-
-abbrev pub ghosts-levels_after : goal.ghosts-levels_after
-ghosts-levels_after g a = record { name = a.blank.name; parts = a.blank.parts }

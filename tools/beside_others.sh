@@ -1,0 +1,106 @@
+#!/bin/bash
+# Lays the same texts out by the built program `bench`, by the library for programs in C, by ICU and by FriBidi, class
+# look-up included, and prints one table. Of ordinary texts it counts the instructions that a character takes, by
+# valgrind, which are the same on each run; of hostile ones it takes the time, which is not. Each text is one paragraph
+# and one line, in direction auto; what is counted is done again and again over what was made once. In the column of the
+# C library levels and order are copied out besides.
+#
+# usage: tools/beside_others.sh [FOLDER]      (FOLDER, with the property files: /usr/share/unicode)
+#
+# It needs gcc, valgrind and python3, and ends with 2 where one of them or a property file is missing. A column whose
+# program is missing or does not build has `-`: build the program by `rt run` in crates/bench (BENCH and LIBRARY may name
+# one) and the library by `rt lib` in crates/bidi_c; ICU and FriBidi are the packages libicu-dev and libfribidi-dev. Not
+# part of `rt ci`; it takes some minutes.
+set -u
+folder=${1:-/usr/share/unicode}
+tools=$(cd "$(dirname "$0")" && pwd)
+program=${BENCH:-$tools/../crates/bench/out/bench}
+library=${LIBRARY:-$tools/../crates/bidi_c/out/libbidi_c.a}
+heap=${RATTLE_C:-$(dirname "$(readlink -f "$(command -v rt)")")/../c}/liblibc_c.a
+ordinary="english hebrew vowels mixed zwj persian isolates embeddings one_latin one_hebrew"
+# ICU takes quadratic time on nested and on unmatched brackets.
+hostile="fsi_1e6 rli_1e6 isolated_1e6 ladder_1e6 around_1e6 pairs_1e6 alternating_1e6 nested_1e4 unmatched_1e4"
+seconds=60
+
+missing() {
+    echo "$1" >&2
+    exit 2
+}
+for command in gcc valgrind python3; do
+    command -v "$command" > /dev/null || missing "no $command"
+done
+work=$(mktemp -d) || exit 2
+trap 'rm -r "$work"' EXIT
+for name in DerivedBidiClass.txt BidiBrackets.txt BidiMirroring.txt; do
+    found=$(find "$folder" -name "$name" 2> /dev/null | sort | head -n 1)
+    [ -n "$found" ] || missing "no $name in $folder"
+    cp "$found" "$work/$name" || exit 2
+done
+python3 "$tools/bench_texts.py" "$work/texts" || missing "the texts were not written"
+
+# build NAME WORD..: the program of an engine, with these words for gcc; says so where it does not build.
+build() {
+    local name=$1
+    shift
+    gcc -O2 -I/usr/include/fribidi -o "$work/$name" "$tools/beside/$name.c" "$@" 2> "$work/gcc" ||
+        echo "$name is not built: $(head -n 1 "$work/gcc")" >&2
+}
+build lay_out_bidi_c "$library" "$heap"
+build lay_out_icu -licuuc
+build lay_out_fribidi -lfribidi
+[ -x "$program" ] || echo "no program at $program" >&2
+
+# instructions WORD..: how many instructions a command runs. Words for callgrind stand before the command.
+instructions() {
+    valgrind --tool=callgrind --callgrind-out-file=/dev/null "$@" 2>&1 | sed -n 's/.*Collected : \([0-9]*\)$/\1/p'
+}
+
+# each_of_program TEXT COUNT: the instructions of the program `bench` for a character, or `-`.
+each_of_program() {
+    [ -x "$program" ] || { echo -; return; }
+    local few more
+    few=$(instructions "$program" --tables "$work" "$1" 10)
+    more=$(instructions "$program" --tables "$work" "$1" 30)
+    [ -n "$few" ] && [ -n "$more" ] && echo "$(((more - few + 10 * $2) / (20 * $2)))" || echo -
+}
+
+# each_of NAME TEXT COUNT: those of an engine's program.
+each_of() {
+    [ -x "$work/$1" ] || { echo -; return; }
+    local all
+    all=$(instructions --toggle-collect=lay_out_once "$work/$1" "$2" 20 "$work")
+    [ -n "$all" ] && echo "$(((all + 10 * $3) / (21 * $3)))" || echo -
+}
+
+# time_of WORD..: the nanoseconds that a program takes for a character, or `-` where it is missing or out of time.
+time_of() {
+    local found
+    found=$(timeout $seconds "$@" 2>&1 | sed -n 's/.* \([0-9.]*\) ns a character.*/\1/p')
+    echo "${found:--}"
+}
+
+# row NAME PROGRAM LIBRARY ICU FRIBIDI, of which each may be `-`: a line of the table, with the ratios to ICU.
+row() {
+    awk -v name="$1" -v ours="$2" -v from_c="$3" -v icu="$4" -v fribidi="$5" '
+        function beside(a, b) { return a == "-" || b == "-" || b == 0 ? "-" : sprintf("%.2f", a / b) }
+        BEGIN {
+            printf "%-18s %10s %10s %10s %10s %8s %8s\n", name, ours, from_c, icu, fribidi, beside(ours, icu), beside(from_c, icu)
+        }'
+}
+
+head='%-18s %10s %10s %10s %10s %8s %8s\n'
+# shellcheck disable=SC2059
+printf "$head" "instructions" "ours" "from C" "ICU" "FriBidi" "to ICU" "C to ICU"
+for name in $ordinary; do
+    text=$work/texts/$name.txt
+    count=$(python3 -c 'import sys; print(len(open(sys.argv[1], encoding="utf-8", newline="").read()))' "$text")
+    row "$name" "$(each_of_program "$text" "$count")" "$(each_of lay_out_bidi_c "$text" "$count")" \
+        "$(each_of lay_out_icu "$text" "$count")" "$(each_of lay_out_fribidi "$text" "$count")"
+done
+# shellcheck disable=SC2059
+printf "$head" "ns" "ours" "from C" "ICU" "FriBidi" "to ICU" "C to ICU"
+for name in $hostile; do
+    text=$work/texts/$name.txt
+    row "$name" "$(time_of "$program" --tables "$work" "$text" 10)" "$(time_of "$work/lay_out_bidi_c" "$text" 10 "$work")" \
+        "$(time_of "$work/lay_out_icu" "$text" 10)" "$(time_of "$work/lay_out_fribidi" "$text" 10)"
+done

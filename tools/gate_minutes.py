@@ -1,0 +1,83 @@
+#!/usr/bin/env python3
+"""Runs the gate and says what it costs: for each crate the processor minutes of its proof, its tests and its edits.
+
+usage: tools/gate_minutes.py [COMMAND ..]      (with none: rt ci; at the top of the repository)
+
+The command's own output comes first, and its status is the status. Processes of the prover are looked at twice a
+second, so each counts up to half a second less than it took. Linux alone.
+"""
+import collections
+import os
+import subprocess
+import sys
+import threading
+
+KINDS = ("proof", "tests", "edits")
+TICKS = os.sysconf("SC_CLK_TCK")
+
+
+def stat_of(process):
+    """Returns the number of a process's parent, when it began, and its processor seconds, or None where it has ended."""
+    try:
+        with open(f"/proc/{process}/stat", encoding="utf-8", errors="replace") as it:
+            fields = it.read().rpartition(")")[2].split()
+    except OSError:
+        return None
+    return int(fields[1]), int(fields[19]), (int(fields[11]) + int(fields[12])) / TICKS
+
+
+def words_of(process):
+    """Returns the words of a process and the folder that it runs in."""
+    try:
+        with open(f"/proc/{process}/cmdline", encoding="utf-8", errors="replace") as it:
+            return it.read().split("\0"), os.readlink(f"/proc/{process}/cwd")
+    except OSError:
+        return [], ""
+
+
+def named(process):
+    """Returns the crate and the kind of work of a process of the prover, or None of any other."""
+    words, folder = words_of(process)
+    if not words or os.path.basename(words[0]) != "rattle" or "--crate-name" not in words:
+        return None
+    kind = "tests" if "--test" in words else "edits" if "/rt-edit-" in folder else "proof"
+    return words[words.index("--crate-name") + 1], kind
+
+
+def is_below(process, top, found):
+    """Returns whether a process was started by the top one, or by one that it started."""
+    while process in found and process != top:
+        process = found[process][0]
+    return process == top
+
+
+def look(top, seconds):
+    """Notes the seconds that each of the prover's processes below the top one has taken so far."""
+    numbers = [int(it) for it in os.listdir("/proc") if it.isdigit()]
+    found = {it: stat for it in numbers if (stat := stat_of(it))}
+    for process, (_, began, taken) in found.items():
+        if is_below(process, top, found) and (name := named(process)):
+            seconds[process, began] = name, taken
+
+
+def main(command):
+    seconds, ended = {}, threading.Event()
+    run = subprocess.Popen(command)
+    watch = threading.Thread(target=lambda: [look(run.pid, seconds) for _ in iter(lambda: ended.wait(0.5), True)])
+    watch.start()
+    status = run.wait()
+    ended.set()
+    watch.join()
+    minutes = collections.defaultdict(lambda: dict.fromkeys(KINDS, 0.0))
+    for (crate, kind), taken in seconds.values():
+        minutes[crate][kind] += taken / 60
+    total = {kind: sum(it[kind] for it in minutes.values()) for kind in KINDS}
+    print("| crate | " + " | ".join(KINDS) + " |\n|---|---|---|---|")
+    for crate, each in [*minutes.items(), ("all", total)]:
+        print(f"| {crate} | " + " | ".join(f"{each[kind]:.1f}" for kind in KINDS) + " |")
+    print(f"{sum(total.values()):.0f} processor minutes")
+    return status
+
+
+if __name__ == "__main__":
+    sys.exit(main(sys.argv[1:] or ["rt", "ci"]))
