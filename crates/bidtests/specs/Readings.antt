@@ -28,10 +28,10 @@ row_read (Err cause) text = Broken cause
 
 -- what a row of a classes file or of a characters file claims
 abbrev pub claim_of : RowClaim → Claim
-claim_of c = record { text = c.text.now; directions = c.directions.now; para = option_map level_of_para c.para; levels = c.levels.now; order = c.order.now }
+claim_of c = record { text = c.text.now; directions = c.directions.now; para_level = option_map level_of_para c.para_level; levels = c.levels.now; order = c.order.now }
 
 -- the claim of a row of this direction and this paragraph level with these lists, or the cause
 abbrev pub claim_read : Result (Direction × ParaLevel) Cause → List BidiUnit → List (Option ℕ) → List ℕ → Finding
 claim_read (Ok asked) text levels order =
-    Row (record { text = text; directions = asked.0 ∷ []; para = Some (level_of_para asked.1); levels = levels; order = order })
+    Row (record { text = text; directions = asked.0 ∷ []; para_level = Some (level_of_para asked.1); levels = levels; order = order })
 claim_read (Err cause) text levels order = Faulty cause

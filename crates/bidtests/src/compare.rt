@@ -120,7 +120,7 @@ fn compare_with(claim: Claim<'_>, layout: &Layout<'_>) -> Comparison
         → view_of layout.now ≡ layout_of limits claim.entry.text.now direction []
         → Compares limits result (claim_of claim.entry) direction }
 {
-    if !agrees_with(claim.para, layout.para_levels()) {
+    if !agrees_with(claim.para_level, layout.para_levels()) {
         return Comparison::Differs(Place::ParaLevel);
     }
     if let Some(at) = differing_level(claim.levels, layout.levels()) {
