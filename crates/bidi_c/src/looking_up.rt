@@ -6,7 +6,7 @@ ghost use Rattle.bidi_held.specs.Holdings.{layout_held, line_held};
 ghost use Rattle.bidi_held.specs.LinesOut.{TellsLine, RefusesLine};
 
 use crate::bidi_handle::BidiHandle;
-use bidi_held::lines_out::{BidiLine, line_of, write_levels, write_order_of, write_para_levels};
+use bidi_held::lines_out::{BidiLine, tell_line, write_levels, write_order_of, write_para_levels};
 use bidi_held::refusal::{DONE, Refusal};
 use std::alloc::Global;
 
@@ -88,7 +88,7 @@ fn look_up_line(
         return Err(Refusal::NoRoom);
     };
     let done = match held.layout() {
-        Some(layout) => line_of(&layout, k, line),
+        Some(layout) => tell_line(&layout, k, line),
         None => Err(Refusal::NoRoom),
     };
     room.put(held);

@@ -90,8 +90,8 @@ pub fn write_order_of(layout: &Layout<'_>, k: usize, out: &mut [usize]) -> usize
     write_order(layout.line(k).order, out)
 }
 
-/// The line with the number `k`, if there is one.
-pub fn line_of(layout: &Layout<'_>, k: usize, line: &mut BidiLine) -> Result<(), Refusal>
+/// Tells of the line with the number `k`, if there is one.
+pub fn tell_line(layout: &Layout<'_>, k: usize, line: &mut BidiLine) -> Result<(), Refusal>
     ensures none { length (view_of layout.now).lines ≤ k → (result ≡ Err Refusal.NoLine) × (line.new ≡ line.old) }
     ensures line { k < length (view_of layout.now).lines
         → IsOk result × TellsLine (slice_index_or (view_of layout.now).lines k no_line) line.new }
