@@ -10,6 +10,11 @@ IsSequenceAt t j s = slice_get (sequences_of t) j ≡ Some s
 abbrev pub ShareNoPosition : SequenceView → SequenceView → Type 0
 ShareNoPosition s other = (p : ℕ) → Contains s.positions p → Contains other.positions p → ⊥
 
+-- no position stands in two sequences
+abbrev pub SequencesAreApart : LeveledView → Type 0
+SequencesAreApart t =
+    (j k : ℕ) (s other : SequenceView) → IsSequenceAt t j s → IsSequenceAt t k other → j < k → ShareNoPosition s other
+
 -- each position stands before its successor, and the last has none
 abbrev pub FollowsSuccessors : LeveledView → SequenceView → Type 0
 FollowsSuccessors t s =

@@ -2,12 +2,11 @@
 ghost use Rattle.std.specs.Prelude.{◌≡◌, ◌<◌, ◌≤◌, ℕ, Some, Contains};
 ghost use Rattle.units.specs.Runs.{LeveledView, SequenceView, followed, level_of, sequence_from, size_of, successor};
 ghost use Rattle.explicit.specs.Leveled.{IsLeveled, IsNested};
-ghost use Rattle.sequences.specs.Laws.{IsSequenceAt, ShareNoPosition, FollowsSuccessors};
+ghost use Rattle.sequences.specs.Laws.{IsSequenceAt, SequencesAreApart, FollowsSuccessors};
 
 /// No position stands in two sequences.
 pub fn sequences_are_apart()
-    ensures { (t : LeveledView) (j k : ℕ) (s other : SequenceView) → IsLeveled t → IsNested t
-        → IsSequenceAt t j s → IsSequenceAt t k other → j < k → ShareNoPosition s other }
+    ensures { (t : LeveledView) → IsLeveled t → IsNested t → SequencesAreApart t }
 {}
 
 /// Every position of a sequence has the sequence's level (BD13).
