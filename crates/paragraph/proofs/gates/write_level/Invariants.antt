@@ -1,6 +1,6 @@
 use Rattle.std.proofs.Common.{◌≡◌, ◌+◌, map, take}
 use Rattle.flat.specs.Uniform.{kept_level}
-use Rattle.paragraph.proofs.resolver.write_level.Given as goal
+use Rattle.paragraph.proofs.gates.write_level.Given as goal
 
 abbrev pub invariant-loop-p : goal.invariant-loop-p
 invariant-loop-p g l = record {

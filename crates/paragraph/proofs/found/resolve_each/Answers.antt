@@ -2,7 +2,7 @@ use Rattle.std.proofs.Common.{arith, rules}
 use Rattle.units.specs.Classes.{class_at, classes_of}
 use Rattle.resolve.proofs.OwnClasses.{mark-own}
 use Rattle.paragraph.proofs.Covering.{covered_none, covered_next, copied, length_next, stands_in_all}
-use Rattle.paragraph.proofs.resolver.resolve_each.Goals as goal
+use Rattle.paragraph.proofs.found.resolve_each.Goals as goal
 
 pub loop-k-init : goal.loop-k-init
 loop-k-init g c = record {

@@ -1,7 +1,7 @@
 use Rattle.std.proofs.Common.{◌≡◌, ◌+◌, drop}
 use Rattle.std.specs.Prelude.{find}
 use Rattle.units.specs.Classes.{classes_of, is_strong}
-use Rattle.paragraph.proofs.resolver.first_side.Given as goal
+use Rattle.paragraph.proofs.gates.first_side.Given as goal
 
 abbrev pub invariant-loop-k : goal.invariant-loop-k
 invariant-loop-k g l = record {

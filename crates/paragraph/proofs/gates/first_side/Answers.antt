@@ -2,7 +2,7 @@ use Rattle.std.proofs.Common.{arith, ap, sym, ◌∙◌}
 use Rattle.units.specs.Layout.{no_unit}
 use Rattle.paragraph.specs.FirstSides.{side_by}
 use Rattle.paragraph.proofs.Scan.{none_found, strong_found}
-use Rattle.paragraph.proofs.resolver.first_side.Goals as goal
+use Rattle.paragraph.proofs.gates.first_side.Goals as goal
 
 pub loop-k-preserved : goal.loop-k-preserved
 loop-k-preserved g c = record {

@@ -2,7 +2,7 @@ use Rattle.std.proofs.Common.{ap, ◌∙◌}
 use Rattle.units.specs.Classes.{classes_of}
 use Rattle.explicit.specs.SideLevels.{level_under}
 use Rattle.paragraph.proofs.FirstSides.{level_under-flat}
-use Rattle.paragraph.proofs.resolver.flat_level.Goals as goal
+use Rattle.paragraph.proofs.gates.flat_level.Goals as goal
 
 pub returns-clause-level : goal.returns-clause-level
 returns-clause-level g c =

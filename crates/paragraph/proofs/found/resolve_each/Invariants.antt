@@ -1,7 +1,7 @@
 use Rattle.std.proofs.Common.{◌≡◌, ◌≤◌, ◌+◌, ◌*◌, take, length}
 use Rattle.paragraph.proofs.Covering.{IsCovered}
 use Rattle.paragraph.specs.Covering.{positions_in}
-use Rattle.paragraph.proofs.resolver.resolve_each.Given as goal
+use Rattle.paragraph.proofs.found.resolve_each.Given as goal
 
 abbrev pub invariant-loop-k : goal.invariant-loop-k
 invariant-loop-k g l = record {
