@@ -20,6 +20,7 @@ pub extern "C" fn bidi_verdict_text(
     ensures written { (line : List ℕ) → IsVerdictLine verdict.now line → result ≡ 0
         → text.new ≡ line ++ drop (length line) text.old }
     ensures said { (line : List ℕ) → IsVerdictLine verdict.now line → result ≢ 1 → line_length.new ≡ length line }
+    ensures short { ((result ≡ 0) ⊎ (result ≡ 20)) → line_length.new ≤ 72 }
     ensures kept { 0 < result → text.new ≡ text.old }
     ensures unsaid { ((result ≡ 1) ⊎ (result ≡ 19)) → line_length.new ≡ line_length.old }
     ensures refused { 0 < result → IsRefusedFor (RefusesVerdictText verdict.now (length text.old)) result }

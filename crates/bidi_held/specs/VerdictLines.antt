@@ -1,8 +1,10 @@
 -- The line that says a verdict, of its numbers.
-use Rattle.std.specs.Prelude.{ℕ, ◌≡◌, ◌≢◌, ◌<◌, ◌⊎◌, List, length}
+use Rattle.std.specs.Prelude.{ℕ, ◌≡◌, ◌≢◌, ◌<◌, ◌^◌, ◌⊎◌, List, length}
 use Rattle.bidtests.specs.VerdictText.{verdict_text}
+use Rattle.bidtests.specs.declared.verdict.Place.{Place}
 use Rattle.bidtests.specs.declared.verdict.Verdict.{Verdict}
-use Rattle.bidi_held.specs.JudgeCalls.{verdict_told}
+use Rattle.bidtests.specs.declared.verdict.Verdict.TheVariants.{Yes, Malformed, Wrong}
+use Rattle.bidi_held.specs.JudgeCalls.{verdict_told, index_in}
 use Rattle.bidi_held.specs.declared.refusal.Refusal.{Refusal}
 use Rattle.bidi_held.specs.declared.refusal.Refusal.TheVariants.{Memory, NoVerdict, TooSmall}
 use Rattle.bidi_held.specs.declared.told_verdict.BidiVerdict.{BidiVerdict}
@@ -12,6 +14,16 @@ pub record IsVerdictLine (numbers : BidiVerdict) (line : List ℕ) : Type 0 wher
   pub verdict : Verdict
   pub told : numbers ≡ verdict_told verdict
   pub said : line ≡ verdict_text verdict
+
+-- the index that a place names, if it names one, has 64 bits
+abbrev pub HasSmallIndex : Place → Type 0
+HasSmallIndex place = index_in place < 2 ^ 64
+
+-- the numbers that a verdict names have 64 bits
+abbrev pub HasSmallNumbers : Verdict → Type 0
+HasSmallNumbers (Yes rows cases) = (rows < 2 ^ 64) × (cases < 2 ^ 64)
+HasSmallNumbers (Malformed line cause) = line < 2 ^ 64
+HasSmallNumbers (Wrong line direction place) = (line < 2 ^ 64) × HasSmallIndex place
 
 -- no verdict is told by these numbers
 abbrev pub TellNoVerdict : BidiVerdict → Type 0

@@ -1,6 +1,7 @@
 // A verdict as numbers.
 ghost use Rattle.std.specs.Prelude.{◌≡◌, IfSome, Some};
 ghost use Rattle.bidi_held.specs.JudgeCalls.{verdict_told, cause_number, direction_number, place_number, index_in};
+ghost use Rattle.bidi_held.specs.VerdictLines.{HasSmallIndex, HasSmallNumbers};
 
 use crate::layouts::direction_numbered;
 use bidtests::verdict::{Cause, Place, Verdict};
@@ -131,7 +132,8 @@ fn cause_numbered(number: u32) -> Option<Cause>
 
 /// The place with this number and index, if there is one.
 fn place_numbered(number: u32, index: usize) -> Option<Place>
-    ensures { (place : Place) → number ≡ place_number place → index ≡ index_in place → result ≡ Some place }
+    ensures each { (place : Place) → number ≡ place_number place → index ≡ index_in place → result ≡ Some place }
+    ensures small { IfSome result HasSmallIndex }
 {
     match number {
         1 => Some(Place::ParaLevel),
@@ -143,8 +145,9 @@ fn place_numbered(number: u32, index: usize) -> Option<Place>
 
 impl BidiVerdict {
     /// The verdict that these numbers name, whatever those are that it doesn't name.
-    fn named(&self) -> Option<Verdict>
-        ensures { (verdict : Verdict) → self.now ≡ verdict_told verdict → result ≡ Some verdict }
+    fn named(self) -> Option<Verdict>
+        ensures each { (verdict : Verdict) → self ≡ verdict_told verdict → result ≡ Some verdict }
+        ensures small { IfSome result HasSmallNumbers }
     {
         match self.answer {
             0 => Some(Verdict::Yes {
@@ -165,12 +168,13 @@ impl BidiVerdict {
     }
 
     /// The verdict that these numbers tell, if they tell one: those that it doesn't name have to be 0.
-    pub fn verdict(&self) -> Option<Verdict>
-        ensures each { (verdict : Verdict) → self.now ≡ verdict_told verdict → result ≡ Some verdict }
-        ensures told { IfSome result (λ verdict. self.now ≡ verdict_told verdict) }
+    pub fn verdict(self) -> Option<Verdict>
+        ensures each { (verdict : Verdict) → self ≡ verdict_told verdict → result ≡ Some verdict }
+        ensures told { IfSome result (λ verdict. self ≡ verdict_told verdict) }
+        ensures small { IfSome result HasSmallNumbers }
     {
         let verdict = self.named()?;
-        if told(verdict) == *self {
+        if told(verdict) == self {
             Some(verdict)
         } else {
             None

@@ -11,6 +11,7 @@ use std::alloc::Global;
 /// The line that says the verdict with these numbers, if they tell one.
 fn verdict_line(alloc: Global, numbers: &BidiVerdict) -> Result<Vec<u8>, Refusal>
     ensures line { IfOk result (λ line. IsVerdictLine numbers.now line.items) }
+    ensures short { IfOk result (λ line. length line.items ≤ 72) }
     ensures refused { IfErr result (RefusesNumbers numbers.now) }
 {
     let Some(verdict) = numbers.verdict() else {
@@ -35,6 +36,7 @@ pub fn write_verdict_line(
     ensures written { (line : List ℕ) → IsVerdictLine numbers.now line → result ≡ 0
         → out.new ≡ line ++ drop (length line) out.old }
     ensures said { (line : List ℕ) → IsVerdictLine numbers.now line → result ≢ 1 → line_length.new ≡ length line }
+    ensures short { ((result ≡ 0) ⊎ (result ≡ 20)) → line_length.new ≤ 72 }
     ensures kept { 0 < result → out.new ≡ out.old }
     ensures unsaid { ((result ≡ 1) ⊎ (result ≡ 19)) → line_length.new ≡ line_length.old }
     ensures refused { 0 < result → IsRefusedFor (RefusesVerdictText numbers.now (length out.old)) result }
