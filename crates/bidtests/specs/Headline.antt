@@ -45,7 +45,8 @@ layout_under limits claim direction = layout_of limits claim.text direction []
 
 -- no paragraph level is claimed, or that of the first paragraph
 abbrev pub IsParaRight : LimitsOf → Claim → Direction → Type 0
-IsParaRight limits claim direction = IfSome claim.para_level (λ level. slice_get (layout_under limits claim direction).paras 0 ≡ Some level)
+IsParaRight limits claim direction =
+    IfSome claim.para_level (λ level. slice_get (layout_under limits claim direction).paras 0 ≡ Some level)
 
 -- the claimed levels are those of the layout
 abbrev pub AreLevelsRight : LimitsOf → Claim → Direction → Type 0
@@ -129,7 +130,8 @@ MalformedIsExact limits kind b = (number : ℕ) (cause : Cause)
     → (verdict_of limits kind b ≡ Malformed number cause)
     ↔ FirstIsMalformed limits (findings_by kind (lines_of b)) number cause
 
--- the verdict is wrong with this number, direction and place exactly if that row is wrong there, and all before is right
+-- the verdict is wrong with this number, direction and place exactly if that row is wrong there, and all before it are
+-- right
 abbrev pub WrongIsExact : LimitsOf → Kind → List ℕ → Type 0
 WrongIsExact limits kind b = (number : ℕ) (direction : Direction) (place : Place)
     → (verdict_of limits kind b ≡ Wrong number direction place)

@@ -128,7 +128,8 @@ pub record Judges (limits : LimitsOf) (kind : Kind) (judge : Judging) (bytes : L
 -- the verdict is that on the bytes that the judge was handed with these behind, as the whole of a file of its kind
 abbrev pub IsVerdictBehind : Judging → List ℕ → Verdict → Type 0
 IsVerdictBehind judge given verdict =
-    (limits : LimitsOf) (kind : Kind) (b : List ℕ) → Judges limits kind judge b → verdict ≡ verdict_of limits kind (b ++ given)
+    (limits : LimitsOf) (kind : Kind) (b : List ℕ) → Judges limits kind judge b
+    → verdict ≡ verdict_of limits kind (b ++ given)
 
 -- what a judge has come to, apart from its tables
 pub record StateOf : Type 0 where

@@ -63,7 +63,8 @@ wrong_place para_level levels order layout =
 -- the first place at which a claim differs from the layout of its text under the direction (P1 to L2), by the limits
 -- and without breaks
 abbrev pub wrong_place_under : LimitsOf → Claim → Direction → Option Place
-wrong_place_under limits claim d = wrong_place claim.para_level claim.levels claim.order (layout_of limits claim.text d [])
+wrong_place_under limits claim d =
+    wrong_place claim.para_level claim.levels claim.order (layout_of limits claim.text d [])
 
 -- the direction with the place, where there is one
 abbrev pub with_place : Direction → Option Place → Option (Direction × Place)

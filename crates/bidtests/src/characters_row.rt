@@ -1,9 +1,9 @@
 // Rows of characters files.
-ghost use Rattle.std.specs.Prelude.{◌≡◌, ◌≢◌, ◌+◌, ◌*◌, ◌≤◌, [], ◌∷◌, length, vec_capacity, MatchOption, IfSome, IfOk};
+ghost use Rattle.std.specs.Prelude.{◌≡◌, ◌≢◌, ◌+◌, ◌*◌, ◌≤◌, length, vec_capacity, MatchOption, IfSome, IfOk};
 ghost use Rattle.units.specs.Text.{fields_of};
 ghost use Rattle.bidtests.specs.CharactersFile.{direction_field, para_field, characters_row};
 ghost use Rattle.ucdfiles.specs.Tables.{unit_by};
-ghost use Rattle.bidtests.specs.Readings.{claim_read};
+ghost use Rattle.bidtests.specs.Readings.{claim_read, fields_in};
 
 use crate::item::{CharacterItems, LevelItems, OrderItems, read_items};
 use crate::verdict::Cause;
@@ -24,8 +24,8 @@ struct RowFields<'a> {
 
 /// The fields of a content that has five.
 fn fields(content: &[u8]) -> Option<RowFields<'_>>
-    ensures fields { MatchOption result (length (fields_of content.now) ≢ 5) (λ f. fields_of content.now
-        ≡ f.characters.now ∷ f.direction.now ∷ f.para_level.now ∷ f.levels.now ∷ f.order.now ∷ []) }
+    ensures fields { MatchOption result (length (fields_of content.now) ≢ 5)
+        (λ row. fields_of content.now ≡ fields_in row) }
     ensures characters { IfSome result (λ f. length f.characters.now ≤ length content.now) }
     ensures levels { IfSome result (λ f. length f.levels.now ≤ length content.now) }
     ensures order { IfSome result (λ f. length f.order.now ≤ length content.now) }

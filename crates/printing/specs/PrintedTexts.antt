@@ -17,7 +17,8 @@ printed_levels tables chars direction =
 
 -- the lines of the layout of these units with these breaks, each as it is shown by the mirror images
 abbrev pub lines_text : (ℕ → Option ℕ) → List ℕ → List BidiUnit → Direction → List ℕ → List ℕ
-lines_text images chars text direction breaks = reorder_text images chars text (layout_of standard text direction breaks)
+lines_text images chars text direction breaks =
+    reorder_text images chars text (layout_of standard text direction breaks)
 
 -- the breaks at columns, where such are asked for
 abbrev pub breaks_of : List BidiUnit → Option NonZeroU16 → List ℕ

@@ -95,7 +95,7 @@ impl<'t> Text<'t> {
     ghost use Rattle.units.specs.Layout.{layout_of, longest_text};
     ghost use Rattle.units.specs.Limits.{standard};
     ghost use Rattle.lines.specs.Layouts.{view_of, line_at};
-    ghost use Rattle.texts.specs.LaidOut.{tables_in, chars_in, layout_in_text, shown_in};
+    ghost use Rattle.texts.specs.LaidOut.{tables_in_text, chars_in, layout_in_text, shown_in};
     ghost use Rattle.texts.specs.Taken.{IsTaken, TextIsRefused};
     ghost use Rattle.ucdfiles.specs.Tables.{units_by};
 
@@ -109,7 +109,7 @@ impl<'t> Text<'t> {
     ) -> Result<Text<'t>, AllocError>
         requires breaks { breaks.now.len ≡ length chars.items }
         requires fits { length chars.items ≤ longest_text }
-        ensures tables { IfOk result (λ laid. tables_in laid ≡ tables.now) }
+        ensures tables { IfOk result (λ laid. tables_in_text laid ≡ tables.now) }
         ensures text { IfOk result (λ laid. chars_in laid ≡ chars.items) }
         ensures laid_out { IfOk result (λ laid. layout_in_text laid
             ≡ layout_of standard (units_by tables.now chars.items) direction breaks.now.positions) }
@@ -134,7 +134,7 @@ impl<'t> Text<'t> {
         breaks: &[usize],
     ) -> Result<Text<'t>, TextFault>
         ensures taken { OnOk result (IsTaken (chars text.now) breaks.now) }
-        ensures tables { IfOk result (λ laid. tables_in laid ≡ tables.now) }
+        ensures tables { IfOk result (λ laid. tables_in_text laid ≡ tables.now) }
         ensures text { IfOk result (λ laid. chars_in laid ≡ chars text.now) }
         ensures laid_out { IfOk result (λ laid. layout_in_text laid
             ≡ layout_of standard (units_by tables.now (chars text.now)) direction breaks.now) }

@@ -1,5 +1,5 @@
--- An over-long line is faulty, whatever stands before it: proofs of the law `over_long` of the tables that are read line
--- by line. They stand here since an impl may cite no other place.
+-- An over-long line is faulty, whatever stands before it: proofs of the law `over_long` of the tables that are read
+-- line by line. They stand here since an impl may cite no other place.
 use Rattle.std.specs.Prelude.{◌≡◌, ℕ, ◌<◌, List, length, map, Some, true, refl, nat_lt, Result}
 use Rattle.std.proofs.Common.{ap}
 use Rattle.std.proofs.lemmas.Bool.{lt-ltb}
