@@ -1,5 +1,5 @@
 -- What a handle holds.
-use Rattle.std.specs.Prelude.{ℕ, Option, Some, None, List, [], slice_index_or}
+use Rattle.std.specs.Prelude.{ℕ, Option, Some, None, [], slice_index_or}
 use Rattle.std.specs.Option.{option_map}
 use Rattle.units.specs.Layout.{TextLayout, LineLayout}
 use Rattle.ucdfiles.specs.Tables.{TablesOf}

@@ -1,5 +1,5 @@
 -- The limits that C hands in.
-use Rattle.std.specs.Prelude.{ℕ, ◌≡◌, ◌<◌, ◌≤◌, ◌⊎◌}
+use Rattle.std.specs.Prelude.{◌≡◌, ◌<◌, ◌≤◌, ◌⊎◌}
 use Rattle.units.specs.Limits.{LimitsOf}
 use Rattle.bidi_held.specs.declared.limits.BidiLimits.{BidiLimits}
 use Rattle.bidi_held.specs.declared.refusal.Refusal.{Refusal}

@@ -1,5 +1,5 @@
 -- Why a text is not laid out.
-use Rattle.std.specs.Prelude.{ℕ, ◌<◌, ◌≤◌, ◌≡◌, ◌≢◌, Option, None, List, length, slice_index}
+use Rattle.std.specs.Prelude.{ℕ, ◌<◌, ◌≤◌, ◌≡◌, ◌≢◌, None, List, length, slice_index}
 use Rattle.std.specs.Char.{IsScalar}
 use Rattle.lines.specs.LineBreaks.{AreBreaks, IsFirstBreakFault}
 use Rattle.lines.specs.declared.breaks.BreakFault.TheVariants.{OutOfRange, NotRising}

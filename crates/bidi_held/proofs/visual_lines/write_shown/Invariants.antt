@@ -1,4 +1,4 @@
-use Rattle.std.proofs.Common.{◌≡◌, take, drop, length}
+use Rattle.std.proofs.Common.{◌≡◌, take, drop}
 use Rattle.std.specs.List.{All}
 use Rattle.std.specs.Char.{IsScalar}
 use Rattle.units.specs.Reordering.{shown_of}

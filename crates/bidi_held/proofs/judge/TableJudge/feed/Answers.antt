@@ -1,4 +1,4 @@
-use Rattle.std.proofs.Common.{◌≡◌, ◌∙◌, ◌++◌, Option, sym, subst}
+use Rattle.std.proofs.Common.{◌∙◌, ◌++◌, Option, sym, subst}
 use Rattle.ucdfiles.specs.Tables.{TablesOf}
 use Rattle.bidtests.specs.Standing.{HoldsFor}
 use Rattle.bidi_held.proofs.judge.TableJudge.feed.Goals as goal

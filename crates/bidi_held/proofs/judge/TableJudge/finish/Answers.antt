@@ -1,4 +1,4 @@
-use Rattle.std.proofs.Common.{◌≡◌, ◌∙◌, Option, sym, subst, ap}
+use Rattle.std.proofs.Common.{◌∙◌, Option, sym, subst, ap}
 use Rattle.ucdfiles.specs.Tables.{TablesOf}
 use Rattle.bidtests.specs.Standing.{HoldsFor}
 use Rattle.bidi_held.specs.Judged.{verdict_by}
