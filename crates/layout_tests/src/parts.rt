@@ -14,17 +14,37 @@ use units::class::Class;
 use units::level::{Level, ParaLevel};
 use units::steps::Steps;
 
-#[test]
-fn writes_the_order_of_a_line_in_its_text(rt: HostRuntime) {
-    orders_a_line::<Brand>(&rt, Blank::new(1));
-}
-
-fn orders_a_line<K: Ledger>(rt: &impl Abort, blank: Blank)
+/// L2 of the positions from `start` up to `end`, at most 16, of a text with these levels: their order, from left to
+/// right.
+fn orders_counting<K: Ledger>(
+    rt: &impl Abort,
+    levels: &[Option<Level>],
+    start: usize,
+    end: usize,
+    expected: &[usize],
+    blank: Blank,
+)
     requires name { blank.name ≡ K.name }
     requires parts { blank.parts ≡ K.parts }
     requires some { 0 < blank.parts }
 {
+    assert!(rt; start <= end);
+    assert!(rt; end <= levels.len());
+    assert!(rt; end <= 16);
     let mut steps = Steps::<K>::new(blank);
+    let mut order = [0; 16];
+    let mut runs = [Run::default(); 16];
+    let count = write_order(levels, start, end, None, &mut runs, &mut order, &mut steps);
+    assert_eq!(rt; &order[..count], expected);
+}
+
+/// The same, by a count of steps of its own.
+fn orders(rt: &impl Abort, levels: &[Option<Level>], start: usize, end: usize, expected: &[usize]) {
+    orders_counting::<Brand>(rt, levels, start, end, expected, Blank::new(1));
+}
+
+#[test]
+fn writes_the_order_of_a_line_in_its_text(rt: HostRuntime) {
     let levels = [
         Level::new(1),
         Level::new(1),
@@ -32,24 +52,11 @@ fn orders_a_line<K: Ledger>(rt: &impl Abort, blank: Blank)
         Level::new(2),
         Level::new(0),
     ];
-    let mut order = [0; 5];
-    let mut runs = [Run::default(); 5];
-    let count = write_order(&levels, 1, 5, None, &mut runs, &mut order, &mut steps);
-    assert_eq!(rt; count, 3);
-    assert_eq!(rt; &order[..3], [3, 1, 4].as_slice());
+    orders(&rt, &levels, 1, 5, &[3, 1, 4]);
 }
 
 #[test]
 fn links_runs_inside_runs(rt: HostRuntime) {
-    orders_nested_runs::<Brand>(&rt, Blank::new(1));
-}
-
-fn orders_nested_runs<K: Ledger>(rt: &impl Abort, blank: Blank)
-    requires name { blank.name ≡ K.name }
-    requires parts { blank.parts ≡ K.parts }
-    requires some { 0 < blank.parts }
-{
-    let mut steps = Steps::<K>::new(blank);
     let levels = [
         None,
         Level::new(1),
@@ -62,11 +69,7 @@ fn orders_nested_runs<K: Ledger>(rt: &impl Abort, blank: Blank)
         Level::new(0),
         Level::new(0),
     ];
-    let mut runs = [Run::default(); 9];
-    let mut order = [0; 9];
-    let count = write_order(&levels, 0, 9, None, &mut runs, &mut order, &mut steps);
-    assert_eq!(rt; count, 7);
-    assert_eq!(rt; &order[..7], [7, 6, 5, 4, 2, 1, 8].as_slice());
+    orders(&rt, &levels, 0, 9, &[7, 6, 5, 4, 2, 1, 8]);
 }
 
 #[test]

@@ -1,43 +1,61 @@
 //! Lines of many columns.
-ghost use Rattle.std.specs.Prelude.{◌≡◌, length, IfOk};
-
 use crate::given::tables;
 use printing::print::print_reorder;
-use std::alloc::{AllocError, Global};
+use std::alloc::Global;
 use std::num::NonZeroU16;
+use std::process::Abort;
 use std::test::Fail;
+use ucdfiles::tables::Tables;
 use units::level::Direction;
+use units::memory::Memory;
 
-/// A text of so many letters.
-fn letters(alloc: Global, count: usize) -> Result<Vec<char>, AllocError>
-    ensures { IfOk result (λ text. length text.items ≡ count) }
-{
-    vec![in alloc; 'a'; count]
+/// So many times `a`.
+fn letters(alloc: Global, count: usize) -> Result<Vec<char>, Memory> {
+    Ok(vec![in alloc; 'a'; count]?)
 }
 
-/// The text takes more than one line of any number of columns.
+/// Expects a line feed behind each so many bytes and at the end, and nowhere else.
+fn ends_each_line(rt: &impl Abort, printed: &[u8], columns: u16) {
+    for line in printed.chunks(usize::from(columns) + 1) {
+        assert_eq!(rt; line.last(), Some(&b'\n'), "{columns}");
+        let ends = line.iter().filter(|byte| **byte == b'\n').count();
+        assert_eq!(rt; ends, 1, "{columns}");
+    }
+}
+
+/// Prints a text in lines of so many columns, and expects so many bytes.
+fn prints_lines(
+    rt: &impl Abort,
+    alloc: Global,
+    tables: &Tables,
+    text: &[char],
+    columns: u16,
+    bytes: usize,
+) -> Result<(), Fail> {
+    assert!(rt; text.len() <= 100_000);
+    let width = NonZeroU16::new(columns);
+    let mut out = Vec::new(alloc);
+    let answer = print_reorder(alloc, &mut out, tables, text, Direction::Auto, width);
+    assert_eq!(rt; answer, Ok(()), "{columns}");
+    assert_eq!(rt; out.len(), bytes, "{columns}");
+    ends_each_line(rt, &out, columns);
+    Ok(())
+}
+
+/// The text takes more than one line of any number of columns: 258, 257, 256, 2 and 2 of these.
 #[test]
 fn breaks_at_many_columns(rt: HostRuntime) -> Result<(), Fail> {
     let alloc = rt.alloc();
     let tables = tables(alloc)?;
     let text = letters(alloc, 65_600)?;
-    for (columns, lines) in [
-        (255_u16, 258),
-        (256, 257),
-        (257, 256),
-        (65_534, 2),
-        (65_535, 2),
+    for (columns, bytes) in [
+        (255, 65_858),
+        (256, 65_857),
+        (257, 65_856),
+        (65_534, 65_602),
+        (65_535, 65_602),
     ] {
-        let width = usize::from(columns);
-        let columns = NonZeroU16::new(columns);
-        let mut out = Vec::new(alloc);
-        let answer = print_reorder(alloc, &mut out, &tables, &text, Direction::Auto, columns);
-        assert_eq!(rt; answer, Ok(()), "{width}");
-        assert_eq!(rt; out.len().checked_sub(text.len()), Some(lines), "{width}");
-        for (k, byte) in out.iter().enumerate() {
-            let ends_line = k % (width + 1) == width || k + 1 == out.len();
-            assert_eq!(rt; *byte == b'\n', ends_line, "{width}: {k}");
-        }
+        prints_lines(&rt, alloc, &tables, &text, columns, bytes)?;
     }
     Ok(())
 }

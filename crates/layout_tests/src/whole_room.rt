@@ -6,15 +6,15 @@ use crate::given::tables;
 use lines::breaks::Breaks;
 use lines::lay_out::lay_out;
 use lines::scratch::Scratch;
-use std::alloc::Global;
+use std::alloc::{AllocError, Global};
 use std::marker::Brand;
 use std::process::Abort;
 use std::sync::ledger::{Blank, Ledger};
 use std::test::Fail;
+use ucdfiles::tables::Tables;
 use units::bracket::{Bracket, Unit};
 use units::class::Class;
 use units::level::{Direction, Level};
-use units::memory::Memory;
 use units::steps::Steps;
 
 const ROOM: usize = 1_048_576;
@@ -67,13 +67,52 @@ fn rises(
     rises_counting::<Brand>(rt, room, text, raised, Blank::new(1))
 }
 
-/// Pairs of these two that fill the room.
-fn pairs(alloc: Global, opening: Unit, closing: Unit) -> Result<Vec<Unit>, Memory> {
-    let mut text = vec![in alloc; opening; ROOM]?;
+/// A text of so many units, all of them this one.
+fn filled(alloc: Global, unit: Unit, count: usize) -> Result<Vec<Unit>, AllocError> {
+    vec![in alloc; unit; count]
+}
+
+/// Pairs of these two, so many units together.
+fn pairs(
+    alloc: Global,
+    opening: Unit,
+    closing: Unit,
+    count: usize,
+) -> Result<Vec<Unit>, AllocError> {
+    let mut text = filled(alloc, opening, count)?;
     for unit in text.iter_mut().skip(1).step_by(2) {
         *unit = closing;
     }
     Ok(text)
+}
+
+/// Lays out a text of isolate initiators that fills the room.
+fn fills_with_initiators(rt: &impl Abort, alloc: Global, room: &mut Scratch) -> Result<(), Fail> {
+    let text = filled(alloc, plain(Class::FSI), ROOM)?;
+    rises(rt, room, &text, None)
+}
+
+/// BD16, N0: the same of pairs of brackets, alone and behind both directions.
+fn fills_with_brackets(
+    rt: &impl Abort,
+    alloc: Global,
+    room: &mut Scratch,
+    opening: Unit,
+    closing: Unit,
+) -> Result<(), Fail> {
+    let mut text = pairs(alloc, opening, closing, ROOM)?;
+    rises(rt, room, &text, None)?;
+    assert!(rt; text.len() > 1);
+    text[0] = plain(Class::L);
+    text[1] = plain(Class::R);
+    rises(rt, room, &text, Some(1))
+}
+
+/// Texts that fill the room, and then calls on one unit.
+fn fills(rt: &impl Abort, alloc: Global, room: &mut Scratch, tables: &Tables) -> Result<(), Fail> {
+    fills_with_initiators(rt, alloc, room)?;
+    fills_with_brackets(rt, alloc, room, tables.unit('('), tables.unit(')'))?;
+    each_in_a_call(rt, room, tables.unit('a'), None)
 }
 
 #[test]
@@ -81,17 +120,7 @@ fn each_text_may_fill_the_room(rt: HostRuntime) -> Result<(), Fail> {
     let alloc = rt.alloc();
     let tables = tables(alloc)?;
     let mut room = Scratch::with_room(alloc, ROOM)?;
-    let initiators = vec![in alloc; plain(Class::FSI); ROOM]?;
-    rises(&rt, &mut room, &initiators, None)?;
-
-    // BD16, N0: pairs of brackets, alone and behind both directions.
-    let mut brackets = pairs(alloc, tables.unit('('), tables.unit(')'))?;
-    rises(&rt, &mut room, &brackets, None)?;
-    assert!(rt; brackets.len() > 1);
-    brackets[0] = plain(Class::L);
-    brackets[1] = plain(Class::R);
-    rises(&rt, &mut room, &brackets, Some(1))?;
-    each_in_a_call(&rt, &mut room, tables.unit('a'), None)
+    fills(&rt, alloc, &mut room, &tables)
 }
 
 /// As many calls as the room has units, each on this one, at level 1 or 0.
