@@ -4,10 +4,11 @@ use Rattle.clap.proofs.OnLiterals.{clap_on_literals}
 use Rattle.clap.specs.Faults.{fault_of}
 use Rattle.clap.specs.Simple.{subcommand_of}
 use Rattle.clap.specs.Walk.{Row, Text, first_of, one_of}
-use Rattle.clap.specs.declared.error.kind.ErrorKind.TheVariants.{DisplayVersion}
+use Rattle.clap.specs.declared.error.kind.ErrorKind.TheVariants.{ArgumentConflict, DisplayVersion, MissingRequiredArgument}
 use Rattle.units.specs.declared.level.Direction.{Direction}
 use Rattle.units.specs.declared.level.Direction.TheVariants.{Auto, Rtl}
 use Rattle.bidi.specs.CommandLine.{Choice, bidi_app, direction_named, kind_named}
+use Rattle.bidi.specs.Refusals.{kind_without_request}
 use Rattle.bidi.specs.declared.request.FileKind.{FileKind}
 use Rattle.bidi.specs.declared.request.FileKind.TheVariants.{Characters}
 
@@ -121,7 +122,13 @@ pub explain_classes_words : (a b c kinds : Choice) → option_map met (subcomman
 unfolding clap_on_literals
 explain_classes_words a b c kinds = refl
 
--- neither: the words pass, and make no request
-pub explain_nothing_words : (a b c kinds : Choice) → fault_of (bidi_app a b c kinds) (codes "bidi" ∷ codes "explain" ∷ []) ≡ []
+-- neither, and both: no request, and the kind of error for that
+pub explain_nothing_words : (a b c kinds : Choice)
+    → kind_without_request (subcommand_of (bidi_app a b c kinds) (codes "bidi" ∷ codes "explain" ∷ [])) ≡ MissingRequiredArgument
 unfolding clap_on_literals
 explain_nothing_words a b c kinds = refl
+
+pub explain_both_words : (a b c kinds : Choice) → kind_without_request (subcommand_of (bidi_app a b c kinds)
+    (codes "bidi" ∷ codes "explain" ∷ codes "--classes" ∷ codes "R" ∷ codes "FILE" ∷ [])) ≡ ArgumentConflict
+unfolding clap_on_literals
+explain_both_words a b c kinds = refl

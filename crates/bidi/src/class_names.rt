@@ -1,7 +1,8 @@
 // Classes read from a word of the command line.
-ghost use Rattle.std.specs.Prelude.{◌≡◌, ◌≤◌, length, IfOk, IfErr};
+ghost use Rattle.std.specs.Prelude.{◌≡◌, ◌≤◌, length, IfOk, IfErr, OnOk};
 ghost use Rattle.units.specs.Layout.{longest_text};
 ghost use Rattle.bidi.specs.ClassWords.{EndsNames, classes_named};
+ghost use Rattle.bidi.specs.Printed.{most_text_bytes};
 ghost use Rattle.bidi.specs.Steps.{IsFirstFault, classes_steps};
 
 use crate::fault::Fault;
@@ -33,6 +34,7 @@ fn classes_of_names<'a>(alloc: Global, names: &'a [u8]) -> Result<Vec<Class>, Fa
 pub fn classes_in<'a>(alloc: Global, word: &'a str) -> Result<Vec<Class>, Fault<'a>>
     ensures classes { IfOk result (λ classes. classes_named word.now ≡ Some classes.items) }
     ensures bound { IfOk result (λ classes. length classes.items ≤ longest_text) }
+    ensures short { OnOk result (length word.now ≤ most_text_bytes) }
     ensures fault { IfErr result (IsFirstFault (classes_steps word.now)) }
 {
     if word.len() as u64 > MOST_TEXT_BYTES {

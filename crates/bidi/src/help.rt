@@ -51,16 +51,21 @@ refused.";
 pub const REORDER_EXAMPLE: &str = "Example:\n  bidi reorder --tables ucd --columns 80 text.txt";
 
 /// What `explain` prints, and with which status it ends.
-pub const EXPLAIN_LONG_ABOUT: &str = "Prints what each rule does, of a text, in UTF-8, or of a row of classes.
+pub const EXPLAIN_LONG_ABOUT: &str =
+    "Prints what each rule does with a text, in UTF-8, or with a list of classes.
 
-For each paragraph prints its level with the character that decided it, then for each
-of its positions a line with what the rules made of it, from X1 to X9 on to L1, `.`
-where a rule changed nothing, and then its sequences, its bracket pairs and its order.
-A text is read by tables, as for `levels`; --classes needs none.
+For each paragraph prints a line `paragraph K level L: WHY`, K counted from 0, with what
+decided the level, a row for each of its positions, and then its isolating run sequences,
+its bracket pairs and its order from left to right.
 
-Ends with status 0, 2 where the command line is refused or --classes has a word that is
-no class, and 3 where a file can't be read, a line of a table is faulty, the text is
-not UTF-8, a write fails or memory is refused.";
+A row has the position in the text, counted from 0, the code point, the class, the level
+after X1 to X8, or `x` where X9 removes the position, the class after X1 to X8, after
+each of W1 to W7 and after N0, N1 and N2, the level after I1 and I2, and that after L1.
+`.` stands where a rule changed nothing.
+
+Ends with status 0, 2 where the command line is refused or --classes has a name of no
+class, and 3 where a file can't be read, a line of a table is faulty, the text is not
+UTF-8, a write fails or memory is refused.";
 
 /// How `explain` is called.
 pub const EXPLAIN_USAGE: &str = "bidi explain [OPTIONS] --tables <DIR> <FILE>

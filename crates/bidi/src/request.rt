@@ -211,9 +211,6 @@ pub fn request_of<'a>(alloc: Global, words: &'a [&'a str]) -> Result<Request<'a>
     let matches = command.try_get_matches_from_mut(words)?;
     match request_by(&matches) {
         Some(request) => Ok(request),
-        None => Err(error_without_request(
-            alloc,
-            kind_without_request(&matches),
-        )?),
+        None => Err(error_without_request(alloc, kind_without_request(&matches))?),
     }
 }
