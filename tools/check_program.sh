@@ -63,6 +63,22 @@ ends 0 $'paragraph 0 level 0\n0 05D0 R 1\n1 0020 WS 0\n2 0028 ON 0\n3 0061 L 0' 
     levels --tables t --direction ltr text.txt
 ends 0 $'a) \xd7\x90' '' reorder --tables t text.txt
 ends 0 $' \xd7\x90\na)' '' reorder --tables t --columns 2 text.txt
+explained=$'position code class level X W1 W2 W3 W4 W5 W6 W7 N0 N1 N2 I L1
+0 05D0 R 1 . . . . . . . . . . . . .
+1 0020 WS 1 . . . . . . . . . . R . .
+2 0028 ON 1 . . . . . . . . . . R . .
+3 0061 L 1 . . . . . . . . . . . 2 .
+sequence 0 level 1 sos R eos R: 0 1 2 3
+order 3 2 1 0'
+ends 0 $'paragraph 0 level 1: R at 0\n'"$explained" '' explain --tables t text.txt
+ends 0 $'paragraph 0 level 1: given\n'"$explained" '' explain --tables t --direction rtl text.txt
+ends 0 $'paragraph 0 level 0: no strong character
+position code class level X W1 W2 W3 W4 W5 W6 W7 N0 N1 N2 I L1
+0 - ON 0 . . . . . . . . . L . . .
+sequence 0 level 0 sos L eos L: 0
+order 0' '' explain --classes ON
+ends 2 '' 'bidi: X1 is no class' explain --classes 'ON X1 X2'
+ends 3 '' 'bidi: cannot read missing.txt' explain --tables t missing.txt
 ends 2 '' 'bidi: a word is not UTF-8' judge --kind classes $'\xff'
 ends 3 '' 'bidi: cannot read missing.txt' levels --tables t missing.txt
 ends 3 '' 'bidi: bytes.txt: not UTF-8' reorder --tables t bytes.txt
@@ -75,6 +91,7 @@ printf '0028; 0029\n0029; 0028\n' > t/BidiMirroring.txt
 # Standard input in the place of a file, also where it is closed or a file has its name.
 ends 0 $'a) \xd7\x90' '' reorder --tables t - < text.txt
 ends 0 $'paragraph 0 level 1\n0 05D0 R 1\n1 0020 WS 1\n2 0028 ON 1\n3 0061 L 2' '' levels --tables t - < <(cat text.txt)
+ends 0 $'paragraph 0 level 1: R at 0\n'"$explained" '' explain --tables t - < text.txt
 ends 1 'no: line 3: rtl: levels at 0' '' judge --kind classes - < no.txt
 ends 0 'yes: 1 rows, 1 cases' '' judge --kind characters --tables t - < <(cat characters.txt)
 ends 3 '' 'bidi: bytes.txt: not UTF-8' reorder --tables t bytes.txt < text.txt
@@ -98,7 +115,7 @@ ends 0 $'bidi (rules P1 to L4 of UAX #9, Unicode 15.0)\nproved with rattle-kit-1
 
 # A full disk, and a pipe that no one reads.
 for words in 'judge --kind classes yes.txt' 'judge --kind classes no.txt' 'levels --tables t text.txt' \
-    'reorder --tables t text.txt' '--help'; do
+    'reorder --tables t text.txt' 'explain --tables t text.txt' 'explain --classes R' '--help'; do
     # shellcheck disable=SC2086
     "$program" $words > /dev/full 2> found_err
     is "status of $words to a full disk" 3 $?

@@ -13,7 +13,7 @@ use Rattle.bidi.specs.Printed.{most_text_bytes}
 use Rattle.bidi.specs.Steps.{AreDone, EndsWriting, FailsIn, IsFirstFault, Step, file_step, printing_steps, steps_of, table_steps, text_steps}
 use Rattle.bidi.specs.declared.request.FileKind.TheVariants.{Classes, Characters}
 use Rattle.bidi.specs.declared.request.Request.{Request}
-use Rattle.bidi.specs.declared.request.Request.TheVariants.{Levels, Reorder, Judge}
+use Rattle.bidi.specs.declared.request.Request.TheVariants.{Levels, Reorder, Explain, ExplainClasses, Judge}
 use Rattle.bidi.specs.declared.fault.Fault.{Fault}
 use Rattle.printing.specs.declared.fault.PrintFault.{PrintFault}
 use Rattle.printing.specs.declared.fault.PrintFault.TheVariants.{Write, Memory}
@@ -85,6 +85,9 @@ request_done files before after (Levels folder direction file) Printed h =
     text_done files folder.now file.now h.tables h.stated h.bytes h.read h.utf8
 request_done files before after (Reorder folder direction columns file) Printed h =
     text_done files folder.now file.now h.tables h.stated h.bytes h.read h.utf8
+request_done files before after (Explain folder direction file) Printed h =
+    text_done files folder.now file.now h.tables h.stated h.bytes h.read h.utf8
+request_done files before after (ExplainClasses word direction) Printed h = (h.short, ((h.classes, h.named), tt))
 request_done files before after (Judge Classes tables file) (Judged status) h = ((h.bytes, h.read), tt)
 request_done files before after (Judge Characters (Some folder) file) (Judged status) h =
     all_done (table_steps files folder.now) (file_step files most_file_bytes file.now ∷ [])
@@ -93,6 +96,10 @@ request_done files before after (Levels folder direction file) (Judged status) h
 request_done files before after (Levels folder direction file) Helped h = absurd h
 request_done files before after (Reorder folder direction columns file) (Judged status) h = absurd h
 request_done files before after (Reorder folder direction columns file) Helped h = absurd h
+request_done files before after (Explain folder direction file) (Judged status) h = absurd h
+request_done files before after (Explain folder direction file) Helped h = absurd h
+request_done files before after (ExplainClasses word direction) (Judged status) h = absurd h
+request_done files before after (ExplainClasses word direction) Helped h = absurd h
 request_done files before after (Judge Classes tables file) Printed h = absurd h
 request_done files before after (Judge Classes tables file) Helped h = absurd h
 request_done files before after (Judge Characters (Some folder) file) Printed h = absurd h

@@ -6,7 +6,7 @@ use Rattle.bidi.specs.Printed.{EndsReading, most_text_bytes}
 use Rattle.bidi.specs.ReadFiles.{FileFacts, most_file_bytes, origin_of}
 use Rattle.bidi.specs.Steps.{FailsIn, IsFirstFault, file_step, text_steps}
 use Rattle.bidi.specs.declared.fault.Fault.{Fault}
-use Rattle.bidi.specs.declared.fault.Fault.TheVariants.{Refused, WordNotUtf8, TablesNeeded, CannotRead, FaultyLine, NotUtf8, CannotWrite, OutOfMemory}
+use Rattle.bidi.specs.declared.fault.Fault.TheVariants.{Refused, WordNotUtf8, TablesNeeded, ClassesTooLong, NoClass, CannotRead, FaultyLine, NotUtf8, CannotWrite, OutOfMemory}
 
 -- bytes that were read whole and are no text
 pub record NoText (files : FileFacts) (file : List ℕ) : Type 0 where
@@ -21,6 +21,8 @@ text_ends files file failures No given (Ok text) failed none h = tt
 text_ends files file failures No given (Err (Refused e)) failed none h = absurd h
 text_ends files file failures No given (Err WordNotUtf8) failed none h = absurd h
 text_ends files file failures No given (Err TablesNeeded) failed none h = absurd h
+text_ends files file failures No given (Err ClassesTooLong) failed none h = absurd h
+text_ends files file failures No given (Err (NoClass name)) failed none h = absurd h
 text_ends files file failures No given (Err (CannotRead name)) failed none h = inl (h.0, given, failed h.1)
 text_ends files file failures No given (Err (FaultyLine name line e)) failed none h = absurd h
 text_ends files file failures No given (Err (NotUtf8 name)) failed none h =
@@ -35,6 +37,8 @@ judging_ends files file failures ended before after given (Ok status) failed who
 judging_ends files file failures ended before after given (Err (Refused e)) failed whole h = absurd h
 judging_ends files file failures ended before after given (Err WordNotUtf8) failed whole h = absurd h
 judging_ends files file failures ended before after given (Err TablesNeeded) failed whole h = absurd h
+judging_ends files file failures ended before after given (Err ClassesTooLong) failed whole h = absurd h
+judging_ends files file failures ended before after given (Err (NoClass name)) failed whole h = absurd h
 judging_ends files file failures ended before after given (Err (CannotRead name)) failed whole h = inl (inl (h.0, given, failed h.1), h.2)
 judging_ends files file failures ended before after given (Err (FaultyLine name line e)) failed whole h = absurd h
 judging_ends files file failures ended before after given (Err (NotUtf8 name)) failed whole h = absurd h

@@ -1,6 +1,6 @@
 -- The command line, as it is read: the command with its subcommands and arguments, and the request that the values of a
 -- subcommand make.
-use Rattle.std.specs.Prelude.{◌≡◌, ◌⊎◌, List, [], ◌∷◌, Option, None, Some, Result, Ok, Err, IfOk, codes, map, option_map, pos, true, if◌then◌else◌}
+use Rattle.std.specs.Prelude.{◌≡◌, ◌⊎◌, List, [], ◌∷◌, Option, None, Some, Result, Ok, Err, IfOk, codes, map, option_map, pos, true, false, if◌then◌else◌}
 use Rattle.std.specs.Borrow.{Bor}
 use Rattle.std.specs.declared.num.NonZeroU16.{NonZeroU16}
 use Rattle.std.specs.declared.num.ParseIntError.{ParseIntError}
@@ -14,15 +14,16 @@ use Rattle.clap.specs.Values.{kind_of}
 use Rattle.clap.specs.Walk.{Row, Rule, Text, first_of, one_of}
 use Rattle.clap.specs.declared.error.Error.{Error}
 use Rattle.clap.specs.declared.error.kind.ErrorKind.{ErrorKind}
-use Rattle.clap.specs.declared.error.kind.ErrorKind.TheVariants.{MissingSubcommand, OutOfMemory}
+use Rattle.clap.specs.declared.error.kind.ErrorKind.TheVariants.{OutOfMemory}
 use Rattle.clap.specs.declared.builder.value_parser.ValueParser.TheVariants as parser
 use Rattle.units.specs.declared.level.Direction.{Direction}
 use Rattle.units.specs.declared.level.Direction.TheVariants.{Auto, Ltr, Rtl, AutoRtl}
 use Rattle.bidtests.specs.VerdictText.{direction_word}
+use Rattle.bidi.specs.Refusals.{kind_without_request}
 use Rattle.bidi.specs.declared.request.FileKind.{FileKind}
 use Rattle.bidi.specs.declared.request.FileKind.TheVariants.{Classes, Characters}
 use Rattle.bidi.specs.declared.request.Request.{Request}
-use Rattle.bidi.specs.declared.request.Request.TheVariants.{Levels, Reorder, Judge}
+use Rattle.bidi.specs.declared.request.Request.TheVariants.{Levels, Reorder, Explain, ExplainClasses, Judge}
 
 -- words that a value may be
 abbrev pub Choice : Type 0
@@ -54,6 +55,10 @@ direction_rule choice = record (option_rule (codes "direction")) {
 abbrev pub columns_rule : Rule
 columns_rule = record (option_rule (codes "columns")) { parser = Some (parser.Signed (pos 1) (pos 65535)) }
 
+-- --classes
+abbrev pub classes_rule : Rule
+classes_rule = option_rule (codes "classes")
+
 -- --kind
 abbrev pub kind_rule : Choice → Rule
 kind_rule choice = record (option_rule (codes "kind")) { required = true; parser = Some (parser.Names choice) }
@@ -61,12 +66,19 @@ kind_rule choice = record (option_rule (codes "kind")) { required = true; parser
 abbrev pub needed : Rule → Rule
 needed rule = record rule { required = true }
 
+abbrev pub left_open : Rule → Rule
+left_open rule = record rule { required = false }
+
 abbrev pub levels_app : Choice → App
 levels_app directions = with_rule (with_rule (with_rule (new_app (codes "levels")) (needed tables_rule)) (direction_rule directions)) file_rule
 
 abbrev pub reorder_app : Choice → App
 reorder_app directions =
     with_rule (with_rule (with_rule (with_rule (new_app (codes "reorder")) (needed tables_rule)) (direction_rule directions)) columns_rule) file_rule
+
+abbrev pub explain_app : Choice → App
+explain_app directions =
+    with_rule (with_rule (with_rule (with_rule (new_app (codes "explain")) tables_rule) classes_rule) (direction_rule directions)) (left_open file_rule)
 
 abbrev pub judge_app : Choice → App
 judge_app kinds = with_rule (with_rule (with_rule (new_app (codes "judge")) (kind_rule kinds)) tables_rule) file_rule
@@ -78,22 +90,24 @@ direction_words = codes "auto" ∷ codes "ltr" ∷ codes "rtl" ∷ codes "auto-r
 abbrev pub kind_words : List Text
 kind_words = codes "classes" ∷ codes "characters" ∷ []
 
--- the command, whose three subcommands have these choices; one of them is needed, but for help and the version
-abbrev pub bidi_app : Choice → Choice → Choice → App
-bidi_app of_levels of_reorder kinds =
-    with_subcommand (with_subcommand (with_subcommand
+-- the command, whose four subcommands have these choices; one of them is needed, but for help and the version
+abbrev pub bidi_app : Choice → Choice → Choice → Choice → App
+bidi_app of_levels of_reorder of_explain kinds =
+    with_subcommand (with_subcommand (with_subcommand (with_subcommand
     (on_top (λ s. record s { has_version = true; subcommand_required = true }) (new_app (codes "bidi")))
-    (levels_app of_levels).top) (reorder_app of_reorder).top) (judge_app kinds).top
+    (levels_app of_levels).top) (reorder_app of_reorder).top) (explain_app of_explain).top) (judge_app kinds).top
 
 -- the command line of `bidi`
 pub record IsBidi (app : App) : Type 0 where
   pub of_levels : Choice
   pub of_reorder : Choice
+  pub of_explain : Choice
   pub kinds : Choice
   pub levels_words : words_of of_levels ≡ direction_words
   pub reorder_words : words_of of_reorder ≡ direction_words
+  pub explain_words : words_of of_explain ≡ direction_words
   pub kinds_words : words_of kinds ≡ kind_words
-  pub is : app ≡ bidi_app of_levels of_reorder kinds
+  pub is : app ≡ bidi_app of_levels of_reorder of_explain kinds
 
 -- the word for a kind of file
 abbrev pub kind_word : FileKind → Text
@@ -130,6 +144,12 @@ AsksFor name rows (Levels tables direction file) = (name ≡ codes "levels")
 AsksFor name rows (Reorder tables direction columns file) = (name ≡ codes "reorder")
     × (first_of (codes "tables") rows ≡ Some tables.now) × (direction ≡ direction_named (first_of (codes "direction") rows))
     × ColumnsAre (one_of (codes "columns") rows) columns × (first_of (codes "file") rows ≡ Some file.now)
+AsksFor name rows (Explain tables direction file) = (name ≡ codes "explain")
+    × (first_of (codes "tables") rows ≡ Some tables.now) × (first_of (codes "classes") rows ≡ None)
+    × (direction ≡ direction_named (first_of (codes "direction") rows)) × (first_of (codes "file") rows ≡ Some file.now)
+AsksFor name rows (ExplainClasses classes direction) = (name ≡ codes "explain")
+    × (first_of (codes "tables") rows ≡ None) × (first_of (codes "classes") rows ≡ Some classes.now)
+    × (direction ≡ direction_named (first_of (codes "direction") rows)) × (first_of (codes "file") rows ≡ None)
 AsksFor name rows (Judge kind tables file) = (name ≡ codes "judge")
     × (kind_named (first_of (codes "kind") rows) ≡ Some kind) × (first_of (codes "tables") rows ≡ option_map (λ folder. folder.now) tables)
     × (first_of (codes "file") rows ≡ Some file.now)
@@ -150,7 +170,7 @@ pub record IsRead (words : List Text) (request : Request) : Type 0 where
 pub record WordsAreRefused (words : List Text) (kind : ErrorKind) : Type 0 where
   pub app : App
   pub is : IsBidi app
-  pub refused : IsAmong kind (fault_of app words) ⊎ ((kind ≡ MissingSubcommand) × ((request : Request) → ¬ (IsAskedBy (subcommand_of app words) request)))
+  pub refused : IsAmong kind (fault_of app words) ⊎ ((kind ≡ kind_without_request (subcommand_of app words)) × ((request : Request) → ¬ (IsAskedBy (subcommand_of app words) request)))
 
 -- what the words are read as: a request, or an error, unless memory was refused
 abbrev pub IsReadAs : List Text → Result Request Error → Type 0

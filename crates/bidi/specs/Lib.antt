@@ -1,3 +1,4 @@
+pub mod ClassWords
 pub mod CommandLine
 pub mod FailingFiles
 pub mod FaultText
@@ -7,6 +8,7 @@ pub mod MemoryFiles
 pub mod Outcomes
 pub mod Printed
 pub mod ReadFiles
+pub mod Refusals
 pub mod Steps
 pub mod SystemFiles
 pub mod TableFaults

@@ -5,7 +5,7 @@ use Rattle.clap.specs.declared.error.Error.{Error}
 use Rattle.clap.specs.declared.error.kind.ErrorKind.TheVariants as kind
 use Rattle.bidi.specs.declared.request.FileKind.TheVariants.{Classes, Characters}
 use Rattle.bidi.specs.declared.request.Request.{Request}
-use Rattle.bidi.specs.declared.request.Request.TheVariants.{Levels, Reorder, Judge}
+use Rattle.bidi.specs.declared.request.Request.TheVariants.{Levels, Reorder, Explain, ExplainClasses, Judge}
 use Rattle.bidi.specs.declared.fault.Fault.{Fault}
 use Rattle.bidi.specs.declared.fault.Fault.TheVariants.{Refused, CannotWrite, OutOfMemory}
 use Rattle.bidi.specs.declared.outcome.Outcome.{Outcome}
@@ -13,9 +13,10 @@ use Rattle.bidi.specs.declared.outcome.Outcome.TheVariants.{Judged, Printed, Hel
 use Rattle.bidi.specs.CommandLine.{IsReadAs}
 use Rattle.bidi.specs.FaultText.{fault_status}
 use Rattle.bidi.specs.Judged.{HasJudged, IsClassesVerdict, IsCharactersVerdict}
-use Rattle.bidi.specs.Printed.{HasPrinted}
+use Rattle.bidi.specs.Printed.{HasExplained, HasPrinted}
 use Rattle.bidi.specs.ReadFiles.{FileFacts}
 use Rattle.bidi.specs.Steps.{FailsIn, steps_of}
+use Rattle.explain.specs.Explained.{explained}
 use Rattle.printing.specs.PrintedTexts.{printed_levels, printed_reorder}
 
 -- the exit status: that of the verdict, 0 after a text, help or the version, and that of the fault
@@ -33,12 +34,16 @@ AsksForHelp error = (kind_of error ≡ kind.DisplayHelp) ⊎ (kind_of error ≡ 
 abbrev pub RefusesWords : Error → Type 0
 RefusesWords error = (kind_of error ≢ kind.OutOfMemory) × (kind_of error ≢ kind.DisplayHelp) × (kind_of error ≢ kind.DisplayVersion)
 
--- what was asked for is done: the text is printed, or the file is judged, by the tables of the folder that is named
+-- what was asked for is done: the text or what is explained of it or of classes is printed, or the file is judged, by the
+-- tables of the folder that is named
 abbrev pub IsDone : FileFacts → Option (List ℕ) → Option (List ℕ) → Request → Outcome → Type 0
 IsDone files before after (Levels folder direction file) Printed =
     HasPrinted files (λ tables text. printed_levels tables text direction) folder.now file.now before after
 IsDone files before after (Reorder folder direction columns file) Printed =
     HasPrinted files (λ tables text. printed_reorder tables text direction columns) folder.now file.now before after
+IsDone files before after (Explain folder direction file) Printed =
+    HasPrinted files (λ tables text. explained tables text direction) folder.now file.now before after
+IsDone files before after (ExplainClasses word direction) Printed = HasExplained word.now direction before after
 IsDone files before after (Judge Classes tables file) (Judged status) =
     HasJudged files IsClassesVerdict file.now before after status
 IsDone files before after (Judge Characters (Some folder) file) (Judged status) =

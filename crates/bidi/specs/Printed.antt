@@ -1,8 +1,12 @@
--- What is printed of a file's text.
-use Rattle.std.specs.Prelude.{◌≡◌, ℕ, ◌^◌, List, Option}
+-- What is printed of a file's text, and of classes in a word.
+use Rattle.std.specs.Prelude.{◌≡◌, ◌≤◌, ℕ, ◌^◌, List, length, Option, Some}
 use Rattle.std.specs.Io.KnownBytes.{Appends}
 use Rattle.std.specs.Str.{chars, IsUtf8}
+use Rattle.units.specs.declared.class.Class.{Class}
+use Rattle.units.specs.declared.level.Direction.{Direction}
 use Rattle.ucdfiles.specs.Tables.{TablesOf}
+use Rattle.explain.specs.Explained.{explained_classes}
+use Rattle.bidi.specs.ClassWords.{classes_named}
 use Rattle.bidi.specs.declared.fault.Fault.{Fault}
 use Rattle.bidi.specs.declared.fault.Fault.TheVariants.{CannotRead, NotUtf8, OutOfMemory}
 use Rattle.bidi.specs.ReadFiles.{FileFacts, AreTables, origin_of}
@@ -20,6 +24,13 @@ pub record HasPrinted (files : FileFacts) (printed : TablesOf → List ℕ → L
   pub read : files.Holds (origin_of file) most_text_bytes bytes
   pub utf8 : IsUtf8 bytes
   pub said : Appends before after (printed tables (chars bytes))
+
+-- a word names classes, and what known bytes grew by is what `explain` prints of them
+pub record HasExplained (word : List ℕ) (direction : Direction) (before after : Option (List ℕ)) : Type 0 where
+  pub short : length word ≤ most_text_bytes
+  pub classes : List Class
+  pub named : classes_named word ≡ Some classes
+  pub said : Appends before after (explained_classes classes direction)
 
 -- when a fault ends the reading of a text from a source of this name: it failed, it has ended and what it handed out is
 -- not UTF-8, or memory was refused

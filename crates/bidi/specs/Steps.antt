@@ -1,14 +1,16 @@
 -- The steps in which a request is done, in their order, and the fault of the first that fails.
-use Rattle.std.specs.Prelude.{◌≡◌, ◌⊎◌, ℕ, List, [], ◌∷◌, ◌++◌, Option, Some, None}
+use Rattle.std.specs.Prelude.{◌≡◌, ◌<◌, ◌≤◌, ◌⊎◌, ℕ, List, [], ◌∷◌, ◌++◌, length, Option, Some, None}
 use Rattle.std.specs.Str.{IsUtf8}
 use Rattle.ucdfiles.specs.ClassFile.{class_fault}
 use Rattle.ucdfiles.specs.PairFiles.{bracket_fault, mirror_fault}
 use Rattle.ucdfiles.specs.declared.fault.Fault.{Fault as LineFault}
+use Rattle.units.specs.declared.class.Class.{Class}
+use Rattle.bidi.specs.ClassWords.{EndsNames, classes_named}
 use Rattle.bidi.specs.declared.request.FileKind.TheVariants.{Classes, Characters}
 use Rattle.bidi.specs.declared.request.Request.{Request}
-use Rattle.bidi.specs.declared.request.Request.TheVariants.{Levels, Reorder, Judge}
+use Rattle.bidi.specs.declared.request.Request.TheVariants.{Levels, Reorder, Explain, ExplainClasses, Judge}
 use Rattle.bidi.specs.declared.fault.Fault.{Fault}
-use Rattle.bidi.specs.declared.fault.Fault.TheVariants.{TablesNeeded, CannotRead, NotUtf8, CannotWrite, OutOfMemory}
+use Rattle.bidi.specs.declared.fault.Fault.TheVariants.{TablesNeeded, ClassesTooLong, CannotRead, NotUtf8, CannotWrite, OutOfMemory}
 use Rattle.bidi.specs.Printed.{most_text_bytes}
 use Rattle.bidi.specs.ReadFiles.{FileFacts, class_name, bracket_name, mirror_name, in_folder, most_file_bytes, origin_of}
 use Rattle.bidi.specs.TableFaults.{EndsTable, IsFaultless}
@@ -43,6 +45,24 @@ abbrev pub EndsText : FileFacts → List ℕ → Fault → Type 0
 EndsText files file (NotUtf8 named) = (named.now ≡ file) × (bytes : List ℕ) × files.Holds (origin_of file) most_text_bytes bytes × ¬ (IsUtf8 bytes)
 EndsText files file OutOfMemory = Unit {0}
 EndsText files file _ = ⊥
+
+-- that a word for classes has no more bytes than a text may have
+abbrev pub length_step : List ℕ → Step
+length_step word = record {
+  Done = length word ≤ most_text_bytes;
+  EndsBy = λ fault. (fault ≡ ClassesTooLong) × (most_text_bytes < length word);
+}
+
+-- the reading of the names in it
+abbrev pub names_step : List ℕ → Step
+names_step word = record {
+  Done = (classes : List Class) × (classes_named word ≡ Some classes);
+  EndsBy = EndsNames word;
+}
+
+-- what is read of a word for classes
+abbrev pub classes_steps : List ℕ → List Step
+classes_steps word = length_step word ∷ names_step word ∷ []
 
 -- when a fault ends the writing: a write failed, or memory was refused
 abbrev pub EndsWriting : Fault → Type 0
@@ -97,6 +117,8 @@ module _ (files : FileFacts) where
   abbrev pub steps_of : Request → List Step
   steps_of (Levels folder direction file) = printing_steps folder.now file.now
   steps_of (Reorder folder direction columns file) = printing_steps folder.now file.now
+  steps_of (Explain folder direction file) = printing_steps folder.now file.now
+  steps_of (ExplainClasses word direction) = classes_steps word.now
   steps_of (Judge Classes tables file) = file_step most_file_bytes file.now ∷ []
   steps_of (Judge Characters (Some folder) file) = characters_steps folder.now file.now
   steps_of (Judge Characters None file) = record { Done = ⊥; EndsBy = EndsUnnamed } ∷ []

@@ -1,10 +1,10 @@
 // What goes wrong in a run, and how it is said.
 ghost use Rattle.std.specs.Prelude.{◌≡◌, OnOk};
 ghost use Rattle.std.specs.Io.KnownBytes.{Appends};
-ghost use Rattle.bidi.specs.FaultText.{SaysFault, fault_status, faulty_line_text};
+ghost use Rattle.bidi.specs.FaultText.{SaysFault, fault_status, faulty_line_text, no_class_text};
 
 use printing::fault::PrintFault;
-use std::alloc::AllocError;
+use std::alloc::{AllocError, AllocFailed};
 use std::io;
 use std::io::Write;
 use ucdfiles::fault::TableFault;
@@ -19,6 +19,10 @@ pub enum Fault<'a> {
     WordNotUtf8,
     /// A file of characters is to be judged, and no folder of tables was given.
     TablesNeeded,
+    /// The word for the classes has more bytes than a text may have.
+    ClassesTooLong,
+    /// This name in the word for the classes is that of no class.
+    NoClass(&'a [u8]),
     /// The file of this name can't be opened, a read of it failed, or it has more bytes than are allowed.
     CannotRead(&'a str),
     /// A line of the table's file of this name is faulty.
@@ -82,6 +86,17 @@ impl From<AllocError> for Fault<'_> {
     }
 }
 
+impl<T: Drop> From<AllocFailed<T>> for Fault<'_> {
+    ghost use Rattle.std.specs.Prelude.{◌≡◌};
+    ghost use Rattle.bidi.specs.declared.fault.Fault.TheVariants.{OutOfMemory};
+
+    ghost from_gives = { λ _ fault. fault ≡ OutOfMemory };
+
+    fn from(_error: AllocFailed<T>) -> Self {
+        Fault::OutOfMemory
+    }
+}
+
 /// Writes the line that says what is wrong with a line of a table's file.
 fn print_faulty_line<E: Write>(
     err: &mut E,
@@ -95,13 +110,26 @@ fn print_faulty_line<E: Write>(
     writeln!(err, "bidi: {name}: line {line}: {fault}")
 }
 
+/// Writes the line that says that a name is that of no class.
+fn print_no_class<E: Write>(err: &mut E, name: &[u8]) -> io::Result<()>
+    ensures { OnOk result (Appends (E.contents err.old) (E.contents err.new) (no_class_text name.now)) }
+{
+    err.write_all(b"bidi: ")?;
+    err.write_all(name)?;
+    err.write_all(b" is no class\n")
+}
+
 impl Fault<'_> {
-    /// The exit status: 2 where the words of the command line are refused or name no tables, else 3.
+    /// The exit status: 2 where the words of the command line are refused, name no tables or no classes, else 3.
     fn status(&self) -> u8
         ensures { result ≡ fault_status self.now }
     {
         match self {
-            Fault::Refused(_) | Fault::WordNotUtf8 | Fault::TablesNeeded => 2,
+            Fault::Refused(_)
+            | Fault::WordNotUtf8
+            | Fault::TablesNeeded
+            | Fault::ClassesTooLong
+            | Fault::NoClass(_) => 2,
             _ => 3,
         }
     }
@@ -114,6 +142,8 @@ impl Fault<'_> {
             Fault::Refused(error) => write!(err, "{error}"),
             Fault::WordNotUtf8 => writeln!(err, "bidi: a word is not UTF-8"),
             Fault::TablesNeeded => writeln!(err, "bidi: --tables is needed"),
+            Fault::ClassesTooLong => writeln!(err, "bidi: --classes is too long"),
+            Fault::NoClass(name) => print_no_class(err, name),
             Fault::CannotRead(name) => writeln!(err, "bidi: cannot read {name}"),
             Fault::FaultyLine { name, line, fault } => print_faulty_line(err, name, *line, *fault),
             Fault::NotUtf8(name) => writeln!(err, "bidi: {name}: not UTF-8"),

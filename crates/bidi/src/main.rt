@@ -1,9 +1,13 @@
-//! The command `bidi`: lays out bidirectional text, and judges conformance files of the bidirectional algorithm.
+//! The command `bidi`: lays out bidirectional text, shows what each rule does of it, and judges conformance files of the
+//! bidirectional algorithm.
 #![tactic(auto)]
 
+mod arguments;
+mod class_names;
 mod command_line;
 mod fault;
 mod files;
+mod help;
 mod judging;
 mod opening;
 mod outcome;

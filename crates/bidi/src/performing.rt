@@ -5,12 +5,14 @@ ghost use Rattle.units.specs.Layout.{longest_text};
 ghost use Rattle.bidi.specs.Judged.{HasJudged, IsCharactersVerdict, IsClassesVerdict};
 ghost use Rattle.bidi.specs.Outcomes.{IsDone};
 ghost use Rattle.bidi.specs.declared.request.Request.TheVariants.{Judge};
-ghost use Rattle.bidi.specs.Printed.{HasPrinted, most_text_bytes};
+ghost use Rattle.bidi.specs.Printed.{HasExplained, HasPrinted, most_text_bytes};
+ghost use Rattle.explain.specs.Explained.{explained};
 ghost use Rattle.printing.specs.PrintedTexts.{printed_levels, printed_reorder};
 ghost use Rattle.bidi.specs.ReadFiles.{most_file_bytes, origin_of};
-ghost use Rattle.bidi.specs.Steps.{FailsIn, IsFirstFault, characters_steps, file_step};
+ghost use Rattle.bidi.specs.Steps.{FailsIn, IsFirstFault, characters_steps, classes_steps, file_step};
 ghost use Rattle.bidi.specs.Steps.{printing_steps, steps_of, text_steps};
 
+use crate::class_names::classes_in;
 use crate::fault::Fault;
 use crate::files::Files;
 use crate::judging::{judge_characters, judge_classes};
@@ -19,6 +21,7 @@ use crate::outcome::Outcome;
 use crate::reading::read_text;
 use crate::request::{FileKind, Request};
 use crate::table_files::read_tables;
+use explain::print::{print_explained, print_explained_classes};
 use printing::print::{print_levels, print_reorder};
 use std::alloc::Global;
 use std::io::Write;
@@ -146,6 +149,43 @@ fn print_reorder_of_file<'a, F: Files, W: Write>(
     Ok(())
 }
 
+/// Prints what each rule does of the text in what FILE names, by the tables of the folder, which are read first.
+fn explain_file<'a, F: Files, W: Write>(
+    alloc: Global,
+    folder: &str,
+    direction: Direction,
+    file: &'a str,
+    files: &F,
+    out: &mut W,
+) -> Result<(), Fault<'a>>
+    ensures printed { OnOk result (HasPrinted (F.facts files.now)
+        (λ tables text. explained tables text direction) folder.now file.now
+        (W.contents out.old) (W.contents out.new)) }
+    ensures fault { IfErr result (FailsIn (printing_steps (F.facts files.now) folder.now file.now)
+        (W.contents out.old) (W.contents out.new)) }
+{
+    let tables = read_tables(alloc, files, folder)?;
+    let text = text_in_file(alloc, file, files)?;
+    print_explained(alloc, out, &tables, &text, direction)?;
+    Ok(())
+}
+
+/// Prints what each rule does of the classes that the word names.
+fn explain_classes<'a, W: Write>(
+    alloc: Global,
+    word: &'a str,
+    direction: Direction,
+    out: &mut W,
+) -> Result<(), Fault<'a>>
+    ensures printed { OnOk result (HasExplained word.now direction (W.contents out.old) (W.contents out.new)) }
+    ensures fault { IfErr result
+        (FailsIn (classes_steps word.now) (W.contents out.old) (W.contents out.new)) }
+{
+    let classes = classes_in(alloc, word)?;
+    print_explained_classes(alloc, out, &classes, direction)?;
+    Ok(())
+}
+
 /// Does what is asked for.
 pub fn perform<'a, F: Files, W: Write>(
     alloc: Global,
@@ -174,6 +214,18 @@ pub fn perform<'a, F: Files, W: Write>(
             file,
         } => {
             print_reorder_of_file(alloc, tables, direction, columns, file, files, out)?;
+            Ok(Outcome::Printed)
+        }
+        Request::Explain {
+            tables,
+            direction,
+            file,
+        } => {
+            explain_file(alloc, tables, direction, file, files, out)?;
+            Ok(Outcome::Printed)
+        }
+        Request::ExplainClasses { classes, direction } => {
+            explain_classes(alloc, classes, direction, out)?;
             Ok(Outcome::Printed)
         }
         Request::Judge { kind, tables, file } => judge_file(alloc, kind, tables, file, files, out),

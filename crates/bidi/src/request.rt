@@ -1,15 +1,18 @@
 // What words ask for.
-ghost use Rattle.std.specs.Prelude.{◌≡◌, codes, option_map, IfSome, IfNone};
+ghost use Rattle.std.specs.Prelude.{◌≡◌, codes, option_map, IfOk, IfSome, IfNone, is_some};
 ghost use Rattle.clap.specs.Matches.{found_of};
 ghost use Rattle.clap.specs.Simple.{subcommand_rows_of};
 ghost use Rattle.clap.specs.Walk.{first_of, one_of, rows_of, texts};
+ghost use Rattle.clap.specs.Values.{kind_of};
 ghost use Rattle.bidi.specs.CommandLine.{AsksFor, ColumnsAre, IsAskedBy, IsReadAs, direction_named, kind_named};
+ghost use Rattle.bidi.specs.Refusals.{has_classes_and_text, kind_in_subcommand, kind_without_request};
 ghost use Rattle.bidi.specs.declared.request.Request.{Request as RequestOf};
 
-use crate::command_line::bidi_command;
+use crate::command_line::{bidi_command, explain_command};
+use crate::help;
 use clap::error::ErrorKind;
 use clap::{ArgMatches, Error};
-use std::alloc::Global;
+use std::alloc::{AllocError, Global};
 use std::num::NonZeroU16;
 use units::level::Direction;
 
@@ -38,6 +41,17 @@ pub enum Request<'a> {
         columns: Option<NonZeroU16>,
         file: &'a str,
     },
+    /// Print what each rule does of the file's text, by the tables of the folder.
+    Explain {
+        tables: &'a str,
+        direction: Direction,
+        file: &'a str,
+    },
+    /// Print what each rule does of the classes whose names stand in the word.
+    ExplainClasses {
+        classes: &'a str,
+        direction: Direction,
+    },
     /// Judge a conformance file. The folder of the tables, where it is given, is needed for files of characters alone.
     Judge {
         kind: FileKind,
@@ -51,6 +65,13 @@ fn text_of<'a>(matches: &ArgMatches<'a>, id: &str) -> Option<&'a str>
     ensures { option_map (λ text. text.now) result ≡ first_of id.now (rows_of (found_of matches.now)) }
 {
     matches.get_str(id)
+}
+
+/// Whether an argument has a value.
+fn has_value(matches: &ArgMatches<'_>, id: &str) -> bool
+    ensures { result ≡ is_some (first_of id.now (rows_of (found_of matches.now))) }
+{
+    text_of(matches, id).is_some()
 }
 
 fn direction_in(matches: &ArgMatches<'_>) -> Direction
@@ -80,29 +101,51 @@ fn kind_in(matches: &ArgMatches<'_>) -> Option<FileKind>
     }
 }
 
+/// What `explain` asks for, by its arguments: a text by tables, or classes.
+fn explain_in<'a>(matches: &ArgMatches<'a>) -> Option<Request<'a>>
+    ensures some { IfSome result (AsksFor (codes "explain") (rows_of (found_of matches.now))) }
+    ensures none { IfNone result ((request : RequestOf)
+        → ¬ (AsksFor (codes "explain") (rows_of (found_of matches.now)) request)) }
+{
+    let direction = direction_in(matches);
+    match (
+        text_of(matches, "tables"),
+        text_of(matches, "classes"),
+        text_of(matches, "file"),
+    ) {
+        (Some(tables), None, Some(file)) => Some(Request::Explain {
+            tables,
+            direction,
+            file,
+        }),
+        (None, Some(classes), None) => Some(Request::ExplainClasses { classes, direction }),
+        _ => None,
+    }
+}
+
 /// What a subcommand of this name asks for, by its arguments.
 fn request_in<'a>(name: &str, matches: &ArgMatches<'a>) -> Option<Request<'a>>
     ensures some { IfSome result (AsksFor name.now (rows_of (found_of matches.now))) }
     ensures none { IfNone result ((request : RequestOf)
         → ¬ (AsksFor name.now (rows_of (found_of matches.now)) request)) }
 {
-    let file = text_of(matches, "file")?;
     match name {
         "levels" => Some(Request::Levels {
             tables: text_of(matches, "tables")?,
             direction: direction_in(matches),
-            file,
+            file: text_of(matches, "file")?,
         }),
         "reorder" => Some(Request::Reorder {
             tables: text_of(matches, "tables")?,
             direction: direction_in(matches),
             columns: columns_in(matches),
-            file,
+            file: text_of(matches, "file")?,
         }),
+        "explain" => explain_in(matches),
         "judge" => Some(Request::Judge {
             kind: kind_in(matches)?,
             tables: text_of(matches, "tables"),
-            file,
+            file: text_of(matches, "file")?,
         }),
         _ => None,
     }
@@ -118,6 +161,47 @@ fn request_by<'a>(matches: &ArgMatches<'a>) -> Option<Request<'a>>
     request_in(name, inner)
 }
 
+/// Whether `explain` is given classes, and a text or tables beside them.
+fn has_both(matches: &ArgMatches<'_>) -> bool
+    ensures { result ≡ has_classes_and_text (rows_of (found_of matches.now)) }
+{
+    has_value(matches, "classes") && (has_value(matches, "tables") || has_value(matches, "file"))
+}
+
+/// The kind of error where the subcommand of this name makes no request of its arguments.
+fn kind_in_subcommand(name: &str, matches: &ArgMatches<'_>) -> ErrorKind
+    ensures { result ≡ kind_in_subcommand name.now (rows_of (found_of matches.now)) }
+{
+    match name {
+        "explain" if has_both(matches) => ErrorKind::ArgumentConflict,
+        "explain" => ErrorKind::MissingRequiredArgument,
+        _ => ErrorKind::MissingSubcommand,
+    }
+}
+
+/// The kind of error where the subcommand that was met makes no request.
+fn kind_without_request(matches: &ArgMatches<'_>) -> ErrorKind
+    ensures { result ≡ kind_without_request (subcommand_rows_of matches.now) }
+{
+    match matches.subcommand() {
+        Some((name, inner)) => kind_in_subcommand(name, inner),
+        None => ErrorKind::MissingSubcommand,
+    }
+}
+
+/// The error of this kind, where words make no request.
+fn error_without_request(alloc: Global, kind: ErrorKind) -> Result<Error, AllocError>
+    ensures { IfOk result (λ error. kind_of error ≡ kind) }
+{
+    match kind {
+        ErrorKind::ArgumentConflict => explain_command(alloc)?.error(kind, help::EXPLAIN_BOTH),
+        ErrorKind::MissingRequiredArgument => {
+            explain_command(alloc)?.error(kind, help::EXPLAIN_NEITHER)
+        }
+        _ => bidi_command(alloc)?.error(kind, "a subcommand is needed"),
+    }
+}
+
 /// Reads the words of a command line, of which the first is the program's name. Words that are refused, or that ask for
 /// help or the version, are answered as an error with the text for the user.
 pub fn request_of<'a>(alloc: Global, words: &'a [&'a str]) -> Result<Request<'a>, Error>
@@ -127,6 +211,6 @@ pub fn request_of<'a>(alloc: Global, words: &'a [&'a str]) -> Result<Request<'a>
     let matches = command.try_get_matches_from_mut(words)?;
     match request_by(&matches) {
         Some(request) => Ok(request),
-        None => Err(command.error(ErrorKind::MissingSubcommand, "a subcommand is needed")?),
+        None => Err(error_without_request(alloc, kind_without_request(&matches))?),
     }
 }

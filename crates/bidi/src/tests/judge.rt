@@ -1,16 +1,5 @@
+use crate::tests::command_lines::{JUDGE_CHARACTERS, JUDGE_CLASSES};
 use crate::tests::memory::{FixedWriter, outcome_of, tables_and, whole};
-
-const CLASSES_FILE: [&str; 5] = ["bidi", "judge", "--kind", "classes", "FILE"];
-
-const CHARACTERS_FILE: [&str; 7] = [
-    "bidi",
-    "judge",
-    "--kind",
-    "characters",
-    "--tables",
-    "t",
-    "FILE",
-];
 
 #[test]
 fn judges_files_of_classes(rt: HostRuntime) {
@@ -59,7 +48,7 @@ fn judges_files_of_classes(rt: HostRuntime) {
         ),
     ];
     for (bytes, status, line) in rows {
-        let outcome = outcome_of(rt.alloc(), &CLASSES_FILE, &[whole("FILE", bytes)]);
+        let outcome = outcome_of(rt.alloc(), &JUDGE_CLASSES, &[whole("FILE", bytes)]);
         assert_eq!(rt; outcome.status, status);
         assert_eq!(rt; outcome.out.written(), line);
         assert!(rt; outcome.err.written().is_empty(), "{status}");
@@ -111,7 +100,7 @@ fn judges_files_of_characters(rt: HostRuntime) {
         ),
     ];
     for (bytes, status, line) in rows {
-        let outcome = outcome_of(rt.alloc(), &CHARACTERS_FILE, &tables_and(bytes));
+        let outcome = outcome_of(rt.alloc(), &JUDGE_CHARACTERS, &tables_and(bytes));
         assert_eq!(rt; outcome.status, status);
         assert_eq!(rt; outcome.out.written(), line);
         assert!(rt; outcome.err.written().is_empty(), "{status}");
@@ -128,7 +117,7 @@ fn refuses_an_over_long_line(rt: HostRuntime) {
     line[MOST_LINE] = b'\n';
     let outcome = outcome_of(
         rt.alloc(),
-        &CLASSES_FILE,
+        &JUDGE_CLASSES,
         &[whole("FILE", &line[..MOST_LINE + 1])],
     );
     assert_eq!(rt; outcome.status, 0);
@@ -136,7 +125,7 @@ fn refuses_an_over_long_line(rt: HostRuntime) {
 
     line[MOST_LINE] = b'a';
     line[MOST_LINE + 1] = b'\n';
-    for words in [CLASSES_FILE.as_slice(), CHARACTERS_FILE.as_slice()] {
+    for words in [JUDGE_CLASSES.as_slice(), JUDGE_CHARACTERS.as_slice()] {
         let outcome = outcome_of(rt.alloc(), words, &tables_and(&line));
         assert_eq!(rt; outcome.status, 1);
         assert_eq!(rt;

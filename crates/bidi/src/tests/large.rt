@@ -1,9 +1,8 @@
 //! Texts at the limit of their files' bytes.
 use crate::run::run;
+use crate::tests::command_lines::REORDER;
 use crate::tests::memory::{FixedWriter, MemoryFiles, tables_and};
 use std::test::Fail;
-
-const REORDER: [&str; 5] = ["bidi", "reorder", "--tables", "t", "FILE"];
 
 /// The file of a text may have 16,777,216 bytes, and no more: here four for each character.
 #[test]

@@ -1,6 +1,5 @@
+use crate::tests::command_lines::LEVELS;
 use crate::tests::memory::{outcome_of, tables_and, whole};
-
-const LEVELS: [&str; 5] = ["bidi", "levels", "--tables", "t", "FILE"];
 
 #[test]
 fn prints_the_levels_of_a_file(rt: HostRuntime) {

@@ -218,7 +218,7 @@ impl Write for ShortWriter {
 }
 
 /// As many bytes as each text of the command has at most in these tests.
-const MOST_WRITTEN: usize = 2048;
+const MOST_WRITTEN: usize = 4096;
 
 /// Holds what is written in an array, and takes no memory.
 #[derive(Drop)]

@@ -5,7 +5,7 @@ use std::process::Abort;
 /// 28 bytes.
 const BYTES: &[u8] = b"@Levels: 0\n@Reorder: 0\nL; 7\n";
 
-const COMMANDS: [&[&str]; 4] = [
+const COMMANDS: [&[&str]; 5] = [
     &["bidi", "judge", "--kind", "classes", "FILE"],
     &[
         "bidi",
@@ -18,6 +18,7 @@ const COMMANDS: [&[&str]; 4] = [
     ],
     &["bidi", "levels", "--tables", "t", "FILE"],
     &["bidi", "reorder", "--tables", "t", "FILE"],
+    &["bidi", "explain", "--tables", "t", "FILE"],
 ];
 
 fn expect_unread(rt: &impl Abort, outcome: &Outcome) {

@@ -2,7 +2,7 @@ use crate::tests::memory::outcome_of;
 
 #[test]
 fn refuses_command_lines(rt: HostRuntime) {
-    let rows: [&[&str]; 19] = [
+    let rows: [&[&str]; 27] = [
         &[],
         &["bidi"],
         &["bidi", "other"],
@@ -30,6 +30,14 @@ fn refuses_command_lines(rt: HostRuntime) {
             "FILE",
         ],
         &["bidi", "reorder", "--tables", "t", "--columns", "x", "FILE"],
+        &["bidi", "explain"],
+        &["bidi", "explain", "FILE"],
+        &["bidi", "explain", "--tables", "t"],
+        &["bidi", "explain", "--classes"],
+        &["bidi", "explain", "--classes", "R", "FILE"],
+        &["bidi", "explain", "--classes", "R", "--tables", "t"],
+        &["bidi", "explain", "--classes", "R", "--tables", "t", "FILE"],
+        &["bidi", "explain", "--classes", "R", "--classes", "R"],
         &["bidi", "judge", "FILE"],
         &["bidi", "judge", "--kind", "classes"],
         &["bidi", "judge", "--kind", "Classes", "FILE"],
@@ -58,8 +66,16 @@ fn refuses_command_lines(rt: HostRuntime) {
 }
 
 #[test]
-fn names_the_value_that_is_refused(rt: HostRuntime) {
-    let rows: [(&[&str], &[u8]); 2] = [
+fn says_what_is_refused(rt: HostRuntime) {
+    let rows: [(&[&str], &[u8]); 4] = [
+        (
+            &["bidi", "explain", "FILE"],
+            b"error: '--tables <DIR>' and '<FILE>' are required, or '--classes <CLASSES>'\n\nUsage: bidi explain [OPTIONS] --tables <DIR> <FILE>\n       bidi explain [OPTIONS] --classes <CLASSES>\n\nFor more information, try '--help'.\n",
+        ),
+        (
+            &["bidi", "explain", "--classes", "R", "FILE"],
+            b"error: the argument '--classes <CLASSES>' cannot be used with '--tables <DIR>' or '<FILE>'\n\nUsage: bidi explain [OPTIONS] --tables <DIR> <FILE>\n       bidi explain [OPTIONS] --classes <CLASSES>\n\nFor more information, try '--help'.\n",
+        ),
         (
             &["bidi", "judge", "--kind", "other", "FILE"],
             b"error: invalid value 'other' for '--kind <KIND>'\n  [possible values: classes, characters]\n\nFor more information, try '--help'.\n",
@@ -78,10 +94,12 @@ fn names_the_value_that_is_refused(rt: HostRuntime) {
 
 #[test]
 fn prints_help(rt: HostRuntime) {
-    let rows: [(&[&str], &[u8]); 5] = [
+    let rows: [(&[&str], &[u8]); 7] = [
         (&["bidi", "--help"], b"Lays out texts "),
         (&["bidi", "levels", "--help"], b"Prints the levels "),
         (&["bidi", "reorder", "--help"], b"Prints the lines "),
+        (&["bidi", "explain", "-h"], b"Prints what each rule "),
+        (&["bidi", "explain", "--help"], b"Prints what each rule "),
         (&["bidi", "judge", "-h"], b"Judges "),
         (&["bidi", "judge", "--help"], b"Judges "),
     ];

@@ -17,16 +17,21 @@ returns-clause-app c =
     let reorder = c.in_ok-reorder_command.ensures.app in
     let with_reorder = c.in_ok-subcommand-2.ensures.shape c.in_ok-reorder_command.ensures.local
     ∙ ap₂ with_subcommand with_levels (ap (λ (a : App). a.top) reorder.2) in
+    let explain = c.in_ok-explain_command.ensures.app in
+    let with_explain = c.in_ok-subcommand-3.ensures.shape c.in_ok-explain_command.ensures.local
+    ∙ ap₂ with_subcommand with_reorder (ap (λ (a : App). a.top) explain.2) in
     let judge = c.in_ok-judge_command.ensures.app in
-    IfOk-weaker c.subcommand-3.result _ _ (λ command h. record {
+    IfOk-weaker c.subcommand-4.result _ _ (λ command h. record {
       of_levels = levels.0;
       of_reorder = reorder.0;
+      of_explain = explain.0;
       kinds = judge.0;
       levels_words = levels.1;
       reorder_words = reorder.1;
+      explain_words = explain.1;
       kinds_words = judge.1;
-      is = h.shape c.in_ok-judge_command.ensures.local ∙ ap₂ with_subcommand with_reorder (ap (λ (a : App). a.top) judge.2);
-    }) c.subcommand-3.ensures
+      is = h.shape c.in_ok-judge_command.ensures.local ∙ ap₂ with_subcommand with_explain (ap (λ (a : App). a.top) judge.2);
+    }) c.subcommand-4.ensures
 
 pub returns-clause-local : goal.returns-clause-local
 returns-clause-local c =
@@ -36,4 +41,5 @@ returns-clause-local c =
     ∙ ap (λ f. f.has_globals) c.long_about.ensures ∙ ap (λ f. f.has_globals) c.about.ensures ∙ c.new.ensures.local in
     let with_levels = c.in_ok-subcommand.ensures.globals ∙ ap₂ ◌||◌ plain c.in_ok-levels_command.ensures.local in
     let with_reorder = c.in_ok-subcommand-2.ensures.globals ∙ ap₂ ◌||◌ with_levels c.in_ok-reorder_command.ensures.local in
-    IfOk-weaker c.subcommand-3.result _ _ (λ command h. h.globals ∙ ap₂ ◌||◌ with_reorder c.in_ok-judge_command.ensures.local) c.subcommand-3.ensures
+    let with_explain = c.in_ok-subcommand-3.ensures.globals ∙ ap₂ ◌||◌ with_reorder c.in_ok-explain_command.ensures.local in
+    IfOk-weaker c.subcommand-4.result _ _ (λ command h. h.globals ∙ ap₂ ◌||◌ with_explain c.in_ok-judge_command.ensures.local) c.subcommand-4.ensures

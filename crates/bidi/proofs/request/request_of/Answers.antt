@@ -1,20 +1,20 @@
-use Rattle.std.proofs.Common.{◌≡◌, List, [], Option, Result, Ok, Err, IsErrAnd, true, inl, inr, ap, refl, subst, sym}
+use Rattle.std.proofs.Common.{◌≡◌, List, [], Option, Result, Ok, Err, IsErrAnd, true, inl, inr, ap, refl, subst, sym, ◌∙◌}
 use Rattle.clap.specs.Faults.{fault_of, is_simple_and_free}
 use Rattle.clap.specs.Kinds.{HasKind}
 use Rattle.clap.specs.Simple.{App, app_of, is_simple, subcommand_of, subcommand_rows_of}
 use Rattle.clap.specs.Values.{kind_of}
 use Rattle.clap.specs.Walk.{Row, Text, texts}
 use Rattle.clap.specs.declared.error.Error.{Error}
-use Rattle.clap.specs.declared.error.kind.ErrorKind.TheVariants.{MissingSubcommand}
 use Rattle.bidi.specs.CommandLine.{Choice, IsAskedBy, IsBidi, IsRead, IsReadAs, bidi_app}
+use Rattle.bidi.specs.Refusals.{kind_without_request}
 use Rattle.bidi.specs.declared.request.Request.{Request}
 use Rattle.bidi.proofs.request.request_of.Goals as goal
 
-bidi_is_simple : (of_levels of_reorder kinds : Choice) → is_simple (bidi_app of_levels of_reorder kinds) ≡ true
-bidi_is_simple of_levels of_reorder kinds = refl
+bidi_is_simple : (of_levels of_reorder of_explain kinds : Choice) → is_simple (bidi_app of_levels of_reorder of_explain kinds) ≡ true
+bidi_is_simple of_levels of_reorder of_explain kinds = refl
 
-bidi_is_free : (of_levels of_reorder kinds : Choice) → is_simple_and_free (bidi_app of_levels of_reorder kinds) ≡ true
-bidi_is_free of_levels of_reorder kinds = refl
+bidi_is_free : (of_levels of_reorder of_explain kinds : Choice) → is_simple_and_free (bidi_app of_levels of_reorder of_explain kinds) ≡ true
+bidi_is_free of_levels of_reorder of_explain kinds = refl
 
 simple : (app : App) → IsBidi app → is_simple app ≡ true
 simple app h = ap is_simple h.is
@@ -36,11 +36,11 @@ asked_by app words request met h passes same asked = record {
 }
 
 none_asked : (app : App) (words : List Text) (e : Error) (met : Option (Text × List Row)) → IsBidi app → met ≡ subcommand_of app words
-    → ((request : Request) → ¬ (IsAskedBy met request)) → kind_of e ≡ MissingSubcommand → IsReadAs words (Err e)
+    → ((request : Request) → ¬ (IsAskedBy met request)) → kind_of e ≡ kind_without_request met → IsReadAs words (Err e)
 none_asked app words e met h same nothing kind = inr (record {
   app = app;
   is = h;
-  refused = inr (kind, subst (λ (m : Option (Text × List Row)). (request : Request) → ¬ (IsAskedBy m request)) same nothing);
+  refused = inr (kind ∙ ap kind_without_request same, subst (λ (m : Option (Text × List Row)). (request : Request) → ¬ (IsAskedBy m request)) same nothing);
 })
 
 handed_on : (words : List Text) (r : Result Request Error) (e : Error) → IsErrAnd r (λ given. given ≡ e) → IsReadAs words (Err e) → IsReadAs words r
@@ -66,5 +66,5 @@ pub returns : goal.returns
 returns c =
     let bidi = c.in_ok-command.ensures.app in
     let app = app_of c.in_ok-command.command in
-    none_asked app (texts c.args.words.now) c.in_ok-error-in-None.field-0 (subcommand_rows_of c.in_ok-matches.matches) bidi
-    (c.in_ok-matches.ensures.ok.2 (simple app bidi)).1 c.in-None.ensures.none c.in_ok-error-in-None.ensures.kind
+    none_asked app (texts c.args.words.now) c.in_ok-error_without_request-in-None.field-0 (subcommand_rows_of c.in_ok-matches.matches) bidi
+    (c.in_ok-matches.ensures.ok.2 (simple app bidi)).1 c.in-None.ensures.none (c.in_ok-error_without_request-in-None.ensures ∙ c.kind_without_request.ensures)

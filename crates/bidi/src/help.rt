@@ -1,0 +1,101 @@
+// The texts of help and of the version.
+
+/// What `bidi` does, in a line.
+pub const BIDI_ABOUT: &str =
+    "Lays out texts by the Unicode Bidirectional Algorithm (UAX #9), and judges conformance files";
+
+/// What `bidi` does, and with which status it ends.
+pub const BIDI_LONG_ABOUT: &str =
+    "Lays out texts by the Unicode Bidirectional Algorithm (UAX #9), and judges its
+conformance files.
+
+Ends with status 0 where it is done or the verdict is yes, 1 where the verdict is no,
+2 where the command line is refused, and 3 where a file can't be read, a line of a
+table is faulty, a text is not UTF-8, a write fails or memory is refused.";
+
+/// What stands behind the name in the line of the version: the rules that are followed, and the kit that they are proved
+/// with.
+pub const BIDI_VERSION: &str =
+    "(rules P1 to L4 of UAX #9, Unicode 15.0)\nproved with rattle-kit-13b logic dac8208d650f15bf";
+
+/// What stands at the end of the help of `bidi`.
+pub const BIDI_EXAMPLE: &str = "Example:\n  bidi levels --tables ucd text.txt";
+
+/// What `levels` prints, and with which status it ends.
+pub const LEVELS_LONG_ABOUT: &str = "Prints the levels of a text, in UTF-8.
+
+For each paragraph prints a line `paragraph K level P`, K counted from 0, and for
+each of its positions a line `POSITION CODE CLASS LEVEL`: the position in the text,
+counted from 0, the code point, the class, and the level after rule L1, or `x` where
+rule X9 removes the position.
+
+Ends with status 0, 2 where the command line is refused, and 3 where a file can't be
+read, a line of a table is faulty, the text is not UTF-8, a write fails or memory is
+refused.";
+
+/// What stands at the end of the help of `levels`.
+pub const LEVELS_EXAMPLE: &str = "Example:\n  bidi levels --tables ucd --direction rtl text.txt";
+
+/// What `reorder` prints, and with which status it ends.
+pub const REORDER_LONG_ABOUT: &str = "Prints the lines of a text, in UTF-8, as they are shown.
+
+Each paragraph is a line, and with --columns each N characters of it are one. A line
+is printed from left to right, with the mirror images of rule L4, and without what
+rule X9 removes and without paragraph separators.
+
+Ends with status 0, 2 where the command line is refused, and 3 where a file can't be
+read, a line of a table is faulty, the text is not UTF-8, a write fails or memory is
+refused.";
+
+/// What stands at the end of the help of `reorder`.
+pub const REORDER_EXAMPLE: &str = "Example:\n  bidi reorder --tables ucd --columns 80 text.txt";
+
+/// What `explain` prints, and with which status it ends.
+pub const EXPLAIN_LONG_ABOUT: &str =
+    "Prints what each rule does with a text, in UTF-8, or with a list of classes.
+
+For each paragraph prints a line `paragraph K level L: WHY`, K counted from 0, with what
+decided the level, a row for each of its positions, and then its isolating run sequences,
+its bracket pairs and its order from left to right.
+
+A row has the position in the text, counted from 0, the code point, the class, the level
+after X1 to X8, or `x` where X9 removes the position, the class after X1 to X8, after
+each of W1 to W7 and after N0, N1 and N2, the level after I1 and I2, and that after L1.
+`.` stands where a rule changed nothing.
+
+Ends with status 0, 2 where the command line is refused or --classes has a name of no
+class, and 3 where a file can't be read, a line of a table is faulty, the text is not
+UTF-8, a write fails or memory is refused.";
+
+/// How `explain` is called.
+pub const EXPLAIN_USAGE: &str = "bidi explain [OPTIONS] --tables <DIR> <FILE>
+       bidi explain [OPTIONS] --classes <CLASSES>";
+
+/// What stands at the end of the help of `explain`.
+pub const EXPLAIN_EXAMPLE: &str = "Examples:
+  bidi explain --tables ucd text.txt
+  bidi explain --classes 'R ON LRE L'";
+
+/// Why `explain` is refused with classes and a text.
+pub const EXPLAIN_BOTH: &str =
+    "the argument '--classes <CLASSES>' cannot be used with '--tables <DIR>' or '<FILE>'";
+
+/// Why `explain` is refused without classes and without a text by tables.
+pub const EXPLAIN_NEITHER: &str =
+    "'--tables <DIR>' and '<FILE>' are required, or '--classes <CLASSES>'";
+
+/// What `judge` prints, and with which status it ends.
+pub const JUDGE_LONG_ABOUT: &str = "Judges a conformance file.
+
+Prints `yes`, with the numbers of rows and cases, where the file is well formed
+and each row claims, for each direction that it names, the levels and the order
+that the algorithm gives. Else prints `no`, with the first line that is malformed
+or wrong, and what is wrong there.
+
+Ends with status 0 after a yes, 1 after a no, 2 where the command line is refused
+or `--tables` is needed, and 3 where a file can't be read, a line of a table is
+faulty, a write fails or memory is refused.";
+
+/// What stands at the end of the help of `judge`.
+pub const JUDGE_EXAMPLE: &str =
+    "Example:\n  bidi judge --kind characters --tables ucd BidiCharacterTest.txt";

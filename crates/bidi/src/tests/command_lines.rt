@@ -1,0 +1,20 @@
+// Command lines that many tests run with.
+pub const LEVELS: [&str; 5] = ["bidi", "levels", "--tables", "t", "FILE"];
+
+pub const REORDER: [&str; 5] = ["bidi", "reorder", "--tables", "t", "FILE"];
+
+pub const EXPLAIN: [&str; 5] = ["bidi", "explain", "--tables", "t", "FILE"];
+
+pub const EXPLAIN_CLASSES: [&str; 4] = ["bidi", "explain", "--classes", "R ON LRE L"];
+
+pub const JUDGE_CLASSES: [&str; 5] = ["bidi", "judge", "--kind", "classes", "FILE"];
+
+pub const JUDGE_CHARACTERS: [&str; 7] = [
+    "bidi",
+    "judge",
+    "--kind",
+    "characters",
+    "--tables",
+    "t",
+    "FILE",
+];
