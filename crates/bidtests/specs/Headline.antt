@@ -1,6 +1,6 @@
 -- What a verdict says of a file, by quantifiers over its lines, the directions that its rows name, and the places of
 -- their lists.
-use Rattle.std.specs.Prelude.{◌≡◌, ◌≢◌, ◌↔◌, Option, Some, ℕ, ◌<◌, List, [], length, map, reverse, take, IfSome, slice_index_or}
+use Rattle.std.specs.Prelude.{◌≡◌, ◌≢◌, ◌↔◌, Some, ℕ, ◌<◌, List, [], length, map, reverse, take, IfSome, slice_index_or}
 use Rattle.std.specs.List.{slice_get, Contains}
 use Rattle.units.specs.Layout.{TextLayout, layout_of, all_orders}
 use Rattle.units.specs.Limits.{LimitsOf}

@@ -1,5 +1,5 @@
 -- What is one where something holds, and else none.
-use Rattle.std.proofs.Common.{ℕ, ◌≤◌, Bool, true, false, arith}
+use Rattle.std.proofs.Common.{◌≤◌, Bool, true, false, arith}
 use Rattle.std.specs.Prelude.{if◌then◌else◌}
 
 pub at_most_one : (b : Bool) → (if b then 1 else 0) ≤ 1

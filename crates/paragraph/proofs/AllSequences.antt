@@ -1,5 +1,5 @@
 -- The sequences of a paragraph after X1 to X9 cover it, and their levels are its resolved levels.
-use Rattle.std.specs.Prelude.{Option, None, ℕ, Bool, true, false, ◌<◌, ◌≤◌, ◌≡◌, List, length, map, filter, take, slice_index, if◌then◌else◌}
+use Rattle.std.specs.Prelude.{Option, None, ℕ, ◌<◌, ◌≤◌, ◌≡◌, List, length, map, filter, take, slice_index}
 use Rattle.std.specs.List.{All, flat_map}
 use Rattle.std.proofs.Common.{arith, ap, sym, ◌∙◌, subst}
 use Rattle.std.proofs.lemmas.List.{length-map, get_or-map, get_or-take, length-take-le, ext_get_or}

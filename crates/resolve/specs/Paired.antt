@@ -1,5 +1,5 @@
 -- What is said of the bracket pairs of a sequence between W7 and N0.
-use Rattle.std.specs.Prelude.{Option, ℕ, false, ◌≡◌, List}
+use Rattle.std.specs.Prelude.{Option, ℕ, List}
 use Rattle.units.specs.Classes.{classes_at}
 use Rattle.units.specs.Layout.{brackets_of, after_brackets}
 use Rattle.units.specs.Runs.{SequenceView}

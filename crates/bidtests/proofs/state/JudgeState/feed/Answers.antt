@@ -1,5 +1,5 @@
 use Rattle.std.proofs.Common.{length, take, drop, ◌-◌, ◌++◌, refl, sym, ◌∙◌}
-use Rattle.bidtests.specs.Standing.{StateOf, judging, tables_of}
+use Rattle.bidtests.specs.Standing.{StateOf, judging}
 use Rattle.bidtests.proofs.Judged.{feeds-on, feeds-some, none-from}
 use Rattle.ucdfiles.proofs.Pieces.{joined, within}
 use Rattle.bidtests.proofs.SameTables.{holds-for}
