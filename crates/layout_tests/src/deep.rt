@@ -81,27 +81,34 @@ fn run(order: &mut Vec<usize>, first: usize, end: usize, rises: bool) -> Result<
     Ok(())
 }
 
+/// Lays out a text from left to right, and compares its levels and its order: the first positions rise, so many of
+/// them, and the others fall.
+fn shows_turned(
+    rt: &impl Abort,
+    alloc: Global,
+    text: &[Unit],
+    expected: &[Option<Level>],
+    rising: usize,
+) -> Result<(), Fail> {
+    let mut order = Vec::new(alloc);
+    run(&mut order, 0, rising, true)?;
+    run(&mut order, rising, text.len(), false)?;
+    let mut room = Scratch::with_room(alloc, text.len())?;
+    shows(rt, &mut room, text, Direction::Ltr, expected, &order)
+}
+
 #[test]
 fn pairs_63_open_brackets(rt: HostRuntime) -> Result<(), Fail> {
     let alloc = rt.alloc();
     let text = brackets(alloc, &tables(alloc)?, 63)?;
-    let expected = bracket_levels(alloc, 63, 0)?;
-    let mut order = Vec::new(alloc);
-    run(&mut order, 0, 134, true)?;
-    let mut room = Scratch::with_room(alloc, 256)?;
-    shows(&rt, &mut room, &text, Direction::Ltr, &expected, &order)
+    shows_turned(&rt, alloc, &text, &bracket_levels(alloc, 63, 0)?, 134)
 }
 
 #[test]
 fn stops_at_64_open_brackets(rt: HostRuntime) -> Result<(), Fail> {
     let alloc = rt.alloc();
     let text = brackets(alloc, &tables(alloc)?, 64)?;
-    let expected = bracket_levels(alloc, 64, 1)?;
-    let mut order = Vec::new(alloc);
-    run(&mut order, 0, 70, true)?;
-    run(&mut order, 70, 136, false)?;
-    let mut room = Scratch::with_room(alloc, 256)?;
-    shows(&rt, &mut room, &text, Direction::Ltr, &expected, &order)
+    shows_turned(&rt, alloc, &text, &bracket_levels(alloc, 64, 1)?, 70)
 }
 
 #[test]
@@ -111,10 +118,7 @@ fn resets_isolates_up_to_the_end(rt: HostRuntime) -> Result<(), Fail> {
     alternate(&mut text, 8_000, Class::RLI, Class::RLI)?;
     let mut expected = Vec::new(alloc);
     repeated(&mut expected, 16_000, 0)?;
-    let mut order = Vec::new(alloc);
-    run(&mut order, 0, 16_000, true)?;
-    let mut room = Scratch::with_room(alloc, 16_000)?;
-    shows(&rt, &mut room, &text, Direction::Ltr, &expected, &order)
+    shows_turned(&rt, alloc, &text, &expected, 16_000)
 }
 
 /// The odd numbers below 126 as levels.
@@ -136,24 +140,31 @@ fn nests_isolates_deeply(rt: HostRuntime) -> Result<(), Fail> {
     odd_levels(&mut expected)?;
     repeated(&mut expected, 15_936, 125)?;
     expected.push(Level::new(126))?;
-    let mut order = Vec::new(alloc);
-    run(&mut order, 0, 1, true)?;
-    run(&mut order, 1, 16_001, false)?;
-    let mut room = Scratch::with_room(alloc, 16_001)?;
-    shows(&rt, &mut room, &text, Direction::Ltr, &expected, &order)
+    shows_turned(&rt, alloc, &text, &expected, 1)
+}
+
+/// Lays out RLE, LRE and R by a depth, and compares the levels.
+fn levels_by_depth(rt: &impl Abort, alloc: Global, depth: u8, expected: &str) -> Result<(), Fail> {
+    let text = units(alloc, "RLE LRE R")?;
+    let expected = levels(alloc, expected)?;
+    let breaks = Breaks::new(&[], text.len())?;
+    let mut room = Scratch::with_room(alloc, 3)?;
+    lay_in_with(
+        &mut room,
+        &text,
+        Direction::Ltr,
+        &breaks,
+        Limits::new(depth, 63)?,
+    )?;
+    assert_eq!(rt; room.layout().levels(), expected.as_slice());
+    Ok(())
 }
 
 /// X4: at depth 1 the LRE, which asks for level 2, is refused.
 #[test]
 fn lays_out_by_the_limits_that_are_handed_in(rt: HostRuntime) -> Result<(), Fail> {
-    let alloc = rt.alloc();
-    let text = units(alloc, "RLE LRE R")?;
-    let breaks = Breaks::new(&[], text.len())?;
-    let mut room = Scratch::with_room(alloc, 3)?;
     for (depth, expected) in [(1, "x x 1"), (2, "x x 3"), (125, "x x 3")] {
-        let limits = Limits::new(depth, 63)?;
-        lay_in_with(&mut room, &text, Direction::Ltr, &breaks, limits)?;
-        assert_eq!(&rt; room.layout().levels(), levels(alloc, expected)?.as_slice());
+        levels_by_depth(&rt, rt.alloc(), depth, expected)?;
     }
     Ok(())
 }

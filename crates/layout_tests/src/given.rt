@@ -74,6 +74,15 @@ pub fn levels(alloc: Global, text: &str) -> Result<Vec<Option<Level>>, Fail> {
     Ok(levels)
 }
 
+/// The numbers that blanks part, of which each text has to be one.
+pub fn numbers(alloc: Global, text: &str) -> Result<Vec<usize>, Fail> {
+    let mut numbers = Vec::new(alloc);
+    for item in text.split(' ') {
+        numbers.push(item.parse::<usize>()?)?;
+    }
+    Ok(numbers)
+}
+
 /// Lays out a text on one line, and compares its levels and its order.
 pub fn shows(
     rt: &impl Abort,

@@ -1,5 +1,8 @@
 //! Rows of several lines: breaks, and what a room holds after a refusal.
-use crate::given::{levels, shows, tables, units, units_of};
+ghost use Rattle.lines.specs.Scratches.{IsFilled};
+ghost use Rattle.std.specs.Prelude.{OnOk};
+
+use crate::given::{levels, numbers, shows, tables, units, units_of};
 use lines::breaks::{BreakFault, Breaks};
 use lines::lay_out::lay_in;
 use lines::layout::Layout;
@@ -84,43 +87,48 @@ fn lays_out_after_too_long(rt: HostRuntime) -> Result<(), Fail> {
     shows(&rt, &mut room, &text, Direction::Ltr, &expected, &[0, 1])
 }
 
-/// A Hebrew letter and a digit, a separator, and a Latin letter.
-fn two_paragraphs(alloc: Global) -> Result<Vec<Unit>, Fail> {
-    units_of(alloc, &tables(alloc)?, "\u{5D0}1\na")
+/// A Hebrew letter and a digit, a separator, and a Latin letter, laid out with this break.
+fn two_paragraphs_broken(alloc: Global, room: &mut Scratch, at: usize) -> Result<(), Fail>
+    ensures { OnOk result (IsFilled room.new) }
+{
+    let text = units_of(alloc, &tables(alloc)?, "\u{5D0}1\na")?;
+    let at = [at];
+    let breaks = Breaks::new(&at, text.len())?;
+    lay_in(room, &text, Direction::Auto, &breaks)?;
+    Ok(())
+}
+
+/// Compares the lines of a layout: of each its levels and its order.
+fn lines_show(
+    rt: &impl Abort,
+    alloc: Global,
+    layout: &Layout,
+    lines: &[(&str, &str)],
+) -> Result<(), Fail> {
+    assert_eq!(rt; layout.line_count(), lines.len());
+    for (k, (shown, order)) in lines.iter().enumerate() {
+        let expected = levels(alloc, shown)?;
+        line_shows(rt, layout, k, &expected, &numbers(alloc, order)?);
+    }
+    Ok(())
 }
 
 #[test]
 fn a_break_behind_a_separator_adds_nothing(rt: HostRuntime) -> Result<(), Fail> {
-    let text = two_paragraphs(rt.alloc())?;
     let mut room = Scratch::with_room(rt.alloc(), 4)?;
-    let at = [3];
-    let breaks = Breaks::new(&at, text.len())?;
-    lay_in(&mut room, &text, Direction::Auto, &breaks)?;
+    two_paragraphs_broken(rt.alloc(), &mut room, 3)?;
     let layout = room.layout();
-    assert_eq!(&rt;
-        layout.para_levels(),
-        [ParaLevel::One, ParaLevel::Zero].as_slice()
-    );
-    assert_eq!(&rt; layout.line_count(), 2);
-    let first = [Level::new(1), Level::new(2), Level::new(1)];
-    line_shows(&rt, &layout, 0, &first, &[2, 1, 0]);
-    line_shows(&rt, &layout, 1, &[Level::new(0)], &[3]);
-    Ok(())
+    let para_levels = [ParaLevel::One, ParaLevel::Zero];
+    assert_eq!(&rt; layout.para_levels(), para_levels.as_slice());
+    lines_show(&rt, rt.alloc(), &layout, &[("1 2 1", "2 1 0"), ("0", "3")])
 }
 
 #[test]
 fn a_break_begins_a_line(rt: HostRuntime) -> Result<(), Fail> {
-    let text = two_paragraphs(rt.alloc())?;
     let mut room = Scratch::with_room(rt.alloc(), 4)?;
-    let at = [1];
-    let breaks = Breaks::new(&at, text.len())?;
-    lay_in(&mut room, &text, Direction::Auto, &breaks)?;
-    let layout = room.layout();
-    assert_eq!(&rt; layout.line_count(), 3);
-    line_shows(&rt, &layout, 0, &[Level::new(1)], &[0]);
-    line_shows(&rt, &layout, 1, &[Level::new(2), Level::new(1)], &[2, 1]);
-    line_shows(&rt, &layout, 2, &[Level::new(0)], &[3]);
-    Ok(())
+    two_paragraphs_broken(rt.alloc(), &mut room, 1)?;
+    let lines = [("1", "0"), ("2 1", "2 1"), ("0", "3")];
+    lines_show(&rt, rt.alloc(), &room.layout(), &lines)
 }
 
 #[test]

@@ -1,94 +1,120 @@
 //! Rows of one line: their levels and their order.
-use crate::given::{levels, shows, tables, units, units_of};
+use crate::given::{levels, numbers, shows, tables, units, units_of};
 use lines::scratch::Scratch;
+use std::alloc::Global;
+use std::process::Abort;
 use std::test::Fail;
+use units::bracket::Unit;
 use units::level::Direction;
+
+/// A text, its direction, its levels, with `x` where it has none, and its order.
+#[derive(Clone, Copy)]
+struct Row {
+    text: &'static str,
+    direction: Direction,
+    levels: &'static str,
+    order: &'static str,
+}
+
+/// Lays out the text of a row, of these units, and compares its levels and its order.
+fn shows_row(rt: &impl Abort, alloc: Global, text: &[Unit], row: &Row) -> Result<(), Fail> {
+    let mut room = Scratch::with_room(alloc, 8)?;
+    let levels = levels(alloc, row.levels)?;
+    let order = numbers(alloc, row.order)?;
+    shows(rt, &mut room, text, row.direction, &levels, &order)
+}
+
+/// Texts by their characters.
+const PAIRS: [Row; 4] = [
+    // by their content
+    Row {
+        text: "\u{5D0}(a)\u{5D1}",
+        direction: Direction::Rtl,
+        levels: "1 1 2 1 1",
+        order: "4 3 2 1 0",
+    },
+    // by their context
+    Row {
+        text: "a(\u{5D0})",
+        direction: Direction::Ltr,
+        levels: "0 0 1 0",
+        order: "0 1 2 3",
+    },
+    // that are canonically equivalent
+    Row {
+        text: "a\u{2329}\u{5D0}\u{3009}\u{5D1}",
+        direction: Direction::Ltr,
+        levels: "0 0 1 0 1",
+        order: "0 1 2 3 4",
+    },
+    // past a lone closing one
+    Row {
+        text: "a(]\u{5D0})\u{5D1}",
+        direction: Direction::Ltr,
+        levels: "0 0 0 1 0 1",
+        order: "0 1 2 3 4 5",
+    },
+];
 
 #[test]
 fn pairs_brackets(rt: HostRuntime) -> Result<(), Fail> {
-    let (alloc, ltr) = (rt.alloc(), Direction::Ltr);
-    let rows = [
-        // by their content
-        (
-            "\u{5D0}(a)\u{5D1}",
-            Direction::Rtl,
-            "1 1 2 1 1",
-            &[4, 3, 2, 1, 0][..],
-        ),
-        // by their context
-        ("a(\u{5D0})", ltr, "0 0 1 0", &[0, 1, 2, 3]),
-        // that are canonically equivalent
-        (
-            "a\u{2329}\u{5D0}\u{3009}\u{5D1}",
-            ltr,
-            "0 0 1 0 1",
-            &[0, 1, 2, 3, 4],
-        ),
-        // past a lone closing one
-        (
-            "a(]\u{5D0})\u{5D1}",
-            ltr,
-            "0 0 0 1 0 1",
-            &[0, 1, 2, 3, 4, 5],
-        ),
-    ];
-    let tables = tables(alloc)?;
-    let mut room = Scratch::with_room(alloc, 8)?;
-    for (text, direction, expected, order) in rows {
-        let text = units_of(alloc, &tables, text)?;
-        shows(
-            &rt,
-            &mut room,
-            &text,
-            direction,
-            &levels(alloc, expected)?,
-            order,
-        )?;
+    let tables = tables(rt.alloc())?;
+    for row in PAIRS {
+        let text = units_of(rt.alloc(), &tables, row.text)?;
+        shows_row(&rt, rt.alloc(), &text, &row)?;
     }
     Ok(())
 }
 
+/// Texts by the names of their classes.
+const EMBEDDINGS: [Row; 6] = [
+    // joins nothing across embeddings
+    Row {
+        text: "R ON LRE L PDF ON R",
+        direction: Direction::Ltr,
+        levels: "1 0 x 2 x 0 1",
+        order: "0 1 3 5 6",
+    },
+    // joins across isolates
+    Row {
+        text: "R ON LRI L PDI ON R",
+        direction: Direction::Ltr,
+        levels: "1 1 1 2 1 1 1",
+        order: "6 5 4 3 2 1 0",
+    },
+    // resets trailing spaces that were overridden
+    Row {
+        text: "L RLO R WS",
+        direction: Direction::Ltr,
+        levels: "0 x 1 0",
+        order: "0 2 3",
+    },
+    // takes the first strong class of an isolate, past inner isolates, and looks no further than the isolate
+    Row {
+        text: "FSI R PDI L",
+        direction: Direction::Auto,
+        levels: "0 1 0 0",
+        order: "0 1 2 3",
+    },
+    Row {
+        text: "FSI FSI R PDI PDI L",
+        direction: Direction::Auto,
+        levels: "0 2 3 2 0 0",
+        order: "0 1 2 3 4 5",
+    },
+    Row {
+        text: "FSI ON PDI R",
+        direction: Direction::Ltr,
+        levels: "0 2 0 1",
+        order: "0 1 2 3",
+    },
+];
+
 #[test]
 fn embeds_and_isolates(rt: HostRuntime) -> Result<(), Fail> {
-    let (alloc, ltr) = (rt.alloc(), Direction::Ltr);
-    let rows = [
-        // joins nothing across embeddings
-        (
-            "R ON LRE L PDF ON R",
-            ltr,
-            "1 0 x 2 x 0 1",
-            &[0, 1, 3, 5, 6][..],
-        ),
-        // joins across isolates
-        (
-            "R ON LRI L PDI ON R",
-            ltr,
-            "1 1 1 2 1 1 1",
-            &[6, 5, 4, 3, 2, 1, 0],
-        ),
-        // resets trailing spaces that were overridden
-        ("L RLO R WS", ltr, "0 x 1 0", &[0, 2, 3]),
-        // takes the first strong class of an isolate, past inner isolates, and looks no further than the isolate
-        ("FSI R PDI L", Direction::Auto, "0 1 0 0", &[0, 1, 2, 3]),
-        (
-            "FSI FSI R PDI PDI L",
-            Direction::Auto,
-            "0 2 3 2 0 0",
-            &[0, 1, 2, 3, 4, 5],
-        ),
-        ("FSI ON PDI R", ltr, "0 2 0 1", &[0, 1, 2, 3]),
-    ];
-    let mut room = Scratch::with_room(alloc, 8)?;
-    for (names, direction, expected, order) in rows {
-        let text = units(alloc, names)?;
-        shows(
-            &rt,
-            &mut room,
-            &text,
-            direction,
-            &levels(alloc, expected)?,
-            order,
-        )?;
+    for row in EMBEDDINGS {
+        let text = units(rt.alloc(), row.text)?;
+        shows_row(&rt, rt.alloc(), &text, &row)?;
     }
     Ok(())
 }

@@ -2,28 +2,35 @@
 //! earlier one left, or walked the content of each isolate or bracket anew, this would take days.
 ghost use Rattle.std.specs.Prelude.{◌≡◌, ◌<◌};
 
-use crate::given::tables;
+use crate::given::{tables, unit};
 use lines::breaks::Breaks;
 use lines::lay_out::lay_out;
 use lines::scratch::Scratch;
-use std::alloc::{AllocError, Global};
+use std::alloc::Global;
 use std::marker::Brand;
 use std::process::Abort;
 use std::sync::ledger::{Blank, Ledger};
 use std::test::Fail;
-use ucdfiles::tables::Tables;
-use units::bracket::{Bracket, Unit};
+use units::bracket::Unit;
 use units::class::Class;
 use units::level::{Direction, Level};
+use units::memory::Memory;
 use units::steps::Steps;
 
 const ROOM: usize = 1_048_576;
 
-/// A unit of this class that is no bracket.
-fn plain(class: Class) -> Unit {
-    Unit {
-        class,
-        bracket: Bracket::No,
+/// Expects level 1 at `raised`, and 0 at all other positions.
+fn raises_one(rt: &impl Abort, levels: &[Option<Level>], raised: Option<usize>) {
+    for (position, level) in levels.iter().enumerate() {
+        let expected = if raised == Some(position) { 1 } else { 0 };
+        assert_eq!(rt; *level, Level::new(expected), "at {position}");
+    }
+}
+
+/// Expects the positions in rising order.
+fn rises_by_one(rt: &impl Abort, order: &[usize]) {
+    for (k, position) in order.iter().enumerate() {
+        assert_eq!(rt; *position, k);
     }
 }
 
@@ -45,15 +52,10 @@ fn rises_counting<K: Ledger>(
     let layout = lay_out(room, text, Direction::Ltr, &breaks, &mut steps)?;
     assert_eq!(rt; layout.line_count(), 1);
     assert_eq!(rt; layout.levels().len(), text.len());
-    for (position, level) in layout.levels().iter().enumerate() {
-        let expected = if raised == Some(position) { 1 } else { 0 };
-        assert_eq!(rt; *level, Level::new(expected), "at {position}");
-    }
+    raises_one(rt, layout.levels(), raised);
     let order = layout.line(0).order;
     assert_eq!(rt; order.len(), text.len());
-    for (k, position) in order.iter().enumerate() {
-        assert_eq!(rt; *position, k);
-    }
+    rises_by_one(rt, order);
     Ok(())
 }
 
@@ -67,60 +69,38 @@ fn rises(
     rises_counting::<Brand>(rt, room, text, raised, Blank::new(1))
 }
 
-/// A text of so many units, all of them this one.
-fn filled(alloc: Global, unit: Unit, count: usize) -> Result<Vec<Unit>, AllocError> {
-    vec![in alloc; unit; count]
-}
-
-/// Pairs of these two, so many units together.
-fn pairs(
-    alloc: Global,
-    opening: Unit,
-    closing: Unit,
-    count: usize,
-) -> Result<Vec<Unit>, AllocError> {
-    let mut text = filled(alloc, opening, count)?;
+/// Pairs of these two that fill the room.
+fn pairs(alloc: Global, opening: Unit, closing: Unit) -> Result<Vec<Unit>, Memory> {
+    let mut text = vec![in alloc; opening; ROOM]?;
     for unit in text.iter_mut().skip(1).step_by(2) {
         *unit = closing;
     }
     Ok(text)
 }
 
-/// Lays out a text of isolate initiators that fills the room.
-fn fills_with_initiators(rt: &impl Abort, alloc: Global, room: &mut Scratch) -> Result<(), Fail> {
-    let text = filled(alloc, plain(Class::FSI), ROOM)?;
-    rises(rt, room, &text, None)
+/// Fills the room with initiators.
+fn initiators_fill(rt: &impl Abort, alloc: Global, room: &mut Scratch) -> Result<(), Fail> {
+    let initiators = vec![in alloc; unit(Class::FSI); ROOM]?;
+    rises(rt, room, &initiators, None)
 }
 
-/// BD16, N0: the same of pairs of brackets, alone and behind both directions.
-fn fills_with_brackets(
-    rt: &impl Abort,
-    alloc: Global,
-    room: &mut Scratch,
-    opening: Unit,
-    closing: Unit,
-) -> Result<(), Fail> {
-    let mut text = pairs(alloc, opening, closing, ROOM)?;
-    rises(rt, room, &text, None)?;
-    assert!(rt; text.len() > 1);
-    text[0] = plain(Class::L);
-    text[1] = plain(Class::R);
-    rises(rt, room, &text, Some(1))
-}
-
-/// Texts that fill the room, and then calls on one unit.
-fn fills(rt: &impl Abort, alloc: Global, room: &mut Scratch, tables: &Tables) -> Result<(), Fail> {
-    fills_with_initiators(rt, alloc, room)?;
-    fills_with_brackets(rt, alloc, room, tables.unit('('), tables.unit(')'))?;
-    each_in_a_call(rt, room, tables.unit('a'), None)
+/// BD16, N0: fills the room with pairs of brackets, alone and behind both directions.
+fn brackets_fill(rt: &impl Abort, alloc: Global, room: &mut Scratch) -> Result<(), Fail> {
+    let tables = tables(alloc)?;
+    let mut brackets = pairs(alloc, tables.unit('('), tables.unit(')'))?;
+    rises(rt, room, &brackets, None)?;
+    assert!(rt; brackets.len() > 1);
+    brackets[0] = unit(Class::L);
+    brackets[1] = unit(Class::R);
+    rises(rt, room, &brackets, Some(1))
 }
 
 #[test]
 fn each_text_may_fill_the_room(rt: HostRuntime) -> Result<(), Fail> {
-    let alloc = rt.alloc();
-    let tables = tables(alloc)?;
-    let mut room = Scratch::with_room(alloc, ROOM)?;
-    fills(&rt, alloc, &mut room, &tables)
+    let mut room = Scratch::with_room(rt.alloc(), ROOM)?;
+    initiators_fill(&rt, rt.alloc(), &mut room)?;
+    brackets_fill(&rt, rt.alloc(), &mut room)?;
+    each_in_a_call(&rt, &mut room, unit(Class::L), None)
 }
 
 /// As many calls as the room has units, each on this one, at level 1 or 0.
@@ -144,7 +124,7 @@ fn each_of_a_class(
     raised: Option<usize>,
 ) -> Result<(), Fail> {
     let mut room = Scratch::with_room(alloc, ROOM)?;
-    each_in_a_call(rt, &mut room, plain(class), raised)
+    each_in_a_call(rt, &mut room, unit(class), raised)
 }
 
 #[test]
@@ -167,7 +147,7 @@ fn rooms_of_any_size_are_made(rt: HostRuntime) -> Result<(), Fail> {
     for n in [0, 1, 65_536, 1_000_000, 1_000_001] {
         let mut room = Scratch::with_room(rt.alloc(), n)?;
         if n > 0 {
-            rises(&rt, &mut room, &[plain(Class::L)], None)?;
+            rises(&rt, &mut room, &[unit(Class::L)], None)?;
         }
     }
     Ok(())
