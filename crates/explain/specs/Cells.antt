@@ -1,5 +1,5 @@
 -- The cells of a row: what a rule made of a position, as bytes.
-use Rattle.std.specs.Prelude.{Option, ℕ, ◌==◌, if◌then◌else◌, List, codes, Some, None}
+use Rattle.std.specs.Prelude.{Option, ℕ, ◌==◌, Bool, true, false, if◌then◌else◌, List, codes, Some, None}
 use Rattle.std.specs.Fmt.{decimal}
 use Rattle.std.specs.Str.{bytes_eq}
 use Rattle.units.specs.ClassNames.{short_name}
@@ -25,10 +25,10 @@ abbrev pub explicit_cell : Option ℕ → Cell
 explicit_cell None = Removed
 explicit_cell (Some level) = Level level
 
--- a rule that turns classes, at a position with this explicit level; no rule turns what is removed
-abbrev pub class_cell : Option ℕ → BidiClass → BidiClass → Cell
-class_cell None before after = Same
-class_cell (Some level) before after = if bytes_eq (short_name before) (short_name after) then Same else Class after
+-- a rule that turns classes, at a position that remains or doesn't; no rule turns what is removed (X9)
+abbrev pub class_cell : Bool → BidiClass → BidiClass → Cell
+class_cell false before after = Same
+class_cell true before after = if bytes_eq (short_name before) (short_name after) then Same else Class after
 
 -- a rule that turns levels; it gives none to what is removed
 abbrev pub level_cell : Option ℕ → Option ℕ → Cell

@@ -27,6 +27,6 @@ sequence_text number start s = sequence_start_text number s ++ places_text start
 abbrev pub pair_text : ℕ → ℕ → List ℕ
 pair_text opener closer = concat (codes "pair " ∷ decimal opener ∷ codes " " ∷ decimal closer ∷ line_feed ∷ [])
 
--- L2: the line of an order, from left to right
-abbrev pub order_text : List ℕ → List ℕ
-order_text order = codes "order" ++ flat_map place_text order ++ line_feed
+-- L2: the line of the order of a paragraph that begins at start, from left to right
+abbrev pub order_text : ℕ → List ℕ → List ℕ
+order_text start order = codes "order" ++ places_text start order ++ line_feed

@@ -1,5 +1,5 @@
 -- The row of a position: what each rule made of it, as bytes.
-use Rattle.std.specs.Prelude.{Option, ℕ, ◌-◌, List, [], ◌∷◌, ◌++◌, codes, length}
+use Rattle.std.specs.Prelude.{Option, is_some, ℕ, ◌-◌, Bool, List, [], ◌∷◌, ◌++◌, codes, length}
 use Rattle.std.specs.List.{concat}
 use Rattle.std.specs.Fmt.{decimal}
 use Rattle.units.specs.ClassNames.{short_name}
@@ -15,13 +15,13 @@ row_start_text p character own level =
     concat (decimal p ∷ codes " " ∷ code_cell character ∷ codes " " ∷ short_name own ∷ codes " " ∷ cell_text (explicit_cell level) ∷ [])
 
 -- what the rule with the number k, counted from 1, made of a class
-abbrev pub change_text : Option ℕ → List Class → ℕ → List ℕ
-change_text level classes k =
-    codes " " ++ cell_text (class_cell level (class_at classes (k - 1)) (class_at classes k))
+abbrev pub change_text : Bool → List Class → ℕ → List ℕ
+change_text remains classes k =
+    codes " " ++ cell_text (class_cell remains (class_at classes (k - 1)) (class_at classes k))
 
 -- what the rules made of a class, one after another: the first of the classes is the position's own
-abbrev pub changes_text : Option ℕ → List Class → List ℕ
-changes_text level classes = printed (change_text level classes) 1 (length classes)
+abbrev pub changes_text : Bool → List Class → List ℕ
+changes_text remains classes = printed (change_text remains classes) 1 (length classes)
 
 -- what I1, I2 and L1 made of a level
 abbrev pub row_end_text : RowLevels → List ℕ
@@ -32,4 +32,4 @@ row_end_text levels =
 abbrev pub row_text : ℕ → Option ℕ → List Class → RowLevels → List ℕ
 row_text p character classes levels =
     row_start_text p character (class_at classes 0) levels.explicit
-    ++ changes_text levels.explicit classes ++ row_end_text levels
+    ++ changes_text (is_some levels.explicit) classes ++ row_end_text levels

@@ -32,7 +32,7 @@ impl fmt::Display for Cell {
     }
 }
 
-/// The cell of X1 to X9: a position's level, or that it was removed.
+/// The cell of the level after X1 to X9.
 pub fn explicit_cell(level: Option<Level>) -> Cell
     ensures { result ≡ explicit_cell level }
 {
@@ -42,14 +42,14 @@ pub fn explicit_cell(level: Option<Level>) -> Cell
     }
 }
 
-/// The cell of a rule that turns classes, at a position with this explicit level.
-pub fn class_cell(level: Option<Level>, before: Class, after: Class) -> Cell
-    ensures { result ≡ class_cell level before after }
+/// The cell of a rule that turns classes, at a position that remains or doesn't.
+pub fn class_cell(remains: bool, before: Class, after: Class) -> Cell
+    ensures { result ≡ class_cell remains before after }
 {
-    if level.is_none() || before.short() == after.short() {
-        return Cell::Same;
+    if remains && before.short() != after.short() {
+        return Cell::Class(after);
     }
-    Cell::Class(after)
+    Cell::Same
 }
 
 /// The cell of a rule that turns levels.

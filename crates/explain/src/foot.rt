@@ -1,5 +1,6 @@
 // The foot of a paragraph: its isolating run sequences, its bracket pairs, and its order.
-ghost use Rattle.std.specs.Prelude.{◌≡◌, ◌≤◌, ◌+◌, OnOk};
+ghost use Rattle.std.specs.Prelude.{◌≡◌, ◌<◌, ◌≤◌, OnOk};
+ghost use Rattle.std.specs.List.{All};
 ghost use Rattle.std.specs.Io.KnownBytes.{Appends};
 ghost use Rattle.explain.specs.Feet.{places_text, sequence_text, pair_text, order_text};
 
@@ -46,12 +47,15 @@ pub fn print_pair<W: Write>(w: &mut W, opener: usize, closer: usize) -> io::Resu
 }
 
 /// Writes the line of a paragraph's order: its remaining positions in the text, from left to right (L2).
-pub fn print_order<W: Write>(w: &mut W, order: &[usize]) -> io::Result<()>
-    ensures { OnOk result (Appends (W.contents w.old) (W.contents w.new) (order_text order.now)) }
+pub fn print_order<W: Write>(w: &mut W, start: usize, order: &[usize]) -> io::Result<()>
+    requires start { start ≤ 16777216 }
+    requires places { All (λ p. p < 16777216) order.now }
+    ensures { OnOk result (Appends (W.contents w.old) (W.contents w.new) (order_text start order.now)) }
 {
     write!(w, "order")?;
     for position in order {
-        write!(w, " {position}")?;
+        let place = start + *position;
+        write!(w, " {place}")?;
     }
     writeln!(w)
 }

@@ -40,11 +40,12 @@ fn print_row_start<W: Write>(
 }
 
 /// Writes the cells of the rules that turn classes: `classes` are the position's own class, and the one behind each rule.
-fn print_changes<W: Write>(w: &mut W, level: Option<Level>, classes: &[Class]) -> io::Result<()>
-    ensures { OnOk result (Appends (W.contents w.old) (W.contents w.new) (changes_text level classes.now)) }
+fn print_changes<W: Write>(w: &mut W, remains: bool, classes: &[Class]) -> io::Result<()>
+    requires { 0 < length classes.now }
+    ensures { OnOk result (Appends (W.contents w.old) (W.contents w.new) (changes_text remains classes.now)) }
 {
     for k in 1..classes.len() {
-        let cell = class_cell(level, classes[k - 1], classes[k]);
+        let cell = class_cell(remains, classes[k - 1], classes[k]);
         write!(w, " {cell}")?;
     }
     Ok(())
@@ -72,6 +73,6 @@ pub fn print_row<W: Write>(
         (row_text position character classes.now levels)) }
 {
     print_row_start(w, position, character, classes[0], levels.explicit)?;
-    print_changes(w, levels.explicit, classes)?;
+    print_changes(w, levels.explicit.is_some(), classes)?;
     print_row_end(w, levels)
 }

@@ -1,0 +1,203 @@
+//! What the rules leave of one paragraph, rule by rule.
+ghost use Rattle.std.specs.Prelude.{◌≡◌, ◌≤◌, length, IfOk};
+ghost use Rattle.units.specs.Layout.{longest_text};
+ghost use Rattle.units.specs.Paragraphs.{SeparatorOnlyLast};
+ghost use Rattle.explain.specs.Columns.{HaveLength, columns_of};
+ghost use Rattle.explain.specs.Inside.{IsInside};
+
+use crate::rule::Rule;
+use explicit::levels::Explicit;
+use resolve::pairs::Pairs;
+use sequences::sequences::Sequences;
+use std::alloc::Global;
+use std::marker::Model;
+use units::bracket::Unit;
+use units::class::Class;
+use units::level::{Direction, Level, ParaLevel};
+use units::memory::Memory;
+
+/// P2 to X10 of a paragraph.
+#[derive(Drop)]
+pub struct ExplicitPart {
+    para_level: ParaLevel,
+    first_strong: Option<usize>,
+    places: Explicit,
+    sequences: Sequences,
+}
+
+impl Model for ExplicitPart {
+    ghost use Rattle.units.specs.Isolates.{level_of_para};
+    ghost use Rattle.explain.specs.Columns.{ExplicitOf};
+
+    ghost Value = { ExplicitOf };
+
+    ghost view = { λ part. record { para_level = level_of_para part.para_level; first_strong = part.first_strong; places = part.places; sequences = part.sequences.all } };
+}
+
+/// The classes after each of W1 to W7.
+#[derive(Drop)]
+pub struct WeakPart {
+    w1: Vec<Class>,
+    w2: Vec<Class>,
+    w3: Vec<Class>,
+    w4: Vec<Class>,
+    w5: Vec<Class>,
+    w6: Vec<Class>,
+    w7: Vec<Class>,
+}
+
+impl Model for WeakPart {
+    ghost use Rattle.explain.specs.Columns.{WeakOf};
+
+    ghost Value = { WeakOf };
+
+    ghost view = { λ part. record { w1 = part.w1.items; w2 = part.w2.items; w3 = part.w3.items; w4 = part.w4.items; w5 = part.w5.items; w6 = part.w6.items; w7 = part.w7.items } };
+}
+
+/// The classes after each of N0, N1 and N2.
+#[derive(Drop)]
+pub struct NeutralPart {
+    n0: Vec<Class>,
+    n1: Vec<Class>,
+    n2: Vec<Class>,
+}
+
+impl Model for NeutralPart {
+    ghost use Rattle.explain.specs.Columns.{NeutralOf};
+
+    ghost Value = { NeutralOf };
+
+    ghost view = { λ part. record { n0 = part.n0.items; n1 = part.n1.items; n2 = part.n2.items } };
+}
+
+/// The levels after L1 and the order (L2) of a paragraph that is one line.
+#[derive(Drop)]
+pub struct ShownPart {
+    levels: Vec<Option<Level>>,
+    order: Vec<usize>,
+}
+
+impl Model for ShownPart {
+    ghost use Rattle.explain.specs.Columns.{ShownOf};
+
+    ghost Value = { ShownOf };
+
+    ghost view = { λ part. record { levels = part.levels.items; order = part.order.items } };
+}
+
+/// What the rules leave of one paragraph, rule by rule, in columns with an item for each position.
+#[derive(Drop)]
+pub struct Columns {
+    explicit: ExplicitPart,
+    current: Vec<Class>,
+    weak: WeakPart,
+    closers: Pairs,
+    neutral: NeutralPart,
+    implicit: Vec<Option<Level>>,
+    shown: ShownPart,
+}
+
+impl Model for Columns {
+    ghost use Rattle.explain.specs.Columns.{ColumnsOf};
+
+    ghost Value = { ColumnsOf };
+
+    ghost view = { λ columns. record { explicit = columns.explicit; current = columns.current.items; weak = columns.weak; closers = columns.closers; neutral = columns.neutral; implicit = columns.implicit.items; shown = columns.shown } };
+}
+
+impl Columns {
+    ghost use Rattle.std.specs.Prelude.{◌≡◌, ◌<◌, length, None, slice_index_or};
+    ghost use Rattle.units.specs.Isolates.{level_of_para};
+    ghost use Rattle.resolve.specs.Pairs.{closer_in};
+    ghost use Rattle.explain.specs.Columns.{column_after};
+
+    /// The paragraph's level (P2, P3).
+    pub fn para_level(&self) -> ParaLevel
+        ensures { level_of_para result ≡ self.now.explicit.para_level }
+    {
+        self.explicit.para_level
+    }
+
+    /// The position of the first strong character outside of all isolates (P2), if there is one: where the direction
+    /// isn't given it decides the paragraph's level.
+    pub fn first_strong(&self) -> Option<usize>
+        ensures { result ≡ self.now.explicit.first_strong }
+    {
+        self.explicit.first_strong
+    }
+
+    /// X1 to X9: the explicit level and the class of the position `p`, or none where it is removed.
+    pub fn place(&self, p: usize) -> Option<(Level, Class)>
+        requires { p < length self.now.explicit.places }
+        ensures { result ≡ slice_index_or self.now.explicit.places p None }
+    {
+        self.explicit.places.at(p)
+    }
+
+    /// The classes after a rule, by position; BN where a position is removed.
+    pub fn after(&self, rule: Rule) -> &[Class]
+        ensures { result.now ≡ column_after self.now rule }
+    {
+        match rule {
+            Rule::X => &self.current,
+            Rule::W1 => &self.weak.w1,
+            Rule::W2 => &self.weak.w2,
+            Rule::W3 => &self.weak.w3,
+            Rule::W4 => &self.weak.w4,
+            Rule::W5 => &self.weak.w5,
+            Rule::W6 => &self.weak.w6,
+            Rule::W7 => &self.weak.w7,
+            Rule::N0 => &self.neutral.n0,
+            Rule::N1 => &self.neutral.n1,
+            Rule::N2 => &self.neutral.n2,
+        }
+    }
+
+    /// The levels after I1 and I2, by position, none where a position is removed.
+    pub fn implicit(&self) -> &[Option<Level>]
+        ensures { result.now ≡ self.now.implicit }
+    {
+        &self.implicit
+    }
+
+    /// The levels after L1 of the paragraph as one line, by position, none where a position is removed.
+    pub fn levels(&self) -> &[Option<Level>]
+        ensures { result.now ≡ self.now.shown.levels }
+    {
+        &self.shown.levels
+    }
+
+    /// The positions of the paragraph as one line, from left to right (L2), without those that are removed.
+    pub fn order(&self) -> &[usize]
+        ensures { result.now ≡ self.now.shown.order }
+    {
+        &self.shown.order
+    }
+
+    /// The isolating run sequences (X10), in the order of their first positions.
+    pub fn sequences(&self) -> &Sequences
+        ensures { result.now.all ≡ self.now.explicit.sequences }
+    {
+        &self.explicit.sequences
+    }
+
+    /// The position of the closing bracket of the pair that begins at the position `p` (BD16), if one does.
+    pub fn closer(&self, p: usize) -> Option<usize>
+        requires { p < length self.now.closers }
+        ensures { result ≡ closer_in self.now.closers p }
+    {
+        self.closers.closer(p)
+    }
+}
+
+/// What the rules leave of a paragraph under a direction, by the standard limits (P2 to L2). The error is refused
+/// memory.
+pub fn columns_of(alloc: Global, para: &[Unit], direction: Direction) -> Result<Columns, Memory>
+    requires separators { SeparatorOnlyLast para.now }
+    requires length { length para.now ≤ longest_text }
+    ensures columns { IfOk result (λ columns. columns ≡ columns_of para.now direction) }
+    ensures length { IfOk result (λ columns. HaveLength columns (length para.now)) }
+    ensures inside { IfOk result (λ columns. IsInside columns (length para.now)) }
+{
+    Err(Memory)
+}
