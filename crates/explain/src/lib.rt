@@ -2,5 +2,7 @@
 #![tactic(auto)]
 
 pub mod columns;
+mod neutral;
 mod pass;
+mod rewriting;
 pub mod rule;

@@ -1,0 +1,3 @@
+pub mod EachSequence
+pub mod Found
+pub mod NeutralPasses
