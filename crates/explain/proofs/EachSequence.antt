@@ -4,7 +4,6 @@ use Rattle.std.specs.List.{flat_map}
 use Rattle.std.proofs.Common.{arith, ap, sym, ◌∙◌, subst, inl, inr, get_or}
 use Rattle.std.proofs.lemmas.Bool.{cases_lt}
 use Rattle.std.proofs.lemmas.List.{length-map, get_or-map, get_or_default, ext_get_or, take_all}
-use Rattle.std.proofs.lemmas.Option.{unwrap_or-slice_get}
 use Rattle.units.specs.Classes.{class_at, classes_at}
 use Rattle.units.specs.Positions.{positions_of}
 use Rattle.units.specs.Runs.{SequenceView}
@@ -47,13 +46,12 @@ module _ {extent : ℕ} {all : List SequenceView} (apart : AreDisjoint extent al
       let d : Class = class_at start p in
       elim (cases_lt 0 (times ps p)) [
         | inl some ↦
-            (let z = zip_some ps values p long some in
+            (let z = zip_some ps values p long some d in
             let within : p < extent = within_extent apart at inside p (subst (Contains ps) z.2 (contains_index ps z.0 z.1)) in
-            let found : value_found (flat_map items (take (k + 1) all)) p ≡ slice_get values z.0 = found_here items own apart at inside p within some ∙ z.3 in
+            let found : value_found (flat_map items (take (k + 1) all)) p ≡ Some (get_or values z.0 d) = found_here items own apart at inside p within some ∙ z.3 in
             ap (class_at next) (sym z.2) ∙ sym (class_at-classes_at next ps z.0 z.1)
             ∙ ap (λ (cs : List Class). class_at cs z.0) is
             ∙ get_or_default values z.0 L d (omega (arith, z.1, long))
-            ∙ sym (unwrap_or-slice_get values z.0 d)
             ∙ sym (ap (λ (o : Option Class). unwrap_or o d) found))
         | inr others ↦
             (let none : times ps p ≡ 0 = omega arith in

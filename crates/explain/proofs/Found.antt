@@ -2,7 +2,7 @@
 use Rattle.std.specs.Prelude.{Option, Some, None, ℕ, zero, suc, ◌==◌, ◌+◌, ◌<◌, ◌≤◌, ◌≡◌, List, [], ◌∷◌, ◌++◌, length, take, Contains, slice_index, slice_get, refl}
 use Rattle.std.specs.List.{flat_map, find, zip}
 use Rattle.std.specs.Option.{option_map}
-use Rattle.std.proofs.Common.{arith, ap, sym, ◌∙◌, inl, inr}
+use Rattle.std.proofs.Common.{arith, ap, sym, ◌∙◌, inl, inr, get_or}
 use Rattle.std.proofs.lemmas.Bool.{cases_Bool, cases_lt, cond-true, cond-false, eqb-true}
 use Rattle.std.proofs.lemmas.List.{append_assoc, append-nil}
 use Rattle.units.specs.Runs.{SequenceView}
@@ -50,16 +50,16 @@ zip_none {V} (x ∷ ps) (v ∷ vs) p e =
 
 -- beside a position that stands in the list stands the value of its index
 pub zip_some : {V : Type 0} (ps : List ℕ) (vs : List V) (p : ℕ) → length vs ≡ length ps → 0 < times ps p →
-    (k : ℕ) × (k < length ps) × (slice_index ps k ≡ p) × (value_found (zip ps vs) p ≡ slice_get vs k)
-zip_some [] vs p n l = absurd (omega arith)
-zip_some (x ∷ ps) [] p n l = absurd (omega arith)
-zip_some {V} (x ∷ ps) (v ∷ vs) p n l =
+    (d : V) → (k : ℕ) × (k < length ps) × (slice_index ps k ≡ p) × (value_found (zip ps vs) p ≡ Some (get_or vs k d))
+zip_some [] vs p n l d = absurd (omega arith)
+zip_some (x ∷ ps) [] p n l d = absurd (omega arith)
+zip_some {V} (x ∷ ps) (v ∷ vs) p n l d =
     elim (cases_Bool (x == p)) [
       | inl same ↦
           (0, omega arith, eqb-true x p same, ap (option_map (λ (y : ℕ × V). y.1)) (cond-true (x == p) (Some (x, v)) (find (λ (y : ℕ × V). y.0 == p) (zip ps vs)) same))
       | inr other ↦
           (let zero : one_if x p ≡ 0 = cond-false (x == p) 1 0 other in
-          let w = zip_some ps vs p (omega arith) (omega (arith, times-cons x ps p)) in (
+          let w = zip_some ps vs p (omega arith) (omega (arith, times-cons x ps p)) d in (
             suc w.0,
             omega (arith, w.1),
             w.2,

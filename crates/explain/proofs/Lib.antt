@@ -1,3 +1,4 @@
+pub mod EachLevel
 pub mod EachSequence
 pub mod Found
 pub mod NeutralPasses

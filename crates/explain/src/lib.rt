@@ -2,6 +2,9 @@
 #![tactic(auto)]
 
 pub mod columns;
+mod bracketing;
+mod deciding;
+mod implicit_levels;
 mod neutral;
 mod pass;
 mod rewriting;

@@ -18,8 +18,7 @@ fn rewrite<L: Ledger>(
     classes: &mut [Class],
     steps: &mut Steps<L>,
 )
-    requires extent { sequences.now.extent ≡ length classes.old }
-    requires apart { AreDisjoint (length classes.old) sequences.now.all }
+    requires { AreDisjoint (length classes.old) sequences.now.all }
     ensures { classes.new ≡ rewritten (by_pass pass) sequences.now.all classes.old }
 {
     for k in 0..sequences.count() {
@@ -35,8 +34,7 @@ pub fn rewritten<L: Ledger>(
     before: &[Class],
     steps: &mut Steps<L>,
 ) -> Result<Vec<Class>, Memory>
-    requires extent { sequences.now.extent ≡ length before.now }
-    requires apart { AreDisjoint (length before.now) sequences.now.all }
+    requires { AreDisjoint (length before.now) sequences.now.all }
     ensures { IfOk result (λ classes. classes.items ≡ rewritten (by_pass pass) sequences.now.all before.now) }
 {
     let mut classes = Vec::from_slice(alloc, before)?;
