@@ -1,15 +1,16 @@
 -- What is found beside a position in the lists of the sequences of a paragraph, of which no two share a position.
-use Rattle.std.specs.Prelude.{Option, Some, None, ℕ, zero, suc, ◌==◌, ◌+◌, ◌<◌, ◌≤◌, ◌≡◌, List, [], ◌∷◌, ◌++◌, length, take, Contains, slice_index, slice_get, refl}
+use Rattle.std.specs.Prelude.{Option, Some, None, ℕ, zero, suc, ◌==◌, ◌+◌, ◌<◌, ◌≤◌, ◌≡◌, ◌≢◌, List, [], ◌∷◌, ◌++◌, length, take, Contains, slice_index, slice_get, refl}
 use Rattle.std.specs.List.{flat_map, find, zip}
 use Rattle.std.specs.Option.{option_map}
-use Rattle.std.proofs.Common.{arith, ap, sym, ◌∙◌, inl, inr, get_or}
-use Rattle.std.proofs.lemmas.Bool.{cases_Bool, cases_lt, cond-true, cond-false, eqb-true}
+use Rattle.std.proofs.Common.{arith, ap, sym, ◌∙◌, subst, inl, inr, get_or}
+use Rattle.std.proofs.lemmas.Bool.{cases_Bool, cases_lt, cases_order, cond-true, cond-false, eqb-true}
 use Rattle.std.proofs.lemmas.List.{append_assoc, append-nil}
 use Rattle.units.specs.Runs.{SequenceView}
 use Rattle.sequences.specs.Once.{times}
 use Rattle.sequences.proofs.Once.{one_if, one_if-same, times-append, times-cons}
+use Rattle.resolve.proofs.Gathered.{contains_index}
 use Rattle.paragraph.specs.Covering.{positions_in, AreDisjoint}
-use Rattle.paragraph.proofs.Covering.{take_next, apart_from_earlier}
+use Rattle.paragraph.proofs.Covering.{take_next, apart_from_earlier, times_some, within_extent}
 use Rattle.explain.specs.Passes.{value_found}
 
 -- a list that says nothing beside a position is passed over
@@ -66,6 +67,53 @@ zip_some {V} (x ∷ ps) (v ∷ vs) p n l d =
             ap (option_map (λ (y : ℕ × V). y.1)) (cond-false (x == p) (Some (x, v)) (find (λ (y : ℕ × V). y.0 == p) (zip ps vs)) other) ∙ w.3,
           ))
     ]
+
+-- a position that stands in the list has an index
+pub index_in : (ps : List ℕ) (p : ℕ) → 0 < times ps p → (k : ℕ) × (k < length ps) × (slice_index ps k ≡ p)
+index_in ps p some = let z = zip_some ps ps p refl some 0 in (z.0, z.1, z.2)
+
+-- a sequence holds no position more often than all of them do
+pub times_in : (all : List SequenceView) (k : ℕ) (s : SequenceView) → slice_get all k ≡ Some s → (p : ℕ) → times s.positions p ≤ times (positions_in all) p
+times_in [] k s e p = absurd cc
+times_in (x ∷ all) zero s e p =
+    let same : x ≡ s = cc in
+    omega (arith, times-append x.positions (positions_in all) p, ap (λ (y : SequenceView). times y.positions p) same)
+times_in (x ∷ all) (suc k) s e p = omega (arith, times-append x.positions (positions_in all) p, times_in all k s e p)
+
+-- what stands at two indices stands twice in the list
+twice : (ps : List ℕ) (j k : ℕ) → j < k → k < length ps → slice_index ps j ≡ slice_index ps k → 2 ≤ times ps (slice_index ps k)
+twice [] j k l h e = absurd (omega arith)
+twice (x ∷ xs) zero zero l h e = absurd (omega arith)
+twice (x ∷ xs) zero (suc k) l h e =
+    omega (arith, times-cons x xs (slice_index xs k), one_if-same x (slice_index xs k) e, times_some xs (slice_index xs k) (contains_index xs k (omega arith)))
+twice (x ∷ xs) (suc j) zero l h e = absurd (omega arith)
+twice (x ∷ xs) (suc j) (suc k) l h e = omega (arith, times-cons x xs (slice_index xs k), twice xs j k (omega arith) (omega arith) e)
+
+-- what stands at two indices of a list that holds nothing twice is not the same
+abbrev pub IsDistinct : List ℕ → Type 0
+IsDistinct ps = (j k : ℕ) → j < length ps → k < length ps → j ≢ k → slice_index ps j ≢ slice_index ps k
+
+distinct_from : (ps : List ℕ) → ((p : ℕ) → times ps p ≤ 1) → IsDistinct ps
+distinct_from ps once j k hj hk ne =
+    elim (cases_order j k) [
+      | inl e ↦ absurd (ne e)
+      | inr other ↦ elim other [
+        | inl lt ↦ (λ e. let two = twice ps j k lt hk e in let one = once (slice_index ps k) in omega arith)
+        | inr gt ↦ (λ e. let two = twice ps k j gt hj (sym e) in let one = once (slice_index ps j) in omega arith)
+      ]
+    ]
+
+-- a sequence of a paragraph holds no position twice
+pub distinct_in : {extent : ℕ} {all : List SequenceView} (apart : AreDisjoint extent all) {k : ℕ} {s : SequenceView} → slice_get all k ≡ Some s → k < length all → IsDistinct s.positions
+distinct_in {extent} {all} apart {k} {s} at inside =
+    distinct_from s.positions
+    (λ p. elim (cases_lt 0 (times s.positions p)) [
+      | inl some ↦
+          (let z = index_in s.positions p some in
+          let within : p < extent = within_extent apart at inside p (subst (Contains s.positions) z.2 (contains_index s.positions z.0 z.1)) in
+          omega (arith, apart.once p within, times_in all k s at p))
+      | inr none ↦ omega arith
+    ])
 
 flat-append : {V : Type 0} (f : SequenceView → List (ℕ × V)) (xs ys : List SequenceView) → flat_map f (xs ++ ys) ≡ flat_map f xs ++ flat_map f ys
 flat-append f [] ys = refl

@@ -1,5 +1,6 @@
 -- What the rules leave of one paragraph, rule by rule: each column has an item for each position.
-use Rattle.std.specs.Prelude.{Option, None, ℕ, ◌≡◌, List, [], length}
+use Rattle.std.specs.Prelude.{Option, None, ℕ, ◌≡◌, ◌<◌, List, [], length, IfSome, slice_index_or}
+use Rattle.std.specs.List.{All}
 use Rattle.units.specs.Classes.{classes_of}
 use Rattle.units.specs.Explicit.{explicit_of}
 use Rattle.units.specs.Isolates.{first_strong, para_level_of}
@@ -30,6 +31,11 @@ pub record NeutralOf : Type 0 where
   pub n0 : List Class
   pub n1 : List Class
   pub n2 : List Class
+
+-- BD16, N0: at each position that of the closing bracket of the pair that begins there, if one does; the classes after N0
+pub record BracketOf : Type 0 where
+  pub closers : List (Option ℕ)
+  pub n0 : List Class
 
 -- P2 to X10: the paragraph's level and the first strong position outside of all isolates, which decides it; the
 -- explicit level and the class of each position, none where it is removed; the sequences
@@ -92,10 +98,14 @@ weak_part all current =
     let w6 = rewritten (by_pass pass.W6) all w5 in
     record { w1 = w1; w2 = w2; w3 = w3; w4 = w4; w5 = w5; w6 = w6; w7 = rewritten (by_pass pass.W7) all w6 }
 
--- N0 to N2: each rule over what the one before it left, by the classes before W1 and those after W7
-abbrev pub neutral_part : List SequenceView → List BidiUnit → List Class → List Class → NeutralOf
-neutral_part all us current weak =
-    let n0 = rewritten (by_n0 us current) all weak in
+-- BD16, N0: by the classes before W1 and those after W7
+abbrev pub bracket_part : List SequenceView → List BidiUnit → List Class → List Class → BracketOf
+bracket_part all us current weak =
+    record { closers = closers_of all us weak; n0 = rewritten (by_n0 us current) all weak }
+
+-- N1 and N2, by the classes after N0
+abbrev pub neutral_part : List SequenceView → List Class → NeutralOf
+neutral_part all n0 =
     let n1 = rewritten (by_pass pass.N1) all n0 in
     record { n0 = n0; n1 = n1; n2 = rewritten (by_pass pass.N2) all n1 }
 
@@ -111,12 +121,13 @@ columns_of us direction =
     let explicit = explicit_part us direction in
     let current = current_of explicit.places in
     let weak = weak_part explicit.sequences current in
-    let neutral = neutral_part explicit.sequences us current weak.w7 in
+    let brackets = bracket_part explicit.sequences us current weak.w7 in
+    let neutral = neutral_part explicit.sequences brackets.n0 in
     record {
       explicit = explicit;
       current = current;
       weak = weak;
-      closers = closers_of explicit.sequences us weak.w7;
+      closers = brackets.closers;
       neutral = neutral;
       implicit = implicit_of explicit.sequences neutral.n2;
       shown = shown_part us direction;
@@ -129,3 +140,9 @@ pub record HaveLength (columns : ColumnsOf) (size : ℕ) : Type 0 where
   pub closers : length columns.closers ≡ size
   pub implicit : length columns.implicit ≡ size
   pub levels : length columns.shown.levels ≡ size
+
+-- what names positions names those of the paragraph, of which there are so many
+pub record AreInside (columns : ColumnsOf) (size : ℕ) : Type 0 where
+  pub first_strong : IfSome columns.explicit.first_strong (λ p. p < size)
+  pub closers : (p : ℕ) → IfSome (slice_index_or columns.closers p None) (λ q. q < size)
+  pub order : All (λ p. p < size) columns.shown.order

@@ -2,11 +2,12 @@
 ghost use Rattle.std.specs.Prelude.{◌≡◌, ◌≤◌, length, IfOk};
 ghost use Rattle.units.specs.Layout.{longest_text};
 ghost use Rattle.units.specs.Paragraphs.{SeparatorOnlyLast};
-ghost use Rattle.explain.specs.Columns.{HaveLength, columns_of};
+ghost use Rattle.explain.specs.Columns.{AreInside, HaveLength, columns_of};
 
+use crate::class_parts::{BracketPart, WeakPart};
+use crate::explicit_part::ExplicitPart;
 use crate::rule::Rule;
-use explicit::levels::Explicit;
-use resolve::pairs::Pairs;
+use crate::shown_part::ShownPart;
 use sequences::sequences::Sequences;
 use std::alloc::Global;
 use std::marker::Model;
@@ -15,83 +16,15 @@ use units::class::Class;
 use units::level::{Direction, Level, ParaLevel};
 use units::memory::Memory;
 
-/// P2 to X10 of a paragraph.
-#[derive(Drop)]
-pub struct ExplicitPart {
-    para_level: ParaLevel,
-    first_strong: Option<usize>,
-    places: Explicit,
-    sequences: Sequences,
-}
-
-impl Model for ExplicitPart {
-    ghost use Rattle.units.specs.Isolates.{level_of_para};
-    ghost use Rattle.explain.specs.Columns.{ExplicitOf};
-
-    ghost Value = { ExplicitOf };
-
-    ghost view = { λ part. record { para_level = level_of_para part.para_level; first_strong = part.first_strong; places = part.places; sequences = part.sequences.all } };
-}
-
-/// The classes after each of W1 to W7.
-#[derive(Drop)]
-pub struct WeakPart {
-    w1: Vec<Class>,
-    w2: Vec<Class>,
-    w3: Vec<Class>,
-    w4: Vec<Class>,
-    w5: Vec<Class>,
-    w6: Vec<Class>,
-    w7: Vec<Class>,
-}
-
-impl Model for WeakPart {
-    ghost use Rattle.explain.specs.Columns.{WeakOf};
-
-    ghost Value = { WeakOf };
-
-    ghost view = { λ part. record { w1 = part.w1.items; w2 = part.w2.items; w3 = part.w3.items; w4 = part.w4.items; w5 = part.w5.items; w6 = part.w6.items; w7 = part.w7.items } };
-}
-
-/// The classes after each of N0, N1 and N2.
-#[derive(Drop)]
-pub struct NeutralPart {
-    n0: Vec<Class>,
-    n1: Vec<Class>,
-    n2: Vec<Class>,
-}
-
-impl Model for NeutralPart {
-    ghost use Rattle.explain.specs.Columns.{NeutralOf};
-
-    ghost Value = { NeutralOf };
-
-    ghost view = { λ part. record { n0 = part.n0.items; n1 = part.n1.items; n2 = part.n2.items } };
-}
-
-/// The levels after L1 and the order (L2) of a paragraph that is one line.
-#[derive(Drop)]
-pub struct ShownPart {
-    levels: Vec<Option<Level>>,
-    order: Vec<usize>,
-}
-
-impl Model for ShownPart {
-    ghost use Rattle.explain.specs.Columns.{ShownOf};
-
-    ghost Value = { ShownOf };
-
-    ghost view = { λ part. record { levels = part.levels.items; order = part.order.items } };
-}
-
 /// What the rules leave of one paragraph, rule by rule, in columns with an item for each position.
 #[derive(Drop)]
 pub struct Columns {
     explicit: ExplicitPart,
     current: Vec<Class>,
     weak: WeakPart,
-    closers: Pairs,
-    neutral: NeutralPart,
+    brackets: BracketPart,
+    n1: Vec<Class>,
+    n2: Vec<Class>,
     implicit: Vec<Option<Level>>,
     shown: ShownPart,
 }
@@ -101,7 +34,7 @@ impl Model for Columns {
 
     ghost Value = { ColumnsOf };
 
-    ghost view = { λ columns. record { explicit = columns.explicit; current = columns.current.items; weak = columns.weak; closers = columns.closers; neutral = columns.neutral; implicit = columns.implicit.items; shown = columns.shown } };
+    ghost view = { λ columns. record { explicit = columns.explicit; current = columns.current.items; weak = columns.weak; closers = columns.brackets.closers; neutral = record { n0 = columns.brackets.n0; n1 = columns.n1.items; n2 = columns.n2.items }; implicit = columns.implicit.items; shown = columns.shown } };
 }
 
 impl Columns {
@@ -146,9 +79,9 @@ impl Columns {
             Rule::W5 => &self.weak.w5,
             Rule::W6 => &self.weak.w6,
             Rule::W7 => &self.weak.w7,
-            Rule::N0 => &self.neutral.n0,
-            Rule::N1 => &self.neutral.n1,
-            Rule::N2 => &self.neutral.n2,
+            Rule::N0 => &self.brackets.n0,
+            Rule::N1 => &self.n1,
+            Rule::N2 => &self.n2,
         }
     }
 
@@ -185,7 +118,7 @@ impl Columns {
         requires { p < length self.now.closers }
         ensures { result ≡ closer_in self.now.closers p }
     {
-        self.closers.closer(p)
+        self.brackets.pairs.closer(p)
     }
 }
 
@@ -196,6 +129,7 @@ pub fn columns_of(alloc: Global, para: &[Unit], direction: Direction) -> Result<
     requires length { length para.now ≤ longest_text }
     ensures columns { IfOk result (λ columns. columns ≡ columns_of para.now direction) }
     ensures length { IfOk result (λ columns. HaveLength columns (length para.now)) }
+    ensures inside { IfOk result (λ columns. AreInside columns (length para.now)) }
 {
     Err(Memory)
 }

@@ -1,11 +1,14 @@
 //! What the algorithm does with a text, rule by rule.
 #![tactic(auto)]
 
-pub mod columns;
 mod bracketing;
+mod class_parts;
+pub mod columns;
 mod deciding;
+mod explicit_part;
 mod implicit_levels;
 mod neutral;
 mod pass;
 mod rewriting;
 pub mod rule;
+mod shown_part;
