@@ -69,8 +69,8 @@ weak_undecided cs q weak = rw weak refl
 pub inside_undecided : (cs : List Class) (q : ℕ) → isolate_around cs q ≢ None → decides cs q ≡ false
 inside_undecided cs q inside =
     elim (cases_Bool (decides cs q)) [
-      | inl yes ↦ absurd (inside (same_position_true (isolate_around cs q) None (and_parts (is_strong (class_at cs q)) (same_position (isolate_around cs q) None) yes).1))
-      | inr no ↦ no
+      | inl holds ↦ absurd (inside (same_position_true (isolate_around cs q) None (and_parts (is_strong (class_at cs q)) (same_position (isolate_around cs q) None) holds).1))
+      | inr fails ↦ fails
     ]
 
 -- before p nothing decides, and p lies outside of all isolates

@@ -3,7 +3,7 @@ use Rattle.std.specs.Prelude.{Option, None, ℕ, ◌≡◌, ◌<◌, List, [], l
 use Rattle.std.specs.List.{All}
 use Rattle.units.specs.Classes.{classes_of}
 use Rattle.units.specs.Explicit.{explicit_of}
-use Rattle.units.specs.Isolates.{first_strong, para_level_of}
+use Rattle.units.specs.Isolates.{first_strong, level_of_para, para_level_of}
 use Rattle.units.specs.Layout.{TextLayout, current_of, layout_of}
 use Rattle.units.specs.Limits.{standard}
 use Rattle.units.specs.Runs.{SequenceView, leveled_of, sequences_of}
@@ -13,6 +13,7 @@ use Rattle.units.specs.declared.level.Direction.{Direction}
 use Rattle.lines.specs.Layouts.{line_at}
 use Rattle.explain.specs.Passes.{by_n0, by_pass, closers_of, implicit_of, rewritten}
 use Rattle.explain.specs.declared.pass.Pass.TheVariants as pass
+use Rattle.explain.specs.declared.explicit_part.ExplicitPart.{ExplicitPart}
 use Rattle.explain.specs.declared.rule.Rule.{Rule}
 use Rattle.explain.specs.declared.rule.Rule.TheVariants as rule
 
@@ -45,10 +46,27 @@ pub record ExplicitOf : Type 0 where
   pub places : List (Option (ℕ × Class))
   pub sequences : List SequenceView
 
+-- the same of what is kept of it
+abbrev pub explicit_view : ExplicitPart → ExplicitOf
+explicit_view part = record {
+  para_level = level_of_para part.para_level;
+  first_strong = part.first_strong;
+  places = part.places;
+  sequences = part.sequences.all;
+}
+
 -- L1, L2: the levels of a paragraph that is one line, and its positions from left to right
 pub record ShownOf : Type 0 where
   pub levels : List (Option ℕ)
   pub order : List ℕ
+
+-- X1 to I2: the classes after X1 to X9, those after each rule, and the levels
+pub record ClassesOf : Type 0 where
+  pub current : List Class
+  pub weak : WeakOf
+  pub brackets : BracketOf
+  pub neutral : NeutralOf
+  pub implicit : List (Option ℕ)
 
 -- all that the rules leave: beside these the classes after X1 to X9, the closers of bracket pairs (BD16), and the levels
 -- after I1 and I2
@@ -109,6 +127,14 @@ neutral_part all n0 =
     let n1 = rewritten (by_pass pass.N1) all n0 in
     record { n0 = n0; n1 = n1; n2 = rewritten (by_pass pass.N2) all n1 }
 
+-- X1 to I2: by the sequences of a paragraph, its units and its classes after X1 to X9
+abbrev pub classes_part : List SequenceView → List BidiUnit → List Class → ClassesOf
+classes_part all us current =
+    let weak = weak_part all current in
+    let brackets = bracket_part all us current weak.w7 in
+    let neutral = neutral_part all brackets.n0 in
+    record { current = current; weak = weak; brackets = brackets; neutral = neutral; implicit = implicit_of all neutral.n2 }
+
 -- L1, L2: of a paragraph under a direction
 abbrev pub shown_part : List BidiUnit → Direction → ShownOf
 shown_part us direction =
@@ -119,17 +145,14 @@ shown_part us direction =
 unfoldable pub columns_of : List BidiUnit → Direction → ColumnsOf
 columns_of us direction =
     let explicit = explicit_part us direction in
-    let current = current_of explicit.places in
-    let weak = weak_part explicit.sequences current in
-    let brackets = bracket_part explicit.sequences us current weak.w7 in
-    let neutral = neutral_part explicit.sequences brackets.n0 in
+    let classes = classes_part explicit.sequences us (current_of explicit.places) in
     record {
       explicit = explicit;
-      current = current;
-      weak = weak;
-      closers = brackets.closers;
-      neutral = neutral;
-      implicit = implicit_of explicit.sequences neutral.n2;
+      current = classes.current;
+      weak = classes.weak;
+      closers = classes.brackets.closers;
+      neutral = classes.neutral;
+      implicit = classes.implicit;
       shown = shown_part us direction;
     }
 

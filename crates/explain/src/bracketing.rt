@@ -24,13 +24,15 @@ pub fn pair_brackets<L: Ledger>(
     classes: &mut [Class],
     steps: &mut Steps<L>,
 )
-    requires apart { AreDisjoint (length para.now) sequences.now.all }
-    requires before { length before.now ≡ length para.now }
-    requires classes { length classes.old ≡ length para.now }
+    requires apart { AreDisjoint sequences.now.extent sequences.now.all }
+    requires para { length para.now ≡ sequences.now.extent }
+    requires before { length before.now ≡ sequences.now.extent }
+    requires classes { length classes.old ≡ sequences.now.extent }
     requires own { AreOwn (positions_in sequences.now.all) para.now before.now }
-    requires room { length pairs.old ≡ length para.now }
+    requires room { length pairs.old ≡ sequences.now.extent }
     requires fresh { (p : ℕ) → closer_in pairs.old p ≡ None }
     ensures classes { classes.new ≡ rewritten (by_n0 para.now before.now) sequences.now.all classes.old }
+    ensures room { length pairs.new ≡ sequences.now.extent }
     ensures pairs { pairs.new ≡ closers_of sequences.now.all para.now classes.old }
 {
     for k in 0..sequences.count() {

@@ -45,8 +45,10 @@ impl WeakPart {
         current: &[Class],
         steps: &mut Steps<L>,
     ) -> Result<WeakPart, Memory>
-        requires { AreDisjoint (length current.now) sequences.now.all }
-        ensures { IfOk result (λ part. part ≡ weak_part sequences.now.all current.now) }
+        requires apart { AreDisjoint sequences.now.extent sequences.now.all }
+        requires length { length current.now ≡ sequences.now.extent }
+        ensures value { IfOk result (λ part. part ≡ weak_part sequences.now.all current.now) }
+        ensures length { IfOk result (λ part. length part.w7 ≡ sequences.now.extent) }
     {
         let w1 = rewritten(alloc, Pass::W1, sequences, current, steps)?;
         let w2 = rewritten(alloc, Pass::W2, sequences, &w1, steps)?;
@@ -92,11 +94,13 @@ impl BracketPart {
         weak: &[Class],
         steps: &mut Steps<L>,
     ) -> Result<BracketPart, Memory>
-        requires apart { AreDisjoint (length para.now) sequences.now.all }
-        requires current { length current.now ≡ length para.now }
-        requires weak { length weak.now ≡ length para.now }
+        requires apart { AreDisjoint sequences.now.extent sequences.now.all }
+        requires para { length para.now ≡ sequences.now.extent }
+        requires current { length current.now ≡ sequences.now.extent }
+        requires weak { length weak.now ≡ sequences.now.extent }
         requires own { AreOwn (positions_in sequences.now.all) para.now current.now }
-        ensures { IfOk result (λ part. part ≡ bracket_part sequences.now.all para.now current.now weak.now) }
+        ensures value { IfOk result (λ part. part ≡ bracket_part sequences.now.all para.now current.now weak.now) }
+        ensures length { IfOk result (λ part. length part.n0 ≡ sequences.now.extent) }
     {
         let mut pairs = Pairs::with_room(alloc, para.len())?;
         let mut n0 = Vec::from_slice(alloc, weak)?;

@@ -1,9 +1,8 @@
 //! The paragraph's level, explicit levels and sequences (P2 to X10).
-ghost use Rattle.std.specs.Prelude.{◌≡◌, ◌≤◌, length, IfOk};
-ghost use Rattle.units.specs.Layout.{longest_text};
+ghost use Rattle.std.specs.Prelude.{◌≡◌, length, IfOk};
 ghost use Rattle.units.specs.Paragraphs.{SeparatorOnlyLast};
 ghost use Rattle.paragraph.specs.Covering.{AreDisjoint};
-ghost use Rattle.explain.specs.Columns.{explicit_part};
+ghost use Rattle.explain.specs.Columns.{explicit_part, explicit_view};
 
 use crate::deciding::first_strong;
 use explicit::isolates::IsolateMap;
@@ -11,7 +10,6 @@ use explicit::levels::{Explicit, explicit_levels};
 use explicit::para_level::para_level;
 use sequences::sequences::Sequences;
 use std::alloc::Global;
-use std::marker::Model;
 use std::sync::ledger::Ledger;
 use units::bracket::Unit;
 use units::level::{Direction, ParaLevel};
@@ -28,15 +26,6 @@ pub struct ExplicitPart {
     pub(crate) sequences: Sequences,
 }
 
-impl Model for ExplicitPart {
-    ghost use Rattle.units.specs.Isolates.{level_of_para};
-    ghost use Rattle.explain.specs.Columns.{ExplicitOf};
-
-    ghost Value = { ExplicitOf };
-
-    ghost view = { λ part. record { para_level = level_of_para part.para_level; first_strong = part.first_strong; places = part.places; sequences = part.sequences.all } };
-}
-
 impl ExplicitPart {
     /// Of a paragraph under a direction, by the standard limits. The error is refused memory.
     pub fn of<L: Ledger>(
@@ -45,8 +34,11 @@ impl ExplicitPart {
         direction: Direction,
         steps: &mut Steps<L>,
     ) -> Result<ExplicitPart, Memory>
-        requires separators { SeparatorOnlyLast para.now }
-        ensures value { IfOk result (λ part. part ≡ explicit_part para.now direction) }
+        requires { SeparatorOnlyLast para.now }
+        ensures value { IfOk result (λ part. explicit_view part ≡ explicit_part para.now direction) }
+        ensures extent { IfOk result (λ part. part.sequences.extent ≡ length para.now) }
+        ensures apart { IfOk result (λ part. AreDisjoint (length para.now) part.sequences.all) }
+        ensures length { IfOk result (λ part. length part.places ≡ length para.now) }
     {
         let n = para.len();
         let limits = Limits::standard();

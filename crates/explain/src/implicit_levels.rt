@@ -20,7 +20,8 @@ fn raise<L: Ledger>(
     levels: &mut [Option<Level>],
     steps: &mut Steps<L>,
 )
-    requires apart { AreDisjoint (length classes.now) sequences.now.all }
+    requires apart { AreDisjoint sequences.now.extent sequences.now.all }
+    requires classes { length classes.now ≡ sequences.now.extent }
     requires levels { length levels.old ≡ length classes.now }
     requires fresh { (p : ℕ) → resolved_at levels.old p ≡ None }
     ensures { levels.new ≡ implicit_of sequences.now.all classes.now }
@@ -37,8 +38,10 @@ pub fn implicit_levels<L: Ledger>(
     classes: &[Class],
     steps: &mut Steps<L>,
 ) -> Result<Vec<Option<Level>>, Memory>
-    requires { AreDisjoint (length classes.now) sequences.now.all }
-    ensures { IfOk result (λ levels. levels.items ≡ implicit_of sequences.now.all classes.now) }
+    requires apart { AreDisjoint sequences.now.extent sequences.now.all }
+    requires classes { length classes.now ≡ sequences.now.extent }
+    ensures levels { IfOk result (λ levels. levels.items ≡ implicit_of sequences.now.all classes.now) }
+    ensures length { IfOk result (λ levels. length levels.items ≡ sequences.now.extent) }
 {
     let mut levels = vec![in alloc; None; classes.len()]?;
     raise(sequences, classes, &mut levels, steps);

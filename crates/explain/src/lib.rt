@@ -3,7 +3,9 @@
 
 mod bracketing;
 mod class_parts;
+mod classes_part;
 pub mod columns;
+mod current;
 mod deciding;
 mod explicit_part;
 mod implicit_levels;

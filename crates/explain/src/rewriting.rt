@@ -18,7 +18,8 @@ fn rewrite<L: Ledger>(
     classes: &mut [Class],
     steps: &mut Steps<L>,
 )
-    requires { AreDisjoint (length classes.old) sequences.now.all }
+    requires apart { AreDisjoint sequences.now.extent sequences.now.all }
+    requires length { length classes.old ≡ sequences.now.extent }
     ensures { classes.new ≡ rewritten (by_pass pass) sequences.now.all classes.old }
 {
     for k in 0..sequences.count() {
@@ -34,8 +35,10 @@ pub fn rewritten<L: Ledger>(
     before: &[Class],
     steps: &mut Steps<L>,
 ) -> Result<Vec<Class>, Memory>
-    requires { AreDisjoint (length before.now) sequences.now.all }
-    ensures { IfOk result (λ classes. classes.items ≡ rewritten (by_pass pass) sequences.now.all before.now) }
+    requires apart { AreDisjoint sequences.now.extent sequences.now.all }
+    requires length { length before.now ≡ sequences.now.extent }
+    ensures classes { IfOk result (λ classes. classes.items ≡ rewritten (by_pass pass) sequences.now.all before.now) }
+    ensures length { IfOk result (λ classes. length classes.items ≡ sequences.now.extent) }
 {
     let mut classes = Vec::from_slice(alloc, before)?;
     rewrite(pass, sequences, &mut classes, steps);

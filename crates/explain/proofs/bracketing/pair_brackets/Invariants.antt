@@ -8,5 +8,5 @@ abbrev pub invariant-loop-k : goal.invariant-loop-k
 invariant-loop-k g l = record {
   classes : IsRewritten (by_n0 l.para l.before) (take l.k l.sequences.all) l.initial.classes l.classes;
   pairs : ArePaired l.para l.initial.classes (take l.k l.sequences.all) l.pairs;
-  room : length l.pairs ≡ length l.para;
+  room : length l.pairs ≡ l.sequences.extent;
 }

@@ -8,7 +8,7 @@ loop-k-init g c = λ p. refl
 
 pub loop-k-preserved : goal.loop-k-preserved
 loop-k-preserved g c =
-    rewritten_next c.requires c.get.ensures.value (omega arith) (by_pass c.args.pass) c.args.classes.now c.loop-k.classes c.apply.new.classes c.loop-k.invariant c.apply.ensures
+    rewritten_next c.requires.apart c.get.ensures.value (omega arith) (by_pass c.args.pass) c.args.classes.now c.loop-k.classes c.apply.new.classes c.loop-k.invariant c.apply.ensures
 
 pub returns : goal.returns
 returns g c = rewritten_end (by_pass c.args.pass) c.args.sequences.now.all c.loop-k.k c.args.classes.now c.loop-k.classes (omega arith) (search rules) c.loop-k.invariant
