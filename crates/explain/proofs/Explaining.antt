@@ -11,7 +11,7 @@ use Rattle.printing.specs.LevelsText.{printed}
 use Rattle.printing.proofs.Printing.{HasPrinted, nothing_printed, one_more_printed}
 use Rattle.units.specs.declared.level.Direction.{Direction}
 use Rattle.explain.specs.Columns.{columns_of}
-use Rattle.explain.specs.Explained.{paragraph_at, paragraph_text, start_of}
+use Rattle.explain.specs.Explained.{explained_paragraph, paragraph_explained, start_of}
 use Rattle.explain.proofs.Finished.{all_printed}
 
 sum-lengths : (pieces : List (List BidiUnit)) → sum_by length pieces ≡ length (joined pieces)
@@ -32,7 +32,7 @@ pub record HasExplained (old new : Option (List ℕ)) (text : ℕ → List ℕ) 
   pub begins : start ≡ start_of (paragraphs_of units) k
 
 -- what is known of the next paragraph
-pub record IsNext (units : List BidiUnit) (rest others : List (List BidiUnit)) (para : List BidiUnit) (k start : ℕ) : Type 0 where
+pub record IsNextParagraph (units : List BidiUnit) (rest others : List (List BidiUnit)) (para : List BidiUnit) (k start : ℕ) : Type 0 where
   pub here : slice_index_or (paragraphs_of units) k [] ≡ para
   pub inside : k < length (paragraphs_of units)
   pub only_last : SeparatorOnlyLast para
@@ -56,7 +56,7 @@ module _ (text : ℕ → List ℕ) (units : List BidiUnit) where
   }
 
   pub next_paragraph : (a b : Option (List ℕ)) (rest others : List (List BidiUnit)) (para : List BidiUnit) (k start : ℕ) → rest ≡ para ∷ others
-      → HasExplained a b text units rest k start → IsNext units rest others para k start
+      → HasExplained a b text units rest k start → IsNextParagraph units rest others para k start
   next_paragraph a b rest others para k start e h =
       let paras = paragraphs_of units in
       let count : length paras - k ≡ suc (length others) = sym (length-drop k paras) ∙ ap length (h.left ∙ e) in
@@ -96,8 +96,8 @@ module _ (text : ℕ → List ℕ) (units : List BidiUnit) where
 
 pub same_paragraph : (chars : List ℕ) (direction : Direction) (paras : List (List BidiUnit)) (para : List BidiUnit) (number k start : ℕ)
     → number ≡ k → start ≡ start_of paras k → slice_index_or paras k [] ≡ para
-    → paragraph_text chars para (columns_of para direction) direction start number ≡ paragraph_at chars direction paras k
+    → paragraph_explained chars para (columns_of para direction) direction start number ≡ explained_paragraph chars direction paras k
 same_paragraph chars direction paras para number k start e f h =
-    ap (λ n. paragraph_text chars para (columns_of para direction) direction start n) e
-    ∙ ap (λ s. paragraph_text chars para (columns_of para direction) direction s k) f
-    ∙ ap (λ us. paragraph_text chars us (columns_of us direction) direction (start_of paras k) k) (sym h)
+    ap (λ n. paragraph_explained chars para (columns_of para direction) direction start n) e
+    ∙ ap (λ s. paragraph_explained chars para (columns_of para direction) direction s k) f
+    ∙ ap (λ us. paragraph_explained chars us (columns_of us direction) direction (start_of paras k) k) (sym h)

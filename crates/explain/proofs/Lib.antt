@@ -1,3 +1,10 @@
+pub mod EachLevel
+pub mod EachPair
+pub mod EachSequence
 pub mod Explaining
+pub mod ExplicitParts
 pub mod Finished
+pub mod Found
+pub mod NeutralPasses
+pub mod Outside
 pub mod SameRow

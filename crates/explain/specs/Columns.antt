@@ -1,8 +1,9 @@
 -- What the rules leave of one paragraph, rule by rule: each column has an item for each position.
-use Rattle.std.specs.Prelude.{Option, None, ℕ, ◌≡◌, List, [], length}
+use Rattle.std.specs.Prelude.{Option, None, ℕ, ◌≡◌, ◌<◌, List, [], length, IfSome, slice_index_or}
+use Rattle.std.specs.List.{All}
 use Rattle.units.specs.Classes.{classes_of}
 use Rattle.units.specs.Explicit.{explicit_of}
-use Rattle.units.specs.Isolates.{first_strong, para_level_of}
+use Rattle.units.specs.Isolates.{first_strong, level_of_para, para_level_of}
 use Rattle.units.specs.Layout.{TextLayout, current_of, layout_of}
 use Rattle.units.specs.Limits.{standard}
 use Rattle.units.specs.Runs.{SequenceView, leveled_of, sequences_of}
@@ -12,6 +13,7 @@ use Rattle.units.specs.declared.level.Direction.{Direction}
 use Rattle.lines.specs.Layouts.{line_at}
 use Rattle.explain.specs.Passes.{by_n0, by_pass, closers_of, implicit_of, rewritten}
 use Rattle.explain.specs.declared.pass.Pass.TheVariants as pass
+use Rattle.explain.specs.declared.explicit_part.ExplicitPart.{ExplicitPart}
 use Rattle.explain.specs.declared.rule.Rule.{Rule}
 use Rattle.explain.specs.declared.rule.Rule.TheVariants as rule
 
@@ -31,6 +33,11 @@ pub record NeutralOf : Type 0 where
   pub n1 : List Class
   pub n2 : List Class
 
+-- BD16, N0: at each position that of the closing bracket of the pair that begins there, if one does; the classes after N0
+pub record BracketOf : Type 0 where
+  pub closers : List (Option ℕ)
+  pub n0 : List Class
+
 -- P2 to X10: the paragraph's level and the first strong position outside of all isolates, which decides it; the
 -- explicit level and the class of each position, none where it is removed; the sequences
 pub record ExplicitOf : Type 0 where
@@ -39,10 +46,27 @@ pub record ExplicitOf : Type 0 where
   pub places : List (Option (ℕ × Class))
   pub sequences : List SequenceView
 
+-- the same of what is kept of it
+abbrev pub explicit_view : ExplicitPart → ExplicitOf
+explicit_view part = record {
+  para_level = level_of_para part.para_level;
+  first_strong = part.first_strong;
+  places = part.places;
+  sequences = part.sequences.all;
+}
+
 -- L1, L2: the levels of a paragraph that is one line, and its positions from left to right
 pub record ShownOf : Type 0 where
   pub levels : List (Option ℕ)
   pub order : List ℕ
+
+-- X1 to I2: the classes after X1 to X9, those after each rule, and the levels
+pub record ClassesOf : Type 0 where
+  pub current : List Class
+  pub weak : WeakOf
+  pub brackets : BracketOf
+  pub neutral : NeutralOf
+  pub implicit : List (Option ℕ)
 
 -- all that the rules leave: beside these the classes after X1 to X9, the closers of bracket pairs (BD16), and the levels
 -- after I1 and I2
@@ -92,12 +116,24 @@ weak_part all current =
     let w6 = rewritten (by_pass pass.W6) all w5 in
     record { w1 = w1; w2 = w2; w3 = w3; w4 = w4; w5 = w5; w6 = w6; w7 = rewritten (by_pass pass.W7) all w6 }
 
--- N0 to N2: each rule over what the one before it left, by the classes before W1 and those after W7
-abbrev pub neutral_part : List SequenceView → List BidiUnit → List Class → List Class → NeutralOf
-neutral_part all us current weak =
-    let n0 = rewritten (by_n0 us current) all weak in
+-- BD16, N0: by the classes before W1 and those after W7
+abbrev pub bracket_part : List SequenceView → List BidiUnit → List Class → List Class → BracketOf
+bracket_part all us current weak =
+    record { closers = closers_of all us weak; n0 = rewritten (by_n0 us current) all weak }
+
+-- N1 and N2, by the classes after N0
+abbrev pub neutral_part : List SequenceView → List Class → NeutralOf
+neutral_part all n0 =
     let n1 = rewritten (by_pass pass.N1) all n0 in
     record { n0 = n0; n1 = n1; n2 = rewritten (by_pass pass.N2) all n1 }
+
+-- X1 to I2: by the sequences of a paragraph, its units and its classes after X1 to X9
+abbrev pub classes_part : List SequenceView → List BidiUnit → List Class → ClassesOf
+classes_part all us current =
+    let weak = weak_part all current in
+    let brackets = bracket_part all us current weak.w7 in
+    let neutral = neutral_part all brackets.n0 in
+    record { current = current; weak = weak; brackets = brackets; neutral = neutral; implicit = implicit_of all neutral.n2 }
 
 -- L1, L2: of a paragraph under a direction
 abbrev pub shown_part : List BidiUnit → Direction → ShownOf
@@ -109,16 +145,14 @@ shown_part us direction =
 unfoldable pub columns_of : List BidiUnit → Direction → ColumnsOf
 columns_of us direction =
     let explicit = explicit_part us direction in
-    let current = current_of explicit.places in
-    let weak = weak_part explicit.sequences current in
-    let neutral = neutral_part explicit.sequences us current weak.w7 in
+    let classes = classes_part explicit.sequences us (current_of explicit.places) in
     record {
       explicit = explicit;
-      current = current;
-      weak = weak;
-      closers = closers_of explicit.sequences us weak.w7;
-      neutral = neutral;
-      implicit = implicit_of explicit.sequences neutral.n2;
+      current = classes.current;
+      weak = classes.weak;
+      closers = classes.brackets.closers;
+      neutral = classes.neutral;
+      implicit = classes.implicit;
       shown = shown_part us direction;
     }
 
@@ -129,3 +163,9 @@ pub record HaveLength (columns : ColumnsOf) (size : ℕ) : Type 0 where
   pub closers : length columns.closers ≡ size
   pub implicit : length columns.implicit ≡ size
   pub levels : length columns.shown.levels ≡ size
+
+-- what names positions names those of the paragraph, of which there are so many
+pub record AreInside (columns : ColumnsOf) (size : ℕ) : Type 0 where
+  pub first_strong : IfSome columns.explicit.first_strong (λ p. p < size)
+  pub closers : (p : ℕ) → IfSome (slice_index_or columns.closers p None) (λ q. q < size)
+  pub order : All (λ p. p < size) columns.shown.order

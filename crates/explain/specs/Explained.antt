@@ -49,8 +49,8 @@ abbrev pub no_sequence : SequenceView
 no_sequence = record { positions = []; level = 0; sos = L; eos = L; extent = 0 }
 
 -- X10: the line of the sequence with the number k
-abbrev pub sequence_at : ColumnsOf → ℕ → ℕ → List ℕ
-sequence_at columns start k = sequence_text k start (slice_index_or columns.explicit.sequences k no_sequence)
+abbrev pub sequence_line : ColumnsOf → ℕ → ℕ → List ℕ
+sequence_line columns start k = sequence_text k start (slice_index_or columns.explicit.sequences k no_sequence)
 
 -- the line of a pair, if there is one
 abbrev pub pair_if : ℕ → ℕ → Option ℕ → List ℕ
@@ -64,13 +64,13 @@ pair_at columns start p = pair_if start p (closer_in columns.closers p)
 -- the sequences, the bracket pairs by their openers, and the order
 abbrev pub foot_text : ColumnsOf → ℕ → ℕ → List ℕ
 foot_text columns start size =
-    printed (sequence_at columns start) 0 (length columns.explicit.sequences)
+    printed (sequence_line columns start) 0 (length columns.explicit.sequences)
     ++ printed (pair_at columns start) 0 size
     ++ order_text start columns.shown.order
 
 -- a paragraph with the number k that begins at start of the text
-abbrev pub paragraph_text : List ℕ → List BidiUnit → ColumnsOf → Direction → ℕ → ℕ → List ℕ
-paragraph_text chars para columns direction start k =
+abbrev pub paragraph_explained : List ℕ → List BidiUnit → ColumnsOf → Direction → ℕ → ℕ → List ℕ
+paragraph_explained chars para columns direction start k =
     head_text k columns.explicit.para_level (decider_of direction para start columns.explicit.first_strong)
     ++ printed (row_at chars para columns start) 0 (length para)
     ++ foot_text columns start (length para)
@@ -80,16 +80,16 @@ abbrev pub start_of : List (List BidiUnit) → ℕ → ℕ
 start_of paras k = sum_by length (take k paras)
 
 -- P1: the paragraph with the number k, of these
-abbrev pub paragraph_at : List ℕ → Direction → List (List BidiUnit) → ℕ → List ℕ
-paragraph_at chars direction paras k =
+abbrev pub explained_paragraph : List ℕ → Direction → List (List BidiUnit) → ℕ → List ℕ
+explained_paragraph chars direction paras k =
     let para = slice_index_or paras k [] in
-    paragraph_text chars para (columns_of para direction) direction (start_of paras k) k
+    paragraph_explained chars para (columns_of para direction) direction (start_of paras k) k
 
 -- a text of these units: its paragraphs (P1), one after another; it may have no characters, where the units are known
 -- alone
 abbrev pub explained_units : List ℕ → List BidiUnit → Direction → List ℕ
 explained_units chars text direction =
-    printed (paragraph_at chars direction (paragraphs_of text)) 0 (length (paragraphs_of text))
+    printed (explained_paragraph chars direction (paragraphs_of text)) 0 (length (paragraphs_of text))
 
 -- what is printed of a text, by tables
 abbrev pub explained : TablesOf → List ℕ → Direction → List ℕ

@@ -40,7 +40,7 @@ unfolding layouts_compute columns_of rewritten implicit_of closers_of digits cod
 brackets_round_a_number = refl
 
 -- the positions of the second paragraph go on, its number of sequences begins again
-pub two_paragraphs : explained_classes (WS ∷ B ∷ ON ∷ []) Rtl
+pub two_paragraphs_explained : explained_classes (WS ∷ B ∷ ON ∷ []) Rtl
     ≡ codes "paragraph 0 level 1: given\n" ++ columns_text
     ++ codes "0 - WS 1 . . . . . . . . . R . . .\n"
     ++ codes "1 - B 1 . . . . . . . . . R . . .\n"
@@ -51,7 +51,7 @@ pub two_paragraphs : explained_classes (WS ∷ B ∷ ON ∷ []) Rtl
     ++ codes "sequence 0 level 1 sos R eos R: 2\n"
     ++ codes "order 2\n"
 unfolding layouts_compute columns_of rewritten implicit_of closers_of digits
-two_paragraphs = refl
+two_paragraphs_explained = refl
 
 -- white space at the line's end takes the paragraph's level (L1)
 pub white_space_last : explained_classes (RLE ∷ WS ∷ []) Ltr
@@ -83,6 +83,6 @@ unfolding layouts_compute columns_of rewritten implicit_of closers_of digits
 no_strong = refl
 
 -- an empty text has no paragraph
-pub nothing : explained_classes [] Auto ≡ []
+pub empty_text : explained_classes [] Auto ≡ []
 unfolding layouts_compute
-nothing = refl
+empty_text = refl

@@ -7,12 +7,12 @@ use Rattle.units.specs.Runs.{SequenceView}
 use Rattle.printing.specs.LevelsText.{line_feed}
 
 -- a position in a list
-abbrev pub place_text : ℕ → List ℕ
-place_text p = codes " " ++ decimal p
+abbrev pub listed_text : ℕ → List ℕ
+listed_text p = codes " " ++ decimal p
 
 -- positions of a paragraph that begins at start, as positions of the text
 abbrev pub places_text : ℕ → List ℕ → List ℕ
-places_text start ps = flat_map (λ p. place_text (start + p)) ps
+places_text start ps = flat_map (λ p. listed_text (start + p)) ps
 
 -- X10: a sequence's number, counted from 0, its level, its start and end
 abbrev pub sequence_start_text : ℕ → SequenceView → List ℕ

@@ -1,108 +1,38 @@
 //! What the rules leave of one paragraph, rule by rule.
-ghost use Rattle.std.specs.Prelude.{◌≡◌, ◌≤◌, length, IfOk};
+ghost use Rattle.std.specs.Prelude.{◌≡◌, ◌<◌, ◌≤◌, length, IfOk};
 ghost use Rattle.units.specs.Layout.{longest_text};
 ghost use Rattle.units.specs.Paragraphs.{SeparatorOnlyLast};
-ghost use Rattle.explain.specs.Columns.{HaveLength, columns_of};
-ghost use Rattle.explain.specs.Inside.{IsInside};
+ghost use Rattle.explain.specs.Columns.{AreInside, HaveLength, columns_of};
 
+use crate::classes_part::ClassesPart;
+use crate::current::current_classes;
+use crate::explicit_part::ExplicitPart;
 use crate::rule::Rule;
-use explicit::levels::Explicit;
-use resolve::pairs::Pairs;
+use crate::shown_part::ShownPart;
 use sequences::sequences::Sequences;
 use std::alloc::Global;
-use std::marker::Model;
+use std::marker::{Brand, Model};
+use std::sync::ledger::{Blank, Ledger};
 use units::bracket::Unit;
 use units::class::Class;
 use units::level::{Direction, Level, ParaLevel};
 use units::memory::Memory;
-
-/// P2 to X10 of a paragraph.
-#[derive(Drop)]
-pub struct ExplicitPart {
-    para_level: ParaLevel,
-    first_strong: Option<usize>,
-    places: Explicit,
-    sequences: Sequences,
-}
-
-impl Model for ExplicitPart {
-    ghost use Rattle.units.specs.Isolates.{level_of_para};
-    ghost use Rattle.explain.specs.Columns.{ExplicitOf};
-
-    ghost Value = { ExplicitOf };
-
-    ghost view = { λ part. record { para_level = level_of_para part.para_level; first_strong = part.first_strong; places = part.places; sequences = part.sequences.all } };
-}
-
-/// The classes after each of W1 to W7.
-#[derive(Drop)]
-pub struct WeakPart {
-    w1: Vec<Class>,
-    w2: Vec<Class>,
-    w3: Vec<Class>,
-    w4: Vec<Class>,
-    w5: Vec<Class>,
-    w6: Vec<Class>,
-    w7: Vec<Class>,
-}
-
-impl Model for WeakPart {
-    ghost use Rattle.explain.specs.Columns.{WeakOf};
-
-    ghost Value = { WeakOf };
-
-    ghost view = { λ part. record { w1 = part.w1.items; w2 = part.w2.items; w3 = part.w3.items; w4 = part.w4.items; w5 = part.w5.items; w6 = part.w6.items; w7 = part.w7.items } };
-}
-
-/// The classes after each of N0, N1 and N2.
-#[derive(Drop)]
-pub struct NeutralPart {
-    n0: Vec<Class>,
-    n1: Vec<Class>,
-    n2: Vec<Class>,
-}
-
-impl Model for NeutralPart {
-    ghost use Rattle.explain.specs.Columns.{NeutralOf};
-
-    ghost Value = { NeutralOf };
-
-    ghost view = { λ part. record { n0 = part.n0.items; n1 = part.n1.items; n2 = part.n2.items } };
-}
-
-/// The levels after L1 and the order (L2) of a paragraph that is one line.
-#[derive(Drop)]
-pub struct ShownPart {
-    levels: Vec<Option<Level>>,
-    order: Vec<usize>,
-}
-
-impl Model for ShownPart {
-    ghost use Rattle.explain.specs.Columns.{ShownOf};
-
-    ghost Value = { ShownOf };
-
-    ghost view = { λ part. record { levels = part.levels.items; order = part.order.items } };
-}
+use units::steps::Steps;
 
 /// What the rules leave of one paragraph, rule by rule, in columns with an item for each position.
 #[derive(Drop)]
 pub struct Columns {
     explicit: ExplicitPart,
-    current: Vec<Class>,
-    weak: WeakPart,
-    closers: Pairs,
-    neutral: NeutralPart,
-    implicit: Vec<Option<Level>>,
+    classes: ClassesPart,
     shown: ShownPart,
 }
 
 impl Model for Columns {
-    ghost use Rattle.explain.specs.Columns.{ColumnsOf};
+    ghost use Rattle.explain.specs.Columns.{ColumnsOf, explicit_view};
 
     ghost Value = { ColumnsOf };
 
-    ghost view = { λ columns. record { explicit = columns.explicit; current = columns.current.items; weak = columns.weak; closers = columns.closers; neutral = columns.neutral; implicit = columns.implicit.items; shown = columns.shown } };
+    ghost view = { λ columns. record { explicit = explicit_view columns.explicit; current = columns.classes.current; weak = columns.classes.weak; closers = columns.classes.brackets.closers; neutral = columns.classes.neutral; implicit = columns.classes.implicit; shown = columns.shown } };
 }
 
 impl Columns {
@@ -139,17 +69,17 @@ impl Columns {
         ensures { result.now ≡ column_after self.now rule }
     {
         match rule {
-            Rule::X => &self.current,
-            Rule::W1 => &self.weak.w1,
-            Rule::W2 => &self.weak.w2,
-            Rule::W3 => &self.weak.w3,
-            Rule::W4 => &self.weak.w4,
-            Rule::W5 => &self.weak.w5,
-            Rule::W6 => &self.weak.w6,
-            Rule::W7 => &self.weak.w7,
-            Rule::N0 => &self.neutral.n0,
-            Rule::N1 => &self.neutral.n1,
-            Rule::N2 => &self.neutral.n2,
+            Rule::X => &self.classes.current,
+            Rule::W1 => &self.classes.weak.w1,
+            Rule::W2 => &self.classes.weak.w2,
+            Rule::W3 => &self.classes.weak.w3,
+            Rule::W4 => &self.classes.weak.w4,
+            Rule::W5 => &self.classes.weak.w5,
+            Rule::W6 => &self.classes.weak.w6,
+            Rule::W7 => &self.classes.weak.w7,
+            Rule::N0 => &self.classes.brackets.n0,
+            Rule::N1 => &self.classes.n1,
+            Rule::N2 => &self.classes.n2,
         }
     }
 
@@ -157,7 +87,7 @@ impl Columns {
     pub fn implicit(&self) -> &[Option<Level>]
         ensures { result.now ≡ self.now.implicit }
     {
-        &self.implicit
+        &self.classes.implicit
     }
 
     /// The levels after L1 of the paragraph as one line, by position, none where a position is removed.
@@ -186,8 +116,34 @@ impl Columns {
         requires { p < length self.now.closers }
         ensures { result ≡ closer_in self.now.closers p }
     {
-        self.closers.closer(p)
+        self.classes.brackets.pairs.closer(p)
     }
+}
+
+/// What `columns_of` does, by a count of steps that begins with the blank.
+fn columns_with<L: Ledger>(
+    alloc: Global,
+    para: &[Unit],
+    direction: Direction,
+    blank: Blank,
+) -> Result<Columns, Memory>
+    requires separators { SeparatorOnlyLast para.now }
+    requires length { length para.now ≤ longest_text }
+    requires name { blank.name ≡ L.name }
+    requires parts { blank.parts ≡ L.parts }
+    requires some { 0 < blank.parts }
+    ensures { IfOk result (λ columns. columns ≡ columns_of para.now direction) }
+{
+    let mut steps = Steps::<L>::new(blank);
+    let explicit = ExplicitPart::of(alloc, para, direction, &mut steps)?;
+    let current = current_classes(alloc, &explicit.places, para.len())?;
+    let classes = ClassesPart::of(alloc, &explicit.sequences, para, current, &mut steps)?;
+    let shown = ShownPart::of(alloc, para, direction, &mut steps)?;
+    Ok(Columns {
+        explicit,
+        classes,
+        shown,
+    })
 }
 
 /// What the rules leave of a paragraph under a direction, by the standard limits (P2 to L2). The error is refused
@@ -197,7 +153,7 @@ pub fn columns_of(alloc: Global, para: &[Unit], direction: Direction) -> Result<
     requires length { length para.now ≤ longest_text }
     ensures columns { IfOk result (λ columns. columns ≡ columns_of para.now direction) }
     ensures length { IfOk result (λ columns. HaveLength columns (length para.now)) }
-    ensures inside { IfOk result (λ columns. IsInside columns (length para.now)) }
+    ensures inside { IfOk result (λ columns. AreInside columns (length para.now)) }
 {
-    Err(Memory)
+    columns_with::<Brand>(alloc, para, direction, Blank::new(1))
 }

@@ -3,9 +3,8 @@ ghost use Rattle.std.specs.Prelude.{◌≡◌, ◌<◌, ◌≤◌, length, slice
 ghost use Rattle.std.specs.Io.KnownBytes.{Appends};
 ghost use Rattle.units.specs.Classes.{class_at};
 ghost use Rattle.printing.specs.LevelsText.{printed};
-ghost use Rattle.explain.specs.Columns.{HaveLength, column_after};
-ghost use Rattle.explain.specs.Inside.{IsInside};
-ghost use Rattle.explain.specs.Explained.{classes_through, foot_text, levels_through, pair_at, pair_if, paragraph_text, row_at, sequence_at};
+ghost use Rattle.explain.specs.Columns.{AreInside, HaveLength, column_after};
+ghost use Rattle.explain.specs.Explained.{classes_through, foot_text, levels_through, pair_at, pair_if, paragraph_explained, row_at, sequence_line};
 
 use crate::columns::Columns;
 use crate::foot::{print_order, print_pair, print_sequence};
@@ -117,7 +116,7 @@ fn print_rows<W: Write>(
 fn print_sequences<W: Write>(w: &mut W, columns: &Columns, start: usize) -> io::Result<()>
     requires start { start ≤ 16777216 }
     ensures { OnOk result (Appends (W.contents w.old) (W.contents w.new)
-        (printed (sequence_at columns.now start) 0 (length columns.now.explicit.sequences))) }
+        (printed (sequence_line columns.now start) 0 (length columns.now.explicit.sequences))) }
 {
     let sequences = columns.sequences();
     for k in 0..sequences.count() {
@@ -149,7 +148,7 @@ fn print_pairs<W: Write>(w: &mut W, columns: &Columns, start: usize, size: usize
     requires start { start ≤ 16777216 }
     requires small { size ≤ 16777216 }
     requires length { HaveLength columns.now size }
-    requires inside { IsInside columns.now size }
+    requires inside { AreInside columns.now size }
     ensures { OnOk result (Appends (W.contents w.old) (W.contents w.new)
         (printed (pair_at columns.now start) 0 size)) }
 {
@@ -164,7 +163,7 @@ fn print_foot<W: Write>(w: &mut W, columns: &Columns, start: usize, size: usize)
     requires start { start ≤ 16777216 }
     requires small { size ≤ 16777216 }
     requires length { HaveLength columns.now size }
-    requires inside { IsInside columns.now size }
+    requires inside { AreInside columns.now size }
     ensures { OnOk result (Appends (W.contents w.old) (W.contents w.new) (foot_text columns.now start size)) }
 {
     print_sequences(w, columns, start)?;
@@ -186,9 +185,9 @@ pub fn print_paragraph<W: Write>(
     requires start { start ≤ 16777216 }
     requires small { length para.now ≤ 16777216 }
     requires length { HaveLength columns.now (length para.now) }
-    requires inside { IsInside columns.now (length para.now) }
+    requires inside { AreInside columns.now (length para.now) }
     ensures { OnOk result (Appends (W.contents w.old) (W.contents w.new)
-        (paragraph_text chars.now para.now columns.now direction start number)) }
+        (paragraph_explained chars.now para.now columns.now direction start number)) }
 {
     let decider = decider_of(direction, para, start, columns.first_strong());
     print_head(w, number, columns.para_level(), decider)?;

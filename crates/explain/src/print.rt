@@ -4,7 +4,7 @@ ghost use Rattle.std.specs.Io.KnownBytes.{Appends};
 ghost use Rattle.units.specs.Layout.{longest_text};
 ghost use Rattle.units.specs.Paragraphs.{SeparatorOnlyLast};
 ghost use Rattle.explain.specs.Columns.{columns_of};
-ghost use Rattle.explain.specs.Explained.{explained, explained_classes, explained_units, paragraph_text, plain_unit};
+ghost use Rattle.explain.specs.Explained.{explained, explained_classes, explained_units, paragraph_explained, plain_unit};
 
 use crate::columns::columns_of;
 use crate::paragraph_text::print_paragraph;
@@ -52,7 +52,7 @@ fn explain_paragraph<W: Write>(
     requires start { start ≤ 16777216 }
     requires small { length para.now ≤ 16777216 }
     ensures { OnOk result (Appends (W.contents w.old) (W.contents w.new)
-        (paragraph_text chars.now para.now (columns_of para.now direction) direction start number)) }
+        (paragraph_explained chars.now para.now (columns_of para.now direction) direction start number)) }
 {
     let columns = columns_of(alloc, para, direction)?;
     print_paragraph(w, chars, para, &columns, direction, start, number)?;
