@@ -5,3 +5,4 @@ pub mod ExplicitParts
 pub mod Found
 pub mod NeutralPasses
 pub mod Outside
+pub mod PuttingTogether
