@@ -1,5 +1,5 @@
 -- The bracket pairs (BD16) and N0 of one sequence after another.
-use Rattle.std.specs.Prelude.{Option, Some, None, ℕ, zero, suc, Bool, true, false, ◌&&◌, ◌==◌, ◌+◌, ◌<◌, ◌≤◌, ◌≡◌, ◌≢◌, List, [], ◌∷◌, ◌++◌, length, map, take, Contains, slice_get, slice_index, slice_index_or, refl}
+use Rattle.std.specs.Prelude.{Option, Some, None, ℕ, zero, suc, Bool, true, false, ◌&&◌, ◌==◌, ◌+◌, ◌<◌, ◌≤◌, ◌≡◌, List, [], ◌∷◌, length, map, take, Contains, slice_get, slice_index, refl}
 use Rattle.std.specs.List.{All, flat_map, find}
 use Rattle.std.specs.Option.{option_map}
 use Rattle.std.proofs.Common.{arith, ap, sym, ◌∙◌, subst, inl, inr}
@@ -17,12 +17,12 @@ use Rattle.units.specs.declared.bracket.Unit.{Unit as BidiUnit}
 use Rattle.units.specs.declared.class.Class.{Class}
 use Rattle.units.proofs.Positions.{last_below_some, length-positions_from, get_or-positions_from}
 use Rattle.sequences.specs.Once.{times}
-use Rattle.resolve.specs.Pairs.{HoldsPairsOf, HoldsPairs, KeepsOtherClosers, closer_in}
+use Rattle.resolve.specs.Pairs.{HoldsPairsOf, KeepsOtherClosers, closer_in}
 use Rattle.resolve.proofs.Gathered.{contains_index}
-use Rattle.resolve.proofs.Nesting.{EndsAt, ends_somewhere}
+use Rattle.resolve.proofs.Nesting.{ends_somewhere}
 use Rattle.resolve.proofs.Scan.{length-brackets_at}
 use Rattle.paragraph.specs.Covering.{AreDisjoint}
-use Rattle.paragraph.proofs.Covering.{copied, times_some, within_extent}
+use Rattle.paragraph.proofs.Covering.{times_some, within_extent}
 use Rattle.explain.specs.Passes.{closers_of, pairs_in, value_found}
 use Rattle.explain.proofs.Found.{SaysOwn, found_here, found_elsewhere, index_in, IsDistinct, distinct_in}
 

@@ -1,5 +1,5 @@
 -- What is found beside a position in the lists of the sequences of a paragraph, of which no two share a position.
-use Rattle.std.specs.Prelude.{Option, Some, None, ℕ, zero, suc, ◌==◌, ◌+◌, ◌<◌, ◌≤◌, ◌≡◌, ◌≢◌, List, [], ◌∷◌, ◌++◌, length, take, Contains, slice_index, slice_get, refl}
+use Rattle.std.specs.Prelude.{Some, None, ℕ, zero, suc, ◌==◌, ◌+◌, ◌<◌, ◌≤◌, ◌≡◌, ◌≢◌, List, [], ◌∷◌, ◌++◌, length, take, Contains, slice_index, slice_get, refl}
 use Rattle.std.specs.List.{flat_map, find, zip}
 use Rattle.std.specs.Option.{option_map}
 use Rattle.std.proofs.Common.{arith, ap, sym, ◌∙◌, subst, inl, inr, get_or}

@@ -7,4 +7,5 @@ pub mod Finished
 pub mod Found
 pub mod NeutralPasses
 pub mod Outside
+pub mod PuttingTogether
 pub mod SameRow

@@ -1,5 +1,5 @@
 -- A pass that gives each neutral what its two sides give, where they agree (N1).
-use Rattle.std.specs.Prelude.{Option, Some, None, Bool, true, false, not, ℕ, ◌+◌, ◌<◌, ◌≡◌, List, length, IfSome, slice_index, refl}
+use Rattle.std.specs.Prelude.{Option, Some, None, true, false, ℕ, ◌+◌, ◌<◌, ◌≡◌, List, length, IfSome, slice_index, refl}
 use Rattle.std.proofs.Common.{ap, sym, ◌∙◌, subst, drop, set}
 use Rattle.std.proofs.lemmas.Bool.{cond-true, cond-false, not_from_true, not_from_false}
 use Rattle.units.specs.Classes.{class_at, classes_at, is_neutral}

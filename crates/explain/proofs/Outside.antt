@@ -1,12 +1,12 @@
 -- What lies outside of all isolates, from one position to the next.
-use Rattle.std.specs.Prelude.{Option, Some, None, Bool, true, false, ◌&&◌, ℕ, ◌+◌, ◌<◌, ◌≤◌, ◌≡◌, ◌≢◌, List, length, refl}
+use Rattle.std.specs.Prelude.{Some, None, Bool, true, false, ◌&&◌, ℕ, ◌+◌, ◌<◌, ◌≤◌, ◌≡◌, ◌≢◌, List, length, refl}
 use Rattle.std.proofs.Common.{arith, ap, sym, ◌∙◌, inl, inr}
 use Rattle.std.proofs.lemmas.Bool.{cases_order, cases_Bool, and_parts, false≢true, both_ways}
 use Rattle.units.specs.Classes.{class_at, is_isolate_initiator, is_strong}
 use Rattle.units.specs.Isolates.{first_strong, isolate_around, isolate_holds, matching_pdi}
 use Rattle.units.specs.Positions.{same_position}
 use Rattle.units.specs.declared.class.Class.{Class}
-use Rattle.units.proofs.Positions.{first_from_is, first_from_nowhere, last_below_none, same_position_true, same_position_refl}
+use Rattle.units.proofs.Positions.{first_from_is, first_from_nowhere, last_below_none, same_position_true}
 use Rattle.explicit.proofs.Around.{around_nowhere}
 use Rattle.explicit.proofs.Nesting.{IsHeld, holds_from, holds_down, inner_match}
 

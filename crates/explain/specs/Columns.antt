@@ -4,7 +4,7 @@ use Rattle.std.specs.List.{All}
 use Rattle.units.specs.Classes.{classes_of}
 use Rattle.units.specs.Explicit.{explicit_of}
 use Rattle.units.specs.Isolates.{first_strong, level_of_para, para_level_of}
-use Rattle.units.specs.Layout.{TextLayout, current_of, layout_of}
+use Rattle.units.specs.Layout.{current_of, layout_of}
 use Rattle.units.specs.Limits.{standard}
 use Rattle.units.specs.Runs.{SequenceView, leveled_of, sequences_of}
 use Rattle.units.specs.declared.bracket.Unit.{Unit as BidiUnit}

@@ -1,5 +1,5 @@
 -- What one rule leaves of the classes of a paragraph, over all of its sequences.
-use Rattle.std.specs.Prelude.{Option, ℕ, ◌==◌, if◌then◌else◌, List, map, find, not, slice_index, unwrap_or}
+use Rattle.std.specs.Prelude.{Option, ℕ, ◌==◌, if◌then◌else◌, List, map, find, slice_index, unwrap_or}
 use Rattle.std.specs.List.{flat_map, zip}
 use Rattle.std.specs.Option.{option_map}
 use Rattle.units.specs.Brackets.{bracket_pairs_of, closer_of}

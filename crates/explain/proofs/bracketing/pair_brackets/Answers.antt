@@ -1,4 +1,4 @@
-use Rattle.std.proofs.Common.{arith, rules, refl, ap, sym, subst, ◌≡◌, List, take}
+use Rattle.std.proofs.Common.{arith, rules, refl, subst, ◌≡◌, List, take}
 use Rattle.units.specs.Classes.{class_at, classes_at, classes_of}
 use Rattle.units.specs.Layout.{brackets_of}
 use Rattle.units.specs.Limits.{LimitsOf, standard}

@@ -1,13 +1,12 @@
-use Rattle.std.proofs.Common.{arith, rules, ap, sym, ◌∙◌, ◌≡◌, ◌+◌, ◌-◌, ◌<◌, true, false, take, drop, slice_index, length, subst}
+use Rattle.std.proofs.Common.{arith, rules, ap, ◌∙◌, ◌≡◌, ◌+◌, ◌-◌, ◌<◌, true, false, take, drop, slice_index, length}
 use Rattle.std.proofs.lemmas.List.{take_rest}
 use Rattle.units.specs.Classes.{class_at, classes_at, is_neutral}
-use Rattle.units.specs.declared.class.Class.{Class}
 use Rattle.sequences.specs.Links.{ArePositions}
 use Rattle.resolve.specs.Ahead.{first_class}
 use Rattle.resolve.specs.Neutrals.{is_no_neutral}
 use Rattle.resolve.proofs.Passes.{pass_end}
 use Rattle.explain.specs.Passes.{after_n1}
-use Rattle.explain.proofs.NeutralPasses.{N1Pass, n1_start, n1_other, n1_new, n1_same}
+use Rattle.explain.proofs.NeutralPasses.{n1_start, n1_other, n1_new, n1_same}
 use Rattle.explain.proofs.neutral.n1.Goals as goal
 use Rattle.explain.proofs.neutral.n1.Goals.{then-is_neutral, in-Some, in-None, else-is_neutral}
 

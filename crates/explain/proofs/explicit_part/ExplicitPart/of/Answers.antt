@@ -1,4 +1,4 @@
-use Rattle.std.proofs.Common.{arith, rules, ap, sym, ◌∙◌, ◌≡◌, ◌≤◌, subst, List, length, ℕ}
+use Rattle.std.proofs.Common.{arith, rules, ap, sym, ◌∙◌, ◌≡◌, subst, List, length, ℕ}
 use Rattle.std.proofs.lemmas.List.{length-map, take_all}
 use Rattle.units.specs.Classes.{classes_of}
 use Rattle.units.specs.Explicit.{explicit_of}
