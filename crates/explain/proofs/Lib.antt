@@ -3,6 +3,7 @@ pub mod EachPair
 pub mod EachSequence
 pub mod ExplicitParts
 pub mod Found
+pub mod NamedPositions
 pub mod NeutralPasses
 pub mod Outside
 pub mod PuttingTogether

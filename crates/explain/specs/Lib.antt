@@ -1,2 +1,3 @@
 pub mod Passes
 pub mod Columns
+pub mod Inside
