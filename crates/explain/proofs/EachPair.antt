@@ -26,30 +26,33 @@ use Rattle.paragraph.proofs.Covering.{times_some, within_extent}
 use Rattle.explain.specs.Passes.{closers_of, pairs_in, value_found}
 use Rattle.explain.proofs.Found.{SaysOwn, found_here, found_elsewhere, index_in, IsDistinct, distinct_in}
 
--- a pair that ended before p began before it
-begin_before : (p : ℕ) (found : Option ℕ) → ((o : ℕ) → found ≡ Some o → o < p) → All (λ pair. pair.0 < suc p) (ended_with p found)
-begin_before p None below = All-nil (λ (pair : ℕ × ℕ). pair.0 < suc p)
-begin_before p (Some o) below = All-cons (λ (pair : ℕ × ℕ). pair.0 < suc p) (o, p) [] (omega (arith, below o refl)) (All-nil (λ (pair : ℕ × ℕ). pair.0 < suc p))
+-- both indices of a pair lie below this one
+abbrev pub LiesBelow : ℕ → ℕ × ℕ → Type 0
+LiesBelow size pair = (pair.0 < size) × (pair.1 < size)
 
-begins : (bs : List Bracket) (p : ℕ) → All (λ pair. pair.0 < p) (pairs_before bs p)
-begins bs zero = All-nil (λ (pair : ℕ × ℕ). pair.0 < 0)
-begins bs (suc p) =
+-- a pair that ended before p began before it
+ended_below : (p : ℕ) (found : Option ℕ) → ((o : ℕ) → found ≡ Some o → o < p) → All (LiesBelow (suc p)) (ended_with p found)
+ended_below p None below = All-nil (LiesBelow (suc p))
+ended_below p (Some o) below = All-cons (LiesBelow (suc p)) (o, p) [] (omega (arith, below o refl), omega arith) (All-nil (LiesBelow (suc p)))
+
+all_below : (bs : List Bracket) (p : ℕ) → All (LiesBelow p) (pairs_before bs p)
+all_below bs zero = All-nil (LiesBelow 0)
+all_below bs (suc p) =
     let earlier = pairs_before bs p in
     let test : ℕ → Bool = λ o. is_open_at bs earlier o && closes (bracket_at bs o) (bracket_at bs p) in
-    All-append (λ (pair : ℕ × ℕ). pair.0 < suc p) earlier (ended_with p (last_below test p))
-    (All-weaker (λ (pair : ℕ × ℕ). pair.0 < p) (λ (pair : ℕ × ℕ). pair.0 < suc p) (λ pair l. omega (arith, l)) earlier (begins bs p))
-    (begin_before p (last_below test p) (λ o e. (last_below_some test p o e).within))
+    All-append (LiesBelow (suc p)) earlier (ended_with p (last_below test p))
+    (All-weaker (LiesBelow p) (LiesBelow (suc p)) (λ pair l. (omega (arith, l.0), omega (arith, l.1))) earlier (all_below bs p))
+    (ended_below p (last_below test p) (λ o e. (last_below_some test p o e).within))
 
--- each pair that counts begins within the sequence
-begins_inside : (most_open : ℕ) (bs : List Bracket) → All (λ pair. pair.0 < length bs) (bracket_pairs_of most_open bs)
-begins_inside most_open bs =
+-- each pair that counts lies within the sequence
+lie_inside : (most_open : ℕ) (bs : List Bracket) → All (LiesBelow (length bs)) (bracket_pairs_of most_open bs)
+lie_inside most_open bs =
     let w = ends_somewhere most_open bs in
-    let P : List (ℕ × ℕ) → Type 0 = λ pairs. All (λ pair. pair.0 < length bs) pairs in
     let low : w.0 ≤ length bs = w.1.within in
-    subst P (sym w.1.pairs) (All-weaker (λ (pair : ℕ × ℕ). pair.0 < w.0) (λ (pair : ℕ × ℕ). pair.0 < length bs) (λ pair l. omega (arith, l, low)) (pairs_before bs w.0) (begins bs w.0))
+    subst (All (LiesBelow (length bs))) (sym w.1.pairs) (All-weaker (LiesBelow w.0) (LiesBelow (length bs)) (λ pair l. (omega (arith, l.0, low), omega (arith, l.1, low))) (pairs_before bs w.0) (all_below bs w.0))
 
 -- a pair of indices as a pair of positions
-abbrev placed_pair : List ℕ → ℕ × ℕ → ℕ × ℕ
+abbrev pub placed_pair : List ℕ → ℕ × ℕ → ℕ × ℕ
 placed_pair ps pair = (slice_index ps pair.0, slice_index ps pair.1)
 
 -- beside the position of an index stands what is said of the index
@@ -82,12 +85,15 @@ found_nowhere ps (x ∷ xs) within p none =
     ∙ found_nowhere ps xs (All-tail (λ (pair : ℕ × ℕ). pair.0 < length ps) x xs within) p none
 
 module _ (us : List BidiUnit) (weak : List Class) where
-  pairs_within : (s : SequenceView) → All (λ pair. pair.0 < length s.positions) (bracket_pairs_of standard.brackets (brackets_of s us (classes_at weak s.positions)))
-  pairs_within s =
+  pub pairs_lie : (s : SequenceView) → All (LiesBelow (length s.positions)) (bracket_pairs_of standard.brackets (brackets_of s us (classes_at weak s.positions)))
+  pairs_lie s =
       let bs : List Bracket = brackets_of s us (classes_at weak s.positions) in
       let n : length bs ≡ length s.positions = length-brackets_at us weak s.positions in
-      let P : ℕ → Type 0 = λ size. All (λ pair. pair.0 < size) (bracket_pairs_of standard.brackets bs) in
-      subst P n (begins_inside standard.brackets bs)
+      let P : ℕ → Type 0 = λ size. All (LiesBelow size) (bracket_pairs_of standard.brackets bs) in
+      subst P n (lie_inside standard.brackets bs)
+
+  pairs_within : (s : SequenceView) → All (λ pair. pair.0 < length s.positions) (bracket_pairs_of standard.brackets (brackets_of s us (classes_at weak s.positions)))
+  pairs_within s = All-weaker (LiesBelow (length s.positions)) (λ (pair : ℕ × ℕ). pair.0 < length s.positions) (λ pair l. l.0) _ (pairs_lie s)
 
   pub says_own : SaysOwn (pairs_in us weak)
   says_own = λ s p none. found_nowhere s.positions _ (pairs_within s) p none

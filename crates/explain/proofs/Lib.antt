@@ -5,6 +5,7 @@ pub mod Explaining
 pub mod ExplicitParts
 pub mod Finished
 pub mod Found
+pub mod NamedPositions
 pub mod NeutralPasses
 pub mod Outside
 pub mod PuttingTogether

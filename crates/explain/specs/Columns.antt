@@ -1,6 +1,5 @@
 -- What the rules leave of one paragraph, rule by rule: each column has an item for each position.
-use Rattle.std.specs.Prelude.{Option, None, ℕ, ◌≡◌, ◌<◌, List, [], length, IfSome, slice_index_or}
-use Rattle.std.specs.List.{All}
+use Rattle.std.specs.Prelude.{Option, None, ℕ, ◌≡◌, List, [], length}
 use Rattle.units.specs.Classes.{classes_of}
 use Rattle.units.specs.Explicit.{explicit_of}
 use Rattle.units.specs.Isolates.{first_strong, level_of_para, para_level_of}
@@ -163,9 +162,3 @@ pub record HaveLength (columns : ColumnsOf) (size : ℕ) : Type 0 where
   pub closers : length columns.closers ≡ size
   pub implicit : length columns.implicit ≡ size
   pub levels : length columns.shown.levels ≡ size
-
--- what names positions names those of the paragraph, of which there are so many
-pub record AreInside (columns : ColumnsOf) (size : ℕ) : Type 0 where
-  pub first_strong : IfSome columns.explicit.first_strong (λ p. p < size)
-  pub closers : (p : ℕ) → IfSome (slice_index_or columns.closers p None) (λ q. q < size)
-  pub order : All (λ p. p < size) columns.shown.order

@@ -4,5 +4,6 @@ pub mod Explained
 pub mod ExplainedRows
 pub mod Feet
 pub mod Heads
+pub mod Inside
 pub mod Passes
 pub mod Rows

@@ -3,7 +3,8 @@ ghost use Rattle.std.specs.Prelude.{◌≡◌, ◌<◌, ◌≤◌, length, slice
 ghost use Rattle.std.specs.Io.KnownBytes.{Appends};
 ghost use Rattle.units.specs.Classes.{class_at};
 ghost use Rattle.printing.specs.LevelsText.{printed};
-ghost use Rattle.explain.specs.Columns.{AreInside, HaveLength, column_after};
+ghost use Rattle.explain.specs.Columns.{HaveLength, column_after};
+ghost use Rattle.explain.specs.Inside.{IsInside};
 ghost use Rattle.explain.specs.Explained.{classes_through, foot_text, levels_through, pair_at, pair_if, paragraph_explained, row_at, sequence_line};
 
 use crate::columns::Columns;
@@ -148,7 +149,7 @@ fn print_pairs<W: Write>(w: &mut W, columns: &Columns, start: usize, size: usize
     requires start { start ≤ 16777216 }
     requires small { size ≤ 16777216 }
     requires length { HaveLength columns.now size }
-    requires inside { AreInside columns.now size }
+    requires inside { IsInside columns.now size }
     ensures { OnOk result (Appends (W.contents w.old) (W.contents w.new)
         (printed (pair_at columns.now start) 0 size)) }
 {
@@ -163,7 +164,7 @@ fn print_foot<W: Write>(w: &mut W, columns: &Columns, start: usize, size: usize)
     requires start { start ≤ 16777216 }
     requires small { size ≤ 16777216 }
     requires length { HaveLength columns.now size }
-    requires inside { AreInside columns.now size }
+    requires inside { IsInside columns.now size }
     ensures { OnOk result (Appends (W.contents w.old) (W.contents w.new) (foot_text columns.now start size)) }
 {
     print_sequences(w, columns, start)?;
@@ -185,7 +186,7 @@ pub fn print_paragraph<W: Write>(
     requires start { start ≤ 16777216 }
     requires small { length para.now ≤ 16777216 }
     requires length { HaveLength columns.now (length para.now) }
-    requires inside { AreInside columns.now (length para.now) }
+    requires inside { IsInside columns.now (length para.now) }
     ensures { OnOk result (Appends (W.contents w.old) (W.contents w.new)
         (paragraph_explained chars.now para.now columns.now direction start number)) }
 {
