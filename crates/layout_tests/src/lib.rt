@@ -5,6 +5,8 @@
 #[cfg(test)]
 mod deep;
 #[cfg(test)]
+mod explained_rows;
+#[cfg(test)]
 mod given;
 #[cfg(test)]
 mod line_rows;

@@ -1,0 +1,12 @@
+pub mod EachLevel
+pub mod EachPair
+pub mod EachSequence
+pub mod Explaining
+pub mod ExplicitParts
+pub mod Finished
+pub mod Found
+pub mod NamedPositions
+pub mod NeutralPasses
+pub mod Outside
+pub mod PuttingTogether
+pub mod SameRow

@@ -1,0 +1,107 @@
+-- What lies outside of all isolates, from one position to the next.
+use Rattle.std.specs.Prelude.{Some, None, Bool, true, false, ◌&&◌, ℕ, ◌+◌, ◌<◌, ◌≤◌, ◌≡◌, ◌≢◌, List, length, refl}
+use Rattle.std.proofs.Common.{arith, ap, sym, ◌∙◌, inl, inr}
+use Rattle.std.proofs.lemmas.Bool.{cases_order, cases_Bool, and_parts, false≢true, both_ways}
+use Rattle.units.specs.Classes.{class_at, is_isolate_initiator, is_strong}
+use Rattle.units.specs.Isolates.{first_strong, isolate_around, isolate_holds, matching_pdi}
+use Rattle.units.specs.Positions.{same_position}
+use Rattle.units.specs.declared.class.Class.{Class}
+use Rattle.units.proofs.Positions.{first_from_is, first_from_nowhere, last_below_none, same_position_true}
+use Rattle.explicit.proofs.Around.{around_nowhere}
+use Rattle.explicit.proofs.Nesting.{IsHeld, holds_from, holds_down, inner_match}
+
+-- what an isolate holds isn't outside of all
+pub held_inside : (cs : List Class) (i p : ℕ) → IsHeld cs i p → isolate_around cs p ≢ None
+unfolding isolate_around
+held_inside cs i p h none = false≢true (sym (last_below_none (λ i. isolate_holds cs i p) p none i h.after) ∙ holds_from cs i p h)
+
+module _ (cs : List Class) (p : ℕ) (outside : isolate_around cs p ≡ None) where
+  not_held : (i : ℕ) → IsHeld cs i p → ⊥
+  not_held i h = held_inside cs i p h outside
+
+  -- behind a position that begins no isolate
+  pub outside_next : is_isolate_initiator (class_at cs p) ≡ false → isolate_around cs (p + 1) ≡ None
+  outside_next plain =
+      around_nowhere cs (p + 1)
+      (λ i h. elim (cases_order i p) [
+        | inl e ↦ both_ways (is_isolate_initiator (class_at cs p)) plain (ap (λ q. is_isolate_initiator (class_at cs q)) (sym e) ∙ h.opener)
+        | inr other ↦ elim other [
+          | inl before ↦ not_held i (holds_down cs i (p + 1) p h before (omega arith))
+          | inr behind ↦ let after = h.after in absurd (omega arith)
+        ]
+      ])
+
+  -- at the PDI that matches the one that begins here
+  pub outside_match : (a : ℕ) → p < a → matching_pdi cs p ≡ Some a → isolate_around cs a ≡ None
+  outside_match a later match =
+      around_nowhere cs a
+      (λ i h. elim (cases_order i p) [
+        | inl e ↦ let l : a < a = h.before a (ap (matching_pdi cs) e ∙ match) in absurd (omega arith)
+        | inr other ↦ elim other [
+          | inl before ↦ not_held i (holds_down cs i a p h before (omega arith))
+          | inr behind ↦
+              let w = inner_match cs p i a match behind h.after h.opener in
+              let l : a < w.0 = h.before w.0 w.1 in
+              absurd (omega (arith, w.2))
+        ]
+      ])
+
+  -- all up to it lies inside
+  pub inside_match : is_isolate_initiator (class_at cs p) ≡ true → (a : ℕ) → matching_pdi cs p ≡ Some a → (q : ℕ) → p < q → q < a → isolate_around cs q ≢ None
+  inside_match opener a match q behind before =
+      held_inside cs p q (record { opener = opener; after = behind; before = λ b e. let same : a ≡ b = (let both : Some a ≡ Some b = sym match ∙ e in cc) in omega (arith, same) })
+
+  -- and so does all behind it, where no PDI matches it
+  pub inside_unmatched : is_isolate_initiator (class_at cs p) ≡ true → matching_pdi cs p ≡ None → (q : ℕ) → p < q → isolate_around cs q ≢ None
+  inside_unmatched opener none q behind =
+      held_inside cs p q (record { opener = opener; after = behind; before = λ b e. absurd (let both : Some b ≡ None = sym e ∙ none in cc) })
+
+-- a strong position outside of all isolates
+abbrev pub decides : List Class → ℕ → Bool
+decides cs q = is_strong (class_at cs q) && same_position (isolate_around cs q) None
+
+pub decides_outside : (cs : List Class) (q : ℕ) → is_strong (class_at cs q) ≡ true → isolate_around cs q ≡ None → decides cs q ≡ true
+decides_outside cs q strong outside = rw (strong, outside) refl
+
+pub weak_undecided : (cs : List Class) (q : ℕ) → is_strong (class_at cs q) ≡ false → decides cs q ≡ false
+weak_undecided cs q weak = rw weak refl
+
+pub inside_undecided : (cs : List Class) (q : ℕ) → isolate_around cs q ≢ None → decides cs q ≡ false
+inside_undecided cs q inside =
+    elim (cases_Bool (decides cs q)) [
+      | inl holds ↦ absurd (inside (same_position_true (isolate_around cs q) None (and_parts (is_strong (class_at cs q)) (same_position (isolate_around cs q) None) holds).1))
+      | inr fails ↦ fails
+    ]
+
+-- before p nothing decides, and p lies outside of all isolates
+pub record IsUndecided (cs : List Class) (p : ℕ) : Type 0 where
+  pub within : p ≤ length cs
+  pub before : (q : ℕ) → q < p → decides cs q ≡ false
+  pub outside : p < length cs → isolate_around cs p ≡ None
+
+pub undecided_start : (cs : List Class) → IsUndecided cs 0
+unfolding isolate_around
+undecided_start cs = record { within = omega arith; before = λ q l. absurd (omega arith); outside = λ l. refl }
+
+pub undecided_next : (cs : List Class) (p next : ℕ) → IsUndecided cs p → is_strong (class_at cs p) ≡ false → p < next → next ≤ length cs →
+    (next < length cs → isolate_around cs next ≡ None) → ((q : ℕ) → p < q → q < next → isolate_around cs q ≢ None) → IsUndecided cs next
+undecided_next cs p next w weak later within outside inside = record {
+  within = within;
+  before = λ q l. elim (cases_order q p) [
+    | inl e ↦ weak_undecided cs q (ap (λ i. is_strong (class_at cs i)) e ∙ weak)
+    | inr other ↦ elim other [
+      | inl before ↦ w.before q before
+      | inr behind ↦ inside_undecided cs q (inside q behind l)
+    ]
+  ];
+  outside = outside;
+}
+
+pub decided_at : (cs : List Class) (p : ℕ) → IsUndecided cs p → p < length cs → is_strong (class_at cs p) ≡ true → first_strong cs None ≡ Some p
+unfolding first_strong
+decided_at cs p w within strong =
+    first_from_is (decides cs) 0 (length cs) p (omega arith) (omega arith) (decides_outside cs p strong (w.outside within)) (λ q from before. w.before q before)
+
+pub decided_nowhere : (cs : List Class) (p : ℕ) → IsUndecided cs p → length cs ≤ p → first_strong cs None ≡ None
+unfolding first_strong
+decided_nowhere cs p w end = first_from_nowhere (decides cs) 0 (length cs) (λ q from before. w.before q (omega arith))

@@ -1,0 +1,37 @@
+-- The cells of a row: what a rule made of a position, as bytes.
+use Rattle.std.specs.Prelude.{Option, ℕ, ◌==◌, Bool, true, false, if◌then◌else◌, List, codes, Some, None}
+use Rattle.std.specs.Fmt.{decimal}
+use Rattle.std.specs.Str.{bytes_eq}
+use Rattle.units.specs.ClassNames.{short_name}
+use Rattle.units.specs.declared.class.Class.{Class as BidiClass}
+use Rattle.printing.specs.LevelsText.{code_text}
+use Rattle.explain.specs.declared.cell.Cell.{Cell}
+use Rattle.explain.specs.declared.cell.Cell.TheVariants.{Same, Removed, Class, Level}
+
+-- a code point, or - where no character is known
+abbrev pub code_cell : Option ℕ → List ℕ
+code_cell None = codes "-"
+code_cell (Some character) = code_text character
+
+-- . where a rule changed nothing, x where a position was removed, and else the class or the level behind the rule
+abbrev pub cell_text : Cell → List ℕ
+cell_text Same = codes "."
+cell_text Removed = codes "x"
+cell_text (Class class) = short_name class
+cell_text (Level level) = decimal level
+
+-- X1 to X9: the level of a position, or that it was removed
+abbrev pub explicit_cell : Option ℕ → Cell
+explicit_cell None = Removed
+explicit_cell (Some level) = Level level
+
+-- a rule that turns classes, at a position that remains or doesn't; no rule turns what is removed (X9)
+abbrev pub class_cell : Bool → BidiClass → BidiClass → Cell
+class_cell false before after = Same
+class_cell true before after = if bytes_eq (short_name before) (short_name after) then Same else Class after
+
+-- a rule that turns levels; it gives none to what is removed
+abbrev pub level_cell : Option ℕ → Option ℕ → Cell
+level_cell None after = Same
+level_cell (Some before) None = Same
+level_cell (Some before) (Some after) = if before == after then Same else Level after

@@ -1,0 +1,104 @@
+-- What `explain` prints of a text, as bytes: of each paragraph its head, a row for each position, and its foot.
+use Rattle.std.specs.Prelude.{Option, ℕ, ◌+◌, List, [], ◌∷◌, ◌++◌, length, map, take, sum_by, Some, None, slice_get, slice_index_or}
+use Rattle.std.specs.Option.{option_map}
+use Rattle.units.specs.Classes.{class_at}
+use Rattle.units.specs.Layout.{no_unit}
+use Rattle.units.specs.Paragraphs.{paragraphs_of}
+use Rattle.units.specs.Runs.{SequenceView}
+use Rattle.units.specs.declared.bracket.Bracket.TheVariants.{No}
+use Rattle.units.specs.declared.bracket.Unit.{Unit as BidiUnit}
+use Rattle.units.specs.declared.class.Class.{Class}
+use Rattle.units.specs.declared.class.Class.TheVariants.{L}
+use Rattle.units.specs.declared.level.Direction.{Direction}
+use Rattle.ucdfiles.specs.Tables.{TablesOf, units_by}
+use Rattle.resolve.specs.Pairs.{closer_in}
+use Rattle.printing.specs.LevelsText.{printed}
+use Rattle.explain.specs.Columns.{ColumnsOf, column_after, columns_of}
+use Rattle.explain.specs.Feet.{sequence_text, pair_text, order_text}
+use Rattle.explain.specs.Heads.{head_text, decider_of}
+use Rattle.explain.specs.Rows.{row_text}
+use Rattle.explain.specs.declared.row.RowLevels.{RowLevels}
+use Rattle.explain.specs.declared.rule.Rule.{Rule}
+use Rattle.explain.specs.declared.rule.Rule.TheVariants as rule
+
+-- the rules that turn classes, in the order in which they are applied
+abbrev pub rules_of_classes : List Rule
+rules_of_classes =
+    rule.X ∷ rule.W1 ∷ rule.W2 ∷ rule.W3 ∷ rule.W4 ∷ rule.W5 ∷ rule.W6 ∷ rule.W7 ∷ rule.N0 ∷ rule.N1 ∷ rule.N2 ∷ []
+
+-- a position's own class, and its class behind each rule
+abbrev pub classes_through : ColumnsOf → List BidiUnit → ℕ → List Class
+classes_through columns para p =
+    (slice_index_or para p no_unit).class ∷ map (λ r. class_at (column_after columns r) p) rules_of_classes
+
+-- a position's levels: after X1 to X9, after I1 and I2, after L1
+abbrev pub levels_through : ColumnsOf → ℕ → RowLevels
+levels_through columns p = record {
+  explicit = option_map (λ place. place.0) (slice_index_or columns.explicit.places p None);
+  implicit = slice_index_or columns.implicit p None;
+  line = slice_index_or columns.shown.levels p None;
+}
+
+-- the row of the position p of a paragraph that begins at start of the text
+abbrev pub row_at : List ℕ → List BidiUnit → ColumnsOf → ℕ → ℕ → List ℕ
+row_at chars para columns start p =
+    row_text (start + p) (slice_get chars (start + p)) (classes_through columns para p) (levels_through columns p)
+
+-- what a read past the last sequence gives, and no caller asks
+abbrev pub no_sequence : SequenceView
+no_sequence = record { positions = []; level = 0; sos = L; eos = L; extent = 0 }
+
+-- X10: the line of the sequence with the number k
+abbrev pub sequence_line : ColumnsOf → ℕ → ℕ → List ℕ
+sequence_line columns start k = sequence_text k start (slice_index_or columns.explicit.sequences k no_sequence)
+
+-- the line of a pair, if there is one
+abbrev pub pair_if : ℕ → ℕ → Option ℕ → List ℕ
+pair_if start opener None = []
+pair_if start opener (Some closer) = pair_text (start + opener) (start + closer)
+
+-- BD16: the line of the pair that opens at p, if one does
+abbrev pub pair_at : ColumnsOf → ℕ → ℕ → List ℕ
+pair_at columns start p = pair_if start p (closer_in columns.closers p)
+
+-- the sequences, the bracket pairs by their openers, and the order
+abbrev pub foot_text : ColumnsOf → ℕ → ℕ → List ℕ
+foot_text columns start size =
+    printed (sequence_line columns start) 0 (length columns.explicit.sequences)
+    ++ printed (pair_at columns start) 0 size
+    ++ order_text start columns.shown.order
+
+-- a paragraph with the number k that begins at start of the text
+abbrev pub paragraph_explained : List ℕ → List BidiUnit → ColumnsOf → Direction → ℕ → ℕ → List ℕ
+paragraph_explained chars para columns direction start k =
+    head_text k columns.explicit.para_level (decider_of direction para start columns.explicit.first_strong)
+    ++ printed (row_at chars para columns start) 0 (length para)
+    ++ foot_text columns start (length para)
+
+-- P1: where the paragraph with the number k begins: behind all that stand before it
+abbrev pub start_of : List (List BidiUnit) → ℕ → ℕ
+start_of paras k = sum_by length (take k paras)
+
+-- P1: the paragraph with the number k, of these
+abbrev pub explained_paragraph : List ℕ → Direction → List (List BidiUnit) → ℕ → List ℕ
+explained_paragraph chars direction paras k =
+    let para = slice_index_or paras k [] in
+    paragraph_explained chars para (columns_of para direction) direction (start_of paras k) k
+
+-- a text of these units: its paragraphs (P1), one after another; it may have no characters, where the units are known
+-- alone
+abbrev pub explained_units : List ℕ → List BidiUnit → Direction → List ℕ
+explained_units chars text direction =
+    printed (explained_paragraph chars direction (paragraphs_of text)) 0 (length (paragraphs_of text))
+
+-- what is printed of a text, by tables
+abbrev pub explained : TablesOf → List ℕ → Direction → List ℕ
+explained tables chars direction = explained_units chars (units_by tables chars) direction
+
+-- the unit of a class, which is no bracket
+abbrev pub plain_unit : Class → BidiUnit
+plain_unit class = record { class = class; bracket = No }
+
+-- what is printed of a row of classes, none of which is a bracket
+abbrev pub explained_classes : List Class → Direction → List ℕ
+explained_classes classes direction = explained_units [] (map plain_unit classes) direction

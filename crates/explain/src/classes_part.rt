@@ -1,0 +1,69 @@
+//! The classes of a paragraph after each rule, and its levels after I1 and I2.
+ghost use Rattle.std.specs.Prelude.{◌≡◌, length, IfOk};
+ghost use Rattle.paragraph.specs.Covering.{AreDisjoint, positions_in};
+ghost use Rattle.resolve.specs.Sought.{AreOwn};
+ghost use Rattle.explain.specs.Columns.{classes_part};
+
+use crate::class_parts::{BracketPart, WeakPart};
+use crate::implicit_levels::implicit_levels;
+use crate::pass::Pass;
+use crate::rewriting::rewritten;
+use sequences::sequences::Sequences;
+use std::alloc::Global;
+use std::marker::Model;
+use std::sync::ledger::Ledger;
+use units::bracket::Unit;
+use units::class::Class;
+use units::level::Level;
+use units::memory::Memory;
+use units::steps::Steps;
+
+/// The classes after X1 to X9 and after each rule from W1 to N2, and the levels after I1 and I2.
+#[derive(Drop)]
+pub struct ClassesPart {
+    pub(crate) current: Vec<Class>,
+    pub(crate) weak: WeakPart,
+    pub(crate) brackets: BracketPart,
+    pub(crate) n1: Vec<Class>,
+    pub(crate) n2: Vec<Class>,
+    pub(crate) implicit: Vec<Option<Level>>,
+}
+
+impl Model for ClassesPart {
+    ghost use Rattle.explain.specs.Columns.{ClassesOf};
+
+    ghost Value = { ClassesOf };
+
+    ghost view = { λ part. record { current = part.current.items; weak = part.weak; brackets = part.brackets; neutral = record { n0 = part.brackets.n0; n1 = part.n1.items; n2 = part.n2.items }; implicit = part.implicit.items } };
+}
+
+impl ClassesPart {
+    /// Of a paragraph, by its sequences and its classes after X1 to X9. The error is refused memory.
+    pub fn of<L: Ledger>(
+        alloc: Global,
+        sequences: &Sequences,
+        para: &[Unit],
+        current: Vec<Class>,
+        steps: &mut Steps<L>,
+    ) -> Result<ClassesPart, Memory>
+        requires apart { AreDisjoint sequences.now.extent sequences.now.all }
+        requires para { length para.now ≡ sequences.now.extent }
+        requires current { length current.items ≡ sequences.now.extent }
+        requires own { AreOwn (positions_in sequences.now.all) para.now current.items }
+        ensures { IfOk result (λ part. part ≡ classes_part sequences.now.all para.now current.items) }
+    {
+        let weak = WeakPart::of(alloc, sequences, &current, steps)?;
+        let brackets = BracketPart::of(alloc, sequences, para, &current, &weak.w7, steps)?;
+        let n1 = rewritten(alloc, Pass::N1, sequences, &brackets.n0, steps)?;
+        let n2 = rewritten(alloc, Pass::N2, sequences, &n1, steps)?;
+        let implicit = implicit_levels(alloc, sequences, &n2, steps)?;
+        Ok(ClassesPart {
+            current,
+            weak,
+            brackets,
+            n1,
+            n2,
+            implicit,
+        })
+    }
+}

@@ -1,0 +1,64 @@
+//! The paragraph's level, explicit levels and sequences (P2 to X10).
+ghost use Rattle.std.specs.Prelude.{◌≡◌, length, IfOk};
+ghost use Rattle.units.specs.Paragraphs.{SeparatorOnlyLast};
+ghost use Rattle.paragraph.specs.Covering.{AreDisjoint};
+ghost use Rattle.explain.specs.Columns.{explicit_part, explicit_view};
+
+use crate::deciding::first_strong;
+use explicit::isolates::IsolateMap;
+use explicit::levels::{Explicit, explicit_levels};
+use explicit::para_level::para_level;
+use sequences::sequences::Sequences;
+use std::alloc::Global;
+use std::sync::ledger::Ledger;
+use units::bracket::Unit;
+use units::level::{Direction, ParaLevel};
+use units::limits::Limits;
+use units::memory::Memory;
+use units::steps::Steps;
+
+/// P2 to X10 of a paragraph.
+#[derive(Drop)]
+pub struct ExplicitPart {
+    pub(crate) para_level: ParaLevel,
+    pub(crate) first_strong: Option<usize>,
+    pub(crate) places: Explicit,
+    pub(crate) sequences: Sequences,
+}
+
+impl ExplicitPart {
+    /// Of a paragraph under a direction, by the standard limits. The error is refused memory.
+    pub fn of<L: Ledger>(
+        alloc: Global,
+        para: &[Unit],
+        direction: Direction,
+        steps: &mut Steps<L>,
+    ) -> Result<ExplicitPart, Memory>
+        requires { SeparatorOnlyLast para.now }
+        ensures value { IfOk result (λ part. explicit_view part ≡ explicit_part para.now direction) }
+        ensures extent { IfOk result (λ part. part.sequences.extent ≡ length para.now) }
+        ensures apart { IfOk result (λ part. AreDisjoint (length para.now) part.sequences.all) }
+        ensures length { IfOk result (λ part. length part.places ≡ length para.now) }
+    {
+        let n = para.len();
+        let limits = Limits::standard();
+        let mut isolates = IsolateMap::with_room(alloc, n)?;
+        let mut places = Explicit::with_room(alloc, n)?;
+        let mut sequences = Sequences::with_room(alloc, n)?;
+
+        // BD9, P2, P3.
+        isolates.fill(para, steps);
+        let level = para_level(para, &isolates, direction, steps);
+        let first_strong = first_strong(para, &isolates);
+
+        // X1 to X10.
+        explicit_levels(para, &isolates, level, limits, &mut places, steps);
+        sequences.fill(para, &isolates, &places, level, limits, steps);
+        Ok(ExplicitPart {
+            para_level: level,
+            first_strong,
+            places,
+            sequences,
+        })
+    }
+}

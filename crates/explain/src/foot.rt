@@ -1,0 +1,61 @@
+// The foot of a paragraph: its isolating run sequences, its bracket pairs, and its order.
+ghost use Rattle.std.specs.Prelude.{◌≡◌, ◌<◌, ◌≤◌, OnOk};
+ghost use Rattle.std.specs.List.{All};
+ghost use Rattle.std.specs.Io.KnownBytes.{Appends};
+ghost use Rattle.explain.specs.Feet.{places_text, sequence_text, pair_text, order_text};
+
+use sequences::sequence::Sequence;
+use std::io;
+use std::io::Write;
+
+/// Writes the positions of a paragraph that begins at `start` of the text, as positions of the text.
+fn print_places<W: Write>(w: &mut W, start: usize, positions: &[u32]) -> io::Result<()>
+    requires { start ≤ 16777216 }
+    ensures { OnOk result (Appends (W.contents w.old) (W.contents w.new) (places_text start positions.now)) }
+{
+    for position in positions {
+        let place = start + *position as usize;
+        write!(w, " {place}")?;
+    }
+    Ok(())
+}
+
+/// Writes the line of a sequence: its number, counted from 0, its level, its start and end (X10), and its positions in
+/// the text.
+pub fn print_sequence<W: Write>(
+    w: &mut W,
+    number: usize,
+    start: usize,
+    sequence: &Sequence,
+) -> io::Result<()>
+    requires { start ≤ 16777216 }
+    ensures { OnOk result (Appends (W.contents w.old) (W.contents w.new) (sequence_text number start sequence.now)) }
+{
+    let level = sequence.level().get();
+    let sos = sequence.sos().short();
+    let eos = sequence.eos().short();
+    write!(w, "sequence {number} level {level} sos {sos} eos {eos}:")?;
+    print_places(w, start, sequence.as_slice())?;
+    writeln!(w)
+}
+
+/// Writes the line of a bracket pair: the positions in the text of its opener and its closer.
+pub fn print_pair<W: Write>(w: &mut W, opener: usize, closer: usize) -> io::Result<()>
+    ensures { OnOk result (Appends (W.contents w.old) (W.contents w.new) (pair_text opener closer)) }
+{
+    writeln!(w, "pair {opener} {closer}")
+}
+
+/// Writes the line of a paragraph's order: its remaining positions in the text, from left to right (L2).
+pub fn print_order<W: Write>(w: &mut W, start: usize, order: &[usize]) -> io::Result<()>
+    requires start { start ≤ 16777216 }
+    requires places { All (λ p. p < 16777216) order.now }
+    ensures { OnOk result (Appends (W.contents w.old) (W.contents w.new) (order_text start order.now)) }
+{
+    write!(w, "order")?;
+    for position in order {
+        let place = start + *position;
+        write!(w, " {place}")?;
+    }
+    writeln!(w)
+}

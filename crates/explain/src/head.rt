@@ -1,0 +1,85 @@
+// The head of a paragraph: its level, what decided it, and the names of the columns.
+ghost use Rattle.std.specs.Prelude.{◌≡◌, ◌<◌, ◌≤◌, length, OnOk, IfSome, Some};
+ghost use Rattle.std.specs.Io.KnownBytes.{Appends};
+ghost use Rattle.units.specs.Isolates.{level_of_para};
+ghost use Rattle.explain.specs.Heads.{decider_by, decider_of, decider_text, head_text};
+
+use std::io::Write;
+use std::{fmt, io};
+use units::bracket::Unit;
+use units::class::Class;
+use units::level::{Direction, ParaLevel};
+
+/// What decided the level of a paragraph.
+#[derive(Clone, Copy)]
+pub enum Decider {
+    /// The direction that was asked for.
+    Given,
+    /// That no strong character stands outside of all isolates (P3).
+    NoStrong,
+    /// The first strong character outside of all isolates (P2): its class, and its position in the text.
+    Strong(Class, usize),
+}
+
+impl fmt::Display for Decider {
+    ghost output = { λ decider. Some (decider_text decider) };
+
+    fn fmt<W: fmt::Write>(&self, f: &mut fmt::Formatter<W>) -> fmt::Result {
+        match self {
+            Decider::Given => f.write_str("given"),
+            Decider::NoStrong => f.write_str("no strong character"),
+            Decider::Strong(class, position) => write!(f, "{} at {position}", class.short()),
+        }
+    }
+}
+
+/// The first strong character outside of all isolates, if there is one.
+fn decider_by(para: &[Unit], start: usize, first_strong: Option<usize>) -> Decider
+    requires start { start ≤ 16777216 }
+    requires small { length para.now ≤ 16777216 }
+    requires inside { IfSome first_strong (λ p. p < length para.now) }
+    ensures { result ≡ decider_by para.now start first_strong }
+{
+    match first_strong {
+        Some(p) => Decider::Strong(para[p].class, start + p),
+        None => Decider::NoStrong,
+    }
+}
+
+/// What decided the level of a paragraph that begins at `start` of the text. Its first strong character outside of all
+/// isolates stands at `first_strong` of the paragraph, if it has one.
+pub fn decider_of(
+    direction: Direction,
+    para: &[Unit],
+    start: usize,
+    first_strong: Option<usize>,
+) -> Decider
+    requires start { start ≤ 16777216 }
+    requires small { length para.now ≤ 16777216 }
+    requires inside { IfSome first_strong (λ p. p < length para.now) }
+    ensures { result ≡ decider_of direction para.now start first_strong }
+{
+    match direction {
+        Direction::Ltr | Direction::Rtl => Decider::Given,
+        Direction::Auto | Direction::AutoRtl => decider_by(para, start, first_strong),
+    }
+}
+
+/// Writes the head of a paragraph: its number, counted from 0, its level and what decided it, and the line that names
+/// the columns of its rows.
+pub fn print_head<W: Write>(
+    w: &mut W,
+    number: usize,
+    level: ParaLevel,
+    decider: Decider,
+) -> io::Result<()>
+    ensures { OnOk result (Appends (W.contents w.old) (W.contents w.new)
+        (head_text number (level_of_para level) decider)) }
+{
+    let level = level.level().get();
+    writeln!(w, "paragraph {number} level {level}: {decider}")?;
+    writeln!(
+        w,
+        "position code class level X W1 W2 W3 W4 W5 W6 W7 N0 N1 N2 I L1"
+    )
+}

@@ -1,0 +1,197 @@
+// The text of a paragraph, by what the rules leave of it.
+ghost use Rattle.std.specs.Prelude.{◌≡◌, ◌<◌, ◌≤◌, length, slice_get, OnOk, IfSome};
+ghost use Rattle.std.specs.Io.KnownBytes.{Appends};
+ghost use Rattle.units.specs.Classes.{class_at};
+ghost use Rattle.printing.specs.LevelsText.{printed};
+ghost use Rattle.explain.specs.Columns.{HaveLength, column_after};
+ghost use Rattle.explain.specs.Inside.{IsInside};
+ghost use Rattle.explain.specs.Explained.{classes_through, foot_text, levels_through, pair_at, pair_if, paragraph_explained, row_at, sequence_line};
+
+use crate::columns::Columns;
+use crate::foot::{print_order, print_pair, print_sequence};
+use crate::head::{decider_of, print_head};
+use crate::row::{RowLevels, print_row};
+use crate::rule::Rule;
+use std::io;
+use std::io::Write;
+use units::bracket::Unit;
+use units::class::Class;
+use units::level::Direction;
+
+/// The class of the position `p` behind a rule.
+fn class_after(columns: &Columns, rule: Rule, p: usize, size: usize) -> Class
+    requires length { HaveLength columns.now size }
+    requires inside { p < size }
+    ensures { result ≡ class_at (column_after columns.now rule) p }
+{
+    columns.after(rule)[p]
+}
+
+/// The own class of the position `p`, and its class behind each rule.
+fn classes_through(columns: &Columns, para: &[Unit], p: usize) -> [Class; 12]
+    requires length { HaveLength columns.now (length para.now) }
+    requires inside { p < length para.now }
+    ensures { result ≡ classes_through columns.now para.now p }
+{
+    let size = para.len();
+    [
+        para[p].class,
+        class_after(columns, Rule::X, p, size),
+        class_after(columns, Rule::W1, p, size),
+        class_after(columns, Rule::W2, p, size),
+        class_after(columns, Rule::W3, p, size),
+        class_after(columns, Rule::W4, p, size),
+        class_after(columns, Rule::W5, p, size),
+        class_after(columns, Rule::W6, p, size),
+        class_after(columns, Rule::W7, p, size),
+        class_after(columns, Rule::N0, p, size),
+        class_after(columns, Rule::N1, p, size),
+        class_after(columns, Rule::N2, p, size),
+    ]
+}
+
+/// The levels of the position `p`.
+fn levels_through(columns: &Columns, p: usize, size: usize) -> RowLevels
+    requires length { HaveLength columns.now size }
+    requires inside { p < size }
+    ensures { result ≡ levels_through columns.now p }
+{
+    RowLevels {
+        explicit: columns.place(p).map(|place| place.0),
+        implicit: columns.implicit()[p],
+        line: columns.levels()[p],
+    }
+}
+
+/// The character at a position of the text, if it is known.
+fn character_at(chars: &[char], position: usize) -> Option<char>
+    ensures { result ≡ slice_get chars.now position }
+{
+    chars.get(position).copied()
+}
+
+/// Writes the row of the position `p` of a paragraph that begins at `start` of the text.
+fn print_row_at<W: Write>(
+    w: &mut W,
+    chars: &[char],
+    para: &[Unit],
+    columns: &Columns,
+    start: usize,
+    p: usize,
+) -> io::Result<()>
+    requires start { start ≤ 16777216 }
+    requires small { length para.now ≤ 16777216 }
+    requires length { HaveLength columns.now (length para.now) }
+    requires inside { p < length para.now }
+    ensures { OnOk result (Appends (W.contents w.old) (W.contents w.new)
+        (row_at chars.now para.now columns.now start p)) }
+{
+    let position = start + p;
+    let character = character_at(chars, position);
+    let classes = classes_through(columns, para, p);
+    let levels = levels_through(columns, p, para.len());
+    print_row(w, position, character, &classes, levels)
+}
+
+/// Writes the rows of the positions of a paragraph that begins at `start` of the text.
+fn print_rows<W: Write>(
+    w: &mut W,
+    chars: &[char],
+    para: &[Unit],
+    columns: &Columns,
+    start: usize,
+) -> io::Result<()>
+    requires start { start ≤ 16777216 }
+    requires small { length para.now ≤ 16777216 }
+    requires length { HaveLength columns.now (length para.now) }
+    ensures { OnOk result (Appends (W.contents w.old) (W.contents w.new)
+        (printed (row_at chars.now para.now columns.now start) 0 (length para.now))) }
+{
+    for p in 0..para.len() {
+        print_row_at(w, chars, para, columns, start, p)?;
+    }
+    Ok(())
+}
+
+/// Writes the lines of the sequences of a paragraph that begins at `start` of the text.
+fn print_sequences<W: Write>(w: &mut W, columns: &Columns, start: usize) -> io::Result<()>
+    requires start { start ≤ 16777216 }
+    ensures { OnOk result (Appends (W.contents w.old) (W.contents w.new)
+        (printed (sequence_line columns.now start) 0 (length columns.now.explicit.sequences))) }
+{
+    let sequences = columns.sequences();
+    for k in 0..sequences.count() {
+        print_sequence(w, k, start, &sequences.get(k))?;
+    }
+    Ok(())
+}
+
+/// Writes the line of the pair that opens at a position of a paragraph, if one does.
+fn print_pair_if<W: Write>(
+    w: &mut W,
+    start: usize,
+    opener: usize,
+    closer: Option<usize>,
+) -> io::Result<()>
+    requires start { start ≤ 16777216 }
+    requires opener { opener ≤ 16777216 }
+    requires closer { IfSome closer (λ p. p ≤ 16777216) }
+    ensures { OnOk result (Appends (W.contents w.old) (W.contents w.new) (pair_if start opener closer)) }
+{
+    match closer {
+        Some(closer) => print_pair(w, start + opener, start + closer),
+        None => Ok(()),
+    }
+}
+
+/// Writes the lines of the bracket pairs of a paragraph that begins at `start` of the text.
+fn print_pairs<W: Write>(w: &mut W, columns: &Columns, start: usize, size: usize) -> io::Result<()>
+    requires start { start ≤ 16777216 }
+    requires small { size ≤ 16777216 }
+    requires length { HaveLength columns.now size }
+    requires inside { IsInside columns.now size }
+    ensures { OnOk result (Appends (W.contents w.old) (W.contents w.new)
+        (printed (pair_at columns.now start) 0 size)) }
+{
+    for p in 0..size {
+        print_pair_if(w, start, p, columns.closer(p))?;
+    }
+    Ok(())
+}
+
+/// Writes the foot of a paragraph that begins at `start` of the text.
+fn print_foot<W: Write>(w: &mut W, columns: &Columns, start: usize, size: usize) -> io::Result<()>
+    requires start { start ≤ 16777216 }
+    requires small { size ≤ 16777216 }
+    requires length { HaveLength columns.now size }
+    requires inside { IsInside columns.now size }
+    ensures { OnOk result (Appends (W.contents w.old) (W.contents w.new) (foot_text columns.now start size)) }
+{
+    print_sequences(w, columns, start)?;
+    print_pairs(w, columns, start, size)?;
+    print_order(w, start, columns.order())
+}
+
+/// Writes the text of a paragraph, by what the rules leave of it: its head, the rows of its positions, its foot. It has
+/// the number `number`, counted from 0, and begins at `start` of the text, whose characters are these, if they are known.
+pub fn print_paragraph<W: Write>(
+    w: &mut W,
+    chars: &[char],
+    para: &[Unit],
+    columns: &Columns,
+    direction: Direction,
+    start: usize,
+    number: usize,
+) -> io::Result<()>
+    requires start { start ≤ 16777216 }
+    requires small { length para.now ≤ 16777216 }
+    requires length { HaveLength columns.now (length para.now) }
+    requires inside { IsInside columns.now (length para.now) }
+    ensures { OnOk result (Appends (W.contents w.old) (W.contents w.new)
+        (paragraph_explained chars.now para.now columns.now direction start number)) }
+{
+    let decider = decider_of(direction, para, start, columns.first_strong());
+    print_head(w, number, columns.para_level(), decider)?;
+    print_rows(w, chars, para, columns, start)?;
+    print_foot(w, columns, start, para.len())
+}

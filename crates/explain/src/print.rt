@@ -1,0 +1,125 @@
+//! What `explain` prints of a text, or of a row of classes.
+ghost use Rattle.std.specs.Prelude.{◌≡◌, ◌≤◌, length, map, IfOk, OnOk};
+ghost use Rattle.std.specs.Io.KnownBytes.{Appends};
+ghost use Rattle.units.specs.Layout.{longest_text};
+ghost use Rattle.units.specs.Paragraphs.{SeparatorOnlyLast};
+ghost use Rattle.explain.specs.Columns.{columns_of};
+ghost use Rattle.explain.specs.Explained.{explained, explained_classes, explained_units, paragraph_explained, plain_unit};
+
+use crate::columns::columns_of;
+use crate::paragraph_text::print_paragraph;
+use explicit::paragraphs;
+use printing::fault::PrintFault;
+use printing::text_units::units_of;
+use std::alloc::Global;
+use std::io::Write;
+use ucdfiles::tables::Tables;
+use units::bracket::{Bracket, Unit};
+use units::class::Class;
+use units::level::Direction;
+use units::memory::Memory;
+
+/// The units of these classes, none of which is a bracket. The error is refused memory.
+fn plain_units(alloc: Global, classes: &[Class]) -> Result<Vec<Unit>, Memory>
+    ensures { IfOk result (λ units. units.items ≡ map plain_unit classes.now) }
+{
+    let mut units = Vec::with_capacity(alloc, classes.len())?;
+    for class in classes {
+        let unit = Unit {
+            class: *class,
+            bracket: Bracket::No,
+        };
+        match units.push(unit) {
+            Ok(()) => {}
+            Err(_) => return Err(Memory),
+        }
+    }
+    Ok(units)
+}
+
+/// Writes what the rules make of a paragraph, with the number `number`, that begins at `start` of a text, whose
+/// characters are these, if they are known.
+fn explain_paragraph<W: Write>(
+    alloc: Global,
+    w: &mut W,
+    chars: &[char],
+    para: &[Unit],
+    direction: Direction,
+    start: usize,
+    number: usize,
+) -> Result<(), PrintFault>
+    requires separators { SeparatorOnlyLast para.now }
+    requires start { start ≤ 16777216 }
+    requires small { length para.now ≤ 16777216 }
+    ensures { OnOk result (Appends (W.contents w.old) (W.contents w.new)
+        (paragraph_explained chars.now para.now (columns_of para.now direction) direction start number)) }
+{
+    let columns = columns_of(alloc, para, direction)?;
+    print_paragraph(w, chars, para, &columns, direction, start, number)?;
+    Ok(())
+}
+
+/// Writes what the rules make of each paragraph of a text of these units, whose characters are these, if they are known.
+fn print_units<W: Write>(
+    alloc: Global,
+    w: &mut W,
+    chars: &[char],
+    text: &[Unit],
+    direction: Direction,
+) -> Result<(), PrintFault>
+    requires { length text.now ≤ longest_text }
+    ensures { OnOk result (Appends (W.contents w.old) (W.contents w.new)
+        (explained_units chars.now text.now direction)) }
+{
+    let mut start = 0;
+    for (number, para) in paragraphs(text).enumerate() {
+        explain_paragraph(alloc, w, chars, para, direction, start, number)?;
+        start += para.len();
+    }
+    Ok(())
+}
+
+/// Writes what the algorithm does with a text, rule by rule: for each paragraph (P1) a head, a row for each position,
+/// and a foot. Positions are those of the whole text, from 0; each line ends with LF, and one blank parts its items.
+///
+/// The head says the paragraph's number, from 0, its level, and what decided it: the class and the position of its
+/// first strong character outside of all isolates (P2), that there is none (P3), or that the direction gave it. Its
+/// second line names the columns. A row says the position, the code point, the own class, the level after X1 to X9, or
+/// `x` where the position is removed, the class after X1 to X9, after each of W1 to W7, N0, N1 and N2, the level after
+/// I1 and I2, and the level after L1 of the paragraph as one line; behind the first level `.` stands for what a rule
+/// didn't change. The foot says the isolating run sequences (X10), each with its level, its start, its end and its
+/// positions, the bracket pairs (BD16) in the order of their openers, and the remaining positions from left to right
+/// (L2).
+///
+/// The text may have 16,777,216 characters. The fault is `Write` where the writer fails, when it is not known how much
+/// it took, and `Memory` where memory is refused.
+pub fn print_explained<W: Write>(
+    alloc: Global,
+    w: &mut W,
+    tables: &Tables,
+    text: &[char],
+    direction: Direction,
+) -> Result<(), PrintFault>
+    requires { length text.now ≤ longest_text }
+    ensures { OnOk result (Appends (W.contents w.old) (W.contents w.new)
+        (explained tables.now text.now direction)) }
+{
+    let units = units_of(alloc, tables, text)?;
+    print_units(alloc, w, text, &units, direction)
+}
+
+/// Writes what `print_explained` does of a text whose characters have these classes, none of which is a bracket: each
+/// row has `-` in place of a code point. There may be 16,777,216 classes. The faults are the same.
+pub fn print_explained_classes<W: Write>(
+    alloc: Global,
+    w: &mut W,
+    classes: &[Class],
+    direction: Direction,
+) -> Result<(), PrintFault>
+    requires { length classes.now ≤ longest_text }
+    ensures { OnOk result (Appends (W.contents w.old) (W.contents w.new)
+        (explained_classes classes.now direction)) }
+{
+    let units = plain_units(alloc, classes)?;
+    print_units(alloc, w, &[], &units, direction)
+}
