@@ -9,6 +9,7 @@ mod current;
 mod deciding;
 mod explicit_part;
 mod implicit_levels;
+pub mod laws;
 mod neutral;
 mod pass;
 mod rewriting;
