@@ -20,7 +20,7 @@
  *  - malloc, realloc and free are of one allocator, and align to 16 where the size allows it, as the C library's do.
  *
  * No call blocks, aborts, or keeps a pointer that it was passed. Layouts, the look-ups, bidi_judge_feed and
- * bidi_judge_finish take no memory.
+ * bidi_judge_finish take no memory; bidi_verdict_text gives back what it takes.
  */
 #ifndef BIDI_H
 #define BIDI_H
@@ -38,7 +38,7 @@ typedef struct { void *at; bool made; } bidi_judge;
 #define BIDI_NONE { 0, false }
 
 /* Statuses. A number never changes its meaning; new ones may come. A call that is refused changes nothing else than
- * the place or fault that it names. */
+ * the place, the fault or the length that it names. */
 enum {
   BIDI_DONE = 0,
   BIDI_MEMORY = 1,             /* memory was refused */
@@ -58,7 +58,9 @@ enum {
   BIDI_NO_PLACE = 15,          /* the line has no such place */
   BIDI_NO_JUDGE = 16,          /* the handle holds no judge */
   BIDI_DEPTH = 17,             /* the depth that is handed in is 0 or above 125 */
-  BIDI_BRACKETS = 18           /* the depth is allowed, and the number of brackets is above 63 */
+  BIDI_BRACKETS = 18,          /* the depth is allowed, and the number of brackets is above 63 */
+  BIDI_NO_VERDICT = 19,        /* the numbers tell no verdict */
+  BIDI_TOO_SMALL = 20          /* the line has more bytes than there is place for; length: how many it has */
 };
 
 /* Directions: that of all paragraphs, or of each by its first strong character (P2, P3); where it has none, BIDI_AUTO
@@ -171,6 +173,14 @@ enum {
 };
 /* The judge and its tables are freed. */
 uint32_t bidi_judge_finish(bidi_judge *judge, bidi_verdict *verdict);
+
+/* The line that says a verdict, as the command prints it, with its LF and no zero behind it. It is written to `text` if
+ * it has place there, and `length` says how many bytes it has: behind BIDI_DONE, and behind BIDI_TOO_SMALL, where
+ * nothing is written, as with a place of 0. BIDI_NO_VERDICT: a number is none of those above, or one that the verdict
+ * doesn't name is not 0; `length` stays as it was then, and behind BIDI_MEMORY. No line has more than
+ * BIDI_VERDICT_LINE bytes. */
+#define BIDI_VERDICT_LINE 72
+uint32_t bidi_verdict_text(const bidi_verdict *verdict, uint8_t *text, size_t place, size_t *length);
 
 #ifdef __cplusplus
 }

@@ -44,6 +44,35 @@ static void lay_out(bidi_room *room, bidi_tables *tables, const uint32_t *codes,
   print_layout(room, tables, codes, n);
 }
 
+static void print_text(const bidi_verdict *v, size_t place) {
+  uint8_t text[80];
+  size_t length = 99;
+  memset(text, '#', sizeof text);
+  uint32_t status = bidi_verdict_text(v, text, place, &length);
+  size_t written = 0;
+  while (written < sizeof text && text[written] != '#') written++;
+  printf("  text %u, length %zu, written %zu: %.*s%s", status, length, written, (int)written, text, written ? "" : "\n");
+}
+
+static void print_texts(void) {
+  const bidi_verdict longest = { BIDI_WRONG, BIDI_WRONG_LEVELS, BIDI_AUTO_RTL, UINT64_MAX, SIZE_MAX, 0, 0 };
+  const bidi_verdict said[] = {
+    { BIDI_YES, 0, 0, 0, 0, 1, UINT64_MAX },
+    { BIDI_MALFORMED, BIDI_CAUSE_LINE_TOO_LONG, 0, 1, 0, 0, 0 },
+    { BIDI_WRONG, BIDI_WRONG_PARA_LEVEL, BIDI_AUTO, 20, 0, 0, 0 },
+    { BIDI_WRONG, BIDI_WRONG_ORDER, BIDI_LTR, 3, 32768, 0, 0 },
+  };
+  const bidi_verdict none[] = {
+    { 3, 0, 0, 0, 0, 0, 0 }, { BIDI_YES, 1, 0, 0, 0, 0, 0 }, { BIDI_YES, 0, 0, 7, 0, 1, 1 },
+    { BIDI_MALFORMED, 0, 0, 1, 0, 0, 0 }, { BIDI_MALFORMED, 13, 0, 1, 0, 0, 0 }, { BIDI_MALFORMED, 1, 1, 1, 0, 0, 0 },
+    { BIDI_WRONG, 4, 0, 1, 0, 0, 0 }, { BIDI_WRONG, 2, 4, 1, 0, 0, 0 }, { BIDI_WRONG, 1, 0, 1, 5, 0, 0 },
+  };
+  for (size_t i = 0; i < 4; i++) print_text(&said[i], 80);
+  const size_t places[] = { BIDI_VERDICT_LINE, BIDI_VERDICT_LINE - 1, 0 };
+  for (size_t i = 0; i < 3; i++) print_text(&longest, places[i]);
+  for (size_t i = 0; i < 9; i++) print_text(&none[i], 80);
+}
+
 static void judge(bidi_judge *judge, const char *text) {
   bidi_verdict v;
   memset(&v, 0, sizeof v);
@@ -52,6 +81,7 @@ static void judge(bidi_judge *judge, const char *text) {
   printf("finish %u: answer %u reason %u direction %u line %llu index %zu rows %llu cases %llu, held %d\n", status, v.answer,
          v.reason, v.direction, (unsigned long long)v.line, v.index, (unsigned long long)v.rows,
          (unsigned long long)v.cases, judge->made);
+  if (status == BIDI_DONE) print_text(&v, 80);
 }
 
 static void print_room(bidi_room *room, size_t n) {
@@ -192,6 +222,7 @@ int main(int argc, char **argv) {
   status = read_tables(argc > 1 ? argv[1] : "ucd", &tables, &fault);
   print_fault("tables", status, &fault, &tables);
   judge_by_limits(&held, &tables);
+  print_texts();
   print_room(&room, 1000);
   print_room(&room, 16777217);
   status = bidi_judge_new_characters((bidi_tables *)&room, &held);

@@ -48,6 +48,9 @@ int main(int argc, char **argv) {
   uint32_t finished = bidi_judge_finish(&judge, &verdict);
   printf("judged: status %u, %u, answer %u, %ld asked\n", status, finished, verdict.answer, asked);
   refused_at = 0;
+  uint8_t line[BIDI_VERDICT_LINE];
+  size_t length = 0;
+  printf("text: %ld refused\n", IN_TURN(bidi_verdict_text(&verdict, line, sizeof line, &length), length == 0));
   bidi_room_free(&room); bidi_tables_free(&tables); bidi_judge_free(&judge);
   free(classes); free(brackets); free(mirrors);
   printf("wrong: %ld\n", wrong);

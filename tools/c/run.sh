@@ -2,7 +2,9 @@
 # Builds the library that C links and the programs of this folder, and runs them: the demo, every call and each refused
 # allocation against their stored output, a C++ program, and a program built as tools/c/install.sh installs the library;
 # then again under -fsanitize=address,undefined and under valgrind. Where the package unicode-data is installed it lays
-# out and judges the official files too. It says what it leaves out because something isn't installed, without gcc all.
+# out and judges the official files too. Where the command is built (`rt run -- --help` in crates/bidi), the lines that
+# say verdicts are compared with what it prints. It says what it leaves out because something isn't installed or built,
+# without gcc all.
 #
 # usage: tools/c/run.sh [FOLDER]      (FOLDER, with the files of the Unicode database: /usr/share/unicode)
 #
@@ -14,6 +16,7 @@ here=$(cd "$(dirname "$0")" && pwd)
 folder=${1:-/usr/share/unicode}
 crate=$here/../../crates/bidi_c
 library=$crate/out/libbidi_c.a
+command=$here/../../crates/bidi/out/bidi
 
 if ! command -v gcc > /dev/null; then
     echo "no gcc: the programs in C are not built"
@@ -72,8 +75,34 @@ build_all() {
     build refused -Wl,--wrap=malloc,--wrap=realloc "$@"
 }
 
+# same_line KIND FILE: of this test file the library and the command say the same verdict.
+same_line() {
+    "$command" judge --kind "$1" --tables "$here/ucd" "$2" > "$work/said" 2> "$work/errors"
+    local status=$?
+    "$work/verdict" "$1" "$here/ucd" < "$2" > "$work/printed" 2>> "$work/errors"
+    if [ $? = $status ] && cmp -s "$work/printed" "$work/said"; then
+        echo "$1: $(cat "$work/printed")"
+    else
+        diff "$work/said" "$work/printed" >> "$work/errors"
+        fails "the line of a verdict"
+    fi
+}
+
 build_all
 all plain
+build verdict
+if [ -x "$command" ]; then
+    printf '@Levels: 0\n@Reorder: 0\nL; 3\n' > "$work/file"
+    same_line classes "$work/file"
+    printf '@Levels: 0\n@Reorder: 0\nL; 3\nR; 4\n' > "$work/file"
+    same_line classes "$work/file"
+    printf '0061;2;1;0;0\n' > "$work/file"
+    same_line characters "$work/file"
+    printf '0061;2;0;0;0\n0061;2;0;0' > "$work/file"
+    same_line characters "$work/file"
+else
+    echo "no command at $command: the lines of verdicts are not compared with its"
+fi
 if command -v g++ > /dev/null; then
     g++ -O2 -Wall -Wextra -o "$work/header" "$here/header.cc" "$library" "$heap" 2> "$work/errors" || fails "g++ header"
     expect "C++ header" "$here/header.out" "$work/header"

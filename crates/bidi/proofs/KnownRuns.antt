@@ -151,7 +151,7 @@ character_files = files_with character_bytes
 
 -- what its row claims of this unit
 abbrev alef_claim : BidiUnit → Claim
-alef_claim unit = record { text = unit ∷ []; directions = Auto ∷ []; para = Some 1; levels = Some 1 ∷ []; order = 0 ∷ [] }
+alef_claim unit = record { text = unit ∷ []; directions = Auto ∷ []; para_level = Some 1; levels = Some 1 ∷ []; order = 0 ∷ [] }
 
 character_findings : (unit_of : ℕ → BidiUnit) → characters_findings unit_of (lines_of character_bytes) ≡ Row (alef_claim (unit_of 1488)) ∷ []
 unfolding characters_line

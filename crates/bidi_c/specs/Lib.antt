@@ -1,2 +1,3 @@
--- What handles own.
+-- What handles own and hold.
 pub mod Kept
+pub mod HeldAt

@@ -1,12 +1,10 @@
 // Test files judged.
-ghost use Rattle.std.specs.Prelude.{◌≡◌, ◌<◌, ◌++◌, ℕ, List, [], Option, None, IsSome, IfErr, IsErrAnd, OnOk, OnErr};
-ghost use Rattle.units.specs.Limits.{LimitsOf, AreAllowed, standard};
-ghost use Rattle.ucdfiles.specs.Tables.{TablesOf};
-ghost use Rattle.bidi_held.specs.Holdings.{tables_in};
-ghost use Rattle.bidi_held.specs.Judged.{verdict_by};
-ghost use Rattle.bidi_held.specs.JudgeCalls.{judge_in, HandleWasFed, RefusesJudge, RefusesTableJudge, RefusesJudgeWith, RefusesTableJudgeWith, verdict_told};
+ghost use Rattle.std.specs.Prelude.{◌≡◌, ◌<◌, [], None, IsSome, IfErr, IsErrAnd, OnOk, OnErr};
+ghost use Rattle.units.specs.Limits.{AreAllowed, standard};
+ghost use Rattle.bidi_held.specs.JudgeCalls.{judge_in, HandleWasFed, IsFedOn, OfItsVerdict, RefusesJudge, RefusesTableJudge, RefusesJudgeWith, RefusesTableJudgeWith, verdict_told};
 ghost use Rattle.bidi_held.specs.LimitsGiven.{limits_in, RefusesLimits};
 ghost use Rattle.bidi_held.specs.Statuses.{IsRefusedFor};
+ghost use Rattle.bidi_c.specs.HeldAt.{held_at, tables_at};
 
 use crate::bidi_handle::BidiHandle;
 use bidi_held::held::Held;
@@ -18,8 +16,8 @@ use std::alloc::Global;
 use units::limits::Limits;
 
 fn make_classes_judge(alloc: Global, judge: &mut BidiHandle, limits: Limits) -> Result<(), Refusal>
-    ensures made { OnOk result (HandleWasFed limits judge.new.handle.value None []) }
-    ensures kept { OnErr result (judge.new.handle.value ≡ judge.old.handle.value) }
+    ensures made { OnOk result (HandleWasFed limits (held_at judge.new) None []) }
+    ensures kept { OnErr result (held_at judge.new ≡ held_at judge.old) }
     ensures refused { IfErr result RefusesJudge }
 {
     let made = new_judge(alloc, limits)?;
@@ -34,8 +32,8 @@ fn make_classes_judge(alloc: Global, judge: &mut BidiHandle, limits: Limits) -> 
 /// once the judge is made; where it is refused, the handle holds that still.
 #[unsafe(no_mangle)]
 pub extern "C" fn bidi_judge_new_classes(alloc: Global, judge: &mut BidiHandle) -> u32
-    ensures made { result ≡ 0 → HandleWasFed standard judge.new.handle.value None [] }
-    ensures kept { 0 < result → judge.new.handle.value ≡ judge.old.handle.value }
+    ensures made { result ≡ 0 → HandleWasFed standard (held_at judge.new) None [] }
+    ensures kept { 0 < result → held_at judge.new ≡ held_at judge.old }
     ensures refused { 0 < result → IsRefusedFor RefusesJudge result }
 {
     match make_classes_judge(alloc, judge, Limits::standard()) {
@@ -49,10 +47,10 @@ fn make_classes_judge_with(
     judge: &mut BidiHandle,
     limits: BidiLimits,
 ) -> Result<(), Refusal>
-    ensures made { OnOk result (HandleWasFed (limits_in limits) judge.new.handle.value None []) }
+    ensures made { OnOk result (HandleWasFed (limits_in limits) (held_at judge.new) None []) }
     ensures allowed { OnOk result (AreAllowed (limits_in limits)) }
     ensures limits_first { (AreAllowed (limits_in limits) → ⊥) → IsErrAnd result (RefusesLimits limits) }
-    ensures kept { OnErr result (judge.new.handle.value ≡ judge.old.handle.value) }
+    ensures kept { OnErr result (held_at judge.new ≡ held_at judge.old) }
     ensures refused { IfErr result (RefusesJudgeWith limits) }
 {
     let allowed = limits.allowed()?;
@@ -67,10 +65,10 @@ pub extern "C" fn bidi_judge_new_classes_with(
     judge: &mut BidiHandle,
     limits: BidiLimits,
 ) -> u32
-    ensures made { result ≡ 0 → HandleWasFed (limits_in limits) judge.new.handle.value None [] }
+    ensures made { result ≡ 0 → HandleWasFed (limits_in limits) (held_at judge.new) None [] }
     ensures allowed { result ≡ 0 → AreAllowed (limits_in limits) }
     ensures limits_first { (AreAllowed (limits_in limits) → ⊥) → IsRefusedFor (RefusesLimits limits) result }
-    ensures kept { 0 < result → judge.new.handle.value ≡ judge.old.handle.value }
+    ensures kept { 0 < result → held_at judge.new ≡ held_at judge.old }
     ensures refused { 0 < result → IsRefusedFor (RefusesJudgeWith limits) result }
 {
     match make_classes_judge_with(alloc, judge, limits) {
@@ -85,12 +83,12 @@ fn make_characters_judge(
     judge: &mut BidiHandle,
     limits: Limits,
 ) -> Result<(), Refusal>
-    ensures made { OnOk result (IsSome (tables_in tables.old.handle.value)
-        × HandleWasFed limits judge.new.handle.value (tables_in tables.old.handle.value) []) }
-    ensures taken { OnOk result (tables.new.handle.value ≡ None) }
-    ensures kept_tables { OnErr result (tables.new.handle.value ≡ tables.old.handle.value) }
-    ensures kept { OnErr result (judge.new.handle.value ≡ judge.old.handle.value) }
-    ensures refused { IfErr result (RefusesTableJudge tables.old.handle.value) }
+    ensures made { OnOk result (IsSome (tables_at tables.old)
+        × HandleWasFed limits (held_at judge.new) (tables_at tables.old) []) }
+    ensures taken { OnOk result (held_at tables.new ≡ None) }
+    ensures kept_tables { OnErr result (held_at tables.new ≡ held_at tables.old) }
+    ensures kept { OnErr result (held_at judge.new ≡ held_at judge.old) }
+    ensures refused { IfErr result (RefusesTableJudge (held_at tables.old)) }
 {
     let Some(mut held) = tables.take(alloc) else {
         return Err(Refusal::NoTables);
@@ -117,12 +115,12 @@ pub extern "C" fn bidi_judge_new_characters(
     tables: &mut BidiHandle,
     judge: &mut BidiHandle,
 ) -> u32
-    ensures made { result ≡ 0 → IsSome (tables_in tables.old.handle.value)
-        × HandleWasFed standard judge.new.handle.value (tables_in tables.old.handle.value) [] }
-    ensures taken { result ≡ 0 → tables.new.handle.value ≡ None }
-    ensures kept_tables { 0 < result → tables.new.handle.value ≡ tables.old.handle.value }
-    ensures kept { 0 < result → judge.new.handle.value ≡ judge.old.handle.value }
-    ensures refused { 0 < result → IsRefusedFor (RefusesTableJudge tables.old.handle.value) result }
+    ensures made { result ≡ 0 → IsSome (tables_at tables.old)
+        × HandleWasFed standard (held_at judge.new) (tables_at tables.old) [] }
+    ensures taken { result ≡ 0 → held_at tables.new ≡ None }
+    ensures kept_tables { 0 < result → held_at tables.new ≡ held_at tables.old }
+    ensures kept { 0 < result → held_at judge.new ≡ held_at judge.old }
+    ensures refused { 0 < result → IsRefusedFor (RefusesTableJudge (held_at tables.old)) result }
 {
     match make_characters_judge(alloc, tables, judge, Limits::standard()) {
         Ok(()) => DONE,
@@ -136,14 +134,14 @@ fn make_characters_judge_with(
     judge: &mut BidiHandle,
     limits: BidiLimits,
 ) -> Result<(), Refusal>
-    ensures made { OnOk result (IsSome (tables_in tables.old.handle.value) × HandleWasFed
-        (limits_in limits) judge.new.handle.value (tables_in tables.old.handle.value) []) }
+    ensures made { OnOk result (IsSome (tables_at tables.old)
+        × HandleWasFed (limits_in limits) (held_at judge.new) (tables_at tables.old) []) }
     ensures allowed { OnOk result (AreAllowed (limits_in limits)) }
     ensures limits_first { (AreAllowed (limits_in limits) → ⊥) → IsErrAnd result (RefusesLimits limits) }
-    ensures taken { OnOk result (tables.new.handle.value ≡ None) }
-    ensures kept_tables { OnErr result (tables.new.handle.value ≡ tables.old.handle.value) }
-    ensures kept { OnErr result (judge.new.handle.value ≡ judge.old.handle.value) }
-    ensures refused { IfErr result (RefusesTableJudgeWith limits tables.old.handle.value) }
+    ensures taken { OnOk result (held_at tables.new ≡ None) }
+    ensures kept_tables { OnErr result (held_at tables.new ≡ held_at tables.old) }
+    ensures kept { OnErr result (held_at judge.new ≡ held_at judge.old) }
+    ensures refused { IfErr result (RefusesTableJudgeWith limits (held_at tables.old)) }
 {
     let allowed = limits.allowed()?;
     make_characters_judge(alloc, tables, judge, allowed)
@@ -158,14 +156,14 @@ pub extern "C" fn bidi_judge_new_characters_with(
     judge: &mut BidiHandle,
     limits: BidiLimits,
 ) -> u32
-    ensures made { result ≡ 0 → IsSome (tables_in tables.old.handle.value) × HandleWasFed
-        (limits_in limits) judge.new.handle.value (tables_in tables.old.handle.value) [] }
+    ensures made { result ≡ 0 → IsSome (tables_at tables.old)
+        × HandleWasFed (limits_in limits) (held_at judge.new) (tables_at tables.old) [] }
     ensures allowed { result ≡ 0 → AreAllowed (limits_in limits) }
     ensures limits_first { (AreAllowed (limits_in limits) → ⊥) → IsRefusedFor (RefusesLimits limits) result }
-    ensures taken { result ≡ 0 → tables.new.handle.value ≡ None }
-    ensures kept_tables { 0 < result → tables.new.handle.value ≡ tables.old.handle.value }
-    ensures kept { 0 < result → judge.new.handle.value ≡ judge.old.handle.value }
-    ensures refused { 0 < result → IsRefusedFor (RefusesTableJudgeWith limits tables.old.handle.value) result }
+    ensures taken { result ≡ 0 → held_at tables.new ≡ None }
+    ensures kept_tables { 0 < result → held_at tables.new ≡ held_at tables.old }
+    ensures kept { 0 < result → held_at judge.new ≡ held_at judge.old }
+    ensures refused { 0 < result → IsRefusedFor (RefusesTableJudgeWith limits (held_at tables.old)) result }
 {
     match make_characters_judge_with(alloc, tables, judge, limits) {
         Ok(()) => DONE,
@@ -176,7 +174,7 @@ pub extern "C" fn bidi_judge_new_characters_with(
 /// Frees a judge and its tables. The handle is all zero then, as it may be before.
 #[unsafe(no_mangle)]
 pub extern "C" fn bidi_judge_free(alloc: Global, judge: &mut BidiHandle)
-    ensures { judge.new.handle.value ≡ None }
+    ensures { held_at judge.new ≡ None }
 {
     judge.empty(alloc);
 }
@@ -184,12 +182,10 @@ pub extern "C" fn bidi_judge_free(alloc: Global, judge: &mut BidiHandle)
 /// Hands over the next bytes of the file, as many or as few as there are. It takes no memory.
 #[unsafe(no_mangle)]
 pub extern "C" fn bidi_judge_feed(alloc: Global, judge: &mut BidiHandle, piece: &[u8]) -> u32
-    ensures fed { (limits : LimitsOf) (tables : Option TablesOf) (b : List ℕ)
-        → HandleWasFed limits judge.old.handle.value tables b
-        → HandleWasFed limits judge.new.handle.value tables (b ++ piece.now) }
-    ensures done { IsSome (judge_in judge.old.handle.value) → result ≡ 0 }
-    ensures refused { judge_in judge.old.handle.value ≡ None
-        → (result ≡ 16) × (judge.new.handle.value ≡ judge.old.handle.value) }
+    ensures fed { IsFedOn (held_at judge.old) (held_at judge.new) piece.now }
+    ensures done { IsSome (judge_in (held_at judge.old)) → result ≡ 0 }
+    ensures refused { judge_in (held_at judge.old) ≡ None
+        → (result ≡ 16) × (held_at judge.new ≡ held_at judge.old) }
 {
     let Some(mut held) = judge.take(alloc) else {
         return Refusal::NoJudge.code();
@@ -206,11 +202,10 @@ pub extern "C" fn bidi_judge_finish(
     judge: &mut BidiHandle,
     verdict: &mut BidiVerdict,
 ) -> u32
-    ensures verdict { (limits : LimitsOf) (tables : Option TablesOf) (b : List ℕ)
-        → HandleWasFed limits judge.old.handle.value tables b
-        → (result ≡ 0) × (verdict.new ≡ verdict_told (verdict_by limits tables b)) × (judge.new.handle.value ≡ None) }
-    ensures refused { judge_in judge.old.handle.value ≡ None
-        → (result ≡ 16) × (verdict.new ≡ verdict.old) × (judge.new.handle.value ≡ judge.old.handle.value) }
+    ensures verdict { OfItsVerdict (held_at judge.old)
+        (λ found. (result ≡ 0) × (verdict.new ≡ verdict_told found) × (held_at judge.new ≡ None)) }
+    ensures refused { judge_in (held_at judge.old) ≡ None
+        → (result ≡ 16) × (verdict.new ≡ verdict.old) × (held_at judge.new ≡ held_at judge.old) }
 {
     let Some(mut held) = judge.take(alloc) else {
         return Refusal::NoJudge.code();

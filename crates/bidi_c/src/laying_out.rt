@@ -3,9 +3,9 @@ ghost use Rattle.std.specs.Prelude.{◌≡◌, ◌<◌, IfErr, IsErrAnd, OnOk, O
 ghost use Rattle.units.specs.Limits.{AreAllowed, standard};
 ghost use Rattle.bidi_held.specs.LimitsGiven.{limits_in, RefusesLimits};
 ghost use Rattle.bidi_held.specs.Statuses.{IsRefused};
-ghost use Rattle.bidi_held.specs.RefusedCalls.{RoomTakes, RoomTakesClasses, RefusesLayout, RefusesClassLayout, RefusesLayoutWith, RefusesClassLayoutWith};
-ghost use Rattle.bidi_held.specs.Holdings.{capacity_in, tables_in, layout_held};
+ghost use Rattle.bidi_held.specs.RefusedCalls.{RoomTakes, RoomTakesClasses, RefusesClassLayout, RefusesClassLayoutWith};
 ghost use Rattle.bidi_held.specs.LaidOut.{IsLayout, IsClassLayout};
+ghost use Rattle.bidi_c.specs.HeldAt.{held_at, tables_at, capacity_at, layout_at, RefusesLayoutAt, RefusesLayoutWithAt};
 
 use crate::bidi_handle::BidiHandle;
 use bidi_held::layouts::{lay_out_classes_held, lay_out_held};
@@ -23,13 +23,13 @@ fn lay_out(
     breaks: &[usize],
     limits: Limits,
 ) -> Result<(), Refusal>
-    ensures tables { tables.new.handle.value ≡ tables.old.handle.value }
-    ensures capacity { capacity_in room.new.handle.value ≡ capacity_in room.old.handle.value }
-    ensures kept { OnErr result (layout_held room.new.handle.value ≡ layout_held room.old.handle.value) }
-    ensures refused { IfErr result (RefusesLayout room.old.handle.value tables.old.handle.value codes.now direction breaks.now) }
-    ensures taken { OnOk result (RoomTakes room.old.handle.value codes.now breaks.now) }
-    ensures laid_out { OnOk result (IsLayout limits (tables_in tables.old.handle.value) codes.now direction breaks.now
-        (layout_held room.new.handle.value)) }
+    ensures tables { held_at tables.new ≡ held_at tables.old }
+    ensures capacity { capacity_at room.new ≡ capacity_at room.old }
+    ensures kept { OnErr result (layout_at room.new ≡ layout_at room.old) }
+    ensures refused { IfErr result (RefusesLayoutAt room.old tables.old codes.now direction breaks.now) }
+    ensures taken { OnOk result (RoomTakes (held_at room.old) codes.now breaks.now) }
+    ensures laid_out { OnOk result (IsLayout limits (tables_at tables.old) codes.now direction breaks.now
+        (layout_at room.new)) }
 {
     let Some(mut held) = room.take(alloc) else {
         return Err(Refusal::NoRoom);
@@ -57,13 +57,14 @@ pub extern "C" fn bidi_lay_out(
     breaks: &[usize],
     place: &mut u64,
 ) -> u32
-    ensures tables { tables.new.handle.value ≡ tables.old.handle.value }
-    ensures capacity { capacity_in room.new.handle.value ≡ capacity_in room.old.handle.value }
-    ensures kept { 0 < result → layout_held room.new.handle.value ≡ layout_held room.old.handle.value }
-    ensures refused { 0 < result → IsRefused (RefusesLayout room.old.handle.value tables.old.handle.value codes.now direction breaks.now) result place.new }
-    ensures taken { result ≡ 0 → RoomTakes room.old.handle.value codes.now breaks.now }
-    ensures laid_out { result ≡ 0 → IsLayout standard
-        (tables_in tables.old.handle.value) codes.now direction breaks.now (layout_held room.new.handle.value) }
+    ensures tables { held_at tables.new ≡ held_at tables.old }
+    ensures capacity { capacity_at room.new ≡ capacity_at room.old }
+    ensures kept { 0 < result → layout_at room.new ≡ layout_at room.old }
+    ensures refused { 0 < result → IsRefused (RefusesLayoutAt room.old tables.old codes.now direction
+        breaks.now) result place.new }
+    ensures taken { result ≡ 0 → RoomTakes (held_at room.old) codes.now breaks.now }
+    ensures laid_out { result ≡ 0 → IsLayout standard (tables_at tables.old) codes.now direction breaks.now
+        (layout_at room.new) }
 {
     let limits = Limits::standard();
     let done = lay_out(alloc, room, tables, codes, direction, breaks, limits);
@@ -79,15 +80,15 @@ fn lay_out_with(
     breaks: &[usize],
     limits: BidiLimits,
 ) -> Result<(), Refusal>
-    ensures tables { tables.new.handle.value ≡ tables.old.handle.value }
-    ensures capacity { capacity_in room.new.handle.value ≡ capacity_in room.old.handle.value }
-    ensures kept { OnErr result (layout_held room.new.handle.value ≡ layout_held room.old.handle.value) }
-    ensures refused { IfErr result (RefusesLayoutWith limits room.old.handle.value tables.old.handle.value codes.now direction breaks.now) }
+    ensures tables { held_at tables.new ≡ held_at tables.old }
+    ensures capacity { capacity_at room.new ≡ capacity_at room.old }
+    ensures kept { OnErr result (layout_at room.new ≡ layout_at room.old) }
+    ensures refused { IfErr result (RefusesLayoutWithAt limits room.old tables.old codes.now direction breaks.now) }
     ensures allowed { OnOk result (AreAllowed (limits_in limits)) }
     ensures limits_first { (AreAllowed (limits_in limits) → ⊥) → IsErrAnd result (RefusesLimits limits) }
-    ensures taken { OnOk result (RoomTakes room.old.handle.value codes.now breaks.now) }
-    ensures laid_out { OnOk result (IsLayout (limits_in limits)
-        (tables_in tables.old.handle.value) codes.now direction breaks.now (layout_held room.new.handle.value)) }
+    ensures taken { OnOk result (RoomTakes (held_at room.old) codes.now breaks.now) }
+    ensures laid_out { OnOk result (IsLayout (limits_in limits) (tables_at tables.old) codes.now direction breaks.now
+        (layout_at room.new)) }
 {
     let allowed = limits.allowed()?;
     lay_out(alloc, room, tables, codes, direction, breaks, allowed)
@@ -106,15 +107,16 @@ pub extern "C" fn bidi_lay_out_with(
     limits: BidiLimits,
     place: &mut u64,
 ) -> u32
-    ensures tables { tables.new.handle.value ≡ tables.old.handle.value }
-    ensures capacity { capacity_in room.new.handle.value ≡ capacity_in room.old.handle.value }
-    ensures kept { 0 < result → layout_held room.new.handle.value ≡ layout_held room.old.handle.value }
-    ensures refused { 0 < result → IsRefused (RefusesLayoutWith limits room.old.handle.value tables.old.handle.value codes.now direction breaks.now) result place.new }
+    ensures tables { held_at tables.new ≡ held_at tables.old }
+    ensures capacity { capacity_at room.new ≡ capacity_at room.old }
+    ensures kept { 0 < result → layout_at room.new ≡ layout_at room.old }
+    ensures refused { 0 < result → IsRefused (RefusesLayoutWithAt limits room.old tables.old codes.now direction
+        breaks.now) result place.new }
     ensures allowed { result ≡ 0 → AreAllowed (limits_in limits) }
     ensures limits_first { (AreAllowed (limits_in limits) → ⊥) → IsRefused (RefusesLimits limits) result place.new }
-    ensures taken { result ≡ 0 → RoomTakes room.old.handle.value codes.now breaks.now }
-    ensures laid_out { result ≡ 0 → IsLayout (limits_in limits)
-        (tables_in tables.old.handle.value) codes.now direction breaks.now (layout_held room.new.handle.value) }
+    ensures taken { result ≡ 0 → RoomTakes (held_at room.old) codes.now breaks.now }
+    ensures laid_out { result ≡ 0 → IsLayout (limits_in limits) (tables_at tables.old) codes.now direction breaks.now
+        (layout_at room.new) }
 {
     let done = lay_out_with(alloc, room, tables, codes, direction, breaks, limits);
     answer(done, place)
@@ -128,12 +130,12 @@ fn lay_out_classes(
     breaks: &[usize],
     limits: Limits,
 ) -> Result<(), Refusal>
-    ensures capacity { capacity_in room.new.handle.value ≡ capacity_in room.old.handle.value }
-    ensures kept { OnErr result (layout_held room.new.handle.value ≡ layout_held room.old.handle.value) }
-    ensures refused { IfErr result (RefusesClassLayout room.old.handle.value numbers.now direction breaks.now) }
-    ensures taken { OnOk result (RoomTakesClasses room.old.handle.value numbers.now breaks.now) }
+    ensures capacity { capacity_at room.new ≡ capacity_at room.old }
+    ensures kept { OnErr result (layout_at room.new ≡ layout_at room.old) }
+    ensures refused { IfErr result (RefusesClassLayout (held_at room.old) numbers.now direction breaks.now) }
+    ensures taken { OnOk result (RoomTakesClasses (held_at room.old) numbers.now breaks.now) }
     ensures laid_out { OnOk result (IsClassLayout limits numbers.now direction breaks.now
-        (layout_held room.new.handle.value)) }
+        (layout_at room.new)) }
 {
     let Some(mut held) = room.take(alloc) else {
         return Err(Refusal::NoRoom);
@@ -154,12 +156,13 @@ pub extern "C" fn bidi_lay_out_classes(
     breaks: &[usize],
     place: &mut u64,
 ) -> u32
-    ensures capacity { capacity_in room.new.handle.value ≡ capacity_in room.old.handle.value }
-    ensures kept { 0 < result → layout_held room.new.handle.value ≡ layout_held room.old.handle.value }
-    ensures refused { 0 < result → IsRefused (RefusesClassLayout room.old.handle.value numbers.now direction breaks.now) result place.new }
-    ensures taken { result ≡ 0 → RoomTakesClasses room.old.handle.value numbers.now breaks.now }
+    ensures capacity { capacity_at room.new ≡ capacity_at room.old }
+    ensures kept { 0 < result → layout_at room.new ≡ layout_at room.old }
+    ensures refused { 0 < result → IsRefused (RefusesClassLayout (held_at room.old) numbers.now direction
+        breaks.now) result place.new }
+    ensures taken { result ≡ 0 → RoomTakesClasses (held_at room.old) numbers.now breaks.now }
     ensures laid_out { result ≡ 0 → IsClassLayout standard numbers.now direction breaks.now
-        (layout_held room.new.handle.value) }
+        (layout_at room.new) }
 {
     let limits = Limits::standard();
     let done = lay_out_classes(alloc, room, numbers, direction, breaks, limits);
@@ -174,14 +177,14 @@ fn lay_out_classes_with(
     breaks: &[usize],
     limits: BidiLimits,
 ) -> Result<(), Refusal>
-    ensures capacity { capacity_in room.new.handle.value ≡ capacity_in room.old.handle.value }
-    ensures kept { OnErr result (layout_held room.new.handle.value ≡ layout_held room.old.handle.value) }
-    ensures refused { IfErr result (RefusesClassLayoutWith limits room.old.handle.value numbers.now direction breaks.now) }
+    ensures capacity { capacity_at room.new ≡ capacity_at room.old }
+    ensures kept { OnErr result (layout_at room.new ≡ layout_at room.old) }
+    ensures refused { IfErr result (RefusesClassLayoutWith limits (held_at room.old) numbers.now direction breaks.now) }
     ensures allowed { OnOk result (AreAllowed (limits_in limits)) }
     ensures limits_first { (AreAllowed (limits_in limits) → ⊥) → IsErrAnd result (RefusesLimits limits) }
-    ensures taken { OnOk result (RoomTakesClasses room.old.handle.value numbers.now breaks.now) }
+    ensures taken { OnOk result (RoomTakesClasses (held_at room.old) numbers.now breaks.now) }
     ensures laid_out { OnOk result (IsClassLayout (limits_in limits) numbers.now direction breaks.now
-        (layout_held room.new.handle.value)) }
+        (layout_at room.new)) }
 {
     let allowed = limits.allowed()?;
     lay_out_classes(alloc, room, numbers, direction, breaks, allowed)
@@ -198,14 +201,15 @@ pub extern "C" fn bidi_lay_out_classes_with(
     limits: BidiLimits,
     place: &mut u64,
 ) -> u32
-    ensures capacity { capacity_in room.new.handle.value ≡ capacity_in room.old.handle.value }
-    ensures kept { 0 < result → layout_held room.new.handle.value ≡ layout_held room.old.handle.value }
-    ensures refused { 0 < result → IsRefused (RefusesClassLayoutWith limits room.old.handle.value numbers.now direction breaks.now) result place.new }
+    ensures capacity { capacity_at room.new ≡ capacity_at room.old }
+    ensures kept { 0 < result → layout_at room.new ≡ layout_at room.old }
+    ensures refused { 0 < result → IsRefused (RefusesClassLayoutWith limits (held_at room.old) numbers.now direction
+        breaks.now) result place.new }
     ensures allowed { result ≡ 0 → AreAllowed (limits_in limits) }
     ensures limits_first { (AreAllowed (limits_in limits) → ⊥) → IsRefused (RefusesLimits limits) result place.new }
-    ensures taken { result ≡ 0 → RoomTakesClasses room.old.handle.value numbers.now breaks.now }
+    ensures taken { result ≡ 0 → RoomTakesClasses (held_at room.old) numbers.now breaks.now }
     ensures laid_out { result ≡ 0 → IsClassLayout (limits_in limits) numbers.now direction breaks.now
-        (layout_held room.new.handle.value) }
+        (layout_at room.new) }
 {
     let done = lay_out_classes_with(alloc, room, numbers, direction, breaks, limits);
     answer(done, place)

@@ -1,5 +1,5 @@
 //! The engine for programs in C: tables, rooms and judges behind handles, texts laid out, their layouts
-//! copied out, and test files judged.
+//! copied out, test files judged, and verdicts said.
 //!
 //! Each export is total for handles that are all zero or were made by these calls. docs/C.md is their manual.
 #![tactic(auto)]
@@ -12,4 +12,5 @@ pub mod looking_up;
 mod loose;
 pub mod room_calls;
 pub mod tables_calls;
+pub mod verdict_calls;
 pub mod visual;

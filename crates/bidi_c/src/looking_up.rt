@@ -2,11 +2,11 @@
 ghost use Rattle.std.specs.Prelude.{◌≡◌, ◌≤◌, ◌<◌, OnOk, OnErr, IfErr, length, map, take, drop};
 ghost use Rattle.bidi_held.specs.Statuses.{IsRefusedFor};
 ghost use Rattle.bidi_held.specs.Texts.{level_byte};
-ghost use Rattle.bidi_held.specs.Holdings.{layout_held, line_held};
 ghost use Rattle.bidi_held.specs.LinesOut.{TellsLine, RefusesLine};
+ghost use Rattle.bidi_c.specs.HeldAt.{held_at, layout_at, line_at};
 
 use crate::bidi_handle::BidiHandle;
-use bidi_held::lines_out::{BidiLine, line_of, write_levels, write_order_of, write_para_levels};
+use bidi_held::lines_out::{BidiLine, tell_line, write_levels, write_order_of, write_para_levels};
 use bidi_held::refusal::{DONE, Refusal};
 use std::alloc::Global;
 
@@ -14,11 +14,10 @@ use std::alloc::Global;
 /// `levels`, if all have place there: 255 where a position was removed (X9).
 #[unsafe(no_mangle)]
 pub extern "C" fn bidi_levels(alloc: Global, room: &mut BidiHandle, levels: &mut [u8]) -> usize
-    ensures room { room.new.handle.value ≡ room.old.handle.value }
-    ensures count { result ≡ length (layout_held room.old.handle.value).levels }
-    ensures written { length (layout_held room.old.handle.value).levels ≤ length levels.old
-        → take (length (layout_held room.old.handle.value).levels) levels.new ≡ map level_byte
-        (layout_held room.old.handle.value).levels }
+    ensures room { held_at room.new ≡ held_at room.old }
+    ensures count { result ≡ length (layout_at room.old).levels }
+    ensures written { result ≤ length levels.old
+        → take result levels.new ≡ map level_byte (layout_at room.old).levels }
     ensures behind { drop result levels.new ≡ drop result levels.old }
     ensures unwritten { length levels.old < result → levels.new ≡ levels.old }
 {
@@ -36,11 +35,9 @@ pub extern "C" fn bidi_levels(alloc: Global, room: &mut BidiHandle, levels: &mut
 /// How many paragraphs the text has. Their levels (P2, P3) are written to `levels`, if all have place there.
 #[unsafe(no_mangle)]
 pub extern "C" fn bidi_para_levels(alloc: Global, room: &mut BidiHandle, levels: &mut [u8]) -> usize
-    ensures room { room.new.handle.value ≡ room.old.handle.value }
-    ensures count { result ≡ length (layout_held room.old.handle.value).paras }
-    ensures written { length (layout_held room.old.handle.value).paras ≤ length levels.old
-        → take (length (layout_held room.old.handle.value).paras) levels.new ≡
-        (layout_held room.old.handle.value).paras }
+    ensures room { held_at room.new ≡ held_at room.old }
+    ensures count { result ≡ length (layout_at room.old).paras }
+    ensures written { result ≤ length levels.old → take result levels.new ≡ (layout_at room.old).paras }
     ensures behind { drop result levels.new ≡ drop result levels.old }
     ensures unwritten { length levels.old < result → levels.new ≡ levels.old }
 {
@@ -58,8 +55,8 @@ pub extern "C" fn bidi_para_levels(alloc: Global, room: &mut BidiHandle, levels:
 /// How many lines the text has; an empty one has none.
 #[unsafe(no_mangle)]
 pub extern "C" fn bidi_line_count(alloc: Global, room: &mut BidiHandle) -> usize
-    ensures room { room.new.handle.value ≡ room.old.handle.value }
-    ensures count { result ≡ length (layout_held room.old.handle.value).lines }
+    ensures room { held_at room.new ≡ held_at room.old }
+    ensures count { result ≡ length (layout_at room.old).lines }
 {
     let Some(held) = room.take(alloc) else {
         return 0;
@@ -78,17 +75,16 @@ fn look_up_line(
     k: usize,
     line: &mut BidiLine,
 ) -> Result<(), Refusal>
-    ensures room { room.new.handle.value ≡ room.old.handle.value }
-    ensures line { OnOk result ((k < length (layout_held room.old.handle.value).lines) × TellsLine
-        (line_held room.old.handle.value k) line.new) }
+    ensures room { held_at room.new ≡ held_at room.old }
+    ensures line { OnOk result ((k < length (layout_at room.old).lines) × TellsLine (line_at room.old k) line.new) }
     ensures kept { OnErr result (line.new ≡ line.old) }
-    ensures refused { IfErr result (RefusesLine room.old.handle.value k) }
+    ensures refused { IfErr result (RefusesLine (held_at room.old) k) }
 {
     let Some(held) = room.take(alloc) else {
         return Err(Refusal::NoRoom);
     };
     let done = match held.layout() {
-        Some(layout) => line_of(&layout, k, line),
+        Some(layout) => tell_line(&layout, k, line),
         None => Err(Refusal::NoRoom),
     };
     room.put(held);
@@ -103,11 +99,10 @@ pub extern "C" fn bidi_line(
     k: usize,
     line: &mut BidiLine,
 ) -> u32
-    ensures room { room.new.handle.value ≡ room.old.handle.value }
-    ensures line { result ≡ 0 → (k < length (layout_held room.old.handle.value).lines) × TellsLine
-        (line_held room.old.handle.value k) line.new }
+    ensures room { held_at room.new ≡ held_at room.old }
+    ensures line { result ≡ 0 → (k < length (layout_at room.old).lines) × TellsLine (line_at room.old k) line.new }
     ensures kept { 0 < result → line.new ≡ line.old }
-    ensures refused { 0 < result → IsRefusedFor (RefusesLine room.old.handle.value k) result }
+    ensures refused { 0 < result → IsRefusedFor (RefusesLine (held_at room.old) k) result }
 {
     match look_up_line(alloc, room, k, line) {
         Ok(()) => DONE,
@@ -124,11 +119,9 @@ pub extern "C" fn bidi_order(
     k: usize,
     order: &mut [usize],
 ) -> usize
-    ensures room { room.new.handle.value ≡ room.old.handle.value }
-    ensures count { result ≡ length (line_held room.old.handle.value k).order }
-    ensures written { length (line_held room.old.handle.value k).order ≤ length order.old
-        → take (length (line_held room.old.handle.value k).order) order.new ≡
-        (line_held room.old.handle.value k).order }
+    ensures room { held_at room.new ≡ held_at room.old }
+    ensures count { result ≡ length (line_at room.old k).order }
+    ensures written { result ≤ length order.old → take result order.new ≡ (line_at room.old k).order }
     ensures behind { drop result order.new ≡ drop result order.old }
     ensures unwritten { length order.old < result → order.new ≡ order.old }
 {

@@ -1,9 +1,9 @@
 // Rooms made and freed.
 ghost use Rattle.std.specs.Prelude.{◌≡◌, ◌<◌, None, Some, IfErr, OnOk, OnErr};
 ghost use Rattle.std.specs.Option.{unwrap_or};
-ghost use Rattle.bidi_held.specs.Holdings.{capacity_in};
 ghost use Rattle.bidi_held.specs.RefusedCalls.{RefusesRoom};
 ghost use Rattle.bidi_held.specs.Statuses.{IsRefusedFor};
+ghost use Rattle.bidi_c.specs.HeldAt.{held_at, capacity_at};
 
 use crate::bidi_handle::BidiHandle;
 use bidi_held::held::Held;
@@ -12,8 +12,8 @@ use bidi_held::room::Room;
 use std::alloc::Global;
 
 fn make_room(alloc: Global, n: usize, room: &mut BidiHandle) -> Result<(), Refusal>
-    ensures made { OnOk result (capacity_in room.new.handle.value ≡ Some n) }
-    ensures kept { OnErr result (room.new.handle.value ≡ room.old.handle.value) }
+    ensures made { OnOk result (capacity_at room.new ≡ Some n) }
+    ensures kept { OnErr result (held_at room.new ≡ held_at room.old) }
     ensures refused { IfErr result (RefusesRoom n) }
 {
     let made = Room::with_room(alloc, n).map_err(of_room)?;
@@ -28,8 +28,8 @@ fn make_room(alloc: Global, n: usize, room: &mut BidiHandle) -> Result<(), Refus
 /// room is made; where it is refused, the handle holds that still.
 #[unsafe(no_mangle)]
 pub extern "C" fn bidi_room_new(alloc: Global, n: usize, room: &mut BidiHandle) -> u32
-    ensures made { result ≡ 0 → capacity_in room.new.handle.value ≡ Some n }
-    ensures kept { 0 < result → room.new.handle.value ≡ room.old.handle.value }
+    ensures made { result ≡ 0 → capacity_at room.new ≡ Some n }
+    ensures kept { 0 < result → held_at room.new ≡ held_at room.old }
     ensures refused { 0 < result → IsRefusedFor (RefusesRoom n) result }
 {
     match make_room(alloc, n, room) {
@@ -41,7 +41,7 @@ pub extern "C" fn bidi_room_new(alloc: Global, n: usize, room: &mut BidiHandle) 
 /// Frees a room. The handle is all zero then, as it may be before.
 #[unsafe(no_mangle)]
 pub extern "C" fn bidi_room_free(alloc: Global, room: &mut BidiHandle)
-    ensures { room.new.handle.value ≡ None }
+    ensures { held_at room.new ≡ None }
 {
     room.empty(alloc);
 }
@@ -49,8 +49,8 @@ pub extern "C" fn bidi_room_free(alloc: Global, room: &mut BidiHandle)
 /// The length of the longest text that there is room for, 0 without a room.
 #[unsafe(no_mangle)]
 pub extern "C" fn bidi_room_size(alloc: Global, room: &mut BidiHandle) -> usize
-    ensures room { room.new.handle.value ≡ room.old.handle.value }
-    ensures size { result ≡ unwrap_or (capacity_in room.old.handle.value) 0 }
+    ensures room { held_at room.new ≡ held_at room.old }
+    ensures size { result ≡ unwrap_or (capacity_at room.old) 0 }
 {
     let Some(held) = room.take(alloc) else {
         return 0;

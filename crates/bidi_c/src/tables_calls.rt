@@ -1,8 +1,8 @@
 // Tables made of the bytes of their files, and asked.
 ghost use Rattle.std.specs.Prelude.{◌≡◌, ◌<◌, None, IfErr, OnOk, OnErr};
 ghost use Rattle.std.specs.Char.{IsScalar};
-ghost use Rattle.bidi_held.specs.Holdings.{tables_in};
 ghost use Rattle.bidi_held.specs.MadeTables.{HaveTables, RefusesTables, IsRefusedAt, image_by};
+ghost use Rattle.bidi_c.specs.HeldAt.{held_at, tables_at};
 
 use crate::bidi_handle::BidiHandle;
 use bidi_held::held::Held;
@@ -17,8 +17,8 @@ fn make_tables(
     mirrors: &[u8],
     tables: &mut BidiHandle,
 ) -> Result<(), Refusal>
-    ensures made { OnOk result (HaveTables tables.new.handle.value classes.now brackets.now mirrors.now) }
-    ensures kept { OnErr result (tables.new.handle.value ≡ tables.old.handle.value) }
+    ensures made { OnOk result (HaveTables (held_at tables.new) classes.now brackets.now mirrors.now) }
+    ensures kept { OnErr result (held_at tables.new ≡ held_at tables.old) }
     ensures refused { IfErr result (RefusesTables classes.now brackets.now mirrors.now) }
 {
     let made = read_tables(alloc, classes, brackets, mirrors)?;
@@ -41,9 +41,10 @@ pub extern "C" fn bidi_tables_new(
     tables: &mut BidiHandle,
     fault: &mut BidiFault,
 ) -> u32
-    ensures made { result ≡ 0 → HaveTables tables.new.handle.value classes.now brackets.now mirrors.now }
-    ensures kept { 0 < result → tables.new.handle.value ≡ tables.old.handle.value }
-    ensures refused { 0 < result → IsRefusedAt (RefusesTables classes.now brackets.now mirrors.now) result fault.new.line fault.new.kind }
+    ensures made { result ≡ 0 → HaveTables (held_at tables.new) classes.now brackets.now mirrors.now }
+    ensures kept { 0 < result → held_at tables.new ≡ held_at tables.old }
+    ensures refused { 0 < result → IsRefusedAt (RefusesTables classes.now brackets.now mirrors.now) result
+        fault.new.line fault.new.kind }
 {
     match make_tables(alloc, classes, brackets, mirrors, tables) {
         Ok(()) => DONE,
@@ -60,7 +61,7 @@ pub extern "C" fn bidi_tables_new(
 /// Frees tables. The handle is all zero then, as it may be before.
 #[unsafe(no_mangle)]
 pub extern "C" fn bidi_tables_free(alloc: Global, tables: &mut BidiHandle)
-    ensures { tables.new.handle.value ≡ None }
+    ensures { held_at tables.new ≡ None }
 {
     tables.empty(alloc);
 }
@@ -68,8 +69,8 @@ pub extern "C" fn bidi_tables_free(alloc: Global, tables: &mut BidiHandle)
 /// The mirror image of a code point by the tables (L4), or the code point where it has none or there are no tables.
 #[unsafe(no_mangle)]
 pub extern "C" fn bidi_mirror(alloc: Global, tables: &mut BidiHandle, code: u32) -> u32
-    ensures tables { tables.new.handle.value ≡ tables.old.handle.value }
-    ensures image { IsScalar code → result ≡ image_by (tables_in tables.old.handle.value) code }
+    ensures tables { held_at tables.new ≡ held_at tables.old }
+    ensures image { IsScalar code → result ≡ image_by (tables_at tables.old) code }
 {
     let Some(held) = tables.take(alloc) else {
         return code;

@@ -2,9 +2,9 @@
 ghost use Rattle.std.specs.Prelude.{◌≡◌, ◌≤◌, ◌<◌, IfOk, IfErr, length, take, drop};
 ghost use Rattle.std.specs.List.{All};
 ghost use Rattle.std.specs.Char.{IsScalar};
-ghost use Rattle.bidi_held.specs.Holdings.{layout_held, line_held, tables_in};
 ghost use Rattle.bidi_held.specs.Statuses.{IsRefusedFor};
-ghost use Rattle.bidi_held.specs.Visual.{ArePlaces, IsRun, RefusesRun, span_of, shown_line};
+ghost use Rattle.bidi_held.specs.Visual.{ArePlaces, IsRun, RefusesRun, span_of};
+ghost use Rattle.bidi_c.specs.HeldAt.{held_at, layout_at, line_at, shown_at};
 
 use crate::bidi_handle::BidiHandle;
 use bidi_held::refusal::{DONE, Refusal};
@@ -21,9 +21,9 @@ pub extern "C" fn bidi_places(
     k: usize,
     places: &mut [usize],
 ) -> usize
-    ensures room { room.new.handle.value ≡ room.old.handle.value }
-    ensures count { result ≡ span_of (line_held room.old.handle.value k) }
-    ensures written { result ≤ length places.old → ArePlaces (line_held room.old.handle.value k) places.new }
+    ensures room { held_at room.new ≡ held_at room.old }
+    ensures count { result ≡ span_of (line_at room.old k) }
+    ensures written { result ≤ length places.old → ArePlaces (line_at room.old k) places.new }
     ensures behind { drop result places.new ≡ drop result places.old }
     ensures unwritten { length places.old < result → places.new ≡ places.old }
 {
@@ -44,10 +44,9 @@ fn look_up_run(
     k: usize,
     from: usize,
 ) -> Result<BidiRun, Refusal>
-    ensures room { room.new.handle.value ≡ room.old.handle.value }
-    ensures run { IfOk result (IsRun (layout_held room.old.handle.value).levels
-        (line_held room.old.handle.value k).order from) }
-    ensures refused { IfErr result (RefusesRun room.old.handle.value k from) }
+    ensures room { held_at room.new ≡ held_at room.old }
+    ensures run { IfOk result (IsRun (layout_at room.old).levels (line_at room.old k).order from) }
+    ensures refused { IfErr result (RefusesRun (held_at room.old) k from) }
 {
     let Some(held) = room.take(alloc) else {
         return Err(Refusal::NoRoom);
@@ -70,11 +69,10 @@ pub extern "C" fn bidi_run(
     from: usize,
     run: &mut BidiRun,
 ) -> u32
-    ensures room { room.new.handle.value ≡ room.old.handle.value }
-    ensures run { result ≡ 0 → IsRun (layout_held room.old.handle.value).levels
-        (line_held room.old.handle.value k).order from run.new }
+    ensures room { held_at room.new ≡ held_at room.old }
+    ensures run { result ≡ 0 → IsRun (layout_at room.old).levels (line_at room.old k).order from run.new }
     ensures kept { 0 < result → run.new ≡ run.old }
-    ensures refused { 0 < result → IsRefusedFor (RefusesRun room.old.handle.value k from) result }
+    ensures refused { 0 < result → IsRefusedFor (RefusesRun (held_at room.old) k from) result }
 {
     match look_up_run(alloc, room, k, from) {
         Ok(found) => {
@@ -98,13 +96,11 @@ pub extern "C" fn bidi_shown(
     k: usize,
     shown: &mut [u32],
 ) -> usize
-    ensures room { room.new.handle.value ≡ room.old.handle.value }
-    ensures tables { tables.new.handle.value ≡ tables.old.handle.value }
-    ensures count { result ≡ length (shown_line (layout_held room.old.handle.value)
-        (tables_in tables.old.handle.value) codes.now k) }
+    ensures room { held_at room.new ≡ held_at room.old }
+    ensures tables { held_at tables.new ≡ held_at tables.old }
+    ensures count { result ≡ length (shown_at room.old tables.old codes.now k) }
     ensures written { All IsScalar codes.now → result ≤ length shown.old
-        → take result shown.new ≡ shown_line (layout_held room.old.handle.value)
-        (tables_in tables.old.handle.value) codes.now k }
+        → take result shown.new ≡ shown_at room.old tables.old codes.now k }
     ensures behind { drop result shown.new ≡ drop result shown.old }
     ensures unwritten { length shown.old < result → shown.new ≡ shown.old }
 {

@@ -36,6 +36,10 @@ layout_of_room None = no_layout
 abbrev pub layout_held : Option Held → TextLayout
 layout_held handle = layout_of_room (room_in handle)
 
+-- the line with the number k of a layout
+abbrev pub line_numbered : TextLayout → ℕ → LineLayout
+line_numbered layout k = slice_index_or layout.lines k no_line
+
 -- its line with the number k
 abbrev pub line_held : Option Held → ℕ → LineLayout
-line_held handle k = slice_index_or (layout_held handle).lines k no_line
+line_held handle k = line_numbered (layout_held handle) k

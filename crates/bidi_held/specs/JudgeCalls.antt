@@ -1,5 +1,5 @@
 -- What C is told of judges.
-use Rattle.std.specs.Prelude.{ℕ, ◌≡◌, ◌⊎◌, Option, Some, None, List, [], MatchOption}
+use Rattle.std.specs.Prelude.{ℕ, ◌≡◌, ◌⊎◌, ◌++◌, Option, Some, None, List, [], MatchOption}
 use Rattle.units.specs.Limits.{LimitsOf}
 use Rattle.units.specs.declared.level.Direction.{Direction}
 use Rattle.units.specs.declared.level.Direction.TheVariants.{Auto, Ltr, Rtl, AutoRtl}
@@ -12,7 +12,7 @@ use Rattle.bidtests.specs.declared.verdict.Verdict.{Verdict}
 use Rattle.bidtests.specs.declared.verdict.Verdict.TheVariants.{Yes, Malformed, Wrong}
 use Rattle.bidtests.specs.Standing.{HoldsFor}
 use Rattle.bidi_held.specs.Holdings.{tables_in}
-use Rattle.bidi_held.specs.Judged.{WasFed}
+use Rattle.bidi_held.specs.Judged.{WasFed, verdict_by}
 use Rattle.bidi_held.specs.LimitsGiven.{RefusesLimits}
 use Rattle.bidi_held.specs.declared.held.Held.{Held}
 use Rattle.bidi_held.specs.declared.held.Held.TheVariants.{Judge}
@@ -36,6 +36,18 @@ pub record IsFresh (limits : LimitsOf) (judge : TableJudge) : Type 0 where
 -- without tables
 abbrev pub HandleWasFed : LimitsOf → Option Held → Option TablesOf → List ℕ → Type 0
 HandleWasFed limits handle tables bytes = MatchOption (judge_in handle) ⊥ (λ judge. WasFed limits judge tables bytes)
+
+-- a judge that the handle holds was handed this piece behind what it was handed before
+abbrev pub IsFedOn : Option Held → Option Held → List ℕ → Type 0
+IsFedOn old new piece =
+    (limits : LimitsOf) (tables : Option TablesOf) (bytes : List ℕ)
+    → HandleWasFed limits old tables bytes → HandleWasFed limits new tables (bytes ++ piece)
+
+-- this is so of the verdict on what a judge that the handle holds was handed
+abbrev pub OfItsVerdict : Option Held → (Verdict → Type 0) → Type 0
+OfItsVerdict handle P =
+    (limits : LimitsOf) (tables : Option TablesOf) (bytes : List ℕ)
+    → HandleWasFed limits handle tables bytes → P (verdict_by limits tables bytes)
 
 -- a judge is refused for this reason
 abbrev pub RefusesJudge : Refusal → Type 0
@@ -89,8 +101,17 @@ index_in (Order index) = index
 
 -- a verdict as C is told it: 0 is yes, 1 a malformed line, 2 a wrong case
 abbrev pub verdict_told : Verdict → BidiVerdict
-verdict_told (Yes rows cases) = record { answer = 0; reason = 0; direction = 0; line = 0; index = 0; rows = rows; cases = cases }
+verdict_told (Yes rows cases) =
+    record { answer = 0; reason = 0; direction = 0; line = 0; index = 0; rows = rows; cases = cases }
 verdict_told (Malformed line cause) =
     record { answer = 1; reason = cause_number cause; direction = 0; line = line; index = 0; rows = 0; cases = 0 }
 verdict_told (Wrong line direction place) =
-    record { answer = 2; reason = place_number place; direction = direction_number direction; line = line; index = index_in place; rows = 0; cases = 0 }
+    record {
+      answer = 2;
+      reason = place_number place;
+      direction = direction_number direction;
+      line = line;
+      index = index_in place;
+      rows = 0;
+      cases = 0;
+    }

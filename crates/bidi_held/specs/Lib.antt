@@ -11,3 +11,4 @@ pub mod LinesOut
 pub mod Visual
 pub mod Judged
 pub mod JudgeCalls
+pub mod VerdictLines

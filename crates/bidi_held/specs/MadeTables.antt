@@ -1,13 +1,12 @@
 -- Tables made of the bytes of their files.
 use Rattle.std.specs.Prelude.{ℕ, ◌≡◌, ◌⊎◌, Option, Some, None, List, MatchOption}
 use Rattle.std.specs.Option.{unwrap_or}
-use Rattle.ucdfiles.specs.ClassFile.{class_fault}
-use Rattle.ucdfiles.specs.PairFiles.{bracket_fault, mirror_fault}
-use Rattle.ucdfiles.specs.Files.{IsFaulty, StateTables}
+use Rattle.ucdfiles.specs.Files.{StateTables, IsFirstFaulty}
 use Rattle.ucdfiles.specs.Tables.{TablesOf, glyph_by}
-use Rattle.ucdfiles.specs.declared.fault.Fault.{Fault as LineFault}
 use Rattle.ucdfiles.specs.declared.fault.TableFault.{TableFault}
 use Rattle.ucdfiles.specs.declared.fault.TableFault.TheVariants as table
+use Rattle.ucdfiles.specs.declared.files.FileFault.{FileFault}
+use Rattle.ucdfiles.specs.declared.files.FileFault.TheVariants.{Classes, Brackets, Mirrors}
 use Rattle.bidi_held.specs.Holdings.{tables_in}
 use Rattle.bidi_held.specs.Statuses.{code_of, place_of}
 use Rattle.bidi_held.specs.declared.held.Held.{Held}
@@ -18,16 +17,17 @@ use Rattle.bidi_held.specs.declared.refusal.Refusal.TheVariants.{Memory, ClassFi
 abbrev pub HaveTables : Option Held → List ℕ → List ℕ → List ℕ → Type 0
 HaveTables handle classes brackets mirrors = MatchOption (tables_in handle) ⊥ (StateTables classes brackets mirrors)
 
--- a file with these bytes is refused for this reason: memory, or what is wrong with it
-abbrev pub RefusesFile : (List (List ℕ) → List ℕ → Option LineFault) → (TableFault → Refusal) → List ℕ → Refusal → Type 0
-RefusesFile fault names bytes refusal = (refusal ≡ Memory) ⊎ ((e : TableFault) × (refusal ≡ names e) × IsFaulty fault bytes e)
+-- the refusal that says what is wrong with the first faulty file
+abbrev pub refusal_of_file : FileFault → Refusal
+refusal_of_file (Classes fault) = ClassFile fault
+refusal_of_file (Brackets fault) = BracketFile fault
+refusal_of_file (Mirrors fault) = MirrorFile fault
 
--- files with these bytes are refused for this reason
+-- files with these bytes are refused for this reason: memory, or what is wrong with the first faulty one of them
 abbrev pub RefusesTables : List ℕ → List ℕ → List ℕ → Refusal → Type 0
 RefusesTables classes brackets mirrors refusal =
-    RefusesFile class_fault ClassFile classes refusal
-    ⊎ (RefusesFile bracket_fault BracketFile brackets refusal
-    ⊎ RefusesFile mirror_fault MirrorFile mirrors refusal)
+    (refusal ≡ Memory)
+    ⊎ ((fault : FileFault) × (refusal ≡ refusal_of_file fault) × IsFirstFaulty classes brackets mirrors fault)
 
 -- the number of the kind of a fault, 0 where it is none of a line
 abbrev pub fault_number : TableFault → ℕ

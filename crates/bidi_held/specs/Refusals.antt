@@ -42,7 +42,9 @@ RefusesText capacity codes breaks _ = ⊥
 -- a room for so many refuses the text of the classes with these numbers for this reason
 abbrev pub RefusesClasses : ℕ → List ℕ → List ℕ → Refusal → Type 0
 RefusesClasses capacity numbers breaks TooLong = capacity < length numbers
-RefusesClasses capacity numbers breaks (BreakOutOfRange index) = IsFirstBreakFault breaks (length numbers) (OutOfRange index)
-RefusesClasses capacity numbers breaks (BreakNotRising index) = IsFirstBreakFault breaks (length numbers) (NotRising index)
+RefusesClasses capacity numbers breaks (BreakOutOfRange index) =
+    IsFirstBreakFault breaks (length numbers) (OutOfRange index)
+RefusesClasses capacity numbers breaks (BreakNotRising index) =
+    IsFirstBreakFault breaks (length numbers) (NotRising index)
 RefusesClasses capacity numbers breaks (NoClass index) = IsFirstNoClass numbers index
 RefusesClasses capacity numbers breaks _ = ⊥

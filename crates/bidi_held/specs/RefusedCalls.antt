@@ -17,7 +17,8 @@ RefusesRoom n refusal = ((refusal ≡ TooBig) × (longest_text < n)) ⊎ ((refus
 
 -- a room refuses a text of code points for this reason
 abbrev pub RoomRefuses : Option Held → List ℕ → List ℕ → Refusal → Type 0
-RoomRefuses room codes breaks refusal = MatchOption (room_in room) ⊥ (λ held. RefusesText (room_of held.scratch) codes breaks refusal)
+RoomRefuses room codes breaks refusal =
+    MatchOption (room_in room) ⊥ (λ held. RefusesText (room_of held.scratch) codes breaks refusal)
 
 -- a room takes a text of code points, with these breaks
 abbrev pub RoomTakes : Option Held → List ℕ → List ℕ → Type 0
@@ -25,7 +26,8 @@ RoomTakes room codes breaks = MatchOption (room_in room) ⊥ (λ held. TakesText
 
 -- a room takes a text of classes, by their numbers, with these breaks
 abbrev pub RoomTakesClasses : Option Held → List ℕ → List ℕ → Type 0
-RoomTakesClasses room numbers breaks = MatchOption (room_in room) ⊥ (λ held. TakesClasses (room_of held.scratch) numbers breaks)
+RoomTakesClasses room numbers breaks =
+    MatchOption (room_in room) ⊥ (λ held. TakesClasses (room_of held.scratch) numbers breaks)
 
 -- the layout of a text of code points is refused for this reason: a handle is empty, the number is no direction, or the
 -- room refuses the text

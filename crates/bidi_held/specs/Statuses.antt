@@ -3,7 +3,7 @@ use Rattle.std.specs.Prelude.{ℕ, ◌≡◌}
 use Rattle.std.specs.Option.{unwrap_or}
 use Rattle.ucdfiles.specs.Faults.{line_of_fault}
 use Rattle.bidi_held.specs.declared.refusal.Refusal.{Refusal}
-use Rattle.bidi_held.specs.declared.refusal.Refusal.TheVariants.{Memory, TooBig, TooLong, NoCharacter, NoClass, BreakOutOfRange, BreakNotRising, NoDirection, NoRoom, NoTables, NoLine, NoPlace, NoJudge, Depth, Brackets, ClassFile, BracketFile, MirrorFile}
+use Rattle.bidi_held.specs.declared.refusal.Refusal.TheVariants.{Memory, TooBig, TooLong, NoCharacter, NoClass, BreakOutOfRange, BreakNotRising, NoDirection, NoRoom, NoTables, NoLine, NoPlace, NoJudge, Depth, Brackets, ClassFile, BracketFile, MirrorFile, NoVerdict, TooSmall}
 
 -- the number that a call answers; 0 is that it is done
 abbrev pub code_of : Refusal → ℕ
@@ -25,6 +25,8 @@ code_of NoPlace = 15
 code_of NoJudge = 16
 code_of Depth = 17
 code_of Brackets = 18
+code_of NoVerdict = 19
+code_of TooSmall = 20
 
 -- the index that it names, or the line, from 1; 0 where it names none
 abbrev pub place_of : Refusal → ℕ

@@ -19,7 +19,9 @@ direction_numbered number = slice_get numbered_directions number
 
 -- the classes in the order of their numbers, from 0
 abbrev pub numbered_classes : List Class
-numbered_classes = L ∷ R ∷ AL ∷ EN ∷ ES ∷ ET ∷ AN ∷ CS ∷ NSM ∷ BN ∷ B ∷ S ∷ WS ∷ ON ∷ LRE ∷ LRO ∷ RLE ∷ RLO ∷ PDF ∷ LRI ∷ RLI ∷ FSI ∷ PDI ∷ []
+numbered_classes =
+    L ∷ R ∷ AL ∷ EN ∷ ES ∷ ET ∷ AN ∷ CS ∷ NSM ∷ BN ∷ B ∷ S ∷ WS ∷ ON
+    ∷ LRE ∷ LRO ∷ RLE ∷ RLO ∷ PDF ∷ LRI ∷ RLI ∷ FSI ∷ PDI ∷ []
 
 -- the class with this number, if there is one
 abbrev pub class_numbered : ℕ → Option Class

@@ -3,9 +3,8 @@ use Rattle.std.specs.Prelude.{ℕ, ◌≡◌, ◌≢◌, ◌<◌, ◌≤◌, ◌
 use Rattle.units.specs.Reordering.{shown_of}
 use Rattle.units.specs.Layout.{TextLayout, LineLayout}
 use Rattle.ucdfiles.specs.Tables.{TablesOf, glyph_by}
-use Rattle.lines.specs.Layouts.{no_line}
 use Rattle.bidi_held.specs.Texts.{level_byte}
-use Rattle.bidi_held.specs.Holdings.{room_in, layout_held, line_held}
+use Rattle.bidi_held.specs.Holdings.{room_in, layout_held, line_numbered, line_held}
 use Rattle.bidi_held.specs.declared.held.Held.{Held}
 use Rattle.bidi_held.specs.declared.refusal.Refusal.{Refusal}
 use Rattle.bidi_held.specs.declared.refusal.Refusal.TheVariants.{NoRoom, NoLine, NoPlace}
@@ -27,7 +26,8 @@ span_of line = line.end - line.start
 
 -- these are the places of the line's positions, from its first on
 abbrev pub ArePlaces : LineLayout → List ℕ → Type 0
-ArePlaces line places = (i : ℕ) → i < span_of line → IsPlace line.order (length line.order) (line.start + i) (slice_index places i)
+ArePlaces line places =
+    (i : ℕ) → i < span_of line → IsPlace line.order (length line.order) (line.start + i) (slice_index places i)
 
 -- the level of the position at a place of the order, as a byte
 abbrev pub byte_at : List (Option ℕ) → List ℕ → ℕ → ℕ
@@ -59,4 +59,5 @@ shown_by None levels codes order = []
 -- out
 abbrev pub shown_line : TextLayout → Option TablesOf → List ℕ → ℕ → List ℕ
 shown_line layout tables codes k =
-    if length codes == length layout.levels then shown_by tables layout.levels codes (slice_index_or layout.lines k no_line).order else []
+    if length codes == length layout.levels
+    then shown_by tables layout.levels codes (line_numbered layout k).order else []

@@ -1,10 +1,8 @@
 // Judges made, fed and finished.
-ghost use Rattle.std.specs.Prelude.{◌≡◌, ◌++◌, ◌≢◌, ℕ, true, List, [], Option, None, Some, IsSome, IfOk, IfErr};
+ghost use Rattle.std.specs.Prelude.{◌≡◌, ◌≢◌, true, [], None, Some, IsSome, IfOk, IfErr};
 ghost use Rattle.units.specs.Limits.{LimitsOf};
-ghost use Rattle.ucdfiles.specs.Tables.{TablesOf};
 ghost use Rattle.bidi_held.specs.Holdings.{tables_in};
-ghost use Rattle.bidi_held.specs.Judged.{verdict_by};
-ghost use Rattle.bidi_held.specs.JudgeCalls.{judge_in, IsFresh, HandleWasFed, RefusesJudge};
+ghost use Rattle.bidi_held.specs.JudgeCalls.{judge_in, IsFresh, IsFedOn, OfItsVerdict, HandleWasFed, RefusesJudge};
 
 use crate::held::Held;
 use crate::judge::TableJudge;
@@ -49,9 +47,7 @@ pub fn make_into_judge(held: &mut Held, judge: Box<TableJudge>) -> bool
 
 /// Hands over the next bytes of the file, if this is a judge.
 pub fn feed_held(held: &mut Held, piece: &[u8]) -> u32
-    ensures fed { (limits : LimitsOf) (tables : Option TablesOf) (b : List ℕ)
-        → HandleWasFed limits (Some held.old) tables b
-        → HandleWasFed limits (Some held.new) tables (b ++ piece.now) }
+    ensures fed { IsFedOn (Some held.old) (Some held.new) piece.now }
     ensures done { IsSome (judge_in (Some held.old)) → result ≡ 0 }
     ensures refused { judge_in (Some held.old) ≡ None → (result ≡ 16) × (held.new ≡ held.old) }
 {
@@ -66,8 +62,7 @@ pub fn feed_held(held: &mut Held, piece: &[u8]) -> u32
 
 /// The verdict on all bytes that were handed over, as the whole file, if this is a judge.
 pub fn finish_held(held: &mut Held) -> Option<Verdict>
-    ensures verdict { (limits : LimitsOf) (tables : Option TablesOf) (b : List ℕ)
-        → HandleWasFed limits (Some held.old) tables b → result ≡ Some (verdict_by limits tables b) }
+    ensures verdict { OfItsVerdict (Some held.old) (λ verdict. result ≡ Some verdict) }
     ensures kept { judge_in (Some held.old) ≡ None → (result ≡ None) × (held.new ≡ held.old) }
 {
     match held {

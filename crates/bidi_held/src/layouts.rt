@@ -11,7 +11,7 @@ use units::level::Direction;
 use units::limits::Limits;
 
 /// The direction with this number, if there is one.
-fn direction_of(number: u32) -> Option<Direction>
+pub(crate) fn direction_numbered(number: u32) -> Option<Direction>
     ensures { result ≡ direction_numbered number }
 {
     match number {
@@ -45,7 +45,7 @@ pub fn lay_out_held(
     let Held::Tables(tables) = tables else {
         return Err(Refusal::NoTables);
     };
-    match direction_of(direction) {
+    match direction_numbered(direction) {
         Some(direction) => room.lay_out(tables, codes, direction, breaks, limits),
         None => Err(Refusal::NoDirection),
     }
@@ -69,7 +69,7 @@ pub fn lay_out_classes_held(
     let Held::Room(room) = room else {
         return Err(Refusal::NoRoom);
     };
-    match direction_of(direction) {
+    match direction_numbered(direction) {
         Some(direction) => room.lay_out_classes(numbers, direction, breaks, limits),
         None => Err(Refusal::NoDirection),
     }

@@ -1,5 +1,5 @@
 //! What a handle for C holds, and the work on it: tables, rooms and judges, texts laid out in rooms, layouts written
-//! out, and test files judged. No pointer stands here.
+//! out, test files judged, and the lines that say verdicts. No pointer stands here.
 #![tactic(auto)]
 
 pub mod held;
@@ -12,4 +12,5 @@ pub mod read_tables;
 pub mod refusal;
 pub mod room;
 pub mod told_verdict;
+pub mod verdict_text;
 pub mod visual_lines;

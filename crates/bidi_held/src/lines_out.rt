@@ -1,7 +1,8 @@
 // What a room holds, written out.
-ghost use Rattle.std.specs.Prelude.{◌≡◌, ◌≤◌, ◌<◌, Err, IsOk, length, map, take, drop, slice_index_or};
+ghost use Rattle.std.specs.Prelude.{◌≡◌, ◌≤◌, ◌<◌, Err, IsOk, length, map, take, drop};
 ghost use Rattle.units.specs.Isolates.{level_of_para};
-ghost use Rattle.lines.specs.Layouts.{view_of, no_line};
+ghost use Rattle.lines.specs.Layouts.{view_of};
+ghost use Rattle.bidi_held.specs.Holdings.{line_numbered};
 ghost use Rattle.bidi_held.specs.Texts.{level_byte};
 ghost use Rattle.bidi_held.specs.LinesOut.{TellsLine};
 
@@ -77,10 +78,8 @@ fn write_order(order: &[usize], out: &mut [usize]) -> usize
 
 /// Writes the order of the line with the number `k`, if there is one.
 pub fn write_order_of(layout: &Layout<'_>, k: usize, out: &mut [usize]) -> usize
-    ensures count { result ≡ length (slice_index_or (view_of layout.now).lines k no_line).order }
-    ensures order { length (slice_index_or (view_of layout.now).lines k no_line).order ≤ length out.old
-        → take (length (slice_index_or (view_of layout.now).lines k no_line).order) out.new ≡
-        (slice_index_or (view_of layout.now).lines k no_line).order }
+    ensures count { result ≡ length (line_numbered (view_of layout.now) k).order }
+    ensures order { result ≤ length out.old → take result out.new ≡ (line_numbered (view_of layout.now) k).order }
     ensures behind { drop result out.new ≡ drop result out.old }
     ensures kept { length out.old < result → out.new ≡ out.old }
 {
@@ -90,11 +89,11 @@ pub fn write_order_of(layout: &Layout<'_>, k: usize, out: &mut [usize]) -> usize
     write_order(layout.line(k).order, out)
 }
 
-/// The line with the number `k`, if there is one.
-pub fn line_of(layout: &Layout<'_>, k: usize, line: &mut BidiLine) -> Result<(), Refusal>
+/// Tells of the line with the number `k`, if there is one.
+pub fn tell_line(layout: &Layout<'_>, k: usize, line: &mut BidiLine) -> Result<(), Refusal>
     ensures none { length (view_of layout.now).lines ≤ k → (result ≡ Err Refusal.NoLine) × (line.new ≡ line.old) }
     ensures line { k < length (view_of layout.now).lines
-        → IsOk result × TellsLine (slice_index_or (view_of layout.now).lines k no_line) line.new }
+        → IsOk result × TellsLine (line_numbered (view_of layout.now) k) line.new }
 {
     if layout.line_count() <= k {
         return Err(Refusal::NoLine);

@@ -1,21 +1,16 @@
 // Tables read from the bytes of their files, and asked.
-ghost use Rattle.std.specs.Prelude.{◌≡◌, IfOk, IfErr};
+ghost use Rattle.std.specs.Prelude.{◌≡◌, ◌⊎◌, IfOk, IfErr};
 ghost use Rattle.std.specs.Option.{unwrap_or};
 ghost use Rattle.std.specs.Char.{IsScalar};
-ghost use Rattle.ucdfiles.specs.ClassFile.{class_fault, StatesClasses};
-ghost use Rattle.ucdfiles.specs.PairFiles.{bracket_fault, mirror_fault, StatesBrackets, StatesMirrors};
-ghost use Rattle.ucdfiles.specs.Tables.{class_by, bracket_by, glyph_by};
-ghost use Rattle.bidi_held.specs.MadeTables.{RefusesFile, RefusesTables, fault_number, fault_number_in};
 ghost use Rattle.ucdfiles.specs.Files.{StateTables};
+ghost use Rattle.ucdfiles.specs.Tables.{glyph_by};
+ghost use Rattle.bidi_held.specs.MadeTables.{RefusesTables, refusal_of_file, fault_number, fault_number_in};
 
 use crate::refusal::Refusal;
 use std::alloc::Global;
-use ucdfiles::bracket_table::BracketTable;
-use ucdfiles::class_table::ClassTable;
 use ucdfiles::fault::TableFault;
-use ucdfiles::mirror_table::MirrorTable;
+use ucdfiles::files::FileFault;
 use ucdfiles::tables::Tables;
-use units::slice_source::SliceSource;
 
 /// What is wrong with a file.
 #[repr(C)]
@@ -57,39 +52,17 @@ pub fn kind_in(refusal: Refusal) -> u32
     }
 }
 
-fn read_classes(alloc: Global, bytes: &[u8]) -> Result<ClassTable, Refusal>
-    ensures ok { IfOk result (λ table. StatesClasses bytes.now (class_by table)) }
-    ensures err { IfErr result (RefusesFile class_fault Refusal.ClassFile bytes.now) }
+/// The refusal that says what is wrong with the first faulty file.
+fn of_files(fault: FileFault) -> Refusal
+    ensures { (result ≡ Refusal.Memory) ⊎ (result ≡ refusal_of_file fault) }
 {
-    let mut source = SliceSource::new(bytes);
-    match ClassTable::read(alloc, &mut source) {
-        Ok(table) => Ok(table),
-        Err(TableFault::Memory) => Err(Refusal::Memory),
-        Err(fault) => Err(Refusal::ClassFile(fault)),
-    }
-}
-
-fn read_brackets(alloc: Global, bytes: &[u8]) -> Result<BracketTable, Refusal>
-    ensures ok { IfOk result (λ table. StatesBrackets bytes.now (bracket_by table)) }
-    ensures err { IfErr result (RefusesFile bracket_fault Refusal.BracketFile bytes.now) }
-{
-    let mut source = SliceSource::new(bytes);
-    match BracketTable::read(alloc, &mut source) {
-        Ok(table) => Ok(table),
-        Err(TableFault::Memory) => Err(Refusal::Memory),
-        Err(fault) => Err(Refusal::BracketFile(fault)),
-    }
-}
-
-fn read_mirrors(alloc: Global, bytes: &[u8]) -> Result<MirrorTable, Refusal>
-    ensures ok { IfOk result (λ table. StatesMirrors bytes.now (glyph_by table)) }
-    ensures err { IfErr result (RefusesFile mirror_fault Refusal.MirrorFile bytes.now) }
-{
-    let mut source = SliceSource::new(bytes);
-    match MirrorTable::read(alloc, &mut source) {
-        Ok(table) => Ok(table),
-        Err(TableFault::Memory) => Err(Refusal::Memory),
-        Err(fault) => Err(Refusal::MirrorFile(fault)),
+    match fault {
+        FileFault::Classes(TableFault::Memory)
+        | FileFault::Brackets(TableFault::Memory)
+        | FileFault::Mirrors(TableFault::Memory) => Refusal::Memory,
+        FileFault::Classes(fault) => Refusal::ClassFile(fault),
+        FileFault::Brackets(fault) => Refusal::BracketFile(fault),
+        FileFault::Mirrors(fault) => Refusal::MirrorFile(fault),
     }
 }
 
@@ -103,10 +76,10 @@ pub fn read_tables(
     ensures ok { IfOk result (StateTables classes.now brackets.now mirrors.now) }
     ensures err { IfErr result (RefusesTables classes.now brackets.now mirrors.now) }
 {
-    let classes = read_classes(alloc, classes)?;
-    let brackets = read_brackets(alloc, brackets)?;
-    let mirrors = read_mirrors(alloc, mirrors)?;
-    Ok(Tables::new(classes, brackets, mirrors))
+    match Tables::read(alloc, classes, brackets, mirrors) {
+        Ok(tables) => Ok(tables),
+        Err(fault) => Err(of_files(fault)),
+    }
 }
 
 /// The mirror image of a code point, or the code point where it has none.

@@ -46,6 +46,10 @@ pub enum Refusal {
     BracketFile(TableFault),
     /// BidiMirroring.txt is faulty.
     MirrorFile(TableFault),
+    /// The numbers tell no verdict.
+    NoVerdict,
+    /// The line has more bytes than there is place for.
+    TooSmall,
 }
 
 /// What a call answers that has done what it was asked for.
@@ -75,6 +79,8 @@ impl Refusal {
             Refusal::NoJudge => 16,
             Refusal::Depth => 17,
             Refusal::Brackets => 18,
+            Refusal::NoVerdict => 19,
+            Refusal::TooSmall => 20,
         }
     }
 

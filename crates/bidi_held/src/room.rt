@@ -48,7 +48,7 @@ fn fill_units(units: &mut [Unit], tables: &Tables, codes: &[u32]) -> Option<usiz
 }
 
 /// The class with this number, if there is one.
-fn class_of(number: u8) -> Option<Class>
+fn class_numbered(number: u8) -> Option<Class>
     ensures { result ≡ class_numbered number }
 {
     Some(match number {
@@ -84,7 +84,7 @@ fn unit_of(number: u8) -> Option<Unit>
     ensures { MatchOption result (class_numbered number ≡ None)
         (λ unit. (class_numbered number ≢ None) × (unit ≡ unit_numbered number)) }
 {
-    let class = class_of(number)?;
+    let class = class_numbered(number)?;
     Some(Unit {
         class,
         bracket: Bracket::No,

@@ -1,13 +1,15 @@
 // A verdict as numbers.
-ghost use Rattle.std.specs.Prelude.{◌≡◌};
-ghost use Rattle.bidi_held.specs.JudgeCalls.{verdict_told, cause_number, direction_number};
+ghost use Rattle.std.specs.Prelude.{◌≡◌, IfSome, Some};
+ghost use Rattle.bidi_held.specs.JudgeCalls.{verdict_told, cause_number, direction_number, place_number, index_in};
+ghost use Rattle.bidi_held.specs.VerdictLines.{HasSmallIndex, HasSmallNumbers};
 
+use crate::layouts::direction_numbered;
 use bidtests::verdict::{Cause, Place, Verdict};
 use units::level::Direction;
 
 /// A verdict on a test file, as numbers; those that it doesn't name are 0.
 #[repr(C)]
-#[derive(Clone, Copy)]
+#[derive(Clone, Copy, PartialEq, Eq)]
 pub struct BidiVerdict {
     /// 0 where all is right, 1 where a line is malformed, 2 where a case is wrong.
     pub answer: u32,
@@ -103,6 +105,79 @@ pub fn told(verdict: Verdict) -> BidiVerdict
                 index,
                 ..NOTHING_TOLD
             }
+        }
+    }
+}
+
+/// The cause with this number, if there is one.
+fn cause_numbered(number: u32) -> Option<Cause>
+    ensures { (cause : Cause) → number ≡ cause_number cause → result ≡ Some cause }
+{
+    Some(match number {
+        1 => Cause::LineTooLong,
+        2 => Cause::Directive,
+        3 => Cause::LevelItem,
+        4 => Cause::OrderItem,
+        5 => Cause::ClassItem,
+        6 => Cause::BitSet,
+        7 => Cause::NoExpectation,
+        8 => Cause::FieldCount,
+        9 => Cause::CodePoint,
+        10 => Cause::DirectionField,
+        11 => Cause::ParaField,
+        12 => Cause::EmptyRow,
+        _ => return None,
+    })
+}
+
+/// The place with this number and index, if there is one.
+fn place_numbered(number: u32, index: usize) -> Option<Place>
+    ensures each { (place : Place) → number ≡ place_number place → index ≡ index_in place → result ≡ Some place }
+    ensures small { IfSome result HasSmallIndex }
+{
+    match number {
+        1 => Some(Place::ParaLevel),
+        2 => Some(Place::Levels(index)),
+        3 => Some(Place::Order(index)),
+        _ => None,
+    }
+}
+
+impl BidiVerdict {
+    /// The verdict that these numbers name, whatever those are that it doesn't name.
+    fn named(self) -> Option<Verdict>
+        ensures each { (verdict : Verdict) → self ≡ verdict_told verdict → result ≡ Some verdict }
+        ensures small { IfSome result HasSmallNumbers }
+    {
+        match self.answer {
+            0 => Some(Verdict::Yes {
+                rows: self.rows,
+                cases: self.cases,
+            }),
+            1 => Some(Verdict::Malformed {
+                line: self.line,
+                cause: cause_numbered(self.reason)?,
+            }),
+            2 => Some(Verdict::Wrong {
+                line: self.line,
+                direction: direction_numbered(self.direction)?,
+                place: place_numbered(self.reason, self.index)?,
+            }),
+            _ => None,
+        }
+    }
+
+    /// The verdict that these numbers tell, if they tell one: those that it doesn't name have to be 0.
+    pub fn verdict(self) -> Option<Verdict>
+        ensures each { (verdict : Verdict) → self ≡ verdict_told verdict → result ≡ Some verdict }
+        ensures told { IfSome result (λ verdict. self ≡ verdict_told verdict) }
+        ensures small { IfSome result HasSmallNumbers }
+    {
+        let verdict = self.named()?;
+        if told(verdict) == self {
+            Some(verdict)
+        } else {
+            None
         }
     }
 }

@@ -1,12 +1,12 @@
 // A line from left to right: the places of its positions, its runs, and its characters as they are shown.
-ghost use Rattle.std.specs.Prelude.{◌≡◌, ◌≢◌, ◌≤◌, ◌<◌, ◌+◌, ◌↔◌, ◌⊎◌, ℕ, true, false, Some, Err, IfOk, IfErr, length, take, drop, slice_index, slice_index_or};
+ghost use Rattle.std.specs.Prelude.{◌≡◌, ◌≢◌, ◌≤◌, ◌<◌, ◌+◌, ◌↔◌, ◌⊎◌, ℕ, true, false, Some, Err, IfOk, IfErr, length, take, drop, slice_index};
 ghost use Rattle.std.specs.Option.{unwrap_or};
 ghost use Rattle.std.specs.List.{All};
 ghost use Rattle.std.specs.Char.{IsScalar};
 ghost use Rattle.units.specs.Reordering.{is_odd_level, shown_of};
 ghost use Rattle.ucdfiles.specs.Tables.{glyph_by};
-ghost use Rattle.lines.specs.Layouts.{view_of, no_line};
-ghost use Rattle.bidi_held.specs.Holdings.{layout_held, tables_in};
+ghost use Rattle.lines.specs.Layouts.{view_of};
+ghost use Rattle.bidi_held.specs.Holdings.{layout_held, line_numbered, tables_in};
 ghost use Rattle.bidi_held.specs.Visual.{IsPlace, ArePlaces, IsRun, span_of, shown_line, byte_at};
 
 use crate::held::Held;
@@ -119,8 +119,8 @@ fn write_shown(
 /// Writes the places of the positions of the line with the number `k`, if all have place there. It answers how many
 /// positions the line has.
 pub fn write_places_of(layout: &Layout<'_>, k: usize, out: &mut [usize]) -> usize
-    ensures count { result ≡ span_of (slice_index_or (view_of layout.now).lines k no_line) }
-    ensures places { result ≤ length out.old → ArePlaces (slice_index_or (view_of layout.now).lines k no_line) out.new }
+    ensures count { result ≡ span_of (line_numbered (view_of layout.now) k) }
+    ensures places { result ≤ length out.old → ArePlaces (line_numbered (view_of layout.now) k) out.new }
     ensures behind { drop result out.new ≡ drop result out.old }
     ensures kept { length out.old < result → out.new ≡ out.old }
 {
@@ -137,11 +137,10 @@ pub fn write_places_of(layout: &Layout<'_>, k: usize, out: &mut [usize]) -> usiz
 
 /// The run of the line with the number `k` that begins at a place, if there are such a line and place.
 pub fn run_of(layout: &Layout<'_>, k: usize, from: usize) -> Result<BidiRun, Refusal>
-    ensures run { IfOk result (IsRun (view_of layout.now).levels
-        (slice_index_or (view_of layout.now).lines k no_line).order from) }
+    ensures run { IfOk result (IsRun (view_of layout.now).levels (line_numbered (view_of layout.now) k).order from) }
     ensures no_line { (result ≡ Err Refusal.NoLine) ↔ (length (view_of layout.now).lines ≤ k) }
     ensures no_place { result ≡ Err Refusal.NoPlace
-        → length (slice_index_or (view_of layout.now).lines k no_line).order ≤ from }
+        → length (line_numbered (view_of layout.now) k).order ≤ from }
     ensures only { IfErr result (λ refusal. (refusal ≡ Refusal.NoLine) ⊎ (refusal ≡ Refusal.NoPlace)) }
 {
     if layout.line_count() <= k {

@@ -48,19 +48,19 @@ line-found (Characters tables) lines k lt =
     slice_get-map reading lines k ∙ ap (option_map reading) (slice_get-get_or lines k [] lt)
 
 module _ (unit_of : ℕ → BidiUnit) where
-  claims-ordered : (text : Option (List BidiUnit)) (direction : Option Direction) (para : Option ParaLevel) (levels : Option (List (Option ℕ))) (order : Option (List ℕ))
-      → IsOrdered (characters_row_as_read text direction para levels order)
-  claims-ordered None direction para levels order = tt
-  claims-ordered (Some text) None para levels order = tt
+  claims-ordered : (text : Option (List BidiUnit)) (direction : Option Direction) (para_level : Option ParaLevel) (levels : Option (List (Option ℕ))) (order : Option (List ℕ))
+      → IsOrdered (characters_row_as_read text direction para_level levels order)
+  claims-ordered None direction para_level levels order = tt
+  claims-ordered (Some text) None para_level levels order = tt
   claims-ordered (Some text) (Some direction) None levels order = tt
-  claims-ordered (Some text) (Some direction) (Some para) None order = tt
-  claims-ordered (Some text) (Some direction) (Some para) (Some levels) None = tt
-  claims-ordered (Some text) (Some direction) (Some para) (Some levels) (Some order) = one-direction direction
+  claims-ordered (Some text) (Some direction) (Some para_level) None order = tt
+  claims-ordered (Some text) (Some direction) (Some para_level) (Some levels) None = tt
+  claims-ordered (Some text) (Some direction) (Some para_level) (Some levels) (Some order) = one-direction direction
 
-  items-ordered : (items : List (List ℕ)) (direction para levels order : List ℕ) → IsOrdered (characters_row_of_items direction_field unit_of items direction para levels order)
-  items-ordered [] direction para levels order = tt
-  items-ordered (item ∷ items) direction para levels order =
-      claims-ordered (each_read (character_item unit_of) (item ∷ items)) (direction_field direction) (para_field para)
+  items-ordered : (items : List (List ℕ)) (direction para_level levels order : List ℕ) → IsOrdered (characters_row_of_items direction_field unit_of items direction para_level levels order)
+  items-ordered [] direction para_level levels order = tt
+  items-ordered (item ∷ items) direction para_level levels order =
+      claims-ordered (each_read (character_item unit_of) (item ∷ items)) (direction_field direction) (para_field para_level)
       (each_read level_item (items_of levels)) (each_read order_item (items_of order))
 
   fields-ordered : (fields : List (List ℕ)) → IsOrdered (characters_row unit_of fields)
@@ -69,7 +69,7 @@ module _ (unit_of : ℕ → BidiUnit) where
   fields-ordered (a ∷ b ∷ []) = tt
   fields-ordered (a ∷ b ∷ c ∷ []) = tt
   fields-ordered (a ∷ b ∷ c ∷ d ∷ []) = tt
-  fields-ordered (characters ∷ direction ∷ para ∷ levels ∷ order ∷ []) = items-ordered (items_of characters) direction para levels order
+  fields-ordered (characters ∷ direction ∷ para_level ∷ levels ∷ order ∷ []) = items-ordered (items_of characters) direction para_level levels order
   fields-ordered (a ∷ b ∷ c ∷ d ∷ e ∷ f ∷ fields) = tt
 
   content-ordered : (content : List ℕ) → IsOrdered (characters_content direction_field unit_of content)

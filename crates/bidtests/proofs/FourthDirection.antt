@@ -112,18 +112,18 @@ lines-alike earlier (line ∷ lines) = elim (line-alike line) [
 abbrev IsRowAlike : Finding → Finding → Type 0
 IsRowAlike few all = (few ≡ Faulty DirectionField) ⊎ (few ≡ all)
 
-claims-alike : (text : Option (List BidiUnit)) (few all : Option Direction) (para : Option ParaLevel) (levels : Option (List (Option ℕ))) (order : Option (List ℕ)) → IsSameOrNone few all
-    → IsRowAlike (characters_row_as_read text few para levels order) (characters_row_as_read text all para levels order)
-claims-alike None few all para levels order h = inr refl
-claims-alike (Some text) few all para levels order (inl none) = inl (rw none refl)
-claims-alike (Some text) few all para levels order (inr same) = inr (rw same refl)
+claims-alike : (text : Option (List BidiUnit)) (few all : Option Direction) (para_level : Option ParaLevel) (levels : Option (List (Option ℕ))) (order : Option (List ℕ)) → IsSameOrNone few all
+    → IsRowAlike (characters_row_as_read text few para_level levels order) (characters_row_as_read text all para_level levels order)
+claims-alike None few all para_level levels order h = inr refl
+claims-alike (Some text) few all para_level levels order (inl none) = inl (rw none refl)
+claims-alike (Some text) few all para_level levels order (inr same) = inr (rw same refl)
 
 module _ (unit_of : ℕ → BidiUnit) where
-  characters-alike : (items : List (List ℕ)) (direction para levels order : List ℕ)
-      → IsRowAlike (characters_row_of_items zero_to_two unit_of items direction para levels order) (characters_row_of_items direction_field unit_of items direction para levels order)
-  characters-alike [] direction para levels order = inr refl
-  characters-alike (item ∷ items) direction para levels order =
-      claims-alike (each_read (character_item unit_of) (item ∷ items)) (zero_to_two direction) (direction_field direction) (para_field para)
+  characters-alike : (items : List (List ℕ)) (direction para_level levels order : List ℕ)
+      → IsRowAlike (characters_row_of_items zero_to_two unit_of items direction para_level levels order) (characters_row_of_items direction_field unit_of items direction para_level levels order)
+  characters-alike [] direction para_level levels order = inr refl
+  characters-alike (item ∷ items) direction para_level levels order =
+      claims-alike (each_read (character_item unit_of) (item ∷ items)) (zero_to_two direction) (direction_field direction) (para_field para_level)
       (each_read level_item (items_of levels)) (each_read order_item (items_of order)) (direction_fields direction)
 
   fields-alike : (fields : List (List ℕ)) → IsRowAlike (characters_row_by zero_to_two unit_of fields) (characters_row_by direction_field unit_of fields)
@@ -132,7 +132,7 @@ module _ (unit_of : ℕ → BidiUnit) where
   fields-alike (a ∷ b ∷ []) = inr refl
   fields-alike (a ∷ b ∷ c ∷ []) = inr refl
   fields-alike (a ∷ b ∷ c ∷ d ∷ []) = inr refl
-  fields-alike (characters ∷ direction ∷ para ∷ levels ∷ order ∷ []) = characters-alike (items_of characters) direction para levels order
+  fields-alike (characters ∷ direction ∷ para_level ∷ levels ∷ order ∷ []) = characters-alike (items_of characters) direction para_level levels order
   fields-alike (a ∷ b ∷ c ∷ d ∷ e ∷ f ∷ fields) = inr refl
 
   written-alike : (content : List ℕ) → IsRowAlike (characters_content zero_to_two unit_of content) (characters_content direction_field unit_of content)

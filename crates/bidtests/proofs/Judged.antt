@@ -13,7 +13,7 @@ use Rattle.units.specs.declared.line_cut.Step.TheVariants.{More, Line, TooLong}
 use Rattle.units.proofs.LineReading.{never_both}
 use Rattle.units.proofs.LineAppending.{ended_lines-CutsInto}
 use Rattle.units.proofs.LineRunning.{lines-before}
-use Rattle.units.specs.Text.{lines_of}
+use Rattle.units.specs.Text.{longest_line, lines_of}
 use Rattle.bidtests.specs.declared.verdict.Verdict.{Verdict}
 use Rattle.bidtests.specs.declared.verdict.Verdict.TheVariants.{Yes, Malformed}
 use Rattle.bidtests.specs.declared.verdict.Cause.TheVariants.{LineTooLong}
@@ -35,10 +35,10 @@ verdict-of limits (Characters tables) bytes = refl
 verdict-by : (limits : LimitsOf) (kind : Kind) (bytes : List ℕ) (lines : List (List ℕ)) → lines_of bytes ≡ lines → verdict_of limits kind bytes ≡ verdict_on limits (findings_by kind lines)
 verdict-by limits kind bytes lines e = verdict-of limits kind bytes ∙ ap (λ ls. verdict_on limits (findings_by kind ls)) e
 
-over_long : (kind : Kind) (line : List ℕ) → 65536 < length line → (s : Standing) (number : ℕ) → no_at kind s number line ≡ Some (Malformed number LineTooLong)
+over_long : (kind : Kind) (line : List ℕ) → longest_line < length line → (s : Standing) (number : ℕ) → no_at kind s number line ≡ Some (Malformed number LineTooLong)
 unfolding classes_line characters_line
-over_long Classes line long s number = rw (lt-ltb 65536 (length line) long) refl
-over_long (Characters tables) line long s number = rw (lt-ltb 65536 (length line) long) refl
+over_long Classes line long s number = rw (lt-ltb longest_line (length line) long) refl
+over_long (Characters tables) line long s number = rw (lt-ltb longest_line (length line) long) refl
 
 module _ (limits : LimitsOf) (kind : Kind) (s : Standing) (lines : List (List ℕ)) (h : IsBehind limits kind s lines) where
   decided-line : (b : List ℕ) (line : List ℕ) (v : Verdict) → CutsInto b (lines ++ line ∷ []) []

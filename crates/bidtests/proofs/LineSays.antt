@@ -2,16 +2,16 @@
 use Rattle.std.proofs.Common.{◌≡◌, ◌≢◌, ℕ, ◌<◌, ◌≤◌, ◌==◌, Bool, true, false, List, [], ◌∷◌, length, get_or, refl, sym, ap, ◌∙◌, arith}
 use Rattle.std.specs.Prelude.{nat_lt}
 use Rattle.std.proofs.lemmas.Bool.{ne_eqb, le-ltb}
-use Rattle.units.specs.Text.{content_of, fields_of}
+use Rattle.units.specs.Text.{longest_line, content_of, fields_of}
 use Rattle.units.specs.declared.bracket.Unit.{Unit as BidiUnit}
 use Rattle.bidtests.specs.Verdicts.{Silent}
 use Rattle.bidtests.specs.CharactersFile.{characters_line, characters_row, characters_content, direction_field}
 use Rattle.bidtests.specs.ClassesFile.{Nothing, classes_line, bit_set, classes_content, directive, classes_row}
 
-by-content : (line content : List ℕ) → content ≡ content_of line → length line ≤ 65536 → classes_line line ≡ classes_content bit_set content
+by-content : (line content : List ℕ) → content ≡ content_of line → length line ≤ longest_line → classes_line line ≡ classes_content bit_set content
 unfolding classes_line
 by-content line content is le =
-    let e : nat_lt 65536 (length line) ≡ false = le-ltb 65536 (length line) le in
+    let e : nat_lt longest_line (length line) ≡ false = le-ltb longest_line (length line) le in
     rw e (ap (classes_content bit_set) (sym is))
 
 content-empty : (content : List ℕ) → length content ≡ 0 → classes_content bit_set content ≡ Nothing
@@ -26,7 +26,7 @@ content-other : (content : List ℕ) → 0 < length content → get_or content 0
 content-other [] some ne = absurd (omega arith)
 content-other (b ∷ bs) some ne = let t : (b == 64) ≡ false = ne_eqb b 64 ne in rw t refl
 
-module _ (line content : List ℕ) (is : content ≡ content_of line) (le : length line ≤ 65536) where
+module _ (line content : List ℕ) (is : content ≡ content_of line) (le : length line ≤ longest_line) where
   pub says-nothing : length content ≡ 0 → classes_line line ≡ Nothing
   says-nothing none = by-content line content is le ∙ content-empty content none
 
@@ -41,10 +41,10 @@ not_empty [] b e f = absurd (cc)
 not_empty (x ∷ xs) b e f = omega arith
 
 module _ (unit_of : ℕ → BidiUnit) where
-  comes-by-content : (line content : List ℕ) → content ≡ content_of line → length line ≤ 65536 → characters_line unit_of line ≡ characters_content direction_field unit_of content
+  comes-by-content : (line content : List ℕ) → content ≡ content_of line → length line ≤ longest_line → characters_line unit_of line ≡ characters_content direction_field unit_of content
   unfolding characters_line
   comes-by-content line content is le =
-      let e : nat_lt 65536 (length line) ≡ false = le-ltb 65536 (length line) le in
+      let e : nat_lt longest_line (length line) ≡ false = le-ltb longest_line (length line) le in
       rw e (ap (characters_content direction_field unit_of) (sym is))
 
   characters-empty : (content : List ℕ) → length content ≡ 0 → characters_content direction_field unit_of content ≡ Silent
@@ -55,9 +55,9 @@ module _ (unit_of : ℕ → BidiUnit) where
   characters-some [] some = absurd (omega arith)
   characters-some (b ∷ bs) some = refl
 
-  pub comes-silent : (line content : List ℕ) → content ≡ content_of line → length line ≤ 65536 → length content ≡ 0 → characters_line unit_of line ≡ Silent
+  pub comes-silent : (line content : List ℕ) → content ≡ content_of line → length line ≤ longest_line → length content ≡ 0 → characters_line unit_of line ≡ Silent
   comes-silent line content is le none = comes-by-content line content is le ∙ characters-empty content none
 
-  pub comes-row : (line content : List ℕ) → content ≡ content_of line → length line ≤ 65536 → 0 < length content
+  pub comes-row : (line content : List ℕ) → content ≡ content_of line → length line ≤ longest_line → 0 < length content
       → characters_line unit_of line ≡ characters_row unit_of (fields_of content)
   comes-row line content is le some = comes-by-content line content is le ∙ characters-some content some

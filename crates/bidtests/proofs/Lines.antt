@@ -1,7 +1,7 @@
 -- The lines of a file, as the cutter cuts them.
 use Rattle.std.proofs.Common.{◌≡◌, ℕ, ◌<◌, Bool, List, [], ◌∷◌, ◌++◌, length, flat_map, All, refl, sym, ap, ◌∙◌, arith, append_assoc, append-nil}
 use Rattle.units.specs.Lines.{HasNoFeed, ended, IsLine, CutsInto, IsTooLongAfter, cut_lines}
-use Rattle.units.specs.Text.{lines_of, lines_with, has_bytes}
+use Rattle.units.specs.Text.{longest_line, lines_of, lines_with, has_bytes}
 use Rattle.units.proofs.LineReading.{cut_lines-rest, cut_lines-long, cut_lines-ended}
 
 -- lines before others
@@ -43,7 +43,7 @@ lines_of-rest b lines rest cut some =
 
 -- bytes that go on behind an over-long line
 pub lines_of-over : (b : List ℕ) (lines : List (List ℕ)) (more : List ℕ) → IsTooLongAfter b lines
-    → (line : List ℕ) × (others : List (List ℕ)) × (lines_of (b ++ more) ≡ lines ++ line ∷ others) × (65536 < length line)
+    → (line : List ℕ) × (others : List (List ℕ)) × (lines_of (b ++ more) ≡ lines ++ line ∷ others) × (longest_line < length line)
 lines_of-over b lines more over =
     let first = cut_lines-long over.long (over.more ++ more) over.feeds in
     let counted = first_counts first.0 first.1 (omega (arith, first.3, over.above)) in

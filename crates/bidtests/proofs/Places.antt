@@ -80,10 +80,10 @@ abbrev pub CaseIs : LimitsOf → Claim → Direction → Option Place → Type 0
 CaseIs limits claim d None = IsCaseRight limits claim d
 CaseIs limits claim d (Some place) = IsWrongAt limits claim d place
 
-para-is : (para first : Option ℕ) → MatchBool (agrees para first) (IfSome para (λ level. first ≡ Some level)) (¬ IfSome para (λ level. first ≡ Some level))
-para-is None first = tt
-para-is (Some level) None = none-some level
-para-is (Some level) (Some first) = by (eqb level first) refl where
+para_level-is : (para_level first : Option ℕ) → MatchBool (agrees para_level first) (IfSome para_level (λ level. first ≡ Some level)) (¬ IfSome para_level (λ level. first ≡ Some level))
+para_level-is None first = tt
+para_level-is (Some level) None = none-some level
+para_level-is (Some level) (Some first) = by (eqb level first) refl where
   by : (b : Bool) → eqb level first ≡ b → MatchBool b (Some first ≡ Some level) (¬ (Some first ≡ Some level))
   by true e = ap (λ n. Some n) (sym (eqb-true level first e))
   by false e = λ s. eqb-false level first e (sym (same-held s))
@@ -98,28 +98,28 @@ module _ (limits : LimitsOf) (claim : Claim) (d : Direction) where
       → Compared claim.levels (layout_under limits claim d).levels 0 l → Compared claim.order (all_orders (layout_under limits claim d)) 0 o
       → CaseIs limits claim d (if right then option_or (placed_in Levels l) (placed_in Order o) else Some ParaLevel)
   chosen false l o p c e = p
-  chosen true None None p c e = record { para = p; levels = c; order = e }
+  chosen true None None p c e = record { para_level = p; levels = c; order = e }
   chosen true (Some n) o p c e = (p, from-start claim.levels (layout_under limits claim d).levels c.0 n c.1 c.2)
   chosen true None (Some n) p c e = (p, c, from-start claim.order (all_orders (layout_under limits claim d)) e.0 n e.1 e.2)
 
-  para-right : MatchBool (agrees claim.para (first_of (layout_under limits claim d).paras)) (IsParaRight limits claim d) (¬ IsParaRight limits claim d)
-  para-right =
+  para_level-right : MatchBool (agrees claim.para_level (first_of (layout_under limits claim d).paras)) (IsParaRight limits claim d) (¬ IsParaRight limits claim d)
+  para_level-right =
       let paras = (layout_under limits claim d).paras in
-      let P : Option ℕ → Type 0 = λ s. MatchBool (agrees claim.para (first_of paras)) (IfSome claim.para (λ level. s ≡ Some level)) (¬ IfSome claim.para (λ level. s ≡ Some level)) in
-      subst P (first_is paras) (para-is claim.para (first_of paras))
+      let P : Option ℕ → Type 0 = λ s. MatchBool (agrees claim.para_level (first_of paras)) (IfSome claim.para_level (λ level. s ≡ Some level)) (¬ IfSome claim.para_level (λ level. s ≡ Some level)) in
+      subst P (first_is paras) (para_level-is claim.para_level (first_of paras))
 
   -- what the search says
   pub case-is : CaseIs limits claim d (wrong_place_under limits claim d)
   case-is =
       let layout = layout_under limits claim d in
-      chosen (agrees claim.para (first_of layout.paras)) (first_difference same_position claim.levels layout.levels 0) (first_difference nat_eq claim.order (all_orders layout) 0)
-      para-right
+      chosen (agrees claim.para_level (first_of layout.paras)) (first_difference same_position claim.levels layout.levels 0) (first_difference nat_eq claim.order (all_orders layout) 0)
+      para_level-right
       (compared same_position same_levels other_levels claim.levels layout.levels 0)
       (compared nat_eq (λ x y e. eqb-true x y e) (λ x y e. eqb-false x y e) claim.order (all_orders layout) 0)
 
   -- no case is both right and wrong
   pub right-wrong : (place : Place) → IsCaseRight limits claim d → IsWrongAt limits claim d place → ⊥
-  right-wrong ParaLevel r w = w r.para
+  right-wrong ParaLevel r w = w r.para_level
   right-wrong (Levels i) r w = no_difference claim.levels (layout_under limits claim d).levels i r.levels w.1
   right-wrong (Order i) r w = no_difference claim.order (all_orders (layout_under limits claim d)) i r.order w.2
 

@@ -32,25 +32,25 @@ para_field field = if bytes_eq field (codes "0") then Some Zero else if bytes_eq
 
 -- what a row claims whose fields are read as these, or the cause of the first that can't be read
 abbrev pub characters_row_as_read : Option (List BidiUnit) → Option Direction → Option ParaLevel → Option (List (Option ℕ)) → Option (List ℕ) → Finding
-characters_row_as_read None direction para levels order = Faulty CodePoint
-characters_row_as_read (Some text) None para levels order = Faulty DirectionField
+characters_row_as_read None direction para_level levels order = Faulty CodePoint
+characters_row_as_read (Some text) None para_level levels order = Faulty DirectionField
 characters_row_as_read (Some text) (Some direction) None levels order = Faulty ParaField
-characters_row_as_read (Some text) (Some direction) (Some para) None order = Faulty LevelItem
-characters_row_as_read (Some text) (Some direction) (Some para) (Some levels) None = Faulty OrderItem
-characters_row_as_read (Some text) (Some direction) (Some para) (Some levels) (Some order) =
-    Row (record { text = text; directions = direction ∷ []; para = Some (level_of_para para); levels = levels; order = order })
+characters_row_as_read (Some text) (Some direction) (Some para_level) None order = Faulty LevelItem
+characters_row_as_read (Some text) (Some direction) (Some para_level) (Some levels) None = Faulty OrderItem
+characters_row_as_read (Some text) (Some direction) (Some para_level) (Some levels) (Some order) =
+    Row (record { text = text; directions = direction ∷ []; para_level = Some (level_of_para para_level); levels = levels; order = order })
 
 -- what a row of these items claims: it has at least one; and by how direction fields are read
 abbrev pub characters_row_of_items : (List ℕ → Option Direction) → (ℕ → BidiUnit) → List (List ℕ) → List ℕ → List ℕ → List ℕ → List ℕ → Finding
-characters_row_of_items reads unit_of [] direction para levels order = Faulty EmptyRow
-characters_row_of_items reads unit_of (item ∷ items) direction para levels order =
-    characters_row_as_read (each_read (character_item unit_of) (item ∷ items)) (reads direction) (para_field para)
+characters_row_of_items reads unit_of [] direction para_level levels order = Faulty EmptyRow
+characters_row_of_items reads unit_of (item ∷ items) direction para_level levels order =
+    characters_row_as_read (each_read (character_item unit_of) (item ∷ items)) (reads direction) (para_field para_level)
     (each_read level_item (items_of levels)) (each_read order_item (items_of order))
 
 -- what a row of these fields claims: it has exactly five
 abbrev pub characters_row_by : (List ℕ → Option Direction) → (ℕ → BidiUnit) → List (List ℕ) → Finding
-characters_row_by reads unit_of (characters ∷ direction ∷ para ∷ levels ∷ order ∷ []) =
-    characters_row_of_items reads unit_of (items_of characters) direction para levels order
+characters_row_by reads unit_of (characters ∷ direction ∷ para_level ∷ levels ∷ order ∷ []) =
+    characters_row_of_items reads unit_of (items_of characters) direction para_level levels order
 characters_row_by reads unit_of _ = Faulty FieldCount
 
 abbrev pub characters_row : (ℕ → BidiUnit) → List (List ℕ) → Finding

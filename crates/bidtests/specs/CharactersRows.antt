@@ -49,9 +49,9 @@ abbrev pub unit_of_few : ℕ → BidiUnit
 unit_of_few c = record { class = class_of_few c; bracket = bracket_of_few c }
 
 -- no line is no row
-pub no_line : characters_verdict standard unit_of_few [] ≡ Yes 0 0
+pub empty_characters_file : characters_verdict standard unit_of_few [] ≡ Yes 0 0
 unfolding characters_files_compute
-no_line = refl
+empty_characters_file = refl
 
 -- a sixth field, though empty
 pub six_fields : characters_verdict standard unit_of_few (written (codes "0061;0;0;0;0;" ∷ [])) ≡ Malformed 1 FieldCount
@@ -113,9 +113,9 @@ unfolding characters_files_compute
 opposite_inside = refl
 
 -- N0: the context before the opening bracket is L
-pub context_before : characters_verdict standard unit_of_few (written (codes "0061 0028 05D0 0029;0;0;0 0 1 0;0 1 2 3" ∷ [])) ≡ Yes 1 1
+pub left_before_pair : characters_verdict standard unit_of_few (written (codes "0061 0028 05D0 0029;0;0;0 0 1 0;0 1 2 3" ∷ [])) ≡ Yes 1 1
 unfolding characters_files_compute
-context_before = refl
+left_before_pair = refl
 
 -- BD16: brackets pair by canonical equivalence
 pub canonical_brackets : characters_verdict standard unit_of_few (written (codes "0061 2329 05D0 3009 05D1;0;0;0 0 1 0 1;0 1 2 3 4" ∷ [])) ≡ Yes 1 1
@@ -138,9 +138,9 @@ unfolding characters_files_compute
 level_before_order = refl
 
 -- an order of anything but numbers
-pub order_item : characters_verdict standard unit_of_few (written (codes "0061;0;0;0;x" ∷ [])) ≡ Malformed 1 OrderItem
+pub letter_in_order : characters_verdict standard unit_of_few (written (codes "0061;0;0;0;x" ∷ [])) ≡ Malformed 1 OrderItem
 unfolding characters_files_compute
-order_item = refl
+letter_in_order = refl
 
 -- an empty first field comes before the others
 pub empty_before_fields : characters_verdict standard unit_of_few (written (codes " ;4;2;127;x" ∷ [])) ≡ Malformed 1 EmptyRow

@@ -139,7 +139,7 @@ order_in_force (_ ∷ earlier) = order_in_force earlier
 
 -- what a row claims: no paragraph level, and the lists in force
 abbrev pub claim_under : List BidiUnit → List Direction → List (Option ℕ) → List ℕ → Claim
-claim_under text directions levels order = record { text = text; directions = directions; para = None; levels = levels; order = order }
+claim_under text directions levels order = record { text = text; directions = directions; para_level = None; levels = levels; order = order }
 
 -- what a row comes to where these lists are in force: it needs both
 abbrev pub row_under : List BidiUnit → List Direction → Option (List (Option ℕ)) → Option (List ℕ) → Finding

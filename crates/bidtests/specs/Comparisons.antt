@@ -1,5 +1,6 @@
 -- What comparing a claim with the layout under one direction says.
 use Rattle.std.specs.Prelude.{◌≡◌, ◌≤◌, ◌+◌, ℕ, List, Some, None, [], ◌++◌, drop, nat_eq, IfSome, IsSome, length}
+use Rattle.units.specs.Layout.{TextLayout, layout_of}
 use Rattle.units.specs.Limits.{LimitsOf}
 use Rattle.units.specs.Paragraphs.{paragraphs_of}
 use Rattle.units.specs.declared.level.Direction.{Direction}
@@ -18,6 +19,12 @@ Compares limits (Differs place) claim direction = wrong_place_under limits claim
 Compares limits (Agrees also_under) claim direction =
     HasNoWrongPlace limits claim direction × IfSome also_under (HasNoWrongPlace limits claim)
     × (length (paragraphs_of claim.text) ≡ 1 → IsSome also_under)
+
+-- the same of a layout of the claim's text without breaks, under whichever direction and by whichever limits it is
+abbrev pub ComparesWith : TextLayout → Comparison → Claim → Type 0
+ComparesWith layout comparison claim =
+    (limits : LimitsOf) (direction : Direction) → layout ≡ layout_of limits claim.text direction []
+    → Compares limits comparison claim direction
 
 -- the order of a line is the front of what is claimed: the search for the first difference goes on behind both
 abbrev pub GoesOnBehind : List ℕ → List ℕ → Type 0

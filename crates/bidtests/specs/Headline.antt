@@ -1,6 +1,6 @@
 -- What a verdict says of a file, by quantifiers over its lines, the directions that its rows name, and the places of
 -- their lists.
-use Rattle.std.specs.Prelude.{◌≡◌, ◌≢◌, Option, Some, ℕ, ◌<◌, List, [], length, map, reverse, take, IfSome, slice_index_or}
+use Rattle.std.specs.Prelude.{◌≡◌, ◌≢◌, ◌↔◌, Option, Some, ℕ, ◌<◌, List, [], length, map, reverse, take, IfSome, slice_index_or}
 use Rattle.std.specs.List.{slice_get, Contains}
 use Rattle.units.specs.Layout.{TextLayout, layout_of, all_orders}
 use Rattle.units.specs.Limits.{LimitsOf}
@@ -14,6 +14,8 @@ use Rattle.bidtests.specs.declared.verdict.Verdict.{Verdict}
 use Rattle.bidtests.specs.declared.verdict.Verdict.TheVariants.{Yes, Malformed, Wrong}
 use Rattle.bidtests.specs.Verdicts.{Claim, Finding, Row, Faulty, rows_in, cases_in}
 use Rattle.units.specs.Lines.{line_number}
+use Rattle.units.specs.Text.{lines_of}
+use Rattle.bidtests.specs.FileKinds.{findings_by, verdict_of}
 use Rattle.bidtests.specs.ClassesFile.{directions_in_order, classes_line, comes_to, levels_in_force, order_in_force}
 use Rattle.bidtests.specs.CharactersFile.{characters_line}
 use Rattle.ucdfiles.specs.Tables.{unit_by}
@@ -24,6 +26,10 @@ line_comes_to Classes lines k =
     let earlier = reverse (map classes_line (take k lines)) in
     comes_to (levels_in_force earlier) (order_in_force earlier) (classes_line (slice_index_or lines k []))
 line_comes_to (Characters tables) lines k = characters_line (unit_by tables.now) (slice_index_or lines k [])
+
+-- each line of a file comes to what the list has at its index
+abbrev pub ComeTo : Kind → List (List ℕ) → List Finding → Type 0
+ComeTo kind lines found = (k : ℕ) → k < length lines → slice_get found k ≡ Some (line_comes_to kind lines k)
 
 -- line k is malformed, for this cause, where the lines of a file come to these
 abbrev pub IsMalformed : List Finding → ℕ → Cause → Type 0
@@ -39,7 +45,8 @@ layout_under limits claim direction = layout_of limits claim.text direction []
 
 -- no paragraph level is claimed, or that of the first paragraph
 abbrev pub IsParaRight : LimitsOf → Claim → Direction → Type 0
-IsParaRight limits claim direction = IfSome claim.para (λ level. slice_get (layout_under limits claim direction).paras 0 ≡ Some level)
+IsParaRight limits claim direction =
+    IfSome claim.para_level (λ level. slice_get (layout_under limits claim direction).paras 0 ≡ Some level)
 
 -- the claimed levels are those of the layout
 abbrev pub AreLevelsRight : LimitsOf → Claim → Direction → Type 0
@@ -51,7 +58,7 @@ IsOrderRight limits claim direction = claim.order ≡ all_orders (layout_under l
 
 -- all that is claimed is right under the direction
 pub record IsCaseRight (limits : LimitsOf) (claim : Claim) (direction : Direction) : Type 0 where
-  pub para : IsParaRight limits claim direction
+  pub para_level : IsParaRight limits claim direction
   pub levels : AreLevelsRight limits claim direction
   pub order : IsOrderRight limits claim direction
 
@@ -107,3 +114,25 @@ abbrev pub Says : LimitsOf → List Finding → Verdict → Type 0
 Says limits found (Yes rows cases) = AllAreRight limits found rows cases
 Says limits found (Malformed number cause) = FirstIsMalformed limits found number cause
 Says limits found (Wrong number direction place) = FirstIsWrong limits found number direction place
+
+-- what a verdict says of these bytes, as the whole of a file of this kind
+abbrev pub SaysOf : LimitsOf → Kind → List ℕ → Verdict → Type 0
+SaysOf limits kind b verdict = Says limits (findings_by kind (lines_of b)) verdict
+
+-- the verdict is yes with these numbers exactly if all lines are right and hold so many rows and cases
+abbrev pub YesIsExact : LimitsOf → Kind → List ℕ → Type 0
+YesIsExact limits kind b = (rows cases : ℕ)
+    → (verdict_of limits kind b ≡ Yes rows cases) ↔ AllAreRight limits (findings_by kind (lines_of b)) rows cases
+
+-- the verdict is malformed with this number and cause exactly if the line is, and all before it are right
+abbrev pub MalformedIsExact : LimitsOf → Kind → List ℕ → Type 0
+MalformedIsExact limits kind b = (number : ℕ) (cause : Cause)
+    → (verdict_of limits kind b ≡ Malformed number cause)
+    ↔ FirstIsMalformed limits (findings_by kind (lines_of b)) number cause
+
+-- the verdict is wrong with this number, direction and place exactly if that row is wrong there, and all before it are
+-- right
+abbrev pub WrongIsExact : LimitsOf → Kind → List ℕ → Type 0
+WrongIsExact limits kind b = (number : ℕ) (direction : Direction) (place : Place)
+    → (verdict_of limits kind b ≡ Wrong number direction place)
+    ↔ FirstIsWrong limits (findings_by kind (lines_of b)) number direction place

@@ -7,6 +7,7 @@ use Rattle.bidtests.specs.declared.verdict.Cause.{Cause}
 use Rattle.units.specs.Isolates.{level_of_para}
 use Rattle.units.specs.declared.level.ParaLevel.{ParaLevel}
 use Rattle.std.specs.Option.{option_map}
+use Rattle.bidtests.specs.declared.characters_row.RowFields.{RowFields}
 use Rattle.bidtests.specs.declared.claim.Claim.{Claim as RowClaim}
 use Rattle.bidtests.specs.Verdicts.{Claim, Finding, Row, Faulty}
 use Rattle.bidtests.specs.ClassesFile.{ClassesLine, RowOf, Broken}
@@ -15,6 +16,10 @@ use Rattle.bidtests.specs.ClassesFile.{ClassesLine, RowOf, Broken}
 abbrev pub if_read : {A : Type 0} → Bool → List A → Option (List A)
 if_read true items = Some items
 if_read false items = None
+
+-- the five fields of a row of a characters file, in order
+abbrev pub fields_in : RowFields → List (List ℕ)
+fields_in row = row.characters.now ∷ row.direction.now ∷ row.para_level.now ∷ row.levels.now ∷ row.order.now ∷ []
 
 -- what is behind this reference, or none
 abbrev pub MatchesNow : {A : Type 0} → Option (Bor (List A)) → Option (List A) → Type 0
@@ -28,10 +33,16 @@ row_read (Err cause) text = Broken cause
 
 -- what a row of a classes file or of a characters file claims
 abbrev pub claim_of : RowClaim → Claim
-claim_of c = record { text = c.text.now; directions = c.directions.now; para = option_map level_of_para c.para; levels = c.levels.now; order = c.order.now }
+claim_of c = record {
+  text = c.text.now;
+  directions = c.directions.now;
+  para_level = option_map level_of_para c.para_level;
+  levels = c.levels.now;
+  order = c.order.now;
+}
 
 -- the claim of a row of this direction and this paragraph level with these lists, or the cause
 abbrev pub claim_read : Result (Direction × ParaLevel) Cause → List BidiUnit → List (Option ℕ) → List ℕ → Finding
 claim_read (Ok asked) text levels order =
-    Row (record { text = text; directions = asked.0 ∷ []; para = Some (level_of_para asked.1); levels = levels; order = order })
+    Row (record { text = text; directions = asked.0 ∷ []; para_level = Some (level_of_para asked.1); levels = levels; order = order })
 claim_read (Err cause) text levels order = Faulty cause

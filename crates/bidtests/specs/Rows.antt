@@ -21,9 +21,9 @@ abbrev pub written : List (List ℕ) → List ℕ
 written lines = flat_map ended lines
 
 -- no line is no row
-pub no_line : classes_verdict standard [] ≡ Yes 0 0
+pub empty_classes_file : classes_verdict standard [] ≡ Yes 0 0
 unfolding classes_files_compute
-no_line = refl
+empty_classes_file = refl
 
 -- under RTL the level is 2; auto and LTR are right
 pub level_differs_rtl : classes_verdict standard (written (codes "@Levels: 0" ∷ codes "@Reorder: 0" ∷ codes "L; 7" ∷ [])) ≡ Wrong 3 Rtl (Levels 0)

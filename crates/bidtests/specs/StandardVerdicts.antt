@@ -17,7 +17,9 @@ use Rattle.bidtests.specs.FileKinds.{findings_by}
 abbrev pub standard_wrong_case : Claim → List Direction → Option (Direction × Place)
 standard_wrong_case claim [] = None
 standard_wrong_case claim (d ∷ ds) =
-    option_or (with_place d (wrong_place claim.para claim.levels claim.order (standard_layout claim.text d []))) (standard_wrong_case claim ds)
+    option_or
+    (with_place d (wrong_place claim.para_level claim.levels claim.order (standard_layout claim.text d [])))
+    (standard_wrong_case claim ds)
 
 -- the no that a line of this number gives
 abbrev pub standard_no_of : ℕ → Finding → Option Verdict

@@ -125,6 +125,12 @@ pub record Judges (limits : LimitsOf) (kind : Kind) (judge : Judging) (bytes : L
   pub of : judge.kind ≡ kind
   pub is : JudgesBy limits kind judge.decided judge.cutting judge.standing bytes
 
+-- the verdict is that on the bytes that the judge was handed with these behind, as the whole of a file of its kind
+abbrev pub IsVerdictBehind : Judging → List ℕ → Verdict → Type 0
+IsVerdictBehind judge given verdict =
+    (limits : LimitsOf) (kind : Kind) (b : List ℕ) → Judges limits kind judge b
+    → verdict ≡ verdict_of limits kind (b ++ given)
+
 -- what a judge has come to, apart from its tables
 pub record StateOf : Type 0 where
   pub cutting : Cutting
@@ -144,6 +150,11 @@ tables_of (Characters tables) = Some tables.now
 -- tables
 abbrev pub HoldsFor : LimitsOf → Option TablesOf → StateOf → List ℕ → Type 0
 HoldsFor limits tables state bytes = (kind : Kind) → tables_of kind ≡ tables → JudgesBy limits kind state.decided state.cutting state.standing bytes
+
+-- a judge that has come to the one has come to the other when it is handed this piece too
+abbrev pub HasTakenIn : Option TablesOf → StateOf → List ℕ → StateOf → Type 0
+HasTakenIn tables before piece after =
+    (limits : LimitsOf) (b : List ℕ) → HoldsFor limits tables before b → HoldsFor limits tables after (b ++ piece)
 
 -- the no that a line of a classes file of this number gives that says this
 abbrev pub no_in : Standing → ℕ → ClassesLine → Option Verdict

@@ -1,6 +1,6 @@
 -- The verdict as it is where no row can ask for AutoRtl: a bit set is one digit of 1 to 7, and a direction field `0`,
 -- `1` or `2`.
-use Rattle.std.specs.Prelude.{Option, ℕ, ◌≢◌, Bool, false, ◌-◌, ◌%◌, ◌/◌, ◌==◌, ◌&&◌, nat_le, if◌then◌else◌, List, [], ◌∷◌, filter, map, Some, None, codes}
+use Rattle.std.specs.Prelude.{Option, ℕ, ◌≡◌, ◌≢◌, Bool, false, ◌-◌, ◌%◌, ◌/◌, ◌==◌, ◌&&◌, nat_le, if◌then◌else◌, List, [], ◌∷◌, filter, map, Some, None, codes}
 use Rattle.std.specs.Str.{bytes_eq}
 use Rattle.units.specs.Limits.{LimitsOf}
 use Rattle.units.specs.Text.{lines_of}
@@ -15,6 +15,7 @@ use Rattle.bidtests.specs.declared.verdict.Verdict.TheVariants.{Malformed}
 use Rattle.bidtests.specs.Verdicts.{Finding, verdict_on}
 use Rattle.bidtests.specs.ClassesFile.{ClassesLine, classes_line_by, findings_behind}
 use Rattle.bidtests.specs.CharactersFile.{characters_line_by}
+use Rattle.bidtests.specs.FileKinds.{verdict_of}
 use Rattle.ucdfiles.specs.Tables.{unit_by}
 
 -- bit 1 names auto, bit 2 LTR, bit 4 RTL
@@ -52,3 +53,7 @@ abbrev pub IsOfThreeDirections : LimitsOf → Kind → List ℕ → Type 0
 IsOfThreeDirections limits kind bytes =
     ((line : ℕ) → three_verdict_of limits kind bytes ≢ Malformed line BitSet)
     × ((line : ℕ) → three_verdict_of limits kind bytes ≢ Malformed line DirectionField)
+
+-- its verdict is the one that it has where a row can ask for each of the four directions
+abbrev pub IsJudgedAlike : LimitsOf → Kind → List ℕ → Type 0
+IsJudgedAlike limits kind bytes = verdict_of limits kind bytes ≡ three_verdict_of limits kind bytes

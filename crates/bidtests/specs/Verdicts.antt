@@ -18,7 +18,7 @@ use Rattle.bidtests.specs.declared.verdict.Verdict.TheVariants.{Yes, Malformed, 
 pub record Claim : Type 0 where
   pub text : List BidiUnit
   pub directions : List Direction
-  pub para : Option ℕ
+  pub para_level : Option ℕ
   pub levels : List (Option ℕ)
   pub order : List ℕ
 
@@ -53,8 +53,8 @@ placed_in place (Some i) = Some (place i)
 -- the first place at which these differ from the layout: the first paragraph's level, then the levels, then the orders
 -- of all lines joined
 abbrev pub wrong_place : Option ℕ → List (Option ℕ) → List ℕ → TextLayout → Option Place
-wrong_place para levels order layout =
-    if agrees para (first_of layout.paras)
+wrong_place para_level levels order layout =
+    if agrees para_level (first_of layout.paras)
     then option_or
     (placed_in Levels (first_difference same_position levels layout.levels 0))
     (placed_in Order (first_difference nat_eq order (all_orders layout) 0))
@@ -63,7 +63,8 @@ wrong_place para levels order layout =
 -- the first place at which a claim differs from the layout of its text under the direction (P1 to L2), by the limits
 -- and without breaks
 abbrev pub wrong_place_under : LimitsOf → Claim → Direction → Option Place
-wrong_place_under limits claim d = wrong_place claim.para claim.levels claim.order (layout_of limits claim.text d [])
+wrong_place_under limits claim d =
+    wrong_place claim.para_level claim.levels claim.order (layout_of limits claim.text d [])
 
 -- the direction with the place, where there is one
 abbrev pub with_place : Direction → Option Place → Option (Direction × Place)

@@ -1,9 +1,9 @@
 // Rows of characters files.
-ghost use Rattle.std.specs.Prelude.{◌≡◌, ◌≢◌, ◌+◌, ◌*◌, ◌≤◌, [], ◌∷◌, length, vec_capacity, MatchOption, IfSome, IfOk};
+ghost use Rattle.std.specs.Prelude.{◌≡◌, ◌≢◌, ◌+◌, ◌*◌, ◌≤◌, length, vec_capacity, MatchOption, IfSome, IfOk};
 ghost use Rattle.units.specs.Text.{fields_of};
 ghost use Rattle.bidtests.specs.CharactersFile.{direction_field, para_field, characters_row};
 ghost use Rattle.ucdfiles.specs.Tables.{unit_by};
-ghost use Rattle.bidtests.specs.Readings.{claim_read};
+ghost use Rattle.bidtests.specs.Readings.{claim_read, fields_in};
 
 use crate::item::{CharacterItems, LevelItems, OrderItems, read_items};
 use crate::verdict::Cause;
@@ -17,29 +17,29 @@ use units::text::cut::cut_field;
 struct RowFields<'a> {
     characters: &'a [u8],
     direction: &'a [u8],
-    para: &'a [u8],
+    para_level: &'a [u8],
     levels: &'a [u8],
     order: &'a [u8],
 }
 
 /// The fields of a content that has five.
 fn fields(content: &[u8]) -> Option<RowFields<'_>>
-    ensures fields { MatchOption result (length (fields_of content.now) ≢ 5) (λ f. fields_of content.now
-        ≡ f.characters.now ∷ f.direction.now ∷ f.para.now ∷ f.levels.now ∷ f.order.now ∷ []) }
+    ensures fields { MatchOption result (length (fields_of content.now) ≢ 5)
+        (λ row. fields_of content.now ≡ fields_in row) }
     ensures characters { IfSome result (λ f. length f.characters.now ≤ length content.now) }
     ensures levels { IfSome result (λ f. length f.levels.now ≤ length content.now) }
     ensures order { IfSome result (λ f. length f.order.now ≤ length content.now) }
 {
     let (characters, rest) = cut_field(content);
     let (direction, rest) = cut_field(rest?);
-    let (para, rest) = cut_field(rest?);
+    let (para_level, rest) = cut_field(rest?);
     let (levels, rest) = cut_field(rest?);
     let (order, rest) = cut_field(rest?);
     match rest {
         None => Some(RowFields {
             characters,
             direction,
-            para,
+            para_level,
             levels,
             order,
         }),
@@ -98,12 +98,12 @@ pub fn read_characters(
         return Err(Cause::EmptyRow);
     }
     let direction = direction(fields.direction).ok_or(Cause::DirectionField)?;
-    let para = para_level(fields.para).ok_or(Cause::ParaField)?;
+    let para_level = para_level(fields.para_level).ok_or(Cause::ParaField)?;
     if !read_items(&LevelItems, fields.levels, levels) {
         return Err(Cause::LevelItem);
     }
     if !read_items(&OrderItems, fields.order, order) {
         return Err(Cause::OrderItem);
     }
-    Ok((direction, para))
+    Ok((direction, para_level))
 }

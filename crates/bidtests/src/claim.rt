@@ -8,7 +8,7 @@ pub struct Claim<'a> {
     pub text: &'a [Unit],
     pub directions: &'a [Direction],
     /// The level of the first paragraph; rows of classes claim none.
-    pub para: Option<ParaLevel>,
+    pub para_level: Option<ParaLevel>,
     pub levels: &'a [Option<Level>],
     pub order: &'a [usize],
 }

@@ -2,8 +2,7 @@
 ghost use Rattle.std.specs.Prelude.{◌≡◌, ◌<◌, ◌≤◌, List, None, Some, [], ◌∷◌, length, map, nat_eq, MatchOption, IfSome};
 ghost use Rattle.std.specs.Prelude.{IsSome};
 ghost use Rattle.std.specs.Option.{option_map};
-ghost use Rattle.units.specs.Layout.{all_orders, layout_of};
-ghost use Rattle.units.specs.Limits.{LimitsOf};
+ghost use Rattle.units.specs.Layout.{all_orders};
 ghost use Rattle.units.specs.declared.class.Class.{Class};
 ghost use Rattle.units.specs.declared.level.Direction.{Direction};
 ghost use Rattle.units.specs.Isolates.{level_of_para, para_level_of};
@@ -12,7 +11,7 @@ ghost use Rattle.lines.specs.Layouts.{view_of};
 ghost use Rattle.lines.specs.Scratches.{room_of};
 ghost use Rattle.bidtests.specs.Verdicts.{agrees, first_of, first_difference, wrong_case, no_of, Row};
 ghost use Rattle.bidtests.specs.Readings.{claim_of};
-ghost use Rattle.bidtests.specs.Comparisons.{Compares, DiffersAt, GoesOnBehind};
+ghost use Rattle.bidtests.specs.Comparisons.{Compares, ComparesWith, DiffersAt, GoesOnBehind};
 
 use crate::claim::Claim;
 use crate::verdict::{Place, Verdict};
@@ -102,7 +101,7 @@ enum Comparison {
 
 /// The direction that gives the paragraph of a text of one paragraph the level that it has, whatever its classes are.
 #[tactic(auto, unfolding(units::specs::Isolates::para_level_of))]
-fn direction_of(paras: &[ParaLevel]) -> Option<Direction>
+fn direction_by_level(paras: &[ParaLevel]) -> Option<Direction>
     ensures level { IfSome result (λ direction. (classes : List Class)
         → map level_of_para paras.now ≡ para_level_of classes direction ∷ []) }
     ensures one { length paras.now ≡ 1 → IsSome result }
@@ -116,11 +115,9 @@ fn direction_of(paras: &[ParaLevel]) -> Option<Direction>
 
 /// Compares a claim with a layout of its text, under whichever direction and by whichever limits it is.
 fn compare_with(claim: Claim<'_>, layout: &Layout<'_>) -> Comparison
-    ensures { (limits : LimitsOf) (direction : Direction)
-        → view_of layout.now ≡ layout_of limits claim.entry.text.now direction []
-        → Compares limits result (claim_of claim.entry) direction }
+    ensures { ComparesWith (view_of layout.now) result (claim_of claim.entry) }
 {
-    if !agrees_with(claim.para, layout.para_levels()) {
+    if !agrees_with(claim.para_level, layout.para_levels()) {
         return Comparison::Differs(Place::ParaLevel);
     }
     if let Some(at) = differing_level(claim.levels, layout.levels()) {
@@ -129,7 +126,7 @@ fn compare_with(claim: Claim<'_>, layout: &Layout<'_>) -> Comparison
     match differing_order(claim.order, layout) {
         Some(at) => Comparison::Differs(Place::Order(at)),
         None => Comparison::Agrees {
-            also_under: direction_of(layout.para_levels()),
+            also_under: direction_by_level(layout.para_levels()),
         },
     }
 }

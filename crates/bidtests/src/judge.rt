@@ -2,9 +2,8 @@
 ghost use Rattle.std.specs.Prelude.{◌≡◌, ◌++◌, ℕ, List, [], IfOk};
 ghost use Rattle.bidtests.specs.Standing.{Judges};
 ghost use Rattle.units.specs.Limits.{LimitsOf, standard};
-ghost use Rattle.units.specs.Text.{lines_of};
-ghost use Rattle.bidtests.specs.FileKinds.{findings_by, verdict_of};
-ghost use Rattle.bidtests.specs.Headline.{Says};
+ghost use Rattle.bidtests.specs.FileKinds.{verdict_of};
+ghost use Rattle.bidtests.specs.Headline.{SaysOf};
 ghost use Rattle.bidtests.specs.declared.kind.Kind.{Kind as FileKind};
 
 use crate::kind::Kind;
@@ -80,7 +79,8 @@ impl<'t> Judge<'t> {
     /// Hands over the next bytes of the file, as many or as few as there are: where pieces begin and end changes
     /// nothing. Once a no is decided, further bytes change nothing. It takes no memory and always succeeds.
     pub fn feed(&mut self, piece: &[u8])
-        ensures { (limits : LimitsOf) (kind : FileKind) (b : List ℕ) → Judges limits kind self.old b → Judges limits kind self.new (b ++ piece.now) }
+        ensures { (limits : LimitsOf) (kind : FileKind) (b : List ℕ) → Judges limits kind self.old b
+            → Judges limits kind self.new (b ++ piece.now) }
     {
         self.state.feed(self.kind, piece);
     }
@@ -89,9 +89,10 @@ impl<'t> Judge<'t> {
     /// holds a wrong case, or yes with the numbers of rows and cases. What it says of the file is so, and no other
     /// verdict would be (`laws::verdict_law`). It takes no memory and always succeeds.
     pub fn finish(self) -> Verdict
-        ensures verdict { (limits : LimitsOf) (kind : FileKind) (b : List ℕ) → Judges limits kind self.entry b → result ≡ verdict_of limits kind b }
+        ensures verdict { (limits : LimitsOf) (kind : FileKind) (b : List ℕ) → Judges limits kind self.entry b
+            → result ≡ verdict_of limits kind b }
         ensures says { (limits : LimitsOf) (kind : FileKind) (b : List ℕ) → Judges limits kind self.entry b
-            → Says limits (findings_by kind (lines_of b)) result }
+            → SaysOf limits kind b result }
     {
         let Judge { kind, mut state } = self;
         state.finish(kind)

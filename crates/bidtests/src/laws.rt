@@ -1,15 +1,9 @@
 //! The law of the verdicts.
-ghost use Rattle.std.specs.Prelude.{◌≡◌, ◌↔◌, ◌<◌, ℕ, List, Some, length};
-ghost use Rattle.std.specs.List.{slice_get};
+ghost use Rattle.std.specs.Prelude.{ℕ, List};
 ghost use Rattle.units.specs.Limits.{LimitsOf};
-ghost use Rattle.units.specs.Text.{lines_of};
-ghost use Rattle.units.specs.declared.level.Direction.{Direction};
 ghost use Rattle.bidtests.specs.declared.kind.Kind.{Kind};
-ghost use Rattle.bidtests.specs.declared.verdict.Cause.{Cause};
-ghost use Rattle.bidtests.specs.declared.verdict.Place.{Place};
-ghost use Rattle.bidtests.specs.declared.verdict.Verdict.TheVariants.{Yes, Malformed, Wrong};
-ghost use Rattle.bidtests.specs.FileKinds.{findings_by, verdict_of};
-ghost use Rattle.bidtests.specs.Headline.{line_comes_to, AllAreRight, FirstIsMalformed, FirstIsWrong};
+ghost use Rattle.bidtests.specs.FileKinds.{findings_by};
+ghost use Rattle.bidtests.specs.Headline.{ComeTo, YesIsExact, MalformedIsExact, WrongIsExact};
 
 /// What the verdicts on the files of both kinds say, for each choice of limits.
 ///
@@ -23,14 +17,8 @@ ghost use Rattle.bidtests.specs.Headline.{line_comes_to, AllAreRight, FirstIsMal
 /// RTL, AutoRtl, is malformed or wrong. `line`: what these say of a line is what it comes to by itself and, in a
 /// BidiTest.txt, by the lists in force behind the lines before it.
 pub fn verdict_law()
-    ensures line { (kind : Kind) (lines : List (List ℕ)) (k : ℕ)
-        → k < length lines → slice_get (findings_by kind lines) k ≡ Some (line_comes_to kind lines k) }
-    ensures yes { (limits : LimitsOf) (kind : Kind) (b : List ℕ) (rows cases : ℕ)
-        → (verdict_of limits kind b ≡ Yes rows cases) ↔ AllAreRight limits (findings_by kind (lines_of b)) rows cases }
-    ensures malformed { (limits : LimitsOf) (kind : Kind) (b : List ℕ) (number : ℕ) (cause : Cause)
-        → (verdict_of limits kind b ≡ Malformed number cause)
-        ↔ FirstIsMalformed limits (findings_by kind (lines_of b)) number cause }
-    ensures wrong { (limits : LimitsOf) (kind : Kind) (b : List ℕ) (number : ℕ) (direction : Direction) (place : Place)
-        → (verdict_of limits kind b ≡ Wrong number direction place)
-        ↔ FirstIsWrong limits (findings_by kind (lines_of b)) number direction place }
+    ensures line { (kind : Kind) (lines : List (List ℕ)) → ComeTo kind lines (findings_by kind lines) }
+    ensures yes { (limits : LimitsOf) (kind : Kind) (b : List ℕ) → YesIsExact limits kind b }
+    ensures malformed { (limits : LimitsOf) (kind : Kind) (b : List ℕ) → MalformedIsExact limits kind b }
+    ensures wrong { (limits : LimitsOf) (kind : Kind) (b : List ℕ) → WrongIsExact limits kind b }
 {}

@@ -1,9 +1,6 @@
 //! Files judged as they are read.
-ghost use Rattle.std.specs.Prelude.{◌≡◌, ◌↔◌, ◌++◌, ℕ, List, IfOk, OnOk, IsErr};
-ghost use Rattle.units.specs.Limits.{LimitsOf};
-ghost use Rattle.bidtests.specs.Standing.{Judges};
-ghost use Rattle.bidtests.specs.FileKinds.{verdict_of};
-ghost use Rattle.bidtests.specs.declared.kind.Kind.{Kind};
+ghost use Rattle.std.specs.Prelude.{◌≡◌, ◌↔◌, ℕ, List, IfOk, OnOk, IsErr};
+ghost use Rattle.bidtests.specs.Standing.{IsVerdictBehind};
 
 use crate::judge::Judge;
 use crate::verdict::Verdict;
@@ -24,8 +21,7 @@ pub fn judge_reader<S: ByteSource>(
     ensures whole { OnOk result (S.ended source.new) }
     ensures given { (given : List ℕ) × S.gives source.old given source.new }
     ensures verdict { IfOk result (λ verdict. (given : List ℕ) × S.gives source.old given source.new
-        × ((limits : LimitsOf) (kind : Kind) (b : List ℕ) → Judges limits kind judge.entry b
-        → verdict ≡ verdict_of limits kind (b ++ given))) }
+        × IsVerdictBehind judge.entry given verdict) }
 {
     let mut piece = [0; 4096];
     loop {

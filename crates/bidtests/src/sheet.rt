@@ -167,7 +167,7 @@ impl Sheet {
         let claim = Claim {
             text: &self.text,
             directions,
-            para: None,
+            para_level: None,
             levels: &self.levels,
             order: &self.order,
         };
@@ -186,7 +186,7 @@ impl Sheet {
         ensures standing { IsNone result → self.new
             ≡ counted (characters_row (unit_by tables.now) (fields_of content.now)) self.old }
     {
-        let (direction, para) = match read_characters(
+        let (direction, para_level) = match read_characters(
             content,
             tables,
             &mut self.text,
@@ -199,7 +199,7 @@ impl Sheet {
         let claim = Claim {
             text: &self.text,
             directions: alone(direction),
-            para: Some(para),
+            para_level: Some(para_level),
             levels: &self.levels,
             order: &self.order,
         };

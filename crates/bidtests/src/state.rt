@@ -1,11 +1,11 @@
 //! What a judge has come to, apart from the tables that it borrows.
-ghost use Rattle.std.specs.Prelude.{◌≡◌, ◌≤◌, ◌++◌, ℕ, List, [], Option, IfOk, IfSome, IsNone, length};
+ghost use Rattle.std.specs.Prelude.{◌≡◌, ◌≤◌, ℕ, List, [], Option, IfOk, IfSome, IsNone, length};
 ghost use Rattle.units.specs.LineAnswers.{StepIsShort};
 ghost use Rattle.units.specs.Limits.{LimitsOf};
 ghost use Rattle.units.specs.Text.{longest_line};
 ghost use Rattle.ucdfiles.specs.Tables.{TablesOf};
 ghost use Rattle.bidtests.specs.FileKinds.{verdict_of};
-ghost use Rattle.bidtests.specs.Standing.{HoldsFor, tables_of, no_by, after_step, verdict_behind};
+ghost use Rattle.bidtests.specs.Standing.{HoldsFor, HasTakenIn, tables_of, no_by, after_step, verdict_behind};
 
 use crate::kind::Kind;
 use crate::sheet::Sheet;
@@ -79,7 +79,7 @@ impl JudgeState {
     /// Hands over the next bytes of a file of this kind, as many or as few as there are: where pieces begin and end
     /// changes nothing. Once a no is decided, further bytes change nothing. It takes no memory and always succeeds.
     pub fn feed(&mut self, kind: Kind<'_>, piece: &[u8])
-        ensures { (limits : LimitsOf) (b : List ℕ) → HoldsFor limits (tables_of kind.entry) self.old b → HoldsFor limits (tables_of kind.entry) self.new (b ++ piece.now) }
+        ensures { HasTakenIn (tables_of kind.entry) self.old piece.now self.new }
     {
         let mut at = 0;
         while at < piece.len() {
@@ -95,7 +95,8 @@ impl JudgeState {
     /// The verdict on all bytes that were handed over, as the whole of a file of this kind. It takes no memory and
     /// always succeeds; what the state stands for afterwards isn't said.
     pub fn finish(&mut self, kind: Kind<'_>) -> Verdict
-        ensures { (limits : LimitsOf) (b : List ℕ) → HoldsFor limits (tables_of kind.entry) self.old b → result ≡ verdict_of limits kind.entry b }
+        ensures { (limits : LimitsOf) (b : List ℕ) → HoldsFor limits (tables_of kind.entry) self.old b
+            → result ≡ verdict_of limits kind.entry b }
     {
         if let Some(verdict) = self.decided {
             return verdict;

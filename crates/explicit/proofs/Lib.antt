@@ -24,6 +24,7 @@ pub mod Roles
 pub mod InnermostOpen
 pub mod Sides
 pub mod Taken
+pub mod AtMostOne
 pub mod WantedLevels
 pub mod TheTail
 pub mod StrongInside

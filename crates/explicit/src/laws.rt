@@ -2,7 +2,7 @@
 ghost use Rattle.std.specs.Prelude.{◌≡◌, ◌<◌, ◌≤◌, ◌+◌, ◌++◌, ◌⊎◌, ℕ, true, false, List, Some, IfSome, is_none, length, reverse};
 ghost use Rattle.std.specs.Option.{option_map};
 ghost use Rattle.units.specs.Classes.{class_at, classes_of, is_removed};
-ghost use Rattle.units.specs.Explicit.{explicit_at, explicit_level_at, next_even, next_odd, wanted_level, wants_odd};
+ghost use Rattle.units.specs.Explicit.{explicit_at, next_even, next_odd, wanted_level, wants_odd};
 ghost use Rattle.units.specs.Isolates.{matching_pdi};
 ghost use Rattle.units.specs.Paragraphs.{SeparatorOnlyLast};
 ghost use Rattle.units.specs.Runs.{leveled_of};
@@ -10,9 +10,9 @@ ghost use Rattle.explicit.specs.Leveled.{IsLeveled, IsNested};
 ghost use Rattle.units.specs.declared.bracket.Unit.{Unit as BidiUnit};
 ghost use Rattle.units.specs.declared.class.Class.{Class};
 ghost use Rattle.explicit.specs.IsolateNesting.{IsWithin, AreApart};
-ghost use Rattle.explicit.specs.StatusStacks.{EndsInRefused, Represents, entries_of, entry_count};
+ghost use Rattle.explicit.specs.Laws.{HaveOneLevel, StacksAreShallow};
+ghost use Rattle.explicit.specs.StatusStacks.{EndsInRefused, entries_of};
 ghost use Rattle.explicit.specs.WantedLevels.{IsLeastAbove};
-ghost use Rattle.explicit.specs.declared.status.StatusStack.{StatusStack};
 
 /// Isolates nest or are apart (BD9): the one that begins later lies within the other, or no position lies in both.
 pub fn isolates_nest()
@@ -34,7 +34,7 @@ pub fn removed_have_no_level()
 /// A matched isolate initiator and its PDI have one explicit level (X5a to X6a).
 pub fn matched_levels_are_equal()
     ensures { (depth : ℕ) (cs : List Class) (para_level i j : ℕ) → matching_pdi cs i ≡ Some j
-        → explicit_level_at depth cs para_level i ≡ explicit_level_at depth cs para_level j }
+        → HaveOneLevel depth cs para_level i j }
 {}
 
 /// The level that an initiator asks for is the least odd level above the one that it stands at, or the least even one
@@ -51,8 +51,8 @@ pub fn wanted_levels_are_least()
 pub fn entries_are_few()
     ensures defined { (depth : ℕ) (cs : List Class) (para_level : ℕ) (qs : List ℕ) → para_level ≤ depth
         → length (entries_of depth cs para_level qs) ≤ depth + 1 }
-    ensures kept { (depth : ℕ) (cs : List Class) (para_level : ℕ) (qs : List ℕ) (stack : StatusStack) → para_level ≤ depth
-        → Represents depth cs para_level qs stack → entry_count stack ≤ depth + 1 }
+    ensures kept { (depth : ℕ) (cs : List Class) (para_level : ℕ) → para_level ≤ depth
+        → StacksAreShallow depth cs para_level }
 {}
 
 /// The initiators around a position that were refused are a tail of its chain, and the three counts of X1 are those of

@@ -1,3 +1,4 @@
 pub mod Flat
 pub mod IdleRules
 pub mod Uniform
+pub mod Laws

@@ -45,7 +45,9 @@ pub fn units_of(alloc: Global, tables: &Tables, text: &str) -> Result<Vec<Unit>,
 }
 
 /// A unit of this class that is no bracket.
-pub fn unit(class: Class) -> Unit {
+pub fn unit(class: Class) -> Unit
+    ensures { result.class ≡ class }
+{
     Unit {
         class,
         bracket: Bracket::No,

@@ -1,12 +1,17 @@
-//! Rows of the parts of a layout: L2 by itself.
+//! Rows of the parts of a layout: L1 and L2 by themselves.
 ghost use Rattle.std.specs.Prelude.{◌≡◌, ◌<◌};
 
+use crate::given::unit;
+use lines::breaks::Breaks;
 use lines::order::write_order;
+use lines::resets::reset_text;
 use lines::runs::Run;
 use std::marker::Brand;
 use std::process::Abort;
 use std::sync::ledger::{Blank, Ledger};
-use units::level::Level;
+use std::test::Fail;
+use units::class::Class;
+use units::level::{Level, ParaLevel};
 use units::steps::Steps;
 
 #[test]
@@ -62,4 +67,43 @@ fn orders_nested_runs<K: Ledger>(rt: &impl Abort, blank: Blank)
     let count = write_order(&levels, 0, 9, None, &mut runs, &mut order, &mut steps);
     assert_eq!(rt; count, 7);
     assert_eq!(rt; &order[..7], [7, 6, 5, 4, 2, 1, 8].as_slice());
+}
+
+#[test]
+fn resets_by_own_classes(rt: HostRuntime) -> Result<(), Fail> {
+    resets_overridden_spaces::<Brand>(&rt, Blank::new(1))
+}
+
+/// White space and a separator under an override: it made them R, but L1 asks for the classes that they came with.
+fn resets_overridden_spaces<K: Ledger>(rt: &impl Abort, blank: Blank) -> Result<(), Fail>
+    requires name { blank.name ≡ K.name }
+    requires parts { blank.parts ≡ K.parts }
+    requires some { 0 < blank.parts }
+{
+    let mut steps = Steps::<K>::new(blank);
+    let own = [
+        unit(Class::RLO),
+        unit(Class::WS),
+        unit(Class::S),
+        unit(Class::R),
+        unit(Class::WS),
+    ];
+    let mut levels = [
+        None,
+        Level::new(1),
+        Level::new(1),
+        Level::new(1),
+        Level::new(1),
+    ];
+    let breaks = Breaks::new(&[], own.len())?;
+    reset_text(&own, &breaks, &[ParaLevel::Zero], &mut levels, &mut steps);
+    let expected = [
+        None,
+        Level::new(0),
+        Level::new(0),
+        Level::new(1),
+        Level::new(0),
+    ];
+    assert_eq!(rt; levels, expected);
+    Ok(())
 }

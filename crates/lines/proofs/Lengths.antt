@@ -12,10 +12,6 @@ use Rattle.units.specs.declared.level.Direction.{Direction}
 use Rattle.lines.proofs.TextEnd.{length-after_resets}
 use Rattle.units.proofs.Lengths.{length-resolved_levels}
 
-pub length-mapped : {A B : Type 0} (f : A → B) (xs : List A) → length (map f xs) ≡ length xs
-length-mapped f [] = refl
-length-mapped f (x ∷ xs) = ap (λ k. suc k) (length-mapped f xs)
-
 module _ (f : List BidiUnit → List (Option ℕ)) (kept : (us : List BidiUnit) → length (f us) ≡ length us) where
   length-begun : (unit : BidiUnit) (pieces : List (List BidiUnit)) → length (flat_map f (begin_with unit pieces)) ≡ suc (length (flat_map f pieces))
   length-begun unit [] = omega (arith, length-append (f (unit ∷ [])) [], kept (unit ∷ []))

@@ -14,22 +14,19 @@ use Rattle.units.specs.declared.class.Class.{Class}
 use Rattle.units.specs.declared.class.Class.TheVariants.{L}
 use Rattle.units.specs.declared.level.Direction.{Direction}
 use Rattle.units.specs.declared.level.Direction.TheVariants.{Auto, Ltr, Rtl, AutoRtl}
+use Rattle.explicit.proofs.AtMostOne.{at_most_one}
 use Rattle.explicit.proofs.OneCutting.{IsCut-paragraphs_of, joined-paragraphs_of}
 use Rattle.paragraph.proofs.Unresolved.{resolved_none}
 use Rattle.units.proofs.Lengths.{length-resolved_levels}
 use Rattle.lines.proofs.TextEnd.{get_or-after_resets}
 use Rattle.lines.proofs.TextLevels.{para_level, para_levels}
 
-one_or_zero : (b : Bool) → (if b then 1 else 0) ≤ 1
-one_or_zero true = omega arith
-one_or_zero false = omega arith
-
 para_level-low : (cs : List Class) (direction : Direction) → para_level_of cs direction ≤ 1
 unfolding para_level_of
-para_level-low cs Auto = one_or_zero _
+para_level-low cs Auto = at_most_one _
 para_level-low cs Ltr = omega arith
 para_level-low cs Rtl = omega arith
-para_level-low cs AutoRtl = one_or_zero _
+para_level-low cs AutoRtl = at_most_one _
 
 none-reset : (reset : Bool) (para : ℕ) (level : Option ℕ) → is_none (reset_to reset para level) ≡ is_none level
 none-reset reset para None = refl

@@ -1,11 +1,9 @@
-ghost use Rattle.std.specs.Prelude.{◌≡◌, ◌≤◌, ◌<◌, ◌%◌, List, ℕ, None, is_none, length, reverse, slice_index_or};
+ghost use Rattle.std.specs.Prelude.{◌≡◌, ◌≤◌, ◌<◌, ◌%◌, List, ℕ, length, reverse};
 ghost use Rattle.std.specs.List.{All};
-ghost use Rattle.units.specs.Classes.{class_at, classes_of, is_removed};
-ghost use Rattle.units.specs.Layout.{layout_of};
 ghost use Rattle.units.specs.Limits.{LimitsOf, AreAllowed};
 ghost use Rattle.units.specs.Reordering.{IsLineOrder, line_order};
 ghost use Rattle.units.specs.declared.bracket.Unit.{Unit as BidiUnit};
-ghost use Rattle.units.specs.declared.level.Direction.{Direction};
+ghost use Rattle.lines.specs.Removed.{RemovedHaveNoLevel};
 ghost use Rattle.lines.specs.Spaces.{StaysAtParas, levels_reset};
 ghost use Rattle.lines.specs.Turning.{IsUniform, remaining};
 
@@ -41,7 +39,5 @@ pub fn reset_law(own: &[Unit], breaks: &Breaks, paras: &[ParaLevel], levels: &[O
 /// A position of a text has no level in its layout exactly where X9 removes it: L1 gives none to a removed position,
 /// and takes none away.
 pub fn removed_have_no_level()
-    ensures { (limits : LimitsOf) (text : List BidiUnit) (direction : Direction) (breaks : List ℕ) (p : ℕ)
-        → AreAllowed limits → p < length text
-        → is_none (slice_index_or (layout_of limits text direction breaks).levels p None) ≡ is_removed (class_at (classes_of text) p) }
+    ensures { (limits : LimitsOf) (text : List BidiUnit) → AreAllowed limits → RemovedHaveNoLevel limits text }
 {}

@@ -15,6 +15,7 @@ use Rattle.units.specs.Runs.{SequenceView, LeveledView, leveled_of, size_of, beg
 use Rattle.units.specs.declared.bracket.Unit.{Unit as BidiUnit}
 use Rattle.units.specs.declared.class.Class.{Class}
 use Rattle.explicit.specs.ExplicitLevels.{HoldsLevels}
+use Rattle.explicit.proofs.AtMostOne.{at_most_one}
 use Rattle.explicit.proofs.InsideIsolates.{nested}
 use Rattle.explicit.proofs.Leveled.{leveled, size-is, get_or-of_positions, length-of_positions}
 use Rattle.units.proofs.Positions.{length-positions_from, get_or-positions_from}
@@ -27,10 +28,6 @@ use Rattle.sequences.proofs.Once.{sequences_hold_once}
 use Rattle.resolve.proofs.OwnClasses.{current-own}
 use Rattle.paragraph.specs.Covering.{AreDisjoint, HasLevelsBy}
 use Rattle.resolve.specs.Sought.{AreOwn}
-
-at_most_one : (b : Bool) → (if b then 1 else 0) ≤ 1
-at_most_one true = omega arith
-at_most_one false = omega arith
 
 -- the sequences of a paragraph share no position
 module _ (depth : ℕ) (deep : depth ≤ 125) (us : List BidiUnit) (para : ℕ) (low : para ≤ 1) (only : SeparatorOnlyLast us) where

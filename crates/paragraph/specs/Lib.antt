@@ -1,5 +1,6 @@
 pub mod ClassSets
 pub mod Contents
 pub mod Covering
+pub mod Removed
 pub mod Resolvers
 pub mod FirstSides

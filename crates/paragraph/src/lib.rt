@@ -3,5 +3,7 @@
 
 pub mod class_set;
 pub mod contents;
+mod found;
+mod gates;
 pub mod laws;
 pub mod resolver;

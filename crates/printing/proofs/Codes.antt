@@ -1,11 +1,8 @@
 -- How a code point is padded.
-use Rattle.std.proofs.Common.{rules, ◌≡◌, ℕ, ◌-◌, ◌^◌, true, false, List, [], ◌++◌, length, ap, arith}
+use Rattle.std.proofs.Common.{append-nil, ◌≡◌, ℕ, ◌-◌, ◌^◌, true, false, List, [], ◌++◌, length, ap, arith}
 use Rattle.std.specs.Prelude.{replicate}
 use Rattle.std.specs.Fmt.{padded_integral, char_count, format_spec, digits}
 use Rattle.printing.specs.LevelsText.{code_text}
-
-append-nil : (xs : List ℕ) → xs ++ [] ≡ xs
-append-nil xs = search rules
 
 padded_at : (ds : List ℕ) → padded_integral (format_spec 32 0 4 4 (2 ^ 64 - 1)) false [] ds ≡ replicate (4 - length ds) 48 ++ ds
 unfolding padded_integral char_count

@@ -1,7 +1,6 @@
 pub mod Appending
 pub mod Breaks
 pub mod Codes
-pub mod Lengths
 pub mod Passing
 pub mod Printing
 pub mod Showing

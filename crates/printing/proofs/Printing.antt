@@ -1,5 +1,5 @@
 -- What a loop over positions has printed.
-use Rattle.std.proofs.Common.{rules, ◌≡◌, ℕ, suc, ◌+◌, ◌-◌, ◌≤◌, List, [], ◌∷◌, ◌++◌, Option, sym, ap, ◌∙◌, arith}
+use Rattle.std.proofs.Common.{append-nil, ◌≡◌, ℕ, suc, ◌+◌, ◌-◌, ◌≤◌, List, [], ◌∷◌, ◌++◌, Option, sym, ap, ◌∙◌, arith}
 use Rattle.std.specs.List.{flat_map}
 use Rattle.std.specs.Io.KnownBytes.{Appends}
 use Rattle.std.proofs.lemmas.Grind.{flat_map-append}
@@ -7,9 +7,6 @@ use Rattle.units.specs.Positions.{positions_from}
 use Rattle.printing.specs.LevelsText.{printed}
 use Rattle.printing.proofs.Appending.{Appends-to, Appends-joined, Appends-nothing}
 use Rattle.printing.proofs.Breaks.{one_more_position}
-
-append-nil : (xs : List ℕ) → xs ++ [] ≡ xs
-append-nil xs = search rules
 
 printed_none : (text : ℕ → List ℕ) (s : ℕ) → [] ≡ printed text s s
 printed_none text s = let e : 0 ≡ s - s = omega arith in ap (λ n. flat_map text (positions_from s n)) e

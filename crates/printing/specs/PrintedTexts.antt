@@ -15,6 +15,11 @@ abbrev pub printed_levels : TablesOf → List ℕ → Direction → List ℕ
 printed_levels tables chars direction =
     levels_text chars (units_by tables chars) (layout_of standard (units_by tables chars) direction [])
 
+-- the lines of the layout of these units with these breaks, each as it is shown by the mirror images
+abbrev pub lines_text : (ℕ → Option ℕ) → List ℕ → List BidiUnit → Direction → List ℕ → List ℕ
+lines_text images chars text direction breaks =
+    reorder_text images chars text (layout_of standard text direction breaks)
+
 -- the breaks at columns, where such are asked for
 abbrev pub breaks_of : List BidiUnit → Option NonZeroU16 → List ℕ
 breaks_of text None = []
@@ -24,4 +29,4 @@ breaks_of text (Some columns) = column_breaks_of text columns.value
 abbrev pub printed_reorder : TablesOf → List ℕ → Direction → Option NonZeroU16 → List ℕ
 printed_reorder tables chars direction columns =
     let text = units_by tables chars in
-    reorder_text (glyph_by tables.mirrors) chars text (layout_of standard text direction (breaks_of text columns))
+    lines_text (glyph_by tables.mirrors) chars text direction (breaks_of text columns)

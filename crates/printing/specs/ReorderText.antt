@@ -5,6 +5,7 @@ use Rattle.std.specs.List.{flat_map}
 use Rattle.units.specs.Layout.{TextLayout, LineLayout}
 use Rattle.units.specs.Reordering.{shown_at}
 use Rattle.units.specs.declared.bracket.Unit.{Unit as BidiUnit}
+use Rattle.lines.specs.Layouts.{line_at}
 use Rattle.printing.specs.Columns.{separates_at}
 use Rattle.printing.specs.LevelsText.{line_feed}
 
@@ -19,6 +20,10 @@ shown_text images chars text levels p = text_unless (separates_at text p) (shown
 -- L2, L4: a line from left to right, and LF
 abbrev pub shown_line_text : (ℕ → Option ℕ) → List ℕ → List BidiUnit → List (Option ℕ) → LineLayout → List ℕ
 shown_line_text images chars text levels line = flat_map (shown_text images chars text levels) line.order ++ line_feed
+
+-- the same of the layout's line with the number k
+abbrev pub text_of_line : (ℕ → Option ℕ) → List ℕ → List BidiUnit → TextLayout → ℕ → List ℕ
+text_of_line images chars text layout k = shown_line_text images chars text layout.levels (line_at layout k)
 
 -- the lines of a text, one after another
 abbrev pub reorder_text : (ℕ → Option ℕ) → List ℕ → List BidiUnit → TextLayout → List ℕ

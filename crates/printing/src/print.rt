@@ -1,13 +1,12 @@
 //! What `levels` and `reorder` print of a text.
 ghost use Rattle.std.specs.Prelude.{◌≡◌, ◌<◌, ◌≤◌, [], length, IfOk, OnOk};
 ghost use Rattle.std.specs.Io.KnownBytes.{Appends};
-ghost use Rattle.units.specs.Layout.{layout_of};
+ghost use Rattle.units.specs.Layout.{layout_of, longest_text};
 ghost use Rattle.units.specs.Limits.{standard};
 ghost use Rattle.lines.specs.Scratches.{room_of};
 ghost use Rattle.ucdfiles.specs.Tables.{glyph_by, units_by};
 ghost use Rattle.printing.specs.LevelsText.{levels_text};
-ghost use Rattle.printing.specs.PrintedTexts.{printed_levels, printed_reorder};
-ghost use Rattle.printing.specs.ReorderText.{reorder_text};
+ghost use Rattle.printing.specs.PrintedTexts.{lines_text, printed_levels, printed_reorder};
 
 use crate::columns::breaks_of;
 use crate::fault::PrintFault;
@@ -31,7 +30,7 @@ use units::steps::Steps;
 
 /// Room for a text of so many units.
 fn room_for(alloc: Global, n: usize) -> Result<Scratch, Memory>
-    requires { n ≤ 16777216 }
+    requires { n ≤ longest_text }
     ensures { IfOk result (λ room. room_of room ≡ n) }
 {
     match Scratch::with_room(alloc, n) {
@@ -82,7 +81,7 @@ fn print_lines_of<W: Write, L: Ledger>(
     requires parts { blank.parts ≡ L.parts }
     requires some { 0 < blank.parts }
     ensures { OnOk result (Appends (W.contents w.old) (W.contents w.new)
-        (reorder_text (glyph_by mirrors.now) text.now units.now (layout_of standard units.now direction breaks.now.positions))) }
+        (lines_text (glyph_by mirrors.now) text.now units.now direction breaks.now.positions)) }
 {
     let mut steps = Steps::<L>::new(blank);
     let layout = lay_out(room, units, direction, breaks, &mut steps).unwrap();
@@ -101,7 +100,7 @@ pub fn print_levels<W: Write>(
     text: &[char],
     direction: Direction,
 ) -> Result<(), PrintFault>
-    requires { length text.now ≤ 16777216 }
+    requires { length text.now ≤ longest_text }
     ensures { OnOk result (Appends (W.contents w.old) (W.contents w.new)
         (printed_levels tables.now text.now direction)) }
 {
@@ -123,7 +122,7 @@ pub fn print_reorder<W: Write>(
     direction: Direction,
     columns: Option<NonZeroU16>,
 ) -> Result<(), PrintFault>
-    requires { length text.now ≤ 16777216 }
+    requires { length text.now ≤ longest_text }
     ensures { OnOk result (Appends (W.contents w.old) (W.contents w.new)
         (printed_reorder tables.now text.now direction columns)) }
 {

@@ -1,10 +1,10 @@
 // The text of `reorder`, over the parts of a layout.
-ghost use Rattle.std.specs.Prelude.{◌≡◌, ◌<◌, length, slice_index_or, OnOk};
+ghost use Rattle.std.specs.Prelude.{◌≡◌, ◌<◌, length, OnOk};
 ghost use Rattle.std.specs.Io.KnownBytes.{Appends};
 ghost use Rattle.units.specs.Classes.{is_separator};
 ghost use Rattle.ucdfiles.specs.Tables.{glyph_by};
-ghost use Rattle.lines.specs.Layouts.{view_of, no_line};
-ghost use Rattle.printing.specs.ReorderText.{text_unless, shown_line_text, reorder_text};
+ghost use Rattle.lines.specs.Layouts.{view_of};
+ghost use Rattle.printing.specs.ReorderText.{text_unless, text_of_line, reorder_text};
 
 use lines::layout::Layout;
 use std::io;
@@ -38,8 +38,7 @@ fn print_line<W: Write>(
     requires levels { length (view_of layout.now).levels ≡ length chars.now }
     requires line { k < length (view_of layout.now).lines }
     ensures { OnOk result (Appends (W.contents w.old) (W.contents w.new)
-        (shown_line_text (glyph_by mirrors.now) chars.now text.now (view_of layout.now).levels
-        (slice_index_or (view_of layout.now).lines k no_line))) }
+        (text_of_line (glyph_by mirrors.now) chars.now text.now (view_of layout.now) k)) }
 {
     let order = layout.line(k).order;
     for (position, character) in order.iter().zip(layout.shown(mirrors, chars, k)) {

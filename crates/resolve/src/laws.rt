@@ -9,7 +9,8 @@ ghost use Rattle.units.specs.Weak.{after_weak};
 ghost use Rattle.units.specs.declared.bracket.Bracket.{Bracket};
 ghost use Rattle.units.specs.declared.class.Class.{Class};
 ghost use Rattle.resolve.specs.PairLaws.{PairsAreOrdered, PairsNest, PairsAreShallow, InsidesAreFew, InsidesAreFewByOpener, StopsAtFirstOpener};
-ghost use Rattle.resolve.specs.Sought.{is_imposed, may_weaken};
+ghost use Rattle.resolve.specs.Own.{IsOwnUnlessImposed};
+ghost use Rattle.resolve.specs.Sought.{may_weaken};
 
 /// A pair that counts ends after it begins, within the sequence.
 pub fn pairs_are_ordered()
@@ -43,7 +44,7 @@ pub fn no_pair_counts_without_room()
 /// removed.
 pub fn classes_are_own()
     ensures { (depth : ℕ) (cs : List Class) (para_level p : ℕ)
-        → is_imposed (current_at depth cs para_level p) ≡ false → current_at depth cs para_level p ≡ class_at cs p }
+        → IsOwnUnlessImposed (class_at cs p) (current_at depth cs para_level p) }
 {}
 
 /// What is a mark after X1 to X8 is one by its own class: no override makes a mark.

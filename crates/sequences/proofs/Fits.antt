@@ -8,8 +8,8 @@ use Rattle.std.proofs.lemmas.List.{length-append}
 use Rattle.std.proofs.lemmas.List.Sums.{sum_by-cons}
 use Rattle.units.specs.Positions.{positions_from}
 use Rattle.units.specs.Runs.{SequenceView, LeveledView, size_of, remains, successor, begins_sequence, sequence_from, sequence_at, sequences_of}
-use Rattle.explicit.specs.Leveled.{IsLeveled}
-use Rattle.explicit.specs.Leveled.{IsNested}
+use Rattle.explicit.specs.Leveled.{IsLeveled, IsNested}
+use Rattle.explicit.proofs.AtMostOne.{at_most_one}
 use Rattle.sequences.specs.Once.{times, HoldsOnce}
 use Rattle.sequences.proofs.Once.{one_if, times-cons, times-positions, sequences_hold_once}
 use Rattle.sequences.proofs.Forward.{successor_later}
@@ -73,10 +73,6 @@ pub length-flat : (all : List SequenceView) → length (flat_map (λ (s : Sequen
 length-flat [] = refl
 length-flat (s ∷ all) =
     omega (arith, length-append s.positions (flat_map (λ (s : SequenceView). s.positions) all), length-flat all, sum_by-cons (λ (s : SequenceView). length s.positions) s all)
-
-at_most_one : (b : Bool) → (if b then 1 else 0) ≤ 1
-at_most_one true = omega arith
-at_most_one false = omega arith
 
 -- all sequences together have at most as many positions as the paragraph
 pub sequences_fit : (t : LeveledView) → IsLeveled t → IsNested t → sum_by (λ (s : SequenceView). length s.positions) (sequences_of t) ≤ size_of t

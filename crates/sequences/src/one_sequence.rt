@@ -1,13 +1,13 @@
 //! A paragraph in which nothing begins an embedding or an isolate: what remains of it is one sequence.
-ghost use Rattle.std.specs.Prelude.{◌≡◌, ◌+◌, ◌<◌, ◌≤◌, ℕ, length, slice_get, take, true};
+ghost use Rattle.std.specs.Prelude.{◌≡◌, ◌+◌, ◌<◌, ◌≤◌, length, slice_get, take, true};
 ghost use Rattle.units.specs.Classes.{classes_of, is_removed};
 ghost use Rattle.units.specs.Isolates.{level_of_para};
 ghost use Rattle.units.specs.Positions.{positions_from};
-ghost use Rattle.units.specs.Runs.{leveled_of, sequences_of};
 ghost use Rattle.flat.specs.Flat.{IsFlat, remaining_of};
 ghost use Rattle.flat.specs.IdleRules.{HasNone};
 ghost use Rattle.sequences.specs.Links.{ArePositions, IsChain};
-ghost use Rattle.sequences.specs.Heads.{HoldSequences, only_head};
+ghost use Rattle.sequences.specs.Heads.{only_head};
+ghost use Rattle.sequences.specs.OneSequence.{HoldSequencesOf};
 
 use crate::heads::Head;
 use std::sync::ledger::Ledger;
@@ -159,9 +159,7 @@ pub fn fill_one_sequence<L: Ledger>(
     requires links { length para.now ≤ length links.old }
     requires heads { length para.now ≤ length heads.old }
     requires column { length para.now ≤ length column.old }
-    ensures filled { (depth : ℕ) → HoldSequences
-        (sequences_of (leveled_of depth (classes_of para.now) (level_of_para level)))
-        (length para.now) result links.new heads.new column.new }
+    ensures filled { HoldSequencesOf para.now (level_of_para level) result links.new heads.new column.new }
     ensures steps { steps.new ≡ steps.old + length para.now + length (remaining_of (classes_of para.now)) }
 {
     let count = place(para, whole, column, steps);

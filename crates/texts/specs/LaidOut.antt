@@ -2,7 +2,7 @@
 use Rattle.std.specs.Prelude.{ℕ, List}
 use Rattle.units.specs.Layout.{LineLayout, TextLayout}
 use Rattle.units.specs.Reordering.{shown_of}
-use Rattle.ucdfiles.specs.Tables.{glyph_by}
+use Rattle.ucdfiles.specs.Tables.{TablesOf, glyph_by}
 use Rattle.lines.specs.Scratches.{layout_in}
 use Rattle.texts.specs.declared.Text.{Text}
 
@@ -10,11 +10,15 @@ use Rattle.texts.specs.declared.Text.{Text}
 abbrev pub chars_in : Text → List ℕ
 chars_in text = text.chars.items
 
+-- the tables that it is laid out and shown by
+abbrev pub tables_in_text : Text → TablesOf
+tables_in_text text = text.tables.now
+
 -- P1 to L2: its layout
 abbrev pub layout_in_text : Text → TextLayout
 layout_in_text text = layout_in text.scratch
 
--- L4: the characters of a line from left to right, those at odd levels as their mirror images
+-- L4: the characters of a line from left to right, those at odd levels as their mirror images by its tables
 abbrev pub shown_in : Text → LineLayout → List ℕ
 shown_in text line =
-    shown_of (glyph_by text.tables.now.mirrors) (layout_in_text text).levels (chars_in text) line.order
+    shown_of (glyph_by (tables_in_text text).mirrors) (layout_in_text text).levels (chars_in text) line.order

@@ -90,12 +90,12 @@ fn room_for(alloc: Global, length: usize) -> Result<Scratch, AllocError>
 }
 
 impl<'t> Text<'t> {
-    ghost use Rattle.std.specs.Prelude.{◌≡◌, ◌<◌, ◌≤◌, length, slice_index_or, string_bytes, IfOk, OnOk, IfErr};
+    ghost use Rattle.std.specs.Prelude.{◌≡◌, ◌<◌, ◌≤◌, length, string_bytes, IfOk, OnOk, IfErr};
     ghost use Rattle.std.specs.Str.{chars, encode_utf8_all};
     ghost use Rattle.units.specs.Layout.{layout_of, longest_text};
     ghost use Rattle.units.specs.Limits.{standard};
-    ghost use Rattle.lines.specs.Layouts.{view_of, no_line};
-    ghost use Rattle.texts.specs.LaidOut.{chars_in, layout_in_text, shown_in};
+    ghost use Rattle.lines.specs.Layouts.{view_of, line_at};
+    ghost use Rattle.texts.specs.LaidOut.{tables_in_text, chars_in, layout_in_text, shown_in};
     ghost use Rattle.texts.specs.Taken.{IsTaken, TextIsRefused};
     ghost use Rattle.ucdfiles.specs.Tables.{units_by};
 
@@ -109,6 +109,7 @@ impl<'t> Text<'t> {
     ) -> Result<Text<'t>, AllocError>
         requires breaks { breaks.now.len ≡ length chars.items }
         requires fits { length chars.items ≤ longest_text }
+        ensures tables { IfOk result (λ laid. tables_in_text laid ≡ tables.now) }
         ensures text { IfOk result (λ laid. chars_in laid ≡ chars.items) }
         ensures laid_out { IfOk result (λ laid. layout_in_text laid
             ≡ layout_of standard (units_by tables.now chars.items) direction breaks.now.positions) }
@@ -133,6 +134,7 @@ impl<'t> Text<'t> {
         breaks: &[usize],
     ) -> Result<Text<'t>, TextFault>
         ensures taken { OnOk result (IsTaken (chars text.now) breaks.now) }
+        ensures tables { IfOk result (λ laid. tables_in_text laid ≡ tables.now) }
         ensures text { IfOk result (λ laid. chars_in laid ≡ chars text.now) }
         ensures laid_out { IfOk result (λ laid. layout_in_text laid
             ≡ layout_of standard (units_by tables.now (chars text.now)) direction breaks.now) }
@@ -165,11 +167,11 @@ impl<'t> Text<'t> {
     }
 
     /// The line with the number `k`, counted from 0, as it is shown: its characters from left to right, each whose
-    /// level is odd as its mirror image, where it has one (L4).
+    /// level is odd as its mirror image, where the tables that the text was laid out by have one (L4).
     pub fn shown_line(&self, alloc: Global, k: usize) -> Result<String, AllocError>
         requires { k < length (layout_in_text self.now).lines }
         ensures { IfOk result (λ shown. string_bytes shown
-            ≡ encode_utf8_all (shown_in self.now (slice_index_or (layout_in_text self.now).lines k no_line))) }
+            ≡ encode_utf8_all (shown_in self.now (line_at (layout_in_text self.now) k))) }
     {
         let layout = self.layout();
         layout

@@ -6,15 +6,15 @@ use Rattle.std.proofs.lemmas.Bool.{le-ltb}
 use Rattle.std.proofs.lemmas.List.{length-take}
 use Rattle.std.proofs.lemmas.List.Sums.{prefix_len-le-length}
 use Rattle.std.proofs.Math.ListN.{drop_of_length-le}
-use Rattle.units.specs.Text.{content_of, trimmed, fields_of, without_blanks_before}
+use Rattle.units.specs.Text.{longest_line, content_of, trimmed, fields_of, without_blanks_before}
 use Rattle.units.specs.ClassNames.{class_of_short}
 use Rattle.ucdfiles.specs.declared.span.FileLine.TheVariants.{Silent, Data}
 use Rattle.ucdfiles.specs.ClassFile.{class_line_says, class_content_says, comment_says, range_in}
 use Rattle.ucdfiles.specs.Statements.{span_says}
 
-class_line_says-short : (line : List ℕ) → length line ≤ 65536 → class_line_says line ≡ class_content_says line (content_of line)
+class_line_says-short : (line : List ℕ) → length line ≤ longest_line → class_line_says line ≡ class_content_says line (content_of line)
 unfolding class_line_says
-class_line_says-short line le = let e : nat_lt 65536 (length line) ≡ false = le-ltb _ _ le in rw e refl
+class_line_says-short line le = let e : nat_lt longest_line (length line) ≡ false = le-ltb _ _ le in rw e refl
 
 class_content_says-some : (line content : List ℕ) → 0 < length content → class_content_says line content ≡ span_says Data (range_in class_of_short (fields_of content))
 class_content_says-some line [] lt = absurd (omega arith)
@@ -24,13 +24,13 @@ class_content_says-none : (line content : List ℕ) → length content ≡ 0 →
 class_content_says-none line [] e = refl
 class_content_says-none line (b ∷ bs) e = absurd (omega arith)
 
-pub class_line_says-data : (line before content : List ℕ) → length line ≤ 65536 → before ≡ before_first (λ b. b == 35) line → content ≡ trimmed before → 0 < length content
+pub class_line_says-data : (line before content : List ℕ) → length line ≤ longest_line → before ≡ before_first (λ b. b == 35) line → content ≡ trimmed before → 0 < length content
     → class_line_says line ≡ span_says Data (range_in class_of_short (fields_of content))
 class_line_says-data line before content le cut trim some =
     let e : content ≡ content_of line = trim ∙ ap trimmed cut in
     class_line_says-short line le ∙ ap (class_content_says line) (sym e) ∙ class_content_says-some line content some
 
-pub class_line_says-comment : (line before content comment : List ℕ) → length line ≤ 65536 → before ≡ before_first (λ b. b == 35) line → content ≡ trimmed before → length content ≡ 0
+pub class_line_says-comment : (line before content comment : List ℕ) → length line ≤ longest_line → before ≡ before_first (λ b. b == 35) line → content ≡ trimmed before → length content ≡ 0
     → comment ≡ after_first (λ b. b == 35) line → class_line_says line ≡ comment_says (without_blanks_before comment)
 class_line_says-comment line before content comment le cut trim none behind =
     let e : content ≡ content_of line = trim ∙ ap trimmed cut in
@@ -44,6 +44,6 @@ no_comment line e =
     let past : length line ≤ p + 1 = omega (arith, length-take p line, same, le) in
     sym (drop_of_length-le line past)
 
-pub class_line_says-silent : (line before content : List ℕ) → length line ≤ 65536 → before ≡ before_first (λ b. b == 35) line → content ≡ trimmed before → length content ≡ 0
+pub class_line_says-silent : (line before content : List ℕ) → length line ≤ longest_line → before ≡ before_first (λ b. b == 35) line → content ≡ trimmed before → length content ≡ 0
     → before_first (λ b. b == 35) line ≡ line → class_line_says line ≡ Silent
 class_line_says-silent line before content le cut trim none whole = class_line_says-comment line before content [] le cut trim none (no_comment line whole)

@@ -11,7 +11,7 @@ use Rattle.std.proofs.lemmas.List.Folds.{find-append, list_any-append}
 use Rattle.ucdfiles.specs.declared.fault.Fault.{Fault}
 use Rattle.ucdfiles.specs.declared.span.Span.{Span}
 use Rattle.ucdfiles.proofs.Bools.{and_false, known, both_true, both_false, or_moves}
-use Rattle.ucdfiles.specs.Spans.{holds, overlaps, IsRising, Adds, data_fault, revalued}
+use Rattle.ucdfiles.specs.Spans.{most_data, holds, overlaps, IsRising, Adds, data_fault, revalued}
 
 module _ {V : Type 0} where
   pub parted : (rs : List (Span V)) (code : ℕ) → IsRising rs → IsPartitionedBy (λ (r : Span V). ltb r.last code) rs
@@ -132,8 +132,8 @@ module _ {V : Type 0} where
   pub begins_above : (rs : List (Span V)) (n code : ℕ) (d : Span V) → code < (get_or rs n d).first → n < length rs → (e : Span V) → code < (get_or rs n e).first
   begins_above rs n code d above lt e = omega (arith, above, ap (λ (r : Span V). r.first) (get_or_default rs n d e lt))
 
-  pub data_fault-none : (taken : Fault) (rs : List (Span V)) (span : Span V) → length rs < 65536 → list_any (overlaps span) rs ≡ false → data_fault taken rs span ≡ None
-  data_fault-none taken rs span lt none = let e : leb 65536 (length rs) ≡ false = lt-leb _ _ lt in rw (e, none) refl
+  pub data_fault-none : (taken : Fault) (rs : List (Span V)) (span : Span V) → length rs < most_data → list_any (overlaps span) rs ≡ false → data_fault taken rs span ≡ None
+  data_fault-none taken rs span lt none = let e : leb most_data (length rs) ≡ false = lt-leb _ _ lt in rw (e, none) refl
 
   -- one more span between those below it and those above it
   pub rising-insert : (rs : List (Span V)) (n : ℕ) (span : Span V) → span.first ≤ span.last → IsRising rs → n ≤ length rs → AllWithin (λ (r : Span V). r.last < span.first) rs 0 n

@@ -1,7 +1,7 @@
 -- The lines of a byte list, by its cutting into lines.
 use Rattle.std.proofs.Common.{◌≡◌, ℕ, ◌<◌, Bool, true, false, List, [], ◌∷◌, ◌++◌, length, flat_map, refl, ap, ◌∙◌, arith, append_assoc, append-nil}
 use Rattle.std.proofs.lemmas.Bool.{lt-ltb, le-ltb}
-use Rattle.units.specs.Text.{cut_at, lines_with, lines_of, settled_lines, has_bytes, is_over_long}
+use Rattle.units.specs.Text.{longest_line, cut_at, lines_with, lines_of, settled_lines, has_bytes, is_over_long}
 use Rattle.units.specs.Lines.{CutsInto, IsTooLongAfter, ended}
 use Rattle.units.proofs.Ranges.{cut_at-some}
 use Rattle.units.proofs.LineReading.{cut_lines-ended, cut_lines-CutsInto, cut_lines-long}
@@ -45,7 +45,7 @@ settled-more bytes lines more whole =
 
 -- nor an over-long one
 pub settled-long : (bytes : List ℕ) (lines : List (List ℕ)) (more : List ℕ) → IsTooLongAfter bytes lines
-    → (long : List ℕ) × (later : List (List ℕ)) × (65536 < length long) × (settled_lines (bytes ++ more) ≡ lines ++ long ∷ later)
+    → (long : List ℕ) × (later : List (List ℕ)) × (longest_line < length long) × (settled_lines (bytes ++ more) ≡ lines ++ long ∷ later)
 settled-long bytes lines more over =
     let rest = over.more ++ more in
     let first = cut_lines-long over.long rest over.feeds in
@@ -53,7 +53,7 @@ settled-long bytes lines more over =
     ap (λ v. v ++ more) over.whole ∙ append_assoc (flat_map ended lines ++ over.long) over.more more ∙ append_assoc (flat_map ended lines) over.long rest in
     let cuts : cut_at 10 (bytes ++ more) ≡ lines ++ first.0 ∷ first.1 =
     ap (cut_at 10) whole ∙ cut_lines-ended lines (over.long ++ rest) over.each ∙ ap (λ ls. lines ++ ls) first.2 in
-    let above : 65536 < length first.0 = omega (arith, first.3, over.above) in
+    let above : longest_line < length first.0 = omega (arith, first.3, over.above) in
     let counts : is_over_long first.0 ≡ true = lt-ltb _ _ above in
     let w = lines_with-first is_over_long first.0 first.1 counts in
     (first.0, w.0, above, ap (lines_with is_over_long) cuts ∙ lines_with-append is_over_long lines first.0 first.1 ∙ ap (λ ls. lines ++ ls) w.1)

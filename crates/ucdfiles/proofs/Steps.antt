@@ -9,6 +9,7 @@ use Rattle.units.specs.declared.line_cut.Step.{Step}
 use Rattle.units.specs.declared.line_cut.Step.TheVariants.{More, Line, TooLong}
 use Rattle.units.proofs.LineAppending.{ended_lines-CutsInto}
 use Rattle.units.proofs.LineRunning.{lines-before}
+use Rattle.units.specs.Text.{longest_line}
 use Rattle.ucdfiles.specs.declared.fault.Fault.{Fault}
 use Rattle.ucdfiles.specs.declared.fault.TableFault.{TableFault}
 use Rattle.ucdfiles.specs.Faults.{fault_at, first_fault, over_long_line}
@@ -50,7 +51,7 @@ module _ (before after : List (List ℕ) → Type 0) (fault : List (List ℕ) �
       }
   step-ok (TooLong number) r cuts answer step = absurd step
 
-  pub step-err : (step : Step) (e : TableFault) (more : List ℕ) → ((lines : List (List ℕ)) (line : List ℕ) → 65536 < length line → fault lines line ≡ Some over_long_line)
+  pub step-err : (step : Step) (e : TableFault) (more : List ℕ) → ((lines : List (List ℕ)) (line : List ℕ) → longest_line < length line → fault lines line ≡ Some over_long_line)
       → Reads before fault old b → used ≤ length piece → EndsByFeed used piece → Answers b piece used step → IsRefusal before fault step e → Refuses fault ((b ++ take used piece) ++ more) e
   step-err More e more long r le through answer refused = absurd refused
   step-err (Line number text) e more long r le through answer refused =

@@ -26,6 +26,10 @@ pub record Stages (V : Type 0) : Type 0 where
 abbrev pub stage_at : {V : Type 0} → Stages V → ℕ → V → V
 stage_at stages c none = slice_index_or stages.values (slice_index_or stages.places (c / 128) 0 * 128 + c % 128) none
 
+-- the greatest number of blocks: as many as a place of two bytes names
+abbrev pub most_blocks : ℕ
+most_blocks = 65536
+
 -- each block of code points has a place, and each place a block of values
 pub record AreStages {V : Type 0} (stages : Stages V) : Type 0 where
   pub blocks : length stages.places ≡ 8704

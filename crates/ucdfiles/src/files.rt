@@ -29,7 +29,7 @@ pub enum FileFault {
 }
 
 /// The classes that these bytes state.
-fn classes_of(alloc: Global, bytes: &[u8]) -> Result<ClassTable, TableFault>
+fn read_classes(alloc: Global, bytes: &[u8]) -> Result<ClassTable, TableFault>
     ensures ok { IfOk result (λ table. StatesClasses bytes.now (class_by table)) }
     ensures err { IfErr result (IsFaulty class_fault bytes.now) }
 {
@@ -38,7 +38,7 @@ fn classes_of(alloc: Global, bytes: &[u8]) -> Result<ClassTable, TableFault>
 }
 
 /// The brackets that these bytes state.
-fn brackets_of(alloc: Global, bytes: &[u8]) -> Result<BracketTable, TableFault>
+fn read_brackets(alloc: Global, bytes: &[u8]) -> Result<BracketTable, TableFault>
     ensures ok { IfOk result (λ table. StatesBrackets bytes.now (bracket_by table)) }
     ensures err { IfErr result (IsFaulty bracket_fault bytes.now) }
 {
@@ -47,7 +47,7 @@ fn brackets_of(alloc: Global, bytes: &[u8]) -> Result<BracketTable, TableFault>
 }
 
 /// The mirror images that these bytes state.
-fn mirrors_of(alloc: Global, bytes: &[u8]) -> Result<MirrorTable, TableFault>
+fn read_mirrors(alloc: Global, bytes: &[u8]) -> Result<MirrorTable, TableFault>
     ensures ok { IfOk result (λ table. StatesMirrors bytes.now (glyph_by table)) }
     ensures err { IfErr result (IsFaulty mirror_fault bytes.now) }
 {
@@ -67,15 +67,15 @@ impl Tables {
         ensures ok { IfOk result (StateTables classes.now brackets.now mirrors.now) }
         ensures err { IfErr result (IsFirstFaulty classes.now brackets.now mirrors.now) }
     {
-        let classes = match classes_of(alloc, classes) {
+        let classes = match read_classes(alloc, classes) {
             Ok(table) => table,
             Err(fault) => return Err(FileFault::Classes(fault)),
         };
-        let brackets = match brackets_of(alloc, brackets) {
+        let brackets = match read_brackets(alloc, brackets) {
             Ok(table) => table,
             Err(fault) => return Err(FileFault::Brackets(fault)),
         };
-        match mirrors_of(alloc, mirrors) {
+        match read_mirrors(alloc, mirrors) {
             Ok(mirrors) => Ok(Tables::new(classes, brackets, mirrors)),
             Err(fault) => Err(FileFault::Mirrors(fault)),
         }

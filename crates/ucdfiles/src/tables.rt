@@ -33,7 +33,7 @@ impl Model for Tables {
 }
 
 // Whether the span is one character, whose class is ON.
-fn is_neutral(classes: &ClassTable, span: &Span<Bracket>) -> bool
+fn is_other_neutral(classes: &ClassTable, span: &Span<Bracket>) -> bool
     ensures { result ≡ true → (c : ℕ) → holds c span.now ≡ true → class_by classes.now c ≡ ON }
 {
     match char::from_u32(span.first) {
@@ -47,7 +47,7 @@ fn are_neutral(classes: &ClassTable, brackets: &BracketTable) -> bool
     ensures { result ≡ true → AreNeutral classes.now brackets.now }
 {
     for span in brackets.spans() {
-        if !is_neutral(classes, span) {
+        if !is_other_neutral(classes, span) {
             return false;
         }
     }

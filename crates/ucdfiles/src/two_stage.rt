@@ -4,7 +4,7 @@ ghost use Rattle.std.specs.Prelude.{List, ◌++◌};
 ghost use Rattle.std.specs.List.{find};
 ghost use Rattle.std.specs.Option.{unwrap_or};
 ghost use Rattle.ucdfiles.specs.Spans.{holds, IsRising, value_in};
-ghost use Rattle.ucdfiles.specs.Stages.{IsPainted, value_over, value_over_all, stage_at, HasBlock};
+ghost use Rattle.ucdfiles.specs.Stages.{IsPainted, value_over, value_over_all, stage_at, most_blocks, HasBlock};
 
 use crate::span::Span;
 use crate::spans::{beginning_by, ending_from};
@@ -114,7 +114,7 @@ fn place_of<V: Copy + PartialEq>(values: &mut Vec<V>, block: &[V]) -> Result<u16
     requires exact { (x y : V) → V.eq x y ≡ true → x ≡ y }
     requires block { length block.now ≡ 128 }
     requires whole { length values.old.items % 128 ≡ 0 }
-    requires room { length values.old.items < 128 * 65536 }
+    requires room { length values.old.items < 128 * most_blocks }
     ensures whole { OnOk result (length values.new.items % 128 ≡ 0) }
     ensures most { OnOk result (length values.new.items ≤ length values.old.items + 128) }
     ensures kept { OnOk result ((more : List V) × (values.new.items ≡ values.old.items ++ more)) }

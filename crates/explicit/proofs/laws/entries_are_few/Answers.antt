@@ -7,5 +7,5 @@ returns-clause-defined c = λ depth cs para qs low.
     omega (arith, entries-few depth cs para qs, level-bound depth cs para qs depth (omega arith) low)
 
 pub returns-clause-kept : goal.returns-clause-kept
-returns-clause-kept c = λ depth cs para qs stack low is.
+returns-clause-kept c = λ depth cs para low qs stack is.
     omega (arith, ap length is.entries, entries-few depth cs para qs, level-bound depth cs para qs depth (omega arith) low)

@@ -1,6 +1,6 @@
 use Rattle.std.proofs.Common.{◌∙◌, ap, length}
 use Rattle.units.specs.Layout.{TextLayout}
-use Rattle.printing.proofs.Lengths.{length-levels}
+use Rattle.lines.proofs.Lengths.{length-levels}
 use Rattle.printing.proofs.print.print_lines_of.Goals as goal
 
 pub print_lines-requires-clause-levels : goal.print_lines-requires-clause-levels

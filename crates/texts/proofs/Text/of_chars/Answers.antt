@@ -1,6 +1,7 @@
 use Rattle.std.proofs.Common.{◌≡◌, ◌∙◌, ap, length}
+use Rattle.std.proofs.lemmas.List.{length-map}
 use Rattle.units.specs.Layout.{TextLayout}
-use Rattle.lines.proofs.Lengths.{length-levels, length-mapped}
+use Rattle.lines.proofs.Lengths.{length-levels}
 use Rattle.ucdfiles.specs.Tables.{units_by}
 use Rattle.texts.proofs.Text.of_chars.Goals as goal
 
@@ -9,4 +10,4 @@ invariant_of-result-clause-whole c =
     let laid = rw c.unwrap.ensures at c.lay_in.ensures.laid_out in
     let units : c.deref-2.result.now ≡ units_by c.args.tables.now c.args.chars.items =
     c.deref-2.ensures.value ∙ c.in_ok-units.ensures ∙ ap (units_by c.args.tables.now) c.deref.ensures.value in
-    ap (λ (layout : TextLayout). length layout.levels) laid ∙ length-levels _ _ _ _ ∙ ap length units ∙ length-mapped _ _
+    ap (λ (layout : TextLayout). length layout.levels) laid ∙ length-levels _ _ _ _ ∙ ap length units ∙ length-map _ _

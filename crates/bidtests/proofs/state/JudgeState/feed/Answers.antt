@@ -1,7 +1,7 @@
 use Rattle.std.proofs.Common.{length, take, drop, ◌-◌, ◌++◌, refl, sym, ◌∙◌}
 use Rattle.bidtests.specs.Standing.{StateOf, judging, tables_of}
 use Rattle.bidtests.proofs.Judged.{feeds-on, feeds-some, none-from}
-use Rattle.bidtests.proofs.Pieces.{joined, within}
+use Rattle.ucdfiles.proofs.Pieces.{joined, within}
 use Rattle.bidtests.proofs.SameTables.{holds-for}
 use Rattle.bidtests.proofs.state.JudgeState.feed.Goals as goal
 

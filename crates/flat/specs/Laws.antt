@@ -1,0 +1,22 @@
+-- What the laws say of paragraphs in which most rules have nothing to do.
+use Rattle.std.specs.Prelude.{ℕ, ◌≡◌, List, map}
+use Rattle.units.specs.Layout.{after_brackets, resolved_levels}
+use Rattle.units.specs.Limits.{LimitsOf}
+use Rattle.units.specs.Runs.{SequenceView}
+use Rattle.units.specs.declared.bracket.Unit.{Unit as BidiUnit}
+use Rattle.units.specs.declared.class.Class.{Class}
+use Rattle.flat.specs.Flat.{flat_resolved_levels}
+use Rattle.flat.specs.Uniform.{kept_level}
+
+-- N0 changes nothing in the sequence, whatever its classes before W1 and after W7 are
+abbrev pub HasIdleBrackets : ℕ → SequenceView → List BidiUnit → Type 0
+HasIdleBrackets most_open s us = (before weak : List Class) → after_brackets most_open s us before weak ≡ weak
+
+-- W1 to I2: at this level the paragraph's resolved levels are those of its one sequence
+abbrev pub ResolvesAsOne : LimitsOf → List BidiUnit → ℕ → Type 0
+ResolvesAsOne limits us para_level = resolved_levels limits us para_level ≡ flat_resolved_levels limits us para_level
+
+-- X1 to I2: each position of the paragraph that remains has this level
+abbrev pub KeepsItsLevel : LimitsOf → List BidiUnit → ℕ → Type 0
+KeepsItsLevel limits us para_level =
+    resolved_levels limits us para_level ≡ map (λ unit. kept_level para_level unit.class) us

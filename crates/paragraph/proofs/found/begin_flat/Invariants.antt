@@ -1,0 +1,15 @@
+use Rattle.std.proofs.Common.{◌≡◌, ◌<◌, ◌+◌, ℕ, None, take}
+use Rattle.std.specs.List.{list_any}
+use Rattle.units.specs.Brackets.{is_open}
+use Rattle.units.specs.Classes.{classes_of}
+use Rattle.resolve.specs.Raised.{resolved_at}
+use Rattle.paragraph.proofs.found.begin_flat.Given as goal
+
+abbrev pub invariant-loop-p : goal.invariant-loop-p
+invariant-loop-p g l = record {
+  opened : l.opened ≡ list_any (λ unit. is_open unit.bracket) (take l.p l.para);
+  before : take l.p l.before ≡ classes_of (take l.p l.para);
+  classes : take l.p l.classes ≡ classes_of (take l.p l.para);
+  none : (q : ℕ) → q < l.p → resolved_at l.levels q ≡ None;
+  steps : l.steps ≡ l.initial.steps + l.p;
+}

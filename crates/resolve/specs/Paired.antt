@@ -1,0 +1,21 @@
+-- What is said of the bracket pairs of a sequence between W7 and N0.
+use Rattle.std.specs.Prelude.{Option, ℕ, false, ◌≡◌, List}
+use Rattle.units.specs.Classes.{classes_at}
+use Rattle.units.specs.Layout.{brackets_of, after_brackets}
+use Rattle.units.specs.Runs.{SequenceView}
+use Rattle.units.specs.Weak.{after_weak}
+use Rattle.units.specs.declared.bracket.Unit.{Unit as BidiUnit}
+use Rattle.units.specs.declared.class.Class.{Class}
+use Rattle.resolve.specs.Pairs.{HoldsPairs, HoldsPairsOf}
+use Rattle.resolve.specs.Rewritten.{Rewrites}
+
+-- BD14 to BD16: the table holds the pairs of the sequence by its classes after W7
+abbrev pub HoldsPairsAfterWeak : ℕ → SequenceView → List BidiUnit → List Class → List (Option ℕ) → Type 0
+HoldsPairsAfterWeak most_open s us before table =
+    HoldsPairsOf most_open s.positions (brackets_of s us (after_weak s.sos (classes_at before s.positions))) table
+
+-- N0: whichever paragraph's pairs the table holds, the sequence's classes become what N0 makes of them by these pairs
+abbrev pub RewritesByPairs : SequenceView → List Class → List (Option ℕ) → List Class → List Class → Type 0
+RewritesByPairs s before table old new =
+    (most_open : ℕ) (para : List BidiUnit) → HoldsPairs most_open s.positions para old table
+    → Rewrites (after_brackets most_open s para (classes_at before s.positions)) s.positions old new

@@ -1,0 +1,21 @@
+-- What the laws say of the sequences of a paragraph (BD13).
+use Rattle.std.specs.Prelude.{Some, ℕ, ◌+◌, ◌<◌, ◌≡◌, length, slice_get, slice_index, Contains}
+use Rattle.units.specs.Runs.{LeveledView, SequenceView, sequences_of, successor}
+
+-- the sequence with the number j
+abbrev pub IsSequenceAt : LeveledView → ℕ → SequenceView → Type 0
+IsSequenceAt t j s = slice_get (sequences_of t) j ≡ Some s
+
+-- no position stands in both
+abbrev pub ShareNoPosition : SequenceView → SequenceView → Type 0
+ShareNoPosition s other = (p : ℕ) → Contains s.positions p → Contains other.positions p → ⊥
+
+-- no position stands in two sequences
+abbrev pub SequencesAreApart : LeveledView → Type 0
+SequencesAreApart t =
+    (j k : ℕ) (s other : SequenceView) → IsSequenceAt t j s → IsSequenceAt t k other → j < k → ShareNoPosition s other
+
+-- each position stands before its successor, and the last has none
+abbrev pub FollowsSuccessors : LeveledView → SequenceView → Type 0
+FollowsSuccessors t s =
+    (k : ℕ) → k < length s.positions → successor t (slice_index s.positions k) ≡ slice_get s.positions (k + 1)
