@@ -1,15 +1,15 @@
 //! What rows are made of: units of a paragraph, and its levels as digits.
-ghost use Rattle.std.specs.Prelude.{◌≡◌, length, IfOk, IsTrue};
+ghost use Rattle.std.specs.Prelude.{◌≡◌, IsTrue};
 ghost use Rattle.std.specs.List.{list_any};
 ghost use Rattle.units.specs.Classes.{is_separator};
 ghost use Rattle.units.specs.Paragraphs.{SeparatorOnlyLast};
 
 use std::alloc::Global;
 use std::process::Abort;
+use std::test::Fail;
 use units::bracket::{Bracket, Key, Unit};
 use units::class::Class;
 use units::level::Level;
-use units::memory::Memory;
 
 /// A unit of this class that is no bracket.
 pub fn plain(class: Class) -> Unit {
@@ -35,11 +35,39 @@ pub fn close(key: u32) -> Unit {
     }
 }
 
-/// Units of these classes, none of them a bracket.
-pub fn units_of(alloc: Global, classes: &[Class]) -> Result<Vec<Unit>, Memory>
-    ensures { IfOk result (λ units. length units.items ≡ length classes.now) }
-{
-    Ok(classes.iter().map(|class| plain(*class)).collect(alloc)?)
+/// The classes with these short names, which blanks part.
+pub fn classes(rt: &impl Abort, alloc: Global, names: &str) -> Result<Vec<Class>, Fail> {
+    let mut classes = Vec::new(alloc);
+    for name in names.split(' ') {
+        match Class::from_short(name.as_bytes()) {
+            Some(class) => classes.push(class)?,
+            None => panic!(rt; "no class is named {name}"),
+        }
+    }
+    Ok(classes)
+}
+
+/// The unit with this name: a class's short name, or a bracket of one of two kinds.
+fn unit_of(name: &str) -> Option<Unit> {
+    match name {
+        "(" => Some(open(1)),
+        ")" => Some(close(1)),
+        "[" => Some(open(2)),
+        "]" => Some(close(2)),
+        _ => Class::from_short(name.as_bytes()).map(plain),
+    }
+}
+
+/// The units with these names, which blanks part.
+pub fn units_of(rt: &impl Abort, alloc: Global, names: &str) -> Result<Vec<Unit>, Fail> {
+    let mut units = Vec::new(alloc);
+    for name in names.split(' ') {
+        match unit_of(name) {
+            Some(unit) => units.push(unit)?,
+            None => panic!(rt; "no unit is named {name}"),
+        }
+    }
+    Ok(units)
 }
 
 fn has_separator(units: &[Unit]) -> bool

@@ -2,7 +2,7 @@
 ghost use Rattle.std.specs.Prelude.{◌≡◌, ◌<◌};
 ghost use Rattle.units.specs.Paragraphs.{SeparatorOnlyLast};
 
-use crate::given::{assert_shown, close, is_paragraph, open, plain};
+use crate::given::{assert_shown, close, is_paragraph, open, plain, units_of};
 use paragraph::resolver::Resolver;
 use std::alloc::Global;
 use std::marker::Brand;
@@ -42,17 +42,6 @@ fn assert_levels(
     alloc: Global,
     para: &[Unit],
     direction: Direction,
-    shown: &[u8],
-) -> Result<(), Memory> {
-    assert_levels_with(rt, alloc, para, direction, Limits::standard(), shown)
-}
-
-/// The same under these limits.
-fn assert_levels_with(
-    rt: &impl Abort,
-    alloc: Global,
-    para: &[Unit],
-    direction: Direction,
     limits: Limits,
     shown: &[u8],
 ) -> Result<(), Memory> {
@@ -62,67 +51,69 @@ fn assert_levels_with(
     Ok(())
 }
 
+/// The names of a paragraph's units, its direction, and its levels.
+type Row = (&'static str, Direction, &'static [u8]);
+
+/// Checks the levels of each row.
+fn assert_rows(rt: &impl Abort, alloc: Global, rows: &[Row]) -> Result<(), Fail> {
+    for (names, direction, shown) in rows {
+        let para = units_of(rt, alloc, names)?;
+        assert_levels(rt, alloc, &para, *direction, Limits::standard(), shown)?;
+    }
+    Ok(())
+}
+
 #[test]
 fn weak_types(rt: HostRuntime) -> Result<(), Fail> {
-    let (alloc, ltr) = (rt.alloc(), Direction::Ltr);
-    let (r, al) = (plain(Class::R), plain(Class::AL));
-    let (en, an, nsm) = (plain(Class::EN), plain(Class::AN), plain(Class::NSM));
-    let (es, et, cs) = (plain(Class::ES), plain(Class::ET), plain(Class::CS));
-    let marks = [nsm, en, es, en, et, cs, an];
-    assert_levels(&rt, alloc, &marks, ltr, b"0000002")?;
-    let terminators = [r, en, cs, en, et, et, nsm];
-    assert_levels(&rt, alloc, &terminators, ltr, b"1222222")?;
-    assert_levels(&rt, alloc, &[al, en, cs, en], ltr, b"1222")?;
-    assert_levels(&rt, alloc, &[en], ltr, b"0")?;
-    let unmatched = [al, plain(Class::FSI), r];
-    assert_levels(&rt, alloc, &unmatched, ltr, b"101")?;
-    Ok(())
+    let rows: [Row; 5] = [
+        ("NSM EN ES EN ET CS AN", Direction::Ltr, b"0000002"),
+        ("R EN CS EN ET ET NSM", Direction::Ltr, b"1222222"),
+        ("AL EN CS EN", Direction::Ltr, b"1222"),
+        ("EN", Direction::Ltr, b"0"),
+        ("AL FSI R", Direction::Ltr, b"101"),
+    ];
+    assert_rows(&rt, rt.alloc(), &rows)
 }
 
 #[test]
 fn removed_in_flat_paragraphs(rt: HostRuntime) -> Result<(), Fail> {
-    let (alloc, ltr) = (rt.alloc(), Direction::Ltr);
-    let (l, r, en) = (plain(Class::L), plain(Class::R), plain(Class::EN));
-    let (bn, pdf, pdi) = (plain(Class::BN), plain(Class::PDF), plain(Class::PDI));
-    assert_levels(&rt, alloc, &[l, bn, l, pdf], ltr, b"0x0x")?;
-    assert_levels(&rt, alloc, &[r, bn, r, pdf], Direction::Auto, b"1x1x")?;
-    assert_levels(&rt, alloc, &[bn, r, bn, en, pdi, pdf, l], ltr, b"x1x20x0")?;
-    assert_levels(&rt, alloc, &[bn, pdf], Direction::Rtl, b"xx")?;
-    Ok(())
+    let rows: [Row; 4] = [
+        ("L BN L PDF", Direction::Ltr, b"0x0x"),
+        ("R BN R PDF", Direction::Auto, b"1x1x"),
+        ("BN R BN EN PDI PDF L", Direction::Ltr, b"x1x20x0"),
+        ("BN PDF", Direction::Rtl, b"xx"),
+    ];
+    assert_rows(&rt, rt.alloc(), &rows)
 }
 
 #[test]
 fn pairs_by_what_stands_inside(rt: HostRuntime) -> Result<(), Fail> {
-    let (alloc, ltr) = (rt.alloc(), Direction::Ltr);
-    let (l, r) = (plain(Class::L), plain(Class::R));
-    let only_opposite = [r, open(1), l, close(1), r];
-    assert_levels(&rt, alloc, &only_opposite, Direction::Rtl, b"11211")?;
-    assert_levels(&rt, alloc, &[l, open(1), r, close(1)], ltr, b"0010")?;
-    assert_levels(&rt, alloc, &[l, open(2), r, close(2), r], ltr, b"00101")?;
-    let outer_first = [r, open(1), open(1), r, close(1), l, close(1)];
-    assert_levels(&rt, alloc, &outer_first, ltr, b"1001000")?;
-    let lone_closer = [l, open(1), close(3), r, close(1), r];
-    assert_levels(&rt, alloc, &lone_closer, ltr, b"000101")?;
-    Ok(())
+    let rows: [Row; 5] = [
+        // only the opposite direction
+        ("R ( L ) R", Direction::Rtl, b"11211"),
+        ("L ( R )", Direction::Ltr, b"0010"),
+        ("L [ R ] R", Direction::Ltr, b"00101"),
+        // the outer one first
+        ("R ( ( R ) L )", Direction::Ltr, b"1001000"),
+        // past a lone closing one
+        ("L ( ] R ) R", Direction::Ltr, b"000101"),
+    ];
+    assert_rows(&rt, rt.alloc(), &rows)
 }
 
 #[test]
 fn marks_behind_brackets(rt: HostRuntime) -> Result<(), Fail> {
-    let (alloc, ltr) = (rt.alloc(), Direction::Ltr);
-    let (l, r, nsm) = (plain(Class::L), plain(Class::R), plain(Class::NSM));
-    assert_levels(
-        &rt,
-        alloc,
-        &[r, open(1), r, close(1), nsm, l],
-        ltr,
-        b"111110",
-    )?;
-    let two_marks = [r, open(1), r, close(1), nsm, nsm, l];
-    assert_levels(&rt, alloc, &two_marks, ltr, b"1111110")?;
-    let (lre, lro, pdf) = (plain(Class::LRE), plain(Class::LRO), plain(Class::PDF));
-    let overridden = [lre, r, open(1), r, close(1), pdf, lro, nsm, pdf, pdf, l];
-    assert_levels(&rt, alloc, &overridden, ltr, b"x3333xx2xx0")?;
-    Ok(())
+    let rows: [Row; 3] = [
+        ("R ( R ) NSM L", Direction::Ltr, b"111110"),
+        ("R ( R ) NSM NSM L", Direction::Ltr, b"1111110"),
+        // LRO makes the mark L
+        (
+            "LRE R ( R ) PDF LRO NSM PDF PDF L",
+            Direction::Ltr,
+            b"x3333xx2xx0",
+        ),
+    ];
+    assert_rows(&rt, rt.alloc(), &rows)
 }
 
 /// A pair round R, and behind it `n` pairs in one another round R.
@@ -158,26 +149,35 @@ fn deep_levels(alloc: Global, n: usize, closing: u8) -> Result<Vec<u8>, Memory>
 
 #[test]
 fn full_stack(rt: HostRuntime) -> Result<(), Fail> {
-    let (alloc, ltr) = (rt.alloc(), Direction::Ltr);
-    let all_pair = deep_levels(alloc, 63, b'0')?;
-    assert_levels(&rt, alloc, &deep(alloc, 63)?, ltr, &all_pair)?;
-    let first_pairs = deep_levels(alloc, 64, b'1')?;
-    assert_levels(&rt, alloc, &deep(alloc, 64)?, ltr, &first_pairs)?;
+    let (alloc, limits) = (rt.alloc(), Limits::standard());
+    for (n, closing) in [(63, b'0'), (64, b'1')] {
+        let levels = deep_levels(alloc, n, closing)?;
+        assert_levels(
+            &rt,
+            alloc,
+            &deep(alloc, n)?,
+            Direction::Ltr,
+            limits,
+            &levels,
+        )?;
+    }
     Ok(())
 }
 
 #[test]
 fn limits_that_are_handed_in(rt: HostRuntime) -> Result<(), Fail> {
-    let (alloc, ltr) = (rt.alloc(), Direction::Ltr);
-    let (l, r) = (plain(Class::L), plain(Class::R));
-    let embedded = [plain(Class::RLE), plain(Class::LRE), r];
-    assert_levels_with(&rt, alloc, &embedded, ltr, Limits::new(1, 63)?, b"xx1")?;
-    assert_levels_with(&rt, alloc, &embedded, ltr, Limits::standard(), b"xx3")?;
-    let flat = [l, open(2), r, close(2), r];
-    assert_levels_with(&rt, alloc, &flat, ltr, Limits::new(125, 1)?, b"00101")?;
-    assert_levels_with(&rt, alloc, &flat, ltr, Limits::new(125, 0)?, b"00111")?;
-    let isolated = [l, open(2), r, close(2), r, plain(Class::FSI)];
-    assert_levels_with(&rt, alloc, &isolated, ltr, Limits::new(125, 1)?, b"001010")?;
-    assert_levels_with(&rt, alloc, &isolated, ltr, Limits::new(125, 0)?, b"001110")?;
+    let rows = [
+        ("RLE LRE R", 1, 63, b"xx1".as_slice()),
+        ("RLE LRE R", 125, 63, b"xx3"),
+        ("L [ R ] R", 125, 1, b"00101"),
+        ("L [ R ] R", 125, 0, b"00111"),
+        ("L [ R ] R FSI", 125, 1, b"001010"),
+        ("L [ R ] R FSI", 125, 0, b"001110"),
+    ];
+    for (names, depth, brackets, shown) in rows {
+        let para = units_of(&rt, rt.alloc(), names)?;
+        let limits = Limits::new(depth, brackets)?;
+        assert_levels(&rt, rt.alloc(), &para, Direction::Ltr, limits, shown)?;
+    }
     Ok(())
 }

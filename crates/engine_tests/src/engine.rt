@@ -1,0 +1,119 @@
+//! What stands before the rules of a sequence: the isolates, the level, the explicit levels and the sequences of a
+//! paragraph.
+ghost use Rattle.std.specs.Prelude.{◌≡◌, ◌<◌, length, IfOk};
+ghost use Rattle.explicit.specs.IsolateMaps.{room};
+ghost use Rattle.units.specs.Paragraphs.{SeparatorOnlyLast};
+
+use crate::given::{is_paragraph, plain};
+use explicit::isolates::IsolateMap;
+use explicit::levels::{Explicit, explicit_levels};
+use explicit::para_level::para_level;
+use sequences::sequences::Sequences;
+use std::alloc::Global;
+use std::marker::Brand;
+use std::process::Abort;
+use std::sync::ledger::{Blank, Ledger};
+use units::bracket::Unit;
+use units::class::Class;
+use units::level::{Direction, ParaLevel};
+use units::limits::Limits;
+use units::memory::Memory;
+use units::steps::Steps;
+
+/// What the engine finds of a paragraph before the rules of its sequences.
+#[derive(Drop)]
+pub struct Found {
+    /// The isolates (BD9).
+    pub map: IsolateMap,
+    /// The paragraph's level (P2, P3).
+    pub level: ParaLevel,
+    /// The explicit levels (X1 to X9).
+    pub explicit: Explicit,
+    /// The isolating run sequences (X10).
+    pub sequences: Sequences,
+}
+
+/// Rooms for a paragraph of `n` positions, of which nothing is found yet.
+fn rooms(alloc: Global, n: usize) -> Result<Found, Memory>
+    ensures map { IfOk result (λ found. room found.map ≡ n) }
+    ensures explicit { IfOk result (λ found. length found.explicit ≡ n) }
+    ensures sequences { IfOk result (λ found. found.sequences.room ≡ n) }
+{
+    Ok(Found {
+        map: IsolateMap::with_room(alloc, n)?,
+        level: ParaLevel::Zero,
+        explicit: Explicit::with_room(alloc, n)?,
+        sequences: Sequences::with_room(alloc, n)?,
+    })
+}
+
+/// Finds all of it, for which there is room, counting steps from the blank.
+fn find<L: Ledger>(
+    found: &mut Found,
+    para: &[Unit],
+    direction: Direction,
+    limits: Limits,
+    blank: Blank,
+)
+    requires separators { SeparatorOnlyLast para.now }
+    requires map { room found.old.map ≡ length para.now }
+    requires explicit { length found.old.explicit ≡ length para.now }
+    requires sequences { found.old.sequences.room ≡ length para.now }
+    requires name { blank.name ≡ L.name }
+    requires parts { blank.parts ≡ L.parts }
+    requires some { 0 < blank.parts }
+    ensures map { room found.new.map ≡ length para.now }
+    ensures explicit { length found.new.explicit ≡ length para.now }
+    ensures sequences { found.new.sequences.extent ≡ length para.now }
+{
+    let mut steps = Steps::<L>::new(blank);
+    found.map.fill(para, &mut steps);
+    found.level = para_level(para, &found.map, direction, &mut steps);
+    explicit_levels(
+        para,
+        &found.map,
+        found.level,
+        limits,
+        &mut found.explicit,
+        &mut steps,
+    );
+    found.sequences.fill(
+        para,
+        &found.map,
+        &found.explicit,
+        found.level,
+        limits,
+        &mut steps,
+    );
+}
+
+/// What is found of these units, which have to be a paragraph.
+pub fn found_in(
+    rt: &impl Abort,
+    alloc: Global,
+    para: &[Unit],
+    direction: Direction,
+    limits: Limits,
+) -> Result<Found, Memory>
+    ensures map { IfOk result (λ found. room found.map ≡ length para.now) }
+    ensures explicit { IfOk result (λ found. length found.explicit ≡ length para.now) }
+    ensures sequences { IfOk result (λ found. found.sequences.extent ≡ length para.now) }
+{
+    assert!(rt; is_paragraph(para));
+    let mut found = rooms(alloc, para.len())?;
+    find::<Brand>(&mut found, para, direction, limits, Blank::new(1));
+    Ok(found)
+}
+
+/// What is found of a paragraph of so many units of class ON.
+pub fn neutral_paragraph(
+    rt: &impl Abort,
+    alloc: Global,
+    direction: Direction,
+    n: usize,
+) -> Result<Found, Memory>
+    ensures { IfOk result (λ found. found.sequences.extent ≡ n) }
+{
+    let para = vec![in alloc; plain(Class::ON); n]?;
+    found_in(rt, alloc, &para, direction, Limits::standard())
+}
