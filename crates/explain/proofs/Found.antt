@@ -148,3 +148,17 @@ module _ {V : Type 0} (items : SequenceView → List (ℕ × V)) (own : SaysOwn 
     found_elsewhere p none =
         ap (λ (xs : List (ℕ × V)). value_found xs p) joined
         ∙ found-append_none (flat_map items (take k all)) (items s) p (own s p none)
+
+  -- in the lists of all sequences, none of which shares a position, what the one that holds it says
+  pub found_in : (all : List SequenceView) (k : ℕ) (s : SequenceView) → slice_get all k ≡ Some s → (p : ℕ) → 0 < times s.positions p → times (positions_in all) p ≤ 1 →
+      value_found (flat_map items all) p ≡ value_found (items s) p
+  found_in [] k s e p some once = absurd cc
+  found_in (x ∷ all) zero s e p some once =
+      let same : x ≡ s = cc in
+      let t = times-append x.positions (positions_in all) p in
+      let here = ap (λ (y : SequenceView). times y.positions p) same in
+      found-append_none (items x) (flat_map items all) p (unfound all p (omega (arith, t, here))) ∙ ap (λ (y : SequenceView). value_found (items y) p) same
+  found_in (x ∷ all) (suc k) s e p some once =
+      let t = times-append x.positions (positions_in all) p in
+      let there = times_in all k s e p in
+      found-append (items x) (flat_map items all) p (own x p (omega (arith, t, there))) ∙ found_in all k s e p some (omega (arith, t))

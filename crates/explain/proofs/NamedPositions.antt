@@ -25,7 +25,7 @@ use Rattle.paragraph.proofs.AllSequences.{sequences_are_apart}
 use Rattle.lines.specs.Layouts.{no_line}
 use Rattle.lines.proofs.Law.{line_order-places}
 use Rattle.lines.proofs.Lengths.{length-levels}
-use Rattle.explain.specs.Columns.{columns_of, explicit_part, weak_part}
+use Rattle.explain.specs.Columns.{columns_of}
 use Rattle.explain.specs.Inside.{IsInside}
 use Rattle.explain.specs.Passes.{closers_of, pairs_in, value_found}
 use Rattle.explain.proofs.EachPair.{LiesBelow, pairs_lie, placed_pair}
@@ -110,7 +110,7 @@ at_most_one true = omega arith
 at_most_one false = omega arith
 
 -- the paragraph's level is 0 or 1
-low : (cs : List Class) (direction : Direction) → para_level_of cs direction ≤ 1
+pub low : (cs : List Class) (direction : Direction) → para_level_of cs direction ≤ 1
 unfolding para_level_of
 low cs Auto = at_most_one _
 low cs Ltr = omega arith

@@ -13,6 +13,7 @@ mod explicit_part;
 mod foot;
 mod head;
 mod implicit_levels;
+pub mod laws;
 mod neutral;
 mod paragraph_text;
 mod pass;
