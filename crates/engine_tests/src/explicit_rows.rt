@@ -13,8 +13,8 @@ use units::class::Class;
 use units::level::{Direction, Level, ParaLevel};
 use units::limits::Limits;
 
-/// A paragraph at level 0 of so many times RLE and LRE and then the classes with these names, and what is found of it by
-/// this depth.
+/// A paragraph at level 0 of so many times RLE and LRE and then the classes with these names, and what is found of it
+/// by this depth.
 #[derive(Clone, Copy)]
 struct Row {
     pairs: usize,

@@ -2,7 +2,7 @@
 ghost use Rattle.lines.specs.Scratches.{IsFilled};
 ghost use Rattle.std.specs.Prelude.{OnOk};
 
-use crate::given::{levels, numbers, shows, tables, units, units_of};
+use crate::given::{levels, numbers, shows, tables, unit, units, units_of};
 use lines::breaks::{BreakFault, Breaks};
 use lines::lay_out::lay_in;
 use lines::layout::Layout;
@@ -11,6 +11,7 @@ use std::alloc::Global;
 use std::process::Abort;
 use std::test::Fail;
 use units::bracket::Unit;
+use units::class::Class;
 use units::level::{Direction, Level, ParaLevel};
 
 #[test]
@@ -66,7 +67,7 @@ fn no_growth_comes_after_making(rt: HostRuntime) -> Result<(), Fail> {
             return Ok(());
         }
     };
-    let text = units(rt.alloc(), "R WS R")?;
+    let text = [unit(Class::R), unit(Class::WS), unit(Class::R)];
     let whole = [Level::new(1), Level::new(1), Level::new(1)];
     for _ in 0..1_000 {
         lays_out_broken(&rt, &mut room, &text)?;
