@@ -173,7 +173,8 @@ fn print_foot<W: Write>(w: &mut W, columns: &Columns, start: usize, size: usize)
 }
 
 /// Writes the text of a paragraph, by what the rules leave of it: its head, the rows of its positions, its foot. It has
-/// the number `number`, counted from 0, and begins at `start` of the text, whose characters are these, if they are known.
+/// the number `number`, counted from 0, and begins at `start` of the text, whose characters are these, if they are
+/// known.
 pub fn print_paragraph<W: Write>(
     w: &mut W,
     chars: &[char],

@@ -59,7 +59,8 @@ fn explain_paragraph<W: Write>(
     Ok(())
 }
 
-/// Writes what the rules make of each paragraph of a text of these units, whose characters are these, if they are known.
+/// Writes what the rules make of each paragraph of a text of these units, whose characters are these, if they are
+/// known.
 fn print_units<W: Write>(
     alloc: Global,
     w: &mut W,

@@ -39,7 +39,8 @@ fn print_row_start<W: Write>(
     write!(w, "{position} {code} {name} {level}")
 }
 
-/// Writes the cells of the rules that turn classes: `classes` are the position's own class, and the one behind each rule.
+/// Writes the cells of the rules that turn classes: `classes` are the position's own class, and the one behind each
+/// rule.
 fn print_changes<W: Write>(w: &mut W, remains: bool, classes: &[Class]) -> io::Result<()>
     requires { 0 < length classes.now }
     ensures { OnOk result (Appends (W.contents w.old) (W.contents w.new) (changes_text remains classes.now)) }
