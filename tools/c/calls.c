@@ -51,7 +51,8 @@ static void print_text(const bidi_verdict *v, size_t place) {
   uint32_t status = bidi_verdict_text(v, text, place, &length);
   size_t written = 0;
   while (written < sizeof text && text[written] != '#') written++;
-  printf("  text %u, length %zu, written %zu: %.*s%s", status, length, written, (int)written, text, written ? "" : "\n");
+  printf("  text %u, length %zu, written %zu%s%.*s%s", status, length, written, written ? ": " : "", (int)written, text,
+         written ? "" : "\n");
 }
 
 static void print_texts(void) {
