@@ -92,7 +92,7 @@ program_of_bidi() {
     rows 0 levels --tables "$work/t" "$work/text"
     rows 0 reorder --tables "$work/t" --columns 2 "$work/text"
     rows 0 explain --tables "$work/t" "$work/text"
-    rows 0 explain --classes 'R ON EN'
+    rows 0 explain --classes 'R ON LRE L'
     rows 1 judge --kind classes "$work/classes"
     rows 0 judge --kind characters --tables "$work/t" "$work/characters"
     rows 3 levels --tables "$work/t" "$work/missing"
