@@ -83,7 +83,8 @@ pub fn read_tables(
 
 /// The mirror image of a code point, or the code point where it has none.
 pub fn mirror_image(tables: &Tables, code: u32) -> u32
-    ensures { IsScalar code → result ≡ unwrap_or (glyph_by tables.now.mirrors code) code }
+    ensures other { (IsScalar code → ⊥) → result ≡ code }
+    ensures image { IsScalar code → result ≡ unwrap_or (glyph_by tables.now.mirrors code) code }
 {
     match char::from_u32(code) {
         Some(c) => match tables.mirrors().glyph(c) {
