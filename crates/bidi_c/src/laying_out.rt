@@ -1,7 +1,8 @@
 // Texts laid out.
-ghost use Rattle.std.specs.Prelude.{◌≡◌, ◌<◌, IfErr, IsErrAnd, OnOk, OnErr};
+ghost use Rattle.std.specs.Prelude.{◌≡◌, ◌<◌, None, IfErr, IsErrAnd, OnOk, OnErr};
 ghost use Rattle.units.specs.Limits.{AreAllowed, standard};
 ghost use Rattle.bidi_held.specs.LimitsGiven.{limits_in, RefusesLimits};
+ghost use Rattle.bidi_held.specs.Holdings.{room_in};
 ghost use Rattle.bidi_held.specs.Statuses.{IsRefused};
 ghost use Rattle.bidi_held.specs.RefusedCalls.{RoomTakes, RoomTakesClasses, RefusesClassLayout, RefusesClassLayoutWith};
 ghost use Rattle.bidi_held.specs.LaidOut.{IsLayout, IsClassLayout};
@@ -25,6 +26,7 @@ fn lay_out(
 ) -> Result<(), Refusal>
     ensures tables { held_at tables.new ≡ held_at tables.old }
     ensures capacity { capacity_at room.new ≡ capacity_at room.old }
+    ensures other { room_in (held_at room.old) ≡ None → held_at room.new ≡ held_at room.old }
     ensures kept { OnErr result (layout_at room.new ≡ layout_at room.old) }
     ensures refused { IfErr result (RefusesLayoutAt room.old tables.old codes.now direction breaks.now) }
     ensures taken { OnOk result (RoomTakes (held_at room.old) codes.now breaks.now) }
@@ -59,6 +61,7 @@ pub extern "C" fn bidi_lay_out(
 ) -> u32
     ensures tables { held_at tables.new ≡ held_at tables.old }
     ensures capacity { capacity_at room.new ≡ capacity_at room.old }
+    ensures other { room_in (held_at room.old) ≡ None → held_at room.new ≡ held_at room.old }
     ensures kept { 0 < result → layout_at room.new ≡ layout_at room.old }
     ensures refused { 0 < result → IsRefused (RefusesLayoutAt room.old tables.old codes.now direction
         breaks.now) result place.new }
@@ -82,6 +85,7 @@ fn lay_out_with(
 ) -> Result<(), Refusal>
     ensures tables { held_at tables.new ≡ held_at tables.old }
     ensures capacity { capacity_at room.new ≡ capacity_at room.old }
+    ensures other { room_in (held_at room.old) ≡ None → held_at room.new ≡ held_at room.old }
     ensures kept { OnErr result (layout_at room.new ≡ layout_at room.old) }
     ensures refused { IfErr result (RefusesLayoutWithAt limits room.old tables.old codes.now direction breaks.now) }
     ensures allowed { OnOk result (AreAllowed (limits_in limits)) }
@@ -109,6 +113,7 @@ pub extern "C" fn bidi_lay_out_with(
 ) -> u32
     ensures tables { held_at tables.new ≡ held_at tables.old }
     ensures capacity { capacity_at room.new ≡ capacity_at room.old }
+    ensures other { room_in (held_at room.old) ≡ None → held_at room.new ≡ held_at room.old }
     ensures kept { 0 < result → layout_at room.new ≡ layout_at room.old }
     ensures refused { 0 < result → IsRefused (RefusesLayoutWithAt limits room.old tables.old codes.now direction
         breaks.now) result place.new }
@@ -131,6 +136,7 @@ fn lay_out_classes(
     limits: Limits,
 ) -> Result<(), Refusal>
     ensures capacity { capacity_at room.new ≡ capacity_at room.old }
+    ensures other { room_in (held_at room.old) ≡ None → held_at room.new ≡ held_at room.old }
     ensures kept { OnErr result (layout_at room.new ≡ layout_at room.old) }
     ensures refused { IfErr result (RefusesClassLayout (held_at room.old) numbers.now direction breaks.now) }
     ensures taken { OnOk result (RoomTakesClasses (held_at room.old) numbers.now breaks.now) }
@@ -157,6 +163,7 @@ pub extern "C" fn bidi_lay_out_classes(
     place: &mut u64,
 ) -> u32
     ensures capacity { capacity_at room.new ≡ capacity_at room.old }
+    ensures other { room_in (held_at room.old) ≡ None → held_at room.new ≡ held_at room.old }
     ensures kept { 0 < result → layout_at room.new ≡ layout_at room.old }
     ensures refused { 0 < result → IsRefused (RefusesClassLayout (held_at room.old) numbers.now direction
         breaks.now) result place.new }
@@ -178,6 +185,7 @@ fn lay_out_classes_with(
     limits: BidiLimits,
 ) -> Result<(), Refusal>
     ensures capacity { capacity_at room.new ≡ capacity_at room.old }
+    ensures other { room_in (held_at room.old) ≡ None → held_at room.new ≡ held_at room.old }
     ensures kept { OnErr result (layout_at room.new ≡ layout_at room.old) }
     ensures refused { IfErr result (RefusesClassLayoutWith limits (held_at room.old) numbers.now direction breaks.now) }
     ensures allowed { OnOk result (AreAllowed (limits_in limits)) }
@@ -202,6 +210,7 @@ pub extern "C" fn bidi_lay_out_classes_with(
     place: &mut u64,
 ) -> u32
     ensures capacity { capacity_at room.new ≡ capacity_at room.old }
+    ensures other { room_in (held_at room.old) ≡ None → held_at room.new ≡ held_at room.old }
     ensures kept { 0 < result → layout_at room.new ≡ layout_at room.old }
     ensures refused { 0 < result → IsRefused (RefusesClassLayoutWith limits (held_at room.old) numbers.now direction
         breaks.now) result place.new }

@@ -1,9 +1,12 @@
 // Rooms made and freed.
-ghost use Rattle.std.specs.Prelude.{◌≡◌, ◌<◌, None, Some, IfErr, OnOk, OnErr};
+ghost use Rattle.std.specs.Prelude.{◌≡◌, ◌<◌, [], None, Some, IfErr, OnOk, OnErr};
 ghost use Rattle.std.specs.Option.{unwrap_or};
+ghost use Rattle.units.specs.Layout.{layout_of};
+ghost use Rattle.units.specs.Limits.{standard};
+ghost use Rattle.units.specs.declared.level.Direction.TheVariants.{Auto};
 ghost use Rattle.bidi_held.specs.RefusedCalls.{RefusesRoom};
 ghost use Rattle.bidi_held.specs.Statuses.{IsRefusedFor};
-ghost use Rattle.bidi_c.specs.HeldAt.{held_at, capacity_at};
+ghost use Rattle.bidi_c.specs.HeldAt.{held_at, capacity_at, layout_at};
 
 use crate::bidi_handle::BidiHandle;
 use bidi_held::held::Held;
@@ -13,6 +16,7 @@ use std::alloc::Global;
 
 fn make_room(alloc: Global, n: usize, room: &mut BidiHandle) -> Result<(), Refusal>
     ensures made { OnOk result (capacity_at room.new ≡ Some n) }
+    ensures empty { OnOk result (layout_at room.new ≡ layout_of standard [] Auto []) }
     ensures kept { OnErr result (held_at room.new ≡ held_at room.old) }
     ensures refused { IfErr result (RefusesRoom n) }
 {
@@ -24,11 +28,12 @@ fn make_room(alloc: Global, n: usize, room: &mut BidiHandle) -> Result<(), Refus
     }
 }
 
-/// Makes room for texts of up to `n` code points, at most 16,777,216. What the handle held before is freed once the
-/// room is made; where it is refused, the handle holds that still.
+/// Makes room for texts of up to `n` code points, at most 16,777,216, with the layout of an empty text. What the handle
+/// held before is freed once the room is made; where it is refused, the handle holds that still.
 #[unsafe(no_mangle)]
 pub extern "C" fn bidi_room_new(alloc: Global, n: usize, room: &mut BidiHandle) -> u32
     ensures made { result ≡ 0 → capacity_at room.new ≡ Some n }
+    ensures empty { result ≡ 0 → layout_at room.new ≡ layout_of standard [] Auto [] }
     ensures kept { 0 < result → held_at room.new ≡ held_at room.old }
     ensures refused { 0 < result → IsRefusedFor (RefusesRoom n) result }
 {

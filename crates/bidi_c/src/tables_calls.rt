@@ -70,6 +70,7 @@ pub extern "C" fn bidi_tables_free(alloc: Global, tables: &mut BidiHandle)
 #[unsafe(no_mangle)]
 pub extern "C" fn bidi_mirror(alloc: Global, tables: &mut BidiHandle, code: u32) -> u32
     ensures tables { held_at tables.new ≡ held_at tables.old }
+    ensures other { (IsScalar code → ⊥) → result ≡ code }
     ensures image { IsScalar code → result ≡ image_by (tables_at tables.old) code }
 {
     let Some(held) = tables.take(alloc) else {

@@ -1,7 +1,8 @@
 -- Tables made of the bytes of their files.
-use Rattle.std.specs.Prelude.{ℕ, ◌≡◌, ◌⊎◌, Option, Some, None, List, MatchOption}
+use Rattle.std.specs.Prelude.{ℕ, ◌≡◌, ◌⊎◌, Option, Some, None, IsSome, List, MatchOption}
 use Rattle.std.specs.Option.{unwrap_or}
 use Rattle.ucdfiles.specs.Files.{StateTables, IsFirstFaulty}
+use Rattle.ucdfiles.specs.Faults.{line_of_fault}
 use Rattle.ucdfiles.specs.Tables.{TablesOf, glyph_by}
 use Rattle.ucdfiles.specs.declared.fault.TableFault.{TableFault}
 use Rattle.ucdfiles.specs.declared.fault.TableFault.TheVariants as table
@@ -23,11 +24,18 @@ refusal_of_file (Classes fault) = ClassFile fault
 refusal_of_file (Brackets fault) = BracketFile fault
 refusal_of_file (Mirrors fault) = MirrorFile fault
 
--- files with these bytes are refused for this reason: memory, or what is wrong with the first faulty one of them
+-- the fault of a file is one of a line
+abbrev pub IsOfLine : FileFault → Type 0
+IsOfLine (Classes fault) = IsSome (line_of_fault fault)
+IsOfLine (Brackets fault) = IsSome (line_of_fault fault)
+IsOfLine (Mirrors fault) = IsSome (line_of_fault fault)
+
+-- files with these bytes are refused for this reason: memory, or a line of the first faulty one of them
 abbrev pub RefusesTables : List ℕ → List ℕ → List ℕ → Refusal → Type 0
 RefusesTables classes brackets mirrors refusal =
     (refusal ≡ Memory)
-    ⊎ ((fault : FileFault) × (refusal ≡ refusal_of_file fault) × IsFirstFaulty classes brackets mirrors fault)
+    ⊎ ((fault : FileFault) × (refusal ≡ refusal_of_file fault) × IsOfLine fault
+    × IsFirstFaulty classes brackets mirrors fault)
 
 -- the number of the kind of a fault, 0 where it is none of a line
 abbrev pub fault_number : TableFault → ℕ

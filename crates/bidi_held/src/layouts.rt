@@ -1,8 +1,8 @@
 // Texts laid out in what is held.
-ghost use Rattle.std.specs.Prelude.{◌≡◌, IfErr, OnOk, OnErr, Some};
+ghost use Rattle.std.specs.Prelude.{◌≡◌, IfErr, OnOk, OnErr, None, Some};
 ghost use Rattle.bidi_held.specs.RefusedCalls.{RoomTakes, RoomTakesClasses, RefusesLayout, RefusesClassLayout};
 ghost use Rattle.bidi_held.specs.Texts.{direction_numbered};
-ghost use Rattle.bidi_held.specs.Holdings.{capacity_in, tables_in, layout_held};
+ghost use Rattle.bidi_held.specs.Holdings.{capacity_in, tables_in, room_in, layout_held};
 ghost use Rattle.bidi_held.specs.LaidOut.{IsLayout, IsClassLayout};
 
 use crate::held::Held;
@@ -33,6 +33,7 @@ pub fn lay_out_held(
     limits: Limits,
 ) -> Result<(), Refusal>
     ensures capacity { capacity_in (Some room.new) ≡ capacity_in (Some room.old) }
+    ensures other { room_in (Some room.old) ≡ None → room.new ≡ room.old }
     ensures kept { OnErr result (layout_held (Some room.new) ≡ layout_held (Some room.old)) }
     ensures refused { IfErr result (RefusesLayout (Some room.old) (Some tables.now) codes.now direction breaks.now) }
     ensures taken { OnOk result (RoomTakes (Some room.old) codes.now breaks.now) }
@@ -60,6 +61,7 @@ pub fn lay_out_classes_held(
     limits: Limits,
 ) -> Result<(), Refusal>
     ensures capacity { capacity_in (Some room.new) ≡ capacity_in (Some room.old) }
+    ensures other { room_in (Some room.old) ≡ None → room.new ≡ room.old }
     ensures kept { OnErr result (layout_held (Some room.new) ≡ layout_held (Some room.old)) }
     ensures refused { IfErr result (RefusesClassLayout (Some room.old) numbers.now direction breaks.now) }
     ensures taken { OnOk result (RoomTakesClasses (Some room.old) numbers.now breaks.now) }

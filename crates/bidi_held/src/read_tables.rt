@@ -4,7 +4,7 @@ ghost use Rattle.std.specs.Option.{unwrap_or};
 ghost use Rattle.std.specs.Char.{IsScalar};
 ghost use Rattle.ucdfiles.specs.Files.{StateTables};
 ghost use Rattle.ucdfiles.specs.Tables.{glyph_by};
-ghost use Rattle.bidi_held.specs.MadeTables.{RefusesTables, refusal_of_file, fault_number, fault_number_in};
+ghost use Rattle.bidi_held.specs.MadeTables.{RefusesTables, IsOfLine, refusal_of_file, fault_number, fault_number_in};
 
 use crate::refusal::Refusal;
 use std::alloc::Global;
@@ -52,17 +52,16 @@ pub fn kind_in(refusal: Refusal) -> u32
     }
 }
 
-/// The refusal that says what is wrong with the first faulty file.
+/// The refusal that says what is wrong with the first faulty file. A fault of no line is that memory was refused, since
+/// bytes are read without failing.
 fn of_files(fault: FileFault) -> Refusal
-    ensures { (result ≡ Refusal.Memory) ⊎ (result ≡ refusal_of_file fault) }
+    ensures { (result ≡ Refusal.Memory) ⊎ ((result ≡ refusal_of_file fault) × IsOfLine fault) }
 {
     match fault {
-        FileFault::Classes(TableFault::Memory)
-        | FileFault::Brackets(TableFault::Memory)
-        | FileFault::Mirrors(TableFault::Memory) => Refusal::Memory,
-        FileFault::Classes(fault) => Refusal::ClassFile(fault),
-        FileFault::Brackets(fault) => Refusal::BracketFile(fault),
-        FileFault::Mirrors(fault) => Refusal::MirrorFile(fault),
+        FileFault::Classes(fault) if fault.line().is_some() => Refusal::ClassFile(fault),
+        FileFault::Brackets(fault) if fault.line().is_some() => Refusal::BracketFile(fault),
+        FileFault::Mirrors(fault) if fault.line().is_some() => Refusal::MirrorFile(fault),
+        _ => Refusal::Memory,
     }
 }
 
@@ -84,7 +83,8 @@ pub fn read_tables(
 
 /// The mirror image of a code point, or the code point where it has none.
 pub fn mirror_image(tables: &Tables, code: u32) -> u32
-    ensures { IsScalar code → result ≡ unwrap_or (glyph_by tables.now.mirrors code) code }
+    ensures other { (IsScalar code → ⊥) → result ≡ code }
+    ensures image { IsScalar code → result ≡ unwrap_or (glyph_by tables.now.mirrors code) code }
 {
     match char::from_u32(code) {
         Some(c) => match tables.mirrors().glyph(c) {

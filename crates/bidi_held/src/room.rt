@@ -1,8 +1,10 @@
 // A room: the units of a text, and its layout.
-ghost use Rattle.std.specs.Prelude.{ℕ, ◌≡◌, ◌≢◌, ◌≤◌, ◌<◌, ◌↔◌, None, MatchOption, Err, length, slice_index, take, map, IfOk, IfSome, OnOk, IfErr, OnErr, IsOk, IsNone};
+ghost use Rattle.std.specs.Prelude.{ℕ, ◌≡◌, ◌≢◌, ◌≤◌, ◌<◌, ◌↔◌, [], None, MatchOption, Err, length, slice_index, take, map, IfOk, IfSome, OnOk, IfErr, OnErr, IsOk, IsNone};
 ghost use Rattle.std.specs.Box.{boxed_slice_items};
 ghost use Rattle.std.specs.Char.{IsScalar};
 ghost use Rattle.units.specs.Layout.{layout_of, longest_text};
+ghost use Rattle.units.specs.Limits.{standard};
+ghost use Rattle.units.specs.declared.level.Direction.TheVariants.{Auto};
 ghost use Rattle.lines.specs.Scratches.{room_of, layout_in, IsFilled};
 ghost use Rattle.bidi_held.specs.Texts.{class_numbered, unit_numbered, units_numbered};
 ghost use Rattle.ucdfiles.specs.Tables.{units_by};
@@ -111,9 +113,10 @@ fn fill_classes(units: &mut [Unit], numbers: &[u8]) -> Option<usize>
 }
 
 impl Room {
-    /// Room for texts of up to `n` units, at most 16,777,216.
+    /// Room for texts of up to `n` units, at most 16,777,216, with the layout of an empty text.
     pub fn with_room(alloc: Global, n: usize) -> Result<Room, RoomFault>
         ensures made { IfOk result (λ room. room_of room.scratch ≡ n) }
+        ensures empty { IfOk result (λ room. layout_in room.scratch ≡ layout_of standard [] Auto []) }
         ensures too_big { (result ≡ Err RoomFault.TooBig) ↔ (longest_text < n) }
     {
         let mut scratch = Scratch::with_room(alloc, n)?;
