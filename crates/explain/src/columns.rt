@@ -66,7 +66,7 @@ impl Columns {
     }
 
     /// The classes after a rule, by position; BN where a position is removed.
-    pub fn after(&self, rule: Rule) -> &[Class]
+    pub fn classes_after(&self, rule: Rule) -> &[Class]
         ensures { result.now ≡ column_after self.now rule }
     {
         match rule {

@@ -25,7 +25,7 @@ fn class_after(columns: &Columns, rule: Rule, p: usize, size: usize) -> Class
     requires inside { p < size }
     ensures { result ≡ class_at (column_after columns.now rule) p }
 {
-    columns.after(rule)[p]
+    columns.classes_after(rule)[p]
 }
 
 /// The own class of the position `p`, and its class behind each rule.
