@@ -10,7 +10,7 @@ use Rattle.bidi.specs.ReadFiles.{AreTables, FileFacts, most_file_bytes, origin_o
 use Rattle.bidi.specs.FaultText.{print_fault}
 use Rattle.bidi.specs.Outcomes.{IsDone}
 use Rattle.bidi.specs.Printed.{most_text_bytes}
-use Rattle.bidi.specs.Steps.{AreDone, EndsWriting, FailsIn, IsFirstFault, Step, file_step, printing_steps, steps_of, table_steps, text_steps}
+use Rattle.bidi.specs.Steps.{AreDone, EndsWriting, FailsIn, IsFirstFault, RequestStep, file_step, printing_steps, steps_of, table_steps, text_steps}
 use Rattle.bidi.specs.declared.request.FileKind.TheVariants.{Classes, Characters}
 use Rattle.bidi.specs.declared.request.Request.{Request}
 use Rattle.bidi.specs.declared.request.Request.TheVariants.{Levels, Reorder, Explain, ExplainClasses, Judge}
@@ -20,21 +20,21 @@ use Rattle.printing.specs.declared.fault.PrintFault.TheVariants.{Write, Memory}
 use Rattle.bidi.specs.declared.outcome.Outcome.{Outcome}
 use Rattle.bidi.specs.declared.outcome.Outcome.TheVariants.{Judged, Printed, Helped}
 
-pub first_of_all : (xs ys : List Step) (fault : Fault) → IsFirstFault xs fault → IsFirstFault (xs ++ ys) fault
+pub first_of_all : (xs ys : List RequestStep) (fault : Fault) → IsFirstFault xs fault → IsFirstFault (xs ++ ys) fault
 first_of_all [] ys fault h = absurd h
 first_of_all (x ∷ xs) ys fault (inl here) = inl here
 first_of_all (x ∷ xs) ys fault (inr later) = inr (later.0, first_of_all xs ys fault later.1)
 
-pub first_behind : (xs ys : List Step) (fault : Fault) → AreDone xs → IsFirstFault ys fault → IsFirstFault (xs ++ ys) fault
+pub first_behind : (xs ys : List RequestStep) (fault : Fault) → AreDone xs → IsFirstFault ys fault → IsFirstFault (xs ++ ys) fault
 first_behind [] ys fault done h = h
 first_behind (x ∷ xs) ys fault done h = inr (done.0, first_behind xs ys fault done.1 h)
 
-pub all_done : (xs ys : List Step) → AreDone xs → AreDone ys → AreDone (xs ++ ys)
+pub all_done : (xs ys : List RequestStep) → AreDone xs → AreDone ys → AreDone (xs ++ ys)
 all_done [] ys done rest = rest
 all_done (x ∷ xs) ys done rest = (done.0, all_done xs ys done.1 rest)
 
 -- behind steps that are done, what ends the rest ends all
-pub FailsIn-behind : (xs ys : List Step) (before after : Option (List ℕ)) (fault : Fault) → AreDone xs → FailsIn ys before after fault
+pub FailsIn-behind : (xs ys : List RequestStep) (before after : Option (List ℕ)) (fault : Fault) → AreDone xs → FailsIn ys before after fault
     → FailsIn (xs ++ ys) before after fault
 FailsIn-behind xs ys before after fault done (inl h) = inl (first_behind xs ys fault done h.0, h.1)
 FailsIn-behind xs ys before after fault done (inr h) = inr (all_done xs ys done h.0, h.1)
@@ -73,7 +73,7 @@ writing_ends Write = tt
 writing_ends Memory = tt
 
 -- where all was read, a fault of printing is one of writing
-pub printing_fails : {A : Type 0} (steps : List Step) (before after : Option (List ℕ)) (r : Result A Fault) (f : PrintFault) → AreDone steps
+pub printing_fails : {A : Type 0} (steps : List RequestStep) (before after : Option (List ℕ)) (r : Result A Fault) (f : PrintFault) → AreDone steps
     → IsErrAnd r (λ fault. fault ≡ print_fault f) → IfErr r (FailsIn steps before after)
 printing_fails steps before after (Ok x) f done h = tt
 printing_fails steps before after (Err fault) f done h = inr (done, subst EndsWriting (sym h) (writing_ends f))

@@ -66,8 +66,8 @@ kind_rule choice = record (option_rule (codes "kind")) { required = true; parser
 abbrev pub needed : Rule → Rule
 needed rule = record rule { required = true }
 
-abbrev pub left_open : Rule → Rule
-left_open rule = record rule { required = false }
+abbrev pub not_required : Rule → Rule
+not_required rule = record rule { required = false }
 
 abbrev pub levels_app : Choice → App
 levels_app directions = with_rule (with_rule (with_rule (new_app (codes "levels")) (needed tables_rule)) (direction_rule directions)) file_rule
@@ -78,7 +78,7 @@ reorder_app directions =
 
 abbrev pub explain_app : Choice → App
 explain_app directions =
-    with_rule (with_rule (with_rule (with_rule (new_app (codes "explain")) tables_rule) classes_rule) (direction_rule directions)) (left_open file_rule)
+    with_rule (with_rule (with_rule (with_rule (new_app (codes "explain")) tables_rule) classes_rule) (direction_rule directions)) (not_required file_rule)
 
 abbrev pub judge_app : Choice → App
 judge_app kinds = with_rule (with_rule (with_rule (new_app (codes "judge")) (kind_rule kinds)) tables_rule) file_rule

@@ -6,6 +6,7 @@ pub mod Judged
 pub mod KnownRuns
 pub mod MemoryFiles
 pub mod Outcomes
+pub mod HandedOut
 pub mod Printed
 pub mod ReadFiles
 pub mod Refusals

@@ -34,8 +34,8 @@ AsksForHelp error = (kind_of error ≡ kind.DisplayHelp) ⊎ (kind_of error ≡ 
 abbrev pub RefusesWords : Error → Type 0
 RefusesWords error = (kind_of error ≢ kind.OutOfMemory) × (kind_of error ≢ kind.DisplayHelp) × (kind_of error ≢ kind.DisplayVersion)
 
--- what was asked for is done: the text or what is explained of it or of classes is printed, or the file is judged, by the
--- tables of the folder that is named
+-- what was asked for is done: the text or what is explained of it or of classes is printed, or the file is judged, by
+-- the tables of the folder that is named
 abbrev pub IsDone : FileFacts → Option (List ℕ) → Option (List ℕ) → Request → Outcome → Type 0
 IsDone files before after (Levels folder direction file) Printed =
     HasPrinted files (λ tables text. printed_levels tables text direction) folder.now file.now before after
@@ -50,7 +50,8 @@ IsDone files before after (Judge Characters (Some folder) file) (Judged status) 
     HasJudged files (IsCharactersVerdict files folder.now) file.now before after status
 IsDone files before after _ _ = ⊥
 
--- words that are a request come to what it asks for or fail; else help or the version was asked for, or the words are refused and nothing is written
+-- words that are a request come to what it asks for or fail; else help or the version was asked for, or the words are
+-- refused and nothing is written
 abbrev pub ComesTo : FileFacts → Option (List ℕ) → Option (List ℕ) → Result Request Error → Result Outcome Fault → Type 0
 ComesTo files before after (Ok request) (Ok outcome) = IsDone files before after request outcome
 ComesTo files before after (Ok request) (Err fault) = FailsIn (steps_of files request) before after fault

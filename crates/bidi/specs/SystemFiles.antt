@@ -1,4 +1,5 @@
--- What reading a file of the system or its standard input came to, by the limit that it was opened with; of its name nothing is known.
+-- What reading a file of the system or its standard input came to, by the limit that it was opened with; of its name
+-- nothing is known.
 use Rattle.std.specs.Prelude.{◌≡◌, ◌⊎◌, ℕ, List, []}
 use Rattle.units.specs.HandsOut.{Reading, HasEnded, failures_of}
 use Rattle.units.specs.declared.reader_source.State.TheVariants.{Open}

@@ -13,8 +13,8 @@ Ends with status 0 where it is done or the verdict is yes, 1 where the verdict i
 2 where the command line is refused, and 3 where a file can't be read, a line of a
 table is faulty, a text is not UTF-8, a write fails or memory is refused.";
 
-/// What stands behind the name in the line of the version: the rules that are followed, and the kit that they are proved
-/// with.
+/// What stands behind the name in the line of the version: the rules that are followed, and the kit that they are
+/// proved with.
 pub const BIDI_VERSION: &str =
     "(rules P1 to L4 of UAX #9, Unicode 15.0)\nproved with rattle-kit-13b logic dac8208d650f15bf";
 

@@ -1,13 +1,9 @@
 // A source judged, and its verdict printed.
 ghost use Rattle.std.specs.Prelude.{◌≡◌, ◌≤◌, ℕ, List, [], IfOk, IfErr, IsErr, OnOk};
 ghost use Rattle.units.specs.Limits.{standard};
-ghost use Rattle.bidtests.specs.CharactersFile.{characters_verdict};
-ghost use Rattle.bidtests.specs.ClassesFile.{classes_verdict};
-ghost use Rattle.bidtests.specs.FileKinds.{verdict_of};
-ghost use Rattle.ucdfiles.specs.Tables.{unit_by};
 ghost use Rattle.bidtests.specs.Standing.{Judges};
-ghost use Rattle.bidtests.specs.declared.kind.Kind.{Kind};
-ghost use Rattle.bidi.specs.Judged.{EndsJudging, SaysVerdict, verdict_status};
+ghost use Rattle.bidi.specs.HandedOut.{SaysOfCharacters, SaysOfClasses, SaysOfKinds};
+ghost use Rattle.bidi.specs.Judged.{EndsJudging, verdict_status};
 
 use crate::fault::Fault;
 use bidtests::judge::Judge;
@@ -42,9 +38,8 @@ fn judge_source<'a, S: ByteSource, W: Write>(
     ensures failed { S.failures source.new ≡ 1 → IsErr result }
     ensures fault { IfErr result (EndsJudging (S.failures source.new) (S.ended source.new)
         (W.contents out.old) (W.contents out.new) name.now) }
-    ensures verdict { IfOk result (λ status. (given : List ℕ) × S.gives source.old given source.new
-        × ((kind : Kind) → Judges standard kind judge.entry []
-        → SaysVerdict (W.contents out.old) (W.contents out.new) (verdict_of standard kind given) status)) }
+    ensures verdict { IfOk result (SaysOfKinds (λ kind. Judges standard kind judge.entry [])
+        (S.gives source.old) source.new (W.contents out.old) (W.contents out.new)) }
     ensures status { IfOk result (λ status. status ≤ 1) }
 {
     let verdict = match judge_reader(judge, source) {
@@ -71,8 +66,8 @@ pub fn judge_classes<'a, S: ByteSource, W: Write>(
     ensures fault { IfErr result (EndsJudging (S.failures source.new) (S.ended source.new)
         (W.contents out.old) (W.contents out.new) name.now) }
 
-    ensures verdict { IfOk result (λ status. (given : List ℕ) × S.gives source.old given source.new
-        × SaysVerdict (W.contents out.old) (W.contents out.new) (classes_verdict standard given) status) }
+    ensures verdict { IfOk result (SaysOfClasses
+        (S.gives source.old) source.new (W.contents out.old) (W.contents out.new)) }
     ensures status { IfOk result (λ status. status ≤ 1) }
 {
     let judge = Judge::for_classes(alloc)?;
@@ -96,9 +91,8 @@ pub fn judge_characters<'a, S: ByteSource, W: Write>(
     ensures fault { IfErr result (EndsJudging (S.failures source.new) (S.ended source.new)
         (W.contents out.old) (W.contents out.new) name.now) }
 
-    ensures verdict { IfOk result (λ status. (given : List ℕ) × S.gives source.old given source.new
-        × SaysVerdict (W.contents out.old) (W.contents out.new)
-        (characters_verdict standard (unit_by tables.now) given) status) }
+    ensures verdict { IfOk result (SaysOfCharacters tables.now
+        (S.gives source.old) source.new (W.contents out.old) (W.contents out.new)) }
     ensures status { IfOk result (λ status. status ≤ 1) }
 {
     let judge = Judge::for_characters(alloc, tables)?;

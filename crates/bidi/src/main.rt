@@ -1,5 +1,5 @@
-//! The command `bidi`: lays out bidirectional text, shows what each rule does of it, and judges conformance files of the
-//! bidirectional algorithm.
+//! The command `bidi`: lays out bidirectional text, shows what each rule does of it, and judges conformance files of
+//! the bidirectional algorithm.
 #![tactic(auto)]
 
 mod arguments;

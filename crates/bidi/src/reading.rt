@@ -1,6 +1,7 @@
 // A text read from a source.
 ghost use Rattle.std.specs.Prelude.{◌≡◌, ◌≤◌, ℕ, List, length, IfOk, IfErr, OnOk};
 ghost use Rattle.std.specs.Str.{chars, IsUtf8};
+ghost use Rattle.bidi.specs.HandedOut.{GaveNoText};
 ghost use Rattle.bidi.specs.Printed.{EndsReading};
 
 use crate::fault::Fault;
@@ -58,7 +59,7 @@ pub fn read_text<'a, S: ByteSource>(
     ensures ended { OnOk result (S.ended source.new) }
     ensures bound { IfOk result (λ text. length text.items ≤ S.room source.old) }
     ensures fault { IfErr result (EndsReading (S.failures source.new)
-        ((bytes : List ℕ) × S.gives source.old bytes source.new × S.ended source.new × ¬ (IsUtf8 bytes)) name.now) }
+        (GaveNoText (S.gives source.old) S.ended source.new) name.now) }
 {
     let bytes = read_to_end(alloc, source, name)?;
     characters_of(alloc, &bytes, name)

@@ -1,7 +1,7 @@
 // A run of the command.
 ghost use Rattle.std.specs.Prelude.{◌≡◌, ◌≤◌, Ok, Err, IfOk, IfErr};
 ghost use Rattle.bidi.specs.Outcomes.{ComesTo, HasComeTo, HasRun, IsDone};
-ghost use Rattle.bidi.specs.CommandLine.{IsRead};
+ghost use Rattle.bidi.specs.HandedOut.{HasSaidNo};
 ghost use Rattle.clap.specs.Walk.{texts};
 ghost use Rattle.bidi.specs.ReadFiles.{no_facts};
 ghost use Rattle.bidi.specs.Steps.{FailsIn, steps_of};
@@ -109,8 +109,8 @@ pub fn run<F: Files, W: Write, E: Write>(
 
     // A no is answered only where the words ask for a judgement, all bytes of the file have that verdict and its line
     // was written.
-    ensures no { result ≡ 1 → (request : Request) × IsRead (texts words.now) request
-        × IsDone (F.facts files.now) (W.contents out.old) (W.contents out.new) request (Outcome.Judged 1) }
+    ensures no { result ≡ 1
+        → HasSaidNo (F.facts files.now) (W.contents out.old) (W.contents out.new) (texts words.now) }
 {
     run_as_read(alloc, request_of(alloc, words), files, out, err)
 }

@@ -1,5 +1,5 @@
 -- What a judge that keeps its tables stands for.
-use Rattle.std.specs.Prelude.{ℕ, ◌≡◌, Option, Some, None, List}
+use Rattle.std.specs.Prelude.{ℕ, ◌≡◌, ◌++◌, Option, Some, None, List}
 use Rattle.units.specs.Limits.{LimitsOf}
 use Rattle.ucdfiles.specs.Tables.{TablesOf, unit_by}
 use Rattle.bidtests.specs.ClassesFile.{classes_verdict}
@@ -13,6 +13,12 @@ use Rattle.bidi_held.specs.declared.judge.TableJudge.{TableJudge}
 pub record WasFed (limits : LimitsOf) (judge : TableJudge) (tables : Option TablesOf) (bytes : List ℕ) : Type 0 where
   pub by : judge.tables ≡ tables
   pub so_far : HoldsFor limits tables judge.state bytes
+
+-- what the judge was handed before, by whatever limits and tables it judges, it was handed with this piece behind it
+abbrev pub WasFedOn : TableJudge → TableJudge → List ℕ → Type 0
+WasFedOn old new piece =
+    (limits : LimitsOf) (tables : Option TablesOf) (bytes : List ℕ)
+    → WasFed limits old tables bytes → WasFed limits new tables (bytes ++ piece)
 
 -- by these limits the verdict on a file of characters by tables, or without tables on one of classes
 abbrev pub verdict_by : LimitsOf → Option TablesOf → List ℕ → Verdict

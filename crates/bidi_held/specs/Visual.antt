@@ -4,7 +4,7 @@ use Rattle.units.specs.Reordering.{shown_of}
 use Rattle.units.specs.Layout.{TextLayout, LineLayout}
 use Rattle.ucdfiles.specs.Tables.{TablesOf, glyph_by}
 use Rattle.bidi_held.specs.Texts.{level_byte}
-use Rattle.bidi_held.specs.Holdings.{room_in, layout_held, line_numbered, line_held}
+use Rattle.bidi_held.specs.Holdings.{room_in, tables_in, layout_held, line_numbered, line_held}
 use Rattle.bidi_held.specs.declared.held.Held.{Held}
 use Rattle.bidi_held.specs.declared.refusal.Refusal.{Refusal}
 use Rattle.bidi_held.specs.declared.refusal.Refusal.TheVariants.{NoRoom, NoLine, NoPlace}
@@ -61,3 +61,7 @@ abbrev pub shown_line : TextLayout → Option TablesOf → List ℕ → ℕ → 
 shown_line layout tables codes k =
     if length codes == length layout.levels
     then shown_by tables layout.levels codes (line_numbered layout k).order else []
+
+-- L4: the line with the number k of the room that is held, as it is shown by the tables that are held
+abbrev pub shown_held : Option Held → Option Held → List ℕ → ℕ → List ℕ
+shown_held room tables codes k = shown_line (layout_held room) (tables_in tables) codes k

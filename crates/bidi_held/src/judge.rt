@@ -1,9 +1,9 @@
 // A judge that keeps its tables.
-ghost use Rattle.std.specs.Prelude.{◌≡◌, ◌++◌, ℕ, List, Option};
+ghost use Rattle.std.specs.Prelude.{◌≡◌, ℕ, List, Option};
 ghost use Rattle.units.specs.Limits.{LimitsOf};
 ghost use Rattle.ucdfiles.specs.Tables.{TablesOf};
 ghost use Rattle.bidtests.specs.Standing.{tables_of};
-ghost use Rattle.bidi_held.specs.Judged.{WasFed, verdict_by};
+ghost use Rattle.bidi_held.specs.Judged.{WasFed, WasFedOn, verdict_by};
 
 use bidtests::kind::Kind;
 use bidtests::state::JudgeState;
@@ -30,8 +30,7 @@ fn kind_by(tables: &Option<Tables>) -> Kind<'_>
 impl TableJudge {
     /// Hands over the next bytes of the file.
     pub(crate) fn feed(&mut self, piece: &[u8])
-        ensures { (limits : LimitsOf) (tables : Option TablesOf) (b : List ℕ) → WasFed limits self.old tables b
-            → WasFed limits self.new tables (b ++ piece.now) }
+        ensures { WasFedOn self.old self.new piece.now }
     {
         self.state.feed(kind_by(&self.tables), piece);
     }

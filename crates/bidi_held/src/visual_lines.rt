@@ -6,8 +6,8 @@ ghost use Rattle.std.specs.Char.{IsScalar};
 ghost use Rattle.units.specs.Reordering.{is_odd_level, shown_of};
 ghost use Rattle.ucdfiles.specs.Tables.{glyph_by};
 ghost use Rattle.lines.specs.Layouts.{view_of};
-ghost use Rattle.bidi_held.specs.Holdings.{layout_held, line_numbered, tables_in};
-ghost use Rattle.bidi_held.specs.Visual.{IsPlace, ArePlaces, IsRun, span_of, shown_line, byte_at};
+ghost use Rattle.bidi_held.specs.Holdings.{line_numbered};
+ghost use Rattle.bidi_held.specs.Visual.{IsPlace, ArePlaces, IsRun, span_of, shown_held, shown_line, byte_at};
 
 use crate::held::Held;
 use crate::lines_out::byte_of;
@@ -181,10 +181,9 @@ fn write_shown_of(
 /// Writes the characters of the line with the number `k` as they are shown, if all have place there and these are a
 /// room and tables. It answers how many there are.
 pub fn show(room: &Held, tables: &Held, codes: &[u32], k: usize, out: &mut [u32]) -> usize
-    ensures count { result ≡ length (shown_line (layout_held (Some room.now))
-        (tables_in (Some tables.now)) codes.now k) }
+    ensures count { result ≡ length (shown_held (Some room.now) (Some tables.now) codes.now k) }
     ensures shown { All IsScalar codes.now → result ≤ length out.old
-        → take result out.new ≡ shown_line (layout_held (Some room.now)) (tables_in (Some tables.now)) codes.now k }
+        → take result out.new ≡ shown_held (Some room.now) (Some tables.now) codes.now k }
     ensures behind { drop result out.new ≡ drop result out.old }
     ensures kept { length out.old < result → out.new ≡ out.old }
 {

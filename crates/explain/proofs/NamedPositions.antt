@@ -26,7 +26,7 @@ use Rattle.lines.specs.Layouts.{no_line}
 use Rattle.lines.proofs.Law.{line_order-places}
 use Rattle.lines.proofs.Lengths.{length-levels}
 use Rattle.explain.specs.Columns.{columns_of}
-use Rattle.explain.specs.Inside.{IsInside}
+use Rattle.explain.specs.Inside.{NamesInside}
 use Rattle.explain.specs.Passes.{closers_of, pairs_in, value_found}
 use Rattle.explain.proofs.EachPair.{LiesBelow, pairs_lie, placed_pair}
 
@@ -117,7 +117,7 @@ low cs Ltr = omega arith
 low cs Rtl = omega arith
 low cs AutoRtl = at_most_one _
 
-pub columns_inside : (us : List BidiUnit) (direction : Direction) → SeparatorOnlyLast us → IsInside (columns_of us direction) (length us)
+pub columns_inside : (us : List BidiUnit) (direction : Direction) → SeparatorOnlyLast us → NamesInside (columns_of us direction) (length us)
 unfolding columns_of
 columns_inside us direction only =
     let cs : List Class = classes_of us in

@@ -32,7 +32,8 @@ pub record NeutralOf : Type 0 where
   pub n1 : List Class
   pub n2 : List Class
 
--- BD16, N0: at each position that of the closing bracket of the pair that begins there, if one does; the classes after N0
+-- BD16, N0: at each position that of the closing bracket of the pair that begins there, if one does; and the classes
+-- after N0
 pub record BracketOf : Type 0 where
   pub closers : List (Option ℕ)
   pub n0 : List Class
@@ -67,8 +68,8 @@ pub record ClassesOf : Type 0 where
   pub neutral : NeutralOf
   pub implicit : List (Option ℕ)
 
--- all that the rules leave: beside these the classes after X1 to X9, the closers of bracket pairs (BD16), and the levels
--- after I1 and I2
+-- all that the rules leave: beside these the classes after X1 to X9, the closers of bracket pairs (BD16), and the
+-- levels after I1 and I2
 pub record ColumnsOf : Type 0 where
   pub explicit : ExplicitOf
   pub current : List Class

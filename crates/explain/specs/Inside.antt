@@ -5,7 +5,7 @@ use Rattle.resolve.specs.Pairs.{closer_in}
 use Rattle.explain.specs.Columns.{ColumnsOf}
 
 -- the positions that columns name are positions of a paragraph of so many
-pub record IsInside (columns : ColumnsOf) (size : ℕ) : Type 0 where
+pub record NamesInside (columns : ColumnsOf) (size : ℕ) : Type 0 where
   pub first_strong : IfSome columns.explicit.first_strong (λ p. p < size)
   pub closers : (p : ℕ) → p < size → IfSome (closer_in columns.closers p) (λ q. q < size)
   pub order : All (λ p. p < size) columns.shown.order

@@ -6,4 +6,5 @@ pub mod Feet
 pub mod Heads
 pub mod Inside
 pub mod Passes
+pub mod Resolved
 pub mod Rows

@@ -3,7 +3,7 @@ ghost use Rattle.std.specs.Prelude.{◌≡◌, ◌<◌, ◌≤◌, length, IfOk}
 ghost use Rattle.units.specs.Layout.{longest_text};
 ghost use Rattle.units.specs.Paragraphs.{SeparatorOnlyLast};
 ghost use Rattle.explain.specs.Columns.{HaveLength, columns_of};
-ghost use Rattle.explain.specs.Inside.{IsInside};
+ghost use Rattle.explain.specs.Inside.{NamesInside};
 
 use crate::classes_part::ClassesPart;
 use crate::current::current_classes;
@@ -66,7 +66,7 @@ impl Columns {
     }
 
     /// The classes after a rule, by position; BN where a position is removed.
-    pub fn after(&self, rule: Rule) -> &[Class]
+    pub fn classes_after(&self, rule: Rule) -> &[Class]
         ensures { result.now ≡ column_after self.now rule }
     {
         match rule {
@@ -154,7 +154,7 @@ pub fn columns_of(alloc: Global, para: &[Unit], direction: Direction) -> Result<
     requires length { length para.now ≤ longest_text }
     ensures columns { IfOk result (λ columns. columns ≡ columns_of para.now direction) }
     ensures length { IfOk result (λ columns. HaveLength columns (length para.now)) }
-    ensures inside { IfOk result (λ columns. IsInside columns (length para.now)) }
+    ensures inside { IfOk result (λ columns. NamesInside columns (length para.now)) }
 {
     columns_with::<Brand>(alloc, para, direction, Blank::new(1))
 }

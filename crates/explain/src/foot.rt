@@ -2,6 +2,7 @@
 ghost use Rattle.std.specs.Prelude.{◌≡◌, ◌<◌, ◌≤◌, OnOk};
 ghost use Rattle.std.specs.List.{All};
 ghost use Rattle.std.specs.Io.KnownBytes.{Appends};
+ghost use Rattle.units.specs.Layout.{longest_text};
 ghost use Rattle.explain.specs.Feet.{places_text, sequence_text, pair_text, order_text};
 
 use sequences::sequence::Sequence;
@@ -10,7 +11,7 @@ use std::io::Write;
 
 /// Writes the positions of a paragraph that begins at `start` of the text, as positions of the text.
 fn print_places<W: Write>(w: &mut W, start: usize, positions: &[u32]) -> io::Result<()>
-    requires { start ≤ 16777216 }
+    requires { start ≤ longest_text }
     ensures { OnOk result (Appends (W.contents w.old) (W.contents w.new) (places_text start positions.now)) }
 {
     for position in positions {
@@ -28,7 +29,7 @@ pub fn print_sequence<W: Write>(
     start: usize,
     sequence: &Sequence,
 ) -> io::Result<()>
-    requires { start ≤ 16777216 }
+    requires { start ≤ longest_text }
     ensures { OnOk result (Appends (W.contents w.old) (W.contents w.new) (sequence_text number start sequence.now)) }
 {
     let level = sequence.level().get();
@@ -48,8 +49,8 @@ pub fn print_pair<W: Write>(w: &mut W, opener: usize, closer: usize) -> io::Resu
 
 /// Writes the line of a paragraph's order: its remaining positions in the text, from left to right (L2).
 pub fn print_order<W: Write>(w: &mut W, start: usize, order: &[usize]) -> io::Result<()>
-    requires start { start ≤ 16777216 }
-    requires places { All (λ p. p < 16777216) order.now }
+    requires start { start ≤ longest_text }
+    requires places { All (λ p. p < longest_text) order.now }
     ensures { OnOk result (Appends (W.contents w.old) (W.contents w.new) (order_text start order.now)) }
 {
     write!(w, "order")?;

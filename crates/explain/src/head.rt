@@ -2,6 +2,7 @@
 ghost use Rattle.std.specs.Prelude.{◌≡◌, ◌<◌, ◌≤◌, length, OnOk, IfSome, Some};
 ghost use Rattle.std.specs.Io.KnownBytes.{Appends};
 ghost use Rattle.units.specs.Isolates.{level_of_para};
+ghost use Rattle.units.specs.Layout.{longest_text};
 ghost use Rattle.explain.specs.Heads.{decider_by, decider_of, decider_text, head_text};
 
 use std::io::Write;
@@ -35,8 +36,8 @@ impl fmt::Display for Decider {
 
 /// The first strong character outside of all isolates, if there is one.
 fn decider_by(para: &[Unit], start: usize, first_strong: Option<usize>) -> Decider
-    requires start { start ≤ 16777216 }
-    requires small { length para.now ≤ 16777216 }
+    requires start { start ≤ longest_text }
+    requires small { length para.now ≤ longest_text }
     requires inside { IfSome first_strong (λ p. p < length para.now) }
     ensures { result ≡ decider_by para.now start first_strong }
 {
@@ -54,8 +55,8 @@ pub fn decider_of(
     start: usize,
     first_strong: Option<usize>,
 ) -> Decider
-    requires start { start ≤ 16777216 }
-    requires small { length para.now ≤ 16777216 }
+    requires start { start ≤ longest_text }
+    requires small { length para.now ≤ longest_text }
     requires inside { IfSome first_strong (λ p. p < length para.now) }
     ensures { result ≡ decider_of direction para.now start first_strong }
 {

@@ -1,16 +1,12 @@
 //! Laws of what the rules leave of a paragraph.
 ghost use Rattle.std.specs.Prelude.{◌≡◌, List};
-ghost use Rattle.units.specs.Classes.{classes_of};
-ghost use Rattle.units.specs.Isolates.{para_level_of};
-ghost use Rattle.units.specs.Layout.{resolved_levels};
-ghost use Rattle.units.specs.Limits.{standard};
 ghost use Rattle.units.specs.Neutral.{after_neutral};
 ghost use Rattle.units.specs.Paragraphs.{SeparatorOnlyLast};
 ghost use Rattle.units.specs.declared.bracket.Unit.{Unit as BidiUnit};
 ghost use Rattle.units.specs.declared.class.Class.{Class};
 ghost use Rattle.units.specs.declared.level.Direction.{Direction};
-ghost use Rattle.explain.specs.Columns.{columns_of};
 ghost use Rattle.explain.specs.Passes.{after_n1, after_n2};
+ghost use Rattle.explain.specs.Resolved.{LastAreResolved};
 
 /// N1 and then N2 leave what the two together leave.
 pub fn neutrals_in_two_steps()
@@ -21,6 +17,5 @@ pub fn neutrals_in_two_steps()
 /// The levels after I1 and I2, rule by rule, are the resolved levels of the paragraph.
 pub fn last_levels_are_resolved()
     ensures { (us : List BidiUnit) (direction : Direction) → SeparatorOnlyLast us
-        → (columns_of us direction).implicit
-        ≡ resolved_levels standard us (para_level_of (classes_of us) direction) }
+        → LastAreResolved us direction }
 {}

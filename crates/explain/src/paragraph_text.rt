@@ -2,9 +2,10 @@
 ghost use Rattle.std.specs.Prelude.{◌≡◌, ◌<◌, ◌≤◌, length, slice_get, OnOk, IfSome};
 ghost use Rattle.std.specs.Io.KnownBytes.{Appends};
 ghost use Rattle.units.specs.Classes.{class_at};
+ghost use Rattle.units.specs.Layout.{longest_text};
 ghost use Rattle.printing.specs.LevelsText.{printed};
 ghost use Rattle.explain.specs.Columns.{HaveLength, column_after};
-ghost use Rattle.explain.specs.Inside.{IsInside};
+ghost use Rattle.explain.specs.Inside.{NamesInside};
 ghost use Rattle.explain.specs.Explained.{classes_through, foot_text, levels_through, pair_at, pair_if, paragraph_explained, row_at, sequence_line};
 
 use crate::columns::Columns;
@@ -24,7 +25,7 @@ fn class_after(columns: &Columns, rule: Rule, p: usize, size: usize) -> Class
     requires inside { p < size }
     ensures { result ≡ class_at (column_after columns.now rule) p }
 {
-    columns.after(rule)[p]
+    columns.classes_after(rule)[p]
 }
 
 /// The own class of the position `p`, and its class behind each rule.
@@ -79,8 +80,8 @@ fn print_row_at<W: Write>(
     start: usize,
     p: usize,
 ) -> io::Result<()>
-    requires start { start ≤ 16777216 }
-    requires small { length para.now ≤ 16777216 }
+    requires start { start ≤ longest_text }
+    requires small { length para.now ≤ longest_text }
     requires length { HaveLength columns.now (length para.now) }
     requires inside { p < length para.now }
     ensures { OnOk result (Appends (W.contents w.old) (W.contents w.new)
@@ -101,8 +102,8 @@ fn print_rows<W: Write>(
     columns: &Columns,
     start: usize,
 ) -> io::Result<()>
-    requires start { start ≤ 16777216 }
-    requires small { length para.now ≤ 16777216 }
+    requires start { start ≤ longest_text }
+    requires small { length para.now ≤ longest_text }
     requires length { HaveLength columns.now (length para.now) }
     ensures { OnOk result (Appends (W.contents w.old) (W.contents w.new)
         (printed (row_at chars.now para.now columns.now start) 0 (length para.now))) }
@@ -115,7 +116,7 @@ fn print_rows<W: Write>(
 
 /// Writes the lines of the sequences of a paragraph that begins at `start` of the text.
 fn print_sequences<W: Write>(w: &mut W, columns: &Columns, start: usize) -> io::Result<()>
-    requires start { start ≤ 16777216 }
+    requires start { start ≤ longest_text }
     ensures { OnOk result (Appends (W.contents w.old) (W.contents w.new)
         (printed (sequence_line columns.now start) 0 (length columns.now.explicit.sequences))) }
 {
@@ -133,9 +134,9 @@ fn print_pair_if<W: Write>(
     opener: usize,
     closer: Option<usize>,
 ) -> io::Result<()>
-    requires start { start ≤ 16777216 }
-    requires opener { opener ≤ 16777216 }
-    requires closer { IfSome closer (λ p. p ≤ 16777216) }
+    requires start { start ≤ longest_text }
+    requires opener { opener ≤ longest_text }
+    requires closer { IfSome closer (λ p. p ≤ longest_text) }
     ensures { OnOk result (Appends (W.contents w.old) (W.contents w.new) (pair_if start opener closer)) }
 {
     match closer {
@@ -146,10 +147,10 @@ fn print_pair_if<W: Write>(
 
 /// Writes the lines of the bracket pairs of a paragraph that begins at `start` of the text.
 fn print_pairs<W: Write>(w: &mut W, columns: &Columns, start: usize, size: usize) -> io::Result<()>
-    requires start { start ≤ 16777216 }
-    requires small { size ≤ 16777216 }
+    requires start { start ≤ longest_text }
+    requires small { size ≤ longest_text }
     requires length { HaveLength columns.now size }
-    requires inside { IsInside columns.now size }
+    requires inside { NamesInside columns.now size }
     ensures { OnOk result (Appends (W.contents w.old) (W.contents w.new)
         (printed (pair_at columns.now start) 0 size)) }
 {
@@ -161,10 +162,10 @@ fn print_pairs<W: Write>(w: &mut W, columns: &Columns, start: usize, size: usize
 
 /// Writes the foot of a paragraph that begins at `start` of the text.
 fn print_foot<W: Write>(w: &mut W, columns: &Columns, start: usize, size: usize) -> io::Result<()>
-    requires start { start ≤ 16777216 }
-    requires small { size ≤ 16777216 }
+    requires start { start ≤ longest_text }
+    requires small { size ≤ longest_text }
     requires length { HaveLength columns.now size }
-    requires inside { IsInside columns.now size }
+    requires inside { NamesInside columns.now size }
     ensures { OnOk result (Appends (W.contents w.old) (W.contents w.new) (foot_text columns.now start size)) }
 {
     print_sequences(w, columns, start)?;
@@ -184,10 +185,10 @@ pub fn print_paragraph<W: Write>(
     start: usize,
     number: usize,
 ) -> io::Result<()>
-    requires start { start ≤ 16777216 }
-    requires small { length para.now ≤ 16777216 }
+    requires start { start ≤ longest_text }
+    requires small { length para.now ≤ longest_text }
     requires length { HaveLength columns.now (length para.now) }
-    requires inside { IsInside columns.now (length para.now) }
+    requires inside { NamesInside columns.now (length para.now) }
     ensures { OnOk result (Appends (W.contents w.old) (W.contents w.new)
         (paragraph_explained chars.now para.now columns.now direction start number)) }
 {

@@ -49,8 +49,8 @@ fn explain_paragraph<W: Write>(
     number: usize,
 ) -> Result<(), PrintFault>
     requires separators { SeparatorOnlyLast para.now }
-    requires start { start ≤ 16777216 }
-    requires small { length para.now ≤ 16777216 }
+    requires start { start ≤ longest_text }
+    requires small { length para.now ≤ longest_text }
     ensures { OnOk result (Appends (W.contents w.old) (W.contents w.new)
         (paragraph_explained chars.now para.now (columns_of para.now direction) direction start number)) }
 {

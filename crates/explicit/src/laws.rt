@@ -1,5 +1,5 @@
 //! Laws of isolates and of explicit levels, for the layers above.
-ghost use Rattle.std.specs.Prelude.{◌≡◌, ◌<◌, ◌≤◌, ◌+◌, ◌++◌, ◌⊎◌, ℕ, true, false, List, Some, IfSome, is_none, length, reverse};
+ghost use Rattle.std.specs.Prelude.{◌≡◌, ◌<◌, ◌≤◌, ◌⊎◌, ℕ, true, false, List, Some, is_none};
 ghost use Rattle.std.specs.Option.{option_map};
 ghost use Rattle.units.specs.Classes.{class_at, classes_of, is_removed};
 ghost use Rattle.units.specs.Explicit.{explicit_at, next_even, next_odd, wanted_level, wants_odd};
@@ -10,8 +10,8 @@ ghost use Rattle.explicit.specs.Leveled.{IsLeveled, IsNested};
 ghost use Rattle.units.specs.declared.bracket.Unit.{Unit as BidiUnit};
 ghost use Rattle.units.specs.declared.class.Class.{Class};
 ghost use Rattle.explicit.specs.IsolateNesting.{IsWithin, AreApart};
-ghost use Rattle.explicit.specs.Laws.{HaveOneLevel, StacksAreShallow};
-ghost use Rattle.explicit.specs.StatusStacks.{EndsInRefused, entries_of};
+ghost use Rattle.explicit.specs.Laws.{EntriesAreFew, HaveOneLevel, IsWithinDepth, StacksAreShallow};
+ghost use Rattle.explicit.specs.StatusStacks.{EndsInRefused};
 ghost use Rattle.explicit.specs.WantedLevels.{IsLeastAbove};
 
 /// Isolates nest or are apart (BD9): the one that begins later lies within the other, or no position lies in both.
@@ -22,7 +22,7 @@ pub fn isolates_nest()
 /// No position has an explicit level above the depth (BD2), if the paragraph's level isn't above it.
 pub fn levels_are_bounded()
     ensures { (depth : ℕ) (cs : List Class) (para_level p : ℕ)
-        → para_level ≤ depth → IfSome (explicit_at depth cs para_level p) (λ place. place.0 ≤ depth) }
+        → para_level ≤ depth → IsWithinDepth depth cs para_level p }
 {}
 
 /// A position has no explicit level exactly where it is removed (X9).
@@ -50,7 +50,7 @@ pub fn wanted_levels_are_least()
 /// paragraph's level isn't above the depth: of the max_depth + 2 that X1 makes room for, one is never used.
 pub fn entries_are_few()
     ensures defined { (depth : ℕ) (cs : List Class) (para_level : ℕ) (qs : List ℕ) → para_level ≤ depth
-        → length (entries_of depth cs para_level qs) ≤ depth + 1 }
+        → EntriesAreFew depth cs para_level qs }
     ensures kept { (depth : ℕ) (cs : List Class) (para_level : ℕ) → para_level ≤ depth
         → StacksAreShallow depth cs para_level }
 {}

@@ -1,15 +1,15 @@
 //! Laws for the layers above: of bracket pairs (BD16), with room for any number of open brackets, and of the classes
 //! before W1, at any greatest level.
-ghost use Rattle.std.specs.Prelude.{◌≡◌, ℕ, List, [], false, true};
+ghost use Rattle.std.specs.Prelude.{◌≡◌, ℕ, List, [], false};
 ghost use Rattle.units.specs.Brackets.{bracket_pairs_of};
-ghost use Rattle.units.specs.Classes.{class_at, is_nonspacing};
+ghost use Rattle.units.specs.Classes.{class_at};
 ghost use Rattle.std.specs.List.{list_any};
 ghost use Rattle.units.specs.Layout.{current_at};
 ghost use Rattle.units.specs.Weak.{after_weak};
 ghost use Rattle.units.specs.declared.bracket.Bracket.{Bracket};
 ghost use Rattle.units.specs.declared.class.Class.{Class};
 ghost use Rattle.resolve.specs.PairLaws.{PairsAreOrdered, PairsNest, PairsAreShallow, InsidesAreFew, InsidesAreFewByOpener, StopsAtFirstOpener};
-ghost use Rattle.resolve.specs.Own.{IsOwnUnlessImposed};
+ghost use Rattle.resolve.specs.Own.{IsOwnMark, IsOwnUnlessImposed};
 ghost use Rattle.resolve.specs.Sought.{may_weaken};
 
 /// A pair that counts ends after it begins, within the sequence.
@@ -50,7 +50,7 @@ pub fn classes_are_own()
 /// What is a mark after X1 to X8 is one by its own class: no override makes a mark.
 pub fn marks_are_own()
     ensures { (depth : ℕ) (cs : List Class) (para_level p : ℕ)
-        → is_nonspacing (current_at depth cs para_level p) ≡ true → is_nonspacing (class_at cs p) ≡ true }
+        → IsOwnMark depth cs para_level p }
 {}
 
 /// Where no class of a sequence is AL, EN, ES, ET, CS or NSM, W1 to W7 change nothing.

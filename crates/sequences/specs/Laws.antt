@@ -1,6 +1,6 @@
 -- What the laws say of the sequences of a paragraph (BD13).
 use Rattle.std.specs.Prelude.{Some, ℕ, ◌+◌, ◌<◌, ◌≡◌, length, slice_get, slice_index, Contains}
-use Rattle.units.specs.Runs.{LeveledView, SequenceView, sequences_of, successor}
+use Rattle.units.specs.Runs.{LeveledView, SequenceView, followed, sequence_from, sequences_of, successor}
 
 -- the sequence with the number j
 abbrev pub IsSequenceAt : LeveledView → ℕ → SequenceView → Type 0
@@ -19,3 +19,7 @@ SequencesAreApart t =
 abbrev pub FollowsSuccessors : LeveledView → SequenceView → Type 0
 FollowsSuccessors t s =
     (k : ℕ) → k < length s.positions → successor t (slice_index s.positions k) ≡ slice_get s.positions (k + 1)
+
+-- a walk along the successors from p that may take so many steps comes to the end of its sequence
+abbrev pub WalksToTheEnd : LeveledView → ℕ → ℕ → Type 0
+WalksToTheEnd t p most = followed (successor t) most (Some p) ≡ sequence_from t p

@@ -1,8 +1,8 @@
 //! Laws of the sequences of every paragraph (BD13), for the layers above.
 ghost use Rattle.std.specs.Prelude.{◌≡◌, ◌<◌, ◌≤◌, ℕ, Some, Contains};
-ghost use Rattle.units.specs.Runs.{LeveledView, SequenceView, followed, level_of, sequence_from, size_of, successor};
+ghost use Rattle.units.specs.Runs.{LeveledView, SequenceView, level_of, size_of};
 ghost use Rattle.explicit.specs.Leveled.{IsLeveled, IsNested};
-ghost use Rattle.sequences.specs.Laws.{IsSequenceAt, SequencesAreApart, FollowsSuccessors};
+ghost use Rattle.sequences.specs.Laws.{IsSequenceAt, SequencesAreApart, FollowsSuccessors, WalksToTheEnd};
 
 /// No position stands in two sequences.
 pub fn sequences_are_apart()
@@ -21,5 +21,5 @@ pub fn positions_follow_successors()
     ensures next { (t : LeveledView) (j : ℕ) (s : SequenceView) → IsLeveled t → IsSequenceAt t j s
         → FollowsSuccessors t s }
     ensures whole { (t : LeveledView) (p most : ℕ) → IsLeveled t → p < size_of t → size_of t ≤ most
-        → followed (successor t) most (Some p) ≡ sequence_from t p }
+        → WalksToTheEnd t p most }
 {}

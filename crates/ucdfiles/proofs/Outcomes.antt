@@ -22,7 +22,7 @@ module _ (before after : List (List ℕ) → Type 0) (fault : List (List ℕ) �
   pub ends-outcome : (result : Result (Unit {0}) TableFault) → ended
       → OnOk result ((b : List ℕ) → Reads before fault cutter b → (first_fault fault [] (lines_of b) ≡ None) × after (lines_of b))
       → IfErr result (λ e. (b : List ℕ) → Reads before fault cutter b → (e ≡ Memory) ⊎ (first_fault fault [] (lines_of b) ≡ Some e))
-      → IfErr result (λ e. e ≢ Read) → IsOutcome after fault ended b result
+      → IfErr result (λ e. e ≢ Read) → IsOutcome after fault ended result b
   ends-outcome (Ok done) end ok err not_read = (end, (ok b r).0, (ok b r).1)
   ends-outcome (Err e) end ok err not_read = record {
     read = λ is. absurd (not_read is);

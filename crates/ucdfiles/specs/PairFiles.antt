@@ -13,8 +13,8 @@ use Rattle.ucdfiles.specs.declared.fault.TableFault.{TableFault}
 use Rattle.ucdfiles.specs.declared.span.Span.{Span}
 use Rattle.ucdfiles.specs.declared.span.FileLine.{FileLine}
 use Rattle.ucdfiles.specs.declared.span.FileLine.TheVariants.{Silent, Data, Faulty}
-use Rattle.ucdfiles.specs.declared.sided_bracket.Side.{Side}
-use Rattle.ucdfiles.specs.declared.sided_bracket.Side.TheVariants.{Open, Close}
+use Rattle.ucdfiles.specs.declared.sided_bracket.BracketSide.{BracketSide}
+use Rattle.ucdfiles.specs.declared.sided_bracket.BracketSide.TheVariants.{Open, Close}
 use Rattle.ucdfiles.specs.declared.sided_bracket.SidedBracket.{SidedBracket}
 use Rattle.ucdfiles.specs.Statements.{span_says, line_fault, file_fault, value_of}
 
@@ -36,17 +36,17 @@ abbrev pub single : {V : Type 0} → ℕ → V → Span V
 single c v = record { first = c; last = c; value = v }
 
 -- `o` or `c`
-abbrev pub side_named : List ℕ → Option Side
+abbrev pub side_named : List ℕ → Option BracketSide
 side_named field = if bytes_eq field (codes "o") then Some Open else if bytes_eq field (codes "c") then Some Close else None
 
 -- a bracket of this side: the key of an opening one is that of its paired bracket, the key of a closing one its own
-abbrev pub bracket_read : ℕ → ℕ → Option Side → Result (Span SidedBracket) Fault
+abbrev pub bracket_read : ℕ → ℕ → Option BracketSide → Result (Span SidedBracket) Fault
 bracket_read char paired None = Err BracketKind
 bracket_read char paired (Some Open) = Ok (single char (record { side = Open; keyed_by = paired }))
 bracket_read char paired (Some Close) = Ok (single char (record { side = Close; keyed_by = char }))
 
 -- the characters first, then the side
-abbrev pub bracket_chars : Option ℕ → Option ℕ → Option Side → Result (Span SidedBracket) Fault
+abbrev pub bracket_chars : Option ℕ → Option ℕ → Option BracketSide → Result (Span SidedBracket) Fault
 bracket_chars (Some char) (Some paired) side = bracket_read char paired side
 bracket_chars (Some char) None side = Err CodePoint
 bracket_chars None paired side = Err CodePoint
@@ -106,7 +106,7 @@ pub record StatesMirrors (bytes : List ℕ) (glyphs : ℕ → Option ℕ) : Type
   pub stated : (c : ℕ) → c ≤ 0x10FFFF → glyphs c ≡ mirror_of bytes c
 
 -- BD14, BD15: the bracket of this side with this key
-abbrev pub bracket_with : Side → Key → Bracket
+abbrev pub bracket_with : BracketSide → Key → Bracket
 bracket_with Open key = bracket.Open key
 bracket_with Close key = bracket.Close key
 

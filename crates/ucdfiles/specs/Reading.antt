@@ -66,6 +66,14 @@ pub record IsFault (fault : List (List ℕ) → List ℕ → Option Fault) (ende
   pub other : e ≢ Read → Refuses fault bytes e ⊎ (ended × (first_fault fault [] (lines_of bytes) ≡ Some e))
 
 -- what a reader answers: all lines state the table, or a fault
-abbrev pub IsOutcome : (List (List ℕ) → Type 0) → (List (List ℕ) → List ℕ → Option Fault) → Type 0 → List ℕ → Result (Unit {0}) TableFault → Type 0
-IsOutcome stands fault ended bytes (Ok done) = ended × (first_fault fault [] (lines_of bytes) ≡ None) × stands (lines_of bytes)
-IsOutcome stands fault ended bytes (Err e) = IsFault fault ended bytes e
+abbrev pub IsOutcome : (List (List ℕ) → Type 0) → (List (List ℕ) → List ℕ → Option Fault) → Type 0 → Result (Unit {0}) TableFault → List ℕ → Type 0
+IsOutcome stands fault ended (Ok done) bytes = ended × (first_fault fault [] (lines_of bytes) ≡ None) × stands (lines_of bytes)
+IsOutcome stands fault ended (Err e) bytes = IsFault fault ended bytes e
+
+-- a source came to this state, and this is so of the bytes that it handed out on the way
+abbrev pub OfBytes : {S : Type 0} → (List ℕ → S → Type 0) → S → (List ℕ → Type 0) → Type 0
+OfBytes gives now P = (given : List ℕ) × gives given now × P given
+
+-- a source came to this state and has ended, and this is so of all bytes that it handed out on the way
+abbrev pub OfAllBytes : {S : Type 0} → (List ℕ → S → Type 0) → (S → Type 0) → S → (List ℕ → Type 0) → Type 0
+OfAllBytes gives ended now P = (given : List ℕ) × gives given now × ended now × P given

@@ -6,7 +6,7 @@ use Rattle.units.specs.declared.class.Class.TheVariants.{L, R, AL, AN}
 use Rattle.ucdfiles.specs.ClassFile.{class_line_says, class_fault, class_file_fault, class_of}
 use Rattle.ucdfiles.specs.PairFiles.{bracket_file_fault, mirror_file_fault, bracket_of, mirror_of, pair_line_says, IsEquivalent}
 use Rattle.ucdfiles.specs.Faults.{first_fault}
-use Rattle.ucdfiles.specs.declared.sided_bracket.Side.TheVariants.{Open, Close}
+use Rattle.ucdfiles.specs.declared.sided_bracket.BracketSide.TheVariants.{Open, Close}
 use Rattle.ucdfiles.specs.declared.fault.TableFault.TheVariants.{CodePoint, Backwards, ClassName, Fields, Overlap, Twice, BracketKind}
 
 -- what the rows of classes compute with, as one name

@@ -51,7 +51,7 @@ impl Model for BracketTable {
 
 impl BracketTable {
     ghost use Rattle.ucdfiles.specs.PairFiles.{bracket_fault, StatesBrackets};
-    ghost use Rattle.ucdfiles.specs.Reading.{IsFault};
+    ghost use Rattle.ucdfiles.specs.Reading.{IsFault, OfAllBytes};
     ghost use Rattle.ucdfiles.specs.Tables.{bracket_by, IsTableOf};
 
     /// The bracket table that the source's bytes state, read to the source's end; or the fault of the least faulty
@@ -60,8 +60,8 @@ impl BracketTable {
     /// from before the call. How far the source was read after a fault is not said.
     pub fn read<S: ByteSource>(alloc: Global, source: &mut S) -> Result<BracketTable, TableFault>
         ensures read { (result ≡ Err TableFault.Read) ↔ (S.failures source.new ≡ 1) }
-        ensures ok { IfOk result (λ table. (given : List ℕ) × S.gives source.old given source.new
-            × S.ended source.new × StatesBrackets given (bracket_by table)) }
+        ensures ok { IfOk result (λ table. OfAllBytes (S.gives source.old) S.ended source.new
+            (λ given. StatesBrackets given (bracket_by table))) }
         ensures err { IfErr result (λ e. (given : List ℕ) × S.gives source.old given source.new
             × IsFault bracket_fault (S.ended source.new) given e) }
     {

@@ -44,7 +44,7 @@ impl Model for ClassTable {
 
 impl ClassTable {
     ghost use Rattle.ucdfiles.specs.ClassFile.{class_fault, StatesClasses};
-    ghost use Rattle.ucdfiles.specs.Reading.{IsFault};
+    ghost use Rattle.ucdfiles.specs.Reading.{IsFault, OfAllBytes};
     ghost use Rattle.ucdfiles.specs.Tables.{class_by};
 
     /// The class table that the source's bytes state, read to the source's end; or the fault of the least faulty
@@ -53,8 +53,8 @@ impl ClassTable {
     /// from before the call. How far the source was read after a fault is not said.
     pub fn read<S: ByteSource>(alloc: Global, source: &mut S) -> Result<ClassTable, TableFault>
         ensures read { (result ≡ Err TableFault.Read) ↔ (S.failures source.new ≡ 1) }
-        ensures ok { IfOk result (λ table. (given : List ℕ) × S.gives source.old given source.new
-            × S.ended source.new × StatesClasses given (class_by table)) }
+        ensures ok { IfOk result (λ table. OfAllBytes (S.gives source.old) S.ended source.new
+            (λ given. StatesClasses given (class_by table))) }
         ensures err { IfErr result (λ e. (given : List ℕ) × S.gives source.old given source.new
             × IsFault class_fault (S.ended source.new) given e) }
     {

@@ -62,7 +62,7 @@ impl Model for MirrorTable {
 
 impl MirrorTable {
     ghost use Rattle.ucdfiles.specs.PairFiles.{mirror_fault, StatesMirrors};
-    ghost use Rattle.ucdfiles.specs.Reading.{IsFault};
+    ghost use Rattle.ucdfiles.specs.Reading.{IsFault, OfAllBytes};
     ghost use Rattle.ucdfiles.specs.Tables.{glyph_by};
 
     /// The mirror table that the source's bytes state, read to the source's end; or the fault of the least faulty
@@ -71,8 +71,8 @@ impl MirrorTable {
     /// from before the call. How far the source was read after a fault is not said.
     pub fn read<S: ByteSource>(alloc: Global, source: &mut S) -> Result<MirrorTable, TableFault>
         ensures read { (result ≡ Err TableFault.Read) ↔ (S.failures source.new ≡ 1) }
-        ensures ok { IfOk result (λ table. (given : List ℕ) × S.gives source.old given source.new
-            × S.ended source.new × StatesMirrors given (glyph_by table)) }
+        ensures ok { IfOk result (λ table. OfAllBytes (S.gives source.old) S.ended source.new
+            (λ given. StatesMirrors given (glyph_by table))) }
         ensures err { IfErr result (λ e. (given : List ℕ) × S.gives source.old given source.new
             × IsFault mirror_fault (S.ended source.new) given e) }
     {

@@ -5,7 +5,7 @@ ghost use Rattle.ucdfiles.specs.PairFiles.{char_of, side_named, bracket_in, mirr
 ghost use Rattle.ucdfiles.specs.Statements.{IsRisingLine};
 
 use crate::fault::Fault;
-use crate::sided_bracket::{Side, SidedBracket};
+use crate::sided_bracket::{BracketSide, SidedBracket};
 use crate::span::{FileLine, Span};
 use units::line_cut::ROOM;
 use units::text::code_point::code_point;
@@ -19,12 +19,12 @@ fn character(field: &[u8]) -> Option<char>
     char::from_u32(code_point(field)?)
 }
 
-fn side(field: &[u8]) -> Option<Side>
+fn side(field: &[u8]) -> Option<BracketSide>
     ensures { result ≡ side_named field.now }
 {
     match field {
-        b"o" => Some(Side::Open),
-        b"c" => Some(Side::Close),
+        b"o" => Some(BracketSide::Open),
+        b"c" => Some(BracketSide::Close),
         _ => None,
     }
 }
@@ -62,8 +62,8 @@ fn bracket_span(content: &[u8]) -> Result<Span<SidedBracket>, Fault>
     let paired = character(paired).ok_or(Fault::CodePoint)?;
     let side = side(kind).ok_or(Fault::BracketKind)?;
     let keyed_by = match side {
-        Side::Open => paired,
-        Side::Close => bracket,
+        BracketSide::Open => paired,
+        BracketSide::Close => bracket,
     };
     Ok(single(bracket, SidedBracket { side, keyed_by }))
 }

@@ -4,7 +4,7 @@ ghost use Rattle.std.specs.Prelude.{OnOk};
 ghost use Rattle.ucdfiles.specs.Faults.{over_long_line};
 ghost use Rattle.units.specs.Text.{longest_line};
 ghost use Rattle.ucdfiles.specs.Reading.{Reads, ReadsOn, TakesLine, IsLineRefusal, EndsFaultless, EndsFaulty, IsStep};
-ghost use Rattle.ucdfiles.specs.Reading.{IsRefusal, Refuses, IsOutcome};
+ghost use Rattle.ucdfiles.specs.Reading.{IsRefusal, Refuses, IsOutcome, OfBytes};
 ghost use Rattle.ucdfiles.specs.declared.fault.Fault.{Fault as FaultKind};
 
 use crate::fault::TableFault;
@@ -75,8 +75,8 @@ pub fn read_lines<T: LineTable, S: ByteSource>(
     source: &mut S,
 ) -> Result<(), TableFault>
     ensures read { (result ≡ Err TableFault.Read) ↔ (S.failures source.new ≡ 1) }
-    ensures outcome { T.stands table.old [] → (given : List ℕ) × S.gives source.old given source.new
-        × IsOutcome (T.stands table.new) T.fault (S.ended source.new) given result }
+    ensures outcome { T.stands table.old [] → OfBytes (S.gives source.old) source.new
+        (IsOutcome (T.stands table.new) T.fault (S.ended source.new) result) }
 {
     let mut cutter = LineCut::new();
     let mut buf = [0; 4096];

@@ -5,7 +5,7 @@ use units::bracket::{Bracket, Key};
 
 /// BD14, BD15: whether a bracket opens or closes a pair.
 #[derive(Clone, Copy, Debug, PartialEq, Eq)]
-pub enum Side {
+pub enum BracketSide {
     /// `o`: an opening bracket.
     Open,
     /// `c`: a closing bracket.
@@ -16,12 +16,12 @@ pub enum Side {
 #[derive(Clone, Copy, Debug, PartialEq, Eq)]
 pub struct SidedBracket {
     /// Whether it opens or closes a pair.
-    pub side: Side,
+    pub side: BracketSide,
     /// The character whose key it has.
     pub keyed_by: char,
 }
 
-impl Side {
+impl BracketSide {
     ghost use Rattle.ucdfiles.specs.PairFiles.{bracket_with};
 
     /// The bracket of this side with this key.
@@ -29,8 +29,8 @@ impl Side {
         ensures { result ≡ bracket_with self key }
     {
         match self {
-            Side::Open => Bracket::Open(key),
-            Side::Close => Bracket::Close(key),
+            BracketSide::Open => Bracket::Open(key),
+            BracketSide::Close => Bracket::Close(key),
         }
     }
 }

@@ -1,5 +1,6 @@
 -- What a cut of bytes hands out.
-use Rattle.std.specs.Prelude.{Option, ℕ, List, [], Some, None}
+use Rattle.std.specs.Prelude.{Option, ℕ, ◌≡◌, ◌==◌, List, [], Some, None, MatchOption}
+use Rattle.std.specs.List.{before_first, after_first}
 use Rattle.std.specs.Borrow.{Bor}
 use Rattle.units.specs.Text.{cut_at, fields_of}
 
@@ -12,3 +13,8 @@ pieces_behind separator (Some rest) = cut_at separator rest.now
 abbrev pub fields_behind : Option (Bor (List ℕ)) → List (List ℕ)
 fields_behind None = []
 fields_behind (Some rest) = fields_of rest.now
+
+-- what stands behind the first separator; none where all bytes stand before it
+abbrev pub IsBehindFirst : ℕ → List ℕ → Option (Bor (List ℕ)) → Type 0
+IsBehindFirst separator bytes behind =
+    MatchOption behind (before_first (λ b. b == separator) bytes ≡ bytes) (λ rest. rest.now ≡ after_first (λ b. b == separator) bytes)

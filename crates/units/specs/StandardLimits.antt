@@ -1,5 +1,5 @@
 -- The rules that name a limit, with the numbers of the standard written out: 125 levels (BD2), 63 open brackets (BD16).
-use Rattle.std.specs.Prelude.{Option, ℕ, Bool, true, false, ◌&&◌, ◌==◌, nat_le, if◌then◌else◌, List, length, filter, fold, map, Some, None, unwrap_or}
+use Rattle.std.specs.Prelude.{◌≡◌, Option, ℕ, Bool, true, false, ◌&&◌, ◌==◌, nat_le, if◌then◌else◌, List, length, filter, fold, map, Some, None, unwrap_or}
 use Rattle.std.specs.List.{flat_map, zip}
 use Rattle.std.specs.Option.{option_map}
 use Rattle.units.specs.Classes.{class_at, classes_of, classes_at, is_removed, is_separator}
@@ -12,7 +12,8 @@ use Rattle.units.specs.Weak.{after_weak}
 use Rattle.units.specs.Brackets.{is_open, bracket_at, open_before, pairs_before, closer_of, after_paired}
 use Rattle.units.specs.Neutral.{after_neutral}
 use Rattle.units.specs.Implicit.{implicit_level}
-use Rattle.units.specs.Layout.{TextLayout, brackets_of, current_of, level_found, para_levels_of, text_layout}
+use Rattle.units.specs.Layout.{TextLayout, brackets_of, current_of, layout_of, level_found, para_levels_of, text_layout}
+use Rattle.units.specs.Limits.{standard}
 use Rattle.units.specs.declared.class.Class.{Class}
 use Rattle.units.specs.declared.bracket.Bracket.{Bracket}
 use Rattle.units.specs.declared.bracket.Unit.{Unit as BidiUnit}
@@ -99,3 +100,7 @@ standard_text_levels text direction =
 unfoldable pub standard_layout : List BidiUnit → Direction → List ℕ → TextLayout
 standard_layout text direction breaks =
     text_layout (classes_of text) breaks (para_levels_of text direction) (standard_text_levels text direction)
+
+-- P1 to L2: by the standard limits the layout is that of the rules with the numbers in them
+abbrev pub IsStandardLayout : List BidiUnit → Direction → List ℕ → Type 0
+IsStandardLayout text direction breaks = layout_of standard text direction breaks ≡ standard_layout text direction breaks

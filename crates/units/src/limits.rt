@@ -1,9 +1,8 @@
 ghost use Rattle.std.specs.Prelude.{◌≡◌, ◌<◌, ◌≤◌, ◌↔◌, ◌⊎◌, ℕ, List, Err, IfOk};
 ghost use Rattle.units.specs.Brackets.{bracket_pairs_of};
 ghost use Rattle.units.specs.Explicit.{State, entered, explicit_of};
-ghost use Rattle.units.specs.Layout.{layout_of};
 ghost use Rattle.units.specs.Limits.{LimitsOf, AreAllowed, standard};
-ghost use Rattle.units.specs.StandardLimits.{entered_to_125, explicit_to_125, pairs_of_63, standard_layout};
+ghost use Rattle.units.specs.StandardLimits.{IsStandardLayout, entered_to_125, explicit_to_125, pairs_of_63};
 ghost use Rattle.units.specs.declared.bracket.Bracket.{Bracket};
 ghost use Rattle.units.specs.declared.bracket.Unit.{Unit as BidiUnit};
 ghost use Rattle.units.specs.declared.class.Class.{Class};
@@ -95,5 +94,5 @@ pub fn standard_limits_are_the_standard()
         → explicit_of standard.depth cs para_level ≡ explicit_to_125 cs para_level }
     ensures pairs { (bs : List Bracket) → bracket_pairs_of standard.brackets bs ≡ pairs_of_63 bs }
     ensures layouts { (text : List BidiUnit) (direction : Direction) (breaks : List ℕ)
-        → layout_of standard text direction breaks ≡ standard_layout text direction breaks }
+        → IsStandardLayout text direction breaks }
 {}

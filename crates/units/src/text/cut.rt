@@ -1,8 +1,8 @@
 // Cuts at separators.
 ghost use Rattle.std.specs.Prelude.{◌≡◌, ◌≢◌, ◌==◌, ℕ, List, [], ◌∷◌, ◌≤◌, length, MatchOption, IfSome};
-ghost use Rattle.std.specs.List.{before_first, after_first};
+ghost use Rattle.std.specs.List.{before_first};
 ghost use Rattle.units.specs.Text.{cut_at, fields_of};
-ghost use Rattle.units.specs.Cuts.{pieces_behind, fields_behind};
+ghost use Rattle.units.specs.Cuts.{IsBehindFirst, pieces_behind, fields_behind};
 
 use crate::text::trim::trim;
 use memchr::memchr;
@@ -11,9 +11,7 @@ use memchr::memchr;
 pub fn cut(bytes: &[u8], separator: u8) -> (&[u8], Option<&[u8]>)
     ensures pieces { cut_at separator bytes.now ≡ result.0.now ∷ pieces_behind separator result.1 }
     ensures before { result.0.now ≡ before_first (λ b. b == separator) bytes.now }
-    ensures behind { MatchOption result.1
-        (before_first (λ b. b == separator) bytes.now ≡ bytes.now)
-        (λ rest. rest.now ≡ after_first (λ b. b == separator) bytes.now) }
+    ensures behind { IsBehindFirst separator bytes.now result.1 }
     ensures short { length result.0.now ≤ length bytes.now }
     ensures less { IfSome result.1 (λ rest. length rest.now ≤ length bytes.now) }
 {

@@ -3,7 +3,7 @@ use Rattle.std.proofs.lemmas.Result.{IfOk-weaker}
 use Rattle.clap.specs.Simple.{app_of, app_of_fields, new_app, with_rule}
 use Rattle.clap.specs.Walk.{rule_of}
 use Rattle.clap.specs.declared.builder.command.Command.TheViews.{out-Command as fields_of}
-use Rattle.bidi.specs.CommandLine.{file_rule, left_open}
+use Rattle.bidi.specs.CommandLine.{file_rule, not_required}
 use Rattle.bidi.proofs.command_line.explain_command.Goals as goal
 
 pub returns-clause-app : goal.returns-clause-app
@@ -15,7 +15,7 @@ returns-clause-app c =
     let with_classes = c.in_ok-arg-2.ensures.shape c.classes_argument.ensures.local ∙ ap₂ with_rule with_tables c.classes_argument.ensures.rule in
     let direction = c.direction_argument.ensures.rule in
     let with_direction = c.in_ok-arg-3.ensures.shape c.direction_argument.ensures.local ∙ ap₂ with_rule with_classes direction.2 in
-    let file : rule_of c.required.result ≡ left_open file_rule = ap rule_of c.required.ensures ∙ ap left_open c.file_argument.ensures.rule in
+    let file : rule_of c.required.result ≡ not_required file_rule = ap rule_of c.required.ensures ∙ ap not_required c.file_argument.ensures.rule in
     let local : c.required.result.global ≡ false = ap (λ a. a.global) c.required.ensures ∙ c.file_argument.ensures.local in
     IfOk-weaker c.arg-4.result _ _ (λ command h. (
       direction.0,

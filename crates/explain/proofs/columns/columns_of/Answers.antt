@@ -1,6 +1,6 @@
 use Rattle.std.proofs.Common.{length}
 use Rattle.explain.specs.Columns.{ColumnsOf, HaveLength, columns_of}
-use Rattle.explain.specs.Inside.{IsInside}
+use Rattle.explain.specs.Inside.{NamesInside}
 use Rattle.explain.proofs.NamedPositions.{columns_inside}
 use Rattle.explain.proofs.PuttingTogether.{columns_fit, if_ok}
 use Rattle.explain.proofs.columns.columns_of.Goals as goal
@@ -10,5 +10,5 @@ returns-clause-length c = if_ok (λ (columns : ColumnsOf). HaveLength columns (l
 
 pub returns-clause-inside : goal.returns-clause-inside
 returns-clause-inside c =
-    if_ok (λ (columns : ColumnsOf). IsInside columns (length c.args.para.now)) (columns_of c.args.para.now c.args.direction) c.columns_with.result c.columns_with.ensures
+    if_ok (λ (columns : ColumnsOf). NamesInside columns (length c.args.para.now)) (columns_of c.args.para.now c.args.direction) c.columns_with.result c.columns_with.ensures
     (columns_inside c.args.para.now c.args.direction c.requires.separators)

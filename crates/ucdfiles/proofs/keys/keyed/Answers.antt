@@ -1,7 +1,7 @@
 use Rattle.std.proofs.Common.{◌≡◌, List, take, get_or, ap, sym, subst, ◌∙◌, arith}
 use Rattle.std.proofs.lemmas.List.{take_more, take_all}
 use Rattle.ucdfiles.specs.declared.sided_bracket.SidedBracket.{SidedBracket}
-use Rattle.ucdfiles.specs.declared.sided_bracket.Side.TheVariants.{Open}
+use Rattle.ucdfiles.specs.declared.sided_bracket.BracketSide.TheVariants.{Open}
 use Rattle.ucdfiles.specs.declared.span.Span.{Span}
 use Rattle.units.specs.declared.bracket.Bracket.{Bracket}
 use Rattle.ucdfiles.specs.PairFiles.{bracket_with}
