@@ -92,9 +92,10 @@ fn run_as_read<'a, F: Files, W: Write, E: Write>(
 }
 
 /// Does what the words of a command line ask for, the first word being the program's name, and answers the exit
-/// status: 0 after a yes, help or the version, 1 after a no, 2 where the words are refused, name no tables though they
-/// are needed, or name what is no class, 3 where a file or standard input can't be read, a table is faulty, a write
-/// fails or memory is refused. After 2 and 3 `err` has a line that says so, if it took it.
+/// status: 0 where a text was printed or explained, after a yes, help or the version, 1 after a no, 2 where the words
+/// are refused, name no tables though they are needed, or name what is no class or too much of it, 3 where a file or
+/// standard input can't be read, a table or the text is faulty, a write fails or memory is refused. After 2 and 3
+/// `err` has a line that says so, if it took it.
 pub fn run<F: Files, W: Write, E: Write>(
     alloc: Global,
     words: &[&str],

@@ -24,6 +24,8 @@ fn a_text_of_as_many_bytes_as_allowed_is_read(rt: HostRuntime) -> Result<(), Fai
     );
     assert_eq!(rt; status, 0);
     assert_eq!(rt; out.len(), 16_777_217);
+    assert_eq!(rt; out.iter().filter(|byte| **byte == b'\n').count(), 1);
+    assert_eq!(rt; out.last(), Some(&b'\n'));
 
     text.push(b'a')?;
     out.clear();
