@@ -123,8 +123,10 @@ if command -v valgrind > /dev/null; then
 else
     echo "no valgrind: nothing is run under it"
 fi
+sanitizers=()
 if echo 'int main(void) { return 0; }' | gcc -fsanitize=address,undefined -x c -o "$work/sanitized" - 2> /dev/null; then
-    build_all -g -fsanitize=address,undefined -fno-sanitize-recover
+    sanitizers=(-g -fsanitize=address,undefined -fno-sanitize-recover)
+    build_all "${sanitizers[@]}"
     all sanitized
 else
     echo "no sanitizers: nothing is run under them"
@@ -136,7 +138,7 @@ for name in DerivedBidiClass BidiBrackets BidiMirroring BidiTest BidiCharacterTe
 done
 if [ -e "$work/published/BidiCharacterTest.txt" ]; then
     build official
-    build refused -Wl,--wrap=malloc,--wrap=realloc
+    build refused "${sanitizers[@]}" -Wl,--wrap=malloc,--wrap=realloc
     expect "official files" "$here/official.out" "$work/official" "$work/published"
     "$work/refused" "$work/published" > "$work/printed" 2> "$work/errors" || fails "refused over the published files"
 else
