@@ -65,6 +65,7 @@ pub extern "C" fn bidi_lay_out(
     ensures kept { 0 < result → layout_at room.new ≡ layout_at room.old }
     ensures refused { 0 < result → IsRefused (RefusesLayoutAt room.old tables.old codes.now direction
         breaks.now) result place.new }
+    ensures unplaced { result ≡ 0 → place.new ≡ place.old }
     ensures taken { result ≡ 0 → RoomTakes (held_at room.old) codes.now breaks.now }
     ensures laid_out { result ≡ 0 → IsLayout standard (tables_at tables.old) codes.now direction breaks.now
         (layout_at room.new) }
@@ -119,6 +120,7 @@ pub extern "C" fn bidi_lay_out_with(
         breaks.now) result place.new }
     ensures allowed { result ≡ 0 → AreAllowed (limits_in limits) }
     ensures limits_first { (AreAllowed (limits_in limits) → ⊥) → IsRefused (RefusesLimits limits) result place.new }
+    ensures unplaced { result ≡ 0 → place.new ≡ place.old }
     ensures taken { result ≡ 0 → RoomTakes (held_at room.old) codes.now breaks.now }
     ensures laid_out { result ≡ 0 → IsLayout (limits_in limits) (tables_at tables.old) codes.now direction breaks.now
         (layout_at room.new) }
@@ -167,6 +169,7 @@ pub extern "C" fn bidi_lay_out_classes(
     ensures kept { 0 < result → layout_at room.new ≡ layout_at room.old }
     ensures refused { 0 < result → IsRefused (RefusesClassLayout (held_at room.old) numbers.now direction
         breaks.now) result place.new }
+    ensures unplaced { result ≡ 0 → place.new ≡ place.old }
     ensures taken { result ≡ 0 → RoomTakesClasses (held_at room.old) numbers.now breaks.now }
     ensures laid_out { result ≡ 0 → IsClassLayout standard numbers.now direction breaks.now
         (layout_at room.new) }
@@ -216,6 +219,7 @@ pub extern "C" fn bidi_lay_out_classes_with(
         breaks.now) result place.new }
     ensures allowed { result ≡ 0 → AreAllowed (limits_in limits) }
     ensures limits_first { (AreAllowed (limits_in limits) → ⊥) → IsRefused (RefusesLimits limits) result place.new }
+    ensures unplaced { result ≡ 0 → place.new ≡ place.old }
     ensures taken { result ≡ 0 → RoomTakesClasses (held_at room.old) numbers.now breaks.now }
     ensures laid_out { result ≡ 0 → IsClassLayout (limits_in limits) numbers.now direction breaks.now
         (layout_at room.new) }

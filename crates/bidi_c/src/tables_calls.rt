@@ -43,6 +43,7 @@ pub extern "C" fn bidi_tables_new(
 ) -> u32
     ensures made { result ≡ 0 → HaveTables (held_at tables.new) classes.now brackets.now mirrors.now }
     ensures kept { 0 < result → held_at tables.new ≡ held_at tables.old }
+    ensures unplaced { result ≡ 0 → fault.new ≡ fault.old }
     ensures refused { 0 < result → IsRefusedAt (RefusesTables classes.now brackets.now mirrors.now) result
         fault.new.line fault.new.kind }
 {
