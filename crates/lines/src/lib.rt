@@ -3,6 +3,7 @@
 
 pub mod bounds;
 pub mod breaks;
+mod columns;
 pub mod filling;
 pub mod laws;
 pub mod lay_out;

@@ -1,5 +1,6 @@
 //! The resolved levels of a paragraph, rule after rule (P2 to I2).
 ghost use Rattle.std.specs.Prelude.{◌≡◌, true, ◌+◌, ◌*◌, ◌≤◌, IfOk, length};
+ghost use Rattle.std.specs.Box.{boxed_slice_len};
 ghost use Rattle.units.specs.Classes.{classes_of};
 ghost use Rattle.units.specs.Isolates.{level_of_para, para_level_of};
 ghost use Rattle.units.specs.Layout.{resolved_levels};
@@ -52,6 +53,63 @@ impl Model for Resolver {
         (length r.explicit) r.sequences.room (length r.pairs) (length (boxed_slice_items r.classes)) };
 }
 
+/// Room to find the sequences of a paragraph (BD9, X1 to X10).
+#[derive(Drop)]
+struct RoomToFind {
+    isolates: IsolateMap,
+    explicit: Explicit,
+    sequences: Sequences,
+}
+
+impl RoomToFind {
+    ghost use Rattle.std.specs.Prelude.{◌≡◌, IfOk, length};
+    ghost use Rattle.explicit.specs.IsolateMaps.{room};
+
+    fn with_room(alloc: Global, n: usize) -> Result<RoomToFind, Memory>
+        ensures isolates { IfOk result (λ made. room made.isolates ≡ n) }
+        ensures explicit { IfOk result (λ made. length made.explicit ≡ n) }
+        ensures sequences { IfOk result (λ made. made.sequences.room ≡ n) }
+    {
+        Ok(RoomToFind {
+            isolates: IsolateMap::with_room(alloc, n)?,
+            explicit: Explicit::with_room(alloc, n)?,
+            sequences: Sequences::with_room(alloc, n)?,
+        })
+    }
+}
+
+/// A column of `n` classes.
+fn class_column(alloc: Global, n: usize) -> Result<BoxedSlice<Class>, Memory>
+    ensures { IfOk result (λ classes. boxed_slice_len classes ≡ n) }
+{
+    Ok(vec![in alloc; Class::BN; n]?.into_boxed_slice())
+}
+
+/// Room to resolve a sequence (W1 to I2).
+#[derive(Drop)]
+struct RoomToResolve {
+    pairs: Pairs,
+    before: BoxedSlice<Class>,
+    classes: BoxedSlice<Class>,
+}
+
+impl RoomToResolve {
+    ghost use Rattle.std.specs.Prelude.{◌≡◌, IfOk, length};
+    ghost use Rattle.std.specs.Box.{boxed_slice_len};
+
+    fn with_room(alloc: Global, n: usize) -> Result<RoomToResolve, Memory>
+        ensures pairs { IfOk result (λ made. length made.pairs ≡ n) }
+        ensures before { IfOk result (λ made. boxed_slice_len made.before ≡ n) }
+        ensures classes { IfOk result (λ made. boxed_slice_len made.classes ≡ n) }
+    {
+        Ok(RoomToResolve {
+            before: class_column(alloc, n)?,
+            classes: class_column(alloc, n)?,
+            pairs: Pairs::with_room(alloc, n)?,
+        })
+    }
+}
+
 /// What is known of a paragraph that was resolved.
 #[derive(Clone, Copy)]
 pub struct Resolved {
@@ -68,13 +126,23 @@ impl Resolver {
     pub fn with_room(alloc: Global, n: usize) -> Result<Resolver, Memory>
         ensures { IfOk result (λ resolver. resolver ≡ n) }
     {
+        let RoomToResolve {
+            pairs,
+            before,
+            classes,
+        } = RoomToResolve::with_room(alloc, n)?;
+        let RoomToFind {
+            isolates,
+            explicit,
+            sequences,
+        } = RoomToFind::with_room(alloc, n)?;
         Ok(Resolver {
-            isolates: IsolateMap::with_room(alloc, n)?,
-            explicit: Explicit::with_room(alloc, n)?,
-            sequences: Sequences::with_room(alloc, n)?,
-            pairs: Pairs::with_room(alloc, n)?,
-            before: vec![in alloc; Class::BN; n]?.into_boxed_slice(),
-            classes: vec![in alloc; Class::BN; n]?.into_boxed_slice(),
+            isolates,
+            explicit,
+            sequences,
+            pairs,
+            before,
+            classes,
         })
     }
 

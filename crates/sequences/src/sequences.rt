@@ -79,6 +79,33 @@ fn fill_columns<L: Ledger>(
     fill_heads(t, links, ends, joined, heads, column, steps)
 }
 
+/// A column of `n` places, all with this value.
+fn column<T: Copy>(alloc: Global, value: T, n: usize) -> Result<BoxedSlice<T>, Memory>
+    ensures { IfOk result (λ column. boxed_slice_len column ≡ n) }
+{
+    Ok(vec![in alloc; value; n]?.into_boxed_slice())
+}
+
+/// The columns that linking writes.
+#[derive(Drop)]
+struct LinkColumns {
+    links: BoxedSlice<OptionalPosition>,
+    ends: BoxedSlice<Class>,
+    joined: BoxedSlice<bool>,
+}
+
+fn link_columns(alloc: Global, n: usize) -> Result<LinkColumns, Memory>
+    ensures links { IfOk result (λ columns. boxed_slice_len columns.links ≡ n) }
+    ensures ends { IfOk result (λ columns. boxed_slice_len columns.ends ≡ n) }
+    ensures joined { IfOk result (λ columns. boxed_slice_len columns.joined ≡ n) }
+{
+    Ok(LinkColumns {
+        links: column(alloc, OptionalPosition::none(), n)?,
+        ends: column(alloc, Class::L, n)?,
+        joined: column(alloc, false, n)?,
+    })
+}
+
 impl Sequences {
     /// No sequences, with room for a paragraph of `n` positions. Memory that is refused is answered as `Memory`, and
     /// so are 2^32 - 1 positions and more, which links of 32 bits can't count.
@@ -95,12 +122,19 @@ impl Sequences {
             sos: Class::L,
             eos: Class::L,
         };
+        let heads = column(alloc, unused, n)?;
+        let column = column(alloc, 0, n)?;
+        let LinkColumns {
+            links,
+            ends,
+            joined,
+        } = link_columns(alloc, n)?;
         Ok(Sequences {
-            links: vec![in alloc; OptionalPosition::none(); n]?.into_boxed_slice(),
-            ends: vec![in alloc; Class::L; n]?.into_boxed_slice(),
-            joined: vec![in alloc; false; n]?.into_boxed_slice(),
-            heads: vec![in alloc; unused; n]?.into_boxed_slice(),
-            column: vec![in alloc; 0; n]?.into_boxed_slice(),
+            links,
+            ends,
+            joined,
+            heads,
+            column,
             count: 0,
             size: 0,
         })
