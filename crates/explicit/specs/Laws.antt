@@ -19,5 +19,5 @@ abbrev pub EntriesAreFew : ℕ → List Class → ℕ → List ℕ → Type 0
 EntriesAreFew depth cs para_level qs = length (entries_of depth cs para_level qs) ≤ depth + 1
 
 -- BD2: a position that has an explicit level has none above the depth
-abbrev pub IsWithinDepth : ℕ → List Class → ℕ → ℕ → Type 0
-IsWithinDepth depth cs para_level p = IfSome (explicit_at depth cs para_level p) (λ place. place.0 ≤ depth)
+abbrev pub HasNoLevelAboveDepth : ℕ → List Class → ℕ → ℕ → Type 0
+HasNoLevelAboveDepth depth cs para_level p = IfSome (explicit_at depth cs para_level p) (λ place. place.0 ≤ depth)

@@ -10,7 +10,7 @@ ghost use Rattle.explicit.specs.Leveled.{IsLeveled, IsNested};
 ghost use Rattle.units.specs.declared.bracket.Unit.{Unit as BidiUnit};
 ghost use Rattle.units.specs.declared.class.Class.{Class};
 ghost use Rattle.explicit.specs.IsolateNesting.{IsWithin, AreApart};
-ghost use Rattle.explicit.specs.Laws.{EntriesAreFew, HaveOneLevel, IsWithinDepth, StacksAreShallow};
+ghost use Rattle.explicit.specs.Laws.{EntriesAreFew, HasNoLevelAboveDepth, HaveOneLevel, StacksAreShallow};
 ghost use Rattle.explicit.specs.StatusStacks.{EndsInRefused};
 ghost use Rattle.explicit.specs.WantedLevels.{IsLeastAbove};
 
@@ -22,7 +22,7 @@ pub fn isolates_nest()
 /// No position has an explicit level above the depth (BD2), if the paragraph's level isn't above it.
 pub fn levels_are_bounded()
     ensures { (depth : ℕ) (cs : List Class) (para_level p : ℕ)
-        → para_level ≤ depth → IsWithinDepth depth cs para_level p }
+        → para_level ≤ depth → HasNoLevelAboveDepth depth cs para_level p }
 {}
 
 /// A position has no explicit level exactly where it is removed (X9).

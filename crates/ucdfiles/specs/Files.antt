@@ -1,11 +1,12 @@
 -- Tables made of the bytes of the three files.
-use Rattle.std.specs.Prelude.{ℕ, ◌≡◌, ◌++◌, Option, None, List, []}
+use Rattle.std.specs.Prelude.{ℕ, ◌≡◌, ◌≢◌, ◌++◌, Option, None, List, []}
 use Rattle.ucdfiles.specs.ClassFile.{StatesClasses, class_fault, class_file_fault}
 use Rattle.ucdfiles.specs.PairFiles.{StatesBrackets, StatesMirrors, bracket_fault, bracket_file_fault, mirror_fault}
 use Rattle.ucdfiles.specs.Reading.{IsFault}
 use Rattle.ucdfiles.specs.Tables.{TablesOf, class_by, bracket_by, glyph_by}
 use Rattle.ucdfiles.specs.declared.fault.Fault.{Fault}
 use Rattle.ucdfiles.specs.declared.fault.TableFault.{TableFault}
+use Rattle.ucdfiles.specs.declared.fault.TableFault.TheVariants.{Read}
 use Rattle.ucdfiles.specs.declared.files.FileFault.{FileFault}
 use Rattle.ucdfiles.specs.declared.files.FileFault.TheVariants.{Classes, Brackets, Mirrors}
 
@@ -15,11 +16,12 @@ pub record StateTables (classes brackets mirrors : List ℕ) (tables : TablesOf)
   pub by_brackets : StatesBrackets brackets (bracket_by tables.brackets)
   pub by_mirrors : StatesMirrors mirrors (glyph_by tables.mirrors)
 
--- this is what is wrong with the bytes of a file, as far as they were read
+-- this is what is wrong with the bytes of a file, as far as they were read: never a failed read
 pub record IsFaulty (fault : List (List ℕ) → List ℕ → Option Fault) (bytes : List ℕ) (e : TableFault) : Type 0 where
   pub given : List ℕ
   pub left : List ℕ
   pub front : bytes ≡ given ++ left
+  pub unfailing : e ≢ Read
   pub is : IsFault fault (left ≡ []) given e
 
 -- this is what is wrong with the first faulty one of the three files

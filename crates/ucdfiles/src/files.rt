@@ -57,7 +57,8 @@ fn read_mirrors(alloc: Global, bytes: &[u8]) -> Result<MirrorTable, TableFault>
 
 impl Tables {
     /// The tables that the bytes of the three files state: DerivedBidiClass.txt, BidiBrackets.txt and
-    /// BidiMirroring.txt; or what is wrong with the first of them that is faulty.
+    /// BidiMirroring.txt; or what is wrong with the first of them that is faulty, which is never `Read`, since slices
+    /// are read without failing.
     pub fn read(
         alloc: Global,
         classes: &[u8],
