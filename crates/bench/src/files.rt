@@ -23,18 +23,38 @@ fn source<R: std::rt::Files>(
     Ok(ReaderSource::new(fs::open(rt, path.as_str())?, MOST_FILE_BYTES))
 }
 
+/// A fault of a table, said as invalid data.
+fn invalid() -> io::Error {
+    io::ErrorKind::InvalidData.into()
+}
+
+/// The classes of the characters, by their file in the folder.
+fn read_classes<R: std::rt::Files>(rt: &R, alloc: Global, folder: &str) -> io::Result<ClassTable> {
+    let mut source = source(rt, alloc, folder, "DerivedBidiClass.txt")?;
+    ClassTable::read(alloc, &mut source).map_err(|_| invalid())
+}
+
+/// The brackets, by their file in the folder.
+fn read_brackets<R: std::rt::Files>(
+    rt: &R,
+    alloc: Global,
+    folder: &str,
+) -> io::Result<BracketTable> {
+    let mut source = source(rt, alloc, folder, "BidiBrackets.txt")?;
+    BracketTable::read(alloc, &mut source).map_err(|_| invalid())
+}
+
+/// The mirror images, by their file in the folder.
+fn read_mirrors<R: std::rt::Files>(rt: &R, alloc: Global, folder: &str) -> io::Result<MirrorTable> {
+    let mut source = source(rt, alloc, folder, "BidiMirroring.txt")?;
+    MirrorTable::read(alloc, &mut source).map_err(|_| invalid())
+}
+
 /// The tables of the three property files in the folder. A fault of any of them is said as invalid data.
 pub fn read_tables<R: std::rt::Files>(rt: &R, alloc: Global, folder: &str) -> io::Result<Tables> {
-    let mut classes = source(rt, alloc, folder, "DerivedBidiClass.txt")?;
-    let mut brackets = source(rt, alloc, folder, "BidiBrackets.txt")?;
-    let mut mirrors = source(rt, alloc, folder, "BidiMirroring.txt")?;
-    let (Ok(classes), Ok(brackets), Ok(mirrors)) = (
-        ClassTable::read(alloc, &mut classes),
-        BracketTable::read(alloc, &mut brackets),
-        MirrorTable::read(alloc, &mut mirrors),
-    ) else {
-        return Err(io::ErrorKind::InvalidData.into());
-    };
+    let classes = read_classes(rt, alloc, folder)?;
+    let brackets = read_brackets(rt, alloc, folder)?;
+    let mirrors = read_mirrors(rt, alloc, folder)?;
     Ok(Tables::new(classes, brackets, mirrors))
 }
 

@@ -69,15 +69,19 @@ fn time_cases(rt: &HostRuntime, words: &[String]) -> io::Result<()> {
     Ok(())
 }
 
+/// The text in a file, with the tables of a folder.
+fn whole_of(rt: &HostRuntime, folder: &str, file: &str) -> io::Result<Whole> {
+    let tables = read_tables(rt, rt.alloc(), folder)?;
+    let text = read_text(rt, rt.alloc(), file)?;
+    Whole::new(rt, tables, text)
+}
+
 /// Times the text in a file by the tables of a folder, and prints its line.
 fn time_file(rt: &HostRuntime, folder: &str, file: &str, rounds: &str) -> io::Result<()> {
-    let alloc = rt.alloc();
     let Ok(rounds) = rounds.parse::<u32>() else {
         return Err(io::ErrorKind::InvalidInput.into());
     };
-    let tables = read_tables(rt, alloc, folder)?;
-    let text = read_text(rt, alloc, file)?;
-    let mut whole = Whole::new(rt, tables, text)?;
+    let mut whole = whole_of(rt, folder, file)?;
     let (length, lines) = (whole.len(), whole.run());
     let tenths = whole.least_tenths(rt, rounds as usize)?;
     let (nanoseconds, tenth) = (tenths / 10, tenths % 10);

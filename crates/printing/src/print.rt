@@ -89,6 +89,35 @@ fn print_lines_of<W: Write, L: Ledger>(
     Ok(())
 }
 
+/// Writes the lines of a text of these units, broken at these positions.
+fn print_broken<W: Write>(
+    alloc: Global,
+    w: &mut W,
+    mirrors: &MirrorTable,
+    text: &[char],
+    units: &[Unit],
+    direction: Direction,
+    breaks: &Breaks,
+) -> Result<(), PrintFault>
+    requires longest { length text.now ≤ longest_text }
+    requires units { length units.now ≡ length text.now }
+    requires breaks { breaks.now.len ≡ length units.now }
+    ensures { OnOk result (Appends (W.contents w.old) (W.contents w.new)
+        (lines_text (glyph_by mirrors.now) text.now units.now direction breaks.now.positions)) }
+{
+    let mut room = room_for(alloc, text.len())?;
+    print_lines_of::<W, Brand>(
+        w,
+        &mut room,
+        mirrors,
+        text,
+        units,
+        direction,
+        breaks,
+        Blank::new(1),
+    )
+}
+
 /// Writes the levels of a text: for each paragraph a line with its number, counted from 0, and its level (P2, P3);
 /// then for each of its positions a line with the position in the whole text, the code point, the original class and
 /// the level after L1, or `x` where the position was removed (X9). The text may have 16,777,216 characters. The fault
@@ -127,17 +156,15 @@ pub fn print_reorder<W: Write>(
         (printed_reorder tables.now text.now direction columns)) }
 {
     let units = units_of(alloc, tables, text)?;
-    let mut room = room_for(alloc, text.len())?;
     let positions = breaks_of(alloc, &units, columns)?;
     let at_columns = Breaks::new(&positions, text.len()).unwrap();
-    print_lines_of::<W, Brand>(
+    print_broken(
+        alloc,
         w,
-        &mut room,
         tables.mirrors(),
         text,
         &units,
         direction,
         &at_columns,
-        Blank::new(1),
     )
 }
