@@ -1,8 +1,10 @@
 //! What the rules leave of one paragraph, rule by rule.
-ghost use Rattle.std.specs.Prelude.{◌≡◌, ◌<◌, ◌≤◌, length, IfOk};
-ghost use Rattle.units.specs.Layout.{longest_text};
+ghost use Rattle.std.specs.Prelude.{◌≡◌, ◌<◌, ◌≤◌, length, take, IfOk};
+ghost use Rattle.units.specs.Layout.{current_of, longest_text};
 ghost use Rattle.units.specs.Paragraphs.{SeparatorOnlyLast};
-ghost use Rattle.explain.specs.Columns.{HaveLength, columns_of};
+ghost use Rattle.paragraph.specs.Covering.{AreDisjoint, positions_in};
+ghost use Rattle.resolve.specs.Sought.{AreOwn};
+ghost use Rattle.explain.specs.Columns.{HaveLength, classes_part, columns_of};
 ghost use Rattle.explain.specs.Inside.{NamesInside};
 
 use crate::classes_part::ClassesPart;
@@ -71,16 +73,16 @@ impl Columns {
     {
         match rule {
             Rule::X => &self.classes.current,
-            Rule::W1 => &self.classes.weak.w1,
-            Rule::W2 => &self.classes.weak.w2,
-            Rule::W3 => &self.classes.weak.w3,
-            Rule::W4 => &self.classes.weak.w4,
-            Rule::W5 => &self.classes.weak.w5,
-            Rule::W6 => &self.classes.weak.w6,
-            Rule::W7 => &self.classes.weak.w7,
+            Rule::W1 => &self.classes.weak.first.w1,
+            Rule::W2 => &self.classes.weak.first.w2,
+            Rule::W3 => &self.classes.weak.first.w3,
+            Rule::W4 => &self.classes.weak.last.w4,
+            Rule::W5 => &self.classes.weak.last.w5,
+            Rule::W6 => &self.classes.weak.last.w6,
+            Rule::W7 => &self.classes.weak.last.w7,
             Rule::N0 => &self.classes.brackets.n0,
-            Rule::N1 => &self.classes.n1,
-            Rule::N2 => &self.classes.n2,
+            Rule::N1 => &self.classes.resolved.n1,
+            Rule::N2 => &self.classes.resolved.n2,
         }
     }
 
@@ -88,7 +90,7 @@ impl Columns {
     pub fn implicit(&self) -> &[Option<Level>]
         ensures { result.now ≡ self.now.implicit }
     {
-        &self.classes.implicit
+        &self.classes.resolved.implicit
     }
 
     /// The levels after L1 of the paragraph as one line, by position, none where a position is removed.
@@ -121,6 +123,46 @@ impl Columns {
     }
 }
 
+/// What X1 to I2 leave of the classes of a paragraph, by its sequences and its places.
+fn classes_by<L: Ledger>(
+    alloc: Global,
+    explicit: &ExplicitPart,
+    para: &[Unit],
+    steps: &mut Steps<L>,
+) -> Result<ClassesPart, Memory>
+    requires extent { explicit.now.sequences.extent ≡ length para.now }
+    requires apart { AreDisjoint (length para.now) explicit.now.sequences.all }
+    requires length { length explicit.now.places ≡ length para.now }
+    requires own { AreOwn (positions_in explicit.now.sequences.all) para.now
+        (current_of (take (length para.now) explicit.now.places)) }
+    ensures { IfOk result (λ part. part ≡ classes_part explicit.now.sequences.all para.now
+        (current_of (take (length para.now) explicit.now.places))) }
+{
+    let current = current_classes(alloc, &explicit.places, para.len())?;
+    ClassesPart::of(alloc, &explicit.sequences, para, current, steps)
+}
+
+/// What `columns_of` does, and counts its steps.
+fn counted_columns<L: Ledger>(
+    alloc: Global,
+    para: &[Unit],
+    direction: Direction,
+    steps: &mut Steps<L>,
+) -> Result<Columns, Memory>
+    requires separators { SeparatorOnlyLast para.now }
+    requires length { length para.now ≤ longest_text }
+    ensures { IfOk result (λ columns. columns ≡ columns_of para.now direction) }
+{
+    let shown = ShownPart::of(alloc, para, direction, steps)?;
+    let explicit = ExplicitPart::of(alloc, para, direction, steps)?;
+    let classes = classes_by(alloc, &explicit, para, steps)?;
+    Ok(Columns {
+        explicit,
+        classes,
+        shown,
+    })
+}
+
 /// What `columns_of` does, by a count of steps that begins with the blank.
 fn columns_with<L: Ledger>(
     alloc: Global,
@@ -136,15 +178,7 @@ fn columns_with<L: Ledger>(
     ensures { IfOk result (λ columns. columns ≡ columns_of para.now direction) }
 {
     let mut steps = Steps::<L>::new(blank);
-    let explicit = ExplicitPart::of(alloc, para, direction, &mut steps)?;
-    let current = current_classes(alloc, &explicit.places, para.len())?;
-    let classes = ClassesPart::of(alloc, &explicit.sequences, para, current, &mut steps)?;
-    let shown = ShownPart::of(alloc, para, direction, &mut steps)?;
-    Ok(Columns {
-        explicit,
-        classes,
-        shown,
-    })
+    counted_columns(alloc, para, direction, &mut steps)
 }
 
 /// What the rules leave of a paragraph under a direction, by the standard limits (P2 to L2). The error is refused

@@ -1,5 +1,5 @@
 //! What `explain` prints of a text, or of a row of classes.
-ghost use Rattle.std.specs.Prelude.{◌≡◌, ◌≤◌, length, map, IfOk, OnOk};
+ghost use Rattle.std.specs.Prelude.{◌≡◌, ◌≤◌, ◌↔◌, length, map, IfOk, IsErr, OnOk};
 ghost use Rattle.std.specs.Io.KnownBytes.{Appends};
 ghost use Rattle.units.specs.Layout.{longest_text};
 ghost use Rattle.units.specs.Paragraphs.{SeparatorOnlyLast};
@@ -12,7 +12,7 @@ use explicit::paragraphs;
 use printing::fault::PrintFault;
 use printing::text_units::units_of;
 use std::alloc::Global;
-use std::io::Write;
+use std::io::{self, Write};
 use ucdfiles::tables::Tables;
 use units::bracket::{Bracket, Unit};
 use units::class::Class;
@@ -37,6 +37,13 @@ fn plain_units(alloc: Global, classes: &[Class]) -> Result<Vec<Unit>, Memory>
     Ok(units)
 }
 
+/// What a write came to, with the fault in place of its error.
+fn written(outcome: io::Result<()>) -> Result<(), PrintFault>
+    ensures { IsErr result ↔ IsErr outcome }
+{
+    Ok(outcome?)
+}
+
 /// Writes what the rules make of a paragraph, with the number `number`, that begins at `start` of a text, whose
 /// characters are these, if they are known.
 fn explain_paragraph<W: Write>(
@@ -55,8 +62,7 @@ fn explain_paragraph<W: Write>(
         (paragraph_explained chars.now para.now (columns_of para.now direction) direction start number)) }
 {
     let columns = columns_of(alloc, para, direction)?;
-    print_paragraph(w, chars, para, &columns, direction, start, number)?;
-    Ok(())
+    written(print_paragraph(w, chars, para, &columns, direction, start, number))
 }
 
 /// Writes what the rules make of each paragraph of a text of these units, whose characters are these, if they are

@@ -54,6 +54,32 @@ fn first_order(alloc: Global, layout: &Layout<'_>) -> Result<Vec<usize>, Memory>
     Ok(Vec::from_slice(alloc, line.order)?)
 }
 
+/// The levels of a layout, and the order of its first line.
+fn shown_by(alloc: Global, layout: &Layout<'_>) -> Result<ShownPart, Memory>
+    ensures levels { IfOk result (λ part. part.levels ≡ (view_of layout.now).levels) }
+    ensures order { IfOk result (λ part. part.order ≡ (line_at (view_of layout.now) 0).order) }
+{
+    let levels = Vec::from_slice(alloc, layout.levels())?;
+    let order = first_order(alloc, layout)?;
+    Ok(ShownPart { levels, order })
+}
+
+/// The levels after L1 and the order of a paragraph under a direction, laid out in a room that is large enough.
+fn shown_in<L: Ledger>(
+    alloc: Global,
+    room: &mut Scratch,
+    para: &[Unit],
+    direction: Direction,
+    steps: &mut Steps<L>,
+) -> Result<ShownPart, Memory>
+    requires { length para.now ≤ room_of room.old }
+    ensures { IfOk result (λ part. part ≡ shown_part para.now direction) }
+{
+    let breaks = Breaks::new(&[], para.len()).unwrap();
+    let layout = lay_out(room, para, direction, &breaks, steps).unwrap();
+    shown_by(alloc, &layout)
+}
+
 impl ShownPart {
     /// Of a paragraph under a direction, by the standard limits. The error is refused memory.
     pub fn of<L: Ledger>(
@@ -66,10 +92,6 @@ impl ShownPart {
         ensures { IfOk result (λ part. part ≡ shown_part para.now direction) }
     {
         let mut room = room_for(alloc, para.len())?;
-        let breaks = Breaks::new(&[], para.len()).unwrap();
-        let layout = lay_out(&mut room, para, direction, &breaks, steps).unwrap();
-        let levels = Vec::from_slice(alloc, layout.levels())?;
-        let order = first_order(alloc, &layout)?;
-        Ok(ShownPart { levels, order })
+        shown_in(alloc, &mut room, para, direction, steps)
     }
 }

@@ -11,7 +11,7 @@ use Rattle.paragraph.specs.Covering.{AreDisjoint}
 use Rattle.paragraph.proofs.AllSequences.{sequences_are_apart, found_front}
 use Rattle.sequences.proofs.FilledFrom.{level_of_para-low}
 use Rattle.explain.proofs.ExplicitParts.{explicit_from}
-use Rattle.explain.proofs.explicit_part.ExplicitPart.of.Goals as goal
+use Rattle.explain.proofs.explicit_part.ExplicitPart.by_isolates.Goals as goal
 
 pub returns : goal.returns
 returns g c =
@@ -27,11 +27,11 @@ returns g c =
     let P : List SequenceView → Type 0 = λ all. AreDisjoint (length us) all in
     record {
       value =
-          explicit_from us c.args.direction para_level c.first_strong-first_strong.result c.explicit_levels.new.out c.fill-2.new.self.all
+          explicit_from us c.args.direction para_level c.first_strong-first_strong.result c.explicit_levels.new.out c.fill.new.self.all
           c.para_level-level.ensures.level c.first_strong-first_strong.ensures
           (places ∙ ap (λ (d : ℕ). explicit_of d cs para_level) depth)
-          (c.fill-2.ensures.all ∙ ap (λ (d : ℕ). sequences_of (leveled_of d cs para_level)) depth);
-      extent = c.fill-2.ensures.extent;
-      apart = subst P (sym c.fill-2.ensures.all) (sequences_are_apart c.standard-limits.result.depth (omega (arith, depth)) us para_level (level_of_para-low c.para_level-level.result) c.requires);
+          (c.fill.ensures.all ∙ ap (λ (d : ℕ). sequences_of (leveled_of d cs para_level)) depth);
+      extent = c.fill.ensures.extent;
+      apart = subst P (sym c.fill.ensures.all) (sequences_are_apart c.standard-limits.result.depth (omega (arith, depth)) us para_level (level_of_para-low c.para_level-level.result) c.requires.separators);
       length = long;
     }
