@@ -1,5 +1,5 @@
 // What a handle may hold.
-ghost use Rattle.std.specs.Prelude.{◌≡◌, ◌≢◌, true, Some, None, IsSome, MatchOption};
+ghost use Rattle.std.specs.Prelude.{◌≡◌, Some, None, MatchOption};
 ghost use Rattle.lines.specs.Layouts.{view_of};
 ghost use Rattle.bidi_held.specs.Holdings.{capacity_in, tables_in, room_in, layout_held};
 
@@ -50,13 +50,5 @@ impl Held {
             Held::Tables(tables) => Some(tables),
             _ => None,
         }
-    }
-
-    /// Whether these are tables.
-    pub fn is_tables(&self) -> bool
-        ensures some { result ≡ true → IsSome (tables_in (Some self.now)) }
-        ensures none { result ≢ true → tables_in (Some self.now) ≡ None }
-    {
-        matches!(self, Held::Tables(_))
     }
 }

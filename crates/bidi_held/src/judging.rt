@@ -1,5 +1,5 @@
 // Judges made, fed and finished.
-ghost use Rattle.std.specs.Prelude.{◌≡◌, ◌≢◌, true, [], None, Some, IsSome, IfOk, IfErr};
+ghost use Rattle.std.specs.Prelude.{◌≡◌, ◌≢◌, true, [], None, Some, IsSome, MatchOption, IfOk, IfErr};
 ghost use Rattle.units.specs.Limits.{LimitsOf};
 ghost use Rattle.bidi_held.specs.Holdings.{tables_in};
 ghost use Rattle.bidi_held.specs.JudgeCalls.{judge_in, IsFresh, IsFedOn, OfItsVerdict, HandleWasFed, RefusesJudge};
@@ -11,6 +11,7 @@ use bidtests::state::JudgeState;
 use bidtests::verdict::Verdict;
 use std::alloc::Global;
 use std::mem::replace;
+use ucdfiles::tables::Tables;
 use units::limits::Limits;
 
 /// A judge of a BidiTest.txt, before its first byte, by these limits.
@@ -28,6 +29,16 @@ pub fn new_judge(alloc: Global, limits: Limits) -> Result<Box<TableJudge>, Refus
     Box::new(alloc, judge).map_err(|_| Refusal::Memory)
 }
 
+/// Hands the tables to the judge that is held.
+fn give_tables(held: &mut Held, tables: Tables)
+    ensures { (limits : LimitsOf) → MatchOption (judge_in (Some held.old)) ⊥ (IsFresh limits)
+        → HandleWasFed limits (Some held.new) (Some tables) [] }
+{
+    if let Held::Judge(judge) = held {
+        judge.tables = Some(tables);
+    }
+}
+
 /// Puts the judge into the place of the tables, which it takes over; it answers whether these are tables.
 pub fn make_into_judge(held: &mut Held, judge: Box<TableJudge>) -> bool
     ensures made { (limits : LimitsOf) → IsFresh limits judge.value → result ≡ true
@@ -35,14 +46,16 @@ pub fn make_into_judge(held: &mut Held, judge: Box<TableJudge>) -> bool
     ensures tables { result ≡ true → IsSome (tables_in (Some held.old)) }
     ensures kept { result ≢ true → (held.new ≡ held.old) × (tables_in (Some held.old) ≡ None) }
 {
-    if !held.is_tables() {
-        return false;
+    match replace(held, Held::Judge(judge)) {
+        Held::Tables(tables) => {
+            give_tables(held, tables);
+            true
+        }
+        other => {
+            *held = other;
+            false
+        }
     }
-    let before = replace(held, Held::Judge(judge));
-    if let (Held::Tables(tables), Held::Judge(judge)) = (before, held) {
-        judge.tables = Some(tables);
-    }
-    true
 }
 
 /// Hands over the next bytes of the file, if this is a judge.

@@ -13,7 +13,7 @@ ghost use Rattle.bidi_held.specs.Refusals.{IsFirstNoCharacter, IsFirstNoClass, T
 use crate::refusal::{Refusal, of_breaks};
 use lines::breaks::Breaks;
 use lines::lay_out::{lay_in, lay_in_with};
-use lines::scratch::{RoomFault, Scratch};
+use lines::scratch::{MOST, RoomFault, Scratch};
 use std::alloc::Global;
 use std::boxed::BoxedSlice;
 use ucdfiles::tables::Tables;
@@ -112,6 +112,32 @@ fn fill_classes(units: &mut [Unit], numbers: &[u8]) -> Option<usize>
     None
 }
 
+/// A column of `n` units.
+fn unit_column(alloc: Global, n: usize) -> Result<BoxedSlice<Unit>, RoomFault>
+    ensures made { IfOk result (λ units. length (boxed_slice_items units) ≡ n) }
+    ensures refused { IfErr result (λ fault. fault ≡ RoomFault.Memory) }
+{
+    let none = Unit {
+        class: Class::L,
+        bracket: Bracket::No,
+    };
+    match Vec::from_elem(alloc, none, n) {
+        Ok(units) => Ok(units.into_boxed_slice()),
+        Err(_) => Err(RoomFault::Memory),
+    }
+}
+
+/// Lays out an empty text, which any scratch has room for.
+fn lay_out_nothing(scratch: &mut Scratch)
+    ensures room { room_of scratch.new ≡ room_of scratch.old }
+    ensures filled { IsFilled scratch.new }
+    ensures empty { layout_in scratch.new ≡ layout_of standard [] Auto [] }
+{
+    if let Ok(breaks) = Breaks::new(&[], 0) {
+        let _done = lay_in(scratch, &[], Direction::Auto, &breaks);
+    }
+}
+
 impl Room {
     /// Room for texts of up to `n` units, at most 16,777,216, with the layout of an empty text.
     pub fn with_room(alloc: Global, n: usize) -> Result<Room, RoomFault>
@@ -119,24 +145,13 @@ impl Room {
         ensures empty { IfOk result (λ room. layout_in room.scratch ≡ layout_of standard [] Auto []) }
         ensures too_big { (result ≡ Err RoomFault.TooBig) ↔ (longest_text < n) }
     {
-        let mut scratch = Scratch::with_room(alloc, n)?;
-        let none = Unit {
-            class: Class::L,
-            bracket: Bracket::No,
-        };
-        let Ok(units) = Vec::from_elem(alloc, none, n) else {
-            return Err(RoomFault::Memory);
-        };
-        let Ok(breaks) = Breaks::new(&[], 0) else {
-            return Err(RoomFault::Memory);
-        };
-        match lay_in(&mut scratch, &[], Direction::Auto, &breaks) {
-            Ok(()) => Ok(Room {
-                scratch,
-                units: units.into_boxed_slice(),
-            }),
-            Err(_) => Err(RoomFault::Memory),
+        if n > MOST {
+            return Err(RoomFault::TooBig);
         }
+        let units = unit_column(alloc, n)?;
+        let mut scratch = Scratch::with_room(alloc, n)?;
+        lay_out_nothing(&mut scratch);
+        Ok(Room { scratch, units })
     }
 
     /// Lays out the units that stand at the front of the column, so many as the breaks are made for, by these limits.

@@ -1,5 +1,5 @@
 // What a judge keeps between two lines.
-ghost use Rattle.std.specs.Prelude.{◌≡◌, ◌≤◌, None, Some, IfOk, IsNone, length};
+ghost use Rattle.std.specs.Prelude.{◌≡◌, ◌≤◌, None, Some, IfOk, IsNone, length, vec_capacity};
 ghost use Rattle.units.specs.Text.{fields_of, longest_line};
 ghost use Rattle.bidtests.specs.Verdicts.{no_of};
 ghost use Rattle.bidtests.specs.ClassesFile.{classes_line, directive, levels_said, order_said, classes_row};
@@ -81,6 +81,13 @@ fn scratch(alloc: Global) -> Result<Scratch, Memory>
     Scratch::with_room(alloc, MOST_UNITS).map_err(|_| Memory)
 }
 
+// A list without items, with room for those of a row.
+fn list<T: Copy>(alloc: Global) -> Result<Vec<T>, Memory>
+    ensures { IfOk result (λ list. MOST_UNITS ≤ vec_capacity list) }
+{
+    Ok(Vec::with_capacity(alloc, MOST_UNITS)?)
+}
+
 impl Sheet {
     ghost use Rattle.bidtests.specs.Standing.{at_start, unlisted, counted, HasNoLists, no_in, no_at, after_said};
     ghost use Rattle.bidtests.specs.Standing.{after_line};
@@ -89,10 +96,10 @@ impl Sheet {
     pub fn new(alloc: Global, limits: Limits) -> Result<Self, Memory>
         ensures { IfOk result (λ sheet. sheet ≡ at_start limits) }
     {
+        let text = list(alloc)?;
+        let levels = list(alloc)?;
+        let order = list(alloc)?;
         let scratch = scratch(alloc)?;
-        let text = Vec::with_capacity(alloc, MOST_UNITS)?;
-        let levels = Vec::with_capacity(alloc, MOST_UNITS)?;
-        let order = Vec::with_capacity(alloc, MOST_UNITS)?;
         Ok(Sheet {
             limits,
             scratch,
