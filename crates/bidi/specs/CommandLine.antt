@@ -166,7 +166,8 @@ pub record IsRead (words : List Text) (request : Request) : Type 0 where
   pub passes : fault_of app words ≡ []
   pub asked : IsAskedBy (subcommand_of app words) request
 
--- the words are refused with this kind of error, or ask for help; or they pass and make no request
+-- the words are refused with this kind of error, or ask for help or the version; or the subcommand that was met, if one
+-- was, makes no request, and this is the kind for that
 pub record WordsAreRefused (words : List Text) (kind : ErrorKind) : Type 0 where
   pub app : App
   pub is : IsBidi app
