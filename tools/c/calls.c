@@ -79,8 +79,8 @@ static void judge(bidi_judge *judge, const char *text) {
   memset(&v, 0, sizeof v);
   for (size_t i = 0; i < strlen(text); i++) bidi_judge_feed(judge, (const uint8_t *)text + i, 1);
   uint32_t status = bidi_judge_finish(judge, &v);
-  printf("finish %u: answer %u reason %u direction %u line %llu index %zu rows %llu cases %llu, held %d\n", status, v.answer,
-         v.reason, v.direction, (unsigned long long)v.line, v.index, (unsigned long long)v.rows,
+  printf("finish %u: answer %u reason %u direction %u line %llu index %zu rows %llu cases %llu, held %d\n", status,
+         v.answer, v.reason, v.direction, (unsigned long long)v.line, v.index, (unsigned long long)v.rows,
          (unsigned long long)v.cases, judge->made);
   if (status == BIDI_DONE) print_text(&v, 80);
 }
@@ -91,7 +91,8 @@ static void print_room(bidi_room *room, size_t n) {
 }
 
 static void print_fault(const char *what, uint32_t status, const bidi_fault *fault, const bidi_tables *tables) {
-  printf("%s: %u line %llu kind %u, held %d\n", what, status, (unsigned long long)fault->line, fault->kind, tables->made);
+  printf("%s: %u line %llu kind %u, held %d\n", what, status, (unsigned long long)fault->line, fault->kind,
+         tables->made);
 }
 
 static void refuse_files(bidi_tables *tables) {
@@ -99,7 +100,8 @@ static void refuse_files(bidi_tables *tables) {
   const uint8_t *none = (const uint8_t *)"";
   bidi_fault fault = { 0, 0 };
   for (size_t i = 0; i < 5; i++) {
-    uint32_t status = bidi_tables_new((const uint8_t *)classes[i], strlen(classes[i]), none, 0, none, 0, tables, &fault);
+    uint32_t status = bidi_tables_new((const uint8_t *)classes[i], strlen(classes[i]), none, 0, none, 0, tables,
+                                      &fault);
     print_fault("classes", status, &fault, tables);
   }
   uint32_t status = bidi_tables_new(none, 0, (const uint8_t *)"0028; 0029; x\n", 14, none, 0, tables, &fault);
@@ -128,7 +130,8 @@ static void lay_out_texts(bidi_room *room, bidi_tables *tables) {
   static const uint32_t longer[65];
   uint64_t place = 0;
   uint32_t status = bidi_lay_out(room, tables, longer, 65, BIDI_AUTO, breaks, 0, &place), one;
-  printf("65 in a room for 64: %u, shown of another text %zu\n", status, bidi_shown(room, tables, mixed, 11, 0, &one, 1));
+  printf("65 in a room for 64: %u, shown of another text %zu\n", status,
+         bidi_shown(room, tables, mixed, 11, 0, &one, 1));
 }
 
 static void lay_out_classes(bidi_room *room, bidi_tables *tables) {
@@ -171,7 +174,8 @@ static void lay_out_by_limits(bidi_room *room, bidi_tables *tables) {
 }
 
 static void judge_by_limits(bidi_judge *held, bidi_tables *tables) {
-  const char *nested = "@Levels: x x 1\n@Reorder: 2\nRLE LRE R; 2\n", *pair = "0061 0028 0062 0029 05D0;1;1;2 2 2 1 1;4 3 0 1 2\n";
+  const char *nested = "@Levels: x x 1\n@Reorder: 2\nRLE LRE R; 2\n",
+             *pair = "0061 0028 0062 0029 05D0;1;1;2 2 2 1 1;4 3 0 1 2\n";
   const bidi_limits low = { 1, 0 }, faulty[] = { { 0, 0 }, { 1, 64 } };
   printf("of classes %u, ", bidi_judge_new_classes_with(held, low));
   judge(held, nested);
@@ -189,7 +193,8 @@ static void judge_by_limits(bidi_judge *held, bidi_tables *tables) {
 
 static void judge_files(bidi_judge *held, bidi_tables *tables) {
   judge(held, "L; 3\n");
-  const char *classes[] = { "@Levels: x 1\n@Reorder: 1\nLRE R; 1\n", "@Levels: 0\n@Reorder: 0\nL; 3\nR; 1\n", "L; 3\n" };
+  const char *classes[] = { "@Levels: x 1\n@Reorder: 1\nLRE R; 1\n", "@Levels: 0\n@Reorder: 0\nL; 3\nR; 1\n",
+                            "L; 3\n" };
   for (size_t i = 0; i < 3; i++) {
     printf("of classes %u, ", bidi_judge_new_classes(held));
     judge(held, classes[i]);

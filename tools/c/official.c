@@ -33,8 +33,8 @@ static void compare(size_t para, const size_t *levels, size_t m, const size_t *o
 }
 
 static uint8_t class_named(const char *name, size_t n) {
-  static const char *names[] = { "L", "R", "AL", "EN", "ES", "ET", "AN", "CS", "NSM", "BN", "B", "S", "WS", "ON", "LRE", "LRO",
-                                 "RLE", "RLO", "PDF", "LRI", "RLI", "FSI", "PDI" };
+  static const char *names[] = { "L", "R", "AL", "EN", "ES", "ET", "AN", "CS", "NSM", "BN", "B", "S", "WS", "ON", "LRE",
+                                 "LRO", "RLE", "RLO", "PDF", "LRI", "RLI", "FSI", "PDI" };
   for (uint8_t i = 0; i < 23; i++) if (strlen(names[i]) == n && !memcmp(names[i], name, n)) return i;
   return 255;
 }

@@ -31,7 +31,8 @@ int main(int argc, char **argv) {
   uint64_t place = 0;
   printf("room: %ld refused\n", IN_TURN(bidi_room_new(500, &room), !room.made));
   printf("room again: %ld refused\n", IN_TURN(bidi_room_new(600, &room), bidi_room_size(&room) == 500));
-  printf("tables: %ld refused\n", IN_TURN(bidi_tables_new(classes, a, brackets, b, mirrors, c, &tables, &fault), !tables.made));
+  printf("tables: %ld refused\n",
+         IN_TURN(bidi_tables_new(classes, a, brackets, b, mirrors, c, &tables, &fault), !tables.made));
   const uint32_t text[] = { 'a', 0x5D0, '1' }; const size_t none[1] = { 0 };
   uint8_t levels[3]; size_t order[3]; uint32_t shown[3]; bidi_run_t run;
   asked = 0; refused_at = 1;
@@ -41,7 +42,8 @@ int main(int argc, char **argv) {
   printf("layout and look-ups: status %u, %ld asked\n", status, asked);
   refused_at = 0;
   printf("judge: %ld refused\n", IN_TURN(bidi_judge_new_classes(&judge), !judge.made));
-  printf("judge by tables: %ld refused\n", IN_TURN(bidi_judge_new_characters(&tables, &judge), judge.made && tables.made));
+  printf("judge by tables: %ld refused\n",
+         IN_TURN(bidi_judge_new_characters(&tables, &judge), judge.made && tables.made));
   asked = 0; refused_at = 1;
   bidi_verdict verdict;
   status = bidi_judge_feed(&judge, (const uint8_t *)"0061;2;0;0;0\n", 13);

@@ -1,5 +1,6 @@
 /* verdict KIND [UCD]: judges the standard input, a BidiTest.txt where KIND is `classes` and a BidiCharacterTest.txt, by
- * the tables of UCD, where it is `characters`; prints the line that says the verdict, and ends with 0 where it is yes. */
+ * the tables of UCD, where it is `characters`; prints the line that says the verdict, and ends with 0 where it is
+ * yes. */
 #include "bidi.h"
 #include "read_file.h"
 #include <string.h>

@@ -3,7 +3,8 @@ use Rattle.std.proofs.Common.{◌≡◌, ℕ, List, [], ◌∷◌, ◌++◌, ref
 use lib.Dec.{lit<}
 use seplogic.Ra.Ura.{Ura}
 use mir.Raw.{raw as bare}
-use mir.Val.{Val, vptr, vnull, vstruct, of_list, has_ty}
+use mir.Syntax.{Dict, impl, tnil, tcons, dnil}
+use mir.Val.{Val, vptr, vnull, vstruct, vcons, vnil, of_list, has_ty}
 use base.Logic.{never, fst∗}
 use types.Logic.{Logic, sem}
 use types.Kit.{Item, Goal, Seq, Step, step, ‵, ◌$◌, move, drop, fsplit, fjoin, fpick, fpack, rewrite, feq_i, feq_l}
@@ -11,21 +12,25 @@ use denote.RattleType.{RattleType, Valss}
 use denote.Memory.{lone}
 use denote.RawPtr.{Ptr, block_ptr, null_ptr, ptr_val, in_a_block}
 use denote.Steps.{nothing}
-use denote.Param.{layout}
+use denote.Exit.{no}
+use denote.Param.{layout, arg}
+use denote.Param.Laws.{Laws, arg_laws}
 use denote.Struct.Struct.{within}
 use denote.Struct.Owning.{shape, fields, to}
 use Rattle.core.proofs.alloc.Calls.{handle_tells}
+use Rattle.std_alloc.proofs.BoxSteps.Form.{Bx}
+use Rattle.std_alloc.proofs.ResultValues.{and_tt}
 use Rattle.core.proofs.cell.Inside.{Good}
 use Rattle.std.specs.Prelude.{Option, Some, None, IsSome}
 use Rattle.std.specs.declared.alloc.Global.{Global}
 use Rattle.std.specs.contracts.alloc.Global as heap
 use Rattle.std.proofs.alloc.Global.TheLaws as heap_laws
-use Rattle.std.specs.contracts.impls.GlobalAllocator.TheImpl.{ghosts}
+use Rattle.std.specs.contracts.impls.GlobalAllocator.TheImpl.{ghosts, dict}
 use Rattle.std_alloc.specs.Box.Ownership.{box_owns}
 use Rattle.bidi_c.specs.Kept.{kept}
 use Rattle.bidi_held.specs.contracts.held.Held as inner
+use Rattle.bidi_held.proofs.held.Held.TheLaws as inner_laws
 use Rattle.bidi_c.specs.contracts.handle.Handle as outer
-use Rattle.bidi_c.proofs.Values.{both, al, and_tt}
 
 abbrev pub R : RattleType
 R = inner.the_row
@@ -36,6 +41,33 @@ Z = heap.the_row
 abbrev pub Hd : RattleType
 Hd = outer.the_row
 
+abbrev pub both : Val → Val → Val
+both v w = vstruct (vcons v (vcons w vnil))
+
+-- what is held and its allocator, as a call passes them: by their layouts
+abbrev pub Rc : RattleType
+Rc = arg (bare (layout R)) no R
+
+abbrev pub Rc_laws : Laws Rc
+Rc_laws = arg_laws (bare (layout R)) no R inner_laws.the_row_laws refl
+
+abbrev pub Zc : RattleType
+Zc = arg (bare (layout Z)) no Z
+
+abbrev pub Zc_laws : Laws Zc
+Zc_laws = arg_laws (bare (layout Z)) no Z heap_laws.the_row_laws refl
+
+-- how the allocator and what is held are let go
+abbrev pub none_drops : Dict
+none_drops = impl ("bidi_c::Destruct++none::drop" ∷ []) (tcons (layout Zc) tnil) dnil
+
+abbrev pub held_drops : Dict
+held_drops = impl ("bidi_c::bidi_held++held++Held+Destruct::drop" ∷ []) tnil dnil
+
+-- the box of what is held
+abbrev pub E : Bx
+E = record { row = R; laws = inner_laws.the_row_laws; al = record { row = Z; laws = heap_laws.the_row_laws; g = ghosts; d = dict; drops = none_drops } }
+
 pub by_some : {X : Type 0} {Y : Type 1} (o : Option X) → IsSome o → ((x : X) → o ≡ Some x → Y) → Y
 by_some None i k = absurd (true≢false (sym i))
 by_some (Some x) i k = k x refl
@@ -43,12 +75,15 @@ by_some (Some x) i k = k x refl
 pub none_good : (h : Val) → Good (layout Z) h → Good (layout Hd) (both vnull h)
 none_good h fits = (and_tt (has_ty (layout Z) h) fits.0, (record { fits = lit< tt }, (fits.1, tt)))
 
+pub some_good : (b o : ℕ) (h : Val) → Good (layout Z) h → Good (layout Hd) (both (vptr b o) h)
+some_good b o h fits = (and_tt (has_ty (layout Z) h) fits.0, (tt, (fits.1, tt)))
+
 module _ {M : Type 1} {𝓤 : Ura M} {𝓛 : Logic 𝓤} {K : Type 0} {Γ : List (Item 𝓤)} {G : Goal 𝓤 𝓛.H} where
   pub handle_out : K → (d : Hd.Denot) (x : R.Denot) → d.value ≡ Some x → (vs : List Val)
       → ((b o : ℕ) (h : Val) → d.at ≡ block_ptr b o → vs ≡ both (vptr b o) h ∷ [] → Good (layout Z) h → Seq K 𝓛 (‵ (box_owns (ghosts.dealloc_token d.alloc) R (block_ptr b o) x) ∷ ‵ (Z.own_val d.alloc (h ∷ [])) ∷ Γ) G)
       → Seq K 𝓛 (‵ (Hd.own_val d vs) ∷ Γ) G
   handle_out t d x is vs k =
-      fsplit t $ fpick t (λ vss. fsplit t $ feq_l t (λ ev. fsplit t $ feq_l t (λ ep. fsplit t $ handle_tells (al R Z heap_laws.the_row_laws ghosts) t d.alloc vss.1.0 (λ h ea fits. move t (1 ∷ []) $ drop t $ move t (1 ∷ []) $
+      fsplit t $ fpick t (λ vss. fsplit t $ feq_l t (λ ev. fsplit t $ feq_l t (λ ep. fsplit t $ handle_tells E.al t d.alloc vss.1.0 (λ h ea fits. move t (1 ∷ []) $ drop t $ move t (1 ∷ []) $
       rewrite t 0 (λ (v : Option R.Denot). ‵ (kept R d.alloc d.at v)) is refl $
       in_a_block t d.at (λ p. box_owns (ghosts.dealloc_token d.alloc) R p x) (fst∗ 𝓤 (never 𝓤) (sem 𝓛 (ghosts.dealloc_token d.alloc (bare (lone R.mir)) null_ptr))) (λ b o e. k b o h e
       (subst (λ (p : Ptr). vs ≡ vstruct (of_list (ptr_val p ∷ h ∷ [])) ∷ []) e

@@ -2,7 +2,6 @@
 ghost use Rattle.std.specs.Prelude.{◌≡◌, ◌≢◌, ◌↔◌, IsSome, Some, None, true, MatchOption};
 
 use crate::handle::Handle;
-use crate::loose::Loose;
 use bidi_held::held::Held;
 use std::alloc::Global;
 use std::mem::replace;
@@ -29,7 +28,7 @@ impl BidiHandle {
         ensures { result.handle.value ≡ Some held.value }
     {
         BidiHandle {
-            handle: Handle::of(Loose::of(held)),
+            handle: Handle::of(held),
             made: true,
         }
     }
@@ -44,7 +43,7 @@ impl BidiHandle {
             return None;
         }
         let BidiHandle { handle, made: _ } = replace(self, BidiHandle::none(alloc));
-        Some(handle.into_loose().into_box())
+        Some(handle.into_box())
     }
 
     /// Puts something into an empty handle.

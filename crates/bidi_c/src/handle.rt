@@ -2,7 +2,6 @@
 ghost use Rattle.std.specs.Prelude.{◌≡◌, Option, IsSome, Some, None};
 ghost use Rattle.bidi_held.specs.declared.held.Held.{Held as HeldOf};
 
-use crate::loose::Loose;
 use bidi_held::held::Held;
 use std::alloc::Global;
 use std::marker::Model;
@@ -33,25 +32,22 @@ impl Handle {
         }
     }
 
-    pub(crate) fn of(loose: Loose<Held, Global>) -> Handle
-        ensures { result.value ≡ Some loose.value }
+    pub(crate) fn of(held: Box<Held>) -> Handle
+        ensures { result.value ≡ Some held.value }
     {
-        let Loose { at, alloc } = loose;
+        let (at, alloc) = Box::into_raw_with_allocator(held);
         Handle {
             at: at as *mut u8,
             alloc,
         }
     }
 
-    pub(crate) fn into_loose(self) -> Loose<Held, Global>
+    pub(crate) fn into_box(self) -> Box<Held>
         requires { IsSome self.value }
         ensures { self.value ≡ Some result.value }
     {
         let Handle { at, alloc } = self;
-        Loose {
-            at: at as *mut Held,
-            alloc,
-        }
+        unsafe { Box::from_raw(alloc, at as *mut Held) }
     }
 
     pub(crate) fn end(self)

@@ -9,7 +9,6 @@ pub mod handle;
 pub mod judge_calls;
 pub mod laying_out;
 pub mod looking_up;
-mod loose;
 pub mod room_calls;
 pub mod tables_calls;
 pub mod verdict_calls;

@@ -19,11 +19,10 @@ use denote.Triple.Entry.{alive}
 use denote.Triple.Walked.{Stays, stay_dropped, walk_of, Goes-dropped}
 use denote.Param.{layout}
 use Rattle.core.proofs.cell.Inside.{one}
-use Rattle.bidi_c.proofs.Values.{both}
 use Rattle.std.specs.Prelude.{Option, None}
 use Rattle.std.proofs.alloc.Global.TheLaws as heap_laws
 use Rattle.std.proofs.raw_atomic.Walks.{proved_at, leaves}
-use Rattle.bidi_c.proofs.Handles.{R, Z, none_good, handle_none}
+use Rattle.bidi_c.proofs.Handles.{R, Z, both, none_good, handle_none}
 use Rattle.bidi_c.specs.contracts.handle.Handle.empty.{ended, clauses}
 use Rattle.bidi_c.specs.contracts.handle.Handle.empty.Key.{name as #self}
 use Rattle.bidi_c.proofs.handle.Handle.empty.Statement.{statement}
