@@ -1,6 +1,7 @@
 -- The fault of the first step that fails, where steps are joined; and what ends a step.
-use Rattle.std.proofs.Common.{◌≡◌, ℕ, List, [], ◌∷◌, ◌++◌, Option, None, Some, Result, Ok, Err, IfErr, IsErrAnd, inl, inr, subst, sym}
-use Rattle.std.specs.Str.{IsUtf8}
+use Rattle.std.proofs.Common.{◌≡◌, ℕ, List, [], ◌∷◌, ◌++◌, Option, None, Some, Result, Ok, Err, IfOk, IfErr, IsErrAnd, IsOk, OnOk, inl, inr, subst, sym}
+use Rattle.std.specs.Io.KnownBytes.{Appends}
+use Rattle.std.specs.Str.{IsUtf8, chars}
 use Rattle.units.specs.Text.{lines_of}
 use Rattle.ucdfiles.specs.ClassFile.{class_fault, class_file_fault}
 use Rattle.ucdfiles.specs.Faults.{first_fault}
@@ -9,7 +10,7 @@ use Rattle.ucdfiles.specs.Tables.{TablesOf}
 use Rattle.bidi.specs.ReadFiles.{AreTables, FileFacts, most_file_bytes, origin_of}
 use Rattle.bidi.specs.FaultText.{print_fault}
 use Rattle.bidi.specs.Outcomes.{IsDone}
-use Rattle.bidi.specs.Printed.{most_text_bytes}
+use Rattle.bidi.specs.Printed.{HasPrinted, most_text_bytes}
 use Rattle.bidi.specs.Steps.{AreDone, EndsWriting, FailsIn, IsFirstFault, RequestStep, file_step, printing_steps, steps_of, table_steps, text_steps}
 use Rattle.bidi.specs.declared.request.FileKind.TheVariants.{Classes, Characters}
 use Rattle.bidi.specs.declared.request.Request.{Request}
@@ -72,11 +73,36 @@ writing_ends : (f : PrintFault) → EndsWriting (print_fault f)
 writing_ends Write = tt
 writing_ends Memory = tt
 
+pub writing_fails : {A : Type 0} (r : Result A Fault) (f : PrintFault) → IsErrAnd r (λ fault. fault ≡ print_fault f) → IfErr r EndsWriting
+writing_fails (Ok x) f h = tt
+writing_fails (Err fault) f h = subst EndsWriting (sym h) (writing_ends f)
+
 -- where all was read, a fault of printing is one of writing
 pub printing_fails : {A : Type 0} (steps : List RequestStep) (before after : Option (List ℕ)) (r : Result A Fault) (f : PrintFault) → AreDone steps
     → IsErrAnd r (λ fault. fault ≡ print_fault f) → IfErr r (FailsIn steps before after)
 printing_fails steps before after (Ok x) f done h = tt
 printing_fails steps before after (Err fault) f done h = inr (done, subst EndsWriting (sym h) (writing_ends f))
+
+-- a text that was printed without a fault is printed
+pub when_printed : {A B : Type 0} (r : Result Outcome B) (printed : Result (Unit {0}) A) (P : Type 0) (Q : Outcome → Type 0)
+    → IfOk r (λ outcome. (outcome ≡ Printed) × IsOk printed) → OnOk printed P → (P → Q Printed) → IfOk r Q
+when_printed (Ok outcome) (Ok all) P Q is said f = subst Q (sym is.0) (f said)
+when_printed (Ok outcome) (Err fault) P Q is said f = let never = is.1 in cc
+when_printed (Err fault) printed P Q is said f = tt
+
+-- and what was printed by the tables and of the text that were read is what FILE holds
+pub has_printed : (files : FileFacts) (printed : TablesOf → List ℕ → List ℕ) (folder file : List ℕ) (tables : TablesOf) (text : List ℕ)
+    (before after : Option (List ℕ)) → AreTables files folder tables
+    → ((bytes : List ℕ) × files.Holds (origin_of file) most_text_bytes bytes × IsUtf8 bytes × (text ≡ chars bytes))
+    → Appends before after (printed tables text) → HasPrinted files printed folder file before after
+has_printed files printed folder file tables text before after stated read said = record {
+  tables = tables;
+  stated = stated;
+  bytes = read.0;
+  read = read.1;
+  utf8 = read.2;
+  said = subst (λ (xs : List ℕ). Appends before after (printed tables xs)) read.3 said;
+}
 
 -- what was done was read before
 pub request_done : (files : FileFacts) (before after : Option (List ℕ)) (request : Request) (outcome : Outcome)

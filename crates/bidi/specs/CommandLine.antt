@@ -90,12 +90,14 @@ direction_words = codes "auto" ∷ codes "ltr" ∷ codes "rtl" ∷ codes "auto-r
 abbrev pub kind_words : List Text
 kind_words = codes "classes" ∷ codes "characters" ∷ []
 
--- the command, whose four subcommands have these choices; one of them is needed, but for help and the version
+-- the command without its subcommands: one is needed, but for help and the version
+abbrev pub bidi_top : App
+bidi_top = on_top (λ s. record s { has_version = true; subcommand_required = true }) (new_app (codes "bidi"))
+
+-- the command, whose four subcommands have these choices
 abbrev pub bidi_app : Choice → Choice → Choice → Choice → App
 bidi_app of_levels of_reorder of_explain kinds =
-    with_subcommand (with_subcommand (with_subcommand (with_subcommand
-    (on_top (λ s. record s { has_version = true; subcommand_required = true }) (new_app (codes "bidi")))
-    (levels_app of_levels).top) (reorder_app of_reorder).top) (explain_app of_explain).top) (judge_app kinds).top
+    with_subcommand (with_subcommand (with_subcommand (with_subcommand bidi_top (levels_app of_levels).top) (reorder_app of_reorder).top) (explain_app of_explain).top) (judge_app kinds).top
 
 -- the command line of `bidi`
 pub record IsBidi (app : App) : Type 0 where
@@ -158,6 +160,18 @@ AsksFor name rows (Judge kind tables file) = (name ≡ codes "judge")
 abbrev pub IsAskedBy : Option (Text × List Row) → Request → Type 0
 IsAskedBy None request = ⊥
 IsAskedBy (Some met) request = AsksFor met.0 met.1 request
+
+-- the subcommand that was met makes no request, and the error is of the kind for that, unless memory was refused
+abbrev pub MakesNone : Option (Text × List Row) → Error → Type 0
+MakesNone met error = (kind_of error ≡ OutOfMemory)
+    ⊎ ((kind_of error ≡ kind_without_request met) × ((request : Request) → ¬ (IsAskedBy met request)))
+
+-- the words pass, and this subcommand is met, with these values
+pub record HasMet (words : List Text) (met : Option (Text × List Row)) : Type 0 where
+  pub app : App
+  pub is : IsBidi app
+  pub passes : fault_of app words ≡ []
+  pub same : met ≡ subcommand_of app words
 
 -- the words make this request
 pub record IsRead (words : List Text) (request : Request) : Type 0 where

@@ -27,6 +27,10 @@ pub record SaysVerdict (before after : Option (List ℕ)) (verdict : Verdict) (s
 abbrev pub IsClassesVerdict : List ℕ → Verdict → Type 0
 IsClassesVerdict bytes verdict = verdict ≡ classes_verdict standard bytes
 
+-- the verdict on the bytes of a file whose rows are lists of code points, by the standard limits and these tables
+abbrev pub IsVerdictBy : TablesOf → List ℕ → Verdict → Type 0
+IsVerdictBy tables bytes verdict = verdict ≡ characters_verdict standard (unit_by tables) bytes
+
 -- the verdict on the bytes of a file whose rows are lists of code points, by the standard limits and the tables of a
 -- folder that were read
 abbrev pub IsCharactersVerdict : FileFacts → List ℕ → List ℕ → Verdict → Type 0

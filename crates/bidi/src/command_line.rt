@@ -1,8 +1,9 @@
 // The command line of `bidi`.
-ghost use Rattle.std.specs.Prelude.{◌≡◌, false, IfOk};
+ghost use Rattle.std.specs.Prelude.{◌≡◌, false, IfOk, IsOkAnd};
+ghost use Rattle.clap.specs.Built.{AddsSubcommand};
 ghost use Rattle.clap.specs.Simple.{app_of};
 ghost use Rattle.clap.specs.declared.builder.command.Command.TheViews.{out-Command as fields_of};
-ghost use Rattle.bidi.specs.CommandLine.{Choice, IsBidi, direction_words, explain_app, judge_app, kind_words};
+ghost use Rattle.bidi.specs.CommandLine.{Choice, IsBidi, bidi_top, direction_words, explain_app, judge_app, kind_words};
 ghost use Rattle.bidi.specs.CommandLine.{levels_app, reorder_app, words_of};
 
 use crate::arguments::{
@@ -74,10 +75,10 @@ fn judge_command<'a>(alloc: Global) -> Result<Command<'a>, AllocError>
         .arg(file_argument(alloc))
 }
 
-/// The command `bidi`, as `clap` reads its words.
-pub fn bidi_command<'a>(alloc: Global) -> Result<Command<'a>, AllocError>
-    ensures app { IfOk result (λ command. IsBidi (app_of command)) }
-    ensures local { IfOk result (λ command. (fields_of command).has_globals ≡ false) }
+/// The command `bidi` without its subcommands, of which one is needed.
+fn bidi_alone<'a>(alloc: Global) -> Command<'a>
+    ensures app { app_of result ≡ bidi_top }
+    ensures local { (fields_of result).has_globals ≡ false }
 {
     Command::new(alloc, "bidi")
         .about(help::BIDI_ABOUT)
@@ -85,8 +86,26 @@ pub fn bidi_command<'a>(alloc: Global) -> Result<Command<'a>, AllocError>
         .after_help(help::BIDI_EXAMPLE)
         .version(help::BIDI_VERSION)
         .subcommand_required(true)
-        .subcommand(levels_command(alloc)?)?
-        .subcommand(reorder_command(alloc)?)?
-        .subcommand(explain_command(alloc)?)?
-        .subcommand(judge_command(alloc)?)
+}
+
+/// A command with a subcommand, if there was memory to make that.
+fn with_made<'a>(
+    command: Command<'a>,
+    made: Result<Command<'a>, AllocError>,
+) -> Result<Command<'a>, AllocError>
+    ensures { IfOk result (λ whole. IsOkAnd made.entry
+        (λ subcommand. AddsSubcommand command.entry subcommand whole)) }
+{
+    command.subcommand(made?)
+}
+
+/// The command `bidi`, as `clap` reads its words.
+pub fn bidi_command<'a>(alloc: Global) -> Result<Command<'a>, AllocError>
+    ensures app { IfOk result (λ command. IsBidi (app_of command)) }
+    ensures local { IfOk result (λ command. (fields_of command).has_globals ≡ false) }
+{
+    let one = with_made(bidi_alone(alloc), levels_command(alloc))?;
+    let two = with_made(one, reorder_command(alloc))?;
+    let three = with_made(two, explain_command(alloc))?;
+    with_made(three, judge_command(alloc))
 }

@@ -1,6 +1,8 @@
 // What goes wrong in a run, and how it is said.
-ghost use Rattle.std.specs.Prelude.{◌≡◌, OnOk};
+ghost use Rattle.std.specs.Prelude.{◌≡◌, [], ◌∷◌, codes, OnOk};
+ghost use Rattle.std.specs.List.{concat};
 ghost use Rattle.std.specs.Io.KnownBytes.{Appends};
+ghost use Rattle.printing.specs.LevelsText.{line_feed};
 ghost use Rattle.bidi.specs.FaultText.{SaysFault, fault_status, faulty_line_text, no_class_text};
 
 use printing::fault::PrintFault;
@@ -97,6 +99,29 @@ impl<T: Drop> From<AllocFailed<T>> for Fault<'_> {
     }
 }
 
+/// Writes this line.
+fn print_line<E: Write>(err: &mut E, line: &str) -> io::Result<()>
+    ensures { OnOk result (Appends (E.contents err.old) (E.contents err.new) (concat (line.now ∷ line_feed ∷ []))) }
+{
+    writeln!(err, "{line}")
+}
+
+/// Writes the line that says that the file of this name can't be read.
+fn print_unread<E: Write>(err: &mut E, name: &str) -> io::Result<()>
+    ensures { OnOk result (Appends (E.contents err.old) (E.contents err.new)
+        (concat (codes "bidi: cannot read " ∷ name.now ∷ line_feed ∷ []))) }
+{
+    writeln!(err, "bidi: cannot read {name}")
+}
+
+/// Writes the line that says that the text in the file of this name is not UTF-8.
+fn print_not_utf8<E: Write>(err: &mut E, name: &str) -> io::Result<()>
+    ensures { OnOk result (Appends (E.contents err.old) (E.contents err.new)
+        (concat (codes "bidi: " ∷ name.now ∷ codes ": not UTF-8" ∷ line_feed ∷ []))) }
+{
+    writeln!(err, "bidi: {name}: not UTF-8")
+}
+
 /// Writes the line that says what is wrong with a line of a table's file.
 fn print_faulty_line<E: Write>(
     err: &mut E,
@@ -140,15 +165,15 @@ impl Fault<'_> {
     {
         match self {
             Fault::Refused(error) => write!(err, "{error}"),
-            Fault::WordNotUtf8 => writeln!(err, "bidi: a word is not UTF-8"),
-            Fault::TablesNeeded => writeln!(err, "bidi: --tables is needed"),
-            Fault::ClassesTooLong => writeln!(err, "bidi: --classes is too long"),
+            Fault::WordNotUtf8 => print_line(err, "bidi: a word is not UTF-8"),
+            Fault::TablesNeeded => print_line(err, "bidi: --tables is needed"),
+            Fault::ClassesTooLong => print_line(err, "bidi: --classes is too long"),
             Fault::NoClass(name) => print_no_class(err, name),
-            Fault::CannotRead(name) => writeln!(err, "bidi: cannot read {name}"),
+            Fault::CannotRead(name) => print_unread(err, name),
             Fault::FaultyLine { name, line, fault } => print_faulty_line(err, name, *line, *fault),
-            Fault::NotUtf8(name) => writeln!(err, "bidi: {name}: not UTF-8"),
-            Fault::CannotWrite => writeln!(err, "bidi: cannot write"),
-            Fault::OutOfMemory => writeln!(err, "bidi: out of memory"),
+            Fault::NotUtf8(name) => print_not_utf8(err, name),
+            Fault::CannotWrite => print_line(err, "bidi: cannot write"),
+            Fault::OutOfMemory => print_line(err, "bidi: out of memory"),
         }
     }
 

@@ -26,14 +26,19 @@ use std::env;
 use std::io::{self, BufWriter, Write};
 use std::process::ExitCode;
 
+/// Runs with these words, over the files of the system, standard output (buffered) and standard error.
+fn run_over_system<E: Write>(rt: &HostRuntime, words: &[&str], err: &mut E) -> io::Result<u8> {
+    let alloc = rt.alloc();
+    let mut out = BufWriter::new(alloc, rt.stdout())?;
+    Ok(run(alloc, words, &SystemFiles::new(rt), &mut out, err))
+}
+
 /// Runs with the words of the command line, over the files of the system, standard output (buffered) and standard
 /// error.
 fn run_with_words<E: Write>(rt: &HostRuntime, err: &mut E) -> io::Result<u8> {
-    let alloc = rt.alloc();
-    let owned: Vec<String> = env::args(rt)?.collect(alloc)?;
-    let words: Vec<&str> = owned.iter().map(|word| word.as_str()).collect(alloc)?;
-    let mut out = BufWriter::new(alloc, rt.stdout())?;
-    Ok(run(alloc, &words, &SystemFiles::new(rt), &mut out, err))
+    let owned: Vec<String> = env::args(rt)?.collect(rt.alloc())?;
+    let words: Vec<&str> = owned.iter().map(|word| word.as_str()).collect(rt.alloc())?;
+    run_over_system(rt, &words, err)
 }
 
 /// Why there are no words to run with.

@@ -1,15 +1,13 @@
 // What a request asks for, done.
-ghost use Rattle.std.specs.Prelude.{◌≡◌, ◌≤◌, ℕ, List, [], ◌∷◌, length, IfOk, IfErr, OnOk};
+ghost use Rattle.std.specs.Prelude.{◌≡◌, ◌≤◌, ℕ, List, [], ◌∷◌, length, IfOk, IfErr, IsOk, OnOk};
 ghost use Rattle.std.specs.Str.{chars, IsUtf8};
 ghost use Rattle.units.specs.Layout.{longest_text};
-ghost use Rattle.bidi.specs.Judged.{HasJudged, IsCharactersVerdict, IsClassesVerdict};
+ghost use Rattle.bidi.specs.Judged.{HasJudged, IsCharactersVerdict, IsClassesVerdict, IsVerdictBy};
 ghost use Rattle.bidi.specs.Outcomes.{IsDone};
-ghost use Rattle.bidi.specs.declared.request.Request.TheVariants.{Judge};
-ghost use Rattle.bidi.specs.Printed.{HasExplained, HasPrinted, most_text_bytes};
-ghost use Rattle.explain.specs.Explained.{explained};
-ghost use Rattle.printing.specs.PrintedTexts.{printed_levels, printed_reorder};
-ghost use Rattle.bidi.specs.ReadFiles.{most_file_bytes, origin_of};
-ghost use Rattle.bidi.specs.Steps.{FailsIn, IsFirstFault, characters_steps, classes_steps, file_step};
+ghost use Rattle.bidi.specs.declared.request.Request.TheVariants.{Explain, Judge, Levels, Reorder};
+ghost use Rattle.bidi.specs.Printed.{HasExplained, most_text_bytes};
+ghost use Rattle.bidi.specs.ReadFiles.{AreTables, most_file_bytes, origin_of};
+ghost use Rattle.bidi.specs.Steps.{EndsWriting, FailsIn, IsFirstFault, characters_steps, classes_steps, file_step};
 ghost use Rattle.bidi.specs.Steps.{printing_steps, steps_of, text_steps};
 
 use crate::class_names::classes_in;
@@ -22,10 +20,12 @@ use crate::reading::read_text;
 use crate::request::{FileKind, Request};
 use crate::table_files::read_tables;
 use explain::print::{print_explained, print_explained_classes};
+use printing::fault::PrintFault;
 use printing::print::{print_levels, print_reorder};
 use std::alloc::Global;
 use std::io::Write;
 use std::num::NonZeroU16;
+use ucdfiles::tables::Tables;
 use units::level::Direction;
 
 /// Judges what FILE names, whose rows are lists of classes, and answers the verdict's exit status.
@@ -44,6 +44,23 @@ fn judge_file_of_classes<'a, F: Files, W: Write>(
     judge_classes(alloc, &mut source, file, out)
 }
 
+/// Judges what FILE names, whose rows are lists of code points, by these tables. Answers the verdict's exit status.
+fn judge_file_by_tables<'a, F: Files, W: Write>(
+    alloc: Global,
+    tables: &Tables,
+    file: &'a str,
+    files: &F,
+    out: &mut W,
+) -> Result<u8, Fault<'a>>
+    ensures judged { IfOk result (HasJudged (F.facts files.now)
+        (IsVerdictBy tables.now) file.now (W.contents out.old) (W.contents out.new)) }
+    ensures fault { IfErr result (FailsIn (file_step (F.facts files.now) most_file_bytes file.now ∷ [])
+        (W.contents out.old) (W.contents out.new)) }
+{
+    let mut source = open(alloc, files, file, MOST_FILE_BYTES)?;
+    judge_characters(alloc, tables, &mut source, file, out)
+}
+
 /// Judges what FILE names, whose rows are lists of code points, by the tables of the folder, which are read
 /// first. Answers the verdict's exit status.
 fn judge_file_of_characters<'a, F: Files, W: Write>(
@@ -60,8 +77,7 @@ fn judge_file_of_characters<'a, F: Files, W: Write>(
         (W.contents out.old) (W.contents out.new)) }
 {
     let tables = read_tables(alloc, files, folder)?;
-    let mut source = open(alloc, files, file, MOST_FILE_BYTES)?;
-    judge_characters(alloc, &tables, &mut source, file, out)
+    judge_file_by_tables(alloc, &tables, file, files, out)
 }
 
 /// Judges what FILE names, as a file of this kind. Where tables are needed and none are named, nothing is opened.
@@ -105,69 +121,96 @@ fn text_in_file<'a, F: Files>(
     read_text(alloc, &mut source, file)
 }
 
+/// What a text that was printed so comes to.
+fn outcome_of_printing<'a>(printed: Result<(), PrintFault>) -> Result<Outcome, Fault<'a>>
+    ensures done { IfOk result (λ outcome. (outcome ≡ Outcome.Printed) × IsOk printed) }
+    ensures fault { IfErr result EndsWriting }
+{
+    printed?;
+    Ok(Outcome::Printed)
+}
+
+/// A text, and the tables of the folder by which it is printed.
+#[derive(Drop)]
+struct TextWithTables {
+    tables: Tables,
+    text: Vec<char>,
+}
+
+/// The tables of the folder, which are read first, and the text in what FILE names.
+fn text_with_tables<'a, F: Files>(
+    alloc: Global,
+    folder: &str,
+    file: &'a str,
+    files: &F,
+) -> Result<TextWithTables, Fault<'a>>
+    ensures tables { IfOk result (λ read. AreTables (F.facts files.now) folder.now read.tables) }
+    ensures text { IfOk result (λ read. (bytes : List ℕ)
+        × (F.facts files.now).Holds (origin_of file.now) most_text_bytes bytes
+        × IsUtf8 bytes × (read.text.items ≡ chars bytes)) }
+    ensures bound { IfOk result (λ read. length read.text.items ≤ longest_text) }
+    ensures fault { IfErr result
+        (IsFirstFault (printing_steps (F.facts files.now) folder.now file.now)) }
+{
+    let tables = read_tables(alloc, files, folder)?;
+    let text = text_in_file(alloc, file, files)?;
+    Ok(TextWithTables { tables, text })
+}
+
 /// Prints the levels of the text in what FILE names, by the tables of the folder, which are read first.
 fn print_levels_of_file<'a, F: Files, W: Write>(
     alloc: Global,
-    folder: &str,
+    folder: &'a str,
     direction: Direction,
     file: &'a str,
     files: &F,
     out: &mut W,
-) -> Result<(), Fault<'a>>
-    ensures printed { OnOk result (HasPrinted (F.facts files.now)
-        (λ tables text. printed_levels tables text direction) folder.now file.now
-        (W.contents out.old) (W.contents out.new)) }
+) -> Result<Outcome, Fault<'a>>
+    ensures done { IfOk result (IsDone (F.facts files.now)
+        (W.contents out.old) (W.contents out.new) (Levels folder.entry direction file.entry)) }
     ensures fault { IfErr result (FailsIn (printing_steps (F.facts files.now) folder.now file.now)
         (W.contents out.old) (W.contents out.new)) }
 {
-    let tables = read_tables(alloc, files, folder)?;
-    let text = text_in_file(alloc, file, files)?;
-    print_levels(alloc, out, &tables, &text, direction)?;
-    Ok(())
+    let read = text_with_tables(alloc, folder, file, files)?;
+    outcome_of_printing(print_levels(alloc, out, &read.tables, &read.text, direction))
 }
 
 /// Prints the text in what FILE names as it is shown, with breaks at the columns, by the tables of the folder, which
 /// are read first.
 fn print_reorder_of_file<'a, F: Files, W: Write>(
     alloc: Global,
-    folder: &str,
+    folder: &'a str,
     direction: Direction,
     columns: Option<NonZeroU16>,
     file: &'a str,
     files: &F,
     out: &mut W,
-) -> Result<(), Fault<'a>>
-    ensures printed { OnOk result (HasPrinted (F.facts files.now)
-        (λ tables text. printed_reorder tables text direction columns) folder.now file.now
-        (W.contents out.old) (W.contents out.new)) }
+) -> Result<Outcome, Fault<'a>>
+    ensures done { IfOk result (IsDone (F.facts files.now)
+        (W.contents out.old) (W.contents out.new) (Reorder folder.entry direction columns file.entry)) }
     ensures fault { IfErr result (FailsIn (printing_steps (F.facts files.now) folder.now file.now)
         (W.contents out.old) (W.contents out.new)) }
 {
-    let tables = read_tables(alloc, files, folder)?;
-    let text = text_in_file(alloc, file, files)?;
-    print_reorder(alloc, out, &tables, &text, direction, columns)?;
-    Ok(())
+    let read = text_with_tables(alloc, folder, file, files)?;
+    outcome_of_printing(print_reorder(alloc, out, &read.tables, &read.text, direction, columns))
 }
 
 /// Prints what each rule does of the text in what FILE names, by the tables of the folder, which are read first.
 fn explain_file<'a, F: Files, W: Write>(
     alloc: Global,
-    folder: &str,
+    folder: &'a str,
     direction: Direction,
     file: &'a str,
     files: &F,
     out: &mut W,
-) -> Result<(), Fault<'a>>
-    ensures printed { OnOk result (HasPrinted (F.facts files.now)
-        (λ tables text. explained tables text direction) folder.now file.now
-        (W.contents out.old) (W.contents out.new)) }
+) -> Result<Outcome, Fault<'a>>
+    ensures done { IfOk result (IsDone (F.facts files.now)
+        (W.contents out.old) (W.contents out.new) (Explain folder.entry direction file.entry)) }
     ensures fault { IfErr result (FailsIn (printing_steps (F.facts files.now) folder.now file.now)
         (W.contents out.old) (W.contents out.new)) }
 {
-    let tables = read_tables(alloc, files, folder)?;
-    let text = text_in_file(alloc, file, files)?;
-    print_explained(alloc, out, &tables, &text, direction)?;
-    Ok(())
+    let read = text_with_tables(alloc, folder, file, files)?;
+    outcome_of_printing(print_explained(alloc, out, &read.tables, &read.text, direction))
 }
 
 /// Prints what each rule does of the classes that the word names.
@@ -203,27 +246,18 @@ pub fn perform<'a, F: Files, W: Write>(
             tables,
             direction,
             file,
-        } => {
-            print_levels_of_file(alloc, tables, direction, file, files, out)?;
-            Ok(Outcome::Printed)
-        }
+        } => print_levels_of_file(alloc, tables, direction, file, files, out),
         Request::Reorder {
             tables,
             direction,
             columns,
             file,
-        } => {
-            print_reorder_of_file(alloc, tables, direction, columns, file, files, out)?;
-            Ok(Outcome::Printed)
-        }
+        } => print_reorder_of_file(alloc, tables, direction, columns, file, files, out),
         Request::Explain {
             tables,
             direction,
             file,
-        } => {
-            explain_file(alloc, tables, direction, file, files, out)?;
-            Ok(Outcome::Printed)
-        }
+        } => explain_file(alloc, tables, direction, file, files, out),
         Request::ExplainClasses { classes, direction } => {
             explain_classes(alloc, classes, direction, out)?;
             Ok(Outcome::Printed)

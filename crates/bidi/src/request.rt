@@ -1,17 +1,18 @@
 // What words ask for.
-ghost use Rattle.std.specs.Prelude.{◌≡◌, codes, option_map, IfOk, IfSome, IfNone, is_some};
+ghost use Rattle.std.specs.Prelude.{◌≡◌, codes, option_map, Err, IfOk, IfErr, IfSome, IfNone, is_some};
 ghost use Rattle.clap.specs.Matches.{found_of};
 ghost use Rattle.clap.specs.Simple.{subcommand_rows_of};
 ghost use Rattle.clap.specs.Walk.{first_of, one_of, rows_of, texts};
 ghost use Rattle.clap.specs.Values.{kind_of};
-ghost use Rattle.bidi.specs.CommandLine.{AsksFor, ColumnsAre, IsAskedBy, IsReadAs, direction_named, kind_named};
+ghost use Rattle.bidi.specs.CommandLine.{AsksFor, ColumnsAre, HasMet, IsAskedBy, IsReadAs, MakesNone};
+ghost use Rattle.bidi.specs.CommandLine.{direction_named, kind_named};
 ghost use Rattle.bidi.specs.Refusals.{has_classes_and_text, kind_in_subcommand, kind_without_request};
 ghost use Rattle.bidi.specs.declared.request.Request.{Request as RequestOf};
 
 use crate::command_line::{bidi_command, explain_command};
 use crate::help;
 use clap::error::ErrorKind;
-use clap::{ArgMatches, Error};
+use clap::{ArgMatches, Command, Error};
 use std::alloc::{AllocError, Global};
 use std::num::NonZeroU16;
 use units::level::Direction;
@@ -101,6 +102,33 @@ fn kind_in(matches: &ArgMatches<'_>) -> Option<FileKind>
     }
 }
 
+/// What `levels` asks for, by its arguments.
+fn levels_in<'a>(matches: &ArgMatches<'a>) -> Option<Request<'a>>
+    ensures some { IfSome result (AsksFor (codes "levels") (rows_of (found_of matches.now))) }
+    ensures none { IfNone result ((request : RequestOf)
+        → ¬ (AsksFor (codes "levels") (rows_of (found_of matches.now)) request)) }
+{
+    Some(Request::Levels {
+        tables: text_of(matches, "tables")?,
+        direction: direction_in(matches),
+        file: text_of(matches, "file")?,
+    })
+}
+
+/// What `reorder` asks for, by its arguments.
+fn reorder_in<'a>(matches: &ArgMatches<'a>) -> Option<Request<'a>>
+    ensures some { IfSome result (AsksFor (codes "reorder") (rows_of (found_of matches.now))) }
+    ensures none { IfNone result ((request : RequestOf)
+        → ¬ (AsksFor (codes "reorder") (rows_of (found_of matches.now)) request)) }
+{
+    Some(Request::Reorder {
+        tables: text_of(matches, "tables")?,
+        direction: direction_in(matches),
+        columns: columns_in(matches),
+        file: text_of(matches, "file")?,
+    })
+}
+
 /// What `explain` asks for, by its arguments: a text by tables, or classes.
 fn explain_in<'a>(matches: &ArgMatches<'a>) -> Option<Request<'a>>
     ensures some { IfSome result (AsksFor (codes "explain") (rows_of (found_of matches.now))) }
@@ -123,6 +151,19 @@ fn explain_in<'a>(matches: &ArgMatches<'a>) -> Option<Request<'a>>
     }
 }
 
+/// What `judge` asks for, by its arguments.
+fn judge_in<'a>(matches: &ArgMatches<'a>) -> Option<Request<'a>>
+    ensures some { IfSome result (AsksFor (codes "judge") (rows_of (found_of matches.now))) }
+    ensures none { IfNone result ((request : RequestOf)
+        → ¬ (AsksFor (codes "judge") (rows_of (found_of matches.now)) request)) }
+{
+    Some(Request::Judge {
+        kind: kind_in(matches)?,
+        tables: text_of(matches, "tables"),
+        file: text_of(matches, "file")?,
+    })
+}
+
 /// What a subcommand of this name asks for, by its arguments.
 fn request_in<'a>(name: &str, matches: &ArgMatches<'a>) -> Option<Request<'a>>
     ensures some { IfSome result (AsksFor name.now (rows_of (found_of matches.now))) }
@@ -130,23 +171,10 @@ fn request_in<'a>(name: &str, matches: &ArgMatches<'a>) -> Option<Request<'a>>
         → ¬ (AsksFor name.now (rows_of (found_of matches.now)) request)) }
 {
     match name {
-        "levels" => Some(Request::Levels {
-            tables: text_of(matches, "tables")?,
-            direction: direction_in(matches),
-            file: text_of(matches, "file")?,
-        }),
-        "reorder" => Some(Request::Reorder {
-            tables: text_of(matches, "tables")?,
-            direction: direction_in(matches),
-            columns: columns_in(matches),
-            file: text_of(matches, "file")?,
-        }),
+        "levels" => levels_in(matches),
+        "reorder" => reorder_in(matches),
         "explain" => explain_in(matches),
-        "judge" => Some(Request::Judge {
-            kind: kind_in(matches)?,
-            tables: text_of(matches, "tables"),
-            file: text_of(matches, "file")?,
-        }),
+        "judge" => judge_in(matches),
         _ => None,
     }
 }
@@ -189,16 +217,47 @@ fn kind_without_request(matches: &ArgMatches<'_>) -> ErrorKind
     }
 }
 
+/// The error of this kind, by a command if there was memory to make it.
+fn error_by(
+    made: Result<Command<'_>, AllocError>,
+    kind: ErrorKind,
+    message: &str,
+) -> Result<Error, AllocError>
+    ensures { IfOk result (λ error. kind_of error ≡ kind) }
+{
+    made?.error(kind, message)
+}
+
 /// The error of this kind, where words make no request.
 fn error_without_request(alloc: Global, kind: ErrorKind) -> Result<Error, AllocError>
     ensures { IfOk result (λ error. kind_of error ≡ kind) }
 {
     match kind {
-        ErrorKind::ArgumentConflict => explain_command(alloc)?.error(kind, help::EXPLAIN_BOTH),
+        ErrorKind::ArgumentConflict => error_by(explain_command(alloc), kind, help::EXPLAIN_BOTH),
         ErrorKind::MissingRequiredArgument => {
-            explain_command(alloc)?.error(kind, help::EXPLAIN_NEITHER)
+            error_by(explain_command(alloc), kind, help::EXPLAIN_NEITHER)
         }
-        _ => bidi_command(alloc)?.error(kind, "a subcommand is needed"),
+        _ => error_by(bidi_command(alloc), kind, "a subcommand is needed"),
+    }
+}
+
+/// What the words of a command line give to its arguments, or the error by which they are refused.
+fn matches_of<'a>(alloc: Global, words: &'a [&'a str]) -> Result<ArgMatches<'a>, Error>
+    ensures met { IfOk result (λ matches. HasMet (texts words.now) (subcommand_rows_of matches)) }
+    ensures refused { IfErr result (λ error. IsReadAs (texts words.now) (Err error)) }
+{
+    let mut command = bidi_command(alloc)?;
+    command.try_get_matches_from_mut(words)
+}
+
+/// The request of the subcommand that was met, or the error that it makes none.
+fn request_or_error<'a>(alloc: Global, matches: &ArgMatches<'a>) -> Result<Request<'a>, Error>
+    ensures request { IfOk result (IsAskedBy (subcommand_rows_of matches.now)) }
+    ensures error { IfErr result (MakesNone (subcommand_rows_of matches.now)) }
+{
+    match request_by(matches) {
+        Some(request) => Ok(request),
+        None => Err(error_without_request(alloc, kind_without_request(matches))?),
     }
 }
 
@@ -207,10 +266,6 @@ fn error_without_request(alloc: Global, kind: ErrorKind) -> Result<Error, AllocE
 pub fn request_of<'a>(alloc: Global, words: &'a [&'a str]) -> Result<Request<'a>, Error>
     ensures { IsReadAs (texts words.now) result }
 {
-    let mut command = bidi_command(alloc)?;
-    let matches = command.try_get_matches_from_mut(words)?;
-    match request_by(&matches) {
-        Some(request) => Ok(request),
-        None => Err(error_without_request(alloc, kind_without_request(&matches))?),
-    }
+    let matches = matches_of(alloc, words)?;
+    request_or_error(alloc, &matches)
 }

@@ -1,27 +1,40 @@
-use Rattle.std.proofs.Common.{◌≡◌, ◌||◌, true, false, codes, ap, ap₂, ◌∙◌}
+use Rattle.std.proofs.Common.{◌≡◌, ◌||◌, List, Result, Ok, Err, IfOk, IsOkAnd, false, ap, ap₂, ◌∙◌}
 use Rattle.std.proofs.lemmas.Result.{IfOk-weaker}
-use Rattle.clap.specs.Simple.{App, app_of, app_of_fields, new_app, on_top, with_subcommand}
+use Rattle.clap.specs.Built.{AddsSubcommand}
+use Rattle.clap.specs.Simple.{App, app_of, with_subcommand}
+use Rattle.clap.specs.Walk.{Text}
+use Rattle.clap.specs.declared.builder.command.Command.{Command}
 use Rattle.clap.specs.declared.builder.command.Command.TheViews.{out-Command as fields_of}
+use Rattle.bidi.specs.CommandLine.{Choice, bidi_top, direction_words, explain_app, judge_app, kind_words, levels_app, reorder_app, words_of}
 use Rattle.bidi.proofs.command_line.bidi_command.Goals as goal
+
+-- with a subcommand whose choice is among these words
+adds : {E : Type 0} (r : Result Command E) (words : List Text) (app : Choice → App) (old new : Command) (top : App)
+    → IfOk r (λ command. (choice : Choice) × (words_of choice ≡ words) × (app_of command ≡ app choice))
+    → IfOk r (λ command. (fields_of command).has_globals ≡ false) → app_of old ≡ top → IsOkAnd r (λ made. AddsSubcommand old made new)
+    → (choice : Choice) × (words_of choice ≡ words) × (app_of new ≡ with_subcommand top (app choice).top)
+adds (Ok made) words app old new top named local e h =
+    (named.0, named.1, h.shape local ∙ ap₂ with_subcommand e (ap (λ (a : App). a.top) named.2))
+adds (Err error) words app old new top named local e h = absurd h
+
+-- with a subcommand without globals
+stays_local : {E : Type 0} (r : Result Command E) (old new : Command) → IfOk r (λ command. (fields_of command).has_globals ≡ false)
+    → (fields_of old).has_globals ≡ false → IsOkAnd r (λ made. AddsSubcommand old made new) → (fields_of new).has_globals ≡ false
+stays_local (Ok made) old new local e h = h.globals ∙ ap₂ ◌||◌ e local
+stays_local (Err error) old new local e h = absurd h
 
 pub returns-clause-app : goal.returns-clause-app
 returns-clause-app c =
-    let named : app_of c.after_help.result ≡ new_app (codes "bidi") =
-    ap app_of_fields c.after_help.ensures ∙ ap app_of_fields c.long_about.ensures ∙ ap app_of_fields c.about.ensures ∙ c.new.ensures.app in
-    let versioned : app_of c.version.result ≡ on_top (λ s. record s { has_version = true }) (new_app (codes "bidi")) =
-    ap app_of_fields c.version.ensures ∙ ap (on_top (λ s. record s { has_version = true })) named in
-    let plain : app_of c.subcommand_required.result ≡ on_top (λ s. record s { has_version = true; subcommand_required = true }) (new_app (codes "bidi")) =
-    ap app_of_fields c.subcommand_required.ensures ∙ ap (on_top (λ s. record s { subcommand_required = true })) versioned in
-    let levels = c.in_ok-levels_command.ensures.app in
-    let with_levels = c.in_ok-subcommand.ensures.shape c.in_ok-levels_command.ensures.local ∙ ap₂ with_subcommand plain (ap (λ (a : App). a.top) levels.2) in
-    let reorder = c.in_ok-reorder_command.ensures.app in
-    let with_reorder = c.in_ok-subcommand-2.ensures.shape c.in_ok-reorder_command.ensures.local
-    ∙ ap₂ with_subcommand with_levels (ap (λ (a : App). a.top) reorder.2) in
-    let explain = c.in_ok-explain_command.ensures.app in
-    let with_explain = c.in_ok-subcommand-3.ensures.shape c.in_ok-explain_command.ensures.local
-    ∙ ap₂ with_subcommand with_reorder (ap (λ (a : App). a.top) explain.2) in
-    let judge = c.in_ok-judge_command.ensures.app in
-    IfOk-weaker c.subcommand-4.result _ _ (λ command h. record {
+    let levels = adds c.levels_command.result direction_words levels_app _ _ bidi_top c.levels_command.ensures.app
+    c.levels_command.ensures.local c.bidi_alone.ensures.app c.in_ok-one.ensures in
+    let reorder = adds c.reorder_command.result direction_words reorder_app _ _ _ c.reorder_command.ensures.app
+    c.reorder_command.ensures.local levels.2 c.in_ok-two.ensures in
+    let explain = adds c.explain_command.result direction_words explain_app _ _ _ c.explain_command.ensures.app
+    c.explain_command.ensures.local reorder.2 c.in_ok-three.ensures in
+    IfOk-weaker c.with_made-4.result _ _ (λ command h.
+    let judge = adds c.judge_command.result kind_words judge_app _ command _ c.judge_command.ensures.app
+    c.judge_command.ensures.local explain.2 h in
+    record {
       of_levels = levels.0;
       of_reorder = reorder.0;
       of_explain = explain.0;
@@ -30,16 +43,12 @@ returns-clause-app c =
       reorder_words = reorder.1;
       explain_words = explain.1;
       kinds_words = judge.1;
-      is = h.shape c.in_ok-judge_command.ensures.local ∙ ap₂ with_subcommand with_explain (ap (λ (a : App). a.top) judge.2);
-    }) c.subcommand-4.ensures
+      is = judge.2;
+    }) c.with_made-4.ensures
 
 pub returns-clause-local : goal.returns-clause-local
 returns-clause-local c =
-    let plain : (fields_of c.subcommand_required.result).has_globals ≡ false =
-    ap (λ f. f.has_globals) c.subcommand_required.ensures ∙ ap (λ f. f.has_globals) c.version.ensures
-    ∙ ap (λ f. f.has_globals) c.after_help.ensures
-    ∙ ap (λ f. f.has_globals) c.long_about.ensures ∙ ap (λ f. f.has_globals) c.about.ensures ∙ c.new.ensures.local in
-    let with_levels = c.in_ok-subcommand.ensures.globals ∙ ap₂ ◌||◌ plain c.in_ok-levels_command.ensures.local in
-    let with_reorder = c.in_ok-subcommand-2.ensures.globals ∙ ap₂ ◌||◌ with_levels c.in_ok-reorder_command.ensures.local in
-    let with_explain = c.in_ok-subcommand-3.ensures.globals ∙ ap₂ ◌||◌ with_reorder c.in_ok-explain_command.ensures.local in
-    IfOk-weaker c.subcommand-4.result _ _ (λ command h. h.globals ∙ ap₂ ◌||◌ with_explain c.in_ok-judge_command.ensures.local) c.subcommand-4.ensures
+    let levels = stays_local c.levels_command.result _ _ c.levels_command.ensures.local c.bidi_alone.ensures.local c.in_ok-one.ensures in
+    let reorder = stays_local c.reorder_command.result _ _ c.reorder_command.ensures.local levels c.in_ok-two.ensures in
+    let explain = stays_local c.explain_command.result _ _ c.explain_command.ensures.local reorder c.in_ok-three.ensures in
+    IfOk-weaker c.with_made-4.result _ _ (λ command h. stays_local c.judge_command.result _ command c.judge_command.ensures.local explain h) c.with_made-4.ensures

@@ -1,4 +1,4 @@
-use Rattle.std.proofs.Common.{rules, List}
+use Rattle.std.proofs.Common.{rules}
 use Rattle.std.specs.Io.KnownBytes.{Appends}
 use Rattle.explain.specs.Explained.{explained_classes}
 use Rattle.bidi.proofs.FirstFaults.{printing_fails}

@@ -1,26 +1,20 @@
-use Rattle.std.proofs.Common.{rules}
-use Rattle.bidi.proofs.FirstFaults.{first_behind, first_of_all, printing_fails, tables_done, text_done}
-use Rattle.bidi.specs.Steps.{printing_steps, table_steps, text_steps}
+use Rattle.std.proofs.Common.{rules, OnOk, inr}
+use Rattle.std.proofs.lemmas.Result.{IfErr-weaker}
+use Rattle.std.specs.Io.KnownBytes.{Appends}
+use Rattle.explain.specs.Explained.{explained}
+use Rattle.bidi.proofs.FirstFaults.{has_printed, text_done, when_printed}
 use Rattle.bidi.proofs.performing.explain_file.Goals as goal
 
-pub returns-in_err-tables-clause-fault : goal.returns-in_err-tables-clause-fault
-unfolding printing_steps
-returns-in_err-tables-clause-fault g c =
-    let files = g.F.Files.facts c.args.files.now in
-    let ends = first_of_all (table_steps files c.args.folder.now) (text_steps files c.args.file.now) _ c.in_err-tables.ensures.fault in
-    search rules
+pub returns-clause-done : goal.returns-clause-done
+returns-clause-done g c =
+    let said : OnOk c.print_explained.result (Appends (g.W.Write.contents c.args.out.now) (g.W.Write.contents c.print_explained.new.w)
+    (explained c.in_ok-read.read.tables c.in_ok-read.read.text.items c.args.direction)) = search rules in
+    when_printed c.outcome_of_printing.result c.print_explained.result _ _ c.outcome_of_printing.ensures.done said
+    (λ h. has_printed _ _ _ _ _ _ _ _ c.in_ok-read.ensures.tables c.in_ok-read.ensures.text h)
 
-pub returns-in_err-text-clause-fault : goal.returns-in_err-text-clause-fault
-unfolding printing_steps
-returns-in_err-text-clause-fault g c =
+pub returns-clause-fault : goal.returns-clause-fault
+returns-clause-fault g c =
     let files = g.F.Files.facts c.args.files.now in
-    let done = tables_done _ _ _ c.in_ok-tables.ensures.tables in
-    let ends = first_behind (table_steps files c.args.folder.now) (text_steps files c.args.file.now) _ done c.in_err-text.ensures.fault in
-    search rules
-
-pub returns-in_err-print_explained-clause-fault : goal.returns-in_err-print_explained-clause-fault
-returns-in_err-print_explained-clause-fault g c =
-    let files = g.F.Files.facts c.args.files.now in
-    let text = c.in_ok-text.ensures.text in
-    let done = text_done files c.args.folder.now c.args.file.now _ c.in_ok-tables.ensures.tables text.0 text.1 text.2 in
-    printing_fails (printing_steps files c.args.folder.now c.args.file.now) _ _ _ _ done c.from_residual-in_err-print_explained.ensures.1
+    let text = c.in_ok-read.ensures.text in
+    let done = text_done files c.args.folder.now c.args.file.now _ c.in_ok-read.ensures.tables text.0 text.1 text.2 in
+    IfErr-weaker c.outcome_of_printing.result _ _ (λ fault ends. inr (done, ends)) c.outcome_of_printing.ensures.fault
