@@ -90,10 +90,27 @@ const BY_RULE: [(&str, &str, &str, u64); 11] = [
     ("1 2 1", "2 1 0", "FSI ON PDI; 8", 1),
 ];
 
+/// The same of each row.
+fn expect_each(
+    rt: &impl Abort,
+    alloc: Global,
+    rows: &[(&str, &str, &str, u64)],
+) -> Result<(), Fail> {
+    for (levels, order, row, cases) in rows {
+        expect_yes(rt, alloc, levels, order, row, *cases)?;
+    }
+    Ok(())
+}
+
 #[test]
 fn rows_by_rule(rt: HostRuntime) -> Result<(), Fail> {
-    for (levels, order, row, cases) in BY_RULE {
-        expect_yes(&rt, rt.alloc(), levels, order, row, cases)?;
+    expect_each(&rt, rt.alloc(), &BY_RULE)
+}
+
+/// Writes a text so many times.
+fn write_times(file: &mut impl Write, text: &str, count: usize) -> io::Result<()> {
+    for _ in 0..count {
+        write!(file, "{text}")?;
     }
     Ok(())
 }
@@ -102,13 +119,9 @@ fn rows_by_rule(rt: HostRuntime) -> Result<(), Fail> {
 /// place and level.
 fn write_deep_row(file: &mut impl Write, items: &str, place: usize, level: u8) -> io::Result<()> {
     write!(file, "@Levels:")?;
-    for _ in 0..place {
-        write!(file, " x")?;
-    }
+    write_times(file, " x", place)?;
     write!(file, " {level}\n@Reorder: {place}\n")?;
-    for _ in 0..62 {
-        write!(file, "RLE LRE ")?;
-    }
+    write_times(file, "RLE LRE ", 62)?;
     write!(file, "{items}; 2\n")
 }
 

@@ -170,16 +170,21 @@ fn is_told(rt: &impl Abort, alloc: Global, fault: TableFault, text: &str) -> Res
     Ok(())
 }
 
+/// The same of each row.
+fn are_told(rt: &impl Abort, alloc: Global, rows: &[(TableFault, &str)]) -> Result<(), Fail> {
+    for (fault, text) in rows {
+        is_told(rt, alloc, *fault, text)?;
+    }
+    Ok(())
+}
+
 #[test]
 fn texts_of_faults(rt: HostRuntime) -> Result<(), Fail> {
-    for (fault, text) in TEXTS {
-        is_told(&rt, rt.alloc(), fault, text)?;
-    }
     for (fault, name, line) in [
         (TableFault::Overlap(9), "Overlap", Some(9)),
         (TableFault::Read, "Read", None),
     ] {
         assert_eq!(rt; (fault.name(), fault.line()), (name, line));
     }
-    Ok(())
+    are_told(&rt, rt.alloc(), &TEXTS)
 }

@@ -102,14 +102,20 @@ fn parts_round_from_square(rt: &impl Abort, tables: &Tables) {
     assert_ne!(rt; round, square);
 }
 
+/// A letter is no bracket, and has no mirror image, as `<` has.
+fn states_a_letter(rt: &impl Abort, tables: &Tables) {
+    let alef = tables.unit('\u{5D0}');
+    assert_eq!(rt; (alef.class, alef.bracket), (Class::R, Bracket::No));
+    for (c, image) in [('<', Some('>')), ('a', None)] {
+        assert_eq!(rt; tables.mirrors().glyph(c), image);
+    }
+}
+
 #[test]
 fn units_of_tables(rt: HostRuntime) -> Result<(), TableFault> {
     let tables = tables(rt.alloc())?;
     pairs_angle_brackets(&rt, &tables);
     parts_round_from_square(&rt, &tables);
-    let alef = tables.unit('\u{5D0}');
-    let mirrored = [tables.mirrors().glyph('<'), tables.mirrors().glyph('a')];
-    assert_eq!(rt; (alef.class, alef.bracket), (Class::R, Bracket::No));
-    assert_eq!(rt; mirrored, [Some('>'), None]);
+    states_a_letter(&rt, &tables);
     Ok(())
 }
