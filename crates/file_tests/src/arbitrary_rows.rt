@@ -1,47 +1,31 @@
 //! Arbitrary bytes: malformed as files of both kinds, and the same verdict in pieces of any length.
-use crate::given::{arbitrary, fed, tables};
-use bidtests::judge::Judge;
+use crate::given::{arbitrary, characters_fed, classes_fed};
 use bidtests::verdict::Verdict;
 use std::alloc::Global;
 use std::process::Abort;
 use std::test::Fail;
-use ucdfiles::tables::Tables;
-use units::memory::Memory;
 
-/// What the judges of both kinds answer on bytes that are fed in pieces of this size.
-fn verdicts(
-    alloc: Global,
-    tables: &Tables,
-    bytes: &[u8],
-    size: usize,
-) -> Result<[Verdict; 2], Memory> {
-    let classes = Judge::for_classes(alloc)?;
-    let characters = Judge::for_characters(alloc, tables)?;
-    Ok([fed(classes, bytes, size), fed(characters, bytes, size)])
+/// The verdict is that the bytes are malformed, and this one.
+fn is_malformed(rt: &impl Abort, verdict: Verdict, whole: Verdict) {
+    assert!(rt; matches!(verdict, Verdict::Malformed { .. }), "{verdict:?}");
+    assert_eq!(rt; verdict, whole);
 }
 
 /// Both kinds refuse the bytes as malformed, with one verdict however they are cut.
-fn expect_malformed(
-    rt: &impl Abort,
-    alloc: Global,
-    tables: &Tables,
-    bytes: &[u8],
-) -> Result<(), Memory> {
-    let whole = verdicts(alloc, tables, bytes, bytes.len())?;
-    for verdict in whole {
-        assert!(rt; matches!(verdict, Verdict::Malformed { .. }), "{verdict:?}");
+fn expect_malformed(rt: &impl Abort, alloc: Global, bytes: &[u8]) -> Result<(), Fail> {
+    let classes = classes_fed(alloc, bytes, bytes.len())?;
+    let characters = characters_fed(alloc, bytes, bytes.len())?;
+    for size in [1, 7] {
+        is_malformed(rt, classes_fed(alloc, bytes, size)?, classes);
+        is_malformed(rt, characters_fed(alloc, bytes, size)?, characters);
     }
-    assert_eq!(rt; verdicts(alloc, tables, bytes, 1)?, whole);
-    assert_eq!(rt; verdicts(alloc, tables, bytes, 7)?, whole);
     Ok(())
 }
 
 /// The same of the bytes behind this one and each of the next 31.
 fn expect_all_malformed(rt: &impl Abort, alloc: Global, first: u8) -> Result<(), Fail> {
-    let tables = tables(alloc)?;
     for added in 0..32 {
-        let bytes = arbitrary(first.wrapping_add(added));
-        expect_malformed(rt, alloc, &tables, &bytes)?;
+        expect_malformed(rt, alloc, &arbitrary(first.wrapping_add(added)))?;
     }
     Ok(())
 }

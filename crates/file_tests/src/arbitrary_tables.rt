@@ -1,12 +1,9 @@
 //! Arbitrary bytes: no file of any kind, and the same fault in pieces of any length.
-use crate::given::arbitrary;
+use crate::given::{TABLE_KINDS, TableKind, arbitrary, fault_of};
 use std::alloc::Global;
 use std::io::{self, Read};
 use std::process::Abort;
-use ucdfiles::bracket_table::BracketTable;
-use ucdfiles::class_table::ClassTable;
 use ucdfiles::fault::TableFault;
-use ucdfiles::mirror_table::MirrorTable;
 use units::reader_source::ReaderSource;
 
 /// Gives the bytes of a slice, at most so many in each read.
@@ -26,27 +23,22 @@ impl Read for Pieces<'_> {
     }
 }
 
-fn source_of(bytes: &[u8], most: usize) -> ReaderSource<Pieces<'_>> {
-    ReaderSource::new(Pieces { bytes, most }, u64::MAX)
-}
-
-/// What the three readers answer on bytes that come in pieces of at most this size.
-fn faults(alloc: Global, bytes: &[u8], most: usize) -> [Option<TableFault>; 3] {
-    [
-        ClassTable::read(alloc, &mut source_of(bytes, most)).err(),
-        BracketTable::read(alloc, &mut source_of(bytes, most)).err(),
-        MirrorTable::read(alloc, &mut source_of(bytes, most)).err(),
-    ]
+/// The fault of bytes that come in pieces of at most this size, as a file of this kind.
+fn fault_cut(kind: TableKind, alloc: Global, bytes: &[u8], most: usize) -> Option<TableFault> {
+    let mut source = ReaderSource::new(Pieces { bytes, most }, u64::MAX);
+    fault_of(kind, alloc, &mut source)
 }
 
 /// Each reader finds a faulty line in the bytes, and the same however they are cut.
 fn expect_faulty(rt: &impl Abort, alloc: Global, bytes: &[u8]) {
-    let whole = faults(alloc, bytes, bytes.len());
-    for fault in whole {
-        assert!(rt; fault.and_then(|fault| fault.line()).is_some(), "{fault:?}");
+    for kind in TABLE_KINDS {
+        let whole = fault_cut(kind, alloc, bytes, bytes.len());
+        let line = whole.and_then(|fault| fault.line());
+        assert!(rt; line.is_some(), "{whole:?}");
+        for most in [1, 7] {
+            assert_eq!(rt; fault_cut(kind, alloc, bytes, most), whole);
+        }
     }
-    assert_eq!(rt; faults(alloc, bytes, 1), whole);
-    assert_eq!(rt; faults(alloc, bytes, 7), whole);
 }
 
 #[test]

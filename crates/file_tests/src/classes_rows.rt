@@ -1,9 +1,9 @@
 //! Rows of files of classes.
-use crate::given::{fed, malformed, wrong, yes};
+use crate::given::{classes_fed, fed, malformed, wrong, yes};
 use bidtests::judge::Judge;
 use bidtests::verdict::{Cause, Place, Verdict};
 use std::alloc::Global;
-use std::io::Write;
+use std::io::{self, Write};
 use std::process::Abort;
 use std::test::Fail;
 use units::level::Direction;
@@ -21,40 +21,30 @@ pub const WRONG_UNDER_RTL_VERDICT: Verdict = Verdict::Wrong {
 /// The verdict is this one however the bytes are cut.
 fn expect(rt: &impl Abort, alloc: Global, bytes: &[u8], verdict: Verdict) -> Result<(), Memory> {
     for size in [bytes.len(), 1, 4, 7] {
-        let judge = Judge::for_classes(alloc)?;
-        assert_eq!(rt; fed(judge, bytes, size), verdict, "in pieces of {size}");
+        let answer = classes_fed(alloc, bytes, size)?;
+        assert_eq!(rt; answer, verdict, "in pieces of {size}");
     }
     Ok(())
 }
 
-#[test]
-fn rows_that_are_right(rt: HostRuntime) -> Result<(), Fail> {
-    let alloc = rt.alloc();
-    expect(&rt, alloc, b"", yes(0, 0))?;
-    expect(
-        &rt,
-        alloc,
-        b"@Levels: 1 1 0\n@Reorder: 1 0 2\nR B L; 1\n",
-        yes(1, 1),
-    )?;
-    expect(
-        &rt,
-        alloc,
-        b"@Levels: 0 1 1\n@Reorder: 0 2 1\nL R AL; 3\n",
-        yes(1, 2),
-    )?;
-    expect(
-        &rt,
-        alloc,
-        b"@Levels: 2 1 1\n@Reorder: 2 1 0\nL R AL; 4",
-        yes(1, 1),
-    )?;
-    expect(
-        &rt,
-        alloc,
+/// Files that are right: their bytes, and how many rows and cases they have.
+const RIGHT: [(&[u8], u64, u64); 5] = [
+    (b"", 0, 0),
+    (b"@Levels: 1 1 0\n@Reorder: 1 0 2\nR B L; 1\n", 1, 1),
+    (b"@Levels: 0 1 1\n@Reorder: 0 2 1\nL R AL; 3\n", 1, 2),
+    (b"@Levels: 2 1 1\n@Reorder: 2 1 0\nL R AL; 4", 1, 1),
+    (
         b"# \xff\r\n@Type:\tL\r\n@Levels:\t0\n@Reorder: 0 # x\n L ;\t3 \r\nL;2\n\n",
-        yes(2, 3),
-    )?;
+        2,
+        3,
+    ),
+];
+
+#[test]
+fn rows_that_are_right(rt: HostRuntime) -> Result<(), Memory> {
+    for (file, rows, cases) in RIGHT {
+        expect(&rt, rt.alloc(), file, yes(rows, cases))?;
+    }
     Ok(())
 }
 
@@ -73,73 +63,99 @@ fn expect_yes(
     Ok(())
 }
 
-#[test]
-fn rows_by_rule(rt: HostRuntime) -> Result<(), Fail> {
-    let alloc = rt.alloc();
-    for (levels, order, row, cases) in [
-        // X9: removed positions have no level.
-        ("x", "", "LRE; 7", 3),
-        // BD13: no joining across an embedding, and joining across an isolate.
-        ("1 0 x 2 x 0 1", "0 1 3 5 6", "R ON LRE L PDF ON R; 2", 1),
-        (
-            "1 1 1 2 1 1 1",
-            "6 5 4 3 2 1 0",
-            "R ON LRI L PDI ON R; 2",
-            1,
-        ),
-        // L1 goes by the original classes.
-        ("0 x 1 0", "0 2 3", "L RLO R WS; 2", 1),
-        // P2, X5c: the content of an isolate says nothing of the paragraph's level, and that of an FSI its direction.
-        ("0 1 0 0", "0 1 2 3", "FSI R PDI L; 1", 1),
-        // P1: each separator ends a paragraph.
-        ("1 1 1", "0 1 2", "B B B; 4", 1),
-        // X6a: a PDI without an initiator closes no embedding.
-        ("x 1 2", "2 1", "RLE PDI L; 2", 1),
-        // Bit 8: level 1 where no strong class stands outside of isolates. An FSI acts as under auto.
-        ("1", "0", "ON; 8", 1),
-        ("0", "0", "L; 11", 3),
-        ("1", "0", "R; 13", 3),
-        ("1 2 1", "2 1 0", "FSI ON PDI; 8", 1),
-    ] {
-        expect_yes(&rt, alloc, levels, order, row, cases)?;
+/// Rows that are right: the lists of their levels and of their order, the row, and how many cases it has.
+const BY_RULE: [(&str, &str, &str, u64); 11] = [
+    // X9: removed positions have no level.
+    ("x", "", "LRE; 7", 3),
+    // BD13: no joining across an embedding, and joining across an isolate.
+    ("1 0 x 2 x 0 1", "0 1 3 5 6", "R ON LRE L PDF ON R; 2", 1),
+    (
+        "1 1 1 2 1 1 1",
+        "6 5 4 3 2 1 0",
+        "R ON LRI L PDI ON R; 2",
+        1,
+    ),
+    // L1 goes by the original classes.
+    ("0 x 1 0", "0 2 3", "L RLO R WS; 2", 1),
+    // P2, X5c: the content of an isolate says nothing of the paragraph's level, and that of an FSI its direction.
+    ("0 1 0 0", "0 1 2 3", "FSI R PDI L; 1", 1),
+    // P1: each separator ends a paragraph.
+    ("1 1 1", "0 1 2", "B B B; 4", 1),
+    // X6a: a PDI without an initiator closes no embedding.
+    ("x 1 2", "2 1", "RLE PDI L; 2", 1),
+    // Bit 8: level 1 where no strong class stands outside of isolates. An FSI acts as under auto.
+    ("1", "0", "ON; 8", 1),
+    ("0", "0", "L; 11", 3),
+    ("1", "0", "R; 13", 3),
+    ("1 2 1", "2 1 0", "FSI ON PDI; 8", 1),
+];
+
+/// The same of each row.
+fn expect_each(
+    rt: &impl Abort,
+    alloc: Global,
+    rows: &[(&str, &str, &str, u64)],
+) -> Result<(), Fail> {
+    for (levels, order, row, cases) in rows {
+        expect_yes(rt, alloc, levels, order, row, *cases)?;
     }
     Ok(())
 }
 
-/// A file of one row under LTR: 62 times `RLE LRE`, then these items, of which only the last remains, at this place
-/// and level.
-fn deep_row(alloc: Global, items: &str, place: usize, level: u8) -> Result<Vec<u8>, Fail> {
-    let mut file = Vec::new(alloc);
+#[test]
+fn rows_by_rule(rt: HostRuntime) -> Result<(), Fail> {
+    expect_each(&rt, rt.alloc(), &BY_RULE)
+}
+
+/// Writes a text so many times.
+fn write_times(file: &mut impl Write, text: &str, count: usize) -> io::Result<()> {
+    for _ in 0..count {
+        write!(file, "{text}")?;
+    }
+    Ok(())
+}
+
+/// Writes a file of one row under LTR: 62 times `RLE LRE`, then these items, of which only the last remains, at this
+/// place and level.
+fn write_deep_row(file: &mut impl Write, items: &str, place: usize, level: u8) -> io::Result<()> {
     write!(file, "@Levels:")?;
-    for _ in 0..place {
-        write!(file, " x")?;
-    }
+    write_times(file, " x", place)?;
     write!(file, " {level}\n@Reorder: {place}\n")?;
-    for _ in 0..62 {
-        write!(file, "RLE LRE ")?;
-    }
-    write!(file, "{items}; 2\n")?;
-    Ok(file)
+    write_times(file, "RLE LRE ", 62)?;
+    write!(file, "{items}; 2\n")
+}
+
+/// Such a file is right.
+fn expect_deep(
+    rt: &impl Abort,
+    alloc: Global,
+    items: &str,
+    place: usize,
+    level: u8,
+) -> Result<(), Fail> {
+    let mut file = Vec::new(alloc);
+    write_deep_row(&mut file, items, place, level)?;
+    expect(rt, alloc, &file, yes(1, 1))?;
+    Ok(())
 }
 
 /// BD2, X2 to X5, X7: initiators beyond level 125 overflow, all those behind one that did, too, and a PDF closes such
 /// a one first.
 #[test]
 fn the_deepest_levels(rt: HostRuntime) -> Result<(), Fail> {
-    let alloc = rt.alloc();
     for (items, place, level) in [
         ("RLE LRE L", 126, 126),
         ("RLE LRE RLE PDF PDF L", 129, 126),
         ("LRE RLE L", 126, 124),
     ] {
-        expect(
-            &rt,
-            alloc,
-            &deep_row(alloc, items, place, level)?,
-            yes(1, 1),
-        )?;
+        expect_deep(&rt, rt.alloc(), items, place, level)?;
     }
     Ok(())
+}
+
+/// The verdict of a judge by these limits on the bytes, in pieces of 7.
+fn limited(alloc: Global, limits: Limits, bytes: &[u8]) -> Result<Verdict, Memory> {
+    Ok(fed(Judge::for_classes_with(alloc, limits)?, bytes, 7))
 }
 
 /// X4: at depth 1 the LRE, which asks for level 2, is refused; at that of the standard it is not.
@@ -147,91 +163,90 @@ fn the_deepest_levels(rt: HostRuntime) -> Result<(), Fail> {
 fn the_depth_is_that_which_is_handed_in(rt: HostRuntime) -> Result<(), Fail> {
     let alloc = rt.alloc();
     let at_one = b"@Levels: x x 1\n@Reorder: 2\nRLE LRE R; 2\n";
-    let judge = Judge::for_classes_with(alloc, Limits::new(1, 63)?)?;
-    assert_eq!(&rt; fed(judge, at_one, 7), yes(1, 1));
-    let judge = Judge::for_classes_with(alloc, Limits::standard())?;
+    let at_most = b"@Levels: x x 3\n@Reorder: 2\nRLE LRE R; 2\n";
     let differs = wrong(3, Direction::Ltr, Place::Levels(2));
-    assert_eq!(&rt; fed(judge, at_one, 7), differs);
-    expect(&rt, alloc, at_one, differs)?;
-    expect(
-        &rt,
-        alloc,
-        b"@Levels: x x 3\n@Reorder: 2\nRLE LRE R; 2\n",
-        yes(1, 1),
-    )?;
-    Ok(())
-}
-
-#[test]
-fn the_nearest_lists_are_in_force(rt: HostRuntime) -> Result<(), Fail> {
-    let file = b"@Levels: 1\n@Reorder: 1\n@Levels: 0\n@Reorder: 0\nL; 1\n@Levels: 1\nR; 3\n";
-    expect(&rt, rt.alloc(), file, yes(2, 3))?;
-    Ok(())
-}
-
-#[test]
-fn rows_that_are_wrong(rt: HostRuntime) -> Result<(), Fail> {
-    let alloc = rt.alloc();
-    expect(&rt, alloc, WRONG_UNDER_RTL, WRONG_UNDER_RTL_VERDICT)?;
-    expect(
-        &rt,
-        alloc,
-        b"@Levels: 0\n@Reorder: 0\nL; 4\nL; 4\nL; 16\n",
-        WRONG_UNDER_RTL_VERDICT,
-    )?;
-    expect(
-        &rt,
-        alloc,
-        b"@Levels: 0 0\n@Reorder: 0\nL L; 2\n",
-        wrong(3, Direction::Ltr, Place::Order(1)),
-    )?;
-    expect(
-        &rt,
-        alloc,
-        b"@Levels: 0 1 1\n@Reorder: 0 1 2\nL R AL; 7",
-        wrong(3, Direction::Auto, Place::Order(1)),
-    )?;
-    expect(
-        &rt,
-        alloc,
-        b"@Levels: 0 0 0\n@Reorder: 0 1 2\nB B B; 7\n",
-        wrong(3, Direction::Rtl, Place::Levels(0)),
-    )?;
-    expect(
-        &rt,
-        alloc,
-        b"@Levels: 1\n@Reorder: 0\nON; 9\n",
-        wrong(3, Direction::Auto, Place::Levels(0)),
-    )?;
-    expect(
-        &rt,
-        alloc,
-        b"@Levels: 0\n@Reorder: 0\nON; 11\n",
-        wrong(3, Direction::AutoRtl, Place::Levels(0)),
-    )?;
-    Ok(())
-}
-
-#[test]
-fn lines_that_are_malformed(rt: HostRuntime) -> Result<(), Fail> {
-    let alloc = rt.alloc();
-    for (bytes, line, cause) in [
-        (b"L; 7\n".as_slice(), 1, Cause::NoExpectation),
-        (b"@Levels: 127\n", 1, Cause::LevelItem),
-        (b"@Levels: 0\n@Reorder: 0\nL; 16\n", 3, Cause::BitSet),
-        (b"@Levels: 0\n@Reorder: 0\nL; 07\n", 3, Cause::BitSet),
-        (b"@Levels: x\n@Reorder:\nXX; 7\n", 3, Cause::ClassItem),
-        (b"@Type: 1\n@Level: 0\n", 2, Cause::Directive),
-        (b"@Levels: 0\nL; 7\n", 2, Cause::NoExpectation),
-        (b"@Levels: 00\n", 1, Cause::LevelItem),
-        (b"@Reorder: 65536\n", 1, Cause::OrderItem),
-        (b"L", 1, Cause::FieldCount),
-        (b" ; 9", 1, Cause::EmptyRow),
-        (b"L; 0", 1, Cause::BitSet),
-        (b"@Levels: 0\n@Reorder: 0\nL; 16\nL; 4\n", 3, Cause::BitSet),
-        (b"L l; 9", 1, Cause::ClassItem),
+    for (limits, verdict) in [
+        (Limits::new(1, 63)?, yes(1, 1)),
+        (Limits::standard(), differs),
     ] {
-        expect(&rt, alloc, bytes, malformed(line, cause))?;
+        assert_eq!(&rt; limited(alloc, limits, at_one)?, verdict);
+    }
+    expect(&rt, alloc, at_one, differs)?;
+    expect(&rt, alloc, at_most, yes(1, 1))?;
+    Ok(())
+}
+
+#[test]
+fn the_nearest_lists_are_in_force(rt: HostRuntime) -> Result<(), Memory> {
+    let file = b"@Levels: 1\n@Reorder: 1\n@Levels: 0\n@Reorder: 0\nL; 1\n@Levels: 1\nR; 3\n";
+    expect(&rt, rt.alloc(), file, yes(2, 3))
+}
+
+/// Files whose third line is wrong: their bytes, and the direction and the place where it is.
+const WRONG: [(&[u8], Direction, Place); 7] = [
+    (WRONG_UNDER_RTL, Direction::Rtl, Place::Levels(0)),
+    (
+        b"@Levels: 0\n@Reorder: 0\nL; 4\nL; 4\nL; 16\n",
+        Direction::Rtl,
+        Place::Levels(0),
+    ),
+    (
+        b"@Levels: 0 0\n@Reorder: 0\nL L; 2\n",
+        Direction::Ltr,
+        Place::Order(1),
+    ),
+    (
+        b"@Levels: 0 1 1\n@Reorder: 0 1 2\nL R AL; 7",
+        Direction::Auto,
+        Place::Order(1),
+    ),
+    (
+        b"@Levels: 0 0 0\n@Reorder: 0 1 2\nB B B; 7\n",
+        Direction::Rtl,
+        Place::Levels(0),
+    ),
+    (
+        b"@Levels: 1\n@Reorder: 0\nON; 9\n",
+        Direction::Auto,
+        Place::Levels(0),
+    ),
+    (
+        b"@Levels: 0\n@Reorder: 0\nON; 11\n",
+        Direction::AutoRtl,
+        Place::Levels(0),
+    ),
+];
+
+#[test]
+fn rows_that_are_wrong(rt: HostRuntime) -> Result<(), Memory> {
+    for (file, direction, place) in WRONG {
+        expect(&rt, rt.alloc(), file, wrong(3, direction, place))?;
+    }
+    Ok(())
+}
+
+/// Files with a malformed line: their bytes, the number of that line, and what is malformed.
+const MALFORMED: [(&[u8], u64, Cause); 14] = [
+    (b"L; 7\n", 1, Cause::NoExpectation),
+    (b"@Levels: 127\n", 1, Cause::LevelItem),
+    (b"@Levels: 0\n@Reorder: 0\nL; 16\n", 3, Cause::BitSet),
+    (b"@Levels: 0\n@Reorder: 0\nL; 07\n", 3, Cause::BitSet),
+    (b"@Levels: x\n@Reorder:\nXX; 7\n", 3, Cause::ClassItem),
+    (b"@Type: 1\n@Level: 0\n", 2, Cause::Directive),
+    (b"@Levels: 0\nL; 7\n", 2, Cause::NoExpectation),
+    (b"@Levels: 00\n", 1, Cause::LevelItem),
+    (b"@Reorder: 65536\n", 1, Cause::OrderItem),
+    (b"L", 1, Cause::FieldCount),
+    (b" ; 9", 1, Cause::EmptyRow),
+    (b"L; 0", 1, Cause::BitSet),
+    (b"@Levels: 0\n@Reorder: 0\nL; 16\nL; 4\n", 3, Cause::BitSet),
+    (b"L l; 9", 1, Cause::ClassItem),
+];
+
+#[test]
+fn lines_that_are_malformed(rt: HostRuntime) -> Result<(), Memory> {
+    for (file, line, cause) in MALFORMED {
+        expect(&rt, rt.alloc(), file, malformed(line, cause))?;
     }
     Ok(())
 }

@@ -1,5 +1,6 @@
 //! What rows are made of: the files of a few characters and their tables, and verdicts.
 use bidtests::judge::Judge;
+use bidtests::reader::{ReadFault, judge_reader};
 use bidtests::verdict::{Cause, Place, Verdict};
 use std::alloc::Global;
 use ucdfiles::bracket_table::BracketTable;
@@ -9,7 +10,9 @@ use ucdfiles::mirror_table::MirrorTable;
 use ucdfiles::small::{BRACKETS, CLASSES, MIRRORS};
 use ucdfiles::tables::Tables;
 use units::level::Direction;
+use units::memory::Memory;
 use units::slice_source::SliceSource;
+use units::source::ByteSource;
 
 /// The table that this file of classes states.
 pub fn classes(alloc: Global, file: &[u8]) -> Result<ClassTable, TableFault> {
@@ -24,6 +27,38 @@ pub fn brackets(alloc: Global, file: &[u8]) -> Result<BracketTable, TableFault> 
 /// The table that this file of mirror images states.
 pub fn mirrors(alloc: Global, file: &[u8]) -> Result<MirrorTable, TableFault> {
     MirrorTable::read(alloc, &mut SliceSource::new(file))
+}
+
+/// The kinds of files of tables.
+#[derive(Clone, Copy)]
+pub enum TableKind {
+    Classes,
+    Brackets,
+    Mirrors,
+}
+
+pub const TABLE_KINDS: [TableKind; 3] = [
+    TableKind::Classes,
+    TableKind::Brackets,
+    TableKind::Mirrors,
+];
+
+/// The fault of what the source hands out as a file of this kind.
+pub fn fault_of(
+    kind: TableKind,
+    alloc: Global,
+    source: &mut impl ByteSource,
+) -> Option<TableFault> {
+    match kind {
+        TableKind::Classes => ClassTable::read(alloc, source).err(),
+        TableKind::Brackets => BracketTable::read(alloc, source).err(),
+        TableKind::Mirrors => MirrorTable::read(alloc, source).err(),
+    }
+}
+
+/// The fault of these bytes as a file of this kind.
+pub fn fault_in(kind: TableKind, alloc: Global, file: &[u8]) -> Option<TableFault> {
+    fault_of(kind, alloc, &mut SliceSource::new(file))
 }
 
 /// The tables that the three files state.
@@ -61,6 +96,40 @@ pub fn fed(mut judge: Judge<'_>, bytes: &[u8], size: usize) -> Verdict {
         judge.feed(&[]);
     }
     judge.finish()
+}
+
+/// The verdict of a new judge of files of classes on bytes that are fed so.
+pub fn classes_fed(alloc: Global, bytes: &[u8], size: usize) -> Result<Verdict, Memory> {
+    Ok(fed(Judge::for_classes(alloc)?, bytes, size))
+}
+
+/// The verdict of a new judge of files of characters, by the tables, on bytes that are fed so.
+pub fn characters_fed(alloc: Global, bytes: &[u8], size: usize) -> Result<Verdict, TableFault> {
+    let tables = tables(alloc)?;
+    match Judge::for_characters(alloc, &tables) {
+        Ok(judge) => Ok(fed(judge, bytes, size)),
+        Err(Memory) => Err(TableFault::Memory),
+    }
+}
+
+/// What a new judge of files of classes answers on what a source hands out.
+pub fn classes_judged(
+    alloc: Global,
+    source: &mut impl ByteSource,
+) -> Result<Result<Verdict, ReadFault>, Memory> {
+    Ok(judge_reader(Judge::for_classes(alloc)?, source))
+}
+
+/// What a new judge of files of characters, by the tables, answers on what a source hands out.
+pub fn characters_judged(
+    alloc: Global,
+    source: &mut impl ByteSource,
+) -> Result<Result<Verdict, ReadFault>, TableFault> {
+    let tables = tables(alloc)?;
+    match Judge::for_characters(alloc, &tables) {
+        Ok(judge) => Ok(judge_reader(judge, source)),
+        Err(Memory) => Err(TableFault::Memory),
+    }
 }
 
 /// 4,096 bytes: behind this one, each is 197 times the one before it, plus the index of that one, in the last eight

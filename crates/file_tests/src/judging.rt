@@ -1,11 +1,10 @@
 //! How bytes come to a judge: in pieces, on long lines, from sources, and with memory refused.
 use crate::classes_rows::{WRONG_UNDER_RTL, WRONG_UNDER_RTL_VERDICT};
-use crate::given::{malformed, yes};
+use crate::given::{classes_fed, classes_judged, malformed, yes};
 use bidtests::judge::Judge;
-use bidtests::reader::{ReadFault, judge_reader};
+use bidtests::reader::ReadFault;
 use bidtests::verdict::{Cause, Place, Verdict};
 use std::alloc::Global;
-use std::test::Fail;
 use units::cut_source::CutSource;
 use units::level::Direction;
 use units::memory::Memory;
@@ -31,82 +30,97 @@ fn feed_long_row(judge: &mut Judge<'_>) {
     }
 }
 
-/// `#`, so many times `a`, and then these bytes.
-fn long_comment(alloc: Global, count: usize, end: &[u8]) -> Result<Verdict, Memory> {
-    let mut judge = Judge::for_classes(alloc)?;
-    judge.feed(b"#");
+/// So many times `a`, each in a piece of its own.
+fn feed_letters(judge: &mut Judge<'_>, count: usize) {
     for _ in 0..count {
         judge.feed(b"a");
     }
+}
+
+/// The verdict on these bytes, so many times `a`, and then these.
+fn letters_between(
+    alloc: Global,
+    start: &[u8],
+    count: usize,
+    end: &[u8],
+) -> Result<Verdict, Memory> {
+    let mut judge = Judge::for_classes(alloc)?;
+    judge.feed(start);
+    feed_letters(&mut judge, count);
     judge.feed(end);
     Ok(judge.finish())
 }
 
+/// The verdict on these bytes, in two pieces.
+fn in_two_pieces(alloc: Global, first: &[u8], rest: &[u8]) -> Result<Verdict, Memory> {
+    let mut judge = Judge::for_classes(alloc)?;
+    judge.feed(first);
+    judge.feed(rest);
+    Ok(judge.finish())
+}
+
 #[test]
-fn pieces_may_begin_anywhere(rt: HostRuntime) -> Result<(), Fail> {
+fn pieces_may_begin_anywhere(rt: HostRuntime) -> Result<(), Memory> {
     for at in 0..=WRONG_UNDER_RTL.len() {
-        let mut judge = Judge::for_classes(rt.alloc())?;
         let (first, rest) = WRONG_UNDER_RTL.split_at(at);
-        judge.feed(first);
-        judge.feed(rest);
-        assert_eq!(&rt; judge.finish(), WRONG_UNDER_RTL_VERDICT, "cut at {at}");
+        let verdict = in_two_pieces(rt.alloc(), first, rest)?;
+        assert_eq!(&rt; verdict, WRONG_UNDER_RTL_VERDICT, "cut at {at}");
     }
     Ok(())
 }
 
 #[test]
-fn lines_up_to_the_longest(rt: HostRuntime) -> Result<(), Fail> {
-    let alloc = rt.alloc();
+fn lines_up_to_the_longest(rt: HostRuntime) -> Result<(), Memory> {
+    let too_long = malformed(1, Cause::LineTooLong);
     for end in [b"".as_slice(), b"\n"] {
-        assert_eq!(&rt; long_comment(alloc, 65_535, end)?, yes(0, 0));
-        let too_long = malformed(1, Cause::LineTooLong);
-        assert_eq!(&rt; long_comment(alloc, 65_536, end)?, too_long);
+        for (count, verdict) in [(65_535, yes(0, 0)), (65_536, too_long)] {
+            let answer = letters_between(rt.alloc(), b"#", count, end)?;
+            assert_eq!(&rt; answer, verdict, "{count}");
+        }
     }
     Ok(())
 }
 
-/// A line may be over-long before it ends.
+/// A line may be over-long before it ends: 65,537 times `a`.
 #[test]
-fn a_line_without_end(rt: HostRuntime) -> Result<(), Fail> {
-    let mut judge = Judge::for_classes(rt.alloc())?;
-    for _ in 0..65_537 {
-        judge.feed(b"a");
-    }
-    assert_eq!(&rt; judge.finish(), malformed(1, Cause::LineTooLong));
+fn a_line_without_end(rt: HostRuntime) -> Result<(), Memory> {
+    let verdict = letters_between(rt.alloc(), b"a", 65_535, b"a")?;
+    assert_eq!(&rt; verdict, malformed(1, Cause::LineTooLong));
     Ok(())
 }
 
 #[test]
-fn sources_are_read_to_the_end(rt: HostRuntime) -> Result<(), Fail> {
-    let judge = Judge::for_classes(rt.alloc())?;
-    let verdict = judge_reader(judge, &mut SliceSource::new(WRONG_UNDER_RTL));
-    assert_eq!(&rt; verdict, Ok(WRONG_UNDER_RTL_VERDICT));
+fn sources_are_read_to_the_end(rt: HostRuntime) -> Result<(), Memory> {
+    let answer = classes_judged(rt.alloc(), &mut SliceSource::new(WRONG_UNDER_RTL))?;
+    assert_eq!(&rt; answer, Ok(WRONG_UNDER_RTL_VERDICT));
     Ok(())
 }
 
 #[test]
-fn a_failed_read_leaves_no_verdict(rt: HostRuntime) -> Result<(), Fail> {
+fn a_failed_read_leaves_no_verdict(rt: HostRuntime) -> Result<(), Memory> {
     for count in 0..=WRONG_UNDER_RTL.len() {
-        let judge = Judge::for_classes(rt.alloc())?;
         let mut source = CutSource::new(WRONG_UNDER_RTL, count);
-        assert_eq!(&rt; judge_reader(judge, &mut source), Err(ReadFault));
+        assert_eq!(&rt; classes_judged(rt.alloc(), &mut source)?, Err(ReadFault));
     }
     Ok(())
 }
 
 #[test]
 fn making_a_judge_succeeds(rt: HostRuntime) {
-    assert!(&rt; Judge::for_classes(rt.alloc()).is_ok());
+    assert!(&rt; classes_fed(rt.alloc(), b"", 1).is_ok());
+}
+
+/// The verdict on the file with the long row.
+fn long_row_verdict(alloc: Global) -> Result<Verdict, Memory> {
+    let mut judge = Judge::for_classes(alloc)?;
+    feed_long_row(&mut judge);
+    Ok(judge.finish())
 }
 
 /// Passes whichever growth is refused: in making the judge it is answered as memory, and later there is none.
 #[test]
 fn no_growth_comes_after_making(rt: HostRuntime) {
-    match Judge::for_classes(rt.alloc()) {
-        Err(Memory) => {}
-        Ok(mut judge) => {
-            feed_long_row(&mut judge);
-            assert_eq!(&rt; judge.finish(), LONG_ROW_VERDICT);
-        }
+    if let Ok(verdict) = long_row_verdict(rt.alloc()) {
+        assert_eq!(&rt; verdict, LONG_ROW_VERDICT);
     }
 }

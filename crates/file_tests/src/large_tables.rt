@@ -1,6 +1,8 @@
 //! Files of many lines: as many as are allowed, and one more.
+use crate::given::{TableKind, brackets, classes, fault_in, mirrors};
 use std::alloc::Global;
 use std::io::{self, Write};
+use std::process::Abort;
 use std::test::Fail;
 use ucdfiles::bracket_table::BracketTable;
 use ucdfiles::class_table::ClassTable;
@@ -8,7 +10,6 @@ use ucdfiles::fault::TableFault;
 use ucdfiles::mirror_table::MirrorTable;
 use units::bracket::Bracket;
 use units::class::Class;
-use units::slice_source::SliceSource;
 
 /// The most data lines that a file may have.
 const MOST: u32 = 65_536;
@@ -16,106 +17,134 @@ const MOST: u32 = 65_536;
 /// The characters that the lines are about: these many from this one on.
 const FIRST: u32 = 0x10000;
 
-/// A line of the class R for each of so many characters.
-fn class_lines(alloc: Global, count: u32) -> io::Result<Vec<u8>> {
-    let mut file = Vec::new(alloc);
-    for code in FIRST..FIRST.saturating_add(count) {
-        writeln!(file, "{code:04X} ; R")?;
-    }
-    Ok(file)
-}
-
-/// A line for each of so many characters, as an opening bracket whose closing one is the parenthesis.
-fn bracket_lines(alloc: Global, count: u32) -> io::Result<Vec<u8>> {
-    let mut file = Vec::new(alloc);
-    for code in FIRST..FIRST.saturating_add(count) {
-        writeln!(file, "{code:04X}; 0029; o")?;
-    }
-    Ok(file)
-}
-
-/// A line for each of so many characters, whose mirror image is the next one.
-fn mirror_lines(alloc: Global, count: u32) -> io::Result<Vec<u8>> {
-    let mut file = Vec::new(alloc);
+/// A line for each of so many characters: of the class R, as an opening bracket whose closing one is the parenthesis,
+/// or with the next character as its mirror image.
+fn write_lines(kind: TableKind, file: &mut impl Write, count: u32) -> io::Result<()> {
     for code in FIRST..FIRST.saturating_add(count) {
         let next = code.saturating_add(1);
-        writeln!(file, "{code:04X}; {next:04X}")?;
+        match kind {
+            TableKind::Classes => writeln!(file, "{code:04X} ; R")?,
+            TableKind::Brackets => writeln!(file, "{code:04X}; 0029; o")?,
+            TableKind::Mirrors => writeln!(file, "{code:04X}; {next:04X}")?,
+        }
     }
+    Ok(())
+}
+
+/// The file of so many lines, and then these bytes.
+fn file_of(kind: TableKind, alloc: Global, count: u32, end: &[u8]) -> io::Result<Vec<u8>> {
+    let mut file = Vec::new(alloc);
+    write_lines(kind, &mut file, count)?;
+    file.extend_from_slice(end)?;
     Ok(file)
 }
 
-const TOO_MANY: Option<TableFault> = Some(TableFault::TooMany(65_537));
+/// The fault of such a file.
+fn fault_of_lines(
+    kind: TableKind,
+    alloc: Global,
+    count: u32,
+    end: &[u8],
+) -> io::Result<Option<TableFault>> {
+    let file = file_of(kind, alloc, count, end)?;
+    Ok(fault_in(kind, alloc, &file))
+}
+
+/// Expects that one line more than is allowed is told.
+fn tells_too_many(rt: &impl Abort, kind: TableKind, alloc: Global) -> io::Result<()> {
+    let fault = fault_of_lines(kind, alloc, MOST + 1, b"")?;
+    assert_eq!(rt; fault, Some(TableFault::TooMany(65_537)));
+    Ok(())
+}
+
+/// Compares the classes of the characters around those of the lines.
+fn are_classes(rt: &impl Abort, table: &ClassTable) {
+    for (c, class) in [
+        ('\u{FFFF}', Class::L),
+        ('\u{10000}', Class::R),
+        ('\u{1FFFF}', Class::R),
+        ('\u{20000}', Class::L),
+    ] {
+        assert_eq!(rt; table.class(c), class);
+    }
+}
 
 #[test]
 fn as_many_classes_as_allowed(rt: HostRuntime) -> Result<(), Fail> {
-    let alloc = rt.alloc();
-    let file = class_lines(alloc, MOST)?;
-    let table = ClassTable::read(alloc, &mut SliceSource::new(&file))?;
-    assert_eq!(rt; table.class('\u{FFFF}'), Class::L);
-    assert_eq!(rt; table.class('\u{10000}'), Class::R);
-    assert_eq!(rt; table.class('\u{1FFFF}'), Class::R);
-    assert_eq!(rt; table.class('\u{20000}'), Class::L);
+    let file = file_of(TableKind::Classes, rt.alloc(), MOST, b"")?;
+    let table = classes(rt.alloc(), &file)?;
+    are_classes(&rt, &table);
     Ok(())
+}
+
+/// Compares the brackets of the characters around those of the lines.
+fn are_brackets(rt: &impl Abort, table: &BracketTable) {
+    let first = table.bracket('\u{10000}');
+    assert!(rt; matches!(first, Bracket::Open(_)));
+    for (c, bracket) in [
+        ('\u{FFFF}', Bracket::No),
+        ('\u{1FFFF}', first),
+        ('\u{20000}', Bracket::No),
+    ] {
+        assert_eq!(rt; table.bracket(c), bracket);
+    }
 }
 
 #[test]
 fn as_many_brackets_as_allowed(rt: HostRuntime) -> Result<(), Fail> {
-    let alloc = rt.alloc();
-    let file = bracket_lines(alloc, MOST)?;
-    let table = BracketTable::read(alloc, &mut SliceSource::new(&file))?;
-    assert_eq!(rt; table.bracket('\u{FFFF}'), Bracket::No);
-    assert!(rt; matches!(table.bracket('\u{10000}'), Bracket::Open(_)));
-    assert_eq!(rt; table.bracket('\u{1FFFF}'), table.bracket('\u{10000}'));
-    assert_eq!(rt; table.bracket('\u{20000}'), Bracket::No);
-    let file = bracket_lines(alloc, MOST + 1)?;
-    assert_eq!(rt;
-        BracketTable::read(alloc, &mut SliceSource::new(&file)).err(),
-        TOO_MANY
-    );
+    tells_too_many(&rt, TableKind::Brackets, rt.alloc())?;
+    let file = file_of(TableKind::Brackets, rt.alloc(), MOST, b"")?;
+    let table = brackets(rt.alloc(), &file)?;
+    are_brackets(&rt, &table);
     Ok(())
+}
+
+/// Compares the mirror images of the characters around those of the lines.
+fn are_mirror_images(rt: &impl Abort, table: &MirrorTable) {
+    for (c, image) in [
+        ('\u{FFFF}', None),
+        ('\u{10000}', Some('\u{10001}')),
+        ('\u{1FFFF}', Some('\u{20000}')),
+        ('\u{20000}', None),
+    ] {
+        assert_eq!(rt; table.glyph(c), image);
+    }
 }
 
 #[test]
 fn as_many_mirror_images_as_allowed(rt: HostRuntime) -> Result<(), Fail> {
-    let alloc = rt.alloc();
-    let file = mirror_lines(alloc, MOST)?;
-    let table = MirrorTable::read(alloc, &mut SliceSource::new(&file))?;
-    assert_eq!(rt; table.glyph('\u{FFFF}'), None);
-    assert_eq!(rt; table.glyph('\u{10000}'), Some('\u{10001}'));
-    assert_eq!(rt; table.glyph('\u{1FFFF}'), Some('\u{20000}'));
-    assert_eq!(rt; table.glyph('\u{20000}'), None);
-    let file = mirror_lines(alloc, MOST + 1)?;
-    assert_eq!(rt;
-        MirrorTable::read(alloc, &mut SliceSource::new(&file)).err(),
-        TOO_MANY
-    );
+    tells_too_many(&rt, TableKind::Mirrors, rt.alloc())?;
+    let file = file_of(TableKind::Mirrors, rt.alloc(), MOST, b"")?;
+    let table = mirrors(rt.alloc(), &file)?;
+    are_mirror_images(&rt, &table);
     Ok(())
 }
 
 /// A character that an earlier line states is told behind few lines and behind many.
 #[test]
-fn characters_of_an_earlier_line(rt: HostRuntime) -> Result<(), Fail> {
-    let alloc = rt.alloc();
+fn characters_of_an_earlier_line(rt: HostRuntime) -> Result<(), io::Error> {
     for count in [1_u32, 101, 4_097, 65_535] {
         let line = (count as u64).saturating_add(1);
-        let mut classes = class_lines(alloc, count)?;
-        classes.extend_from_slice(b"10000 ; L\n")?;
-        assert_eq!(rt;
-            ClassTable::read(alloc, &mut SliceSource::new(&classes)).err(),
-            Some(TableFault::Overlap(line))
-        );
-        let mut brackets = bracket_lines(alloc, count)?;
-        brackets.extend_from_slice(b"10000; 0029; o\n")?;
-        assert_eq!(rt;
-            BracketTable::read(alloc, &mut SliceSource::new(&brackets)).err(),
-            Some(TableFault::Twice(line))
-        );
-        let mut mirrors = mirror_lines(alloc, count)?;
-        mirrors.extend_from_slice(b"10000; 10001\n")?;
-        assert_eq!(rt;
-            MirrorTable::read(alloc, &mut SliceSource::new(&mirrors)).err(),
-            Some(TableFault::Twice(line))
-        );
+        for (kind, end, fault) in [
+            (
+                TableKind::Classes,
+                b"10000 ; L\n".as_slice(),
+                TableFault::Overlap(line),
+            ),
+            (
+                TableKind::Brackets,
+                b"10000; 0029; o\n",
+                TableFault::Twice(line),
+            ),
+            (
+                TableKind::Mirrors,
+                b"10000; 10001\n",
+                TableFault::Twice(line),
+            ),
+        ] {
+            let answer = fault_of_lines(kind, rt.alloc(), count, end)?;
+            assert_eq!(rt; answer, Some(fault));
+        }
     }
     Ok(())
 }

@@ -1,10 +1,8 @@
 //! Sources that fail, of files of both kinds.
-use crate::given::{tables, wrong};
-use bidtests::judge::Judge;
-use bidtests::reader::{ReadFault, judge_reader};
-use bidtests::verdict::{Place, Verdict};
-use std::alloc::Global;
-use std::test::Fail;
+use crate::given::{characters_judged, classes_judged, wrong};
+use bidtests::reader::ReadFault;
+use bidtests::verdict::Place;
+use ucdfiles::fault::TableFault;
 use units::cut_source::CutSource;
 use units::level::Direction;
 use units::memory::Memory;
@@ -15,30 +13,27 @@ const CLASSES_FILE: &[u8] = b"@Levels: 0\n@Reorder: 0\nL; 7\n";
 
 const CHARACTERS_FILE: &[u8] = b"0061;0;0;0;0\n0061;0;1;0;0\n";
 
-/// What is answered on the file of classes by a reader of which a read past so many bytes fails.
-fn judged_up_to(alloc: Global, most: u64) -> Result<Result<Verdict, ReadFault>, Memory> {
-    let judge = Judge::for_classes(alloc)?;
-    Ok(judge_reader(judge, &mut ReaderSource::new(CLASSES_FILE, most)))
-}
-
+/// A read past the limit of the reader fails, and leaves no verdict.
 #[test]
-fn a_reader_is_read_up_to_its_limit(rt: HostRuntime) -> Result<(), Fail> {
-    let no = wrong(3, Direction::Rtl, Place::Levels(0));
-    assert_eq!(&rt; judged_up_to(rt.alloc(), 28)?, Ok(no));
-    for most in 0..28 {
-        assert_eq!(&rt; judged_up_to(rt.alloc(), most)?, Err(ReadFault), "{most}");
+fn a_reader_is_read_up_to_its_limit(rt: HostRuntime) -> Result<(), Memory> {
+    for most in 0..=28 {
+        let answer = classes_judged(rt.alloc(), &mut ReaderSource::new(CLASSES_FILE, most))?;
+        let expected = if most == 28 {
+            Ok(wrong(3, Direction::Rtl, Place::Levels(0)))
+        } else {
+            Err(ReadFault)
+        };
+        assert_eq!(&rt; answer, expected, "{most}");
     }
     Ok(())
 }
 
 #[test]
-fn a_failed_read_leaves_no_verdict_on_characters(rt: HostRuntime) -> Result<(), Fail> {
-    let alloc = rt.alloc();
-    let tables = tables(alloc)?;
+fn a_failed_read_leaves_no_verdict_on_characters(rt: HostRuntime) -> Result<(), TableFault> {
     for count in 0..=CHARACTERS_FILE.len() {
-        let judge = Judge::for_characters(alloc, &tables)?;
         let mut source = CutSource::new(CHARACTERS_FILE, count);
-        assert_eq!(&rt; judge_reader(judge, &mut source), Err(ReadFault), "{count}");
+        let answer = characters_judged(rt.alloc(), &mut source)?;
+        assert_eq!(&rt; answer, Err(ReadFault), "{count}");
     }
     Ok(())
 }

@@ -1,5 +1,6 @@
 //! Readers of bytes: up to a limit, and up to an error.
 use std::io::{self, Read};
+use std::process::Abort;
 use units::reader_source::ReaderSource;
 use units::source::{ByteSource, SourceFault};
 
@@ -21,33 +22,40 @@ impl Read for Interrupted {
     }
 }
 
+/// Reads into the buffer as often as there are answers, and expects these.
+fn answers(
+    rt: &impl Abort,
+    source: &mut impl ByteSource,
+    buf: &mut [u8],
+    expected: &[Result<usize, SourceFault>],
+) {
+    for answer in expected {
+        assert!(rt; !buf.is_empty());
+        assert_eq!(rt; source.read(buf), *answer);
+    }
+}
+
 #[test]
 fn a_reader_of_as_many_bytes_as_allowed_is_read_to_its_end(rt: HostRuntime) {
     let mut source = ReaderSource::new(b"abc".as_slice(), 3);
-    let mut buf = [0; 2];
-    assert_eq!(rt; source.read(&mut buf), Ok(2));
-    assert_eq!(rt; source.read(&mut buf), Ok(1));
-    assert_eq!(rt; source.read(&mut buf), Ok(0));
-    assert_eq!(rt; source.read(&mut buf), Ok(0));
+    let expected = [Ok(2), Ok(1), Ok(0), Ok(0)];
+    answers(&rt, &mut source, &mut [0; 2], &expected);
     assert_eq!(rt; source.failures(), 0);
 }
 
 #[test]
 fn a_byte_past_the_limit_is_a_failure(rt: HostRuntime) {
     let mut source = ReaderSource::new(b"abcd".as_slice(), 3);
-    let mut buf = [0; 2];
-    assert_eq!(rt; source.read(&mut buf), Ok(2));
-    assert_eq!(rt; source.read(&mut buf), Err(SourceFault));
+    answers(&rt, &mut source, &mut [0; 2], &[Ok(2), Err(SourceFault)]);
     assert_eq!(rt; source.failures(), 1);
 }
 
 #[test]
 fn an_error_of_the_reader_is_a_failure_for_good(rt: HostRuntime) {
     let mut source = ReaderSource::new(Interrupted { reads: 0 }, 100);
-    let mut buf = [0; 8];
-    assert_eq!(rt; source.read(&mut buf), Ok(3));
+    answers(&rt, &mut source, &mut [0; 8], &[Ok(3)]);
     assert_eq!(rt; source.failures(), 0);
-    assert_eq!(rt; source.read(&mut buf), Err(SourceFault));
-    assert_eq!(rt; source.read(&mut buf), Err(SourceFault));
+    let failed = [Err(SourceFault), Err(SourceFault)];
+    answers(&rt, &mut source, &mut [0; 8], &failed);
     assert_eq!(rt; source.failures(), 1);
 }

@@ -1,7 +1,10 @@
 //! What files of tables state.
-use crate::given::{brackets, classes, mirrors, tables};
+use crate::given::{TableKind, brackets, classes, fault_in, tables};
 use std::alloc::Global;
+use std::process::Abort;
+use ucdfiles::bracket_table::BracketTable;
 use ucdfiles::fault::TableFault;
+use ucdfiles::tables::Tables;
 use units::bracket::Bracket;
 use units::class::Class;
 
@@ -13,65 +16,72 @@ fn bracket(alloc: Global, file: &[u8], c: char) -> Option<Bracket> {
     brackets(alloc, file).ok().map(|table| table.bracket(c))
 }
 
+/// A file of two defaults and a data line.
+const DEFAULTS: &[u8] =
+    b"# @missing: 0000..10FFFF; Left_To_Right\n# @missing: 0590..05FF; R\n05D0 ; AN\n";
+
+/// Files of classes, a character, and its class.
+const STATED: [(&[u8], char, Class); 6] = [
+    (b"# @missing: 0041; Right_To_Left", 'A', Class::R),
+    (b"0041 ; AN # @missing: zz", 'A', Class::AN),
+    (b"", '\u{10FFFF}', Class::L),
+    (DEFAULTS, '\u{5D0}', Class::AN),
+    (DEFAULTS, '\u{5D1}', Class::R),
+    (DEFAULTS, 'A', Class::L),
+];
+
 #[test]
 fn states_classes(rt: HostRuntime) {
-    assert_eq!(rt;
-        class(rt.alloc(), b"# @missing: 0041; Right_To_Left", 'A'),
-        Some(Class::R)
-    );
-    assert_eq!(rt;
-        class(rt.alloc(), b"0041 ; AN # @missing: zz", 'A'),
-        Some(Class::AN)
-    );
-    assert_eq!(rt; class(rt.alloc(), b"", '\u{10FFFF}'), Some(Class::L));
-    let file = b"# @missing: 0000..10FFFF; Left_To_Right\n# @missing: 0590..05FF; R\n05D0 ; AN\n";
-    assert_eq!(rt; class(rt.alloc(), file, '\u{5D0}'), Some(Class::AN));
-    assert_eq!(rt; class(rt.alloc(), file, '\u{5D1}'), Some(Class::R));
-    assert_eq!(rt; class(rt.alloc(), file, 'A'), Some(Class::L));
+    for (file, c, stated) in STATED {
+        assert_eq!(rt; class(rt.alloc(), file, c), Some(stated));
+    }
 }
 
 #[test]
 fn states_brackets(rt: HostRuntime) {
-    assert_eq!(rt;
-        brackets(rt.alloc(), b"0028; 0029; n").err(),
-        Some(TableFault::BracketKind(1))
-    );
-    assert_eq!(rt;
-        brackets(rt.alloc(), b"0028; 0029; o\n0028; 0029; o\n").err(),
-        Some(TableFault::Twice(2))
-    );
+    for (file, fault) in [
+        (b"0028; 0029; n".as_slice(), TableFault::BracketKind(1)),
+        (b"0028; 0029; o\n0028; 0029; o\n", TableFault::Twice(2)),
+    ] {
+        assert_eq!(rt;
+            fault_in(TableKind::Brackets, rt.alloc(), file),
+            Some(fault)
+        );
+    }
     let file = b"0029; 0041; c";
     assert!(rt; matches!(bracket(rt.alloc(), file, ')'), Some(Bracket::Close(_))));
     assert_eq!(rt; bracket(rt.alloc(), file, 'A'), Some(Bracket::No));
+}
+
+#[test]
+fn states_mirrors(rt: HostRuntime) {
+    for (file, fault) in [
+        (b"0028; D800".as_slice(), TableFault::CodePoint(1)),
+        (b"0028", TableFault::Fields(1)),
+    ] {
+        assert_eq!(rt; fault_in(TableKind::Mirrors, rt.alloc(), file), Some(fault));
+    }
+}
+
+/// The parentheses have one key.
+fn have_one_key(rt: &impl Abort, table: &BracketTable) {
+    let (Bracket::Open(opening), Bracket::Close(closing)) = (table.bracket('('), table.bracket(')'))
+    else {
+        panic!(rt; "no parentheses");
+    };
+    assert_eq!(rt; opening, closing);
 }
 
 // The second field of a closing bracket's line gives no key.
 #[test]
 fn closing_brackets_have_their_own_keys(rt: HostRuntime) -> Result<(), TableFault> {
     let table = brackets(rt.alloc(), b"0028; 0029; o\n0029; 0041; c\n")?;
-    let (Bracket::Open(opening), Bracket::Close(closing)) = (table.bracket('('), table.bracket(')'))
-    else {
-        panic!(rt; "no parentheses");
-    };
-    assert_eq!(rt; opening, closing);
+    have_one_key(&rt, &table);
     Ok(())
 }
 
-#[test]
-fn states_mirrors(rt: HostRuntime) {
-    assert_eq!(rt;
-        mirrors(rt.alloc(), b"0028; D800").err(),
-        Some(TableFault::CodePoint(1))
-    );
-    assert_eq!(rt;
-        mirrors(rt.alloc(), b"0028").err(),
-        Some(TableFault::Fields(1))
-    );
-}
-
-#[test]
-fn units_of_tables(rt: HostRuntime) -> Result<(), TableFault> {
-    let tables = tables(rt.alloc())?;
+/// A bracket's unit is by its canonical equivalent: that of the angle brackets is one and the same.
+fn pairs_angle_brackets(rt: &impl Abort, tables: &Tables) {
     let (Bracket::Open(angle), Bracket::Close(other)) = (
         tables.unit('\u{2329}').bracket,
         tables.unit('\u{3009}').bracket,
@@ -79,6 +89,10 @@ fn units_of_tables(rt: HostRuntime) -> Result<(), TableFault> {
         panic!(rt; "no angle brackets");
     };
     assert_eq!(rt; angle, other);
+}
+
+/// Brackets of different pairs have different keys.
+fn parts_round_from_square(rt: &impl Abort, tables: &Tables) {
     let (Bracket::Open(round), Bracket::Close(square)) = (
         tables.unit('(').bracket,
         tables.unit(']').bracket,
@@ -86,9 +100,22 @@ fn units_of_tables(rt: HostRuntime) -> Result<(), TableFault> {
         panic!(rt; "no parenthesis");
     };
     assert_ne!(rt; round, square);
+}
+
+/// A letter is no bracket, and has no mirror image, as `<` has.
+fn states_a_letter(rt: &impl Abort, tables: &Tables) {
     let alef = tables.unit('\u{5D0}');
     assert_eq!(rt; (alef.class, alef.bracket), (Class::R, Bracket::No));
-    assert_eq!(rt; tables.mirrors().glyph('<'), Some('>'));
-    assert_eq!(rt; tables.mirrors().glyph('a'), None);
+    for (c, image) in [('<', Some('>')), ('a', None)] {
+        assert_eq!(rt; tables.mirrors().glyph(c), image);
+    }
+}
+
+#[test]
+fn units_of_tables(rt: HostRuntime) -> Result<(), TableFault> {
+    let tables = tables(rt.alloc())?;
+    pairs_angle_brackets(&rt, &tables);
+    parts_round_from_square(&rt, &tables);
+    states_a_letter(&rt, &tables);
     Ok(())
 }

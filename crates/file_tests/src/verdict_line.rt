@@ -3,43 +3,46 @@ use bidtests::verdict::{Cause, Place, Verdict};
 use bidtests::verdict_line::print_verdict;
 use units::level::Direction;
 
+/// Verdicts and their lines.
+const LINES: [(Verdict, &[u8]); 4] = [
+    (
+        Verdict::Yes {
+            rows: 1,
+            cases: 18_446_744_073_709_551_615,
+        },
+        b"yes: 1 rows, 18446744073709551615 cases\n",
+    ),
+    (
+        Verdict::Malformed {
+            line: 1,
+            cause: Cause::LineTooLong,
+        },
+        b"no: line 1: malformed: LineTooLong\n",
+    ),
+    (
+        Verdict::Wrong {
+            line: 20,
+            direction: Direction::Auto,
+            place: Place::ParaLevel,
+        },
+        b"no: line 20: auto: paragraph level\n",
+    ),
+    (
+        Verdict::Wrong {
+            line: 3,
+            direction: Direction::Ltr,
+            place: Place::Order(32_768),
+        },
+        b"no: line 3: ltr: order at 32768\n",
+    ),
+];
+
 #[test]
 fn prints_each_form_of_verdict(rt: HostRuntime) {
-    let rows: [(Verdict, &[u8]); 4] = [
-        (
-            Verdict::Yes {
-                rows: 1,
-                cases: 18_446_744_073_709_551_615,
-            },
-            b"yes: 1 rows, 18446744073709551615 cases\n",
-        ),
-        (
-            Verdict::Malformed {
-                line: 1,
-                cause: Cause::LineTooLong,
-            },
-            b"no: line 1: malformed: LineTooLong\n",
-        ),
-        (
-            Verdict::Wrong {
-                line: 20,
-                direction: Direction::Auto,
-                place: Place::ParaLevel,
-            },
-            b"no: line 20: auto: paragraph level\n",
-        ),
-        (
-            Verdict::Wrong {
-                line: 3,
-                direction: Direction::Ltr,
-                place: Place::Order(32_768),
-            },
-            b"no: line 3: ltr: order at 32768\n",
-        ),
-    ];
-    for (verdict, line) in rows {
+    for (verdict, line) in LINES {
         let mut out = Vec::new(rt.alloc());
-        assert!(rt; print_verdict(&mut out, &verdict).is_ok());
+        let answer = print_verdict(&mut out, &verdict);
+        assert!(rt; answer.is_ok());
         assert_eq!(rt; out.as_slice(), line);
     }
 }

@@ -1,75 +1,100 @@
 //! Rows of many units: explicit levels and open brackets up to their limits, and isolates in one another.
-use crate::given::{levels, repeated, shows, tables, unit, units, units_of};
+use crate::given::{append_units, levels, repeated, shows_in_room, unit, units_of};
 use lines::breaks::Breaks;
 use lines::lay_out::lay_in_with;
 use lines::scratch::Scratch;
 use std::alloc::Global;
 use std::process::Abort;
 use std::test::Fail;
-use ucdfiles::tables::Tables;
 use units::bracket::Unit;
 use units::class::Class;
 use units::level::{Direction, Level};
 use units::limits::Limits;
 
-/// Appends `count` units that alternate between two classes.
-fn alternate(text: &mut Vec<Unit>, count: usize, first: Class, second: Class) -> Result<(), Fail> {
-    for _ in 0..count {
-        for class in [first, second] {
-            text.push(unit(class))?;
-        }
+/// 62 times RLE and LRE, then these classes.
+fn write_deep(text: &mut Vec<Unit>, last: &str) -> Result<(), Fail> {
+    for _ in 0..62 {
+        append_units(text, "RLE LRE")?;
     }
+    append_units(text, last)
+}
+
+/// No level for so many units, then that with this number.
+fn write_last_level(levels: &mut Vec<Option<Level>>, end: usize, level: u8) -> Result<(), Fail> {
+    repeated(levels, end, 127)?;
+    levels.push(Level::new(level))?;
     Ok(())
+}
+
+/// Lays out a text of which the last unit alone remains, and expects the level with this number there.
+fn remains_at(rt: &impl Abort, alloc: Global, text: &[Unit], level: u8) -> Result<(), Fail> {
+    assert!(rt; text.len() > 0);
+    let end = text.len() - 1;
+    let mut expected = Vec::new(alloc);
+    write_last_level(&mut expected, end, level)?;
+    shows_in_room(rt, alloc, 256, text, Direction::Ltr, &expected, &[end])
 }
 
 /// 62 times RLE and LRE, then these classes, of which the last alone remains and gets the level with this number.
 fn deep(rt: &impl Abort, alloc: Global, last: &str, level: u8) -> Result<(), Fail> {
     let mut text = Vec::new(alloc);
-    alternate(&mut text, 62, Class::RLE, Class::LRE)?;
-    for other in units(alloc, last)? {
-        text.push(other)?;
-    }
-    assert!(rt; text.len() > 0);
-    let end = text.len() - 1;
-    let mut expected = Vec::new(alloc);
-    repeated(&mut expected, end, 127)?;
-    expected.push(Level::new(level))?;
-    let mut room = Scratch::with_room(alloc, 256)?;
-    shows(rt, &mut room, &text, Direction::Ltr, &expected, &[end])
+    write_deep(&mut text, last)?;
+    remains_at(rt, alloc, &text, level)
 }
 
 #[test]
 fn overflows(rt: HostRuntime) -> Result<(), Fail> {
-    let alloc = rt.alloc();
-    // above the greatest level
-    deep(&rt, alloc, "RLE LRE L", 126)?;
-    // closes overflow embeddings first
-    deep(&rt, alloc, "RLE LRE RLE PDF PDF L", 126)?;
-    // inside an overflow
-    deep(&rt, alloc, "LRE RLE L", 124)
+    for (last, level) in [
+        // above the greatest level
+        ("RLE LRE L", 126),
+        // closes overflow embeddings first
+        ("RLE LRE RLE PDF PDF L", 126),
+        // inside an overflow
+        ("LRE RLE L", 124),
+    ] {
+        deep(&rt, rt.alloc(), last, level)?;
+    }
+    Ok(())
 }
 
 /// The characters `a(x)ya`, where x and y are Hebrew, then `n` opening brackets, x, `n` closing ones, and y.
-fn brackets(alloc: Global, tables: &Tables, n: usize) -> Result<Vec<Unit>, Fail> {
-    let mut text = units_of(alloc, tables, "a(\u{5D0})\u{5D1}a")?;
+fn write_brackets(text: &mut String, n: usize) -> Result<(), Fail> {
+    text.push_str("a(\u{5D0})\u{5D1}a")?;
     for _ in 0..n {
-        text.push(tables.unit('('))?;
+        text.push('(')?;
     }
-    text.push(tables.unit('\u{5D0}'))?;
+    text.push('\u{5D0}')?;
     for _ in 0..n {
-        text.push(tables.unit(')'))?;
+        text.push(')')?;
     }
-    text.push(tables.unit('\u{5D1}'))?;
-    Ok(text)
+    text.push('\u{5D1}')?;
+    Ok(())
+}
+
+/// The units of such a text.
+fn brackets(alloc: Global, n: usize) -> Result<Vec<Unit>, Fail> {
+    let mut text = String::new(alloc);
+    write_brackets(&mut text, n)?;
+    units_of(alloc, &text)
+}
+
+/// Appends so many times the level 0, the level 1, so many times the level as given, and the level 1.
+fn write_bracket_levels(
+    levels: &mut Vec<Option<Level>>,
+    n: usize,
+    closing: u8,
+) -> Result<(), Fail> {
+    repeated(levels, n, 0)?;
+    levels.push(Level::new(1))?;
+    repeated(levels, n, closing)?;
+    levels.push(Level::new(1))?;
+    Ok(())
 }
 
 /// The levels of such a text: those of the last closing brackets are as given.
 fn bracket_levels(alloc: Global, n: usize, closing: u8) -> Result<Vec<Option<Level>>, Fail> {
     let mut expected = levels(alloc, "0 0 1 0 1 0")?;
-    repeated(&mut expected, n, 0)?;
-    expected.push(Level::new(1))?;
-    repeated(&mut expected, n, closing)?;
-    expected.push(Level::new(1))?;
+    write_bracket_levels(&mut expected, n, closing)?;
     Ok(expected)
 }
 
@@ -81,6 +106,14 @@ fn run(order: &mut Vec<usize>, first: usize, end: usize, rises: bool) -> Result<
     Ok(())
 }
 
+/// An order of so many positions: the first rise, so many of them, and the others fall.
+fn turned(alloc: Global, rising: usize, end: usize) -> Result<Vec<usize>, Fail> {
+    let mut order = Vec::new(alloc);
+    run(&mut order, 0, rising, true)?;
+    run(&mut order, rising, end, false)?;
+    Ok(order)
+}
+
 /// Lays out a text from left to right, and compares its levels and its order: the first positions rise, so many of
 /// them, and the others fall.
 fn shows_turned(
@@ -90,81 +123,96 @@ fn shows_turned(
     expected: &[Option<Level>],
     rising: usize,
 ) -> Result<(), Fail> {
-    let mut order = Vec::new(alloc);
-    run(&mut order, 0, rising, true)?;
-    run(&mut order, rising, text.len(), false)?;
-    let mut room = Scratch::with_room(alloc, text.len())?;
-    shows(rt, &mut room, text, Direction::Ltr, expected, &order)
+    let order = turned(alloc, rising, text.len())?;
+    shows_in_room(
+        rt,
+        alloc,
+        text.len(),
+        text,
+        Direction::Ltr,
+        expected,
+        &order,
+    )
+}
+
+/// Lays out the text with `n` brackets of each kind, of which the last closing ones get this level.
+fn brackets_show(
+    rt: &impl Abort,
+    alloc: Global,
+    n: usize,
+    closing: u8,
+    rising: usize,
+) -> Result<(), Fail> {
+    let text = brackets(alloc, n)?;
+    let expected = bracket_levels(alloc, n, closing)?;
+    shows_turned(rt, alloc, &text, &expected, rising)
 }
 
 #[test]
 fn pairs_63_open_brackets(rt: HostRuntime) -> Result<(), Fail> {
-    let alloc = rt.alloc();
-    let text = brackets(alloc, &tables(alloc)?, 63)?;
-    shows_turned(&rt, alloc, &text, &bracket_levels(alloc, 63, 0)?, 134)
+    brackets_show(&rt, rt.alloc(), 63, 0, 134)
 }
 
 #[test]
 fn stops_at_64_open_brackets(rt: HostRuntime) -> Result<(), Fail> {
-    let alloc = rt.alloc();
-    let text = brackets(alloc, &tables(alloc)?, 64)?;
-    shows_turned(&rt, alloc, &text, &bracket_levels(alloc, 64, 1)?, 70)
+    brackets_show(&rt, rt.alloc(), 64, 1, 70)
 }
 
 #[test]
 fn resets_isolates_up_to_the_end(rt: HostRuntime) -> Result<(), Fail> {
-    let alloc = rt.alloc();
-    let mut text = Vec::new(alloc);
-    alternate(&mut text, 8_000, Class::RLI, Class::RLI)?;
-    let mut expected = Vec::new(alloc);
-    repeated(&mut expected, 16_000, 0)?;
-    shows_turned(&rt, alloc, &text, &expected, 16_000)
+    let text = vec![in rt.alloc(); unit(Class::RLI); 16_000]?;
+    let expected = vec![in rt.alloc(); Level::new(0); 16_000]?;
+    shows_turned(&rt, rt.alloc(), &text, &expected, 16_000)
 }
 
-/// The odd numbers below 126 as levels.
-fn odd_levels(levels: &mut Vec<Option<Level>>) -> Result<(), Fail> {
+/// The level 0, the odd numbers below 126 as levels, 15,936 times the last of them, and the level 126.
+fn write_nested_levels(levels: &mut Vec<Option<Level>>) -> Result<(), Fail> {
+    levels.push(Level::new(0))?;
     for half in 0..63 {
         levels.push(Level::new(2 * half + 1))?;
     }
+    repeated(levels, 15_936, 125)?;
+    levels.push(Level::new(126))?;
     Ok(())
+}
+
+/// 16,000 times RLI, and L.
+fn nested_isolates(alloc: Global) -> Result<Vec<Unit>, Fail> {
+    let mut text = vec![in alloc; unit(Class::RLI); 16_000]?;
+    text.push(unit(Class::L))?;
+    Ok(text)
 }
 
 #[test]
 fn nests_isolates_deeply(rt: HostRuntime) -> Result<(), Fail> {
-    let alloc = rt.alloc();
-    let mut text = Vec::new(alloc);
-    alternate(&mut text, 8_000, Class::RLI, Class::RLI)?;
-    text.push(unit(Class::L))?;
-    let mut expected = Vec::new(alloc);
-    expected.push(Level::new(0))?;
-    odd_levels(&mut expected)?;
-    repeated(&mut expected, 15_936, 125)?;
-    expected.push(Level::new(126))?;
-    shows_turned(&rt, alloc, &text, &expected, 1)
+    let text = nested_isolates(rt.alloc())?;
+    let mut expected = Vec::new(rt.alloc());
+    write_nested_levels(&mut expected)?;
+    shows_turned(&rt, rt.alloc(), &text, &expected, 1)
 }
 
-/// Lays out RLE, LRE and R by a depth, and compares the levels.
-fn levels_by_depth(rt: &impl Abort, alloc: Global, depth: u8, expected: &str) -> Result<(), Fail> {
-    let text = units(alloc, "RLE LRE R")?;
-    let expected = levels(alloc, expected)?;
+/// Lays out RLE, LRE and R by a depth, and expects this level of the last alone.
+fn level_by_depth(rt: &impl Abort, room: &mut Scratch, depth: u8, level: u8) -> Result<(), Fail> {
+    let text = [unit(Class::RLE), unit(Class::LRE), unit(Class::R)];
+    let expected = [None, None, Level::new(level)];
+    let limits = Limits::new(depth, 63)?;
     let breaks = Breaks::new(&[], text.len())?;
-    let mut room = Scratch::with_room(alloc, 3)?;
-    lay_in_with(
-        &mut room,
-        &text,
-        Direction::Ltr,
-        &breaks,
-        Limits::new(depth, 63)?,
-    )?;
+    lay_in_with(room, &text, Direction::Ltr, &breaks, limits)?;
     assert_eq!(rt; room.layout().levels(), expected.as_slice());
     Ok(())
+}
+
+/// The same in a new room.
+fn level_in_new_room(rt: &impl Abort, alloc: Global, depth: u8, level: u8) -> Result<(), Fail> {
+    let mut room = Scratch::with_room(alloc, 3)?;
+    level_by_depth(rt, &mut room, depth, level)
 }
 
 /// X4: at depth 1 the LRE, which asks for level 2, is refused.
 #[test]
 fn lays_out_by_the_limits_that_are_handed_in(rt: HostRuntime) -> Result<(), Fail> {
-    for (depth, expected) in [(1, "x x 1"), (2, "x x 3"), (125, "x x 3")] {
-        levels_by_depth(&rt, rt.alloc(), depth, expected)?;
+    for (depth, level) in [(1, 1), (2, 3), (125, 3)] {
+        level_in_new_room(&rt, rt.alloc(), depth, level)?;
     }
     Ok(())
 }

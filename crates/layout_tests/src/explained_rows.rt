@@ -2,9 +2,13 @@
 use crate::given::tables;
 use explain::print::{print_explained, print_explained_classes};
 use printing::fault::PrintFault;
-use std::test::Fail;
+use std::alloc::Global;
+use std::process::Abort;
+use ucdfiles::fault::TableFault;
+use ucdfiles::tables::Tables;
 use units::class::Class;
 use units::level::Direction;
+use units::memory::Memory;
 
 /// Classes, their direction, and the lines that are printed.
 #[derive(Clone, Copy)]
@@ -64,26 +68,38 @@ order 0 1 2 3\n",
     },
 ];
 
-#[test]
-fn says_what_rules_make_of_classes(rt: HostRuntime) -> Result<(), Fail> {
-    for row in ROWS {
-        assert!(rt; row.classes.len() <= 16);
-        let mut out = Vec::new(rt.alloc());
-        let answer = print_explained_classes(rt.alloc(), &mut out, row.classes, row.direction);
-        assert_eq!(rt; answer, Ok(()));
-        assert_eq!(rt; out.as_slice(), row.printed);
-    }
-    Ok(())
+/// Compares what is printed of a row.
+fn explains(rt: &impl Abort, alloc: Global, row: &Row) {
+    assert!(rt; row.classes.len() <= 16);
+    let mut out = Vec::new(alloc);
+    let answer = print_explained_classes(alloc, &mut out, row.classes, row.direction);
+    assert_eq!(rt; answer, Ok(()));
+    assert_eq!(rt; out.as_slice(), row.printed);
 }
 
-/// A number in brackets, which take the direction of the paragraph.
+/// The same of each row.
+fn explains_each(rt: &impl Abort, alloc: Global, rows: &[Row]) {
+    for row in rows {
+        explains(rt, alloc, row);
+    }
+}
+
 #[test]
-fn says_what_rules_make_of_a_text(rt: HostRuntime) -> Result<(), Fail> {
-    let tables = tables(rt.alloc())?;
-    let mut out = Vec::new(rt.alloc());
-    let text = ['\u{5D0}', '(', '1', ')'];
-    let answer = print_explained(rt.alloc(), &mut out, &tables, &text, Direction::Auto);
-    let lines: &[u8] = b"paragraph 0 level 1: R at 0\n\
+fn says_what_rules_make_of_classes(rt: HostRuntime) {
+    explains_each(&rt, rt.alloc(), &ROWS);
+}
+
+/// Compares what is printed of a text by these tables.
+fn text_explains(rt: &impl Abort, alloc: Global, tables: &Tables, text: &[char], printed: &[u8]) {
+    assert!(rt; text.len() <= 16);
+    let mut out = Vec::new(alloc);
+    let answer = print_explained(alloc, &mut out, tables, text, Direction::Auto);
+    assert_eq!(rt; answer, Ok(()));
+    assert_eq!(rt; out.as_slice(), printed);
+}
+
+/// What is printed of an alef and a number in brackets, which take the direction of the paragraph.
+const NUMBER: &[u8] = b"paragraph 0 level 1: R at 0\n\
 position code class level X W1 W2 W3 W4 W5 W6 W7 N0 N1 N2 I L1\n\
 0 05D0 R 1 . . . . . . . . . . . . .\n\
 1 0028 ON 1 . . . . . . . . R . . . .\n\
@@ -92,19 +108,29 @@ position code class level X W1 W2 W3 W4 W5 W6 W7 N0 N1 N2 I L1\n\
 sequence 0 level 1 sos R eos R: 0 1 2 3\n\
 pair 1 3\n\
 order 3 2 1 0\n";
-    assert_eq!(rt; answer, Ok(()));
-    assert_eq!(rt; out.as_slice(), lines);
+
+#[test]
+fn says_what_rules_make_of_a_text(rt: HostRuntime) -> Result<(), TableFault> {
+    let tables = tables(rt.alloc())?;
+    let text = ['\u{5D0}', '(', '1', ')'];
+    text_explains(&rt, rt.alloc(), &tables, &text, NUMBER);
+    Ok(())
+}
+
+/// Expects that nothing is printed whole where so many bytes are taken.
+fn is_cut(rt: &impl Abort, alloc: Global, taken: usize) -> Result<(), Memory> {
+    let mut bytes = vec![in alloc; 0_u8; taken]?;
+    let mut short = bytes.as_mut_slice();
+    let classes = [Class::R, Class::EN];
+    let answer = print_explained_classes(alloc, &mut short, &classes, Direction::Auto);
+    assert_eq!(rt; answer, Err(PrintFault::Write), "{taken}");
     Ok(())
 }
 
 #[test]
-fn says_that_a_write_failed(rt: HostRuntime) -> Result<(), Fail> {
+fn says_that_a_write_failed(rt: HostRuntime) -> Result<(), Memory> {
     for taken in [0, 27, 60, 100, 130, 160, 195, 200] {
-        let mut bytes = [0; 200];
-        let mut short = &mut bytes[..taken];
-        let classes = [Class::R, Class::EN];
-        let answer = print_explained_classes(rt.alloc(), &mut short, &classes, Direction::Auto);
-        assert_eq!(rt; answer, Err(PrintFault::Write), "{taken}");
+        is_cut(&rt, rt.alloc(), taken)?;
     }
     Ok(())
 }

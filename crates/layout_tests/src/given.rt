@@ -3,6 +3,7 @@ ghost use Rattle.std.specs.Prelude.{◌≡◌, ◌<◌};
 
 use lines::breaks::Breaks;
 use lines::lay_out::lay_out;
+use lines::layout::Layout;
 use lines::scratch::Scratch;
 use std::alloc::Global;
 use std::marker::Brand;
@@ -36,12 +37,18 @@ pub fn tables(alloc: Global) -> Result<Tables, TableFault> {
 }
 
 /// The units of a text by these tables.
-pub fn units_of(alloc: Global, tables: &Tables, text: &str) -> Result<Vec<Unit>, Fail> {
+fn units_by(alloc: Global, tables: &Tables, text: &str) -> Result<Vec<Unit>, Fail> {
     let mut units = Vec::new(alloc);
     for c in text.chars() {
         units.push(tables.unit(c))?;
     }
     Ok(units)
+}
+
+/// The units of a text by the tables of the small files.
+pub fn units_of(alloc: Global, text: &str) -> Result<Vec<Unit>, Fail> {
+    let tables = tables(alloc)?;
+    units_by(alloc, &tables, text)
 }
 
 /// A unit of this class that is no bracket.
@@ -54,14 +61,20 @@ pub fn unit(class: Class) -> Unit
     }
 }
 
-/// Units of the classes with these short names, none of them a bracket.
-pub fn units(alloc: Global, names: &str) -> Result<Vec<Unit>, Fail> {
-    let mut units = Vec::new(alloc);
+/// Appends units of the classes with these short names, none of them a bracket.
+pub fn append_units(units: &mut Vec<Unit>, names: &str) -> Result<(), Fail> {
     for name in names.split(' ') {
         if let Some(class) = Class::from_short(name.as_bytes()) {
             units.push(unit(class))?;
         }
     }
+    Ok(())
+}
+
+/// Such units alone.
+pub fn units(alloc: Global, names: &str) -> Result<Vec<Unit>, Fail> {
+    let mut units = Vec::new(alloc);
+    append_units(&mut units, names)?;
     Ok(units)
 }
 
@@ -81,6 +94,13 @@ pub fn numbers(alloc: Global, text: &str) -> Result<Vec<usize>, Fail> {
         numbers.push(item.parse::<usize>()?)?;
     }
     Ok(numbers)
+}
+
+/// Compares a layout of one line: its levels and its order.
+fn is_one_line(rt: &impl Abort, layout: &Layout, levels: &[Option<Level>], order: &[usize]) {
+    assert_eq!(rt; layout.levels(), levels);
+    assert_eq!(rt; layout.line_count(), 1);
+    assert_eq!(rt; layout.line(0).order, order);
 }
 
 /// Lays out a text on one line, and compares its levels and its order.
@@ -112,10 +132,22 @@ fn shows_counting<K: Ledger>(
     let mut steps = Steps::<K>::new(blank);
     let breaks = Breaks::new(&[], text.len())?;
     let layout = lay_out(room, text, direction, &breaks, &mut steps)?;
-    assert_eq!(rt; layout.levels(), levels);
-    assert_eq!(rt; layout.line_count(), 1);
-    assert_eq!(rt; layout.line(0).order, order);
+    is_one_line(rt, &layout, levels, order);
     Ok(())
+}
+
+/// The same in a new room for so many units.
+pub fn shows_in_room(
+    rt: &impl Abort,
+    alloc: Global,
+    most: usize,
+    text: &[Unit],
+    direction: Direction,
+    levels: &[Option<Level>],
+    order: &[usize],
+) -> Result<(), Fail> {
+    let mut room = Scratch::with_room(alloc, most)?;
+    shows(rt, &mut room, text, direction, levels, order)
 }
 
 /// Appends so many times the level with this number, or none where no level has it.

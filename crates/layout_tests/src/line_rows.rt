@@ -2,7 +2,7 @@
 ghost use Rattle.lines.specs.Scratches.{IsFilled};
 ghost use Rattle.std.specs.Prelude.{OnOk};
 
-use crate::given::{levels, numbers, shows, tables, unit, units, units_of};
+use crate::given::{levels, numbers, shows, unit, units_of};
 use lines::breaks::{BreakFault, Breaks};
 use lines::lay_out::lay_in;
 use lines::layout::Layout;
@@ -14,17 +14,18 @@ use units::bracket::Unit;
 use units::class::Class;
 use units::level::{Direction, Level, ParaLevel};
 
+/// Breaks of a text of three positions, and their first fault.
+const FAULTY: [(&[usize], BreakFault); 3] = [
+    (&[0], BreakFault::OutOfRange(0)),
+    (&[2, 2], BreakFault::NotRising(1)),
+    (&[2, 0], BreakFault::OutOfRange(1)),
+];
+
 #[test]
 fn names_the_first_fault(rt: HostRuntime) {
-    assert_eq!(rt; Breaks::new(&[0], 3).err(), Some(BreakFault::OutOfRange(0)));
-    assert_eq!(rt;
-        Breaks::new(&[2, 2], 3).err(),
-        Some(BreakFault::NotRising(1))
-    );
-    assert_eq!(rt;
-        Breaks::new(&[2, 0], 3).err(),
-        Some(BreakFault::OutOfRange(1))
-    );
+    for (at, fault) in FAULTY {
+        assert_eq!(rt; Breaks::new(at, 3).err(), Some(fault));
+    }
     assert!(rt; Breaks::new(&[], 0).is_ok());
     let breaks = Breaks::new(&[1, 2], 3).ok();
     assert!(rt;
@@ -58,41 +59,49 @@ fn lays_out_broken(rt: &impl Abort, room: &mut Scratch, text: &[Unit]) -> Result
     Ok(())
 }
 
-#[test]
-fn no_growth_comes_after_making(rt: HostRuntime) -> Result<(), Fail> {
-    let mut room = match Scratch::with_room(rt.alloc(), 64) {
-        Ok(room) => room,
-        Err(fault) => {
-            assert_eq!(rt; fault, RoomFault::Memory);
-            return Ok(());
-        }
-    };
+/// Lays out such a text a thousand times, broken and on one line.
+fn lays_out_often(rt: &impl Abort, room: &mut Scratch) -> Result<(), Fail> {
     let text = [unit(Class::R), unit(Class::WS), unit(Class::R)];
     let whole = [Level::new(1), Level::new(1), Level::new(1)];
     for _ in 0..1_000 {
-        lays_out_broken(&rt, &mut room, &text)?;
-        shows(&rt, &mut room, &text, Direction::Ltr, &whole, &[2, 1, 0])?;
+        lays_out_broken(rt, room, &text)?;
+        shows(rt, room, &text, Direction::Ltr, &whole, &[2, 1, 0])?;
     }
     Ok(())
 }
 
 #[test]
-fn lays_out_after_too_long(rt: HostRuntime) -> Result<(), Fail> {
-    let alloc = rt.alloc();
-    let long = units(alloc, "R WS R")?;
-    let text = units(alloc, "L L")?;
-    let expected = levels(alloc, "0 0")?;
-    let mut room = Scratch::with_room(alloc, 2)?;
+fn no_growth_comes_after_making(rt: HostRuntime) -> Result<(), Fail> {
+    match Scratch::with_room(rt.alloc(), 64) {
+        Ok(mut room) => lays_out_often(&rt, &mut room),
+        Err(fault) => {
+            assert_eq!(rt; fault, RoomFault::Memory);
+            Ok(())
+        }
+    }
+}
+
+/// In a room for two units refuses a text of three, and then lays out one of two.
+fn refuses_then_lays_out(rt: &impl Abort, room: &mut Scratch) -> Result<(), Fail> {
+    let long = [unit(Class::R), unit(Class::WS), unit(Class::R)];
     let breaks = Breaks::new(&[], long.len())?;
-    assert!(&rt; lay_in(&mut room, &long, Direction::Ltr, &breaks).is_err());
-    shows(&rt, &mut room, &text, Direction::Ltr, &expected, &[0, 1])
+    assert!(rt; lay_in(room, &long, Direction::Ltr, &breaks).is_err());
+    let text = [unit(Class::L), unit(Class::L)];
+    let expected = [Level::new(0), Level::new(0)];
+    shows(rt, room, &text, Direction::Ltr, &expected, &[0, 1])
+}
+
+#[test]
+fn lays_out_after_too_long(rt: HostRuntime) -> Result<(), Fail> {
+    let mut room = Scratch::with_room(rt.alloc(), 2)?;
+    refuses_then_lays_out(&rt, &mut room)
 }
 
 /// A Hebrew letter and a digit, a separator, and a Latin letter, laid out with this break.
 fn two_paragraphs_broken(alloc: Global, room: &mut Scratch, at: usize) -> Result<(), Fail>
     ensures { OnOk result (IsFilled room.new) }
 {
-    let text = units_of(alloc, &tables(alloc)?, "\u{5D0}1\na")?;
+    let text = units_of(alloc, "\u{5D0}1\na")?;
     let at = [at];
     let breaks = Breaks::new(&at, text.len())?;
     lay_in(room, &text, Direction::Auto, &breaks)?;
@@ -114,22 +123,41 @@ fn lines_show(
     Ok(())
 }
 
-#[test]
-fn a_break_behind_a_separator_adds_nothing(rt: HostRuntime) -> Result<(), Fail> {
-    let mut room = Scratch::with_room(rt.alloc(), 4)?;
-    two_paragraphs_broken(rt.alloc(), &mut room, 3)?;
+/// Lays out such paragraphs with this break, and compares their levels and their lines.
+fn paragraphs_show(
+    rt: &impl Abort,
+    alloc: Global,
+    room: &mut Scratch,
+    at: usize,
+    lines: &[(&str, &str)],
+) -> Result<(), Fail> {
+    two_paragraphs_broken(alloc, room, at)?;
     let layout = room.layout();
     let para_levels = [ParaLevel::One, ParaLevel::Zero];
-    assert_eq!(&rt; layout.para_levels(), para_levels.as_slice());
-    lines_show(&rt, rt.alloc(), &layout, &[("1 2 1", "2 1 0"), ("0", "3")])
+    assert_eq!(rt; layout.para_levels(), para_levels.as_slice());
+    lines_show(rt, alloc, &layout, lines)
+}
+
+/// The same in a new room.
+fn break_shows(
+    rt: &impl Abort,
+    alloc: Global,
+    at: usize,
+    lines: &[(&str, &str)],
+) -> Result<(), Fail> {
+    let mut room = Scratch::with_room(alloc, 4)?;
+    paragraphs_show(rt, alloc, &mut room, at, lines)
+}
+
+#[test]
+fn a_break_behind_a_separator_adds_nothing(rt: HostRuntime) -> Result<(), Fail> {
+    break_shows(&rt, rt.alloc(), 3, &[("1 2 1", "2 1 0"), ("0", "3")])
 }
 
 #[test]
 fn a_break_begins_a_line(rt: HostRuntime) -> Result<(), Fail> {
-    let mut room = Scratch::with_room(rt.alloc(), 4)?;
-    two_paragraphs_broken(rt.alloc(), &mut room, 1)?;
     let lines = [("1", "0"), ("2 1", "2 1"), ("0", "3")];
-    lines_show(&rt, rt.alloc(), &room.layout(), &lines)
+    break_shows(&rt, rt.alloc(), 1, &lines)
 }
 
 #[test]

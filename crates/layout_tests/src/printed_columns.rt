@@ -31,7 +31,7 @@ fn prints_lines(
     text: &[char],
     columns: u16,
     bytes: usize,
-) -> Result<(), Fail> {
+) {
     assert!(rt; text.len() <= 100_000);
     let width = NonZeroU16::new(columns);
     let mut out = Vec::new(alloc);
@@ -39,23 +39,29 @@ fn prints_lines(
     assert_eq!(rt; answer, Ok(()), "{columns}");
     assert_eq!(rt; out.len(), bytes, "{columns}");
     ends_each_line(rt, &out, columns);
-    Ok(())
 }
 
-/// The text takes more than one line of any number of columns: 258, 257, 256, 2 and 2 of these.
+/// Numbers of columns, and how many bytes are printed: the text takes 258, 257, 256, 2 and 2 lines.
+const PRINTED: [(u16, usize); 5] = [
+    (255, 65_858),
+    (256, 65_857),
+    (257, 65_856),
+    (65_534, 65_602),
+    (65_535, 65_602),
+];
+
+/// Prints a text in lines of each of these numbers of columns.
+fn prints_each(rt: &impl Abort, alloc: Global, tables: &Tables, text: &[char]) {
+    for (columns, bytes) in PRINTED {
+        prints_lines(rt, alloc, tables, text, columns, bytes);
+    }
+}
+
+/// The text takes more than one line of any number of columns.
 #[test]
 fn breaks_at_many_columns(rt: HostRuntime) -> Result<(), Fail> {
-    let alloc = rt.alloc();
-    let tables = tables(alloc)?;
-    let text = letters(alloc, 65_600)?;
-    for (columns, bytes) in [
-        (255, 65_858),
-        (256, 65_857),
-        (257, 65_856),
-        (65_534, 65_602),
-        (65_535, 65_602),
-    ] {
-        prints_lines(&rt, alloc, &tables, &text, columns, bytes)?;
-    }
+    let text = letters(rt.alloc(), 65_600)?;
+    let tables = tables(rt.alloc())?;
+    prints_each(&rt, rt.alloc(), &tables, &text);
     Ok(())
 }

@@ -1,7 +1,10 @@
 use crate::given::tables;
 use printing::fault::PrintFault;
 use printing::print::print_levels;
-use std::test::Fail;
+use std::alloc::Global;
+use std::process::Abort;
+use ucdfiles::fault::TableFault;
+use ucdfiles::tables::Tables;
 use units::level::Direction;
 
 /// A text, its direction, and the lines that are printed.
@@ -65,27 +68,42 @@ const ROWS: [Row; 10] = [
     },
 ];
 
-#[test]
-fn prints_a_line_for_each_position(rt: HostRuntime) -> Result<(), Fail> {
-    let tables = tables(rt.alloc())?;
-    for row in ROWS {
-        assert!(rt; row.text.len() <= 16);
-        let mut out = Vec::new(rt.alloc());
-        let answer = print_levels(rt.alloc(), &mut out, &tables, row.text, row.direction);
-        assert_eq!(rt; answer, Ok(()));
-        assert_eq!(rt; out.as_slice(), row.printed);
+/// Compares what is printed of a row by these tables.
+fn prints(rt: &impl Abort, alloc: Global, tables: &Tables, row: &Row) {
+    assert!(rt; row.text.len() <= 16);
+    let mut out = Vec::new(alloc);
+    let answer = print_levels(alloc, &mut out, tables, row.text, row.direction);
+    assert_eq!(rt; answer, Ok(()));
+    assert_eq!(rt; out.as_slice(), row.printed);
+}
+
+/// The same of each row.
+fn prints_each(rt: &impl Abort, alloc: Global, tables: &Tables, rows: &[Row]) {
+    for row in rows {
+        prints(rt, alloc, tables, row);
     }
-    Ok(())
 }
 
 #[test]
-fn says_that_a_write_failed(rt: HostRuntime) -> Result<(), Fail> {
+fn prints_a_line_for_each_position(rt: HostRuntime) -> Result<(), TableFault> {
     let tables = tables(rt.alloc())?;
+    prints_each(&rt, rt.alloc(), &tables, &ROWS);
+    Ok(())
+}
+
+/// Expects that a line is not printed whole where at most 30 bytes are taken.
+fn are_cut(rt: &impl Abort, alloc: Global, tables: &Tables) {
     for taken in [0, 5, 30] {
         let mut bytes = [0; 30];
         let mut short = &mut bytes[..taken];
-        let answer = print_levels(rt.alloc(), &mut short, &tables, &['a'], Direction::Auto);
+        let answer = print_levels(alloc, &mut short, tables, &['a'], Direction::Auto);
         assert_eq!(rt; answer, Err(PrintFault::Write));
     }
+}
+
+#[test]
+fn says_that_a_write_failed(rt: HostRuntime) -> Result<(), TableFault> {
+    let tables = tables(rt.alloc())?;
+    are_cut(&rt, rt.alloc(), &tables);
     Ok(())
 }

@@ -3,9 +3,11 @@
 use crate::given::tables;
 use printing::fault::PrintFault;
 use printing::print::{print_levels, print_reorder};
+use std::alloc::Global;
 use std::num::NonZeroU16;
 use std::process::Abort;
 use ucdfiles::fault::TableFault;
+use ucdfiles::tables::Tables;
 use units::level::Direction;
 
 /// Expects that memory was refused, or that this was written into the bytes, of which so many are left.
@@ -25,27 +27,35 @@ fn refused_or_written(
     }
 }
 
-#[test]
-fn prints_or_says_that_memory_was_refused(rt: HostRuntime) {
-    let alloc = rt.alloc();
-    let tables = match tables(alloc) {
-        Ok(tables) => tables,
-        Err(fault) => {
-            assert_eq!(rt; fault, TableFault::Memory);
-            return;
-        }
-    };
-    let text = ['\u{5D0}', '<', 'a'];
+const TEXT: [char; 3] = ['\u{5D0}', '<', 'a'];
+
+/// The levels of the text, or that memory was refused.
+fn levels_or_refused(rt: &impl Abort, alloc: Global, tables: &Tables) {
     let mut bytes = [0; 64];
     let mut out = bytes.as_mut_slice();
-    let answer = print_levels(alloc, &mut out, &tables, &text, Direction::Ltr);
+    let answer = print_levels(alloc, &mut out, tables, &TEXT, Direction::Ltr);
     let left = out.len();
     let lines = b"paragraph 0 level 0\n0 05D0 R 1\n1 003C ON 0\n2 0061 L 0\n";
-    refused_or_written(&rt, answer, &bytes, left, lines);
+    refused_or_written(rt, answer, &bytes, left, lines);
+}
 
+/// The text as it is shown in lines of two columns, or that memory was refused.
+fn reorder_or_refused(rt: &impl Abort, alloc: Global, tables: &Tables) {
+    let mut bytes = [0; 64];
     let mut out = bytes.as_mut_slice();
     let columns = NonZeroU16::new(2);
-    let answer = print_reorder(alloc, &mut out, &tables, &text, Direction::Rtl, columns);
+    let answer = print_reorder(alloc, &mut out, tables, &TEXT, Direction::Rtl, columns);
     let left = out.len();
-    refused_or_written(&rt, answer, &bytes, left, b">\xd7\x90\na\n");
+    refused_or_written(rt, answer, &bytes, left, b">\xd7\x90\na\n");
+}
+
+#[test]
+fn prints_or_says_that_memory_was_refused(rt: HostRuntime) {
+    match tables(rt.alloc()) {
+        Ok(tables) => {
+            levels_or_refused(&rt, rt.alloc(), &tables);
+            reorder_or_refused(&rt, rt.alloc(), &tables);
+        }
+        Err(fault) => assert_eq!(rt; fault, TableFault::Memory),
+    }
 }

@@ -1,8 +1,11 @@
 use crate::given::{tables, tables_with};
 use printing::fault::PrintFault;
 use printing::print::print_reorder;
+use std::alloc::Global;
 use std::num::NonZeroU16;
-use std::test::Fail;
+use std::process::Abort;
+use ucdfiles::fault::TableFault;
+use ucdfiles::tables::Tables;
 use units::level::Direction;
 
 /// A text, how it is to be shown, and the bytes that are printed.
@@ -65,59 +68,87 @@ const ROWS: [Row; 8] = [
     },
 ];
 
-#[test]
-fn prints_each_line_as_it_is_shown(rt: HostRuntime) -> Result<(), Fail> {
-    let tables = tables(rt.alloc())?;
-    for row in ROWS {
-        assert!(rt; row.text.len() <= 16);
-        let columns = row.columns.and_then(NonZeroU16::new);
-        let mut out = Vec::new(rt.alloc());
-        let answer = print_reorder(
-            rt.alloc(),
-            &mut out,
-            &tables,
-            row.text,
-            row.direction,
-            columns,
-        );
-        assert_eq!(rt; answer, Ok(()));
-        assert_eq!(rt; out.as_slice(), row.printed);
+/// Compares what is printed of a row by these tables.
+fn prints(rt: &impl Abort, alloc: Global, tables: &Tables, row: &Row) {
+    assert!(rt; row.text.len() <= 16);
+    let columns = row.columns.and_then(NonZeroU16::new);
+    let mut out = Vec::new(alloc);
+    let answer = print_reorder(alloc, &mut out, tables, row.text, row.direction, columns);
+    assert_eq!(rt; answer, Ok(()));
+    assert_eq!(rt; out.as_slice(), row.printed);
+}
+
+/// The same of each row.
+fn prints_each(rt: &impl Abort, alloc: Global, tables: &Tables, rows: &[Row]) {
+    for row in rows {
+        prints(rt, alloc, tables, row);
     }
+}
+
+#[test]
+fn prints_each_line_as_it_is_shown(rt: HostRuntime) -> Result<(), TableFault> {
+    let tables = tables(rt.alloc())?;
+    prints_each(&rt, rt.alloc(), &tables, &ROWS);
     Ok(())
 }
+
+/// Compares what is printed of a row by the tables with these mirror images.
+fn prints_mirrored(
+    rt: &impl Abort,
+    alloc: Global,
+    mirrors: &[u8],
+    row: &Row,
+) -> Result<(), TableFault> {
+    let tables = tables_with(alloc, mirrors)?;
+    prints(rt, alloc, &tables, row);
+    Ok(())
+}
+
+/// Files of mirror images, and a row by each.
+const MIRRORED: [(&[u8], Row); 2] = [
+    (
+        b"000A; 003C\n",
+        Row {
+            text: &['\u{5D0}', '\n'],
+            direction: Direction::Auto,
+            columns: None,
+            printed: b"\xd7\x90\n",
+        },
+    ),
+    (
+        b"003C; 000A\n",
+        Row {
+            text: &['\u{5D0}', '<'],
+            direction: Direction::Auto,
+            columns: None,
+            printed: b"\n\xd7\x90\n",
+        },
+    ),
+];
 
 // The first separates paragraphs where it stands, and the second doesn't, whatever they are shown by.
 #[test]
-fn asks_the_class_of_the_position(rt: HostRuntime) -> Result<(), Fail> {
-    let rows: [(&[u8], [char; 2], &[u8]); 2] = [
-        (b"000A; 003C\n", ['\u{5D0}', '\n'], b"\xd7\x90\n"),
-        (b"003C; 000A\n", ['\u{5D0}', '<'], b"\n\xd7\x90\n"),
-    ];
-    for (mirrors, text, printed) in rows {
-        let tables = tables_with(rt.alloc(), mirrors)?;
-        let mut out = Vec::new(rt.alloc());
-        let answer = print_reorder(rt.alloc(), &mut out, &tables, &text, Direction::Auto, None);
-        assert_eq!(rt; answer, Ok(()));
-        assert_eq!(rt; out.as_slice(), printed);
+fn asks_the_class_of_the_position(rt: HostRuntime) -> Result<(), TableFault> {
+    for (mirrors, row) in MIRRORED {
+        prints_mirrored(&rt, rt.alloc(), mirrors, &row)?;
     }
     Ok(())
 }
 
-#[test]
-fn says_that_a_write_failed(rt: HostRuntime) -> Result<(), Fail> {
-    let tables = tables(rt.alloc())?;
+/// Expects that a line is not printed whole where at most three bytes are taken.
+fn are_cut(rt: &impl Abort, alloc: Global, tables: &Tables) {
+    let text = ['\u{5D0}', '<'];
     for taken in [0, 2, 3] {
         let mut bytes = [0; 3];
         let mut short = &mut bytes[..taken];
-        let answer = print_reorder(
-            rt.alloc(),
-            &mut short,
-            &tables,
-            &['\u{5D0}', '<'],
-            Direction::Rtl,
-            None,
-        );
+        let answer = print_reorder(alloc, &mut short, tables, &text, Direction::Rtl, None);
         assert_eq!(rt; answer, Err(PrintFault::Write));
     }
+}
+
+#[test]
+fn says_that_a_write_failed(rt: HostRuntime) -> Result<(), TableFault> {
+    let tables = tables(rt.alloc())?;
+    are_cut(&rt, rt.alloc(), &tables);
     Ok(())
 }

@@ -1,6 +1,5 @@
 //! Rows of one line: their levels and their order.
-use crate::given::{levels, numbers, shows, tables, units, units_of};
-use lines::scratch::Scratch;
+use crate::given::{levels, numbers, shows_in_room, units, units_of};
 use std::alloc::Global;
 use std::process::Abort;
 use std::test::Fail;
@@ -18,10 +17,9 @@ struct Row {
 
 /// Lays out the text of a row, of these units, and compares its levels and its order.
 fn shows_row(rt: &impl Abort, alloc: Global, text: &[Unit], row: &Row) -> Result<(), Fail> {
-    let mut room = Scratch::with_room(alloc, 8)?;
     let levels = levels(alloc, row.levels)?;
     let order = numbers(alloc, row.order)?;
-    shows(rt, &mut room, text, row.direction, &levels, &order)
+    shows_in_room(rt, alloc, 8, text, row.direction, &levels, &order)
 }
 
 /// Texts by their characters.
@@ -56,12 +54,16 @@ const PAIRS: [Row; 4] = [
     },
 ];
 
+/// Lays out the characters of a row.
+fn shows_characters(rt: &impl Abort, alloc: Global, row: &Row) -> Result<(), Fail> {
+    let text = units_of(alloc, row.text)?;
+    shows_row(rt, alloc, &text, row)
+}
+
 #[test]
 fn pairs_brackets(rt: HostRuntime) -> Result<(), Fail> {
-    let tables = tables(rt.alloc())?;
     for row in PAIRS {
-        let text = units_of(rt.alloc(), &tables, row.text)?;
-        shows_row(&rt, rt.alloc(), &text, &row)?;
+        shows_characters(&rt, rt.alloc(), &row)?;
     }
     Ok(())
 }
@@ -110,11 +112,16 @@ const EMBEDDINGS: [Row; 6] = [
     },
 ];
 
+/// Lays out the classes of a row.
+fn shows_classes(rt: &impl Abort, alloc: Global, row: &Row) -> Result<(), Fail> {
+    let text = units(alloc, row.text)?;
+    shows_row(rt, alloc, &text, row)
+}
+
 #[test]
 fn embeds_and_isolates(rt: HostRuntime) -> Result<(), Fail> {
     for row in EMBEDDINGS {
-        let text = units(rt.alloc(), row.text)?;
-        shows_row(&rt, rt.alloc(), &text, &row)?;
+        shows_classes(&rt, rt.alloc(), &row)?;
     }
     Ok(())
 }

@@ -1,5 +1,5 @@
 //! Rows of what is shown: L4 over the order of a line.
-use crate::given::{levels, tables};
+use crate::given::tables;
 use lines::breaks::Breaks;
 use lines::lay_out::lay_in;
 use lines::scratch::Scratch;
@@ -11,6 +11,14 @@ use ucdfiles::mirror_table::MirrorTable;
 use ucdfiles::tables::Tables;
 use units::bracket::Unit;
 use units::level::{Direction, Level};
+
+/// Characters, the numbers of their levels, and what is shown of them.
+#[derive(Clone, Copy)]
+struct Row {
+    chars: &'static [char],
+    levels: &'static [u8],
+    shown: &'static [char],
+}
 
 /// The units of these characters.
 fn units_of_chars(alloc: Global, tables: &Tables, chars: &[char]) -> Result<Vec<Unit>, Fail> {
@@ -35,57 +43,72 @@ fn is_shown(
     room: &mut Scratch,
     text: &[Unit],
     mirrors: &MirrorTable,
-    chars: &[char],
-    levels: &[Option<Level>],
-    expected: &[char],
+    row: &Row,
 ) -> Result<(), Fail> {
     let breaks = Breaks::new(&[], text.len())?;
     lay_in(room, text, Direction::Ltr, &breaks)?;
     let layout = room.layout();
     assert_eq!(rt; layout.line_count(), 1);
-    assert_eq!(rt; layout.levels(), levels);
-    assert_eq!(rt; layout.levels().len(), chars.len());
-    gives(rt, layout.shown(mirrors, chars, 0), expected);
+    assert_eq!(rt; layout.levels().len(), row.chars.len());
+    has_levels(rt, layout.levels(), row.levels);
+    gives(rt, layout.shown(mirrors, row.chars, 0), row.shown);
     Ok(())
 }
 
-/// The same by the tables.
-fn text_is_shown(
+/// Compares levels with these numbers.
+fn has_levels(rt: &impl Abort, levels: &[Option<Level>], numbers: &[u8]) {
+    assert_eq!(rt; levels.len(), numbers.len());
+    for (level, number) in levels.iter().zip(numbers) {
+        assert_eq!(rt; *level, Level::new(*number));
+    }
+}
+
+/// The same in a new room for four units.
+fn is_shown_in_room(
     rt: &impl Abort,
     alloc: Global,
-    chars: &[char],
-    numbers: &str,
-    expected: &[char],
+    text: &[Unit],
+    mirrors: &MirrorTable,
+    row: &Row,
 ) -> Result<(), Fail> {
-    let tables = tables(alloc)?;
-    let text = units_of_chars(alloc, &tables, chars)?;
-    let levels = levels(alloc, numbers)?;
     let mut room = Scratch::with_room(alloc, 4)?;
-    is_shown(
-        rt,
-        &mut room,
-        &text,
-        tables.mirrors(),
-        chars,
-        &levels,
-        expected,
-    )
+    is_shown(rt, &mut room, text, mirrors, row)
+}
+
+/// The same by these tables.
+fn is_shown_by(rt: &impl Abort, alloc: Global, tables: &Tables, row: &Row) -> Result<(), Fail> {
+    let text = units_of_chars(alloc, tables, row.chars)?;
+    is_shown_in_room(rt, alloc, &text, tables.mirrors(), row)
+}
+
+/// The same by the tables of the small files.
+fn row_is_shown(rt: &impl Abort, alloc: Global, row: &Row) -> Result<(), Fail> {
+    let tables = tables(alloc)?;
+    is_shown_by(rt, alloc, &tables, row)
 }
 
 #[test]
 fn mirrors_at_odd_levels(rt: HostRuntime) -> Result<(), Fail> {
-    let chars = ['\u{5D0}', '<', '\u{5D1}'];
-    text_is_shown(
+    row_is_shown(
         &rt,
         rt.alloc(),
-        &chars,
-        "1 1 1",
-        &['\u{5D1}', '>', '\u{5D0}'],
+        &Row {
+            chars: &['\u{5D0}', '<', '\u{5D1}'],
+            levels: &[1, 1, 1],
+            shown: &['\u{5D1}', '>', '\u{5D0}'],
+        },
     )
 }
 
 #[test]
 fn mirrors_nothing_at_even_levels(rt: HostRuntime) -> Result<(), Fail> {
-    let chars = ['a', '(', '\u{5D0}', ')'];
-    text_is_shown(&rt, rt.alloc(), &chars, "0 0 1 0", &chars)
+    row_is_shown(
+        &rt,
+        rt.alloc(),
+        &Row {
+            chars: &['a', '(', '\u{5D0}', ')'],
+            levels: &[0, 0, 1, 0],
+            shown: &['a', '(', '\u{5D0}', ')'],
+        },
+    )
 }

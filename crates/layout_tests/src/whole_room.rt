@@ -5,6 +5,7 @@ ghost use Rattle.std.specs.Prelude.{◌≡◌, ◌<◌};
 use crate::given::{tables, unit};
 use lines::breaks::Breaks;
 use lines::lay_out::lay_out;
+use lines::layout::Layout;
 use lines::scratch::Scratch;
 use std::alloc::Global;
 use std::marker::Brand;
@@ -34,6 +35,16 @@ fn rises_by_one(rt: &impl Abort, order: &[usize]) {
     }
 }
 
+/// Expects one line of so many positions in rising order, that of `raised` at level 1, and all others at 0.
+fn is_rising(rt: &impl Abort, layout: &Layout, count: usize, raised: Option<usize>) {
+    assert_eq!(rt; layout.line_count(), 1);
+    assert_eq!(rt; layout.levels().len(), count);
+    raises_one(rt, layout.levels(), raised);
+    let order = layout.line(0).order;
+    assert_eq!(rt; order.len(), count);
+    rises_by_one(rt, order);
+}
+
 /// Lays out a text from left to right on one line, and expects its positions in rising order, that of `raised` at
 /// level 1, and all others at 0.
 fn rises_counting<K: Ledger>(
@@ -50,12 +61,7 @@ fn rises_counting<K: Ledger>(
     let mut steps = Steps::<K>::new(blank);
     let breaks = Breaks::new(&[], text.len())?;
     let layout = lay_out(room, text, Direction::Ltr, &breaks, &mut steps)?;
-    assert_eq!(rt; layout.line_count(), 1);
-    assert_eq!(rt; layout.levels().len(), text.len());
-    raises_one(rt, layout.levels(), raised);
-    let order = layout.line(0).order;
-    assert_eq!(rt; order.len(), text.len());
-    rises_by_one(rt, order);
+    is_rising(rt, &layout, text.len(), raised);
     Ok(())
 }
 
@@ -84,23 +90,39 @@ fn initiators_fill(rt: &impl Abort, alloc: Global, room: &mut Scratch) -> Result
     rises(rt, room, &initiators, None)
 }
 
-/// BD16, N0: fills the room with pairs of brackets, alone and behind both directions.
-fn brackets_fill(rt: &impl Abort, alloc: Global, room: &mut Scratch) -> Result<(), Fail> {
+/// Pairs of parentheses that fill the room.
+fn parentheses(alloc: Global) -> Result<Vec<Unit>, Fail> {
     let tables = tables(alloc)?;
-    let mut brackets = pairs(alloc, tables.unit('('), tables.unit(')'))?;
-    rises(rt, room, &brackets, None)?;
+    let text = pairs(alloc, tables.unit('('), tables.unit(')'))?;
+    Ok(text)
+}
+
+/// BD16, N0: lays out brackets, alone and behind both directions.
+fn brackets_rise(rt: &impl Abort, room: &mut Scratch, brackets: &mut [Unit]) -> Result<(), Fail> {
+    rises(rt, room, brackets, None)?;
     assert!(rt; brackets.len() > 1);
     brackets[0] = unit(Class::L);
     brackets[1] = unit(Class::R);
-    rises(rt, room, &brackets, Some(1))
+    rises(rt, room, brackets, Some(1))
+}
+
+/// Fills the room with pairs of brackets.
+fn brackets_fill(rt: &impl Abort, alloc: Global, room: &mut Scratch) -> Result<(), Fail> {
+    let mut brackets = parentheses(alloc)?;
+    brackets_rise(rt, room, &mut brackets)
+}
+
+/// Fills the room with each of these texts, and then with as many calls.
+fn texts_fill(rt: &impl Abort, alloc: Global, room: &mut Scratch) -> Result<(), Fail> {
+    initiators_fill(rt, alloc, room)?;
+    brackets_fill(rt, alloc, room)?;
+    each_in_a_call(rt, room, unit(Class::L), None)
 }
 
 #[test]
 fn each_text_may_fill_the_room(rt: HostRuntime) -> Result<(), Fail> {
     let mut room = Scratch::with_room(rt.alloc(), ROOM)?;
-    initiators_fill(&rt, rt.alloc(), &mut room)?;
-    brackets_fill(&rt, rt.alloc(), &mut room)?;
-    each_in_a_call(&rt, &mut room, unit(Class::L), None)
+    texts_fill(&rt, rt.alloc(), &mut room)
 }
 
 /// As many calls as the room has units, each on this one, at level 1 or 0.
@@ -142,13 +164,20 @@ fn a_right_to_left_letter_in_each_call(rt: HostRuntime) -> Result<(), Fail> {
     each_of_a_class(&rt, rt.alloc(), Class::R, Some(0))
 }
 
+/// Makes a room for so many units, and lays out one unit in it unless it has none.
+fn room_is_made(rt: &impl Abort, alloc: Global, n: usize) -> Result<(), Fail> {
+    let mut room = Scratch::with_room(alloc, n)?;
+    if n > 0 {
+        rises(rt, &mut room, &[unit(Class::L)], None)
+    } else {
+        Ok(())
+    }
+}
+
 #[test]
 fn rooms_of_any_size_are_made(rt: HostRuntime) -> Result<(), Fail> {
     for n in [0, 1, 65_536, 1_000_000, 1_000_001] {
-        let mut room = Scratch::with_room(rt.alloc(), n)?;
-        if n > 0 {
-            rises(&rt, &mut room, &[unit(Class::L)], None)?;
-        }
+        room_is_made(&rt, rt.alloc(), n)?;
     }
     Ok(())
 }
