@@ -114,25 +114,18 @@ fn turned(alloc: Global, rising: usize, end: usize) -> Result<Vec<usize>, Fail> 
     Ok(order)
 }
 
-/// Lays out a text from left to right, and compares its levels and its order: the first positions rise, so many of
-/// them, and the others fall.
+/// Lays out a text from left to right in a room of this size, and compares its levels and its order: the first
+/// positions rise, so many of them, and the others fall.
 fn shows_turned(
     rt: &impl Abort,
     alloc: Global,
+    room: usize,
     text: &[Unit],
     expected: &[Option<Level>],
     rising: usize,
 ) -> Result<(), Fail> {
     let order = turned(alloc, rising, text.len())?;
-    shows_in_room(
-        rt,
-        alloc,
-        text.len(),
-        text,
-        Direction::Ltr,
-        expected,
-        &order,
-    )
+    shows_in_room(rt, alloc, room, text, Direction::Ltr, expected, &order)
 }
 
 /// Lays out the text with `n` brackets of each kind, of which the last closing ones get this level.
@@ -145,7 +138,7 @@ fn brackets_show(
 ) -> Result<(), Fail> {
     let text = brackets(alloc, n)?;
     let expected = bracket_levels(alloc, n, closing)?;
-    shows_turned(rt, alloc, &text, &expected, rising)
+    shows_turned(rt, alloc, 256, &text, &expected, rising)
 }
 
 #[test]
@@ -162,7 +155,7 @@ fn stops_at_64_open_brackets(rt: HostRuntime) -> Result<(), Fail> {
 fn resets_isolates_up_to_the_end(rt: HostRuntime) -> Result<(), Fail> {
     let text = vec![in rt.alloc(); unit(Class::RLI); 16_000]?;
     let expected = vec![in rt.alloc(); Level::new(0); 16_000]?;
-    shows_turned(&rt, rt.alloc(), &text, &expected, 16_000)
+    shows_turned(&rt, rt.alloc(), 16_000, &text, &expected, 16_000)
 }
 
 /// The level 0, the odd numbers below 126 as levels, 15,936 times the last of them, and the level 126.
@@ -188,7 +181,7 @@ fn nests_isolates_deeply(rt: HostRuntime) -> Result<(), Fail> {
     let text = nested_isolates(rt.alloc())?;
     let mut expected = Vec::new(rt.alloc());
     write_nested_levels(&mut expected)?;
-    shows_turned(&rt, rt.alloc(), &text, &expected, 1)
+    shows_turned(&rt, rt.alloc(), 16_001, &text, &expected, 1)
 }
 
 /// Lays out RLE, LRE and R by a depth, and expects this level of the last alone.
@@ -202,17 +195,12 @@ fn level_by_depth(rt: &impl Abort, room: &mut Scratch, depth: u8, level: u8) -> 
     Ok(())
 }
 
-/// The same in a new room.
-fn level_in_new_room(rt: &impl Abort, alloc: Global, depth: u8, level: u8) -> Result<(), Fail> {
-    let mut room = Scratch::with_room(alloc, 3)?;
-    level_by_depth(rt, &mut room, depth, level)
-}
-
-/// X4: at depth 1 the LRE, which asks for level 2, is refused.
+/// X4: at depth 1 the LRE, which asks for level 2, is refused. One room serves all depths.
 #[test]
 fn lays_out_by_the_limits_that_are_handed_in(rt: HostRuntime) -> Result<(), Fail> {
+    let mut room = Scratch::with_room(rt.alloc(), 3)?;
     for (depth, level) in [(1, 1), (2, 3), (125, 3)] {
-        level_in_new_room(&rt, rt.alloc(), depth, level)?;
+        level_by_depth(&rt, &mut room, depth, level)?;
     }
     Ok(())
 }

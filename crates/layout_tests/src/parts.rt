@@ -14,8 +14,8 @@ use units::class::Class;
 use units::level::{Level, ParaLevel};
 use units::steps::Steps;
 
-/// L2 of the positions from `start` up to `end`, at most 16, of a text with these levels: their order, from left to
-/// right.
+/// L2 of the positions from `start` up to `end`, at most 16, of a text with these levels, in columns that just fit: their
+/// order, from left to right.
 fn orders_counting<K: Ledger>(
     rt: &impl Abort,
     levels: &[Option<Level>],
@@ -34,7 +34,15 @@ fn orders_counting<K: Ledger>(
     let mut steps = Steps::<K>::new(blank);
     let mut order = [0; 16];
     let mut runs = [Run::default(); 16];
-    let count = write_order(levels, start, end, None, &mut runs, &mut order, &mut steps);
+    let count = write_order(
+        levels,
+        start,
+        end,
+        None,
+        &mut runs[..end],
+        &mut order[..end],
+        &mut steps,
+    );
     assert_eq!(rt; &order[..count], expected);
 }
 
