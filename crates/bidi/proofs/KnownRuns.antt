@@ -1,17 +1,17 @@
--- Small files, and what is printed of them.
+-- Small files and a class, and what is printed of them.
 use Rattle.std.specs.Prelude.{◌≡◌, ◌^◌, ◌-◌, ℕ, List, [], ◌∷◌, Option, None, Some, Result, Ok, Err, IfOk, is_ok, true, codes, refl}
 use Rattle.std.specs.Borrow.{Bor}
 use Rattle.std.specs.Char.{encode_utf8}
 use Rattle.std.specs.Fmt.{digits}
 use Rattle.std.specs.Io.KnownBytes.{Appends}
 use Rattle.std.specs.Str.{chars}
-use Rattle.std.proofs.Common.{ap, ap₂, lit≤, subst, ◌∙◌}
+use Rattle.std.proofs.Common.{ap, ap₂, lit≤, subst, sym, ◌∙◌}
 use Rattle.units.specs.Layout.{layout_of}
 use Rattle.units.specs.Rows.{layouts_compute}
 use Rattle.units.specs.Limits.{standard}
 use Rattle.units.specs.Text.{lines_of}
 use Rattle.units.specs.declared.class.Class.{Class}
-use Rattle.units.specs.declared.class.Class.TheVariants.{R}
+use Rattle.units.specs.declared.class.Class.TheVariants.{R, ON}
 use Rattle.units.specs.declared.bracket.Bracket.{Bracket}
 use Rattle.units.specs.declared.bracket.Bracket.TheVariants.{No}
 use Rattle.units.specs.declared.bracket.Key.{Key}
@@ -24,18 +24,21 @@ use Rattle.bidtests.specs.ClassesFile.{classes_line, classes_verdict}
 use Rattle.bidtests.specs.CharactersFile.{characters_line, characters_findings, characters_verdict}
 use Rattle.bidtests.specs.Verdicts.{Claim, Row, verdict_on}
 use Rattle.bidtests.specs.declared.verdict.Verdict.TheVariants.{Yes}
-use Rattle.bidi.specs.KnownRuns.{alef_line}
+use Rattle.bidi.specs.ClassWords.{classes_named}
+use Rattle.bidi.specs.KnownRuns.{alef_line, neutral_explained}
 use Rattle.bidi.specs.Judged.{HasJudged, IsClassesVerdict, IsCharactersVerdict}
 use Rattle.printing.specs.LevelsText.{code_text, levels_text}
 use Rattle.bidi.specs.MemoryFiles.{Stored, StoredFile, memory_facts}
-use Rattle.bidi.specs.Printed.{HasPrinted}
+use Rattle.bidi.specs.Printed.{HasExplained, HasPrinted}
 use Rattle.printing.specs.PrintedTexts.{printed_levels, printed_reorder}
 use Rattle.bidi.specs.ReadFiles.{AreTables}
 use Rattle.printing.specs.ReorderText.{reorder_text}
 use Rattle.bidtests.specs.VerdictText.{verdict_text}
+use Rattle.explain.specs.Explained.{explained_classes}
+use Rattle.explain.specs.ExplainedRows.{no_strong}
 use Rattle.bidi.specs.Outcomes.{IsDone}
 use Rattle.bidi.specs.declared.request.FileKind.TheVariants.{Classes, Characters}
-use Rattle.bidi.specs.declared.request.Request.TheVariants.{Levels, Reorder, Judge}
+use Rattle.bidi.specs.declared.request.Request.TheVariants.{Levels, Reorder, ExplainClasses, Judge}
 use Rattle.bidi.specs.declared.fault.Fault.{Fault}
 use Rattle.bidi.specs.declared.outcome.Outcome.{Outcome}
 use Rattle.bidi.specs.declared.outcome.Outcome.TheVariants.{Judged, Printed, Helped}
@@ -121,6 +124,17 @@ line_of_alef before after h =
     (alef_units h.tables h.stated) ∙ line_row (glyph_by h.tables.mirrors) image in
     subst (λ (bytes : List ℕ). Appends before after bytes) printed h.said
 
+-- the class of a word that names ON
+neutral_row : classes_named (codes "ON") ≡ Some (ON ∷ [])
+neutral_row = refl
+
+pub explanation_of_neutral : (before after : Option (List ℕ))
+    → HasExplained (codes "ON") Auto before after → Appends before after neutral_explained
+explanation_of_neutral before after h =
+    let classes : h.classes ≡ ON ∷ [] = let named = sym h.named ∙ neutral_row in cc in
+    subst (λ (bytes : List ℕ). Appends before after bytes)
+    (ap (λ (cs : List Class). explained_classes cs Auto) classes ∙ no_strong) h.said
+
 -- a standard input of one row, which is right
 abbrev pub row_bytes : List ℕ
 row_bytes = codes "@Levels: 1 1 0\n@Reorder: 1 0 2\nR B L; 1\n"
@@ -191,6 +205,13 @@ line_done files folder file before after (Judged status) e f g h = absurd h
 line_done files folder file before after Helped e f g h = absurd h
 line_done files folder file before after Printed e f g h =
     line_of_alef before after (rw (e, f, g) at h)
+
+pub explanation_done : (files : Stored) (word : Bor (List ℕ)) (before after : Option (List ℕ)) (outcome : Outcome)
+    → word.now ≡ codes "ON" → IsDone (memory_facts files) before after (ExplainClasses word Auto) outcome
+    → Appends before after neutral_explained
+explanation_done files word before after (Judged status) e h = absurd h
+explanation_done files word before after Helped e h = absurd h
+explanation_done files word before after Printed e h = explanation_of_neutral before after (rw e at h)
 
 pub verdict_done : (files : Stored) (file : Bor (List ℕ)) (before after : Option (List ℕ)) (outcome : Outcome) → files ≡ row_files
     → file.now ≡ codes "-" → IsDone (memory_facts files) before after (Judge Classes None file) outcome

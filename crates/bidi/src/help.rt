@@ -1,13 +1,14 @@
 // The texts of help and of the version.
 
-/// What `bidi` does, in a line.
+/// What `bidi` does, in a sentence.
 pub const BIDI_ABOUT: &str =
-    "Lays out texts by the Unicode Bidirectional Algorithm (UAX #9), and judges conformance files";
+    "Lays out texts by the Unicode Bidirectional Algorithm (UAX #9), shows what each of its rules
+does to a text, and judges the conformance files";
 
 /// What `bidi` does, and with which status it ends.
 pub const BIDI_LONG_ABOUT: &str =
-    "Lays out texts by the Unicode Bidirectional Algorithm (UAX #9), and judges its
-conformance files.
+    "Lays out texts by the Unicode Bidirectional Algorithm (UAX #9), shows what each of
+its rules does to a text, and judges the conformance files.
 
 Ends with status 0 where it is done or the verdict is yes, 1 where the verdict is no,
 2 where the command line is refused, and 3 where a file can't be read, a line of a

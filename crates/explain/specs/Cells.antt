@@ -1,9 +1,9 @@
 -- The cells of a row: what a rule made of a position, as bytes.
 use Rattle.std.specs.Prelude.{Option, ℕ, ◌==◌, Bool, true, false, if◌then◌else◌, List, codes, Some, None}
 use Rattle.std.specs.Fmt.{decimal}
-use Rattle.std.specs.Str.{bytes_eq}
 use Rattle.units.specs.ClassNames.{short_name}
 use Rattle.units.specs.declared.class.Class.{Class as BidiClass}
+use Rattle.paragraph.specs.ClassSets.{is_class}
 use Rattle.printing.specs.LevelsText.{code_text}
 use Rattle.explain.specs.declared.cell.Cell.{Cell}
 use Rattle.explain.specs.declared.cell.Cell.TheVariants.{Same, Removed, Class, Level}
@@ -28,7 +28,7 @@ explicit_cell (Some level) = Level level
 -- a rule that turns classes, at a position that remains or doesn't; no rule turns what is removed (X9)
 abbrev pub class_cell : Bool → BidiClass → BidiClass → Cell
 class_cell false before after = Same
-class_cell true before after = if bytes_eq (short_name before) (short_name after) then Same else Class after
+class_cell true before after = if is_class before after then Same else Class after
 
 -- a rule that turns levels; it gives none to what is removed
 abbrev pub level_cell : Option ℕ → Option ℕ → Cell

@@ -46,7 +46,7 @@ pub fn explicit_cell(level: Option<Level>) -> Cell
 pub fn class_cell(remains: bool, before: Class, after: Class) -> Cell
     ensures { result ≡ class_cell remains before after }
 {
-    if remains && before.short() != after.short() {
+    if remains && before != after {
         return Cell::Class(after);
     }
     Cell::Same

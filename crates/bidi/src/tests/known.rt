@@ -1,6 +1,6 @@
-// Runs over files in memory whose printed bytes a contract says.
+// Runs over files in memory, and of a class, whose printed bytes a contract says.
 ghost use Rattle.std.specs.Prelude.{◌≡◌, ◌++◌, codes, true};
-ghost use Rattle.bidi.specs.KnownRuns.{alef_line};
+ghost use Rattle.bidi.specs.KnownRuns.{alef_line, neutral_explained};
 
 use crate::performing::perform;
 use crate::request::{FileKind, Request};
@@ -49,6 +49,18 @@ fn print_lines_of_alef(alloc: Global, tables: &str, file: &str, out: &mut Vec<u8
     perform(alloc, request, &MemoryFiles::new(&files), out).is_ok()
 }
 
+/// Prints what each rule does to a neutral, and answers whether that was done.
+fn explain_a_neutral(alloc: Global, classes: &str, out: &mut Vec<u8>) -> bool
+    requires { classes.now ≡ codes "ON" }
+    ensures { result ≡ true → out.new.items ≡ out.old.items ++ neutral_explained }
+{
+    let request = Request::ExplainClasses {
+        classes,
+        direction: Direction::Auto,
+    };
+    perform(alloc, request, &MemoryFiles::new(&[]), out).is_ok()
+}
+
 /// Judges a standard input of one row, which is right, and answers whether that was done.
 fn judge_a_right_row(alloc: Global, file: &str, out: &mut Vec<u8>) -> bool
     requires { file.now ≡ codes "-" }
@@ -95,10 +107,22 @@ fn prints_what_the_contracts_say(rt: HostRuntime) {
     let mut out = Vec::new(alloc);
     assert!(rt; print_levels_of_alef(alloc, "t", "FILE", &mut out));
     assert!(rt; print_lines_of_alef(alloc, "t", "FILE", &mut out));
+    assert!(rt; explain_a_neutral(alloc, "ON", &mut out));
     assert!(rt; judge_a_right_row(alloc, "-", &mut out));
     assert!(rt; judge_a_right_row_of_characters(alloc, "t", "FILE", &mut out));
     assert_eq!(rt;
         out.as_slice(),
-        b"paragraph 0 level 1\n0 05D0 R 1\n\xd7\x90\nyes: 1 rows, 1 cases\nyes: 1 rows, 1 cases\n".as_slice()
+        b"paragraph 0 level 1
+0 05D0 R 1
+\xd7\x90
+paragraph 0 level 0: no strong character
+position code class level X W1 W2 W3 W4 W5 W6 W7 N0 N1 N2 I L1
+0 - ON 0 . . . . . . . . . L . . .
+sequence 0 level 0 sos L eos L: 0
+order 0
+yes: 1 rows, 1 cases
+yes: 1 rows, 1 cases
+"
+            .as_slice()
     );
 }
