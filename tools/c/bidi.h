@@ -38,7 +38,7 @@ typedef struct { void *at; bool made; } bidi_judge;
 #define BIDI_NONE { 0, false }
 
 /* Statuses. A number never changes its meaning; new ones may come. A call that is refused changes nothing else than
- * the place, the fault or the length that it names. */
+ * the place, the fault or the length that it names; behind BIDI_DONE place and fault are as they were. */
 enum {
   BIDI_DONE = 0,
   BIDI_MEMORY = 1,             /* memory was refused */
