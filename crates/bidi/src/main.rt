@@ -1,4 +1,4 @@
-//! The command `bidi`: lays out bidirectional text, shows what each rule does of it, and judges conformance files of
+//! The command `bidi`: lays out bidirectional text, shows what each rule does to it, and judges conformance files of
 //! the bidirectional algorithm.
 #![tactic(auto)]
 

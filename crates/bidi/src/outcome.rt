@@ -7,7 +7,7 @@ ghost use Rattle.bidi.specs.Outcomes.{outcome_status};
 pub enum Outcome {
     /// A file was judged and its verdict printed: the verdict's exit status.
     Judged(u8),
-    /// A text was printed, by its levels or as it is shown, or what each rule does of a text or of classes.
+    /// A text was printed, by its levels or as it is shown, or what each rule does to a text or to classes.
     Printed,
     /// Help or the version was printed, as the words asked.
     Helped,

@@ -121,7 +121,7 @@ fn text_in_file<'a, F: Files>(
     read_text(alloc, &mut source, file)
 }
 
-/// What a text that was printed so comes to.
+/// What a request comes to whose text was printed, or not, as this says.
 fn outcome_of_printing<'a>(printed: Result<(), PrintFault>) -> Result<Outcome, Fault<'a>>
     ensures done { IfOk result (λ outcome. (outcome ≡ Outcome.Printed) × IsOk printed) }
     ensures fault { IfErr result EndsWriting }
@@ -195,7 +195,7 @@ fn print_reorder_of_file<'a, F: Files, W: Write>(
     outcome_of_printing(print_reorder(alloc, out, &read.tables, &read.text, direction, columns))
 }
 
-/// Prints what each rule does of the text in what FILE names, by the tables of the folder, which are read first.
+/// Prints what each rule does to the text in what FILE names, by the tables of the folder, which are read first.
 fn explain_file<'a, F: Files, W: Write>(
     alloc: Global,
     folder: &'a str,
@@ -213,7 +213,7 @@ fn explain_file<'a, F: Files, W: Write>(
     outcome_of_printing(print_explained(alloc, out, &read.tables, &read.text, direction))
 }
 
-/// Prints what each rule does of the classes that the word names.
+/// Prints what each rule does to the classes that the word names.
 fn explain_classes<'a, W: Write>(
     alloc: Global,
     word: &'a str,

@@ -42,13 +42,13 @@ pub enum Request<'a> {
         columns: Option<NonZeroU16>,
         file: &'a str,
     },
-    /// Print what each rule does of the file's text, by the tables of the folder.
+    /// Print what each rule does to the file's text, by the tables of the folder.
     Explain {
         tables: &'a str,
         direction: Direction,
         file: &'a str,
     },
-    /// Print what each rule does of the classes whose names stand in the word.
+    /// Print what each rule does to the classes whose names stand in the word.
     ExplainClasses {
         classes: &'a str,
         direction: Direction,

@@ -32,6 +32,7 @@ impl Handle {
         }
     }
 
+    /// A handle that owns what the box held.
     pub(crate) fn of(held: Box<Held>) -> Handle
         ensures { result.value ≡ Some held.value }
     {
@@ -42,6 +43,7 @@ impl Handle {
         }
     }
 
+    /// The box of what the handle owns.
     pub(crate) fn into_box(self) -> Box<Held>
         requires { IsSome self.value }
         ensures { self.value ≡ Some result.value }

@@ -29,7 +29,7 @@ pub fn new_judge(alloc: Global, limits: Limits) -> Result<Box<TableJudge>, Refus
     Box::new(alloc, judge).map_err(|_| Refusal::Memory)
 }
 
-/// Hands the tables to the judge that is held.
+/// Hands the tables to the judge that is held, if one is.
 fn give_tables(held: &mut Held, tables: Tables)
     ensures { (limits : LimitsOf) → MatchOption (judge_in (Some held.old)) ⊥ (IsFresh limits)
         → HandleWasFed limits (Some held.new) (Some tables) [] }

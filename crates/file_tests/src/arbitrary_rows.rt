@@ -5,7 +5,7 @@ use std::alloc::Global;
 use std::process::Abort;
 use std::test::Fail;
 
-/// The verdict is that the bytes are malformed, and this one.
+/// The verdict says that the bytes are malformed, and is the one on the whole.
 fn is_malformed(rt: &impl Abort, verdict: Verdict, whole: Verdict) {
     assert!(rt; matches!(verdict, Verdict::Malformed { .. }), "{verdict:?}");
     assert_eq!(rt; verdict, whole);

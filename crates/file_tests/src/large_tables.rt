@@ -50,7 +50,7 @@ fn fault_of_lines(
     Ok(fault_in(kind, alloc, &file))
 }
 
-/// Expects that one line more than is allowed is told.
+/// Expects that one line more than is allowed is told as too many.
 fn tells_too_many(rt: &impl Abort, kind: TableKind, alloc: Global) -> io::Result<()> {
     let fault = fault_of_lines(kind, alloc, MOST + 1, b"")?;
     assert_eq!(rt; fault, Some(TableFault::TooMany(65_537)));

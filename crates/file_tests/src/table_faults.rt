@@ -109,7 +109,7 @@ fn sources_that_fail(rt: HostRuntime) {
     }
 }
 
-/// The small files of each kind.
+/// The small file of each kind.
 const SMALL: [(TableKind, &[u8]); 3] = [
     (TableKind::Classes, CLASSES),
     (TableKind::Brackets, BRACKETS),

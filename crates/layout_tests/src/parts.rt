@@ -14,8 +14,8 @@ use units::class::Class;
 use units::level::{Level, ParaLevel};
 use units::steps::Steps;
 
-/// L2 of the positions from `start` up to `end`, at most 16, of a text with these levels, in columns that just fit: their
-/// order, from left to right.
+/// L2 of the positions from `start` up to `end`, at most 16, of a text with these levels, in columns that just fit:
+/// their order, from left to right.
 fn orders_counting<K: Ledger>(
     rt: &impl Abort,
     levels: &[Option<Level>],

@@ -24,6 +24,7 @@ pub(crate) struct TextColumns {
 }
 
 impl TextColumns {
+    /// Columns of `n` places.
     pub(crate) fn with_room(alloc: Global, n: usize) -> Result<TextColumns, Memory>
         ensures paras { IfOk result (λ columns. places_in columns.paras ≡ n) }
         ensures levels { IfOk result (λ columns. places_in columns.levels ≡ n) }
@@ -47,6 +48,7 @@ impl LineColumns {
     ghost use Rattle.std.specs.Prelude.{◌≡◌, ◌≤◌, ◌+◌, IfOk};
     ghost use Rattle.units.specs.Layout.{longest_text};
 
+    /// Columns for `n` lines and `n` positions.
     pub(crate) fn with_room(alloc: Global, n: usize) -> Result<LineColumns, Memory>
         requires { n ≤ longest_text }
         ensures runs { IfOk result (λ columns. places_in columns.runs ≡ n) }

@@ -65,6 +65,7 @@ impl RoomToFind {
     ghost use Rattle.std.specs.Prelude.{◌≡◌, IfOk, length};
     ghost use Rattle.explicit.specs.IsolateMaps.{room};
 
+    /// Room for `n` positions.
     fn with_room(alloc: Global, n: usize) -> Result<RoomToFind, Memory>
         ensures isolates { IfOk result (λ made. room made.isolates ≡ n) }
         ensures explicit { IfOk result (λ made. length made.explicit ≡ n) }
@@ -97,6 +98,7 @@ impl RoomToResolve {
     ghost use Rattle.std.specs.Prelude.{◌≡◌, IfOk, length};
     ghost use Rattle.std.specs.Box.{boxed_slice_len};
 
+    /// Room for `n` positions.
     fn with_room(alloc: Global, n: usize) -> Result<RoomToResolve, Memory>
         ensures pairs { IfOk result (λ made. length made.pairs ≡ n) }
         ensures before { IfOk result (λ made. boxed_slice_len made.before ≡ n) }

@@ -94,6 +94,7 @@ struct LinkColumns {
     joined: BoxedSlice<bool>,
 }
 
+/// The columns of links for `n` positions.
 fn link_columns(alloc: Global, n: usize) -> Result<LinkColumns, Memory>
     ensures links { IfOk result (λ columns. boxed_slice_len columns.links ≡ n) }
     ensures ends { IfOk result (λ columns. boxed_slice_len columns.ends ≡ n) }
