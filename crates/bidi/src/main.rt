@@ -2,26 +2,9 @@
 //! the bidirectional algorithm.
 #![tactic(auto)]
 
-mod arguments;
-mod class_names;
-mod command_line;
-mod fault;
-mod files;
-mod help;
-mod judging;
-mod opening;
-mod outcome;
-mod performing;
-mod reading;
-mod request;
-mod run;
-mod table_files;
-#[cfg(test)]
-mod tests;
-
-use fault::Fault;
-use files::SystemFiles;
-use run::run;
+use command::fault::Fault;
+use command::files::SystemFiles;
+use command::run::run;
 use std::env;
 use std::io::{self, BufWriter, Write};
 use std::process::ExitCode;

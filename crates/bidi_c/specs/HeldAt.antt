@@ -27,12 +27,12 @@ abbrev pub layout_at : BidiHandle → TextLayout
 layout_at handle = layout_held (held_at handle)
 
 -- its line with the number k
-abbrev pub line_at : BidiHandle → ℕ → LineLayout
-line_at handle k = line_held (held_at handle) k
+abbrev pub line_of_room : BidiHandle → ℕ → LineLayout
+line_of_room handle k = line_held (held_at handle) k
 
 -- L4: its line with the number k of a text of these code points, as it is shown by tables
-abbrev pub shown_at : BidiHandle → BidiHandle → List ℕ → ℕ → List ℕ
-shown_at room tables codes k = shown_line (layout_at room) (tables_at tables) codes k
+abbrev pub shown_of_room : BidiHandle → BidiHandle → List ℕ → ℕ → List ℕ
+shown_of_room room tables codes k = shown_line (layout_at room) (tables_at tables) codes k
 
 -- a room refuses the layout of a text of code points by tables for this reason
 abbrev pub RefusesLayoutAt : BidiHandle → BidiHandle → List ℕ → ℕ → List ℕ → Refusal → Type 0

@@ -3,7 +3,7 @@ ghost use Rattle.std.specs.Prelude.{◌≡◌, ◌≤◌, ◌<◌, OnOk, OnErr, 
 ghost use Rattle.bidi_held.specs.Statuses.{IsRefusedFor};
 ghost use Rattle.bidi_held.specs.Texts.{level_byte};
 ghost use Rattle.bidi_held.specs.LinesOut.{TellsLine, RefusesLine};
-ghost use Rattle.bidi_c.specs.HeldAt.{held_at, layout_at, line_at};
+ghost use Rattle.bidi_c.specs.HeldAt.{held_at, layout_at, line_of_room};
 
 use crate::bidi_handle::BidiHandle;
 use bidi_held::lines_out::{BidiLine, tell_line, write_levels, write_order_of, write_para_levels};
@@ -76,7 +76,7 @@ fn look_up_line(
     line: &mut BidiLine,
 ) -> Result<(), Refusal>
     ensures room { held_at room.new ≡ held_at room.old }
-    ensures line { OnOk result ((k < length (layout_at room.old).lines) × TellsLine (line_at room.old k) line.new) }
+    ensures line { OnOk result ((k < length (layout_at room.old).lines) × TellsLine (line_of_room room.old k) line.new) }
     ensures kept { OnErr result (line.new ≡ line.old) }
     ensures refused { IfErr result (RefusesLine (held_at room.old) k) }
 {
@@ -100,7 +100,7 @@ pub extern "C" fn bidi_line(
     line: &mut BidiLine,
 ) -> u32
     ensures room { held_at room.new ≡ held_at room.old }
-    ensures line { result ≡ 0 → (k < length (layout_at room.old).lines) × TellsLine (line_at room.old k) line.new }
+    ensures line { result ≡ 0 → (k < length (layout_at room.old).lines) × TellsLine (line_of_room room.old k) line.new }
     ensures kept { 0 < result → line.new ≡ line.old }
     ensures refused { 0 < result → IsRefusedFor (RefusesLine (held_at room.old) k) result }
 {
@@ -120,8 +120,8 @@ pub extern "C" fn bidi_order(
     order: &mut [usize],
 ) -> usize
     ensures room { held_at room.new ≡ held_at room.old }
-    ensures count { result ≡ length (line_at room.old k).order }
-    ensures written { result ≤ length order.old → take result order.new ≡ (line_at room.old k).order }
+    ensures count { result ≡ length (line_of_room room.old k).order }
+    ensures written { result ≤ length order.old → take result order.new ≡ (line_of_room room.old k).order }
     ensures behind { drop result order.new ≡ drop result order.old }
     ensures unwritten { length order.old < result → order.new ≡ order.old }
 {

@@ -4,7 +4,7 @@ ghost use Rattle.std.specs.List.{All};
 ghost use Rattle.std.specs.Char.{IsScalar};
 ghost use Rattle.bidi_held.specs.Statuses.{IsRefusedFor};
 ghost use Rattle.bidi_held.specs.Visual.{ArePlaces, IsRun, RefusesRun, span_of};
-ghost use Rattle.bidi_c.specs.HeldAt.{held_at, layout_at, line_at, shown_at};
+ghost use Rattle.bidi_c.specs.HeldAt.{held_at, layout_at, line_of_room, shown_of_room};
 
 use crate::bidi_handle::BidiHandle;
 use bidi_held::refusal::{DONE, Refusal};
@@ -22,8 +22,8 @@ pub extern "C" fn bidi_places(
     places: &mut [usize],
 ) -> usize
     ensures room { held_at room.new ≡ held_at room.old }
-    ensures count { result ≡ span_of (line_at room.old k) }
-    ensures written { result ≤ length places.old → ArePlaces (line_at room.old k) places.new }
+    ensures count { result ≡ span_of (line_of_room room.old k) }
+    ensures written { result ≤ length places.old → ArePlaces (line_of_room room.old k) places.new }
     ensures behind { drop result places.new ≡ drop result places.old }
     ensures unwritten { length places.old < result → places.new ≡ places.old }
 {
@@ -45,7 +45,7 @@ fn look_up_run(
     from: usize,
 ) -> Result<BidiRun, Refusal>
     ensures room { held_at room.new ≡ held_at room.old }
-    ensures run { IfOk result (IsRun (layout_at room.old).levels (line_at room.old k).order from) }
+    ensures run { IfOk result (IsRun (layout_at room.old).levels (line_of_room room.old k).order from) }
     ensures refused { IfErr result (RefusesRun (held_at room.old) k from) }
 {
     let Some(held) = room.take(alloc) else {
@@ -70,7 +70,7 @@ pub extern "C" fn bidi_run(
     run: &mut BidiRun,
 ) -> u32
     ensures room { held_at room.new ≡ held_at room.old }
-    ensures run { result ≡ 0 → IsRun (layout_at room.old).levels (line_at room.old k).order from run.new }
+    ensures run { result ≡ 0 → IsRun (layout_at room.old).levels (line_of_room room.old k).order from run.new }
     ensures kept { 0 < result → run.new ≡ run.old }
     ensures refused { 0 < result → IsRefusedFor (RefusesRun (held_at room.old) k from) result }
 {
@@ -98,9 +98,9 @@ pub extern "C" fn bidi_shown(
 ) -> usize
     ensures room { held_at room.new ≡ held_at room.old }
     ensures tables { held_at tables.new ≡ held_at tables.old }
-    ensures count { result ≡ length (shown_at room.old tables.old codes.now k) }
+    ensures count { result ≡ length (shown_of_room room.old tables.old codes.now k) }
     ensures written { All IsScalar codes.now → result ≤ length shown.old
-        → take result shown.new ≡ shown_at room.old tables.old codes.now k }
+        → take result shown.new ≡ shown_of_room room.old tables.old codes.now k }
     ensures behind { drop result shown.new ≡ drop result shown.old }
     ensures unwritten { length shown.old < result → shown.new ≡ shown.old }
 {

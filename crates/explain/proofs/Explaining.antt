@@ -10,7 +10,7 @@ use Rattle.explicit.proofs.OneCutting.{IsCut-paragraphs_of, joined-paragraphs_of
 use Rattle.printing.specs.LevelsText.{printed}
 use Rattle.printing.proofs.Printing.{HasPrinted, nothing_printed, one_more_printed}
 use Rattle.units.specs.declared.level.Direction.{Direction}
-use Rattle.explain.specs.Columns.{columns_of}
+use Rattle.rule_columns.specs.Columns.{columns_of}
 use Rattle.explain.specs.Explained.{explained_paragraph, paragraph_explained, start_of}
 use Rattle.explain.proofs.Finished.{all_printed}
 
@@ -58,12 +58,12 @@ module _ (text : ℕ → List ℕ) (units : List BidiUnit) where
   pub next_paragraph : (a b : Option (List ℕ)) (rest others : List (List BidiUnit)) (para : List BidiUnit) (k start : ℕ) → rest ≡ para ∷ others
       → HasExplained a b text units rest k start → IsNextParagraph units rest others para k start
   next_paragraph a b rest others para k start e h =
-      let paras = paragraphs_of units in
-      let count : length paras - k ≡ suc (length others) = sym (length-drop k paras) ∙ ap length (h.left ∙ e) in
-      let inside : k < length paras = omega (arith, count) in
-      let more : slice_index_or paras k [] ∷ drop (k + 1) paras ≡ para ∷ others = sym (drop_more paras k [] inside) ∙ h.left ∙ e in
-      let here : slice_index_or paras k [] ≡ para = cc more in
-      let size : length (slice_index_or paras k []) ≡ length para = ap length here in
+      let paragraphs = paragraphs_of units in
+      let count : length paragraphs - k ≡ suc (length others) = sym (length-drop k paragraphs) ∙ ap length (h.left ∙ e) in
+      let inside : k < length paragraphs = omega (arith, count) in
+      let more : slice_index_or paragraphs k [] ∷ drop (k + 1) paragraphs ≡ para ∷ others = sym (drop_more paragraphs k [] inside) ∙ h.left ∙ e in
+      let here : slice_index_or paragraphs k [] ≡ para = cc more in
+      let size : length (slice_index_or paragraphs k []) ≡ length para = ap length here in
       let parts = cut_front rest others para e h.cut in
       record {
         here = here;
@@ -72,8 +72,8 @@ module _ (text : ℕ → List ℕ) (units : List BidiUnit) where
         others_cut = parts.1;
         others_left = cc more;
         begins = h.begins;
-        ends = omega (arith, size, h.begins, sum_by_more length paras k [] inside);
-        fits = omega (arith, size, h.begins, sum_by_more_le length paras k [] inside, total-lengths units);
+        ends = omega (arith, size, h.begins, sum_by_more length paragraphs k [] inside);
+        fits = omega (arith, size, h.begins, sum_by_more_le length paragraphs k [] inside, total-lengths units);
       }
 
   pub one_more_explained : (a b c : Option (List ℕ)) (rest others : List (List BidiUnit)) (para : List BidiUnit) (k start : ℕ) → rest ≡ para ∷ others
@@ -94,10 +94,10 @@ module _ (text : ℕ → List ℕ) (units : List BidiUnit) where
       let count : length (paragraphs_of units) - k ≡ 0 = sym (length-drop k (paragraphs_of units)) ∙ ap length (h.left ∙ e) in
       all_printed a b text 0 k (length (paragraphs_of units)) (omega (arith, count, h.within)) h.grown
 
-pub same_paragraph : (chars : List ℕ) (direction : Direction) (paras : List (List BidiUnit)) (para : List BidiUnit) (number k start : ℕ)
-    → number ≡ k → start ≡ start_of paras k → slice_index_or paras k [] ≡ para
-    → paragraph_explained chars para (columns_of para direction) direction start number ≡ explained_paragraph chars direction paras k
-same_paragraph chars direction paras para number k start e f h =
+pub same_paragraph : (chars : List ℕ) (direction : Direction) (paragraphs : List (List BidiUnit)) (para : List BidiUnit) (number k start : ℕ)
+    → number ≡ k → start ≡ start_of paragraphs k → slice_index_or paragraphs k [] ≡ para
+    → paragraph_explained chars para (columns_of para direction) direction start number ≡ explained_paragraph chars direction paragraphs k
+same_paragraph chars direction paragraphs para number k start e f h =
     ap (λ n. paragraph_explained chars para (columns_of para direction) direction start n) e
     ∙ ap (λ s. paragraph_explained chars para (columns_of para direction) direction s k) f
-    ∙ ap (λ us. paragraph_explained chars us (columns_of us direction) direction (start_of paras k) k) (sym h)
+    ∙ ap (λ us. paragraph_explained chars us (columns_of us direction) direction (start_of paragraphs k) k) (sym h)

@@ -1,14 +1,3 @@
-pub mod EachLevel
-pub mod EachPair
-pub mod EachSequence
 pub mod Explaining
-pub mod ExplicitParts
 pub mod Finished
-pub mod Found
-pub mod LastLevels
-pub mod NamedPositions
-pub mod NeutralPasses
-pub mod NeutralSteps
-pub mod Outside
-pub mod PuttingTogether
 pub mod SameRow

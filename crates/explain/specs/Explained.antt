@@ -13,13 +13,13 @@ use Rattle.units.specs.declared.level.Direction.{Direction}
 use Rattle.ucdfiles.specs.Tables.{TablesOf, units_by}
 use Rattle.resolve.specs.Pairs.{closer_in}
 use Rattle.printing.specs.LevelsText.{printed}
-use Rattle.explain.specs.Columns.{ColumnsOf, column_after, columns_of}
+use Rattle.rule_columns.specs.Columns.{ColumnsOf, column_after, columns_of}
 use Rattle.explain.specs.Feet.{sequence_text, pair_text, order_text}
 use Rattle.explain.specs.Heads.{head_text, decider_of}
 use Rattle.explain.specs.Rows.{row_text}
 use Rattle.explain.specs.declared.row.RowLevels.{RowLevels}
-use Rattle.explain.specs.declared.rule.Rule.{Rule}
-use Rattle.explain.specs.declared.rule.Rule.TheVariants as rule
+use Rattle.rule_columns.specs.declared.rule.Rule.{Rule}
+use Rattle.rule_columns.specs.declared.rule.Rule.TheVariants as rule
 
 -- the rules that turn classes, in the order in which they are applied
 abbrev pub rules_of_classes : List Rule
@@ -75,15 +75,20 @@ paragraph_explained chars para columns direction start k =
     ++ printed (row_at chars para columns start) 0 (length para)
     ++ foot_text columns start (length para)
 
+-- the same, by what the rules leave of it
+abbrev pub explained_from : List ℕ → List BidiUnit → Direction → ℕ → ℕ → List ℕ
+explained_from chars para direction start k =
+    paragraph_explained chars para (columns_of para direction) direction start k
+
 -- P1: where the paragraph with the number k begins: behind all that stand before it
 abbrev pub start_of : List (List BidiUnit) → ℕ → ℕ
-start_of paras k = sum_by length (take k paras)
+start_of paragraphs k = sum_by length (take k paragraphs)
 
 -- P1: the paragraph with the number k, of these
 abbrev pub explained_paragraph : List ℕ → Direction → List (List BidiUnit) → ℕ → List ℕ
-explained_paragraph chars direction paras k =
-    let para = slice_index_or paras k [] in
-    paragraph_explained chars para (columns_of para direction) direction (start_of paras k) k
+explained_paragraph chars direction paragraphs k =
+    let para = slice_index_or paragraphs k [] in
+    explained_from chars para direction (start_of paragraphs k) k
 
 -- a text of these units: its paragraphs (P1), one after another; it may have no characters, where the units are known
 -- alone

@@ -5,10 +5,10 @@ use Rattle.units.specs.Rows.{layouts_compute, plain, opens, shuts}
 use Rattle.units.specs.declared.class.Class.TheVariants.{L, R, EN, B, WS, ON, LRE, LRO, RLE, PDF}
 use Rattle.units.specs.declared.level.Direction.TheVariants.{Auto, Ltr, Rtl}
 use Rattle.printing.specs.LevelsText.{code_text}
-use Rattle.explain.specs.Columns.{columns_of}
+use Rattle.rule_columns.specs.Columns.{columns_of}
 use Rattle.explain.specs.Explained.{explained_classes, explained_units}
 use Rattle.explain.specs.Heads.{columns_text}
-use Rattle.explain.specs.Passes.{rewritten, implicit_of, closers_of}
+use Rattle.rule_columns.specs.Passes.{rewritten, implicit_of, closers_of}
 
 -- an embedding cuts the text into three sequences, of which the last one's number follows L (W7)
 pub embedding_in_the_middle : explained_classes (R ∷ ON ∷ LRE ∷ L ∷ PDF ∷ EN ∷ []) Auto

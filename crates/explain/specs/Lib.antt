@@ -1,10 +1,6 @@
 pub mod Cells
-pub mod Columns
 pub mod Explained
 pub mod ExplainedRows
 pub mod Feet
 pub mod Heads
-pub mod Inside
-pub mod Passes
-pub mod Resolved
 pub mod Rows

@@ -3,14 +3,13 @@ ghost use Rattle.std.specs.Prelude.{◌≡◌, ◌≤◌, ◌↔◌, length, map
 ghost use Rattle.std.specs.Io.KnownBytes.{Appends};
 ghost use Rattle.units.specs.Layout.{longest_text};
 ghost use Rattle.units.specs.Paragraphs.{SeparatorOnlyLast};
-ghost use Rattle.explain.specs.Columns.{columns_of};
-ghost use Rattle.explain.specs.Explained.{explained, explained_classes, explained_units, paragraph_explained, plain_unit};
+ghost use Rattle.explain.specs.Explained.{explained, explained_classes, explained_from, explained_units, plain_unit};
 
-use crate::columns::columns_of;
 use crate::paragraph_text::print_paragraph;
 use explicit::paragraphs;
 use printing::fault::PrintFault;
 use printing::text_units::units_of;
+use rule_columns::columns::columns_of;
 use std::alloc::Global;
 use std::io::{self, Write};
 use ucdfiles::tables::Tables;
@@ -59,7 +58,7 @@ fn explain_paragraph<W: Write>(
     requires start { start ≤ longest_text }
     requires small { length para.now ≤ longest_text }
     ensures { OnOk result (Appends (W.contents w.old) (W.contents w.new)
-        (paragraph_explained chars.now para.now (columns_of para.now direction) direction start number)) }
+        (explained_from chars.now para.now direction start number)) }
 {
     let columns = columns_of(alloc, para, direction)?;
     written(print_paragraph(w, chars, para, &columns, direction, start, number))

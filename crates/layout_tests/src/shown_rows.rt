@@ -37,6 +37,14 @@ fn gives(rt: &impl Abort, mut shown: Shown, expected: &[char]) {
     assert_eq!(rt; shown.next(), None);
 }
 
+/// Compares levels with these numbers.
+fn has_levels(rt: &impl Abort, levels: &[Option<Level>], numbers: &[u8]) {
+    assert_eq!(rt; levels.len(), numbers.len());
+    for (level, number) in levels.iter().zip(numbers) {
+        assert_eq!(rt; *level, Level::new(*number));
+    }
+}
+
 /// Lays out a text from left to right on one line, and compares its levels and what is shown of its characters.
 fn is_shown(
     rt: &impl Abort,
@@ -53,14 +61,6 @@ fn is_shown(
     has_levels(rt, layout.levels(), row.levels);
     gives(rt, layout.shown(mirrors, row.chars, 0), row.shown);
     Ok(())
-}
-
-/// Compares levels with these numbers.
-fn has_levels(rt: &impl Abort, levels: &[Option<Level>], numbers: &[u8]) {
-    assert_eq!(rt; levels.len(), numbers.len());
-    for (level, number) in levels.iter().zip(numbers) {
-        assert_eq!(rt; *level, Level::new(*number));
-    }
 }
 
 /// The same in a new room for four units.

@@ -4,7 +4,7 @@ ghost use Rattle.units.specs.Neutral.{after_neutral};
 ghost use Rattle.units.specs.Runs.{direction_of};
 ghost use Rattle.resolve.specs.Rewritten.{Rewrites};
 
-use crate::runs::{Run, settle};
+use crate::runs::{RunKind, settle};
 use sequences::sequence::Sequence;
 use std::sync::ledger::Ledger;
 use units::class::Class;
@@ -24,7 +24,7 @@ pub fn neutrals<L: Ledger>(s: &Sequence, classes: &mut [Class], steps: &mut Step
     let embedding = s.level().direction();
     settle(
         s.as_slice(),
-        Run::Neutrals(embedding),
+        RunKind::Neutrals(embedding),
         s.sos(),
         s.eos(),
         classes,

@@ -6,7 +6,7 @@ ghost use Rattle.units.specs.Weak.{each_run};
 ghost use Rattle.sequences.specs.Links.{ArePositions};
 ghost use Rattle.resolve.specs.Ahead.{first_class};
 ghost use Rattle.resolve.specs.Rewritten.{Rewrites};
-ghost use Rattle.stages.specs.Runs.{in_run, outside, taken_by};
+ghost use Rattle.stages.specs.Runs.{in_run, ends_run, taken_by};
 
 use resolve::rules::{by_sides, by_w5, is_neutral};
 use std::sync::ledger::Ledger;
@@ -15,7 +15,7 @@ use units::steps::Steps;
 
 /// Which runs.
 #[derive(Clone, Copy)]
-pub enum Run {
+pub enum RunKind {
     /// Of European number terminators (W5).
     Terminators,
 
@@ -23,7 +23,7 @@ pub enum Run {
     Neutrals(Class),
 }
 
-impl Run {
+impl RunKind {
     ghost use Rattle.stages.specs.Runs.{in_run, taken_by};
 
     /// Whether a class belongs to such a run.
@@ -31,8 +31,8 @@ impl Run {
         ensures { result ≡ in_run self class }
     {
         match self {
-            Run::Terminators => matches!(class, Class::ET),
-            Run::Neutrals(_) => is_neutral(class),
+            RunKind::Terminators => matches!(class, Class::ET),
+            RunKind::Neutrals(_) => is_neutral(class),
         }
     }
 
@@ -41,8 +41,8 @@ impl Run {
         ensures { result ≡ taken_by self before after }
     {
         match self {
-            Run::Terminators => by_w5(before, after),
-            Run::Neutrals(embedding) => by_sides(embedding, before, after),
+            RunKind::Terminators => by_w5(before, after),
+            RunKind::Neutrals(embedding) => by_sides(embedding, before, after),
         }
     }
 }
@@ -50,13 +50,13 @@ impl Run {
 /// The first class at these positions that is outside the run, or the end's.
 fn class_past<L: Ledger>(
     rest: &[u32],
-    run: Run,
+    run: RunKind,
     end: Class,
     classes: &[Class],
     steps: &mut Steps<L>,
 ) -> Class
     requires { (k : ℕ) → k < length rest.now → slice_index rest.now k < length classes.now }
-    ensures value { result ≡ first_class (outside run) (classes_at classes.now rest.now) end }
+    ensures value { result ≡ first_class (ends_run run) (classes_at classes.now rest.now) end }
     ensures at_least { steps.old + prefix_len (in_run run) (classes_at classes.now rest.now) ≤ steps.new }
     ensures at_most { steps.new ≤ steps.old + prefix_len (in_run run) (classes_at classes.now rest.now) + 1 }
 {
@@ -73,7 +73,7 @@ fn class_past<L: Ledger>(
 /// Gives each run at these positions what its two sides give.
 pub fn settle<L: Ledger>(
     positions: &[u32],
-    run: Run,
+    run: RunKind,
     start: Class,
     end: Class,
     classes: &mut [Class],

@@ -7,7 +7,7 @@ ghost use Rattle.sequences.specs.Links.{ArePositions};
 ghost use Rattle.resolve.specs.Rewritten.{Rewrites};
 
 use crate::rules::{by_w1, by_w3, is_base};
-use crate::runs::{Run, settle};
+use crate::runs::{RunKind, settle};
 use resolve::rules::{by_w2, by_w4, by_w6, by_w7};
 use sequences::sequence::Sequence;
 use std::sync::ledger::Ledger;
@@ -108,7 +108,7 @@ pub fn w5<L: Ledger>(s: &Sequence, classes: &mut [Class], steps: &mut Steps<L>)
 {
     settle(
         s.as_slice(),
-        Run::Terminators,
+        RunKind::Terminators,
         Class::ON,
         Class::ON,
         classes,

@@ -4,7 +4,7 @@ use Rattle.units.specs.Classes.{class_at, classes_at}
 use Rattle.units.specs.Weak.{each_run}
 use Rattle.std.proofs.lemmas.List.{take_rest}
 use Rattle.resolve.specs.Ahead.{first_class}
-use Rattle.stages.specs.Runs.{in_run, outside, taken_by}
+use Rattle.stages.specs.Runs.{in_run, ends_run, taken_by}
 use Rattle.resolve.proofs.Gathered.{length-classes_at}
 use Rattle.resolve.proofs.Passes.{pass_end, pass_reads, pass_within}
 use Rattle.stages.proofs.Settles.{settle_start, settle_other, settle_new, settle_same, later_ahead}
@@ -36,8 +36,8 @@ loop-k-preserved g c =
             )
             | in-None w' ↦
                 let rest : take (length ps - (c.loop-k.k + 1)) (drop (c.loop-k.k + 1) ps) ≡ drop (c.loop-k.k + 1) ps = take_rest ps (c.loop-k.k + 1) in
-                let past : w'.class_past.result ≡ first_class (outside c.args.run) (classes_at c.loop-k.classes (drop (c.loop-k.k + 1) ps)) c.args.end =
-                w'.class_past.ensures.value ∙ ap (λ qs. first_class (outside c.args.run) (classes_at c.loop-k.classes qs) c.args.end) rest in
+                let past : w'.class_past.result ≡ first_class (ends_run c.args.run) (classes_at c.loop-k.classes (drop (c.loop-k.k + 1) ps)) c.args.end =
+                w'.class_past.ensures.value ∙ ap (λ qs. first_class (ends_run c.args.run) (classes_at c.loop-k.classes qs) c.args.end) rest in
                 let least : c.loop-k.steps + 1 ≤ w.match-taken.steps = omega (arith, w'.steps-is, w'.class_past.ensures.at_least, c.tick.ensures) in
                 let most : w.match-taken.steps ≤ c.loop-k.steps + 1 + prefix_len (in_run c.args.run) (classes_at c.loop-k.classes (drop (c.loop-k.k + 1) ps)) + 1 =
                 omega (arith, w'.steps-is, w'.class_past.ensures.at_most, ap (λ qs. prefix_len (in_run c.args.run) (classes_at c.loop-k.classes qs)) rest, c.tick.ensures) in (

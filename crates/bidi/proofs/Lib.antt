@@ -1,5 +1,0 @@
-pub mod ClassNames
-pub mod FirstFaults
-pub mod KnownRuns
-pub mod SourceEnds
-pub mod TableEnds

@@ -1,0 +1,4 @@
+pub mod ClassNames
+pub mod FirstFaults
+pub mod SourceEnds
+pub mod TableEnds

@@ -1,0 +1,25 @@
+use Rattle.std.proofs.Common.{[], ◌∷◌}
+use Rattle.std.proofs.lemmas.Result.{IfErr-weaker, IfOk-weaker}
+use Rattle.command.proofs.FirstFaults.{FailsIn-behind, tables_done}
+use Rattle.command.specs.ReadFiles.{most_file_bytes}
+use Rattle.command.specs.Steps.{file_step, table_steps}
+use Rattle.command.proofs.performing.judge_file_of_characters.Goals as goal
+
+pub returns-clause-judged : goal.returns-clause-judged
+returns-clause-judged g c =
+    IfOk-weaker c.judge_file_by_tables.result _ _ (λ status h. record {
+      bytes = h.bytes;
+      read = h.read;
+      verdict = h.verdict;
+      is = (c.in_ok-tables.tables, c.in_ok-tables.ensures.tables, h.is);
+      said = h.said;
+    }) c.judge_file_by_tables.ensures.judged
+
+pub returns-clause-fault : goal.returns-clause-fault
+returns-clause-fault g c =
+    let done = tables_done _ _ _ c.in_ok-tables.ensures.tables in
+    let files = g.F.Files.facts c.args.files.now in
+    let file = c.args.file.now in
+    IfErr-weaker c.judge_file_by_tables.result _ _
+    (λ fault h. FailsIn-behind (table_steps files c.args.folder.now) (file_step files most_file_bytes file ∷ []) _ _ fault done h)
+    c.judge_file_by_tables.ensures.fault

@@ -1,0 +1,193 @@
+-- The command line, as it is read: the command with its subcommands and arguments, and the request that the values of a
+-- subcommand make.
+use Rattle.std.specs.Prelude.{◌≡◌, ◌⊎◌, List, [], ◌∷◌, Option, None, Some, Result, Ok, Err, IfOk, codes, map, option_map, pos, true, false, if◌then◌else◌}
+use Rattle.std.specs.Borrow.{Bor}
+use Rattle.std.specs.declared.num.NonZeroU16.{NonZeroU16}
+use Rattle.std.specs.declared.num.ParseIntError.{ParseIntError}
+use Rattle.std.specs.Str.{bytes_eq}
+use Rattle.std.specs.Str.Parse.{ParsesNonZeroUnsigned, digits_value, without_leading_plus}
+use Rattle.clap.specs.Faults.{fault_of}
+use Rattle.clap.specs.Kinds.{IsAmong}
+use Rattle.clap.specs.Matches.{ReadsOne}
+use Rattle.clap.specs.Simple.{App, new_app, new_rule, on_top, subcommand_of, with_rule, with_subcommand}
+use Rattle.clap.specs.Values.{kind_of}
+use Rattle.clap.specs.Walk.{Row, Rule, Text, first_of, one_of}
+use Rattle.clap.specs.declared.error.Error.{Error}
+use Rattle.clap.specs.declared.error.kind.ErrorKind.{ErrorKind}
+use Rattle.clap.specs.declared.error.kind.ErrorKind.TheVariants.{OutOfMemory}
+use Rattle.clap.specs.declared.builder.value_parser.ValueParser.TheVariants as parser
+use Rattle.units.specs.declared.level.Direction.{Direction}
+use Rattle.units.specs.declared.level.Direction.TheVariants.{Auto, Ltr, Rtl, AutoRtl}
+use Rattle.bidtests.specs.VerdictText.{direction_word}
+use Rattle.command.specs.Refusals.{kind_without_request}
+use Rattle.command.specs.declared.request.FileKind.{FileKind}
+use Rattle.command.specs.declared.request.FileKind.TheVariants.{Classes, Characters}
+use Rattle.command.specs.declared.request.Request.{Request}
+use Rattle.command.specs.declared.request.Request.TheVariants.{Levels, Reorder, Explain, ExplainClasses, Judge}
+
+-- words that a value may be
+abbrev pub Choice : Type 0
+Choice = Bor (List (Bor Text))
+
+abbrev pub words_of : Choice → List Text
+words_of choice = map (λ word. word.now) choice.now
+
+-- an option with a value, `--NAME VALUE`
+abbrev pub option_rule : Text → Rule
+option_rule name = record (new_rule name) { long = Some name; value_names = 1 }
+
+-- FILE
+abbrev pub file_rule : Rule
+file_rule = record (new_rule (codes "file")) { value_names = 1; required = true }
+
+-- --tables DIR
+abbrev pub tables_rule : Rule
+tables_rule = option_rule (codes "tables")
+
+-- --direction, which is `auto` where it is not given
+abbrev pub direction_rule : Choice → Rule
+direction_rule choice = record (option_rule (codes "direction")) {
+  defaults = codes "auto" ∷ [];
+  parser = Some (parser.Names choice);
+}
+
+-- --columns, 1 to 65,535
+abbrev pub columns_rule : Rule
+columns_rule = record (option_rule (codes "columns")) { parser = Some (parser.Signed (pos 1) (pos 65535)) }
+
+-- --classes
+abbrev pub classes_rule : Rule
+classes_rule = option_rule (codes "classes")
+
+-- --kind
+abbrev pub kind_rule : Choice → Rule
+kind_rule choice = record (option_rule (codes "kind")) { required = true; parser = Some (parser.Names choice) }
+
+abbrev pub needed : Rule → Rule
+needed rule = record rule { required = true }
+
+abbrev pub not_required : Rule → Rule
+not_required rule = record rule { required = false }
+
+abbrev pub levels_app : Choice → App
+levels_app directions = with_rule (with_rule (with_rule (new_app (codes "levels")) (needed tables_rule)) (direction_rule directions)) file_rule
+
+abbrev pub reorder_app : Choice → App
+reorder_app directions =
+    with_rule (with_rule (with_rule (with_rule (new_app (codes "reorder")) (needed tables_rule)) (direction_rule directions)) columns_rule) file_rule
+
+abbrev pub explain_app : Choice → App
+explain_app directions =
+    with_rule (with_rule (with_rule (with_rule (new_app (codes "explain")) tables_rule) classes_rule) (direction_rule directions)) (not_required file_rule)
+
+abbrev pub judge_app : Choice → App
+judge_app kinds = with_rule (with_rule (with_rule (new_app (codes "judge")) (kind_rule kinds)) tables_rule) file_rule
+
+-- the words that name directions and kinds
+abbrev pub direction_words : List Text
+direction_words = codes "auto" ∷ codes "ltr" ∷ codes "rtl" ∷ codes "auto-rtl" ∷ []
+
+abbrev pub kind_words : List Text
+kind_words = codes "classes" ∷ codes "characters" ∷ []
+
+-- the command without its subcommands: one is needed, but for help and the version
+abbrev pub bidi_top : App
+bidi_top = on_top (λ s. record s { has_version = true; subcommand_required = true }) (new_app (codes "bidi"))
+
+-- the command, whose four subcommands have these choices
+abbrev pub bidi_app : Choice → Choice → Choice → Choice → App
+bidi_app of_levels of_reorder of_explain kinds =
+    with_subcommand (with_subcommand (with_subcommand (with_subcommand bidi_top (levels_app of_levels).top) (reorder_app of_reorder).top) (explain_app of_explain).top) (judge_app kinds).top
+
+-- the command line of `bidi`
+pub record IsBidi (app : App) : Type 0 where
+  pub of_levels : Choice
+  pub of_reorder : Choice
+  pub of_explain : Choice
+  pub kinds : Choice
+  pub levels_words : words_of of_levels ≡ direction_words
+  pub reorder_words : words_of of_reorder ≡ direction_words
+  pub explain_words : words_of of_explain ≡ direction_words
+  pub kinds_words : words_of kinds ≡ kind_words
+  pub is : app ≡ bidi_app of_levels of_reorder of_explain kinds
+
+-- the word for a kind of file
+abbrev pub kind_word : FileKind → Text
+kind_word Classes = codes "classes"
+kind_word Characters = codes "characters"
+
+-- the direction that a word names: left to right, right to left, auto with right to left, and else auto
+abbrev pub direction_named : Option Text → Direction
+direction_named None = Auto
+direction_named (Some word) =
+    if bytes_eq word (direction_word Ltr) then Ltr
+    else (if bytes_eq word (direction_word Rtl) then Rtl else (if bytes_eq word (direction_word AutoRtl) then AutoRtl else Auto))
+
+-- the kind of file that a word names
+abbrev pub kind_named : Option Text → Option FileKind
+kind_named None = None
+kind_named (Some word) =
+    if bytes_eq word (kind_word Classes) then Some Classes else (if bytes_eq word (kind_word Characters) then Some Characters else None)
+
+-- a number of columns as its text is read
+abbrev pub ReadsColumns : Text → Result NonZeroU16 ParseIntError → Type 0
+ReadsColumns text r = IfOk r (λ n. n.value ≡ digits_value 10 (without_leading_plus text)) × ParsesNonZeroUnsigned 16 text r
+
+-- the columns by the text of their number, if it is given
+abbrev pub ColumnsAre : Option Text → Option NonZeroU16 → Type 0
+ColumnsAre None columns = columns ≡ None
+ColumnsAre (Some text) columns = ReadsOne ReadsColumns text columns
+
+-- the values of the subcommand of this name make this request
+abbrev pub AsksFor : Text → List Row → Request → Type 0
+AsksFor name rows (Levels tables direction file) = (name ≡ codes "levels")
+    × (first_of (codes "tables") rows ≡ Some tables.now) × (direction ≡ direction_named (first_of (codes "direction") rows))
+    × (first_of (codes "file") rows ≡ Some file.now)
+AsksFor name rows (Reorder tables direction columns file) = (name ≡ codes "reorder")
+    × (first_of (codes "tables") rows ≡ Some tables.now) × (direction ≡ direction_named (first_of (codes "direction") rows))
+    × ColumnsAre (one_of (codes "columns") rows) columns × (first_of (codes "file") rows ≡ Some file.now)
+AsksFor name rows (Explain tables direction file) = (name ≡ codes "explain")
+    × (first_of (codes "tables") rows ≡ Some tables.now) × (first_of (codes "classes") rows ≡ None)
+    × (direction ≡ direction_named (first_of (codes "direction") rows)) × (first_of (codes "file") rows ≡ Some file.now)
+AsksFor name rows (ExplainClasses classes direction) = (name ≡ codes "explain")
+    × (first_of (codes "tables") rows ≡ None) × (first_of (codes "classes") rows ≡ Some classes.now)
+    × (direction ≡ direction_named (first_of (codes "direction") rows)) × (first_of (codes "file") rows ≡ None)
+AsksFor name rows (Judge kind tables file) = (name ≡ codes "judge")
+    × (kind_named (first_of (codes "kind") rows) ≡ Some kind) × (first_of (codes "tables") rows ≡ option_map (λ folder. folder.now) tables)
+    × (first_of (codes "file") rows ≡ Some file.now)
+
+-- the subcommand that was met makes this request
+abbrev pub IsAskedBy : Option (Text × List Row) → Request → Type 0
+IsAskedBy None request = ⊥
+IsAskedBy (Some met) request = AsksFor met.0 met.1 request
+
+-- the subcommand that was met makes no request, and the error is of the kind for that, unless memory was refused
+abbrev pub MakesNone : Option (Text × List Row) → Error → Type 0
+MakesNone met error = (kind_of error ≡ OutOfMemory)
+    ⊎ ((kind_of error ≡ kind_without_request met) × ((request : Request) → ¬ (IsAskedBy met request)))
+
+-- the words pass, and this subcommand is met, with these values
+pub record HasMet (words : List Text) (met : Option (Text × List Row)) : Type 0 where
+  pub app : App
+  pub is : IsBidi app
+  pub passes : fault_of app words ≡ []
+  pub same : met ≡ subcommand_of app words
+
+-- the words make this request
+pub record IsRead (words : List Text) (request : Request) : Type 0 where
+  pub app : App
+  pub is : IsBidi app
+  pub passes : fault_of app words ≡ []
+  pub asked : IsAskedBy (subcommand_of app words) request
+
+-- the words are refused with this kind of error, or ask for help or the version; or the subcommand that was met, if one
+-- was, makes no request, and this is the kind for that
+pub record WordsAreRefused (words : List Text) (kind : ErrorKind) : Type 0 where
+  pub app : App
+  pub is : IsBidi app
+  pub refused : IsAmong kind (fault_of app words) ⊎ ((kind ≡ kind_without_request (subcommand_of app words)) × ((request : Request) → ¬ (IsAskedBy (subcommand_of app words) request)))
+
+-- what the words are read as: a request, or an error, unless memory was refused
+abbrev pub IsReadAs : List Text → Result Request Error → Type 0
+IsReadAs words (Ok request) = IsRead words request
+IsReadAs words (Err error) = (kind_of error ≡ OutOfMemory) ⊎ WordsAreRefused words (kind_of error)

@@ -1,0 +1,134 @@
+-- Worked command lines: the subcommand that the words name, and the values that they give it.
+use Rattle.std.specs.Prelude.{◌≡◌, List, [], ◌∷◌, Option, None, Some, codes, option_map, refl}
+use Rattle.clap.proofs.OnLiterals.{clap_on_literals}
+use Rattle.clap.specs.Faults.{fault_of}
+use Rattle.clap.specs.Simple.{subcommand_of}
+use Rattle.clap.specs.Walk.{Row, Text, first_of, one_of}
+use Rattle.clap.specs.declared.error.kind.ErrorKind.TheVariants.{ArgumentConflict, DisplayVersion, MissingRequiredArgument}
+use Rattle.units.specs.declared.level.Direction.{Direction}
+use Rattle.units.specs.declared.level.Direction.TheVariants.{Auto, Rtl}
+use Rattle.command.specs.CommandLine.{Choice, bidi_app, direction_named, kind_named}
+use Rattle.command.specs.Refusals.{kind_without_request}
+use Rattle.command.specs.declared.request.FileKind.{FileKind}
+use Rattle.command.specs.declared.request.FileKind.TheVariants.{Characters}
+
+-- a subcommand, with its folder, classes, direction, text of columns, kind and file
+pub record Met : Type 0 where
+  pub name : Text
+  pub tables : Option Text
+  pub classes : Option Text
+  pub direction : Direction
+  pub columns : Option Text
+  pub kind : Option FileKind
+  pub file : Option Text
+
+abbrev pub met : Text × List Row → Met
+met p = record {
+  name = p.0;
+  tables = first_of (codes "tables") p.1;
+  classes = first_of (codes "classes") p.1;
+  direction = direction_named (first_of (codes "direction") p.1);
+  columns = one_of (codes "columns") p.1;
+  kind = kind_named (first_of (codes "kind") p.1);
+  file = first_of (codes "file") p.1;
+}
+
+-- the direction is auto where none is given
+pub levels_words : (a b c kinds : Choice) → option_map met (subcommand_of (bidi_app a b c kinds)
+    (codes "bidi" ∷ codes "levels" ∷ codes "--tables" ∷ codes "t" ∷ codes "FILE" ∷ [])) ≡ Some (record {
+      name = codes "levels";
+      tables = Some (codes "t");
+      classes = None;
+      direction = Auto;
+      columns = None;
+      kind = None;
+      file = Some (codes "FILE");
+    })
+unfolding clap_on_literals
+levels_words a b c kinds = refl
+
+-- standard input
+pub input_words : (a b c kinds : Choice) → option_map met (subcommand_of (bidi_app a b c kinds)
+    (codes "bidi" ∷ codes "levels" ∷ codes "--tables" ∷ codes "t" ∷ codes "-" ∷ [])) ≡ Some (record {
+      name = codes "levels";
+      tables = Some (codes "t");
+      classes = None;
+      direction = Auto;
+      columns = None;
+      kind = None;
+      file = Some (codes "-");
+    })
+unfolding clap_on_literals
+input_words a b c kinds = refl
+
+-- the version is asked for
+pub version_words : (a b c kinds : Choice) → fault_of (bidi_app a b c kinds) (codes "bidi" ∷ codes "--version" ∷ []) ≡ DisplayVersion ∷ []
+unfolding clap_on_literals
+version_words a b c kinds = refl
+
+-- options in any order, with values behind `=` too
+pub reorder_words : (a b c kinds : Choice) → option_map met (subcommand_of (bidi_app a b c kinds)
+    (codes "bidi" ∷ codes "reorder" ∷ codes "--columns=2" ∷ codes "FILE" ∷ codes "--direction" ∷ codes "rtl" ∷ codes "--tables=t" ∷ [])) ≡ Some (record {
+      name = codes "reorder";
+      tables = Some (codes "t");
+      classes = None;
+      direction = Rtl;
+      columns = Some (codes "2");
+      kind = None;
+      file = Some (codes "FILE");
+    })
+unfolding clap_on_literals
+reorder_words a b c kinds = refl
+
+-- of a kind, with tables
+pub judge_words : (a b c kinds : Choice) → option_map met (subcommand_of (bidi_app a b c kinds)
+    (codes "bidi" ∷ codes "judge" ∷ codes "--kind" ∷ codes "characters" ∷ codes "--tables" ∷ codes "t" ∷ codes "FILE" ∷ [])) ≡ Some (record {
+      name = codes "judge";
+      tables = Some (codes "t");
+      classes = None;
+      direction = Auto;
+      columns = None;
+      kind = Some Characters;
+      file = Some (codes "FILE");
+    })
+unfolding clap_on_literals
+judge_words a b c kinds = refl
+
+-- what is explained of a text by tables
+pub explain_words : (a b c kinds : Choice) → option_map met (subcommand_of (bidi_app a b c kinds)
+    (codes "bidi" ∷ codes "explain" ∷ codes "--tables" ∷ codes "t" ∷ codes "FILE" ∷ [])) ≡ Some (record {
+      name = codes "explain";
+      tables = Some (codes "t");
+      classes = None;
+      direction = Auto;
+      columns = None;
+      kind = None;
+      file = Some (codes "FILE");
+    })
+unfolding clap_on_literals
+explain_words a b c kinds = refl
+
+-- and of classes, whose blanks stand within one word
+pub explain_classes_words : (a b c kinds : Choice) → option_map met (subcommand_of (bidi_app a b c kinds)
+    (codes "bidi" ∷ codes "explain" ∷ codes "--direction" ∷ codes "rtl" ∷ codes "--classes" ∷ codes "R ON L" ∷ [])) ≡ Some (record {
+      name = codes "explain";
+      tables = None;
+      classes = Some (codes "R ON L");
+      direction = Rtl;
+      columns = None;
+      kind = None;
+      file = None;
+    })
+unfolding clap_on_literals
+explain_classes_words a b c kinds = refl
+
+-- neither, and both: no request, and the kind of error for that
+pub explain_nothing_words : (a b c kinds : Choice)
+    → kind_without_request (subcommand_of (bidi_app a b c kinds) (codes "bidi" ∷ codes "explain" ∷ [])) ≡ MissingRequiredArgument
+unfolding clap_on_literals
+explain_nothing_words a b c kinds = refl
+
+pub explain_both_words : (a b c kinds : Choice) → kind_without_request (subcommand_of (bidi_app a b c kinds)
+    (codes "bidi" ∷ codes "explain" ∷ codes "--classes" ∷ codes "R" ∷ codes "FILE" ∷ [])) ≡ ArgumentConflict
+unfolding clap_on_literals
+explain_both_words a b c kinds = refl

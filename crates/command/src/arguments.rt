@@ -1,0 +1,90 @@
+// The arguments of the subcommands.
+ghost use Rattle.std.specs.Prelude.{◌≡◌, false};
+ghost use Rattle.clap.specs.Walk.{rule_of};
+ghost use Rattle.command.specs.CommandLine.{Choice, classes_rule, columns_rule, direction_rule, direction_words};
+ghost use Rattle.command.specs.CommandLine.{file_rule, kind_rule, kind_words, tables_rule, words_of};
+
+use clap::Arg;
+use std::alloc::Global;
+
+const DIRECTIONS: [&str; 4] = ["auto", "ltr", "rtl", "auto-rtl"];
+
+const KINDS: [&str; 2] = ["classes", "characters"];
+
+/// FILE, which is required.
+pub fn file_argument<'a>(alloc: Global) -> Arg<'a>
+    ensures rule { rule_of result ≡ file_rule }
+    ensures local { result.global ≡ false }
+{
+    Arg::new(alloc, "file")
+        .value_name("FILE")
+        .required(true)
+        .help("The file to read, or `-` for standard input")
+}
+
+/// `--tables DIR`, which may be left out.
+pub fn tables_argument<'a>(alloc: Global) -> Arg<'a>
+    ensures rule { rule_of result ≡ tables_rule }
+    ensures local { result.global ≡ false }
+{
+    Arg::new(alloc, "tables")
+        .long("tables")
+        .value_name("DIR")
+        .help("The folder of DerivedBidiClass.txt, BidiBrackets.txt and BidiMirroring.txt")
+}
+
+/// `--direction`, which is `auto` where it is left out.
+pub fn direction_argument<'a>(alloc: Global) -> Arg<'a>
+    ensures rule { (choice : Choice) × (words_of choice ≡ direction_words)
+        × (rule_of result ≡ direction_rule choice) }
+    ensures local { result.global ≡ false }
+{
+    Arg::new(alloc, "direction")
+        .long("direction")
+        .value_name("DIRECTION")
+        .default_value("auto")
+        .value_parser(DIRECTIONS.as_slice())
+        .help(
+            "The direction of each paragraph, which `auto` finds by rules P2 and P3; \
+             `auto-rtl` takes right to left where they find none",
+        )
+}
+
+/// `--columns N`, which may be left out.
+pub fn columns_argument<'a>(alloc: Global) -> Arg<'a>
+    ensures rule { rule_of result ≡ columns_rule }
+    ensures local { result.global ≡ false }
+{
+    Arg::new(alloc, "columns")
+        .long("columns")
+        .value_name("N")
+        .value_parser(clap::value_parser!(u16).range(1..))
+        .help("Breaks each paragraph's lines at every N characters, 1 to 65535")
+}
+
+/// `--classes CLASSES`, which may be left out.
+pub fn classes_argument<'a>(alloc: Global) -> Arg<'a>
+    ensures rule { rule_of result ≡ classes_rule }
+    ensures local { result.global ≡ false }
+{
+    Arg::new(alloc, "classes")
+        .long("classes")
+        .value_name("CLASSES")
+        .help("Short names of classes, with blanks between them, in the place of a text")
+}
+
+/// `--kind`, which is required.
+pub fn kind_argument<'a>(alloc: Global) -> Arg<'a>
+    ensures rule { (choice : Choice) × (words_of choice ≡ kind_words)
+        × (rule_of result ≡ kind_rule choice) }
+    ensures local { result.global ≡ false }
+{
+    Arg::new(alloc, "kind")
+        .long("kind")
+        .value_name("KIND")
+        .required(true)
+        .value_parser(KINDS.as_slice())
+        .help(
+            "The file's form: that of BidiTest.txt, or that of BidiCharacterTest.txt, which needs --tables",
+        )
+}

@@ -1,0 +1,111 @@
+// The command line of `bidi`.
+ghost use Rattle.std.specs.Prelude.{◌≡◌, false, IfOk, IsOkAnd};
+ghost use Rattle.clap.specs.Built.{AddsSubcommand};
+ghost use Rattle.clap.specs.Simple.{app_of};
+ghost use Rattle.clap.specs.declared.builder.command.Command.TheViews.{out-Command as fields_of};
+ghost use Rattle.command.specs.CommandLine.{Choice, IsBidi, bidi_top, direction_words, explain_app, judge_app, kind_words};
+ghost use Rattle.command.specs.CommandLine.{levels_app, reorder_app, words_of};
+
+use crate::arguments::{
+    classes_argument, columns_argument, direction_argument, file_argument, kind_argument,
+    tables_argument,
+};
+use crate::help;
+use clap::Command;
+use std::alloc::{AllocError, Global};
+
+fn levels_command<'a>(alloc: Global) -> Result<Command<'a>, AllocError>
+    ensures app { IfOk result (λ command. (choice : Choice) × (words_of choice ≡ direction_words)
+        × (app_of command ≡ levels_app choice)) }
+    ensures local { IfOk result (λ command. (fields_of command).has_globals ≡ false) }
+{
+    Command::new(alloc, "levels")
+        .about("Prints the levels of a text")
+        .long_about(help::LEVELS_LONG_ABOUT)
+        .after_help(help::LEVELS_EXAMPLE)
+        .arg(tables_argument(alloc).required(true))?
+        .arg(direction_argument(alloc))?
+        .arg(file_argument(alloc))
+}
+
+fn reorder_command<'a>(alloc: Global) -> Result<Command<'a>, AllocError>
+    ensures app { IfOk result (λ command. (choice : Choice) × (words_of choice ≡ direction_words)
+        × (app_of command ≡ reorder_app choice)) }
+    ensures local { IfOk result (λ command. (fields_of command).has_globals ≡ false) }
+{
+    Command::new(alloc, "reorder")
+        .about("Prints the lines of a text as they are shown")
+        .long_about(help::REORDER_LONG_ABOUT)
+        .after_help(help::REORDER_EXAMPLE)
+        .arg(tables_argument(alloc).required(true))?
+        .arg(direction_argument(alloc))?
+        .arg(columns_argument(alloc))?
+        .arg(file_argument(alloc))
+}
+
+/// The subcommand `explain`. By `clap` alone all of its arguments may be left out or stand together: which of them make
+/// a request is told by these.
+pub fn explain_command<'a>(alloc: Global) -> Result<Command<'a>, AllocError>
+    ensures app { IfOk result (λ command. (choice : Choice) × (words_of choice ≡ direction_words)
+        × (app_of command ≡ explain_app choice)) }
+    ensures local { IfOk result (λ command. (fields_of command).has_globals ≡ false) }
+{
+    Command::new(alloc, "explain")
+        .about("Prints what each rule does")
+        .long_about(help::EXPLAIN_LONG_ABOUT)
+        .after_help(help::EXPLAIN_EXAMPLE)
+        .override_usage(help::EXPLAIN_USAGE)
+        .arg(tables_argument(alloc))?
+        .arg(classes_argument(alloc))?
+        .arg(direction_argument(alloc))?
+        .arg(file_argument(alloc).required(false))
+}
+
+fn judge_command<'a>(alloc: Global) -> Result<Command<'a>, AllocError>
+    ensures app { IfOk result (λ command. (choice : Choice) × (words_of choice ≡ kind_words)
+        × (app_of command ≡ judge_app choice)) }
+    ensures local { IfOk result (λ command. (fields_of command).has_globals ≡ false) }
+{
+    Command::new(alloc, "judge")
+        .about("Judges a conformance file")
+        .long_about(help::JUDGE_LONG_ABOUT)
+        .after_help(help::JUDGE_EXAMPLE)
+        .arg(kind_argument(alloc))?
+        .arg(tables_argument(alloc))?
+        .arg(file_argument(alloc))
+}
+
+/// The command `bidi` without its subcommands, of which one is needed.
+fn bidi_alone<'a>(alloc: Global) -> Command<'a>
+    ensures app { app_of result ≡ bidi_top }
+    ensures local { (fields_of result).has_globals ≡ false }
+{
+    Command::new(alloc, "bidi")
+        .about(help::BIDI_ABOUT)
+        .long_about(help::BIDI_LONG_ABOUT)
+        .after_help(help::BIDI_EXAMPLE)
+        .version(help::BIDI_VERSION)
+        .subcommand_required(true)
+}
+
+/// A command with a subcommand, if there was memory to make that.
+fn with_made<'a>(
+    command: Command<'a>,
+    made: Result<Command<'a>, AllocError>,
+) -> Result<Command<'a>, AllocError>
+    ensures { IfOk result (λ whole. IsOkAnd made.entry
+        (λ subcommand. AddsSubcommand command.entry subcommand whole)) }
+{
+    command.subcommand(made?)
+}
+
+/// The command `bidi`, as `clap` reads its words.
+pub fn bidi_command<'a>(alloc: Global) -> Result<Command<'a>, AllocError>
+    ensures app { IfOk result (λ command. IsBidi (app_of command)) }
+    ensures local { IfOk result (λ command. (fields_of command).has_globals ≡ false) }
+{
+    let with_levels = with_made(bidi_alone(alloc), levels_command(alloc))?;
+    let with_reorder = with_made(with_levels, reorder_command(alloc))?;
+    let with_explain = with_made(with_reorder, explain_command(alloc))?;
+    with_made(with_explain, judge_command(alloc))
+}

@@ -1,0 +1,19 @@
+-- Files and standard input that all have the same bytes, of which a read fails behind the first.
+use Rattle.std.specs.Prelude.{◌≡◌, ℕ, List, ◌++◌}
+use Rattle.std.proofs.Common.{sym, ◌∙◌}
+use Rattle.command.specs.ReadFiles.{FileFacts}
+
+-- the bytes begin with these
+abbrev pub BeginsWith : List ℕ → List ℕ → Type 0
+BeginsWith bytes first = (rest : List ℕ) × (bytes ≡ first ++ rest)
+
+-- what is said of such files, by the bytes that can be read
+abbrev pub failing_facts : List ℕ → FileFacts
+failing_facts readable = record {
+  Begins = λ origin most bytes. BeginsWith readable bytes;
+  Holds = λ origin most bytes. ⊥;
+  Fails = λ origin most bytes. BeginsWith readable bytes;
+}
+
+pub begins-given : (readable left now first : List ℕ) → left ≡ readable → left ≡ first ++ now → BeginsWith readable first
+begins-given readable left now first stands given = (now, sym stands ∙ given)

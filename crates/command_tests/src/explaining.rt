@@ -1,0 +1,31 @@
+// What each rule does, of texts and of classes.
+use crate::memory::outcome_of;
+
+#[test]
+fn names_the_first_word_that_is_no_class(rt: HostRuntime) {
+    let rows: [(&str, &[u8]); 5] = [
+        ("R ON L2 x", b"bidi: L2 is no class\n"),
+        ("r", b"bidi: r is no class\n"),
+        ("R,L", b"bidi: R,L is no class\n"),
+        (" \tLeft_To_Right R", b"bidi: Left_To_Right is no class\n"),
+        ("\u{5D0}", b"bidi: \xd7\x90 is no class\n"),
+    ];
+    for (classes, line) in rows {
+        let words = ["bidi", "explain", "--classes", classes];
+        let outcome = outcome_of(rt.alloc(), &words, &[]);
+        assert_eq!(rt; outcome.status, 2, "{classes}");
+        assert!(rt; outcome.out.written().is_empty(), "{classes}");
+        assert_eq!(rt; outcome.err.written(), line, "{classes}");
+    }
+}
+
+#[test]
+fn explains_no_classes(rt: HostRuntime) {
+    for classes in ["", " ", "\t\r"] {
+        let words = ["bidi", "explain", "--classes", classes];
+        let outcome = outcome_of(rt.alloc(), &words, &[]);
+        assert_eq!(rt; outcome.status, 0, "{classes}");
+        assert!(rt; outcome.out.written().is_empty(), "{classes}");
+        assert!(rt; outcome.err.written().is_empty(), "{classes}");
+    }
+}

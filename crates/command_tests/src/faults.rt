@@ -1,0 +1,121 @@
+// Faults of words, of writing and of memory.
+use crate::command_lines::{
+    EXPLAIN, EXPLAIN_CLASSES, JUDGE_CHARACTERS, JUDGE_CLASSES, LEVELS, REORDER,
+};
+use crate::memory::{
+    FixedWriter, MemoryFiles, NoMemory, ShortWriter, outcome_of, outcome_over, tables_and,
+};
+use command::run::run;
+
+const WRONG_UNDER_RTL: &[u8] = b"@Levels: 0\n@Reorder: 0\nL; 7\n";
+
+#[test]
+fn needs_tables_for_characters_before_it_opens_a_file(rt: HostRuntime) {
+    let words = ["bidi", "judge", "--kind", "characters", "FILE"];
+    let outcome = outcome_of(rt.alloc(), &words, &[]);
+    assert_eq!(rt; outcome.status, 2);
+    assert!(rt; outcome.out.written().is_empty());
+    assert_eq!(rt;
+        outcome.err.written(),
+        b"bidi: --tables is needed\n".as_slice()
+    );
+
+    let outcome = outcome_over(rt.alloc(), &words, NoMemory);
+    assert_eq!(rt; outcome.status, 2);
+    assert_eq!(rt;
+        outcome.err.written(),
+        b"bidi: --tables is needed\n".as_slice()
+    );
+}
+
+#[test]
+fn says_that_a_write_failed(rt: HostRuntime) {
+    let alloc = rt.alloc();
+    let help: [&str; 2] = ["bidi", "--help"];
+    let rows: [(&[&str], usize, bool); 13] = [
+        (&JUDGE_CLASSES, 5, true),
+        (&JUDGE_CLASSES, 100, false),
+        (&JUDGE_CHARACTERS, 5, true),
+        (&JUDGE_CHARACTERS, 100, false),
+        (&LEVELS, 5, true),
+        (&LEVELS, 100, false),
+        (&REORDER, 1, true),
+        (&REORDER, 100, false),
+        (&EXPLAIN, 5, true),
+        (&EXPLAIN, 1000, false),
+        (&EXPLAIN_CLASSES, 5, true),
+        (&EXPLAIN_CLASSES, 1000, false),
+        (&help, 5, true),
+    ];
+    let files = tables_and(b"#1");
+    for (words, left, flushes) in rows {
+        let mut out = ShortWriter { left, flushes };
+        let mut err = FixedWriter::new();
+        let files = MemoryFiles::new(&files);
+        let status = run(alloc, words, &files, &mut out, &mut err);
+        assert_eq!(rt; status, 3, "{words:?}");
+        assert_eq!(rt;
+            err.written(),
+            b"bidi: cannot write\n".as_slice(),
+            "{words:?}"
+        );
+    }
+}
+
+#[test]
+fn keeps_the_status_where_the_fault_line_is_not_taken(rt: HostRuntime) {
+    let rows: [(&[&str], u8); 5] = [
+        (&JUDGE_CLASSES, 3),
+        (&JUDGE_CHARACTERS, 3),
+        (&["bidi", "judge", "--kind", "characters", "FILE"], 2),
+        (&["bidi", "explain", "--classes", "R x"], 2),
+        (&["bidi", "other"], 2),
+    ];
+    for (words, status) in rows {
+        let mut out = FixedWriter::new();
+        let mut err = ShortWriter {
+            left: 5,
+            flushes: false,
+        };
+        let files = MemoryFiles::new(&[]);
+        let answer = run(rt.alloc(), words, &files, &mut out, &mut err);
+        assert_eq!(rt; answer, status, "{words:?}");
+    }
+}
+
+#[test]
+fn says_that_a_file_found_no_memory(rt: HostRuntime) {
+    let outcome = outcome_over(rt.alloc(), &JUDGE_CLASSES, NoMemory);
+    assert_eq!(rt; outcome.status, 3);
+    assert!(rt; outcome.out.written().is_empty());
+    assert_eq!(rt; outcome.err.written(), b"bidi: out of memory\n".as_slice());
+}
+
+// To be run with each allocation failing in turn.
+#[test]
+fn answers_as_ever_or_says_that_memory_was_refused(rt: HostRuntime) {
+    let rows: [(&[&str], u8, &[u8], &[u8]); 8] = [
+        (&LEVELS, 0, b"paragraph 0 level 0\n0 0040 L 0\n", b""),
+        (&REORDER, 0, b"@Levels: 0\n@Reorder: 0\nL; 7\n", b""),
+        (&EXPLAIN, 0, b"paragraph 0 level 0", b""),
+        (&EXPLAIN_CLASSES, 0, b"paragraph 0 level 1", b""),
+        (&JUDGE_CLASSES, 1, b"no: line 3: rtl: levels at 0\n", b""),
+        (
+            &JUDGE_CHARACTERS,
+            1,
+            b"no: line 1: malformed: FieldCount\n",
+            b"",
+        ),
+        (&["bidi", "judge", "--help"], 0, b"Judges ", b""),
+        (&["bidi", "other"], 2, b"", b"error: "),
+    ];
+    for (words, status, out, err) in rows {
+        let outcome = outcome_of(rt.alloc(), words, &tables_and(WRONG_UNDER_RTL));
+        let said = outcome.err.written();
+        let refused = outcome.status == 3 && said == b"bidi: out of memory\n".as_slice();
+        let as_ever = outcome.status == status
+            && outcome.out.written().starts_with(out)
+            && said.starts_with(err);
+        assert!(rt; refused || as_ever, "{words:?}");
+    }
+}

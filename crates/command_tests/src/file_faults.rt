@@ -1,0 +1,90 @@
+// Files that can't be read, and texts that are no text.
+use crate::command_lines::{EXPLAIN, JUDGE_CLASSES, LEVELS, REORDER};
+use crate::memory::{
+    FailingFiles, FixedWriter, MemoryFile, MemoryFiles, ShortWriter, cut, outcome_of, outcome_over,
+    tables_and, whole,
+};
+use command::run::run;
+
+const WRONG_UNDER_RTL: &[u8] = b"@Levels: 0\n@Reorder: 0\nL; 7\n";
+
+#[test]
+fn says_that_a_file_was_not_read(rt: HostRuntime) {
+    let alloc = rt.alloc();
+    for files in [
+        [whole("other", WRONG_UNDER_RTL)],
+        [cut("FILE", WRONG_UNDER_RTL, 0)],
+        [cut("FILE", WRONG_UNDER_RTL, 12)],
+        [cut("FILE", WRONG_UNDER_RTL, 27)],
+    ] {
+        let outcome = outcome_of(alloc, &JUDGE_CLASSES, &files);
+        assert_eq!(rt; outcome.status, 3);
+        assert!(rt; outcome.out.written().is_empty());
+        assert_eq!(rt;
+            outcome.err.written(),
+            b"bidi: cannot read FILE\n".as_slice()
+        );
+    }
+
+    for readable in [0, 5, 12, 28] {
+        let failing = FailingFiles::new(&WRONG_UNDER_RTL[..readable]);
+        let outcome = outcome_over(alloc, &JUDGE_CLASSES, failing);
+        assert_eq!(rt; outcome.status, 3, "{readable}");
+        assert!(rt; outcome.out.written().is_empty(), "{readable}");
+        assert_eq!(rt;
+            outcome.err.written(),
+            b"bidi: cannot read FILE\n".as_slice(),
+            "{readable}"
+        );
+    }
+}
+
+#[test]
+fn names_the_file_by_its_word(rt: HostRuntime) {
+    let [classes, brackets, mirrors, _] = tables_and(b"");
+    let files = [classes, brackets, mirrors, whole("latin1", b"\xff")];
+    let rows: [(&[&str], &[u8]); 3] = [
+        (
+            &["bidi", "judge", "--kind", "classes", "none"],
+            b"bidi: cannot read none\n",
+        ),
+        (
+            &["bidi", "levels", "--tables", "t", "none"],
+            b"bidi: cannot read none\n",
+        ),
+        (
+            &["bidi", "reorder", "--tables", "t", "latin1"],
+            b"bidi: latin1: not UTF-8\n",
+        ),
+    ];
+    for (words, line) in rows {
+        let outcome = outcome_of(rt.alloc(), words, &files);
+        assert_eq!(rt; outcome.status, 3, "{words:?}");
+        assert_eq!(rt; outcome.err.written(), line, "{words:?}");
+    }
+}
+
+#[test]
+fn says_that_a_text_was_not_read(rt: HostRuntime) {
+    let [classes, brackets, mirrors, _] = tables_and(b"");
+    let rows: [(MemoryFile<'_>, &[u8]); 4] = [
+        (whole("FILE", b"\xff"), b"bidi: FILE: not UTF-8\n"),
+        (whole("FILE", b"a\xd7"), b"bidi: FILE: not UTF-8\n"),
+        (cut("FILE", b"\xff\xff", 1), b"bidi: cannot read FILE\n"),
+        (whole("other", b""), b"bidi: cannot read FILE\n"),
+    ];
+    for (file, line) in rows {
+        let files = [classes, brackets, mirrors, file];
+        for words in [LEVELS, REORDER, EXPLAIN] {
+            let mut out = ShortWriter {
+                left: 0,
+                flushes: false,
+            };
+            let mut err = FixedWriter::new();
+            let files = MemoryFiles::new(&files);
+            let status = run(rt.alloc(), &words, &files, &mut out, &mut err);
+            assert_eq!(rt; status, 3);
+            assert_eq!(rt; err.written(), line);
+        }
+    }
+}

@@ -1,0 +1,68 @@
+//! Standard input in the place of a file.
+use crate::memory::{MemoryFile, MemoryFiles, cut, outcome_over, tables_and, whole};
+
+const LEVELS: [&str; 5] = ["bidi", "levels", "--tables", "t", "-"];
+
+const REORDER: [&str; 5] = ["bidi", "reorder", "--tables", "t", "-"];
+
+const JUDGE: [&str; 5] = ["bidi", "judge", "--kind", "classes", "-"];
+
+const JUDGE_CHARACTERS: [&str; 7] = [
+    "bidi",
+    "judge",
+    "--kind",
+    "characters",
+    "--tables",
+    "t",
+    "-",
+];
+
+#[test]
+fn reads_standard_input(rt: HostRuntime) {
+    let rows: [(&[&str], &[u8], &[u8]); 4] = [
+        (&LEVELS, b"\xd7\x90", b"paragraph 0 level 1\n0 05D0 R 1\n"),
+        (&REORDER, b"\xd7\x90 a", b"a \xd7\x90\n"),
+        (
+            &JUDGE,
+            b"@Levels: 1 1 0\n@Reorder: 1 0 2\nR B L; 1\n",
+            b"yes: 1 rows, 1 cases\n",
+        ),
+        (
+            &JUDGE_CHARACTERS,
+            b"0061;0;0;0;0\n",
+            b"yes: 1 rows, 1 cases\n",
+        ),
+    ];
+    for (words, bytes, printed) in rows {
+        let files = tables_and(b"");
+        let files = MemoryFiles::new(&files).with_input(whole("", bytes));
+        let outcome = outcome_over(rt.alloc(), words, files);
+        assert_eq!(rt; outcome.status, 0, "{words:?}");
+        assert_eq!(rt; outcome.out.written(), printed, "{words:?}");
+        assert!(rt; outcome.err.written().is_empty(), "{words:?}");
+    }
+}
+
+// A file of that name is no standard input, whether there is one or its reads fail.
+#[test]
+fn says_that_standard_input_was_not_read(rt: HostRuntime) {
+    let [classes, brackets, mirrors, _] = tables_and(b"");
+    let files = [classes, brackets, mirrors, whole("-", b"")];
+    let inputs: [Option<MemoryFile<'_>>; 2] = [None, Some(cut("", b"abc", 2))];
+    for input in inputs {
+        for words in [LEVELS, REORDER, JUDGE] {
+            let files = match input {
+                Some(input) => MemoryFiles::new(&files).with_input(input),
+                None => MemoryFiles::new(&files),
+            };
+            let outcome = outcome_over(rt.alloc(), &words, files);
+            assert_eq!(rt; outcome.status, 3, "{words:?}");
+            assert!(rt; outcome.out.written().is_empty(), "{words:?}");
+            assert_eq!(rt;
+                outcome.err.written(),
+                b"bidi: cannot read -\n".as_slice(),
+                "{words:?}"
+            );
+        }
+    }
+}

@@ -1,0 +1,146 @@
+use crate::command_lines::{JUDGE_CHARACTERS, JUDGE_CLASSES};
+use crate::memory::{FixedWriter, outcome_of, tables_and, whole};
+
+#[test]
+fn judges_files_of_classes(rt: HostRuntime) {
+    let rows: [(&[u8], u8, &[u8]); 10] = [
+        (
+            b"@Levels: 1 1 0\n@Reorder: 1 0 2\nR B L; 1\n",
+            0,
+            b"yes: 1 rows, 1 cases\n",
+        ),
+        (
+            b"@Levels: 0\n@Reorder: 0\nL; 7\n",
+            1,
+            b"no: line 3: rtl: levels at 0\n",
+        ),
+        (
+            b"@Levels: x\n@Reorder:\nLRE; 7\n",
+            0,
+            b"yes: 1 rows, 3 cases\n",
+        ),
+        (b"", 0, b"yes: 0 rows, 0 cases\n"),
+        (b"L; 7", 1, b"no: line 1: malformed: NoExpectation\n"),
+        (
+            b"@Levels: 0\n@Reorder: 0\nL; 16\n",
+            1,
+            b"no: line 3: malformed: BitSet\n",
+        ),
+        (
+            b"@Levels: 1\n@Reorder: 0\nON; 9\n",
+            1,
+            b"no: line 3: auto: levels at 0\n",
+        ),
+        (
+            b"@Levels: 0 0\n@Reorder: 0\nL L; 2\n",
+            1,
+            b"no: line 3: ltr: order at 1\n",
+        ),
+        (
+            b"@Type: 1\n@Level: 0\n",
+            1,
+            b"no: line 2: malformed: Directive\n",
+        ),
+        (
+            b"@Levels: 0\n@Reorder: 0\nL; 4\nL; 4\nL; 16\n",
+            1,
+            b"no: line 3: rtl: levels at 0\n",
+        ),
+    ];
+    for (bytes, status, line) in rows {
+        let outcome = outcome_of(rt.alloc(), &JUDGE_CLASSES, &[whole("FILE", bytes)]);
+        assert_eq!(rt; outcome.status, status);
+        assert_eq!(rt; outcome.out.written(), line);
+        assert!(rt; outcome.err.written().is_empty(), "{status}");
+    }
+}
+
+#[test]
+fn judges_files_of_characters(rt: HostRuntime) {
+    let rows: [(&[u8], u8, &[u8]); 12] = [
+        (b"", 0, b"yes: 0 rows, 0 cases\n"),
+        (
+            b"05D0 0031 002C 0032;0;0;1 2 2 2;1 2 3 0\n0627 0031;0;0;1 2;1 0\n",
+            0,
+            b"yes: 2 rows, 2 cases\n",
+        ),
+        (
+            b"05D0 0028 0061 0029 05D1;1;1;1 1 2 1 1;4 3 2 1 0\n",
+            0,
+            b"yes: 1 rows, 1 cases\n",
+        ),
+        (
+            b"0061 2329 05D0 3009 05D1;0;0;0 0 1 0 1;0 1 2 3 4\n",
+            0,
+            b"yes: 1 rows, 1 cases\n",
+        ),
+        (b"0061;0;1;0;0\n", 1, b"no: line 1: ltr: paragraph level\n"),
+        (b"\n0061;1;1;1;0\n", 1, b"no: line 2: rtl: levels at 0\n"),
+        (
+            b"0061 0028 05D0 0029;2;0;0 0 1 0;0 1 3 2\n",
+            1,
+            b"no: line 1: auto: order at 2\n",
+        ),
+        (
+            b"0061;0;0;0;0;\n",
+            1,
+            b"no: line 1: malformed: FieldCount\n",
+        ),
+        (b";0;0;;\n", 1, b"no: line 1: malformed: EmptyRow\n"),
+        (b"D800;0;0;0;0\n", 1, b"no: line 1: malformed: CodePoint\n"),
+        (
+            b"0061;4;0;0;0\n",
+            1,
+            b"no: line 1: malformed: DirectionField\n",
+        ),
+        (
+            b"0061;3;1;0;0\n",
+            1,
+            b"no: line 1: auto-rtl: paragraph level\n",
+        ),
+    ];
+    for (bytes, status, line) in rows {
+        let outcome = outcome_of(rt.alloc(), &JUDGE_CHARACTERS, &tables_and(bytes));
+        assert_eq!(rt; outcome.status, status);
+        assert_eq!(rt; outcome.out.written(), line);
+        assert!(rt; outcome.err.written().is_empty(), "{status}");
+    }
+}
+
+/// A comment line of so many bytes before its LF.
+const MOST_LINE: usize = 65_536;
+
+#[test]
+fn refuses_an_over_long_line(rt: HostRuntime) {
+    let mut line = [b'a'; MOST_LINE + 2];
+    line[0] = b'#';
+    line[MOST_LINE] = b'\n';
+    let outcome = outcome_of(
+        rt.alloc(),
+        &JUDGE_CLASSES,
+        &[whole("FILE", &line[..MOST_LINE + 1])],
+    );
+    assert_eq!(rt; outcome.status, 0);
+    assert_eq!(rt; outcome.out.written(), b"yes: 0 rows, 0 cases\n".as_slice());
+
+    line[MOST_LINE] = b'a';
+    line[MOST_LINE + 1] = b'\n';
+    for words in [JUDGE_CLASSES.as_slice(), JUDGE_CHARACTERS.as_slice()] {
+        let outcome = outcome_of(rt.alloc(), words, &tables_and(&line));
+        assert_eq!(rt; outcome.status, 1);
+        assert_eq!(rt;
+            outcome.out.written(),
+            b"no: line 1: malformed: LineTooLong\n".as_slice()
+        );
+    }
+}
+
+#[test]
+fn reads_no_tables_for_classes(rt: HostRuntime) {
+    let words = [
+        "bidi", "judge", "--kind", "classes", "--tables", "none", "FILE",
+    ];
+    let outcome = outcome_of(rt.alloc(), &words, &[whole("FILE", b"")]);
+    assert_eq!(rt; outcome.status, 0);
+    assert_eq!(rt; outcome.out.written(), b"yes: 0 rows, 0 cases\n".as_slice());
+}

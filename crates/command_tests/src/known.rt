@@ -1,0 +1,128 @@
+// Runs over files in memory, and of a class, whose printed bytes a contract says.
+ghost use Rattle.std.specs.Prelude.{◌≡◌, ◌++◌, codes, true};
+ghost use Rattle.command_tests.specs.KnownRuns.{alef_line, neutral_explained};
+
+use crate::memory::{MemoryFiles, whole};
+use command::performing::perform;
+use command::request::{FileKind, Request};
+use std::alloc::Global;
+use units::level::Direction;
+
+/// Prints the levels of a file that holds an alef, and answers whether that was done.
+fn print_levels_of_alef(alloc: Global, tables: &str, file: &str, out: &mut Vec<u8>) -> bool
+    requires tables { tables.now ≡ codes "t" }
+    requires file { file.now ≡ codes "FILE" }
+    ensures { result ≡ true → out.new.items ≡ out.old.items ++ codes "paragraph 0 level 1\n0 05D0 R 1\n" }
+{
+    let files = [
+        whole("t/DerivedBidiClass.txt", b"05D0 ; R\n"),
+        whole("t/BidiBrackets.txt", b""),
+        whole("t/BidiMirroring.txt", b""),
+        whole("FILE", b"\xd7\x90"),
+    ];
+    let request = Request::Levels {
+        tables,
+        direction: Direction::Auto,
+        file,
+    };
+    perform(alloc, request, &MemoryFiles::new(&files), out).is_ok()
+}
+
+/// Prints the lines of a file that holds an alef, and answers whether that was done.
+fn print_lines_of_alef(alloc: Global, tables: &str, file: &str, out: &mut Vec<u8>) -> bool
+    requires tables { tables.now ≡ codes "t" }
+    requires file { file.now ≡ codes "FILE" }
+    ensures { result ≡ true → out.new.items ≡ out.old.items ++ alef_line }
+{
+    let files = [
+        whole("t/DerivedBidiClass.txt", b"05D0 ; R\n"),
+        whole("t/BidiBrackets.txt", b""),
+        whole("t/BidiMirroring.txt", b""),
+        whole("FILE", b"\xd7\x90"),
+    ];
+    let request = Request::Reorder {
+        tables,
+        direction: Direction::Auto,
+        columns: None,
+        file,
+    };
+    perform(alloc, request, &MemoryFiles::new(&files), out).is_ok()
+}
+
+/// Prints what each rule does to a neutral, and answers whether that was done.
+fn explain_a_neutral(alloc: Global, classes: &str, out: &mut Vec<u8>) -> bool
+    requires { classes.now ≡ codes "ON" }
+    ensures { result ≡ true → out.new.items ≡ out.old.items ++ neutral_explained }
+{
+    let request = Request::ExplainClasses {
+        classes,
+        direction: Direction::Auto,
+    };
+    perform(alloc, request, &MemoryFiles::new(&[]), out).is_ok()
+}
+
+/// Judges a standard input of one row, which is right, and answers whether that was done.
+fn judge_a_right_row(alloc: Global, file: &str, out: &mut Vec<u8>) -> bool
+    requires { file.now ≡ codes "-" }
+    ensures { result ≡ true → out.new.items ≡ out.old.items ++ codes "yes: 1 rows, 1 cases\n" }
+{
+    let input = whole("", b"@Levels: 1 1 0\n@Reorder: 1 0 2\nR B L; 1\n");
+    let files = MemoryFiles::new(&[]).with_input(input);
+    let request = Request::Judge {
+        kind: FileKind::Classes,
+        tables: None,
+        file,
+    };
+    perform(alloc, request, &files, out).is_ok()
+}
+
+/// Judges a file of one row of characters, which is right, and answers whether that was done.
+fn judge_a_right_row_of_characters(
+    alloc: Global,
+    tables: &str,
+    file: &str,
+    out: &mut Vec<u8>,
+) -> bool
+    requires tables { tables.now ≡ codes "t" }
+    requires file { file.now ≡ codes "FILE" }
+    ensures { result ≡ true → out.new.items ≡ out.old.items ++ codes "yes: 1 rows, 1 cases\n" }
+{
+    let files = [
+        whole("t/DerivedBidiClass.txt", b"05D0 ; R\n"),
+        whole("t/BidiBrackets.txt", b""),
+        whole("t/BidiMirroring.txt", b""),
+        whole("FILE", b"05D0;2;1;1;0\n"),
+    ];
+    let request = Request::Judge {
+        kind: FileKind::Characters,
+        tables: Some(tables),
+        file,
+    };
+    perform(alloc, request, &MemoryFiles::new(&files), out).is_ok()
+}
+
+#[test]
+fn prints_what_the_contracts_say(rt: HostRuntime) {
+    let alloc = rt.alloc();
+    let mut out = Vec::new(alloc);
+    assert!(rt; print_levels_of_alef(alloc, "t", "FILE", &mut out));
+    assert!(rt; print_lines_of_alef(alloc, "t", "FILE", &mut out));
+    assert!(rt; explain_a_neutral(alloc, "ON", &mut out));
+    assert!(rt; judge_a_right_row(alloc, "-", &mut out));
+    assert!(rt; judge_a_right_row_of_characters(alloc, "t", "FILE", &mut out));
+    assert_eq!(rt;
+        out.as_slice(),
+        b"paragraph 0 level 1
+0 05D0 R 1
+\xd7\x90
+paragraph 0 level 0: no strong character
+position code class level X W1 W2 W3 W4 W5 W6 W7 N0 N1 N2 I L1
+0 - ON 0 . . . . . . . . . L . . .
+sequence 0 level 0 sos L eos L: 0
+order 0
+yes: 1 rows, 1 cases
+yes: 1 rows, 1 cases
+"
+            .as_slice()
+    );
+}

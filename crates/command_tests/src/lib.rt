@@ -1,0 +1,32 @@
+//! Tests of the command: its runs over files, standard input and writers in memory. They stand here, and not beside
+//! what they test, so that no crate is proved a second time with its tests.
+#![tactic(auto)]
+
+#[cfg(test)]
+mod command_lines;
+#[cfg(test)]
+mod explaining;
+#[cfg(test)]
+mod faults;
+#[cfg(test)]
+mod file_faults;
+#[cfg(test)]
+mod input;
+#[cfg(test)]
+mod judge;
+#[cfg(test)]
+mod known;
+#[cfg(test)]
+mod large;
+#[cfg(test)]
+mod levels;
+#[cfg(test)]
+mod memory;
+#[cfg(test)]
+mod reorder;
+#[cfg(test)]
+mod table_faults;
+#[cfg(test)]
+mod unread;
+#[cfg(test)]
+mod words;

@@ -1,0 +1,56 @@
+use crate::memory::{outcome_of, tables_and};
+
+#[test]
+fn prints_the_lines_of_a_file_as_they_are_shown(rt: HostRuntime) {
+    let rows: [(&[&str], &[u8], &[u8]); 6] = [
+        (
+            &[
+                "bidi",
+                "reorder",
+                "--direction",
+                "ltr",
+                "--columns",
+                "2",
+                "--tables",
+                "t",
+                "FILE",
+            ],
+            b"\xd7\x90 \xd7\x91",
+            b"\xd7\x90 \n\xd7\x91\n",
+        ),
+        (
+            &["bidi", "reorder", "--tables", "t", "FILE"],
+            b"\xd7\x90<\xd7\x91",
+            b"\xd7\x91>\xd7\x90\n",
+        ),
+        (
+            &["bidi", "reorder", "--tables", "t", "FILE"],
+            b"\xd7\x90 a",
+            b"a \xd7\x90\n",
+        ),
+        (
+            &["bidi", "reorder", "--tables", "t", "--columns", "1", "FILE"],
+            b"\xd7\x90\na",
+            b"\xd7\x90\na\n",
+        ),
+        (
+            &[
+                "bidi",
+                "reorder",
+                "--tables=t",
+                "--columns=65535",
+                "--direction=rtl",
+                "FILE",
+            ],
+            b"a1\nb",
+            b"a1\nb\n",
+        ),
+        (&["bidi", "reorder", "--tables", "t", "FILE"], b"", b""),
+    ];
+    for (words, bytes, printed) in rows {
+        let outcome = outcome_of(rt.alloc(), words, &tables_and(bytes));
+        assert_eq!(rt; outcome.status, 0, "{words:?}");
+        assert_eq!(rt; outcome.out.written(), printed, "{words:?}");
+        assert!(rt; outcome.err.written().is_empty(), "{words:?}");
+    }
+}

@@ -1,0 +1,124 @@
+// Tables that are faulty or can't be read.
+use crate::command_lines::{EXPLAIN, JUDGE_CHARACTERS, LEVELS, REORDER};
+use crate::memory::{MemoryFile, NoMemory, cut, outcome_of, outcome_over, whole};
+
+/// The names of the tables' files in the folder `t`.
+const NAMES: [&str; 3] = [
+    "t/DerivedBidiClass.txt",
+    "t/BidiBrackets.txt",
+    "t/BidiMirroring.txt",
+];
+
+/// Tables' files of these bytes, and no other file.
+fn table_files<'a>(bytes: [&'a [u8]; 3]) -> [MemoryFile<'a>; 3] {
+    [
+        whole(NAMES[0], bytes[0]),
+        whole(NAMES[1], bytes[1]),
+        whole(NAMES[2], bytes[2]),
+    ]
+}
+
+#[test]
+fn says_the_first_faulty_line_of_the_tables(rt: HostRuntime) {
+    let rows: [([&[u8]; 3], &[u8]); 10] = [
+        (
+            [b"05D0 ; R\n05CF..05D1 ; R\n", b"x", b"x"],
+            b"bidi: DerivedBidiClass.txt: line 2: Overlap\n",
+        ),
+        (
+            [b"0041 ; Left_To_Right", b"x", b"x"],
+            b"bidi: DerivedBidiClass.txt: line 1: ClassName\n",
+        ),
+        (
+            [b"0042..0041 ; L", b"", b""],
+            b"bidi: DerivedBidiClass.txt: line 1: Backwards\n",
+        ),
+        (
+            [b"#\n\n41 ; L", b"", b""],
+            b"bidi: DerivedBidiClass.txt: line 3: CodePoint\n",
+        ),
+        (
+            [b"", b"0028; 0029; n", b"x"],
+            b"bidi: BidiBrackets.txt: line 1: BracketKind\n",
+        ),
+        (
+            [b"", b"0028; 0029; o\n0028; 0029; o\n", b"x"],
+            b"bidi: BidiBrackets.txt: line 2: Twice\n",
+        ),
+        (
+            [b"", b"0028; 0029", b""],
+            b"bidi: BidiBrackets.txt: line 1: Fields\n",
+        ),
+        (
+            [b"", b"", b"0028; D800"],
+            b"bidi: BidiMirroring.txt: line 1: CodePoint\n",
+        ),
+        (
+            [b"", b"", b"0028"],
+            b"bidi: BidiMirroring.txt: line 1: Fields\n",
+        ),
+        ([b"", b"", b""], b"bidi: cannot read FILE\n"),
+    ];
+    for (bytes, line) in rows {
+        for words in [
+            JUDGE_CHARACTERS.as_slice(),
+            LEVELS.as_slice(),
+            REORDER.as_slice(),
+            EXPLAIN.as_slice(),
+        ] {
+            let outcome = outcome_of(rt.alloc(), words, &table_files(bytes));
+            assert_eq!(rt; outcome.status, 3);
+            assert!(rt; outcome.out.written().is_empty());
+            assert_eq!(rt; outcome.err.written(), line);
+        }
+    }
+}
+
+#[test]
+fn says_the_first_table_that_is_not_read(rt: HostRuntime) {
+    let alloc = rt.alloc();
+    let rows: [([MemoryFile<'_>; 3], &[u8]); 4] = [
+        (
+            [
+                whole("FILE", b""),
+                whole(NAMES[1], b"x"),
+                whole(NAMES[2], b"x"),
+            ],
+            b"bidi: cannot read DerivedBidiClass.txt\n",
+        ),
+        (
+            [
+                cut(NAMES[0], b"0041 ; L\nx", 9),
+                whole(NAMES[1], b"x"),
+                whole(NAMES[2], b""),
+            ],
+            b"bidi: cannot read DerivedBidiClass.txt\n",
+        ),
+        (
+            [
+                whole(NAMES[0], b""),
+                whole(NAMES[2], b"x"),
+                whole("FILE", b""),
+            ],
+            b"bidi: cannot read BidiBrackets.txt\n",
+        ),
+        (
+            [
+                whole(NAMES[0], b""),
+                whole(NAMES[1], b""),
+                cut(NAMES[2], b"x", 0),
+            ],
+            b"bidi: cannot read BidiMirroring.txt\n",
+        ),
+    ];
+    for (files, line) in rows {
+        let outcome = outcome_of(alloc, &JUDGE_CHARACTERS, &files);
+        assert_eq!(rt; outcome.status, 3);
+        assert!(rt; outcome.out.written().is_empty());
+        assert_eq!(rt; outcome.err.written(), line);
+    }
+
+    let outcome = outcome_over(alloc, &JUDGE_CHARACTERS, NoMemory);
+    assert_eq!(rt; outcome.status, 3);
+    assert_eq!(rt; outcome.err.written(), b"bidi: out of memory\n".as_slice());
+}

@@ -1,0 +1,125 @@
+use crate::memory::outcome_of;
+
+#[test]
+fn refuses_command_lines(rt: HostRuntime) {
+    let rows: [&[&str]; 27] = [
+        &[],
+        &["bidi"],
+        &["bidi", "other"],
+        &["bidi", "levels", "FILE"],
+        &["bidi", "levels", "--tables", "t"],
+        &[
+            "bidi",
+            "levels",
+            "--tables",
+            "t",
+            "--direction",
+            "LTR",
+            "FILE",
+        ],
+        &["bidi", "levels", "--tables", "t", "--columns", "2", "FILE"],
+        &["bidi", "reorder", "FILE"],
+        &["bidi", "reorder", "--tables", "t", "--columns", "0", "FILE"],
+        &[
+            "bidi",
+            "reorder",
+            "--tables",
+            "t",
+            "--columns",
+            "65536",
+            "FILE",
+        ],
+        &["bidi", "reorder", "--tables", "t", "--columns", "x", "FILE"],
+        &["bidi", "explain"],
+        &["bidi", "explain", "FILE"],
+        &["bidi", "explain", "--tables", "t"],
+        &["bidi", "explain", "--classes"],
+        &["bidi", "explain", "--classes", "R", "FILE"],
+        &["bidi", "explain", "--classes", "R", "--tables", "t"],
+        &["bidi", "explain", "--classes", "R", "--tables", "t", "FILE"],
+        &["bidi", "explain", "--classes", "R", "--classes", "R"],
+        &["bidi", "judge", "FILE"],
+        &["bidi", "judge", "--kind", "classes"],
+        &["bidi", "judge", "--kind", "Classes", "FILE"],
+        &["bidi", "judge", "--kind", "other", "FILE"],
+        &["bidi", "judge", "--kind", "characters", "--tables", "FILE"],
+        &[
+            "bidi",
+            "judge",
+            "--kind",
+            "classes",
+            "--direction",
+            "ltr",
+            "FILE",
+        ],
+        &[
+            "bidi", "judge", "--kind", "classes", "--kind", "classes", "FILE",
+        ],
+        &["bidi", "judge", "--kind", "classes", "FILE", "FILE"],
+    ];
+    for words in rows {
+        let outcome = outcome_of(rt.alloc(), words, &[]);
+        assert_eq!(rt; outcome.status, 2, "{words:?}");
+        assert!(rt; outcome.out.written().is_empty(), "{words:?}");
+        assert!(rt; outcome.err.written().starts_with(b"error: "), "{words:?}");
+    }
+}
+
+#[test]
+fn says_what_is_refused(rt: HostRuntime) {
+    let rows: [(&[&str], &[u8]); 4] = [
+        (
+            &["bidi", "explain", "FILE"],
+            b"error: '--tables <DIR>' and '<FILE>' are required, or '--classes <CLASSES>'\n\nUsage: bidi explain [OPTIONS] --tables <DIR> <FILE>\n       bidi explain [OPTIONS] --classes <CLASSES>\n\nFor more information, try '--help'.\n",
+        ),
+        (
+            &["bidi", "explain", "--classes", "R", "FILE"],
+            b"error: the argument '--classes <CLASSES>' cannot be used with '--tables <DIR>' or '<FILE>'\n\nUsage: bidi explain [OPTIONS] --tables <DIR> <FILE>\n       bidi explain [OPTIONS] --classes <CLASSES>\n\nFor more information, try '--help'.\n",
+        ),
+        (
+            &["bidi", "judge", "--kind", "other", "FILE"],
+            b"error: invalid value 'other' for '--kind <KIND>'\n  [possible values: classes, characters]\n\nFor more information, try '--help'.\n",
+        ),
+        (
+            &["bidi", "reorder", "--tables", "t", "--columns", "0", "FILE"],
+            b"error: invalid value '0' for '--columns <N>': 0 is not in 1..=65535\n\nFor more information, try '--help'.\n",
+        ),
+    ];
+    for (words, text) in rows {
+        let outcome = outcome_of(rt.alloc(), words, &[]);
+        assert_eq!(rt; outcome.status, 2, "{words:?}");
+        assert_eq!(rt; outcome.err.written(), text, "{words:?}");
+    }
+}
+
+#[test]
+fn prints_help(rt: HostRuntime) {
+    let rows: [(&[&str], &[u8]); 7] = [
+        (&["bidi", "--help"], b"Lays out texts "),
+        (&["bidi", "levels", "--help"], b"Prints the levels "),
+        (&["bidi", "reorder", "--help"], b"Prints the lines "),
+        (&["bidi", "explain", "-h"], b"Prints what each rule "),
+        (&["bidi", "explain", "--help"], b"Prints what each rule "),
+        (&["bidi", "judge", "-h"], b"Judges "),
+        (&["bidi", "judge", "--help"], b"Judges "),
+    ];
+    for (words, text) in rows {
+        let outcome = outcome_of(rt.alloc(), words, &[]);
+        assert_eq!(rt; outcome.status, 0, "{words:?}");
+        assert!(rt; outcome.out.written().starts_with(text), "{words:?}");
+        assert!(rt; outcome.err.written().is_empty(), "{words:?}");
+    }
+}
+
+#[test]
+fn prints_the_version(rt: HostRuntime) {
+    for word in ["--version", "-V"] {
+        let outcome = outcome_of(rt.alloc(), &["bidi", word], &[]);
+        assert_eq!(rt; outcome.status, 0, "{word}");
+        assert_eq!(rt;
+            outcome.out.written(),
+            b"bidi (rules P1 to L4 of UAX #9, Unicode 15.0)\nproved with rattle-kit-13b logic dac8208d650f15bf\n".as_slice()
+        );
+        assert!(rt; outcome.err.written().is_empty(), "{word}");
+    }
+}

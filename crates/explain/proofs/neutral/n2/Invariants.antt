@@ -1,6 +1,0 @@
-use Rattle.stages.proofs.RulePasses.{EachPass}
-use Rattle.explain.specs.Passes.{by_n2}
-use Rattle.explain.proofs.neutral.n2.Given as goal
-
-abbrev pub invariant-loop-position : goal.invariant-loop-position
-invariant-loop-position l = EachPass (by_n2 l.embedding) l.positions l.initial.classes l.classes l.position-index

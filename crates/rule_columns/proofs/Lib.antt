@@ -1,0 +1,11 @@
+pub mod EachLevel
+pub mod EachPair
+pub mod EachSequence
+pub mod ExplicitParts
+pub mod Found
+pub mod LastLevels
+pub mod NamedPositions
+pub mod NeutralPasses
+pub mod NeutralSteps
+pub mod Outside
+pub mod PuttingTogether

@@ -1,0 +1,4 @@
+pub mod Columns
+pub mod Inside
+pub mod Passes
+pub mod Resolved

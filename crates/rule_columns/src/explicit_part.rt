@@ -1,0 +1,84 @@
+//! The paragraph's level, explicit levels and sequences (P2 to X10).
+ghost use Rattle.std.specs.Prelude.{◌≡◌, length, IfOk};
+ghost use Rattle.units.specs.Classes.{classes_of};
+ghost use Rattle.units.specs.Paragraphs.{SeparatorOnlyLast};
+ghost use Rattle.explicit.specs.IsolateMaps.{IsFilledFrom};
+ghost use Rattle.paragraph.specs.Covering.{AreDisjoint};
+ghost use Rattle.rule_columns.specs.Columns.{explicit_part, explicit_view};
+
+use crate::deciding::first_strong;
+use explicit::isolates::IsolateMap;
+use explicit::levels::{Explicit, explicit_levels};
+use explicit::para_level::para_level;
+use sequences::sequences::Sequences;
+use std::alloc::Global;
+use std::sync::ledger::Ledger;
+use units::bracket::Unit;
+use units::level::{Direction, ParaLevel};
+use units::limits::Limits;
+use units::memory::Memory;
+use units::steps::Steps;
+
+/// P2 to X10 of a paragraph.
+#[derive(Drop)]
+pub struct ExplicitPart {
+    pub(crate) para_level: ParaLevel,
+    pub(crate) first_strong: Option<usize>,
+    pub(crate) places: Explicit,
+    pub(crate) sequences: Sequences,
+}
+
+impl ExplicitPart {
+    /// Of a paragraph under a direction, by its isolates and the standard limits. The error is refused memory.
+    fn by_isolates<L: Ledger>(
+        alloc: Global,
+        para: &[Unit],
+        isolates: &IsolateMap,
+        direction: Direction,
+        steps: &mut Steps<L>,
+    ) -> Result<ExplicitPart, Memory>
+        requires separators { SeparatorOnlyLast para.now }
+        requires filled { IsFilledFrom isolates.now (classes_of para.now) }
+        ensures value { IfOk result (λ part. explicit_view part ≡ explicit_part para.now direction) }
+        ensures extent { IfOk result (λ part. part.sequences.extent ≡ length para.now) }
+        ensures apart { IfOk result (λ part. AreDisjoint (length para.now) part.sequences.all) }
+        ensures length { IfOk result (λ part. length part.places ≡ length para.now) }
+    {
+        let limits = Limits::standard();
+        let mut places = Explicit::with_room(alloc, para.len())?;
+        let mut sequences = Sequences::with_room(alloc, para.len())?;
+
+        // P2, P3.
+        let level = para_level(para, isolates, direction, steps);
+        let first_strong = first_strong(para, isolates);
+
+        // X1 to X10.
+        explicit_levels(para, isolates, level, limits, &mut places, steps);
+        sequences.fill(para, isolates, &places, level, limits, steps);
+        Ok(ExplicitPart {
+            para_level: level,
+            first_strong,
+            places,
+            sequences,
+        })
+    }
+
+    /// Of a paragraph under a direction, by the standard limits. The error is refused memory.
+    pub fn of<L: Ledger>(
+        alloc: Global,
+        para: &[Unit],
+        direction: Direction,
+        steps: &mut Steps<L>,
+    ) -> Result<ExplicitPart, Memory>
+        requires { SeparatorOnlyLast para.now }
+        ensures value { IfOk result (λ part. explicit_view part ≡ explicit_part para.now direction) }
+        ensures extent { IfOk result (λ part. part.sequences.extent ≡ length para.now) }
+        ensures apart { IfOk result (λ part. AreDisjoint (length para.now) part.sequences.all) }
+        ensures length { IfOk result (λ part. length part.places ≡ length para.now) }
+    {
+        // BD9.
+        let mut isolates = IsolateMap::with_room(alloc, para.len())?;
+        isolates.fill(para, steps);
+        ExplicitPart::by_isolates(alloc, para, &isolates, direction, steps)
+    }
+}

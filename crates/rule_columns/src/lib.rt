@@ -1,0 +1,18 @@
+//! What each rule leaves of a paragraph, by position: the explicit levels, the sequences, the classes after each of W1
+//! to N2 by the plain passes, the bracket pairs, the levels after I1 and I2, after L1, and the order.
+#![tactic(auto)]
+
+mod bracketing;
+mod class_parts;
+mod classes_part;
+pub mod columns;
+mod current;
+mod deciding;
+mod explicit_part;
+mod implicit_levels;
+pub mod laws;
+mod neutral;
+mod pass;
+mod rewriting;
+pub mod rule;
+mod shown_part;

@@ -1,0 +1,46 @@
+//! A rule over all sequences of a paragraph.
+ghost use Rattle.std.specs.Prelude.{◌≡◌, length, IfOk};
+ghost use Rattle.paragraph.specs.Covering.{AreDisjoint};
+ghost use Rattle.rule_columns.specs.Passes.{by_pass, rewritten};
+
+use crate::pass::{Pass, apply};
+use sequences::sequences::Sequences;
+use std::alloc::Global;
+use std::sync::ledger::Ledger;
+use units::class::Class;
+use units::memory::Memory;
+use units::steps::Steps;
+
+/// Does what a rule says to the classes of a paragraph, sequence by sequence.
+fn rewrite<L: Ledger>(
+    pass: Pass,
+    sequences: &Sequences,
+    classes: &mut [Class],
+    steps: &mut Steps<L>,
+)
+    requires apart { AreDisjoint sequences.now.extent sequences.now.all }
+    requires length { length classes.old ≡ sequences.now.extent }
+    ensures { classes.new ≡ rewritten (by_pass pass) sequences.now.all classes.old }
+{
+    for k in 0..sequences.count() {
+        apply(pass, &sequences.get(k), classes, steps);
+    }
+}
+
+/// The classes of a paragraph after a rule, by those before it. The error is refused memory.
+pub fn rewritten<L: Ledger>(
+    alloc: Global,
+    pass: Pass,
+    sequences: &Sequences,
+    before: &[Class],
+    steps: &mut Steps<L>,
+) -> Result<Vec<Class>, Memory>
+    requires apart { AreDisjoint sequences.now.extent sequences.now.all }
+    requires length { length before.now ≡ sequences.now.extent }
+    ensures classes { IfOk result (λ classes. classes.items ≡ rewritten (by_pass pass) sequences.now.all before.now) }
+    ensures length { IfOk result (λ classes. length classes.items ≡ sequences.now.extent) }
+{
+    let mut classes = Vec::from_slice(alloc, before)?;
+    rewrite(pass, sequences, &mut classes, steps);
+    Ok(classes)
+}
