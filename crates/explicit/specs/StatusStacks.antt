@@ -53,7 +53,8 @@ refused_isolates depth cs para_level (q ∷ qs) =
 abbrev pub refused_embeddings : ℕ → List Class → ℕ → List ℕ → ℕ
 refused_embeddings depth cs para_level [] = 0
 refused_embeddings depth cs para_level (q ∷ qs) =
-    cond (is_taken depth cs para_level q qs || (is_isolate cs q || nat_lt 0 (refused_isolates depth cs para_level qs))) 0 1
+    cond (is_taken depth cs para_level q qs || (is_isolate cs q || nat_lt 0 (refused_isolates depth cs para_level qs)))
+    0 1
     + refused_embeddings depth cs para_level qs
 
 -- X1 to X8: this is what the pass keeps of these initiators

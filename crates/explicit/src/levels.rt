@@ -1,13 +1,11 @@
 //! The explicit levels of a paragraph (X1 to X9).
-ghost use Rattle.std.specs.Prelude.{◌≡◌, ◌+◌, ◌*◌, ◌<◌, ◌≤◌, ℕ, List, Option, Some, None, length, slice_index_or, IfOk, IfSome};
-ghost use Rattle.units.specs.Classes.{class_at, classes_of};
-ghost use Rattle.units.specs.Isolates.{begins_right_to_left, first_strong, level_of_para};
-ghost use Rattle.units.specs.Explicit.{wants_odd};
-ghost use Rattle.units.specs.declared.class.Class.{Class};
-ghost use Rattle.units.specs.declared.class.Class.TheVariants.{FSI};
+ghost use Rattle.std.specs.Prelude.{◌≡◌, ◌+◌, ◌*◌, ◌<◌, ◌≤◌, length, None, slice_index_or, IfOk};
+ghost use Rattle.units.specs.Classes.{classes_of};
+ghost use Rattle.units.specs.Isolates.{level_of_para};
 ghost use Rattle.explicit.specs.IsolateMaps.{IsFilledFrom};
 ghost use Rattle.explicit.specs.ExplicitLevels.{HoldsLevels, IsExplicitAt, IsWithinDepth};
 ghost use Rattle.explicit.specs.StatusStacks.{entry_count};
+ghost use Rattle.explicit.specs.WantedLevels.{IsOddWanted};
 
 use crate::isolates::IsolateMap;
 use crate::status::{StatusStack, is_ordinary};
@@ -74,9 +72,7 @@ impl Explicit {
 
 // X2, X4, X5a, X5c: whether an initiator asks for an odd level; an FSI does where what it holds begins right to left.
 fn asks_odd(class: Class, right_to_left: bool) -> bool
-    ensures { (cs : List Class) (q : ℕ) → class ≡ class_at cs q
-        → (class ≡ FSI → right_to_left ≡ begins_right_to_left cs (first_strong cs (Some q)))
-        → result ≡ wants_odd cs q class }
+    ensures { IsOddWanted class right_to_left result }
 {
     match class {
         Class::RLE | Class::RLO | Class::RLI => true,

@@ -14,8 +14,14 @@ abbrev pub HoldsPairsAfterWeak : ℕ → SequenceView → List BidiUnit → List
 HoldsPairsAfterWeak most_open s us before table =
     HoldsPairsOf most_open s.positions (brackets_of s us (after_weak s.sos (classes_at before s.positions))) table
 
+-- BD14 to N0: the sequence's classes become what its pairs make of them, with this room for open brackets, and the
+-- others stay; the units and `before`, the classes before W1, are those of its paragraph
+abbrev pub RewritesByBrackets : ℕ → SequenceView → List BidiUnit → List Class → List Class → List Class → Type 0
+RewritesByBrackets most_open s us before old new =
+    Rewrites (after_brackets most_open s us (classes_at before s.positions)) s.positions old new
+
 -- N0: whichever paragraph's pairs the table holds, the sequence's classes become what N0 makes of them by these pairs
 abbrev pub RewritesByPairs : SequenceView → List Class → List (Option ℕ) → List Class → List Class → Type 0
 RewritesByPairs s before table old new =
     (most_open : ℕ) (para : List BidiUnit) → HoldsPairs most_open s.positions para old table
-    → Rewrites (after_brackets most_open s para (classes_at before s.positions)) s.positions old new
+    → RewritesByBrackets most_open s para before old new
