@@ -1,5 +1,5 @@
 // What each rule does, of texts and of classes.
-use crate::memory::outcome_of;
+use crate::memory::{Ending, assert_run};
 
 #[test]
 fn names_the_first_word_that_is_no_class(rt: HostRuntime) {
@@ -12,10 +12,7 @@ fn names_the_first_word_that_is_no_class(rt: HostRuntime) {
     ];
     for (classes, line) in rows {
         let words = ["bidi", "explain", "--classes", classes];
-        let outcome = outcome_of(rt.alloc(), &words, &[]);
-        assert_eq!(rt; outcome.status, 2, "{classes}");
-        assert!(rt; outcome.out.written().is_empty(), "{classes}");
-        assert_eq!(rt; outcome.err.written(), line, "{classes}");
+        assert_run(&rt, rt.alloc(), &words, &[], Ending::fails(2, line));
     }
 }
 
@@ -23,9 +20,6 @@ fn names_the_first_word_that_is_no_class(rt: HostRuntime) {
 fn explains_no_classes(rt: HostRuntime) {
     for classes in ["", " ", "\t\r"] {
         let words = ["bidi", "explain", "--classes", classes];
-        let outcome = outcome_of(rt.alloc(), &words, &[]);
-        assert_eq!(rt; outcome.status, 0, "{classes}");
-        assert!(rt; outcome.out.written().is_empty(), "{classes}");
-        assert!(rt; outcome.err.written().is_empty(), "{classes}");
+        assert_run(&rt, rt.alloc(), &words, &[], Ending::prints(0, b""));
     }
 }

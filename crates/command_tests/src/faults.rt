@@ -3,29 +3,20 @@ use crate::command_lines::{
     EXPLAIN, EXPLAIN_CLASSES, JUDGE_CHARACTERS, JUDGE_CLASSES, LEVELS, REORDER,
 };
 use crate::memory::{
-    FixedWriter, MemoryFiles, NoMemory, ShortWriter, outcome_of, outcome_over, tables_and,
+    Ending, FixedWriter, MemoryFiles, NoMemory, Outcome, ShortWriter, assert_fault_over_writer,
+    assert_run, assert_run_over, outcome_of, tables_and,
 };
 use command::run::run;
+use std::alloc::Global;
 
 const WRONG_UNDER_RTL: &[u8] = b"@Levels: 0\n@Reorder: 0\nL; 7\n";
 
 #[test]
 fn needs_tables_for_characters_before_it_opens_a_file(rt: HostRuntime) {
     let words = ["bidi", "judge", "--kind", "characters", "FILE"];
-    let outcome = outcome_of(rt.alloc(), &words, &[]);
-    assert_eq!(rt; outcome.status, 2);
-    assert!(rt; outcome.out.written().is_empty());
-    assert_eq!(rt;
-        outcome.err.written(),
-        b"bidi: --tables is needed\n".as_slice()
-    );
-
-    let outcome = outcome_over(rt.alloc(), &words, NoMemory);
-    assert_eq!(rt; outcome.status, 2);
-    assert_eq!(rt;
-        outcome.err.written(),
-        b"bidi: --tables is needed\n".as_slice()
-    );
+    let needed = Ending::fails(2, b"bidi: --tables is needed\n");
+    assert_run(&rt, rt.alloc(), &words, &[], needed);
+    assert_run_over(&rt, rt.alloc(), &words, NoMemory, needed);
 }
 
 #[test]
@@ -49,17 +40,19 @@ fn says_that_a_write_failed(rt: HostRuntime) {
     ];
     let files = tables_and(b"#1");
     for (words, left, flushes) in rows {
-        let mut out = ShortWriter { left, flushes };
-        let mut err = FixedWriter::new();
-        let files = MemoryFiles::new(&files);
-        let status = run(alloc, words, &files, &mut out, &mut err);
-        assert_eq!(rt; status, 3, "{words:?}");
-        assert_eq!(rt;
-            err.written(),
-            b"bidi: cannot write\n".as_slice(),
-            "{words:?}"
-        );
+        let out = ShortWriter { left, flushes };
+        assert_fault_over_writer(&rt, alloc, words, &files, out, b"bidi: cannot write\n");
     }
+}
+
+/// The status of a run whose standard error takes five bytes.
+fn status_without_a_line(alloc: Global, words: &[&str]) -> u8 {
+    let mut out = FixedWriter::new();
+    let mut err = ShortWriter {
+        left: 5,
+        flushes: false,
+    };
+    run(alloc, words, &MemoryFiles::new(&[]), &mut out, &mut err)
 }
 
 #[test]
@@ -72,23 +65,30 @@ fn keeps_the_status_where_the_fault_line_is_not_taken(rt: HostRuntime) {
         (&["bidi", "other"], 2),
     ];
     for (words, status) in rows {
-        let mut out = FixedWriter::new();
-        let mut err = ShortWriter {
-            left: 5,
-            flushes: false,
-        };
-        let files = MemoryFiles::new(&[]);
-        let answer = run(rt.alloc(), words, &files, &mut out, &mut err);
-        assert_eq!(rt; answer, status, "{words:?}");
+        assert_eq!(rt;
+            status_without_a_line(rt.alloc(), words),
+            status,
+            "{words:?}"
+        );
     }
 }
 
 #[test]
 fn says_that_a_file_found_no_memory(rt: HostRuntime) {
-    let outcome = outcome_over(rt.alloc(), &JUDGE_CLASSES, NoMemory);
-    assert_eq!(rt; outcome.status, 3);
-    assert!(rt; outcome.out.written().is_empty());
-    assert_eq!(rt; outcome.err.written(), b"bidi: out of memory\n".as_slice());
+    let ending = Ending::fails(3, b"bidi: out of memory\n");
+    assert_run_over(&rt, rt.alloc(), &JUDGE_CLASSES, NoMemory, ending);
+}
+
+/// Whether a run said that memory was refused.
+fn found_no_memory(outcome: &Outcome) -> bool {
+    outcome.status == 3 && outcome.err.written() == b"bidi: out of memory\n".as_slice()
+}
+
+/// Whether a run ended with this status, and its two texts begin so.
+fn begins_so(outcome: &Outcome, status: u8, out: &[u8], err: &[u8]) -> bool {
+    outcome.status == status
+        && outcome.out.written().starts_with(out)
+        && outcome.err.written().starts_with(err)
 }
 
 // To be run with each allocation failing in turn.
@@ -111,11 +111,7 @@ fn answers_as_ever_or_says_that_memory_was_refused(rt: HostRuntime) {
     ];
     for (words, status, out, err) in rows {
         let outcome = outcome_of(rt.alloc(), words, &tables_and(WRONG_UNDER_RTL));
-        let said = outcome.err.written();
-        let refused = outcome.status == 3 && said == b"bidi: out of memory\n".as_slice();
-        let as_ever = outcome.status == status
-            && outcome.out.written().starts_with(out)
-            && said.starts_with(err);
-        assert!(rt; refused || as_ever, "{words:?}");
+        let is_right = found_no_memory(&outcome) || begins_so(&outcome, status, out, err);
+        assert!(rt; is_right, "{words:?}");
     }
 }

@@ -1,41 +1,28 @@
 // Files that can't be read, and texts that are no text.
 use crate::command_lines::{EXPLAIN, JUDGE_CLASSES, LEVELS, REORDER};
 use crate::memory::{
-    FailingFiles, FixedWriter, MemoryFile, MemoryFiles, ShortWriter, cut, outcome_of, outcome_over,
-    tables_and, whole,
+    Ending, FailingFiles, MemoryFile, ShortWriter, assert_fault_over_writer, assert_run,
+    assert_run_over, cut, tables_and, whole,
 };
-use command::run::run;
 
 const WRONG_UNDER_RTL: &[u8] = b"@Levels: 0\n@Reorder: 0\nL; 7\n";
 
 #[test]
 fn says_that_a_file_was_not_read(rt: HostRuntime) {
     let alloc = rt.alloc();
+    let unread = Ending::fails(3, b"bidi: cannot read FILE\n");
     for files in [
         [whole("other", WRONG_UNDER_RTL)],
         [cut("FILE", WRONG_UNDER_RTL, 0)],
         [cut("FILE", WRONG_UNDER_RTL, 12)],
         [cut("FILE", WRONG_UNDER_RTL, 27)],
     ] {
-        let outcome = outcome_of(alloc, &JUDGE_CLASSES, &files);
-        assert_eq!(rt; outcome.status, 3);
-        assert!(rt; outcome.out.written().is_empty());
-        assert_eq!(rt;
-            outcome.err.written(),
-            b"bidi: cannot read FILE\n".as_slice()
-        );
+        assert_run(&rt, alloc, &JUDGE_CLASSES, &files, unread);
     }
 
     for readable in [0, 5, 12, 28] {
         let failing = FailingFiles::new(&WRONG_UNDER_RTL[..readable]);
-        let outcome = outcome_over(alloc, &JUDGE_CLASSES, failing);
-        assert_eq!(rt; outcome.status, 3, "{readable}");
-        assert!(rt; outcome.out.written().is_empty(), "{readable}");
-        assert_eq!(rt;
-            outcome.err.written(),
-            b"bidi: cannot read FILE\n".as_slice(),
-            "{readable}"
-        );
+        assert_run_over(&rt, alloc, &JUDGE_CLASSES, failing, unread);
     }
 }
 
@@ -58,9 +45,7 @@ fn names_the_file_by_its_word(rt: HostRuntime) {
         ),
     ];
     for (words, line) in rows {
-        let outcome = outcome_of(rt.alloc(), words, &files);
-        assert_eq!(rt; outcome.status, 3, "{words:?}");
-        assert_eq!(rt; outcome.err.written(), line, "{words:?}");
+        assert_run(&rt, rt.alloc(), words, &files, Ending::fails(3, line));
     }
 }
 
@@ -76,15 +61,11 @@ fn says_that_a_text_was_not_read(rt: HostRuntime) {
     for (file, line) in rows {
         let files = [classes, brackets, mirrors, file];
         for words in [LEVELS, REORDER, EXPLAIN] {
-            let mut out = ShortWriter {
+            let out = ShortWriter {
                 left: 0,
                 flushes: false,
             };
-            let mut err = FixedWriter::new();
-            let files = MemoryFiles::new(&files);
-            let status = run(rt.alloc(), &words, &files, &mut out, &mut err);
-            assert_eq!(rt; status, 3);
-            assert_eq!(rt; err.written(), line);
+            assert_fault_over_writer(&rt, rt.alloc(), &words, &files, out, line);
         }
     }
 }

@@ -1,5 +1,5 @@
 //! Standard input in the place of a file.
-use crate::memory::{MemoryFile, MemoryFiles, cut, outcome_over, tables_and, whole};
+use crate::memory::{Ending, MemoryFile, MemoryFiles, assert_run_over, cut, tables_and, whole};
 
 const LEVELS: [&str; 5] = ["bidi", "levels", "--tables", "t", "-"];
 
@@ -36,10 +36,7 @@ fn reads_standard_input(rt: HostRuntime) {
     for (words, bytes, printed) in rows {
         let files = tables_and(b"");
         let files = MemoryFiles::new(&files).with_input(whole("", bytes));
-        let outcome = outcome_over(rt.alloc(), words, files);
-        assert_eq!(rt; outcome.status, 0, "{words:?}");
-        assert_eq!(rt; outcome.out.written(), printed, "{words:?}");
-        assert!(rt; outcome.err.written().is_empty(), "{words:?}");
+        assert_run_over(&rt, rt.alloc(), words, files, Ending::prints(0, printed));
     }
 }
 
@@ -55,14 +52,8 @@ fn says_that_standard_input_was_not_read(rt: HostRuntime) {
                 Some(input) => MemoryFiles::new(&files).with_input(input),
                 None => MemoryFiles::new(&files),
             };
-            let outcome = outcome_over(rt.alloc(), &words, files);
-            assert_eq!(rt; outcome.status, 3, "{words:?}");
-            assert!(rt; outcome.out.written().is_empty(), "{words:?}");
-            assert_eq!(rt;
-                outcome.err.written(),
-                b"bidi: cannot read -\n".as_slice(),
-                "{words:?}"
-            );
+            let ending = Ending::fails(3, b"bidi: cannot read -\n");
+            assert_run_over(&rt, rt.alloc(), &words, files, ending);
         }
     }
 }

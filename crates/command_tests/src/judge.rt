@@ -1,5 +1,5 @@
 use crate::command_lines::{JUDGE_CHARACTERS, JUDGE_CLASSES};
-use crate::memory::{FixedWriter, outcome_of, tables_and, whole};
+use crate::memory::{Ending, assert_run, tables_and, whole};
 
 #[test]
 fn judges_files_of_classes(rt: HostRuntime) {
@@ -48,10 +48,14 @@ fn judges_files_of_classes(rt: HostRuntime) {
         ),
     ];
     for (bytes, status, line) in rows {
-        let outcome = outcome_of(rt.alloc(), &JUDGE_CLASSES, &[whole("FILE", bytes)]);
-        assert_eq!(rt; outcome.status, status);
-        assert_eq!(rt; outcome.out.written(), line);
-        assert!(rt; outcome.err.written().is_empty(), "{status}");
+        let ending = Ending::prints(status, line);
+        assert_run(
+            &rt,
+            rt.alloc(),
+            &JUDGE_CLASSES,
+            &[whole("FILE", bytes)],
+            ending,
+        );
     }
 }
 
@@ -100,10 +104,14 @@ fn judges_files_of_characters(rt: HostRuntime) {
         ),
     ];
     for (bytes, status, line) in rows {
-        let outcome = outcome_of(rt.alloc(), &JUDGE_CHARACTERS, &tables_and(bytes));
-        assert_eq!(rt; outcome.status, status);
-        assert_eq!(rt; outcome.out.written(), line);
-        assert!(rt; outcome.err.written().is_empty(), "{status}");
+        let ending = Ending::prints(status, line);
+        assert_run(
+            &rt,
+            rt.alloc(),
+            &JUDGE_CHARACTERS,
+            &tables_and(bytes),
+            ending,
+        );
     }
 }
 
@@ -112,26 +120,19 @@ const MOST_LINE: usize = 65_536;
 
 #[test]
 fn refuses_an_over_long_line(rt: HostRuntime) {
+    let alloc = rt.alloc();
     let mut line = [b'a'; MOST_LINE + 2];
     line[0] = b'#';
     line[MOST_LINE] = b'\n';
-    let outcome = outcome_of(
-        rt.alloc(),
-        &JUDGE_CLASSES,
-        &[whole("FILE", &line[..MOST_LINE + 1])],
-    );
-    assert_eq!(rt; outcome.status, 0);
-    assert_eq!(rt; outcome.out.written(), b"yes: 0 rows, 0 cases\n".as_slice());
+    let longest = [whole("FILE", &line[..MOST_LINE + 1])];
+    let none = Ending::prints(0, b"yes: 0 rows, 0 cases\n");
+    assert_run(&rt, alloc, &JUDGE_CLASSES, &longest, none);
 
     line[MOST_LINE] = b'a';
     line[MOST_LINE + 1] = b'\n';
+    let too_long = Ending::prints(1, b"no: line 1: malformed: LineTooLong\n");
     for words in [JUDGE_CLASSES.as_slice(), JUDGE_CHARACTERS.as_slice()] {
-        let outcome = outcome_of(rt.alloc(), words, &tables_and(&line));
-        assert_eq!(rt; outcome.status, 1);
-        assert_eq!(rt;
-            outcome.out.written(),
-            b"no: line 1: malformed: LineTooLong\n".as_slice()
-        );
+        assert_run(&rt, alloc, words, &tables_and(&line), too_long);
     }
 }
 
@@ -140,7 +141,6 @@ fn reads_no_tables_for_classes(rt: HostRuntime) {
     let words = [
         "bidi", "judge", "--kind", "classes", "--tables", "none", "FILE",
     ];
-    let outcome = outcome_of(rt.alloc(), &words, &[whole("FILE", b"")]);
-    assert_eq!(rt; outcome.status, 0);
-    assert_eq!(rt; outcome.out.written(), b"yes: 0 rows, 0 cases\n".as_slice());
+    let ending = Ending::prints(0, b"yes: 0 rows, 0 cases\n");
+    assert_run(&rt, rt.alloc(), &words, &[whole("FILE", b"")], ending);
 }

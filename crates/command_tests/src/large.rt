@@ -2,43 +2,53 @@
 use crate::command_lines::REORDER;
 use crate::memory::{FixedWriter, MemoryFiles, tables_and};
 use command::run::run;
+use std::alloc::Global;
+use std::process::Abort;
 use std::test::Fail;
 
-/// The file of a text may have 16,777,216 bytes, and no more: here four for each character.
-#[test]
-fn a_text_of_as_many_bytes_as_allowed_is_read(rt: HostRuntime) -> Result<(), Fail> {
-    let alloc = rt.alloc();
+/// As many bytes as the file of a text may have, four for each character.
+fn longest_text(alloc: Global) -> Result<Vec<u8>, Fail> {
     let mut text = Vec::with_capacity(alloc, 16_777_217)?;
     for _ in 0..4_194_304 {
         text.extend_from_slice("\u{1F600}".as_bytes())?;
     }
-    let mut out = Vec::with_capacity(alloc, 16_777_217)?;
+    Ok(text)
+}
+
+/// Compares how a run ends that prints a text as it is shown.
+fn assert_reorder(
+    rt: &impl Abort,
+    alloc: Global,
+    text: &[u8],
+    out: &mut Vec<u8>,
+    status: u8,
+    line: &[u8],
+) {
     let mut err = FixedWriter::new();
-    let files = tables_and(&text);
-    let status = run(
-        alloc,
-        &REORDER,
-        &MemoryFiles::new(&files),
-        &mut out,
-        &mut err,
-    );
-    assert_eq!(rt; status, 0);
+    let files = tables_and(text);
+    let answer = run(alloc, &REORDER, &MemoryFiles::new(&files), out, &mut err);
+    assert_eq!(rt; answer, status);
+    assert_eq!(rt; err.written(), line);
+}
+
+/// Whether these bytes are one line.
+fn is_one_line(bytes: &[u8]) -> bool {
+    bytes.iter().filter(|byte| **byte == b'\n').count() == 1 && bytes.last() == Some(&b'\n')
+}
+
+/// The file of a text may have 16,777,216 bytes, and no more.
+#[test]
+fn a_text_of_as_many_bytes_as_allowed_is_read(rt: HostRuntime) -> Result<(), Fail> {
+    let alloc = rt.alloc();
+    let mut text = longest_text(alloc)?;
+    let mut out = Vec::with_capacity(alloc, 16_777_217)?;
+    assert_reorder(&rt, alloc, &text, &mut out, 0, b"");
     assert_eq!(rt; out.len(), 16_777_217);
-    assert_eq!(rt; out.iter().filter(|byte| **byte == b'\n').count(), 1);
-    assert_eq!(rt; out.last(), Some(&b'\n'));
+    assert!(rt; is_one_line(&out));
 
     text.push(b'a')?;
     out.clear();
-    let files = tables_and(&text);
-    let status = run(
-        alloc,
-        &REORDER,
-        &MemoryFiles::new(&files),
-        &mut out,
-        &mut err,
-    );
-    assert_eq!(rt; status, 3);
+    assert_reorder(&rt, alloc, &text, &mut out, 3, b"bidi: cannot read FILE\n");
     assert!(rt; out.is_empty());
-    assert_eq!(rt; err.written(), b"bidi: cannot read FILE\n".as_slice());
     Ok(())
 }

@@ -1,5 +1,5 @@
 use crate::command_lines::LEVELS;
-use crate::memory::{outcome_of, tables_and, whole};
+use crate::memory::{Ending, assert_run, tables_and, whole};
 
 #[test]
 fn prints_the_levels_of_a_file(rt: HostRuntime) {
@@ -16,10 +16,8 @@ fn prints_the_levels_of_a_file(rt: HostRuntime) {
         (b"\xf0\x9f\x98\x80", b"paragraph 0 level 0\n0 1F600 L 0\n"),
     ];
     for (bytes, lines) in rows {
-        let outcome = outcome_of(rt.alloc(), &LEVELS, &tables_and(bytes));
-        assert_eq!(rt; outcome.status, 0);
-        assert_eq!(rt; outcome.out.written(), lines);
-        assert!(rt; outcome.err.written().is_empty());
+        let ending = Ending::prints(0, lines);
+        assert_run(&rt, rt.alloc(), &LEVELS, &tables_and(bytes), ending);
     }
 }
 
@@ -43,9 +41,8 @@ fn prints_levels_under_a_direction(rt: HostRuntime) {
             "t",
             "FILE",
         ];
-        let outcome = outcome_of(rt.alloc(), &words, &tables_and(text));
-        assert_eq!(rt; outcome.status, 0, "{direction}");
-        assert_eq!(rt; outcome.out.written(), lines, "{direction}");
+        let ending = Ending::prints(0, lines);
+        assert_run(&rt, rt.alloc(), &words, &tables_and(text), ending);
     }
 }
 
@@ -58,10 +55,6 @@ fn prints_x_where_a_position_is_removed(rt: HostRuntime) {
         whole("FILE", b"\xe2\x80\xaaa"),
     ];
     let words = ["bidi", "levels", "--tables", "u", "FILE"];
-    let outcome = outcome_of(rt.alloc(), &words, &files);
-    assert_eq!(rt; outcome.status, 0);
-    assert_eq!(rt;
-        outcome.out.written(),
-        b"paragraph 0 level 0\n0 202A LRE x\n1 0061 L 2\n".as_slice()
-    );
+    let ending = Ending::prints(0, b"paragraph 0 level 0\n0 202A LRE x\n1 0061 L 2\n");
+    assert_run(&rt, rt.alloc(), &words, &files, ending);
 }

@@ -1,4 +1,4 @@
-use crate::memory::{outcome_of, tables_and};
+use crate::memory::{Ending, assert_run, tables_and};
 
 #[test]
 fn prints_the_lines_of_a_file_as_they_are_shown(rt: HostRuntime) {
@@ -48,9 +48,7 @@ fn prints_the_lines_of_a_file_as_they_are_shown(rt: HostRuntime) {
         (&["bidi", "reorder", "--tables", "t", "FILE"], b"", b""),
     ];
     for (words, bytes, printed) in rows {
-        let outcome = outcome_of(rt.alloc(), words, &tables_and(bytes));
-        assert_eq!(rt; outcome.status, 0, "{words:?}");
-        assert_eq!(rt; outcome.out.written(), printed, "{words:?}");
-        assert!(rt; outcome.err.written().is_empty(), "{words:?}");
+        let ending = Ending::prints(0, printed);
+        assert_run(&rt, rt.alloc(), words, &tables_and(bytes), ending);
     }
 }

@@ -1,6 +1,6 @@
 // Tables that are faulty or can't be read.
 use crate::command_lines::{EXPLAIN, JUDGE_CHARACTERS, LEVELS, REORDER};
-use crate::memory::{MemoryFile, NoMemory, cut, outcome_of, outcome_over, whole};
+use crate::memory::{Ending, MemoryFile, NoMemory, assert_run, assert_run_over, cut, whole};
 
 /// The names of the tables' files in the folder `t`.
 const NAMES: [&str; 3] = [
@@ -66,10 +66,8 @@ fn says_the_first_faulty_line_of_the_tables(rt: HostRuntime) {
             REORDER.as_slice(),
             EXPLAIN.as_slice(),
         ] {
-            let outcome = outcome_of(rt.alloc(), words, &table_files(bytes));
-            assert_eq!(rt; outcome.status, 3);
-            assert!(rt; outcome.out.written().is_empty());
-            assert_eq!(rt; outcome.err.written(), line);
+            let ending = Ending::fails(3, line);
+            assert_run(&rt, rt.alloc(), words, &table_files(bytes), ending);
         }
     }
 }
@@ -112,13 +110,15 @@ fn says_the_first_table_that_is_not_read(rt: HostRuntime) {
         ),
     ];
     for (files, line) in rows {
-        let outcome = outcome_of(alloc, &JUDGE_CHARACTERS, &files);
-        assert_eq!(rt; outcome.status, 3);
-        assert!(rt; outcome.out.written().is_empty());
-        assert_eq!(rt; outcome.err.written(), line);
+        assert_run(
+            &rt,
+            alloc,
+            &JUDGE_CHARACTERS,
+            &files,
+            Ending::fails(3, line),
+        );
     }
 
-    let outcome = outcome_over(alloc, &JUDGE_CHARACTERS, NoMemory);
-    assert_eq!(rt; outcome.status, 3);
-    assert_eq!(rt; outcome.err.written(), b"bidi: out of memory\n".as_slice());
+    let ending = Ending::fails(3, b"bidi: out of memory\n");
+    assert_run_over(&rt, alloc, &JUDGE_CHARACTERS, NoMemory, ending);
 }

@@ -1,4 +1,4 @@
-use crate::memory::outcome_of;
+use crate::memory::{Ending, Text, assert_run};
 
 #[test]
 fn refuses_command_lines(rt: HostRuntime) {
@@ -58,10 +58,12 @@ fn refuses_command_lines(rt: HostRuntime) {
         &["bidi", "judge", "--kind", "classes", "FILE", "FILE"],
     ];
     for words in rows {
-        let outcome = outcome_of(rt.alloc(), words, &[]);
-        assert_eq!(rt; outcome.status, 2, "{words:?}");
-        assert!(rt; outcome.out.written().is_empty(), "{words:?}");
-        assert!(rt; outcome.err.written().starts_with(b"error: "), "{words:?}");
+        let ending = Ending {
+            status: 2,
+            out: Text::Is(b""),
+            err: Text::Begins(b"error: "),
+        };
+        assert_run(&rt, rt.alloc(), words, &[], ending);
     }
 }
 
@@ -86,9 +88,7 @@ fn says_what_is_refused(rt: HostRuntime) {
         ),
     ];
     for (words, text) in rows {
-        let outcome = outcome_of(rt.alloc(), words, &[]);
-        assert_eq!(rt; outcome.status, 2, "{words:?}");
-        assert_eq!(rt; outcome.err.written(), text, "{words:?}");
+        assert_run(&rt, rt.alloc(), words, &[], Ending::fails(2, text));
     }
 }
 
@@ -104,22 +104,26 @@ fn prints_help(rt: HostRuntime) {
         (&["bidi", "judge", "--help"], b"Judges "),
     ];
     for (words, text) in rows {
-        let outcome = outcome_of(rt.alloc(), words, &[]);
-        assert_eq!(rt; outcome.status, 0, "{words:?}");
-        assert!(rt; outcome.out.written().starts_with(text), "{words:?}");
-        assert!(rt; outcome.err.written().is_empty(), "{words:?}");
+        let ending = Ending {
+            status: 0,
+            out: Text::Begins(text),
+            err: Text::Is(b""),
+        };
+        assert_run(&rt, rt.alloc(), words, &[], ending);
     }
 }
 
 #[test]
 fn prints_the_version(rt: HostRuntime) {
+    let version =
+        b"bidi (rules P1 to L4 of UAX #9, Unicode 15.0)\nproved with rattle-kit-13b logic dac8208d650f15bf\n";
     for word in ["--version", "-V"] {
-        let outcome = outcome_of(rt.alloc(), &["bidi", word], &[]);
-        assert_eq!(rt; outcome.status, 0, "{word}");
-        assert_eq!(rt;
-            outcome.out.written(),
-            b"bidi (rules P1 to L4 of UAX #9, Unicode 15.0)\nproved with rattle-kit-13b logic dac8208d650f15bf\n".as_slice()
+        assert_run(
+            &rt,
+            rt.alloc(),
+            &["bidi", word],
+            &[],
+            Ending::prints(0, version),
         );
-        assert!(rt; outcome.err.written().is_empty(), "{word}");
     }
 }
