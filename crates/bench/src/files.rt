@@ -12,6 +12,12 @@ use units::reader_source::ReaderSource;
 /// The most bytes that are read of a table's file.
 const MOST_FILE_BYTES: u64 = 16_777_216;
 
+/// The file of this name in the folder.
+fn open<R: std::rt::Files>(rt: &R, alloc: Global, folder: &str, name: &str) -> io::Result<R::File> {
+    let path = format!(in alloc; "{folder}/{name}")?;
+    fs::open(rt, path.as_str())
+}
+
 /// A source of the bytes of the file of this name in the folder.
 fn source<R: std::rt::Files>(
     rt: &R,
@@ -19,11 +25,11 @@ fn source<R: std::rt::Files>(
     folder: &str,
     name: &str,
 ) -> io::Result<ReaderSource<R::File>> {
-    let path = format!(in alloc; "{folder}/{name}")?;
-    Ok(ReaderSource::new(fs::open(rt, path.as_str())?, MOST_FILE_BYTES))
+    let file = open(rt, alloc, folder, name)?;
+    Ok(ReaderSource::new(file, MOST_FILE_BYTES))
 }
 
-/// A fault of a table, said as invalid data.
+/// A fault of a table or a text, said as invalid data.
 fn invalid() -> io::Error {
     io::ErrorKind::InvalidData.into()
 }
@@ -50,18 +56,26 @@ fn read_mirrors<R: std::rt::Files>(rt: &R, alloc: Global, folder: &str) -> io::R
     MirrorTable::read(alloc, &mut source).map_err(|_| invalid())
 }
 
+/// The brackets and the mirror images, by their files in the folder.
+fn read_pairs<R: std::rt::Files>(
+    rt: &R,
+    alloc: Global,
+    folder: &str,
+) -> io::Result<(BracketTable, MirrorTable)> {
+    let brackets = read_brackets(rt, alloc, folder)?;
+    let mirrors = read_mirrors(rt, alloc, folder)?;
+    Ok((brackets, mirrors))
+}
+
 /// The tables of the three property files in the folder. A fault of any of them is said as invalid data.
 pub fn read_tables<R: std::rt::Files>(rt: &R, alloc: Global, folder: &str) -> io::Result<Tables> {
     let classes = read_classes(rt, alloc, folder)?;
-    let brackets = read_brackets(rt, alloc, folder)?;
-    let mirrors = read_mirrors(rt, alloc, folder)?;
+    let (brackets, mirrors) = read_pairs(rt, alloc, folder)?;
     Ok(Tables::new(classes, brackets, mirrors))
 }
 
-/// The bytes of a file.
-fn read_bytes<R: std::rt::Files>(rt: &R, alloc: Global, file: &str) -> io::Result<Vec<u8>> {
-    let mut file = fs::open(rt, file)?;
-    let mut bytes = Vec::new(alloc);
+/// Puts the bytes of a file behind those that are there.
+fn read_bytes<F: Read>(file: &mut F, bytes: &mut Vec<u8>) -> io::Result<()> {
     let mut piece = [0; 4096];
     for _ in 0..u64::MAX {
         match file.read(&mut piece)? {
@@ -69,14 +83,26 @@ fn read_bytes<R: std::rt::Files>(rt: &R, alloc: Global, file: &str) -> io::Resul
             n => bytes.extend_from_slice(&piece[..n])?,
         }
     }
-    Ok(bytes)
+    Ok(())
+}
+
+/// The characters of bytes in UTF-8.
+fn characters(alloc: Global, bytes: &[u8]) -> io::Result<Vec<char>> {
+    match str::from_utf8(bytes) {
+        Ok(text) => Ok(text.chars().collect(alloc)?),
+        Err(_) => Err(invalid()),
+    }
+}
+
+/// Puts the bytes of the file of this name behind those that are there.
+fn read_file<R: std::rt::Files>(rt: &R, name: &str, bytes: &mut Vec<u8>) -> io::Result<()> {
+    let mut file = fs::open(rt, name)?;
+    read_bytes(&mut file, bytes)
 }
 
 /// The characters of a file in UTF-8.
 pub fn read_text<R: std::rt::Files>(rt: &R, alloc: Global, file: &str) -> io::Result<Vec<char>> {
-    let bytes = read_bytes(rt, alloc, file)?;
-    match str::from_utf8(&bytes) {
-        Ok(text) => Ok(text.chars().collect(alloc)?),
-        Err(_) => Err(io::ErrorKind::InvalidData.into()),
-    }
+    let mut bytes = Vec::new(alloc);
+    read_file(rt, file, &mut bytes)?;
+    characters(alloc, &bytes)
 }

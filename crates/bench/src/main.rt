@@ -22,7 +22,55 @@ use lines::scratch::Scratch;
 use std::env;
 use std::io::{self, Write};
 use timing::{least_time, tenths_each};
-use whole::Whole;
+use ucdfiles::tables::Tables;
+use units::bracket::Unit;
+use whole::{Whole, room_for};
+
+/// What is told of a text.
+#[derive(Clone, Copy)]
+struct Figures {
+    /// Tenths of a nanosecond for each unit or character.
+    tenths: u128,
+    length: usize,
+    rounds: usize,
+    lines: usize,
+}
+
+/// Prints the line of a text of such a name, whose length is counted in units or in characters.
+fn print_line<E: Write>(
+    err: &mut E,
+    name: &str,
+    counted: &str,
+    figures: &Figures,
+) -> io::Result<()> {
+    let Figures {
+        tenths,
+        length,
+        rounds,
+        lines,
+    } = *figures;
+    let (whole, tenth) = (tenths / 10, tenths % 10);
+    writeln!(
+        err,
+        "{name}: {whole}.{tenth} ns a {counted} ({length} {counted}s, {rounds} times, {lines} lines)"
+    )
+}
+
+/// Times a built-in text, which has these units.
+fn figures_of(
+    rt: &HostRuntime,
+    text: &[Unit],
+    rounds: usize,
+    room: &mut Scratch,
+) -> io::Result<Figures> {
+    let (elapsed, lines) = least_time(rt, text, rounds, room)?;
+    Ok(Figures {
+        tenths: tenths_each(elapsed, text.len().saturating_mul(rounds)),
+        length: text.len(),
+        rounds,
+        lines,
+    })
+}
 
 /// Times one built-in text, and prints its line.
 fn report<E: Write>(
@@ -32,14 +80,8 @@ fn report<E: Write>(
     room: &mut Scratch,
 ) -> io::Result<()> {
     let text = case.text(rt.alloc())?;
-    let (elapsed, lines) = least_time(rt, &text, case.rounds, room)?;
-    let (name, rounds, length) = (case.name, case.rounds, text.len());
-    let tenths = tenths_each(elapsed, length.saturating_mul(rounds));
-    let (whole, tenth) = (tenths / 10, tenths % 10);
-    writeln!(
-        err,
-        "{name}: {whole}.{tenth} ns a unit ({length} units, {rounds} times, {lines} lines)"
-    )
+    let figures = figures_of(rt, &text, case.rounds, room)?;
+    print_line(err, case.name, "unit", &figures)
 }
 
 /// Whether a text is to be timed: all are where no word names one.
@@ -50,6 +92,22 @@ fn is_asked_for(words: &[String], name: &str) -> bool {
             .any(|word| word.as_str() == "all" || word.as_str() == name)
 }
 
+/// Times those of the built-in texts of these lengths that are asked for.
+fn time_asked_for(
+    rt: &HostRuntime,
+    words: &[String],
+    lengths: Lengths,
+    room: &mut Scratch,
+) -> io::Result<()> {
+    let mut err = rt.stderr();
+    for case in &cases(lengths) {
+        if is_asked_for(words, case.name) {
+            report(rt, &mut err, case, room)?;
+        }
+    }
+    Ok(())
+}
+
 /// Times the built-in texts that are asked for.
 fn time_cases(rt: &HostRuntime, words: &[String]) -> io::Result<()> {
     let lengths = if words.is_empty() {
@@ -57,23 +115,38 @@ fn time_cases(rt: &HostRuntime, words: &[String]) -> io::Result<()> {
     } else {
         Lengths::FULL
     };
-    let Ok(mut room) = Scratch::with_room(rt.alloc(), lengths.long) else {
-        return Err(io::ErrorKind::OutOfMemory.into());
-    };
-    let mut err = rt.stderr();
-    for case in &cases(lengths) {
-        if is_asked_for(words, case.name) {
-            report(rt, &mut err, case, &mut room)?;
-        }
-    }
-    Ok(())
+    let mut room = room_for(rt.alloc(), lengths.long)?;
+    time_asked_for(rt, words, lengths, &mut room)
 }
 
-/// The text in a file, with the tables of a folder.
-fn whole_of(rt: &HostRuntime, folder: &str, file: &str) -> io::Result<Whole> {
-    let tables = read_tables(rt, rt.alloc(), folder)?;
+/// Times a text with its tables.
+fn figures_of_whole(rt: &HostRuntime, whole: &mut Whole, rounds: usize) -> io::Result<Figures> {
+    let (length, lines) = (whole.len(), whole.run());
+    let tenths = whole.least_tenths(rt, rounds)?;
+    Ok(Figures {
+        tenths,
+        length,
+        rounds,
+        lines,
+    })
+}
+
+/// Times a text by these tables.
+fn figures_of_text(
+    rt: &HostRuntime,
+    tables: &Tables,
+    text: &[char],
+    rounds: usize,
+) -> io::Result<Figures> {
+    let mut whole = Whole::new(rt.alloc(), tables, text)?;
+    figures_of_whole(rt, &mut whole, rounds)
+}
+
+/// Times the text in a file by these tables, and prints its line.
+fn report_file(rt: &HostRuntime, tables: &Tables, file: &str, rounds: usize) -> io::Result<()> {
     let text = read_text(rt, rt.alloc(), file)?;
-    Whole::new(rt, tables, text)
+    let figures = figures_of_text(rt, tables, &text, rounds)?;
+    print_line(&mut rt.stderr(), file, "character", &figures)
 }
 
 /// Times the text in a file by the tables of a folder, and prints its line.
@@ -81,23 +154,28 @@ fn time_file(rt: &HostRuntime, folder: &str, file: &str, rounds: &str) -> io::Re
     let Ok(rounds) = rounds.parse::<u32>() else {
         return Err(io::ErrorKind::InvalidInput.into());
     };
-    let mut whole = whole_of(rt, folder, file)?;
-    let (length, lines) = (whole.len(), whole.run());
-    let tenths = whole.least_tenths(rt, rounds as usize)?;
-    let (nanoseconds, tenth) = (tenths / 10, tenths % 10);
-    writeln!(
-        rt.stderr(),
-        "{file}: {nanoseconds}.{tenth} ns a character ({length} characters, {rounds} times, {lines} lines)"
-    )
+    let tables = read_tables(rt, rt.alloc(), folder)?;
+    report_file(rt, &tables, file, rounds as usize)
+}
+
+/// The words behind the program's own name.
+fn words_behind_name(rt: &HostRuntime) -> io::Result<Vec<String>> {
+    let mut words = Vec::new(rt.alloc());
+    for word in env::args(rt)?.skip(1) {
+        words.push(word)?;
+    }
+    Ok(words)
+}
+
+/// Times what these words ask for.
+fn time(rt: &HostRuntime, words: &[String]) -> io::Result<()> {
+    if words.len() == 4 && words[0].as_str() == "--tables" {
+        return time_file(rt, words[1].as_str(), words[2].as_str(), words[3].as_str());
+    }
+    time_cases(rt, words)
 }
 
 fn main(rt: HostRuntime) -> io::Result<()> {
-    let mut words = Vec::new(rt.alloc());
-    for word in env::args(&rt)?.skip(1) {
-        words.push(word)?;
-    }
-    if words.len() == 4 && words[0].as_str() == "--tables" {
-        return time_file(&rt, words[1].as_str(), words[2].as_str(), words[3].as_str());
-    }
-    time_cases(&rt, &words)
+    let words = words_behind_name(&rt)?;
+    time(&rt, &words)
 }

@@ -3,6 +3,7 @@ ghost use Rattle.std.specs.Prelude.{◌≡◌, length};
 
 use crate::timing::{line_count, tenths_each};
 use lines::scratch::Scratch;
+use std::alloc::Global;
 use std::io;
 use std::time::Instant;
 use ucdfiles::tables::Tables;
@@ -15,11 +16,19 @@ const BATCHES: usize = 10;
 /// A text, the tables that its units are looked up in, and what is used again and again: the list of its units, and
 /// the room.
 #[derive(Drop)]
-pub struct Whole {
-    tables: Tables,
-    text: Vec<char>,
+pub struct Whole<'a> {
+    tables: &'a Tables,
+    text: &'a [char],
     units: Vec<Unit>,
     room: Scratch,
+}
+
+/// Room for the layout of a text of so many units.
+pub fn room_for(alloc: Global, units: usize) -> io::Result<Scratch> {
+    match Scratch::with_room(alloc, units) {
+        Ok(room) => Ok(room),
+        Err(_) => Err(io::ErrorKind::OutOfMemory.into()),
+    }
 }
 
 /// Looks up the units of a text.
@@ -29,18 +38,15 @@ fn look_up(tables: &Tables, text: &[char], units: &mut [Unit]) {
     }
 }
 
-impl Whole {
+impl<'a> Whole<'a> {
     /// A text with its tables.
-    pub fn new(rt: &HostRuntime, tables: Tables, text: Vec<char>) -> io::Result<Whole> {
-        let alloc = rt.alloc();
+    pub fn new(alloc: Global, tables: &'a Tables, text: &'a [char]) -> io::Result<Whole<'a>> {
         let unit = Unit {
             class: Class::L,
             bracket: Bracket::No,
         };
         let units = Vec::from_elem(alloc, unit, text.len())?;
-        let Ok(room) = Scratch::with_room(alloc, text.len()) else {
-            return Err(io::ErrorKind::OutOfMemory.into());
-        };
+        let room = room_for(alloc, text.len())?;
         Ok(Whole {
             tables,
             text,
@@ -57,7 +63,7 @@ impl Whole {
     /// Looks the units up and lays the text out, once; answers how many lines there are.
     #[inline(never)]
     pub fn run(&mut self) -> usize {
-        look_up(&self.tables, &self.text, &mut self.units);
+        look_up(self.tables, self.text, &mut self.units);
         line_count(&self.units, &mut self.room)
     }
 

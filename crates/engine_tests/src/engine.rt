@@ -8,6 +8,7 @@ use crate::given::{is_paragraph, plain};
 use explicit::isolates::IsolateMap;
 use explicit::levels::{Explicit, explicit_levels};
 use explicit::para_level::para_level;
+use sequences::sequence::Sequence;
 use sequences::sequences::Sequences;
 use std::alloc::Global;
 use std::marker::Brand;
@@ -105,15 +106,37 @@ pub fn found_in(
     Ok(found)
 }
 
-/// What is found of a paragraph of so many units of class ON.
-pub fn neutral_paragraph(
+/// The sequences of these units, which have to be a paragraph.
+pub fn sequences_in(
+    rt: &impl Abort,
+    alloc: Global,
+    para: &[Unit],
+    direction: Direction,
+    limits: Limits,
+) -> Result<Sequences, Memory>
+    ensures { IfOk result (λ sequences. sequences.extent ≡ length para.now) }
+{
+    let found = found_in(rt, alloc, para, direction, limits)?;
+    Ok(found.sequences)
+}
+
+/// The sequences of a paragraph of so many units of class ON.
+pub fn neutral_sequences(
     rt: &impl Abort,
     alloc: Global,
     direction: Direction,
     n: usize,
-) -> Result<Found, Memory>
-    ensures { IfOk result (λ found. found.sequences.extent ≡ n) }
+) -> Result<Sequences, Memory>
+    ensures { IfOk result (λ sequences. sequences.extent ≡ n) }
 {
     let para = vec![in alloc; plain(Class::ON); n]?;
-    found_in(rt, alloc, &para, direction, Limits::standard())
+    sequences_in(rt, alloc, &para, direction, Limits::standard())
+}
+
+/// The one sequence of a paragraph that has to have one.
+pub fn only_sequence<'a>(rt: &impl Abort, sequences: &'a Sequences) -> Sequence<'a>
+    ensures { result.extent ≡ sequences.now.extent }
+{
+    assert_eq!(rt; sequences.count(), 1);
+    sequences.get(0)
 }

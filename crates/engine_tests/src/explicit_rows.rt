@@ -1,17 +1,20 @@
 //! Worked rows of explicit levels and isolates, by the classes of a paragraph.
-ghost use Rattle.std.specs.Prelude.{◌≤◌, length};
+ghost use Rattle.std.specs.Prelude.{◌≤◌, ◌<◌, length};
+ghost use Rattle.explicit.specs.IsolateMaps.{room};
 
-use crate::engine::found_in;
-use crate::given::{plain, units_of};
+use crate::engine::{Found, found_in};
+use crate::given::{plain, push_units, units_of};
+use explicit::isolates::IsolateMap;
 use explicit::levels::Explicit;
 use explicit::paragraphs;
-use std::alloc::Global;
+use std::alloc::{AllocError, Global};
 use std::process::Abort;
 use std::test::Fail;
 use units::bracket::Unit;
 use units::class::Class;
 use units::level::{Direction, Level, ParaLevel};
 use units::limits::Limits;
+use units::memory::Memory;
 
 /// A paragraph at level 0 of so many times RLE and LRE and then the classes with these names, and what is found of it
 /// by this depth.
@@ -185,16 +188,19 @@ const ROWS: [Row; 14] = [
     },
 ];
 
-/// The units of a row: the pairs, and those of its names.
-fn units_of_row(rt: &impl Abort, alloc: Global, row: &Row) -> Result<Vec<Unit>, Fail> {
+/// So many times RLE and LRE.
+fn pairs(alloc: Global, count: usize) -> Result<Vec<Unit>, AllocError> {
     let mut units = Vec::new(alloc);
-    for _ in 0..row.pairs {
-        units.push(plain(Class::RLE))?;
-        units.push(plain(Class::LRE))?;
+    for _ in 0..count {
+        units.extend_from_slice(&[plain(Class::RLE), plain(Class::LRE)])?;
     }
-    for unit in &units_of(rt, alloc, row.names)? {
-        units.push(*unit)?;
-    }
+    Ok(units)
+}
+
+/// The units of a row: the pairs, and those of its names.
+fn units_of_row(rt: &impl Abort, alloc: Global, row: &Row) -> Result<Vec<Unit>, AllocError> {
+    let mut units = pairs(alloc, row.pairs)?;
+    push_units(rt, &mut units, row.names)?;
     Ok(units)
 }
 
@@ -204,6 +210,17 @@ fn numbered(place: Option<(Level, Class)>) -> Option<(u8, Class)> {
     Some((level.get(), class))
 }
 
+/// The place of a position, where these places begin at `start` and all positions before it are removed.
+fn place_from(start: usize, places: &[Option<(u8, Class)>], p: usize) -> Option<(u8, Class)> {
+    *places.get(p.checked_sub(start)?)?
+}
+
+fn assert_place(rt: &impl Abort, explicit: &Explicit, p: usize, place: Option<(u8, Class)>)
+    requires { p < length explicit.now }
+{
+    assert_eq!(rt; numbered(explicit.at(p)), place, "at {p}");
+}
+
 /// Checks the places of so many positions: the last ones are these, and all before them are removed.
 fn assert_places(rt: &impl Abort, explicit: &Explicit, n: usize, places: &[Option<(u8, Class)>])
     requires { n ≤ length explicit.now }
@@ -211,18 +228,35 @@ fn assert_places(rt: &impl Abort, explicit: &Explicit, n: usize, places: &[Optio
     assert!(rt; places.len() <= n);
     let start = n - places.len();
     for p in 0..n {
-        let expected = if p < start { None } else { places[p - start] };
-        assert_eq!(rt; numbered(explicit.at(p)), expected, "at {p}");
+        assert_place(rt, explicit, p, place_from(start, places, p));
     }
 }
 
-/// Checks what is found of a row's paragraph: the pairs are removed, and then come its places.
-fn assert_row(rt: &impl Abort, alloc: Global, row: &Row) -> Result<(), Fail> {
-    let para = units_of_row(rt, alloc, row)?;
-    let limits = Limits::new(row.depth, 63)?;
-    let found = found_in(rt, alloc, &para, row.direction, limits)?;
+/// Checks what is found of a row's paragraph of so many units: the pairs are removed, and then come its places.
+fn assert_found(rt: &impl Abort, found: &Found, n: usize, row: &Row)
+    requires { n ≤ length found.now.explicit }
+{
     assert_eq!(rt; found.level, ParaLevel::Zero);
-    assert_places(rt, &found.explicit, para.len(), row.places);
+    assert_places(rt, &found.explicit, n, row.places);
+}
+
+/// Checks what is found of a row's paragraph, which these units are.
+fn assert_paragraph(
+    rt: &impl Abort,
+    alloc: Global,
+    para: &[Unit],
+    limits: Limits,
+    row: &Row,
+) -> Result<(), Memory> {
+    let found = found_in(rt, alloc, para, row.direction, limits)?;
+    assert_found(rt, &found, para.len(), row);
+    Ok(())
+}
+
+fn assert_row(rt: &impl Abort, alloc: Global, row: &Row) -> Result<(), Fail> {
+    let limits = Limits::new(row.depth, 63)?;
+    let para = units_of_row(rt, alloc, row)?;
+    assert_paragraph(rt, alloc, &para, limits, row)?;
     Ok(())
 }
 
@@ -238,21 +272,50 @@ fn finds_levels_and_current_classes(rt: HostRuntime) -> Result<(), Fail> {
     assert_rows(&rt, rt.alloc(), &ROWS)
 }
 
+fn assert_partner(rt: &impl Abort, map: &IsolateMap, p: usize, partner: Option<usize>)
+    requires { p < room map.now }
+{
+    assert_eq!(rt; map.partner(p), partner);
+}
+
+/// Checks the partner of each of so many positions.
+fn assert_partners(rt: &impl Abort, map: &IsolateMap, n: usize, partners: &[Option<usize>])
+    requires { n ≤ room map.now }
+{
+    assert_eq!(rt; n, partners.len());
+    for p in 0..partners.len() {
+        assert_partner(rt, map, p, partners[p]);
+    }
+}
+
+/// Checks the partner of each position of a paragraph from left to right.
+fn assert_isolates(
+    rt: &impl Abort,
+    alloc: Global,
+    para: &[Unit],
+    partners: &[Option<usize>],
+) -> Result<(), Memory> {
+    let found = found_in(rt, alloc, para, Direction::Ltr, Limits::standard())?;
+    assert_partners(rt, &found.map, para.len(), partners);
+    Ok(())
+}
+
 #[test]
 fn finds_partners(rt: HostRuntime) -> Result<(), Fail> {
     let para = units_of(&rt, rt.alloc(), "RLI RLI PDI R PDI L")?;
     let partners = [Some(4), Some(2), Some(1), None, Some(0), None];
-    let found = found_in(&rt, rt.alloc(), &para, Direction::Ltr, Limits::standard())?;
-    assert_eq!(rt; para.len(), partners.len());
-    for p in 0..partners.len() {
-        assert_eq!(rt; found.map.partner(p), partners[p]);
-    }
+    assert_isolates(&rt, rt.alloc(), &para, &partners)?;
     Ok(())
+}
+
+/// How many paragraphs a text has.
+fn paragraph_count(text: &[Unit]) -> usize {
+    paragraphs(text).count()
 }
 
 #[test]
 fn cuts_behind_separators(rt: HostRuntime) -> Result<(), Fail> {
     let text = units_of(&rt, rt.alloc(), "L B B R")?;
-    assert_eq!(rt; paragraphs(&text).count(), 3);
+    assert_eq!(rt; paragraph_count(&text), 3);
     Ok(())
 }

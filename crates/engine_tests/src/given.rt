@@ -4,9 +4,8 @@ ghost use Rattle.std.specs.List.{list_any};
 ghost use Rattle.units.specs.Classes.{is_separator};
 ghost use Rattle.units.specs.Paragraphs.{SeparatorOnlyLast};
 
-use std::alloc::Global;
+use std::alloc::{AllocError, Global};
 use std::process::Abort;
-use std::test::Fail;
 use units::bracket::{Bracket, Key, Unit};
 use units::class::Class;
 use units::level::Level;
@@ -35,14 +34,19 @@ pub fn close(key: u32) -> Unit {
     }
 }
 
+/// The class with this short name, which one has to have.
+fn named_class(rt: &impl Abort, name: &str) -> Class {
+    match Class::from_short(name.as_bytes()) {
+        Some(class) => class,
+        None => panic!(rt; "no class is named {name}"),
+    }
+}
+
 /// The classes with these short names, which blanks part.
-pub fn classes(rt: &impl Abort, alloc: Global, names: &str) -> Result<Vec<Class>, Fail> {
+pub fn classes(rt: &impl Abort, alloc: Global, names: &str) -> Result<Vec<Class>, AllocError> {
     let mut classes = Vec::new(alloc);
     for name in names.split(' ') {
-        match Class::from_short(name.as_bytes()) {
-            Some(class) => classes.push(class)?,
-            None => panic!(rt; "no class is named {name}"),
-        }
+        classes.push(named_class(rt, name))?;
     }
     Ok(classes)
 }
@@ -58,15 +62,26 @@ fn unit_of(name: &str) -> Option<Unit> {
     }
 }
 
-/// The units with these names, which blanks part.
-pub fn units_of(rt: &impl Abort, alloc: Global, names: &str) -> Result<Vec<Unit>, Fail> {
-    let mut units = Vec::new(alloc);
-    for name in names.split(' ') {
-        match unit_of(name) {
-            Some(unit) => units.push(unit)?,
-            None => panic!(rt; "no unit is named {name}"),
-        }
+/// The unit with this name, which one has to have.
+fn named_unit(rt: &impl Abort, name: &str) -> Unit {
+    match unit_of(name) {
+        Some(unit) => unit,
+        None => panic!(rt; "no unit is named {name}"),
     }
+}
+
+/// Puts the units with these names, which blanks part, behind those that are there.
+pub fn push_units(rt: &impl Abort, units: &mut Vec<Unit>, names: &str) -> Result<(), AllocError> {
+    for name in names.split(' ') {
+        units.push(named_unit(rt, name))?;
+    }
+    Ok(())
+}
+
+/// The units with these names, which blanks part.
+pub fn units_of(rt: &impl Abort, alloc: Global, names: &str) -> Result<Vec<Unit>, AllocError> {
+    let mut units = Vec::new(alloc);
+    push_units(rt, &mut units, names)?;
     Ok(units)
 }
 
@@ -83,14 +98,22 @@ pub fn is_paragraph(units: &[Unit]) -> bool
     !has_separator(units)
 }
 
+/// A position's level as a digit, `x` where it is removed.
+fn digit(level: Option<Level>) -> u8 {
+    match level {
+        Some(level) => b'0' + level.get(),
+        None => b'x',
+    }
+}
+
+fn assert_digit(rt: &impl Abort, level: Option<Level>, shown: u8) {
+    assert_eq!(rt; digit(level), shown);
+}
+
 /// Checks levels: a digit for each position, `x` where it is removed.
 pub fn assert_shown(rt: &impl Abort, levels: &[Option<Level>], shown: &[u8]) {
     assert_eq!(rt; levels.len(), shown.len());
     for p in 0..shown.len() {
-        let digit = match levels[p] {
-            Some(level) => b'0' + level.get(),
-            None => b'x',
-        };
-        assert_eq!(rt; digit, shown[p]);
+        assert_digit(rt, levels[p], shown[p]);
     }
 }

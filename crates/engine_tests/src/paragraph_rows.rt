@@ -1,5 +1,5 @@
 //! Worked rows: the resolved levels of a paragraph.
-ghost use Rattle.std.specs.Prelude.{◌≡◌, ◌<◌};
+ghost use Rattle.std.specs.Prelude.{◌≡◌, ◌<◌, ◌≤◌, length};
 ghost use Rattle.units.specs.Paragraphs.{SeparatorOnlyLast};
 
 use crate::given::{assert_shown, close, is_paragraph, open, plain, units_of};
@@ -16,24 +16,47 @@ use units::limits::Limits;
 use units::memory::Memory;
 use units::steps::Steps;
 
-/// The resolved levels of a paragraph.
-fn levels_from<L: Ledger>(
-    alloc: Global,
+/// Resolves the levels of a paragraph, for which there is room, counting steps from the blank.
+fn resolve_counting<L: Ledger>(
+    resolver: &mut Resolver,
     para: &[Unit],
     direction: Direction,
     limits: Limits,
+    levels: &mut [Option<Level>],
     blank: Blank,
-) -> Result<Vec<Option<Level>>, Memory>
+)
+    requires room { length para.now ≤ resolver.old }
     requires separators { SeparatorOnlyLast para.now }
+    requires levels { length levels.old ≡ length para.now }
     requires name { blank.name ≡ L.name }
     requires parts { blank.parts ≡ L.parts }
     requires some { 0 < blank.parts }
 {
     let mut steps = Steps::<L>::new(blank);
+    resolver.resolve(para, direction, limits, levels, &mut steps);
+}
+
+/// Resolves the levels of a paragraph.
+fn resolve_levels(
+    alloc: Global,
+    para: &[Unit],
+    direction: Direction,
+    limits: Limits,
+    levels: &mut [Option<Level>],
+) -> Result<(), Memory>
+    requires separators { SeparatorOnlyLast para.now }
+    requires levels { length levels.old ≡ length para.now }
+{
     let mut resolver = Resolver::with_room(alloc, para.len())?;
-    let mut levels = vec![in alloc; None; para.len()]?;
-    resolver.resolve(para, direction, limits, &mut levels, &mut steps);
-    Ok(levels)
+    resolve_counting::<Brand>(
+        &mut resolver,
+        para,
+        direction,
+        limits,
+        levels,
+        Blank::new(1),
+    );
+    Ok(())
 }
 
 /// Checks the levels of a paragraph: a digit for each position, `x` where it is removed.
@@ -46,7 +69,8 @@ fn assert_levels(
     shown: &[u8],
 ) -> Result<(), Memory> {
     assert!(rt; is_paragraph(para));
-    let levels = levels_from::<Brand>(alloc, para, direction, limits, Blank::new(1))?;
+    let mut levels = vec![in alloc; None; para.len()]?;
+    resolve_levels(alloc, para, direction, limits, &mut levels)?;
     assert_shown(rt, &levels, shown);
     Ok(())
 }
@@ -54,66 +78,80 @@ fn assert_levels(
 /// The names of a paragraph's units, its direction, and its levels.
 type Row = (&'static str, Direction, &'static [u8]);
 
+/// Checks the levels of a row.
+fn assert_row(rt: &impl Abort, alloc: Global, row: Row, limits: Limits) -> Result<(), Memory> {
+    let (names, direction, shown) = row;
+    let para = units_of(rt, alloc, names)?;
+    assert_levels(rt, alloc, &para, direction, limits, shown)
+}
+
 /// Checks the levels of each row.
-fn assert_rows(rt: &impl Abort, alloc: Global, rows: &[Row]) -> Result<(), Fail> {
-    for (names, direction, shown) in rows {
-        let para = units_of(rt, alloc, names)?;
-        assert_levels(rt, alloc, &para, *direction, Limits::standard(), shown)?;
+fn assert_rows(rt: &impl Abort, alloc: Global, rows: &[Row]) -> Result<(), Memory> {
+    for row in rows {
+        assert_row(rt, alloc, *row, Limits::standard())?;
     }
     Ok(())
 }
 
+const WEAK_TYPES: [Row; 5] = [
+    ("NSM EN ES EN ET CS AN", Direction::Ltr, b"0000002"),
+    ("R EN CS EN ET ET NSM", Direction::Ltr, b"1222222"),
+    ("AL EN CS EN", Direction::Ltr, b"1222"),
+    ("EN", Direction::Ltr, b"0"),
+    ("AL FSI R", Direction::Ltr, b"101"),
+];
+
 #[test]
 fn weak_types(rt: HostRuntime) -> Result<(), Fail> {
-    let rows: [Row; 5] = [
-        ("NSM EN ES EN ET CS AN", Direction::Ltr, b"0000002"),
-        ("R EN CS EN ET ET NSM", Direction::Ltr, b"1222222"),
-        ("AL EN CS EN", Direction::Ltr, b"1222"),
-        ("EN", Direction::Ltr, b"0"),
-        ("AL FSI R", Direction::Ltr, b"101"),
-    ];
-    assert_rows(&rt, rt.alloc(), &rows)
+    assert_rows(&rt, rt.alloc(), &WEAK_TYPES)?;
+    Ok(())
 }
+
+const REMOVED_IN_FLAT_PARAGRAPHS: [Row; 4] = [
+    ("L BN L PDF", Direction::Ltr, b"0x0x"),
+    ("R BN R PDF", Direction::Auto, b"1x1x"),
+    ("BN R BN EN PDI PDF L", Direction::Ltr, b"x1x20x0"),
+    ("BN PDF", Direction::Rtl, b"xx"),
+];
 
 #[test]
 fn removed_in_flat_paragraphs(rt: HostRuntime) -> Result<(), Fail> {
-    let rows: [Row; 4] = [
-        ("L BN L PDF", Direction::Ltr, b"0x0x"),
-        ("R BN R PDF", Direction::Auto, b"1x1x"),
-        ("BN R BN EN PDI PDF L", Direction::Ltr, b"x1x20x0"),
-        ("BN PDF", Direction::Rtl, b"xx"),
-    ];
-    assert_rows(&rt, rt.alloc(), &rows)
+    assert_rows(&rt, rt.alloc(), &REMOVED_IN_FLAT_PARAGRAPHS)?;
+    Ok(())
 }
+
+const PAIRS_BY_WHAT_STANDS_INSIDE: [Row; 5] = [
+    // only the opposite direction
+    ("R ( L ) R", Direction::Rtl, b"11211"),
+    ("L ( R )", Direction::Ltr, b"0010"),
+    ("L [ R ] R", Direction::Ltr, b"00101"),
+    // the outer one first
+    ("R ( ( R ) L )", Direction::Ltr, b"1001000"),
+    // past a lone closing one
+    ("L ( ] R ) R", Direction::Ltr, b"000101"),
+];
 
 #[test]
 fn pairs_by_what_stands_inside(rt: HostRuntime) -> Result<(), Fail> {
-    let rows: [Row; 5] = [
-        // only the opposite direction
-        ("R ( L ) R", Direction::Rtl, b"11211"),
-        ("L ( R )", Direction::Ltr, b"0010"),
-        ("L [ R ] R", Direction::Ltr, b"00101"),
-        // the outer one first
-        ("R ( ( R ) L )", Direction::Ltr, b"1001000"),
-        // past a lone closing one
-        ("L ( ] R ) R", Direction::Ltr, b"000101"),
-    ];
-    assert_rows(&rt, rt.alloc(), &rows)
+    assert_rows(&rt, rt.alloc(), &PAIRS_BY_WHAT_STANDS_INSIDE)?;
+    Ok(())
 }
+
+const MARKS_BEHIND_BRACKETS: [Row; 3] = [
+    ("R ( R ) NSM L", Direction::Ltr, b"111110"),
+    ("R ( R ) NSM NSM L", Direction::Ltr, b"1111110"),
+    // LRO makes the mark L
+    (
+        "LRE R ( R ) PDF LRO NSM PDF PDF L",
+        Direction::Ltr,
+        b"x3333xx2xx0",
+    ),
+];
 
 #[test]
 fn marks_behind_brackets(rt: HostRuntime) -> Result<(), Fail> {
-    let rows: [Row; 3] = [
-        ("R ( R ) NSM L", Direction::Ltr, b"111110"),
-        ("R ( R ) NSM NSM L", Direction::Ltr, b"1111110"),
-        // LRO makes the mark L
-        (
-            "LRE R ( R ) PDF LRO NSM PDF PDF L",
-            Direction::Ltr,
-            b"x3333xx2xx0",
-        ),
-    ];
-    assert_rows(&rt, rt.alloc(), &rows)
+    assert_rows(&rt, rt.alloc(), &MARKS_BEHIND_BRACKETS)?;
+    Ok(())
 }
 
 /// A pair round R, and behind it `n` pairs in one another round R.
@@ -147,37 +185,56 @@ fn deep_levels(alloc: Global, n: usize, closing: u8) -> Result<Vec<u8>, Memory>
     Ok(levels)
 }
 
+/// Checks the levels of `deep`, where those of the closing brackets of the pairs in one another are these.
+fn assert_deep(rt: &impl Abort, alloc: Global, n: usize, closing: u8) -> Result<(), Memory>
+    requires { n < 1000 }
+{
+    let para = deep(alloc, n)?;
+    let levels = deep_levels(alloc, n, closing)?;
+    assert_levels(
+        rt,
+        alloc,
+        &para,
+        Direction::Ltr,
+        Limits::standard(),
+        &levels,
+    )
+}
+
 #[test]
 fn full_stack(rt: HostRuntime) -> Result<(), Fail> {
-    let (alloc, limits) = (rt.alloc(), Limits::standard());
-    for (n, closing) in [(63, b'0'), (64, b'1')] {
-        let levels = deep_levels(alloc, n, closing)?;
-        assert_levels(
-            &rt,
-            alloc,
-            &deep(alloc, n)?,
-            Direction::Ltr,
-            limits,
-            &levels,
-        )?;
+    assert_deep(&rt, rt.alloc(), 63, b'0')?;
+    assert_deep(&rt, rt.alloc(), 64, b'1')?;
+    Ok(())
+}
+
+/// A row of a paragraph from left to right, the depth, and how many brackets can be open.
+type LimitedRow = (&'static str, u8, u8, &'static [u8]);
+
+const LIMITED_ROWS: [LimitedRow; 6] = [
+    ("RLE LRE R", 1, 63, b"xx1"),
+    ("RLE LRE R", 125, 63, b"xx3"),
+    ("L [ R ] R", 125, 1, b"00101"),
+    ("L [ R ] R", 125, 0, b"00111"),
+    ("L [ R ] R FSI", 125, 1, b"001010"),
+    ("L [ R ] R FSI", 125, 0, b"001110"),
+];
+
+fn assert_limited_row(rt: &impl Abort, alloc: Global, row: LimitedRow) -> Result<(), Fail> {
+    let (names, depth, brackets, shown) = row;
+    let limits = Limits::new(depth, brackets)?;
+    assert_row(rt, alloc, (names, Direction::Ltr, shown), limits)?;
+    Ok(())
+}
+
+fn assert_limited_rows(rt: &impl Abort, alloc: Global, rows: &[LimitedRow]) -> Result<(), Fail> {
+    for row in rows {
+        assert_limited_row(rt, alloc, *row)?;
     }
     Ok(())
 }
 
 #[test]
 fn limits_that_are_handed_in(rt: HostRuntime) -> Result<(), Fail> {
-    let rows = [
-        ("RLE LRE R", 1, 63, b"xx1".as_slice()),
-        ("RLE LRE R", 125, 63, b"xx3"),
-        ("L [ R ] R", 125, 1, b"00101"),
-        ("L [ R ] R", 125, 0, b"00111"),
-        ("L [ R ] R FSI", 125, 1, b"001010"),
-        ("L [ R ] R FSI", 125, 0, b"001110"),
-    ];
-    for (names, depth, brackets, shown) in rows {
-        let para = units_of(&rt, rt.alloc(), names)?;
-        let limits = Limits::new(depth, brackets)?;
-        assert_levels(&rt, rt.alloc(), &para, Direction::Ltr, limits, shown)?;
-    }
-    Ok(())
+    assert_limited_rows(&rt, rt.alloc(), &LIMITED_ROWS)
 }

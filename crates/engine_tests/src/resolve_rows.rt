@@ -1,7 +1,7 @@
 //! Worked rows: bracket pairs, by the classes after W7.
-ghost use Rattle.std.specs.Prelude.{◌≡◌, ◌<◌, ◌≤◌, length};
+ghost use Rattle.std.specs.Prelude.{◌≡◌, ◌<◌, ◌≤◌, length, IfOk};
 
-use crate::engine::found_in;
+use crate::engine::{only_sequence, sequences_in};
 use crate::given::units_of;
 use resolve::pairs::{Pairs, bracket_pairs};
 use resolve::weak::weak;
@@ -15,6 +15,7 @@ use units::bracket::Unit;
 use units::class::Class;
 use units::level::Direction;
 use units::limits::Limits;
+use units::memory::Memory;
 use units::steps::Steps;
 
 /// Finds the pairs of a sequence by the classes after W7, counting steps from the blank.
@@ -39,60 +40,103 @@ fn find_pairs<L: Ledger>(
     bracket_pairs(s, para, classes, limits, pairs, &mut steps);
 }
 
-/// Checks which pairs count in the one sequence of a paragraph from left to right, where so many brackets can be open,
-/// by the positions of their closing brackets.
-fn assert_closers(
-    rt: &impl Abort,
-    alloc: Global,
-    names: &str,
-    most_open: u8,
-    closers: &[Option<usize>],
-) -> Result<(), Fail> {
-    let limits = Limits::new(125, most_open)?;
-    let para = units_of(rt, alloc, names)?;
-    let mut classes: Vec<Class> = para.iter().map(|unit| unit.class).collect(alloc)?;
+/// The class of each of these units.
+fn classes_of(alloc: Global, para: &[Unit]) -> Result<Vec<Class>, Memory>
+    ensures { IfOk result (λ classes. length classes.items ≡ length para.now) }
+{
+    Ok(para.iter().map(|unit| unit.class).collect(alloc)?)
+}
+
+/// The pairs of a paragraph's sequence.
+fn pairs_of(alloc: Global, s: &Sequence, para: &[Unit], limits: Limits) -> Result<Pairs, Memory>
+    requires { length para.now ≡ s.now.extent }
+    ensures { IfOk result (λ pairs. length pairs ≡ length para.now) }
+{
+    let mut classes = classes_of(alloc, para)?;
     let mut pairs = Pairs::with_room(alloc, para.len())?;
-    let found = found_in(rt, alloc, &para, Direction::Ltr, limits)?;
-    assert_eq!(rt; found.sequences.count(), 1);
-    let sequence = found.sequences.get(0);
-    find_pairs::<Brand>(
-        &sequence,
-        &para,
-        &mut classes,
-        limits,
-        &mut pairs,
-        Blank::new(1),
-    );
-    assert_eq!(rt; para.len(), closers.len());
-    for p in 0..closers.len() {
-        assert_eq!(rt; pairs.closer(p), closers[p], "{names} at {p}");
+    find_pairs::<Brand>(s, para, &mut classes, limits, &mut pairs, Blank::new(1));
+    Ok(pairs)
+}
+
+/// The pairs of the one sequence of a paragraph from left to right.
+fn pairs_in(rt: &impl Abort, alloc: Global, para: &[Unit], limits: Limits) -> Result<Pairs, Memory>
+    ensures { IfOk result (λ pairs. length pairs ≡ length para.now) }
+{
+    let sequences = sequences_in(rt, alloc, para, Direction::Ltr, limits)?;
+    pairs_of(alloc, &only_sequence(rt, &sequences), para, limits)
+}
+
+/// The names of a paragraph's units, how many brackets can be open, and for each position that of its closing bracket.
+#[derive(Clone, Copy)]
+struct Row {
+    names: &'static str,
+    most_open: u8,
+    closers: &'static [Option<usize>],
+}
+
+const ROWS: [Row; 4] = [
+    Row {
+        names: "R ( ( R ) L )",
+        most_open: 63,
+        closers: &[None, Some(6), Some(4), None, None, None, None],
+    },
+    // they end before the first opener without room
+    Row {
+        names: "( R ) ( ( ) )",
+        most_open: 2,
+        closers: &[Some(2), None, None, Some(6), Some(5), None, None],
+    },
+    Row {
+        names: "( R ) ( ( ) )",
+        most_open: 1,
+        closers: &[Some(2), None, None, None, None, None, None],
+    },
+    Row {
+        names: "( R ) ( ( ) )",
+        most_open: 0,
+        closers: &[None; 7],
+    },
+];
+
+fn assert_closer(rt: &impl Abort, pairs: &Pairs, p: usize, row: &Row)
+    requires pairs { p < length pairs.now }
+    requires closers { p < length row.now.closers.now }
+{
+    assert_eq!(rt; pairs.closer(p), row.closers[p], "{} at {p}", row.names);
+}
+
+/// Checks which pairs count, by the positions of their closing brackets.
+fn assert_closers(rt: &impl Abort, pairs: &Pairs, n: usize, row: &Row)
+    requires { n ≤ length pairs.now }
+{
+    assert_eq!(rt; n, row.closers.len());
+    for p in 0..row.closers.len() {
+        assert_closer(rt, pairs, p, row);
+    }
+}
+
+/// Checks which pairs count in the one sequence of a row's paragraph.
+fn assert_pairs(rt: &impl Abort, alloc: Global, row: &Row, limits: Limits) -> Result<(), Memory> {
+    let para = units_of(rt, alloc, row.names)?;
+    let pairs = pairs_in(rt, alloc, &para, limits)?;
+    assert_closers(rt, &pairs, para.len(), row);
+    Ok(())
+}
+
+fn assert_row(rt: &impl Abort, alloc: Global, row: &Row) -> Result<(), Fail> {
+    let limits = Limits::new(125, row.most_open)?;
+    assert_pairs(rt, alloc, row, limits)?;
+    Ok(())
+}
+
+fn assert_rows(rt: &impl Abort, alloc: Global, rows: &[Row]) -> Result<(), Fail> {
+    for row in rows {
+        assert_row(rt, alloc, row)?;
     }
     Ok(())
 }
 
 #[test]
 fn closers(rt: HostRuntime) -> Result<(), Fail> {
-    let rows = [
-        (
-            "R ( ( R ) L )",
-            63,
-            [None, Some(6), Some(4), None, None, None, None],
-        ),
-        // they end before the first opener without room
-        (
-            "( R ) ( ( ) )",
-            2,
-            [Some(2), None, None, Some(6), Some(5), None, None],
-        ),
-        (
-            "( R ) ( ( ) )",
-            1,
-            [Some(2), None, None, None, None, None, None],
-        ),
-        ("( R ) ( ( ) )", 0, [None; 7]),
-    ];
-    for (names, most_open, closers) in rows {
-        assert_closers(&rt, rt.alloc(), names, most_open, &closers)?;
-    }
-    Ok(())
+    assert_rows(&rt, rt.alloc(), &ROWS)
 }

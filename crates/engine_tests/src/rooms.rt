@@ -5,6 +5,7 @@ use paragraph::resolver::Resolver;
 use resolve::pairs::Pairs;
 use sequences::sequences::Sequences;
 use std::alloc::Global;
+use std::process::Abort;
 use std::test::Fail;
 use units::memory::Memory;
 
@@ -19,16 +20,21 @@ fn refusals(alloc: Global, n: usize) -> [Option<Memory>; 5] {
     ]
 }
 
+/// Checks that making each kind of room for so many positions answers this.
+fn assert_refusals(rt: &impl Abort, alloc: Global, n: usize, refusal: Option<Memory>) {
+    assert_eq!(rt; refusals(alloc, n), [refusal; 5], "for {n}");
+}
+
 #[test]
 fn rooms_of_any_size_are_made(rt: HostRuntime) {
     for n in [0, 1, 40_001, 65_536, 1_000_000] {
-        assert_eq!(rt; refusals(rt.alloc(), n), [None; 5], "for {n}");
+        assert_refusals(&rt, rt.alloc(), n, None);
     }
 }
 
 #[test]
 fn too_much_room(rt: HostRuntime) {
-    assert_eq!(rt; refusals(rt.alloc(), usize::MAX), [Some(Memory); 5]);
+    assert_refusals(&rt, rt.alloc(), usize::MAX, Some(Memory));
 }
 
 // To be run with each growth refused in turn: one room at most is refused by it.

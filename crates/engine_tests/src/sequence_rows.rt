@@ -1,15 +1,17 @@
 //! Worked rows of isolating run sequences, by the classes of a paragraph.
 ghost use Rattle.std.specs.Prelude.{◌<◌, length};
 
-use crate::engine::found_in;
+use crate::engine::sequences_in;
 use crate::given::units_of;
-use sequences::sequence::Sequence;
+use sequences::sequence::{Positions, Sequence};
+use sequences::sequences::Sequences;
 use std::alloc::Global;
 use std::process::Abort;
 use std::test::Fail;
 use units::class::Class;
 use units::level::Direction;
 use units::limits::Limits;
+use units::memory::Memory;
 
 /// What a sequence tells: its positions, its level, sos and eos.
 #[derive(Clone, Copy)]
@@ -27,19 +29,47 @@ fn after_number(s: &Sequence, k: usize) -> Option<usize>
     s.after(s.as_slice()[k] as usize)
 }
 
-/// Checks that a sequence tells this, by `as_slice`, `positions` and `after`.
-fn assert_sequence(rt: &impl Abort, s: &Sequence, told: &Told) {
-    let positions = told.positions;
-    assert_eq!(rt; s.as_slice().len(), positions.len());
-    let mut walk = s.positions();
-    for k in 0..positions.len() {
-        assert_eq!(rt; walk.next(), Some(positions[k]));
-        assert_eq!(rt; after_number(s, k), positions.get(k + 1).copied());
+/// Checks that a walk comes to this position next, or ends where there is none.
+fn assert_next(rt: &impl Abort, walk: &mut Positions, position: Option<usize>) {
+    assert_eq!(rt; walk.next(), position);
+}
+
+/// Checks that a walk comes to these positions, and then ends.
+fn assert_walk(rt: &impl Abort, walk: &mut Positions, positions: &[usize]) {
+    for position in positions {
+        assert_next(rt, walk, Some(*position));
     }
-    assert_eq!(rt; walk.next(), None);
-    assert_eq!(rt; s.level().get(), told.level);
+    assert_next(rt, walk, None);
+}
+
+/// Checks the position after the one with this number in a sequence of these positions.
+fn assert_after(rt: &impl Abort, s: &Sequence, positions: &[usize], k: usize)
+    requires sequence { k < length s.now.positions }
+    requires positions { k < length positions.now }
+{
+    assert_eq!(rt; after_number(s, k), positions.get(k + 1).copied());
+}
+
+/// Checks that a sequence has these positions, by `as_slice`, `positions` and `after`.
+fn assert_positions(rt: &impl Abort, s: &Sequence, positions: &[usize]) {
+    assert_eq!(rt; s.as_slice().len(), positions.len());
+    assert_walk(rt, &mut s.positions(), positions);
+    for k in 0..positions.len() {
+        assert_after(rt, s, positions, k);
+    }
+}
+
+/// Checks what stands before a sequence's first position and after its last.
+fn assert_ends(rt: &impl Abort, s: &Sequence, told: &Told) {
     assert_eq!(rt; s.sos(), told.sos);
     assert_eq!(rt; s.eos(), told.eos);
+}
+
+/// Checks that a sequence tells this.
+fn assert_sequence(rt: &impl Abort, s: &Sequence, told: &Told) {
+    assert_positions(rt, s, told.positions);
+    assert_eq!(rt; s.level().get(), told.level);
+    assert_ends(rt, s, told);
 }
 
 /// The names of a paragraph's classes, and its sequences from left to right.
@@ -112,18 +142,23 @@ const ROWS: [Row; 3] = [
     },
 ];
 
-/// Checks the sequences of a row's paragraph.
-fn assert_row(rt: &impl Abort, alloc: Global, row: &Row) -> Result<(), Fail> {
-    let para = units_of(rt, alloc, row.names)?;
-    let found = found_in(rt, alloc, &para, Direction::Ltr, Limits::standard())?;
-    assert_eq!(rt; found.sequences.count(), row.sequences.len());
-    for k in 0..row.sequences.len() {
-        assert_sequence(rt, &found.sequences.get(k), &row.sequences[k]);
+/// Checks that these sequences tell this.
+fn assert_sequences(rt: &impl Abort, sequences: &Sequences, told: &[Told]) {
+    assert_eq!(rt; sequences.count(), told.len());
+    for k in 0..told.len() {
+        assert_sequence(rt, &sequences.get(k), &told[k]);
     }
+}
+
+/// Checks the sequences of a row's paragraph.
+fn assert_row(rt: &impl Abort, alloc: Global, row: &Row) -> Result<(), Memory> {
+    let para = units_of(rt, alloc, row.names)?;
+    let sequences = sequences_in(rt, alloc, &para, Direction::Ltr, Limits::standard())?;
+    assert_sequences(rt, &sequences, row.sequences);
     Ok(())
 }
 
-fn assert_rows(rt: &impl Abort, alloc: Global, rows: &[Row]) -> Result<(), Fail> {
+fn assert_rows(rt: &impl Abort, alloc: Global, rows: &[Row]) -> Result<(), Memory> {
     for row in rows {
         assert_row(rt, alloc, row)?;
     }
@@ -132,5 +167,6 @@ fn assert_rows(rt: &impl Abort, alloc: Global, rows: &[Row]) -> Result<(), Fail>
 
 #[test]
 fn finds_sequences(rt: HostRuntime) -> Result<(), Fail> {
-    assert_rows(&rt, rt.alloc(), &ROWS)
+    assert_rows(&rt, rt.alloc(), &ROWS)?;
+    Ok(())
 }

@@ -1,7 +1,7 @@
 //! Worked rows: each rule by the standard's own examples, and all weak rules in order beside the engine's one walk.
 ghost use Rattle.std.specs.Prelude.{◌≡◌, ◌<◌, length};
 
-use crate::engine::neutral_paragraph;
+use crate::engine::{neutral_sequences, only_sequence};
 use crate::given::{assert_shown, classes};
 use resolve::implicit::implicit;
 use resolve::neutral::neutral;
@@ -16,6 +16,7 @@ use std::sync::ledger::{Blank, Ledger};
 use std::test::Fail;
 use units::class::Class;
 use units::level::{Direction, Level};
+use units::memory::Memory;
 use units::steps::Steps;
 
 /// Which passes a row goes through.
@@ -71,14 +72,29 @@ struct Row {
     after: &'static str,
 }
 
+/// Has a stage change the classes of a paragraph's one sequence.
+fn apply_in_paragraph(
+    rt: &impl Abort,
+    alloc: Global,
+    stage: Stage,
+    direction: Direction,
+    classes: &mut [Class],
+) -> Result<(), Memory> {
+    let sequences = neutral_sequences(rt, alloc, direction, classes.len())?;
+    let sequence = only_sequence(rt, &sequences);
+    apply_counting::<Brand>(stage, &sequence, classes, Blank::new(1));
+    Ok(())
+}
+
+fn assert_classes(rt: &impl Abort, classes: &[Class], expected: &[Class], row: &Row) {
+    assert_eq!(rt; classes, expected, "{}", row.before);
+}
+
 /// Checks what a stage makes of a row's classes.
-fn assert_row(rt: &impl Abort, alloc: Global, row: &Row) -> Result<(), Fail> {
+fn assert_row(rt: &impl Abort, alloc: Global, row: &Row) -> Result<(), Memory> {
     let mut column = classes(rt, alloc, row.before)?;
-    let found = neutral_paragraph(rt, alloc, row.direction, column.len())?;
-    assert_eq!(rt; found.sequences.count(), 1);
-    let sequence = found.sequences.get(0);
-    apply_counting::<Brand>(row.stage, &sequence, &mut column, Blank::new(1));
-    assert_eq!(rt; column, classes(rt, alloc, row.after)?, "{}", row.before);
+    apply_in_paragraph(rt, alloc, row.stage, row.direction, &mut column)?;
+    assert_classes(rt, &column, &classes(rt, alloc, row.after)?, row);
     Ok(())
 }
 
@@ -223,7 +239,7 @@ const ROWS: [Row; 22] = [
     },
 ];
 
-fn assert_rows(rt: &impl Abort, alloc: Global, rows: &[Row]) -> Result<(), Fail> {
+fn assert_rows(rt: &impl Abort, alloc: Global, rows: &[Row]) -> Result<(), Memory> {
     for row in rows {
         assert_row(rt, alloc, row)?;
     }
@@ -232,7 +248,8 @@ fn assert_rows(rt: &impl Abort, alloc: Global, rows: &[Row]) -> Result<(), Fail>
 
 #[test]
 fn each_rule_by_itself(rt: HostRuntime) -> Result<(), Fail> {
-    assert_rows(&rt, rt.alloc(), &ROWS)
+    assert_rows(&rt, rt.alloc(), &ROWS)?;
+    Ok(())
 }
 
 /// I1 and I2 over a sequence of these classes, by a count of steps that begins with the blank.
@@ -251,36 +268,57 @@ fn implicit_counting<L: Ledger>(
     implicit(s, classes, levels, &mut Steps::<L>::new(blank));
 }
 
-/// Checks the levels of a sequence of these classes: a digit for each.
-fn assert_implicit(
+/// I1 and I2 over the one sequence of a paragraph of these classes.
+fn implicit_in_paragraph(
     rt: &impl Abort,
     alloc: Global,
     direction: Direction,
-    names: &str,
-    shown: &[u8],
-) -> Result<(), Fail> {
+    classes: &[Class],
+    levels: &mut [Option<Level>],
+) -> Result<(), Memory>
+    requires { length levels.old ≡ length classes.now }
+{
+    let sequences = neutral_sequences(rt, alloc, direction, classes.len())?;
+    let sequence = only_sequence(rt, &sequences);
+    implicit_counting::<Brand>(&sequence, classes, levels, Blank::new(1));
+    Ok(())
+}
+
+/// The direction of a sequence, its classes, and its levels as digits.
+type ImplicitRow = (Direction, &'static str, &'static [u8]);
+
+const IMPLICIT_ROWS: [ImplicitRow; 6] = [
+    (Direction::Ltr, "L R AN EN", b"0122"),
+    (Direction::Rtl, "L R AN EN", b"2122"),
+    (Direction::Ltr, "L L L L L L AN", b"0000002"),
+    (Direction::Ltr, "R EN EN EN EN EN EN", b"1222222"),
+    (Direction::Ltr, "R AN AN AN", b"1222"),
+    (Direction::Ltr, "L", b"0"),
+];
+
+/// Checks the levels of a row's sequence.
+fn assert_implicit(rt: &impl Abort, alloc: Global, row: ImplicitRow) -> Result<(), Memory> {
+    let (direction, names, shown) = row;
     let column = classes(rt, alloc, names)?;
-    let found = neutral_paragraph(rt, alloc, direction, column.len())?;
-    assert_eq!(rt; found.sequences.count(), 1);
-    let sequence = found.sequences.get(0);
     let mut levels = vec![in alloc; None; column.len()]?;
-    implicit_counting::<Brand>(&sequence, &column, &mut levels, Blank::new(1));
+    implicit_in_paragraph(rt, alloc, direction, &column, &mut levels)?;
     assert_shown(rt, &levels, shown);
+    Ok(())
+}
+
+fn assert_implicit_rows(
+    rt: &impl Abort,
+    alloc: Global,
+    rows: &[ImplicitRow],
+) -> Result<(), Memory> {
+    for row in rows {
+        assert_implicit(rt, alloc, *row)?;
+    }
     Ok(())
 }
 
 #[test]
 fn implicit_levels(rt: HostRuntime) -> Result<(), Fail> {
-    let rows = [
-        (Direction::Ltr, "L R AN EN", b"0122".as_slice()),
-        (Direction::Rtl, "L R AN EN", b"2122"),
-        (Direction::Ltr, "L L L L L L AN", b"0000002"),
-        (Direction::Ltr, "R EN EN EN EN EN EN", b"1222222"),
-        (Direction::Ltr, "R AN AN AN", b"1222"),
-        (Direction::Ltr, "L", b"0"),
-    ];
-    for (direction, names, shown) in rows {
-        assert_implicit(&rt, rt.alloc(), direction, names, shown)?;
-    }
+    assert_implicit_rows(&rt, rt.alloc(), &IMPLICIT_ROWS)?;
     Ok(())
 }
