@@ -3,8 +3,8 @@
 
 usage: tools/bench_texts.py FOLDER
 
-The ordinary ones have about 1,000 characters, two of them one. The others are hard for an engine that walks back and forth; each has its
-number of characters in its name.
+The ordinary ones have about 1,000 characters, two of them one. The others are hard for an engine that walks back and
+forth; each has its number of characters in its name.
 """
 import os
 import random

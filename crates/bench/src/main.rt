@@ -36,7 +36,7 @@ struct Figures {
     lines: usize,
 }
 
-/// Prints the line of a text of such a name, whose length is counted in units or in characters.
+/// Prints the line of the text of this name; `counted` is what its length counts: a unit or a character.
 fn print_line<E: Write>(
     err: &mut E,
     name: &str,

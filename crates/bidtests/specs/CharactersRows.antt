@@ -147,7 +147,7 @@ pub empty_before_fields : characters_verdict standard unit_of_few (written (code
 unfolding characters_files_compute
 empty_before_fields = refl
 
--- the least line decides
+-- the first line decides
 pub malformed_behind_wrong : characters_verdict standard unit_of_few (written (codes "# 0061" ∷ codes "0061;0;1;0;0" ∷ codes "0061" ∷ [])) ≡ Wrong 2 Ltr ParaLevel
 unfolding characters_files_compute
 malformed_behind_wrong = refl

@@ -127,7 +127,7 @@ pub pdi_without_isolate : classes_verdict standard (written (codes "@Levels: x 1
 unfolding classes_files_compute
 pdi_without_isolate = refl
 
--- the least line that is wrong or malformed decides
+-- the first line that is wrong or malformed decides
 pub least_line : classes_verdict standard (written (codes "@Levels: 0" ∷ codes "@Reorder: 0" ∷ codes "L; 4" ∷ codes "L; 4" ∷ codes "L; 16" ∷ [])) ≡ Wrong 3 Rtl (Levels 0)
 unfolding classes_files_compute
 least_line = refl

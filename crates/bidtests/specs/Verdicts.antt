@@ -1,4 +1,4 @@
--- The verdict on a test file: the least line that is malformed or holds a wrong case, or yes.
+-- The verdict on a test file: the first line that is malformed or holds a wrong case, or yes.
 use Rattle.std.specs.Prelude.{Option, ℕ, ◌+◌, Bool, true, false, nat_eq, if◌then◌else◌, List, [], ◌∷◌, length, sum_by, count_by, Some, None}
 use Rattle.std.specs.Option.{option_or}
 use Rattle.units.specs.Positions.{same_position}

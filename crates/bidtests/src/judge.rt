@@ -85,7 +85,7 @@ impl<'t> Judge<'t> {
         self.state.feed(self.kind, piece);
     }
 
-    /// The verdict on all bytes that were handed over, as the whole file: that of the least line that is malformed or
+    /// The verdict on all bytes that were handed over, as the whole file: that of the first line that is malformed or
     /// holds a wrong case, or yes with the numbers of rows and cases. What it says of the file is so, and no other
     /// verdict would be (`laws::verdict_law`). It takes no memory and always succeeds.
     pub fn finish(self) -> Verdict

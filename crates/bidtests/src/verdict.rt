@@ -50,12 +50,12 @@ pub enum Verdict {
         rows: u64,
         cases: u64,
     },
-    /// The least line that is malformed or wrong is malformed. Lines are numbered from 1.
+    /// The first line that is malformed or wrong is malformed. Lines are numbered from 1.
     Malformed {
         line: u64,
         cause: Cause,
     },
-    /// The least line that is malformed or wrong holds a wrong case: its direction, and the first wrong place.
+    /// The first line that is malformed or wrong holds a wrong case: its direction, and the first wrong place.
     Wrong {
         line: u64,
         direction: Direction,

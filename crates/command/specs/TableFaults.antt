@@ -20,7 +20,7 @@ said_as name _ None = CannotRead name
 abbrev pub table_fault : Bor (List ℕ) → TableFault → Fault
 table_fault name fault = said_as name fault (line_of_fault fault)
 
--- this is the fault of the least faulty line: of those that are settled in what the file begins with, or of all that it
+-- this is the fault of the first faulty line: of those that are settled in what the file begins with, or of all that it
 -- holds
 abbrev pub HasFault : FileFacts → (List (List ℕ) → List ℕ → Option LineFault) → List ℕ → TableFault → Type 0
 HasFault files fault path e = (bytes : List ℕ)
@@ -35,7 +35,7 @@ CannotBeRead files fault path = (bytes : List ℕ) × files.Fails (FileNamed pat
 abbrev pub IsFaultless : FileFacts → (List (List ℕ) → List ℕ → Option LineFault) → List ℕ → Type 0
 IsFaultless files fault path = (bytes : List ℕ) × files.Holds (FileNamed path) most_file_bytes bytes × (first_fault fault [] (lines_of bytes) ≡ None)
 
--- when a fault, said by this name, ends the reading of a table: the file can't be read, its least faulty line is said,
+-- when a fault, said by this name, ends the reading of a table: the file can't be read, its first faulty line is said,
 -- or memory was refused
 abbrev pub EndsTable : FileFacts → (List (List ℕ) → List ℕ → Option LineFault) → List ℕ → List ℕ → Fault → Type 0
 EndsTable files fault path name (CannotRead unread) = (unread.now ≡ name) × CannotBeRead files fault path

@@ -109,7 +109,7 @@ fn read_mirrors<F: Files>(
 }
 
 /// Reads the tables of a folder: the classes, then the brackets, then the mirror images. The fault is the first one: a
-/// file that can't be opened or read, its least faulty line, or refused memory.
+/// file that can't be opened or read, its first faulty line, or refused memory.
 pub fn read_tables<F: Files>(
     alloc: Global,
     files: &F,

@@ -1,9 +1,11 @@
 // Files that can't be read, and texts that are no text.
 use crate::command_lines::{EXPLAIN, JUDGE_CLASSES, LEVELS, REORDER};
 use crate::memory::{
-    Ending, FailingFiles, MemoryFile, ShortWriter, assert_fault_over_writer, assert_run,
-    assert_run_over, cut, tables_and, whole,
+    Ending, FailingFiles, MemoryFile, ShortWriter, assert_fault_over_writer, assert_run, cut,
+    outcome_over, tables_and, whole,
 };
+use std::alloc::Global;
+use std::process::Abort;
 
 const WRONG_UNDER_RTL: &[u8] = b"@Levels: 0\n@Reorder: 0\nL; 7\n";
 
@@ -19,10 +21,25 @@ fn says_that_a_file_was_not_read(rt: HostRuntime) {
     ] {
         assert_run(&rt, alloc, &JUDGE_CLASSES, &files, unread);
     }
+}
 
+/// Checks that a run over files of which so many bytes can be read says that, and nothing else.
+fn assert_failed_read(rt: &impl Abort, alloc: Global, files: FailingFiles<'_>, readable: usize) {
+    let outcome = outcome_over(alloc, &JUDGE_CLASSES, files);
+    assert_eq!(rt; outcome.status, 3, "{readable}");
+    assert!(rt; outcome.out.written().is_empty(), "{readable}");
+    assert_eq!(rt;
+        outcome.err.written(),
+        b"bidi: cannot read FILE\n".as_slice(),
+        "{readable}"
+    );
+}
+
+#[test]
+fn says_that_a_file_failed(rt: HostRuntime) {
     for readable in [0, 5, 12, 28] {
         let failing = FailingFiles::new(&WRONG_UNDER_RTL[..readable]);
-        assert_run_over(&rt, alloc, &JUDGE_CLASSES, failing, unread);
+        assert_failed_read(&rt, rt.alloc(), failing, readable);
     }
 }
 

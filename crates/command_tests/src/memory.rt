@@ -322,7 +322,7 @@ fn assert_written(rt: &impl Abort, words: &[&str], written: &[u8], text: Text<'_
 }
 
 /// Compares what a run with these words answered and wrote.
-pub fn assert_ends(rt: &impl Abort, words: &[&str], outcome: &Outcome, ending: Ending<'_>) {
+fn assert_ends(rt: &impl Abort, words: &[&str], outcome: &Outcome, ending: Ending<'_>) {
     assert_eq!(rt; outcome.status, ending.status, "{words:?}");
     assert_written(rt, words, outcome.out.written(), ending.out);
     assert_written(rt, words, outcome.err.written(), ending.err);
@@ -350,7 +350,7 @@ pub fn assert_run(
     assert_ends(rt, words, &outcome_of(alloc, words, files), ending);
 }
 
-/// Runs with these words over these files and a writer, and compares its status and what it says.
+/// Runs with these words over these files and this writer, and checks that the status is 3 and what it says.
 pub fn assert_fault_over_writer(
     rt: &impl Abort,
     alloc: Global,

@@ -133,7 +133,7 @@ pub fn neutral_sequences(
     sequences_in(rt, alloc, &para, direction, Limits::standard())
 }
 
-/// The one sequence of a paragraph that has to have one.
+/// The sequence of a paragraph, which has to be its only one.
 pub fn only_sequence<'a>(rt: &impl Abort, sequences: &'a Sequences) -> Sequence<'a>
     ensures { result.extent ≡ sequences.now.extent }
 {

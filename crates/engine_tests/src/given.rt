@@ -34,7 +34,7 @@ pub fn close(key: u32) -> Unit {
     }
 }
 
-/// The class with this short name, which one has to have.
+/// The class with this short name; there has to be one.
 fn named_class(rt: &impl Abort, name: &str) -> Class {
     match Class::from_short(name.as_bytes()) {
         Some(class) => class,
@@ -62,7 +62,7 @@ fn unit_of(name: &str) -> Option<Unit> {
     }
 }
 
-/// The unit with this name, which one has to have.
+/// The unit with this name; there has to be one.
 fn named_unit(rt: &impl Abort, name: &str) -> Unit {
     match unit_of(name) {
         Some(unit) => unit,

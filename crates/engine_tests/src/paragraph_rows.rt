@@ -208,7 +208,7 @@ fn full_stack(rt: HostRuntime) -> Result<(), Fail> {
     Ok(())
 }
 
-/// A row of a paragraph from left to right, the depth, and how many brackets can be open.
+/// The names of the units of a paragraph from left to right, the depth, how many brackets can be open, and its levels.
 type LimitedRow = (&'static str, u8, u8, &'static [u8]);
 
 const LIMITED_ROWS: [LimitedRow; 6] = [

@@ -105,7 +105,7 @@ fn assert_closer(rt: &impl Abort, pairs: &Pairs, p: usize, row: &Row)
     assert_eq!(rt; pairs.closer(p), row.closers[p], "{} at {p}", row.names);
 }
 
-/// Checks which pairs count, by the positions of their closing brackets.
+/// Checks which pairs count in a paragraph of so many units, by the positions of their closing brackets.
 fn assert_closers(rt: &impl Abort, pairs: &Pairs, n: usize, row: &Row)
     requires { n ≤ length pairs.now }
 {

@@ -1,4 +1,4 @@
-//! Faults of files of tables: the least faulty line, sources that fail, refused memory, and the texts.
+//! Faults of files of tables: the first faulty line, sources that fail, refused memory, and the texts.
 use crate::given::{TABLE_KINDS, TableKind, fault_in, fault_of};
 use std::alloc::Global;
 use std::io::{self, Write};

@@ -1,5 +1,5 @@
-//! Tests of layouts: worked rows of whole texts, of their lines, and of what is shown and printed of them. They stand
-//! here, and not beside what they test, so that no crate is proved a second time with its tests.
+//! Tests of layouts: worked rows of whole texts, of their lines, and of what is shown, printed and explained of them.
+//! They stand here, and not beside what they test, so that no crate is proved a second time with its tests.
 #![tactic(auto)]
 
 #[cfg(test)]

@@ -30,7 +30,7 @@ AreBreaks at len = AreBreaksBelow at len (length at)
 abbrev pub AreBreaksOf : List ℕ → ℕ → BreaksView → Type 0
 AreBreaksOf at len breaks = (breaks ≡ record { positions = at; len = len }) × AreBreaks at len
 
--- the fault is the one of the least faulty index, and there being out of range comes first
+-- the fault is the one of the first faulty index, and there being out of range comes first
 abbrev pub IsFirstBreakFault : List ℕ → ℕ → BreakFault → Type 0
 IsFirstBreakFault at len (OutOfRange index) =
     (index < length at) × AreBreaksBelow at len index × ((slice_index at index ≡ 0) ⊎ (len ≤ slice_index at index))

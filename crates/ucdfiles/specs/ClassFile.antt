@@ -51,7 +51,7 @@ class_line_says line = if nat_lt longest_line (length line) then Faulty LineTooL
 abbrev pub class_fault : List (List ℕ) → List ℕ → Option Fault
 class_fault earlier line = line_fault class_line_says Overlap earlier line
 
--- the fault of the least faulty line
+-- the fault of the first faulty line
 unfoldable pub class_file_fault : List ℕ → Option TableFault
 class_file_fault bytes = file_fault class_line_says Overlap bytes
 

@@ -1,4 +1,4 @@
--- The fault of the least faulty line.
+-- The fault of the first faulty line.
 use Rattle.std.specs.Prelude.{◌≡◌, ◌⊎◌, Option, ℕ, codes, List, [], ◌∷◌, ◌++◌, length, Some, None}
 use Rattle.std.specs.Option.{option_map, option_or}
 use Rattle.units.specs.Lines.{line_number}
@@ -60,7 +60,7 @@ abbrev pub fault_of_line : ℕ → Option Fault → Option TableFault
 fault_of_line index None = None
 fault_of_line index (Some fault) = Some (fault_at fault (line_number index))
 
--- the fault of the least faulty one of these lines, each of which is looked at behind the earlier ones
+-- the fault of the first faulty one of these lines, each of which is looked at behind the earlier ones
 abbrev pub first_fault : (List (List ℕ) → List ℕ → Option Fault) → List (List ℕ) → List (List ℕ) → Option TableFault
 first_fault fault earlier [] = None
 first_fault fault earlier (line ∷ lines) = option_or (fault_of_line (length earlier) (fault earlier line)) (first_fault fault (earlier ++ line ∷ []) lines)

@@ -84,11 +84,11 @@ bracket_fault earlier line = line_fault (pair_line_says bracket_in) Twice earlie
 abbrev pub mirror_fault : List (List ℕ) → List ℕ → Option Fault
 mirror_fault earlier line = line_fault (pair_line_says mirror_in) Twice earlier line
 
--- the fault of the least faulty line of BidiBrackets.txt
+-- the fault of the first faulty line of BidiBrackets.txt
 unfoldable pub bracket_file_fault : List ℕ → Option TableFault
 bracket_file_fault bytes = file_fault (pair_line_says bracket_in) Twice bytes
 
--- the fault of the least faulty line of BidiMirroring.txt
+-- the fault of the first faulty line of BidiMirroring.txt
 unfoldable pub mirror_file_fault : List ℕ → Option TableFault
 mirror_file_fault bytes = file_fault (pair_line_says mirror_in) Twice bytes
 

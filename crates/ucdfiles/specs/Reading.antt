@@ -40,7 +40,7 @@ IsRefusal before fault More e = ⊥
 IsRefusal before fault (Line number text) e = IsLineRefusal before fault number text.now e
 IsRefusal before fault (TooLong number) e = e ≡ LineTooLong number
 
--- a growth was refused, or this is the fault of the least faulty of the settled lines
+-- a growth was refused, or this is the fault of the first faulty of the settled lines
 abbrev pub Refuses : (List (List ℕ) → List ℕ → Option Fault) → List ℕ → TableFault → Type 0
 Refuses fault bytes e = (e ≡ Memory) ⊎ (first_fault fault [] (settled_lines bytes) ≡ Some e)
 
@@ -54,7 +54,7 @@ abbrev pub EndsFaultless : (List (List ℕ) → Type 0) → (List (List ℕ) →
 EndsFaultless before after fault cutter =
     (b : List ℕ) → Reads before fault cutter b → (first_fault fault [] (lines_of b) ≡ None) × after (lines_of b)
 
--- a growth was refused at the end of these bytes, or this is the fault of their least faulty line
+-- a growth was refused at the end of these bytes, or this is the fault of their first faulty line
 abbrev pub EndsFaulty : (List (List ℕ) → Type 0) → (List (List ℕ) → List ℕ → Option Fault) → Cutting → TableFault → Type 0
 EndsFaulty before fault cutter e =
     (b : List ℕ) → Reads before fault cutter b → (e ≡ Memory) ⊎ (first_fault fault [] (lines_of b) ≡ Some e)

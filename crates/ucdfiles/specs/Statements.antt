@@ -38,7 +38,7 @@ fault_behind taken earlier (Default span) = default_fault (defaults_of earlier)
 abbrev pub line_fault : {V : Type 0} → (List ℕ → FileLine V) → Fault → List (List ℕ) → List ℕ → Option Fault
 line_fault says taken earlier line = fault_behind taken (map says earlier) (says line)
 
--- the fault of the least faulty line of these bytes
+-- the fault of the first faulty line of these bytes
 abbrev pub file_fault : {V : Type 0} → (List ℕ → FileLine V) → Fault → List ℕ → Option TableFault
 file_fault says taken bytes = first_fault (line_fault says taken) [] (lines_of bytes)
 

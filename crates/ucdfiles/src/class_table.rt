@@ -47,7 +47,7 @@ impl ClassTable {
     ghost use Rattle.ucdfiles.specs.Reading.{IsFault, OfAllBytes};
     ghost use Rattle.ucdfiles.specs.Tables.{class_by};
 
-    /// The class table that the source's bytes state, read to the source's end; or the fault of the least faulty
+    /// The class table that the source's bytes state, read to the source's end; or the fault of the first faulty
     /// line. `Read` is answered exactly if the source has failed, and then no line that is complete is faulty, and
     /// none that has begun is over-long. `Memory` comes only behind a read that did not fail, so it hides no failure
     /// from before the call. How far the source was read after a fault is not said.

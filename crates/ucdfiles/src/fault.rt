@@ -19,7 +19,7 @@ pub enum Fault {
 }
 
 /// Why a property file states no table. A fault of a line has the line's number, counted from 1; it is the fault of
-/// the least faulty line, and the first of that line in the order in which its parts are looked at.
+/// the first faulty line, and the first of that line in the order in which its parts are looked at.
 #[derive(Clone, Copy, Debug, PartialEq, Eq, Error)]
 pub enum TableFault {
     /// A field is not 4 to 6 upper-case hex digits, or above 10FFFF, or a surrogate in a file of brackets or of
