@@ -27,15 +27,16 @@ abbrev pub SaysOfCharacters : {S : Type 0} → TablesOf → (List ℕ → S → 
 SaysOfCharacters tables gives now before after status =
     (given : List ℕ) × gives given now × SaysVerdict before after (characters_verdict standard (unit_by tables) given) status
 
--- the same as a file of each kind that a judge is for
+-- a judge of this kind, by the standard limits, that was handed nothing
+abbrev pub IsNewFor : Judging → Kind → Type 0
+IsNewFor judge kind = Judges standard kind judge []
+
+-- a source came to this state, and the exit status and what was written say the verdict on the bytes that it handed
+-- out on the way, as a file of each kind that a judge is for
 abbrev pub SaysOfKinds : {S : Type 0} → (Kind → Type 0) → (List ℕ → S → Type 0) → S → Option (List ℕ) → Option (List ℕ) → ℕ → Type 0
 SaysOfKinds IsFor gives now before after status =
     (given : List ℕ) × gives given now
     × ((kind : Kind) → IsFor kind → SaysVerdict before after (verdict_of standard kind given) status)
-
--- a judge of this kind, by the standard limits, that was handed nothing
-abbrev pub IsNewFor : Judging → Kind → Type 0
-IsNewFor judge kind = Judges standard kind judge []
 
 -- a source came to this state and has ended, and the bytes that it handed out on the way are not UTF-8
 abbrev pub GaveNoText : {S : Type 0} → (List ℕ → S → Type 0) → (S → Type 0) → S → Type 0

@@ -1,10 +1,11 @@
 // A run of the command.
-ghost use Rattle.std.specs.Prelude.{◌≡◌, ◌≤◌, Err, IfOk, IfErr};
+ghost use Rattle.std.specs.Prelude.{◌≡◌, ◌≤◌, Ok, Err, IfOk, IfErr};
 ghost use Rattle.command.specs.Outcomes.{ComesTo, HasComeTo, HasRun, IsDone};
 ghost use Rattle.command.specs.HandedOut.{CameToNo, HasSaidNo};
 ghost use Rattle.clap.specs.Walk.{texts};
 ghost use Rattle.command.specs.ReadFiles.{no_facts};
 ghost use Rattle.command.specs.Steps.{FailsIn, steps_of};
+ghost use Rattle.command.specs.declared.request.Request.{Request};
 
 use crate::fault::Fault;
 use crate::files::Files;
