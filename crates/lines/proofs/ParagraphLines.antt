@@ -12,7 +12,7 @@ use Rattle.units.specs.Paragraphs.{paragraphs_of}
 use Rattle.units.specs.Reordering.{para_level_at}
 use Rattle.lines.specs.LineEnds.{EndsAt}
 use Rattle.lines.specs.Spaces.{AreAtParas}
-use Rattle.lines.specs.Turning.{IsUniform}
+use Rattle.lines.specs.Turning.{IsAtOneLevel}
 use Rattle.lines.proofs.Separators.{count-before}
 use Rattle.lines.proofs.TextEnd.{counted_step}
 
@@ -68,7 +68,7 @@ counted_on own start limit end before closed e within is last =
     omega arith
 
 -- positions at their paragraphs' levels have one level in a line
-pub line_uniform : (own : List Class) (paras : List ℕ) (levels : List (Option ℕ)) (start limit end : ℕ) → AreAtParas own paras levels → EndsAt own start limit end → end ≤ length own → IsUniform levels start end (para_level_at own paras start)
+pub line_uniform : (own : List Class) (paras : List ℕ) (levels : List (Option ℕ)) (start limit end : ℕ) → AreAtParas own paras levels → EndsAt own start limit end → end ≤ length own → IsAtOneLevel levels start end (para_level_at own paras start)
 line_uniform own paras levels start limit end all e within =
     record {
       same = λ p v low high h.

@@ -2,7 +2,7 @@
 use Rattle.std.proofs.Common.{◌≡◌, ℕ, ◌+◌, ◌<◌, ◌≤◌, ◌%◌, Option, List, ap, ◌∙◌, arith}
 use Rattle.std.specs.Prelude.{reverse}
 use Rattle.units.specs.Reordering.{line_order}
-use Rattle.lines.specs.Turning.{Before, Has, ListsRemaining, Ordered, IsUniform, least, remaining, turns}
+use Rattle.lines.specs.Turning.{Before, Has, ListsRemaining, Ordered, IsAtOneLevel, least, remaining, turns}
 use Rattle.lines.proofs.Least.{least-attained}
 use Rattle.lines.proofs.Lists.{has_reverse, has_reversed, ordered_reverse}
 use Rattle.lines.proofs.Levels.{AllBelow, LowestOdd, finished, rising_before}
@@ -10,7 +10,7 @@ use Rattle.lines.proofs.LineOrder.{in_order_same, line_order-in_order}
 use Rattle.lines.proofs.Remaining.{remaining-rising}
 
 -- an even level keeps the positions as they stand in the text
-pub uniform-rising : (levels : List (Option ℕ)) (start end v : ℕ) → start ≤ end → v % 2 ≡ 0 → IsUniform levels start end v → line_order levels start end ≡ remaining levels start end
+pub uniform-rising : (levels : List (Option ℕ)) (start end v : ℕ) → start ≤ end → v % 2 ≡ 0 → IsAtOneLevel levels start end v → line_order levels start end ≡ remaining levels start end
 uniform-rising levels start end v le even u =
     let r = remaining-rising levels start end le in
     let below : AllBelow levels start end (v + 1) = record { below = λ p w low high h. let e : w ≡ v = u.same p w low high h in omega arith } in
@@ -23,7 +23,7 @@ uniform-rising levels start end v le even u =
     (finished levels start end (v + 1) (remaining levels start end) r.holds lowest (rising_before levels start end (v + 1) (remaining levels start end) r.holds below r.ordered))
 
 -- two positions of the line are turned round at their level
-turned_round : (levels : List (Option ℕ)) (start end v a b : ℕ) → ListsRemaining levels start end (remaining levels start end) → IsUniform levels start end v → Has (remaining levels start end) a → Has (remaining levels start end) b → a < b → Before levels v b a
+turned_round : (levels : List (Option ℕ)) (start end v a b : ℕ) → ListsRemaining levels start end (remaining levels start end) → IsAtOneLevel levels start end v → Has (remaining levels start end) a → Has (remaining levels start end) b → a < b → Before levels v b a
 turned_round levels start end v a b h u ha hb lt =
     let sa = h.sound a ha in
     let sb = h.sound b hb in
@@ -36,7 +36,7 @@ turned_round levels start end v a b h u ha hb lt =
     }
 
 -- an odd level turns them round
-pub uniform-falling : (levels : List (Option ℕ)) (start end v : ℕ) → start ≤ end → v % 2 ≡ 1 → IsUniform levels start end v → line_order levels start end ≡ reverse (remaining levels start end)
+pub uniform-falling : (levels : List (Option ℕ)) (start end v : ℕ) → start ≤ end → v % 2 ≡ 1 → IsAtOneLevel levels start end v → line_order levels start end ≡ reverse (remaining levels start end)
 uniform-falling levels start end v le odd u =
     let xs = remaining levels start end in
     let r = remaining-rising levels start end le in

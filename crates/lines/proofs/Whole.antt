@@ -8,7 +8,7 @@ use Rattle.units.specs.Positions.{positions_from}
 use Rattle.units.specs.Reordering.{line_order}
 use Rattle.units.specs.declared.level.ParaLevel.{ParaLevel}
 use Rattle.units.specs.declared.level.ParaLevel.TheVariants.{Zero, One}
-use Rattle.lines.specs.Turning.{IsUniform, is_remaining, remaining}
+use Rattle.lines.specs.Turning.{IsAtOneLevel, is_remaining, remaining}
 use Rattle.lines.proofs.Uniform.{uniform-falling, uniform-rising}
 
 filter-all : (test : ℕ → Bool) (start count : ℕ) → ((p : ℕ) → start ≤ p → p < start + count → test p ≡ true) → filter test (positions_from start count) ≡ positions_from start count
@@ -42,7 +42,7 @@ zero_or_one Zero = inl refl
 zero_or_one One = inr refl
 
 -- all positions, rising at the level 0 and falling at 1
-pub whole-order : (levels : List (Option ℕ)) (start end : ℕ) (level : ParaLevel) (written : List ℕ) → start ≤ end → IsUniform levels start end (level_of_para level) → AllRemain levels start end → (level_of_para level ≡ 0 → written ≡ positions_from start (end - start)) → (level_of_para level ≡ 1 → written ≡ reverse (positions_from start (end - start))) → written ≡ line_order levels start end
+pub whole-order : (levels : List (Option ℕ)) (start end : ℕ) (level : ParaLevel) (written : List ℕ) → start ≤ end → IsAtOneLevel levels start end (level_of_para level) → AllRemain levels start end → (level_of_para level ≡ 0 → written ≡ positions_from start (end - start)) → (level_of_para level ≡ 1 → written ≡ reverse (positions_from start (end - start))) → written ≡ line_order levels start end
 whole-order levels start end level written le u all even odd =
     elim (zero_or_one level) [
       | inl e ↦ even e ∙ sym (remaining-all levels start end le all) ∙ sym (uniform-rising levels start end (level_of_para level) le (ap (λ n. n % 2) e) u)

@@ -51,5 +51,5 @@ pub record ListsRemaining (levels : List (Option ℕ)) (start end : ℕ) (xs : L
   pub complete : (p v : ℕ) → start ≤ p → p < end → HasLevel levels p v → Has xs p
 
 -- L2: all remaining positions of the line have one level
-pub record IsUniform (levels : List (Option ℕ)) (start end level : ℕ) : Type 0 where
+pub record IsAtOneLevel (levels : List (Option ℕ)) (start end level : ℕ) : Type 0 where
   pub same : (p v : ℕ) → start ≤ p → p < end → HasLevel levels p v → v ≡ level

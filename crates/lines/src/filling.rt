@@ -8,7 +8,7 @@ ghost use Rattle.units.specs.Reordering.{cuts_of, line_order};
 ghost use Rattle.lines.specs.Bounds.{AreBounds, bound_behind, bounds_filled, lines_filled, orders_filled};
 ghost use Rattle.lines.specs.LineEnds.{EndsAt};
 ghost use Rattle.lines.specs.Spaces.{StaysAtParas};
-ghost use Rattle.lines.specs.Turning.{IsUniform};
+ghost use Rattle.lines.specs.Turning.{IsAtOneLevel};
 
 use crate::bounds::Bound;
 use crate::breaks::Breaks;
@@ -81,7 +81,7 @@ fn write_line<L: Ledger>(
     requires line { start ≤ end }
     requires within { end ≤ length levels.now }
     requires small { length levels.now < 2 ^ 32 }
-    requires uniform { IfSome uniform (λ level. IsUniform levels.now start end (level_of_para level)) }
+    requires uniform { IfSome uniform (λ level. IsAtOneLevel levels.now start end (level_of_para level)) }
     requires few { filled.positions ≤ start }
     requires runs { end ≤ length runs.old }
     requires orders { end ≤ length orders.old }

@@ -5,7 +5,7 @@ ghost use Rattle.units.specs.Reordering.{IsLineOrder, line_order};
 ghost use Rattle.units.specs.declared.bracket.Unit.{Unit as BidiUnit};
 ghost use Rattle.lines.specs.Removed.{RemovedHaveNoLevel};
 ghost use Rattle.lines.specs.Spaces.{StaysAtParas, levels_reset};
-ghost use Rattle.lines.specs.Turning.{IsUniform, remaining};
+ghost use Rattle.lines.specs.Turning.{IsAtOneLevel, remaining};
 
 use crate::breaks::Breaks;
 use units::bracket::Unit;
@@ -25,7 +25,7 @@ pub fn order_law(levels: &[Option<Level>], start: usize, end: usize)
 /// round if it is odd.
 pub fn uniform_law(levels: &[Option<Level>], start: usize, end: usize, level: Level)
     requires line { start ≤ end }
-    requires uniform { IsUniform levels.now start end level }
+    requires uniform { IsAtOneLevel levels.now start end level }
     ensures rising { level % 2 ≡ 0 → line_order levels.now start end ≡ remaining levels.now start end }
     ensures falling { level % 2 ≡ 1 → line_order levels.now start end ≡ reverse (remaining levels.now start end) }
 {}

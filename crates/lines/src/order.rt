@@ -3,7 +3,7 @@ ghost use Rattle.units.specs.Isolates.{level_of_para};
 ghost use Rattle.units.specs.Positions.{positions_from};
 ghost use Rattle.units.specs.Reordering.{line_order};
 ghost use Rattle.lines.specs.RunLinks.{IsLevelRun};
-ghost use Rattle.lines.specs.Turning.{IsUniform, remaining};
+ghost use Rattle.lines.specs.Turning.{IsAtOneLevel, remaining};
 
 use crate::positions::{all_remain, count_down, count_up};
 use crate::runs::{Run, link_line};
@@ -95,7 +95,7 @@ fn write_uniform<L: Ledger>(
 ) -> usize
     requires line { start ≤ end }
     requires within { end ≤ length levels.now }
-    requires uniform { IsUniform levels.now start end (level_of_para level) }
+    requires uniform { IsAtOneLevel levels.now start end (level_of_para level) }
     requires room { end - start ≤ length order.old }
     ensures order { take result order.new ≡ line_order levels.now start end }
     ensures count { result ≤ end - start }
@@ -215,7 +215,7 @@ pub fn write_order<L: Ledger>(
 ) -> usize
     requires line { start ≤ end }
     requires within { end ≤ length levels.now }
-    requires uniform { IfSome uniform (λ level. IsUniform levels.now start end (level_of_para level)) }
+    requires uniform { IfSome uniform (λ level. IsAtOneLevel levels.now start end (level_of_para level)) }
     requires runs { end ≤ length runs.old }
     requires small { end < 2 ^ 32 }
     requires room { end - start ≤ length order.old }

@@ -3,7 +3,7 @@ ghost use Rattle.std.specs.Prelude.{◌≡◌, ◌≢◌, ◌≤◌, ◌<◌, �
 ghost use Rattle.units.specs.Reordering.{line_order};
 ghost use Rattle.lines.specs.RunLinks.{BeginsRun, IsLineChain, IsFollowed, IsJoined, IsLinkedStretch, StopsBelow};
 ghost use Rattle.lines.specs.RunLinks.{run_in};
-ghost use Rattle.lines.specs.Turning.{HasLevel, IsUniform};
+ghost use Rattle.lines.specs.Turning.{HasLevel, IsAtOneLevel};
 
 use std::sync::ledger::Ledger;
 use units::level::Level;
@@ -85,7 +85,7 @@ fn end_of_run<L: Ledger>(
     requires level { HasLevel levels.now position level }
     ensures rises { position < result }
     ensures within { result ≤ end }
-    ensures uniform { IsUniform levels.now position result level }
+    ensures uniform { IsAtOneLevel levels.now position result level }
     ensures stops { (result ≡ end) ⊎ ((v : ℕ) × HasLevel levels.now result v × (v ≢ level)) }
     ensures at_least { steps.old + (result - position) ≤ steps.new + 1 }
     ensures at_most { steps.new ≤ steps.old + (result - position) }

@@ -11,7 +11,7 @@ use Rattle.units.specs.Reordering.{begins_line, para_level_at}
 use Rattle.lines.specs.Bounds.{first_bound}
 use Rattle.lines.specs.declared.bounds.Bound.{Bound}
 use Rattle.lines.specs.LineBreaks.{AreBreaks}
-use Rattle.lines.specs.Turning.{IsUniform}
+use Rattle.lines.specs.Turning.{IsAtOneLevel}
 use Rattle.lines.proofs.Cuts.{Cuts}
 use Rattle.lines.proofs.NextLine.{IsLimit, ends_line, limit_within, passing_none, passing_on}
 use Rattle.lines.proofs.LineEnd.{class_read}
@@ -38,8 +38,8 @@ abbrev ended_at : List Bound → ℕ → ℕ → List Bound
 ended_at bounds position order = bounds ++ record { position = position; order = order } ∷ []
 
 -- where the level is known, it is the line's
-known_level : (known : Bool) (levels : List (Option ℕ)) (start end level : ℕ) (para : ParaLevel) → level_of_para para ≡ level → (known ≡ true → IsUniform levels start end level) → IfSome (then_some known para) (λ p. IsUniform levels start end (level_of_para p))
-known_level true levels start end level para e u = subst (IsUniform levels start end) (sym e) (u refl)
+known_level : (known : Bool) (levels : List (Option ℕ)) (start end level : ℕ) (para : ParaLevel) → level_of_para para ≡ level → (known ≡ true → IsAtOneLevel levels start end level) → IfSome (then_some known para) (λ p. IsAtOneLevel levels start end (level_of_para p))
+known_level true levels start end level para e u = subst (IsAtOneLevel levels start end) (sym e) (u refl)
 known_level false levels start end level para e u = tt
 
 -- what is said of a known level is so where it is known
@@ -77,7 +77,7 @@ write_line-filled-requires-clause-uniform g c =
     let within : end ≤ length own = omega (arith, e.within, limit_within at l.passed (length own) limit breaks is_limit) in
     let bound = paragraph_at c.args.own.now (length paras) l.start c.requires.paras (omega arith) in
     let para = para_read own paras l.start l.paragraph l.invariant.counted (omega (arith, bound, l.invariant.counted)) in
-    subst (λ o. IfSome o (λ p. IsUniform levels l.start end (level_of_para p))) (sym c.then_some-level.ensures)
+    subst (λ o. IfSome o (λ p. IsAtOneLevel levels l.start end (level_of_para p))) (sym c.then_some-level.ensures)
     (known_level c.args.uniform levels l.start end (para_level_at own (map level_of_para paras) l.start) (slice_index_or paras l.paragraph Zero) para
     (λ known. line_uniform own (map level_of_para paras) levels l.start limit end (c.requires.uniform known) e within))
 

@@ -3,7 +3,7 @@ use Rattle.std.specs.Prelude.{slice_range}
 use Rattle.std.specs.Option.{is_some}
 use Rattle.std.proofs.lemmas.List.Sums.{AllPass-from_list_all}
 use Rattle.units.specs.Isolates.{level_of_para}
-use Rattle.lines.specs.Turning.{IsUniform}
+use Rattle.lines.specs.Turning.{IsAtOneLevel}
 use Rattle.lines.proofs.Uniform.{uniform-falling, uniform-rising}
 use Rattle.lines.proofs.Whole.{all_in_line, whole-order}
 use Rattle.lines.proofs.order.write_uniform.Goals as goal
@@ -11,12 +11,12 @@ use Rattle.lines.proofs.order.write_uniform.Goals as goal
 pub returns-in-Zero-clause-order : goal.returns-in-Zero-clause-order
 returns-in-Zero-clause-order g c =
     c.write_rising.ensures.order
-    ∙ sym (uniform-rising c.args.levels.now c.args.start c.args.end 0 c.requires.line refl (subst (IsUniform c.args.levels.now c.args.start c.args.end) (ap level_of_para c.in-Zero.is) c.requires.uniform))
+    ∙ sym (uniform-rising c.args.levels.now c.args.start c.args.end 0 c.requires.line refl (subst (IsAtOneLevel c.args.levels.now c.args.start c.args.end) (ap level_of_para c.in-Zero.is) c.requires.uniform))
 
 pub returns-in-One-clause-order : goal.returns-in-One-clause-order
 returns-in-One-clause-order g c =
     c.write_falling.ensures.order
-    ∙ sym (uniform-falling c.args.levels.now c.args.start c.args.end 1 c.requires.line refl (subst (IsUniform c.args.levels.now c.args.start c.args.end) (ap level_of_para c.in-One.is) c.requires.uniform))
+    ∙ sym (uniform-falling c.args.levels.now c.args.start c.args.end 1 c.requires.line refl (subst (IsAtOneLevel c.args.levels.now c.args.start c.args.end) (ap level_of_para c.in-One.is) c.requires.uniform))
 
 pub returns-then-all_remain-clause-order : goal.returns-then-all_remain-clause-order
 returns-then-all_remain-clause-order g c =
