@@ -1,5 +1,4 @@
 //! The clock.
-ghost use Rattle.std.specs.Prelude.{◌≡◌};
 
 use lines::breaks::Breaks;
 use lines::lay_out::lay_in;

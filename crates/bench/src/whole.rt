@@ -1,5 +1,4 @@
 //! All that is done for a text: its units are looked up, and it is laid out.
-ghost use Rattle.std.specs.Prelude.{◌≡◌, length};
 
 use crate::timing::{line_count, tenths_each};
 use lines::scratch::Scratch;

@@ -1,5 +1,5 @@
 // A room: the units of a text, and its layout.
-ghost use Rattle.std.specs.Prelude.{ℕ, ◌≡◌, ◌≢◌, ◌≤◌, ◌<◌, ◌↔◌, [], None, MatchOption, Err, length, slice_index, take, map, IfOk, IfSome, OnOk, IfErr, OnErr, IsOk, IsNone};
+ghost use Rattle.std.specs.Prelude.{ℕ, ◌≡◌, ◌≢◌, ◌≤◌, ◌<◌, ◌↔◌, [], None, MatchOption, Err, length, slice_index, take, IfOk, IfSome, OnOk, IfErr, OnErr, IsOk, IsNone};
 ghost use Rattle.std.specs.Box.{boxed_slice_items};
 ghost use Rattle.std.specs.Char.{IsScalar};
 ghost use Rattle.units.specs.Layout.{layout_of, longest_text};

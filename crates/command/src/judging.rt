@@ -1,7 +1,5 @@
 // A source judged, and its verdict printed.
-ghost use Rattle.std.specs.Prelude.{◌≡◌, ◌≤◌, ℕ, List, [], IfOk, IfErr, IsErr, OnOk};
-ghost use Rattle.units.specs.Limits.{standard};
-ghost use Rattle.bidtests.specs.Standing.{Judges};
+ghost use Rattle.std.specs.Prelude.{◌≡◌, ◌≤◌, ℕ, List, IfOk, IfErr, IsErr, OnOk};
 ghost use Rattle.command.specs.HandedOut.{IsNewFor, SaysOfCharacters, SaysOfClasses, SaysOfKinds};
 ghost use Rattle.command.specs.Judged.{EndsJudging, verdict_status};
 

@@ -1,5 +1,5 @@
 // The foot of a paragraph: its isolating run sequences, its bracket pairs, and its order.
-ghost use Rattle.std.specs.Prelude.{◌≡◌, ◌<◌, ◌≤◌, OnOk};
+ghost use Rattle.std.specs.Prelude.{◌<◌, ◌≤◌, OnOk};
 ghost use Rattle.std.specs.List.{All};
 ghost use Rattle.std.specs.Io.KnownBytes.{Appends};
 ghost use Rattle.units.specs.Layout.{longest_text};

@@ -1,5 +1,5 @@
 // The row of a position: what each rule made of it.
-ghost use Rattle.std.specs.Prelude.{◌≡◌, ◌<◌, length, OnOk};
+ghost use Rattle.std.specs.Prelude.{◌<◌, length, OnOk};
 ghost use Rattle.std.specs.Io.KnownBytes.{Appends};
 ghost use Rattle.explain.specs.Rows.{changes_text, row_start_text, row_end_text, row_text};
 

@@ -1,7 +1,7 @@
 //! The isolates of a paragraph (BD9), and on which side each begins (P2, P3).
-ghost use Rattle.std.specs.Prelude.{◌≡◌, ◌+◌, ◌<◌, ◌≤◌, ℕ, length, List, true, Option, Some, None, IfOk, slice_index_or};
-ghost use Rattle.units.specs.Classes.{class_at, classes_of, is_isolate_initiator};
-ghost use Rattle.units.specs.Isolates.{partner_of, first_strong, begins_right_to_left};
+ghost use Rattle.std.specs.Prelude.{◌≡◌, ◌+◌, ◌<◌, ◌≤◌, ℕ, length, List, Option, None, IfOk, slice_index_or};
+ghost use Rattle.units.specs.Classes.{classes_of, is_isolate_initiator};
+ghost use Rattle.units.specs.Isolates.{partner_of, first_strong};
 ghost use Rattle.units.specs.declared.class.Class.{Class};
 ghost use Rattle.explicit.specs.IsolateMaps.{room, HasPartners, IsFilledFrom, IsSideInside};
 ghost use Rattle.explicit.specs.Sides.{HasSides, side_at, noted, noted_at};

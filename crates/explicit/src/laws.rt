@@ -1,6 +1,5 @@
 //! Laws of isolates and of explicit levels, for the layers above.
 ghost use Rattle.std.specs.Prelude.{◌≡◌, ◌<◌, ◌≤◌, ◌⊎◌, ℕ, true, false, List, Some, is_none};
-ghost use Rattle.std.specs.Option.{option_map};
 ghost use Rattle.units.specs.Classes.{class_at, classes_of, is_removed};
 ghost use Rattle.units.specs.Explicit.{explicit_at, next_even, next_odd, wanted_level, wants_odd};
 ghost use Rattle.units.specs.Isolates.{matching_pdi};

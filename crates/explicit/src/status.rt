@@ -1,7 +1,7 @@
 //! The initiators that are open, as one pass over a paragraph keeps them (X1 to X8).
-ghost use Rattle.std.specs.Prelude.{◌≡◌, ◌<◌, ◌≤◌, ◌+◌, ◌-◌, ◌==◌, ◌&&◌, nat_le, true, false, ℕ, List, [], ◌∷◌, Some, slice_index_or, if◌then◌else◌};
-ghost use Rattle.units.specs.Classes.{class_at, is_isolate_initiator, is_removed, is_separator};
-ghost use Rattle.units.specs.Explicit.{next_odd, next_even, override_of, wants_odd};
+ghost use Rattle.std.specs.Prelude.{◌≡◌, ◌<◌, ◌≤◌, ◌+◌, ◌-◌, ◌==◌, ◌&&◌, nat_le, false, ℕ, List, [], ◌∷◌, Some, slice_index_or, if◌then◌else◌};
+ghost use Rattle.units.specs.Classes.{is_isolate_initiator, is_removed, is_separator};
+ghost use Rattle.units.specs.Explicit.{next_odd, next_even, override_of};
 ghost use Rattle.units.specs.declared.class.Class.{Class};
 ghost use Rattle.explicit.specs.OpenInitiators.{after_pdi, after_pdf, left_open, opened};
 ghost use Rattle.explicit.specs.StatusStacks.{Represents, IsKept, before_isolate, entry_count, is_ordinary};

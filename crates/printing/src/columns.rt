@@ -1,5 +1,5 @@
 // Where lines of a fixed number of positions break.
-ghost use Rattle.std.specs.Prelude.{◌≡◌, ◌<◌, ℕ, ◌-◌, ◌%◌, ◌==◌, ◌&&◌, not, nat_lt, length, List, [], ◌∷◌, ◌++◌, IfOk, OnOk};
+ghost use Rattle.std.specs.Prelude.{◌≡◌, ◌<◌, ◌-◌, ◌%◌, ◌==◌, ◌&&◌, not, nat_lt, length, [], ◌∷◌, ◌++◌, IfOk, OnOk};
 ghost use Rattle.units.specs.Classes.{is_separator};
 ghost use Rattle.lines.specs.LineBreaks.{AreBreaks};
 ghost use Rattle.printing.specs.Columns.{column_breaks_of};

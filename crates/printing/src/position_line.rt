@@ -1,5 +1,5 @@
 // The lines that say what the levels of a text are.
-ghost use Rattle.std.specs.Prelude.{◌≡◌, OnOk, Some};
+ghost use Rattle.std.specs.Prelude.{OnOk, Some};
 ghost use Rattle.std.specs.Io.KnownBytes.{Appends};
 ghost use Rattle.units.specs.Isolates.{level_of_para};
 ghost use Rattle.printing.specs.LevelsText.{code_text, level_text, position_text, paragraph_text};

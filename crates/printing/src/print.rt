@@ -4,7 +4,7 @@ ghost use Rattle.std.specs.Io.KnownBytes.{Appends};
 ghost use Rattle.units.specs.Layout.{layout_of, longest_text};
 ghost use Rattle.units.specs.Limits.{standard};
 ghost use Rattle.lines.specs.Scratches.{room_of};
-ghost use Rattle.ucdfiles.specs.Tables.{glyph_by, units_by};
+ghost use Rattle.ucdfiles.specs.Tables.{glyph_by};
 ghost use Rattle.printing.specs.LevelsText.{levels_text};
 ghost use Rattle.printing.specs.PrintedTexts.{lines_text, printed_levels, printed_reorder};
 

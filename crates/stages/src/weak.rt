@@ -1,6 +1,6 @@
 //! The weak types (W1 to W7), a pass for each rule. `classes` are those of the sequence's paragraph, by position; the
 //! ones at positions outside the sequence stay.
-ghost use Rattle.std.specs.Prelude.{◌≡◌, ℕ, ◌+◌, ◌*◌, ◌<◌, ◌≤◌, length, slice_get};
+ghost use Rattle.std.specs.Prelude.{◌≡◌, ◌+◌, ◌*◌, ◌<◌, ◌≤◌, length, slice_get};
 ghost use Rattle.units.specs.Weak.{after_w1, after_w2, after_w3, after_w4, after_w5, after_w6, after_w7, after_weak, class_or};
 ghost use Rattle.units.specs.declared.class.Class.TheVariants.{ON};
 ghost use Rattle.sequences.specs.Links.{ArePositions};

@@ -1,5 +1,5 @@
 // The three tables, read from the bytes of their files.
-ghost use Rattle.std.specs.Prelude.{◌≡◌, IfOk, IfErr};
+ghost use Rattle.std.specs.Prelude.{IfOk, IfErr};
 ghost use Rattle.ucdfiles.specs.ClassFile.{class_fault, StatesClasses};
 ghost use Rattle.ucdfiles.specs.Files.{StateTables, IsFaulty, IsFirstFaulty};
 ghost use Rattle.ucdfiles.specs.PairFiles.{bracket_fault, mirror_fault, StatesBrackets, StatesMirrors};

@@ -1,5 +1,5 @@
 // A source that fails after some bytes.
-ghost use Rattle.std.specs.Prelude.{◌≡◌, ℕ, ◌++◌, ◌≤◌, List, [], length, take, refl, false};
+ghost use Rattle.std.specs.Prelude.{◌≡◌, ◌++◌, ◌≤◌, [], length, take, refl, false};
 ghost use Rattle.units.specs.Joined.{splits_joined};
 ghost use Rattle.units.specs.CutSources.{failures_when};
 

@@ -1,5 +1,5 @@
 // Cuts pieces of a stream into lines, in a buffer of its own.
-ghost use Rattle.std.specs.Prelude.{◌≡◌, ◌≢◌, ℕ, ◌+◌, ◌<◌, ◌≤◌, List, [], ◌∷◌, ◌++◌, length, take, drop, IfSome};
+ghost use Rattle.std.specs.Prelude.{◌≡◌, ◌≢◌, ℕ, ◌+◌, ◌<◌, ◌≤◌, List, [], ◌∷◌, ◌++◌, length, take, IfSome};
 ghost use Rattle.units.specs.Lines.{HasNoFeed, EndsByFeed, UsesOneLine, CutsInto, IsTooLongAfter, cut_lines};
 ghost use Rattle.units.specs.Text.{longest_line};
 
@@ -65,7 +65,6 @@ fn put(buffer: &mut [u8], at: usize, bytes: &[u8])
 impl LineCut {
     ghost use Rattle.units.specs.LineCutting.{Cutting, StandsFor, GoesOn, IfCut, IfTooLong, Reaches};
     ghost use Rattle.units.specs.LineAnswers.{Answers, Finishes, StepIsShort};
-    ghost use Rattle.units.specs.Lines.{saturated};
     ghost use Rattle.units.specs.contracts.line_cut.LineCut.{the_row};
     ghost use Rattle.std.specs.Borrow.{sem};
     ghost use Rattle.std.specs.Io.BufRead.{Rests};

@@ -1,5 +1,5 @@
 // A source over any reader.
-ghost use Rattle.std.specs.Prelude.{◌≡◌, ℕ, ◌++◌, List, [], length};
+ghost use Rattle.std.specs.Prelude.{◌≡◌};
 ghost use Rattle.units.specs.HandsOut.{HandsOut, HasEnded, failures_of, HandsOut-nothing, HandsOut-joined};
 
 use crate::source::{ByteSource, SourceFault};

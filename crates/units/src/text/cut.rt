@@ -1,5 +1,5 @@
 // Cuts at separators.
-ghost use Rattle.std.specs.Prelude.{◌≡◌, ◌≢◌, ◌==◌, ℕ, List, [], ◌∷◌, ◌≤◌, length, MatchOption, IfSome};
+ghost use Rattle.std.specs.Prelude.{◌≡◌, ◌≢◌, ◌==◌, [], ◌∷◌, ◌≤◌, length, MatchOption, IfSome};
 ghost use Rattle.std.specs.List.{before_first};
 ghost use Rattle.units.specs.Text.{cut_at, fields_of};
 ghost use Rattle.units.specs.Cuts.{IsBehindFirst, pieces_behind, fields_behind};

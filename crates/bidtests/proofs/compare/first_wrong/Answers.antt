@@ -1,6 +1,6 @@
-use Rattle.std.proofs.Common.{◌≡◌, Bool, true, Option, Some, None, get_or, sym, ◌∙◌, rules}
+use Rattle.std.proofs.Common.{◌≡◌, Bool, true, Option, Some, None, get_or, drop-cons, refl, sym, ◌∙◌, rules}
 use Rattle.std.specs.Prelude.{IfSome}
-use Rattle.std.specs.Option.{option_eq}
+use Rattle.std.specs.Option.{option_eq, option_or}
 use Rattle.units.specs.declared.level.Direction.{Direction}
 use Rattle.units.specs.declared.level.Direction.TheVariants.{Auto}
 use Rattle.bidtests.specs.Readings.{claim_of}
@@ -14,6 +14,11 @@ at-equal : (eq : Direction → Direction → Bool) (found : Option Direction) (d
 at-equal eq None d P same is holds = absurd cc
 at-equal eq (Some e) d P same is holds = rw (← same e d is) holds
 
+-- what holds of each direction that is there holds of the first of them
+of-first : (a b : Option Direction) (P : Direction → Type 0) → IfSome a P → IfSome b P → IfSome (option_or a b) P
+of-first None b P left right = right
+of-first (Some d) b P left right = left
+
 pub loop-direction-preserved-then-eq : goal.loop-direction-preserved-then-eq
 loop-direction-preserved-then-eq c =
     let d = get_or c.args.claim.directions.now c.loop-direction.direction-index Auto in
@@ -24,3 +29,14 @@ loop-direction-preserved-then-eq c =
       right = c.loop-direction.invariant.right;
       room = c.loop-direction.invariant.room;
     }
+
+pub loop-direction-preserved : goal.loop-direction-preserved
+loop-direction-preserved c = record {
+  rest = c.loop-direction.invariant.rest ∙ passed-over c.args.limits (claim_of c.args.claim) c.args.claim.directions.now c.loop-direction.direction-index Auto c.loop-direction-test.true c.in-Agrees.ensures.compares.0;
+  right = rw c.or-right.ensures (of-first c.loop-direction.right c.in-Agrees.also_under _ c.loop-direction.invariant.right c.in-Agrees.ensures.compares.1);
+  room = c.compare.ensures.room ∙ c.loop-direction.invariant.room;
+}
+
+pub returns-in-Differs-clause-wrong : goal.returns-in-Differs-clause-wrong
+returns-in-Differs-clause-wrong c =
+    rw (c.loop-direction.invariant.rest, drop-cons c.args.claim.directions.now c.loop-direction.direction-index Auto c.loop-direction-test.true, c.in-Differs.ensures.compares) refl
