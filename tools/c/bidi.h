@@ -1,4 +1,4 @@
-/* bidi.h: the Unicode Bidirectional Algorithm (UAX #9, P1 to L4) and a judge of its conformance files, proved.
+/* bidi.h: the Unicode Bidirectional Algorithm (UAX #9, P1 to L2, L4) and a judge of its conformance files, proved.
  *
  * Link: program.o libbidi_c.a liblibc_c.a. The second archive is malloc, realloc and free as the first one calls them.
  * docs/C.md is the manual. The contracts of crates/bidi_c say what each call is proved to do.

@@ -17,7 +17,7 @@ table is faulty, a text is not UTF-8, a write fails or memory is refused.";
 /// What stands behind the name in the line of the version: the rules that are followed, and the kit that they are
 /// proved with.
 pub const BIDI_VERSION: &str =
-    "(rules P1 to L4 of UAX #9, Unicode 15.0)\nproved with rattle-kit-13b logic dac8208d650f15bf";
+    "(rules P1 to L2 and L4 of UAX #9, Unicode 15.0)\nproved with rattle-kit-13b logic dac8208d650f15bf";
 
 /// What stands at the end of the help of `bidi`.
 pub const BIDI_EXAMPLE: &str = "Example:\n  bidi levels --tables ucd text.txt";
