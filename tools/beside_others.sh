@@ -8,9 +8,9 @@
 # usage: tools/beside_others.sh [FOLDER]      (FOLDER, with the property files: /usr/share/unicode)
 #
 # It needs gcc, valgrind and python3, and ends with 2 where one of them or a property file is missing. A column whose
-# program is missing or does not build has `-`: build the program by `rt run` in crates/bench (BENCH and LIBRARY may name
-# one) and the library by `rt lib` in crates/bidi_c; ICU and FriBidi are the packages libicu-dev and libfribidi-dev. Not
-# part of `rt ci`; it takes some minutes.
+# program is missing or does not build has `-`: build the program by `rt run` in crates/bench (BENCH and LIBRARY may
+# name one) and the library by `rt lib` in crates/bidi_c; ICU and FriBidi are the packages libicu-dev and
+# libfribidi-dev. Not part of `rt ci`; it takes some minutes.
 set -u
 folder=${1:-/usr/share/unicode}
 tools=$(cd "$(dirname "$0")" && pwd)
@@ -84,7 +84,8 @@ row() {
     awk -v name="$1" -v ours="$2" -v from_c="$3" -v icu="$4" -v fribidi="$5" '
         function beside(a, b) { return a == "-" || b == "-" || b == 0 ? "-" : sprintf("%.2f", a / b) }
         BEGIN {
-            printf "%-18s %10s %10s %10s %10s %8s %8s\n", name, ours, from_c, icu, fribidi, beside(ours, icu), beside(from_c, icu)
+            printf "%-18s %10s %10s %10s %10s %8s %8s\n",
+                name, ours, from_c, icu, fribidi, beside(ours, icu), beside(from_c, icu)
         }'
 }
 
@@ -101,6 +102,7 @@ done
 printf "$head" "ns" "ours" "from C" "ICU" "FriBidi" "to ICU" "C to ICU"
 for name in $hostile; do
     text=$work/texts/$name.txt
-    row "$name" "$(time_of "$program" --tables "$work" "$text" 10)" "$(time_of "$work/lay_out_bidi_c" "$text" 10 "$work")" \
+    row "$name" "$(time_of "$program" --tables "$work" "$text" 10)" \
+        "$(time_of "$work/lay_out_bidi_c" "$text" 10 "$work")" \
         "$(time_of "$work/lay_out_icu" "$text" 10)" "$(time_of "$work/lay_out_fribidi" "$text" 10)"
 done

@@ -119,7 +119,8 @@ def draw(crates, notes):
     width = max(box[0] + box[2] for box in boxes.values()) + MARGIN
     height = max(box[1] + box[3] for box in boxes.values()) + MARGIN
     parts = [
-        f'<svg xmlns="http://www.w3.org/2000/svg" viewBox="0 0 {width:g} {height:g}" width="{width:g}" height="{height:g}">',
+        f'<svg xmlns="http://www.w3.org/2000/svg" viewBox="0 0 {width:g} {height:g}" '
+        f'width="{width:g}" height="{height:g}">',
         "<title>The crates, and what flows between them</title>",
         '<defs><marker id="tip" viewBox="0 0 8 8" refX="6" refY="4" markerWidth="7" markerHeight="7" orient="auto">'
         '<path d="M0 0L8 4L0 8z" fill="#5b6770"/></marker></defs>',
@@ -150,7 +151,9 @@ def main():
     drawing, file = draw(crates, notes), TOP / "docs/crates.svg"
     if "--check" in sys.argv[1:]:
         if not file.exists() or file.read_text() != drawing:
-            sys.exit("docs/crates.svg is not the drawing of crates.txt and docs/crates_drawing.txt: tools/draw_crates.py")
+            sys.exit(
+                "docs/crates.svg is not the drawing of crates.txt and docs/crates_drawing.txt: tools/draw_crates.py"
+            )
     else:
         file.write_text(drawing)
 

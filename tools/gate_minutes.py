@@ -17,7 +17,7 @@ TICKS = os.sysconf("SC_CLK_TCK")
 
 
 def stat_of(process):
-    """Returns the number of a process's parent, when it began, and its processor seconds, or None where it has ended."""
+    """Returns the number of a process's parent, when it began, and its processor seconds; None where it has ended."""
     try:
         with open(f"/proc/{process}/stat", encoding="utf-8", errors="replace") as it:
             fields = it.read().rpartition(")")[2].split()

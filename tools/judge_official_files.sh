@@ -20,7 +20,8 @@ work=$(mktemp -d) || exit 2
 trap 'rm -r "$work"' EXIT
 
 for name in $names; do
-    found=$(find "$folder" \( -name "$name" -o -name "$name.gz" -o -name "$name.bz2" -o -name "$name.xz" \) | sort | head -n 1)
+    found=$(find "$folder" \( -name "$name" -o -name "$name.gz" -o -name "$name.bz2" -o -name "$name.xz" \) |
+        sort | head -n 1)
     case $found in
         '') echo "no $name in $folder" >&2; exit 2 ;;
         *.gz) gzip -dc "$found" > "$work/$name" || exit 2 ;;

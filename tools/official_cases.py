@@ -29,7 +29,8 @@ use Rattle.units.specs.Layout.{TextLayout, layout_of, all_orders}
 use Rattle.units.specs.Limits.{standard}
 use Rattle.units.specs.Rows.{plain, laid_out, layouts_compute}
 use Rattle.units.specs.declared.class.Class.{Class}
-use Rattle.units.specs.declared.class.Class.TheVariants.{L, R, AL, EN, ES, ET, AN, CS, NSM, BN, B, S, WS, ON, LRE, LRO, RLE, RLO, PDF, LRI, RLI, FSI, PDI}
+use Rattle.units.specs.declared.class.Class.TheVariants.{\
+L, R, AL, EN, ES, ET, AN, CS, NSM, BN, B, S, WS, ON, LRE, LRO, RLE, RLO, PDF, LRI, RLI, FSI, PDI}
 use Rattle.units.specs.declared.bracket.Bracket.{Bracket}
 use Rattle.units.specs.declared.bracket.Bracket.TheVariants.{No, Open, Close}
 use Rattle.units.specs.declared.bracket.Unit.{Unit as BidiUnit}
@@ -52,7 +53,14 @@ with_level text direction = claimed (layout_of standard text direction [])
 
 OPENED = 'layouts_compute'
 
-SHORT_NAMES = {'Left_To_Right': 'L', 'Right_To_Left': 'R', 'Arabic_Letter': 'AL', 'European_Terminator': 'ET', 'Boundary_Neutral': 'BN'}
+SHORT_NAMES = {
+    'Left_To_Right': 'L',
+    'Right_To_Left': 'R',
+    'Arabic_Letter': 'AL',
+    'European_Terminator': 'ET',
+    'Boundary_Neutral': 'BN',
+}
+DIRECTIONS = {'0': 'Ltr', '1': 'Rtl', '2': 'Auto'}
 
 
 def listed(items):
@@ -94,7 +102,8 @@ def class_cases(folder):
 
 def class_equation(case):
     number, classes, direction, level_items, order = case
-    return equation('line-%d-%s' % (number, direction.lower()), 'laid_out (map plain (%s)) %s' % (listed(classes), direction),
+    return equation('line-%d-%s' % (number, direction.lower()),
+                    'laid_out (map plain (%s)) %s' % (listed(classes), direction),
                     '(%s, %s)' % (levels_text(level_items), listed(order)))
 
 
@@ -107,7 +116,8 @@ def class_table(folder):
         if line.strip():
             points, name = [x.strip() for x in line.split(';')]
             first, _, last = points.partition('..')
-            (defaults if default else spans).append((int(first, 16), int(last or first, 16), SHORT_NAMES.get(name, name)))
+            span = (int(first, 16), int(last or first, 16), SHORT_NAMES.get(name, name))
+            (defaults if default else spans).append(span)
     spans.sort()
     starts = [span[0] for span in spans]
 
@@ -138,7 +148,8 @@ def character_cases(folder):
         line = line.split('#')[0].strip()
         if line:
             text, direction, para, level_items, order = line.split(';')
-            found.append((number, [int(x, 16) for x in text.split()], direction, para, level_items.split(), order.split()))
+            points = [int(x, 16) for x in text.split()]
+            found.append((number, points, direction, para, level_items.split(), order.split()))
     return found
 
 
@@ -151,7 +162,7 @@ def character_equation(class_of, brackets):
     def of(case):
         number, points, direction, para, level_items, order = case
         return equation('line-%d' % number,
-                        'with_level (%s) %s' % (listed(unit(p) for p in points), {'0': 'Ltr', '1': 'Rtl', '2': 'Auto'}[direction]),
+                        'with_level (%s) %s' % (listed(unit(p) for p in points), DIRECTIONS[direction]),
                         '(Some %s, %s, %s)' % (para, levels_text(level_items), listed(order)))
     return of
 
@@ -161,10 +172,12 @@ def check(workspace, equations):
     specs = workspace + '/crates/units/specs'
     with open(specs + '/OfficialCases.antt', 'w', encoding='utf-8') as file:
         file.write(HEAD + '\n' + '\n'.join(equations))
-    ran = subprocess.run(['rt', 'check', '--jobs', '1'], cwd=workspace + '/crates/units', capture_output=True, text=True)
+    crate = workspace + '/crates/units'
+    ran = subprocess.run(['rt', 'check', '--jobs', '1'], cwd=crate, capture_output=True, text=True)
     if 'logic=proved' in ran.stdout:
         return True
-    print('\n'.join(line for line in (ran.stdout + ran.stderr).splitlines() if 'OfficialCases' in line or 'error' in line)[:4000])
+    lines = (ran.stdout + ran.stderr).splitlines()
+    print('\n'.join(line for line in lines if 'OfficialCases' in line or 'error' in line)[:4000])
     return False
 
 
@@ -178,8 +191,11 @@ def main():
     parser.add_argument('--batch', type=int, default=1500)
     parser.add_argument('--print', action='store_true', dest='only_print')
     asked = parser.parse_args()
-    cases = class_cases(asked.ucd) if asked.kind == 'classes' else character_cases(asked.ucd)
-    form = class_equation if asked.kind == 'classes' else character_equation(class_table(asked.ucd), bracket_table(asked.ucd))
+    if asked.kind == 'classes':
+        cases, form = class_cases(asked.ucd), class_equation
+    else:
+        cases = character_cases(asked.ucd)
+        form = character_equation(class_table(asked.ucd), bracket_table(asked.ucd))
     random.Random(asked.seed).shuffle(cases)
     equations = [form(case) for case in cases[asked.skip:asked.skip + asked.count]]
     if asked.only_print:

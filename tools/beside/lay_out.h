@@ -1,12 +1,12 @@
-/* Lays a text out by an engine, again and again: the levels and the visual order of one paragraph as one line, direction
- * auto.
+/* Lays a text out by an engine, again and again: the levels and the visual order of one paragraph as one line,
+ * direction auto.
  *
  * usage: lay_out_.. FILE ROUNDS [FOLDER]
  *
- * An engine's file defines `prepare`, which makes room and keeps the text, and `lay_out_once`, which looks up the classes
- * and lays the text out. FOLDER holds the property files, for an engine that reads
- * them. Of all ROUNDS + 1 calls all but the first are timed. It prints the number of characters and the nanoseconds that
- * each takes, the least of ten batches. Instructions: valgrind --tool=callgrind --toggle-collect=lay_out_once.
+ * An engine's file defines `prepare`, which makes room and keeps the text, and `lay_out_once`, which looks up the
+ * classes and lays the text out. FOLDER holds the property files, for an engine that reads them. Of all ROUNDS + 1
+ * calls all but the first are timed. It prints the number of characters and the nanoseconds that each takes, the least
+ * of ten batches. Instructions: valgrind --tool=callgrind --toggle-collect=lay_out_once.
  */
 #include <stdint.h>
 #include <stdio.h>

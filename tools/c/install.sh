@@ -4,13 +4,19 @@
 #
 # usage: tools/c/install.sh PREFIX      (such as /usr/local; with DESTDIR in the environment, below that folder)
 #
-# Build the library first, by `rt lib` in crates/bidi_c. It ends with 2 where a file is missing.
+# Build the library first, by `rt lib` in crates/bidi_c. The part that allocates, liblibc_c.a, is taken from the kit,
+# whose folder c is found by the command rt, or named by RATTLE_C in the environment where rt isn't on PATH, as under
+# sudo. It ends with 2, before it installs anything, where a file is missing.
 set -u
 here=$(cd "$(dirname "$0")" && pwd)
 prefix=${1:?usage: install.sh PREFIX}
 root=${DESTDIR:-}$prefix
 library=$here/../../crates/bidi_c/out/libbidi_c.a
-heap=${RATTLE_C:-$(dirname "$(readlink -f "$(command -v rt)")")/../c}/liblibc_c.a
+if [ -z "${RATTLE_C:-}" ]; then
+    rt=$(command -v rt) || { echo "no rt on PATH: set RATTLE_C to the kit's folder c, of liblibc_c.a" >&2; exit 2; }
+    RATTLE_C=$(dirname "$(readlink -f "$rt")")/../c
+fi
+heap=$RATTLE_C/liblibc_c.a
 for file in "$library" "$heap"; do
     [ -e "$file" ] || { echo "no $file" >&2; exit 2; }
 done

@@ -20,8 +20,9 @@ static uint8_t *read_file(const char *folder, const char *name, size_t *n) {
 }
 static uint32_t read_tables(const char *folder, bidi_tables *tables, bidi_fault *fault) {
   size_t a, b, c;
-  uint8_t *classes = read_file(folder, "DerivedBidiClass.txt", &a), *brackets = read_file(folder, "BidiBrackets.txt", &b),
-          *mirrors = read_file(folder, "BidiMirroring.txt", &c);
+  uint8_t *classes = read_file(folder, "DerivedBidiClass.txt", &a);
+  uint8_t *brackets = read_file(folder, "BidiBrackets.txt", &b);
+  uint8_t *mirrors = read_file(folder, "BidiMirroring.txt", &c);
   uint32_t status = bidi_tables_new(classes, a, brackets, b, mirrors, c, tables, fault);
   free(classes); free(brackets); free(mirrors);
   return status;

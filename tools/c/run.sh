@@ -8,9 +8,9 @@
 #
 # usage: tools/c/run.sh [FOLDER]      (FOLDER, with the files of the Unicode database: /usr/share/unicode)
 #
-# `rt lib` makes the library: in seconds over what `rt check` or `rt lib` kept in crates/*/out, else by proving each crate
-# below it (rt ci keeps nothing for it). It ends with 0 where all is as it should be, with 1 where not, and with 2 where
-# the library can't be made.
+# `rt lib` makes the library: in seconds over what `rt check` or `rt lib` kept in crates/*/out, else by proving each
+# crate below it (rt ci keeps nothing for it). It ends with 0 where all is as it should be, with 1 where not, and with 2
+# where the library can't be made.
 set -u
 here=$(cd "$(dirname "$0")" && pwd)
 folder=${1:-/usr/share/unicode}
@@ -113,7 +113,8 @@ if command -v pkg-config > /dev/null; then
     RATTLE_C=$kit "$here/install.sh" "$work/installed"
     # shellcheck disable=SC2046
     gcc -O2 -o "$work/installed_demo" "$here/demo.c" \
-        $(PKG_CONFIG_PATH=$work/installed/lib/pkgconfig pkg-config --cflags --libs bidi_c) 2> "$work/errors" || fails "gcc installed"
+        $(PKG_CONFIG_PATH=$work/installed/lib/pkgconfig pkg-config --cflags --libs bidi_c) 2> "$work/errors" ||
+        fails "gcc installed"
     expect "installed demo" "$here/demo.out" "$work/installed_demo" "$here/ucd" 20 < "$here/demo.txt"
 else
     echo "no pkg-config: no program is built over the installed library"

@@ -1,12 +1,9 @@
-//! Worked rows of explicit levels and isolates, by the classes of a paragraph.
+//! Worked rows of explicit levels (X1 to X9), by the classes of a paragraph.
 ghost use Rattle.std.specs.Prelude.{◌≤◌, ◌<◌, length};
-ghost use Rattle.explicit.specs.IsolateMaps.{room};
 
 use crate::engine::{Found, found_in};
-use crate::given::{plain, push_units, units_of};
-use explicit::isolates::IsolateMap;
+use crate::given::{plain, push_units};
 use explicit::levels::Explicit;
-use explicit::paragraphs;
 use std::alloc::{AllocError, Global};
 use std::process::Abort;
 use std::test::Fail;
@@ -270,52 +267,4 @@ fn assert_rows(rt: &impl Abort, alloc: Global, rows: &[Row]) -> Result<(), Fail>
 #[test]
 fn finds_levels_and_current_classes(rt: HostRuntime) -> Result<(), Fail> {
     assert_rows(&rt, rt.alloc(), &ROWS)
-}
-
-fn assert_partner(rt: &impl Abort, map: &IsolateMap, p: usize, partner: Option<usize>)
-    requires { p < room map.now }
-{
-    assert_eq!(rt; map.partner(p), partner);
-}
-
-/// Checks the partner of each of so many positions.
-fn assert_partners(rt: &impl Abort, map: &IsolateMap, n: usize, partners: &[Option<usize>])
-    requires { n ≤ room map.now }
-{
-    assert_eq!(rt; n, partners.len());
-    for p in 0..partners.len() {
-        assert_partner(rt, map, p, partners[p]);
-    }
-}
-
-/// Checks the partner of each position of a paragraph from left to right.
-fn assert_isolates(
-    rt: &impl Abort,
-    alloc: Global,
-    para: &[Unit],
-    partners: &[Option<usize>],
-) -> Result<(), Memory> {
-    let found = found_in(rt, alloc, para, Direction::Ltr, Limits::standard())?;
-    assert_partners(rt, &found.map, para.len(), partners);
-    Ok(())
-}
-
-#[test]
-fn finds_partners(rt: HostRuntime) -> Result<(), Fail> {
-    let para = units_of(&rt, rt.alloc(), "RLI RLI PDI R PDI L")?;
-    let partners = [Some(4), Some(2), Some(1), None, Some(0), None];
-    assert_isolates(&rt, rt.alloc(), &para, &partners)?;
-    Ok(())
-}
-
-/// How many paragraphs a text has.
-fn paragraph_count(text: &[Unit]) -> usize {
-    paragraphs(text).count()
-}
-
-#[test]
-fn cuts_behind_separators(rt: HostRuntime) -> Result<(), Fail> {
-    let text = units_of(&rt, rt.alloc(), "L B B R")?;
-    assert_eq!(rt; paragraph_count(&text), 3);
-    Ok(())
 }

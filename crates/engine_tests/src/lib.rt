@@ -3,11 +3,17 @@
 #![tactic(auto)]
 
 #[cfg(test)]
+mod cutting_rows;
+#[cfg(test)]
 mod engine;
 #[cfg(test)]
 mod explicit_rows;
 #[cfg(test)]
 mod given;
+#[cfg(test)]
+mod implicit_rows;
+#[cfg(test)]
+mod isolate_rows;
 #[cfg(test)]
 mod paragraph_rows;
 #[cfg(test)]

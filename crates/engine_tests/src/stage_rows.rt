@@ -2,8 +2,7 @@
 ghost use Rattle.std.specs.Prelude.{◌≡◌, ◌<◌, length};
 
 use crate::engine::{neutral_sequences, only_sequence};
-use crate::given::{assert_shown, classes};
-use resolve::implicit::implicit;
+use crate::given::classes;
 use resolve::neutral::neutral;
 use resolve::weak::weak;
 use sequences::sequence::Sequence;
@@ -15,7 +14,7 @@ use std::process::Abort;
 use std::sync::ledger::{Blank, Ledger};
 use std::test::Fail;
 use units::class::Class;
-use units::level::{Direction, Level};
+use units::level::Direction;
 use units::memory::Memory;
 use units::steps::Steps;
 
@@ -249,76 +248,5 @@ fn assert_rows(rt: &impl Abort, alloc: Global, rows: &[Row]) -> Result<(), Memor
 #[test]
 fn each_rule_by_itself(rt: HostRuntime) -> Result<(), Fail> {
     assert_rows(&rt, rt.alloc(), &ROWS)?;
-    Ok(())
-}
-
-/// I1 and I2 over a sequence of these classes, by a count of steps that begins with the blank.
-fn implicit_counting<L: Ledger>(
-    s: &Sequence,
-    classes: &[Class],
-    levels: &mut [Option<Level>],
-    blank: Blank,
-)
-    requires classes { length classes.now ≡ s.now.extent }
-    requires levels { length levels.old ≡ s.now.extent }
-    requires name { blank.name ≡ L.name }
-    requires parts { blank.parts ≡ L.parts }
-    requires some { 0 < blank.parts }
-{
-    implicit(s, classes, levels, &mut Steps::<L>::new(blank));
-}
-
-/// I1 and I2 over the one sequence of a paragraph of these classes.
-fn implicit_in_paragraph(
-    rt: &impl Abort,
-    alloc: Global,
-    direction: Direction,
-    classes: &[Class],
-    levels: &mut [Option<Level>],
-) -> Result<(), Memory>
-    requires { length levels.old ≡ length classes.now }
-{
-    let sequences = neutral_sequences(rt, alloc, direction, classes.len())?;
-    let sequence = only_sequence(rt, &sequences);
-    implicit_counting::<Brand>(&sequence, classes, levels, Blank::new(1));
-    Ok(())
-}
-
-/// The direction of a sequence, its classes, and its levels as digits.
-type ImplicitRow = (Direction, &'static str, &'static [u8]);
-
-const IMPLICIT_ROWS: [ImplicitRow; 6] = [
-    (Direction::Ltr, "L R AN EN", b"0122"),
-    (Direction::Rtl, "L R AN EN", b"2122"),
-    (Direction::Ltr, "L L L L L L AN", b"0000002"),
-    (Direction::Ltr, "R EN EN EN EN EN EN", b"1222222"),
-    (Direction::Ltr, "R AN AN AN", b"1222"),
-    (Direction::Ltr, "L", b"0"),
-];
-
-/// Checks the levels of a row's sequence.
-fn assert_implicit(rt: &impl Abort, alloc: Global, row: ImplicitRow) -> Result<(), Memory> {
-    let (direction, names, shown) = row;
-    let column = classes(rt, alloc, names)?;
-    let mut levels = vec![in alloc; None; column.len()]?;
-    implicit_in_paragraph(rt, alloc, direction, &column, &mut levels)?;
-    assert_shown(rt, &levels, shown);
-    Ok(())
-}
-
-fn assert_implicit_rows(
-    rt: &impl Abort,
-    alloc: Global,
-    rows: &[ImplicitRow],
-) -> Result<(), Memory> {
-    for row in rows {
-        assert_implicit(rt, alloc, *row)?;
-    }
-    Ok(())
-}
-
-#[test]
-fn implicit_levels(rt: HostRuntime) -> Result<(), Fail> {
-    assert_implicit_rows(&rt, rt.alloc(), &IMPLICIT_ROWS)?;
     Ok(())
 }

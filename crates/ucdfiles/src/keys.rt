@@ -22,7 +22,7 @@ fn decomposition(alloc: Global, c: char) -> Result<Vec<char>, AllocError>
 
 /// A number for each canonical decomposition that came: the first has 0, and each new one the next.
 #[derive(Drop)]
-pub struct Numbering {
+struct Numbering {
     numbers: BTreeMap<Vec<char>, u32>,
 }
 

@@ -2,18 +2,18 @@
 #![tactic(auto)]
 
 pub mod bracket_table;
-pub mod class_line;
+mod class_line;
 pub mod class_table;
 pub mod fault;
 pub mod files;
-pub mod keys;
+mod keys;
 pub mod mirror_table;
-pub mod pair_line;
-pub mod reading;
-pub mod sided_bracket;
+mod pair_line;
+mod reading;
+mod sided_bracket;
 pub mod small;
 pub mod span;
-pub mod spans;
-pub mod statements;
+mod spans;
+mod statements;
 pub mod tables;
 pub mod two_stage;

@@ -8,7 +8,7 @@ use crate::fault::{Fault, TableFault, at};
 use crate::span::Span;
 
 /// The greatest number of data lines of a file.
-pub const MOST_DATA: usize = 65_536;
+const MOST_DATA: usize = 65_536;
 
 /// The greatest number of default lines of a file.
 pub const MOST_DEFAULTS: usize = 1_024;
