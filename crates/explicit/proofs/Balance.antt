@@ -91,19 +91,20 @@ match_new o c k = let n : k + 1 - (k + 1) ≡ 0 = omega arith in rw n refl
 pub match_stays : (o c : ℕ → Bool) (k i j : ℕ) → i < k → match_of o c k i ≡ Some j → match_of o c (k + 1) i ≡ Some j
 match_stays o c k i j h e = rw (match_more o c k i h, e) refl
 
-pub match_none_before : (o c : ℕ → Bool) (k i : ℕ) → i < k → match_of o c (k + 1) i ≡ None → match_of o c k i ≡ None
-match_none_before o c k i h e = go (match_of o c k i) refl
-  where
-    go : (m : Option ℕ) → match_of o c k i ≡ m → m ≡ None
-    go None e' = refl
-    go (Some j) e' = absurd (let e'' = match_stays o c k i j h e' in cc)
-
 pub match_extends : (o c : ℕ → Bool) (k n i j : ℕ) → k ≤ n → match_of o c k i ≡ Some j → match_of o c n i ≡ Some j
 unfolding match_of
 match_extends o c k n i j h e =
     let found = first_from_some (as_many o c i) (i + 1) (k - (i + 1)) j e in
     let within : j < i + 1 + (n - (i + 1)) = omega (arith, found.within, found.from) in
     first_from_is (as_many o c i) (i + 1) (n - (i + 1)) j found.from within found.passes found.fails_before
+
+-- what has no match within n positions has none within fewer
+pub unmatched_before : (o c : ℕ → Bool) (k n i : ℕ) → k ≤ n → match_of o c n i ≡ None → match_of o c k i ≡ None
+unmatched_before o c k n i le none = go (match_of o c k i) refl
+  where
+    go : (m : Option ℕ) → match_of o c k i ≡ m → m ≡ None
+    go None e = refl
+    go (Some b) e = absurd (let more : match_of o c n i ≡ Some b = match_extends o c k n i b le e in cc)
 
 pub match_within : (o c : ℕ → Bool) (k n i j : ℕ) → j < k → match_of o c n i ≡ Some j → match_of o c k i ≡ Some j
 unfolding match_of
@@ -139,7 +140,7 @@ surplus_by o c i (suc d) ex opener none =
     let e : i + 1 + suc d ≡ i + 1 + d + 1 = omega arith in
     let none' : match_of o c (i + 1 + d + 1) i ≡ None = rw e at none in
     let lt : i < i + 1 + d = omega arith in
-    let before : match_of o c (i + 1 + d) i ≡ None = match_none_before o c (i + 1 + d) i lt none' in
+    let before : match_of o c (i + 1 + d) i ≡ None = unmatched_before o c (i + 1 + d) (i + 1 + d + 1) i (omega arith) none' in
     let unlevel : as_many o c i (i + 1 + d) ≡ false = false_from_ne_true _ (λ t. absurd (let now = gets_closed o c (i + 1 + d) i lt before t in cc)) in
     let ne = unlevel_surplus o c i (i + 1 + d) (omega arith) unlevel in
     let ih = surplus_by o c i d ex opener before in

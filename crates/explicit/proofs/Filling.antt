@@ -15,9 +15,6 @@ pub record IsFilling (cs : List Class) (k : ℕ) (depth : ℕ) (room : ℕ) (par
   pub pass : IsPass cs k depth (λ a. get_or openers a 0) (λ p. get_or partners p None)
 
 -- one write into a list
-pub write_same : {A : Type 0} (xs : List A) (k : ℕ) (x d : A) → k < length xs → get_or (set xs k x) k d ≡ x
-write_same xs k x d h = get_or-set_same xs k x d h
-
 pub write_below : {A : Type 0} (xs : List A) (k p : ℕ) (x d : A) → p < k → get_or (set xs k x) p d ≡ get_or xs p d
 write_below xs k p x d h = get_or-set_other xs k p x d (λ e. absurd (omega arith))
 
@@ -34,9 +31,9 @@ filling_opening cs k depth room partners openers filling inside o =
       openers_room = length-set openers depth k ∙ or;
       pass = pass_opening cs k depth _ _ _ _ filling.pass o
           (λ a h. write_below openers depth a k 0 h)
-          (write_same openers depth k 0 (omega arith))
+          (get_or-set_same openers depth k 0 (omega arith))
           (λ p h. write_below partners k p None None h)
-          (write_same partners k None None (omega arith));
+          (get_or-set_same partners k None None (omega arith));
     }
 
 pub filling_other : (cs : List Class) (k depth room : ℕ) (partners : List (Option ℕ)) (openers : List ℕ) → IsFilling cs k depth room partners openers → k < length cs → is_isolate_initiator (class_at cs k) ≡ false → is_pdi (class_at cs k) ≡ false → IsFilling cs (k + 1) depth room (set partners k None) openers
@@ -51,7 +48,7 @@ filling_other cs k depth room partners openers filling inside o c =
       openers_room = filling.openers_room;
       pass = pass_other cs k depth _ _ _ filling.pass o c
           (λ p h. write_below partners k p None None h)
-          (write_same partners k None None (omega arith));
+          (get_or-set_same partners k None None (omega arith));
     }
 
 pub filling_unmatched : (cs : List Class) (k depth room : ℕ) (partners : List (Option ℕ)) (openers : List ℕ) → IsFilling cs k depth room partners openers → k < length cs → depth ≡ 0 → is_pdi (class_at cs k) ≡ true → IsFilling cs (k + 1) depth room (set partners k None) openers
@@ -65,7 +62,7 @@ filling_unmatched cs k depth room partners openers filling inside empty c =
       openers_room = filling.openers_room;
       pass = rw empty (pass_unmatched cs k _ _ _ (rw empty at filling.pass) c
           (λ p h. write_below partners k p None None h)
-          (write_same partners k None None (omega arith)));
+          (get_or-set_same partners k None None (omega arith)));
     }
 
 pub filling_matched : (cs : List Class) (k depth d opener room : ℕ) (partners : List (Option ℕ)) (openers : List ℕ) → IsFilling cs k depth room partners openers → k < length cs → depth ≡ suc d → is_pdi (class_at cs k) ≡ true → opener ≡ get_or openers d 0 → IsFilling cs (k + 1) d room (set (set (set partners k None) opener (Some k)) k (Some opener)) openers
@@ -87,8 +84,8 @@ filling_matched cs k depth d opener room partners openers filling inside one_mor
       openers_room = filling.openers_room;
       pass = pass_matched cs k d _ _ _ inside pass c
           (λ p h ne. write_below two k p (Some opener) None h ∙ get_or-set_other one opener p (Some k) None (λ e. ne (e ∙ read)) ∙ write_below partners k p None None h)
-          (rw (← read) (write_below two k opener (Some opener) None low ∙ write_same one opener (Some k) None (omega arith)))
-          (write_same two k (Some opener) None (omega arith) ∙ ap Some read);
+          (rw (← read) (write_below two k opener (Some opener) None low ∙ get_or-set_same one opener (Some k) None (omega arith)))
+          (get_or-set_same two k (Some opener) None (omega arith) ∙ ap Some read);
     }
 
 pub filling_all : (cs : List Class) (depth room : ℕ) (partners : List (Option ℕ)) (openers : List ℕ) → IsFilling cs (length cs) depth room partners openers → HasPartners partners cs

@@ -4,19 +4,11 @@ use Rattle.std.proofs.lemmas.Bool.{cases_lt}
 use Rattle.units.specs.Classes.{class_at, is_isolate_initiator, is_pdi}
 use Rattle.units.specs.Isolates.{matching_pdi, isolate_around}
 use Rattle.units.specs.declared.class.Class.{Class}
-use Rattle.explicit.proofs.Balance.{Exclude, match_of, match_extends, match_within, match_of_bounds, surplus_open}
+use Rattle.explicit.proofs.Balance.{Exclude, match_extends, match_within, match_of_bounds, surplus_open, unmatched_before}
 use Rattle.explicit.proofs.OpenStack.{IsStack, stack_stays}
 use Rattle.explicit.proofs.Matching.{opens_at, closes_at, isolates_exclude, IsOpenStack, matching_before, matching_pdi_of, matching_pdi_before}
 use Rattle.explicit.proofs.Nesting.{IsHeld}
 use Rattle.explicit.proofs.Around.{around_is, around_nowhere}
-
--- what has no match within n positions has none within fewer
-unmatched_before : (o c : ℕ → Bool) (k n i : ℕ) → k ≤ n → match_of o c n i ≡ None → match_of o c k i ≡ None
-unmatched_before o c k n i le none = go (match_of o c k i) refl
-  where
-    go : (m : Option ℕ) → match_of o c k i ≡ m → m ≡ None
-    go None e = refl
-    go (Some b) e = absurd (let more : match_of o c n i ≡ Some b = match_extends o c k n i b le e in cc)
 
 -- no open position comes after the last one of the stack
 last_is_last : (o c : ℕ → Bool) (k n : ℕ) (s : ℕ → ℕ) → Exclude o c → IsStack o c k (suc n) s → (a : ℕ) → a < suc n → s a ≤ s n

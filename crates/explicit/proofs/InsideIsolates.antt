@@ -4,6 +4,7 @@ use Rattle.std.specs.Prelude.{is_some, ◌==◌}
 use Rattle.std.specs.Option.{option_map}
 use Rattle.std.proofs.lemmas.Bool.{cases_Bool, false≢true, eqb-true}
 use Rattle.std.proofs.lemmas.List.{length-map}
+use Rattle.std.proofs.lemmas.Option.{same_Some}
 use Rattle.units.specs.Classes.{class_at, classes_of, is_removed, is_separator}
 use Rattle.units.specs.Isolates.{matching_pdi}
 use Rattle.units.specs.Explicit.{explicit_at}
@@ -115,7 +116,7 @@ nested depth units para only = record {
       let at_q = level-inside depth units para r q only qr b.1 left_q in
       let in_p = within-isolate cs i r p m ip pr in
       let in_q = within-isolate cs i r q m iq qr in
-      let level_q : (state_within depth cs para (holders cs q)).level ≡ (state_within depth cs para (holders cs i)).level = same_some _ _ (sym at_q ∙ same ∙ at_i) in
+      let level_q : (state_within depth cs para (holders cs q)).level ≡ (state_within depth cs para (holders cs i)).level = same_Some _ _ (sym at_q ∙ same ∙ at_i) in
       let level_p = same_inside depth cs para i in_p.0 in_q.0 (ap (λ qs. (state_within depth cs para qs).level) (sym in_q.1) ∙ level_q) in
       at_p ∙ ap (λ l. Some l) (ap (λ qs. (state_within depth cs para qs).level) in_p.1 ∙ level_p) ∙ sym at_i;
 }
@@ -125,6 +126,3 @@ nested depth units para only = record {
 
     matched : (i r : ℕ) → matched_pdi (leveled_of depth (classes_of units) para) i ≡ Some r → matching_pdi (classes_of units) i ≡ Some r
     matched i r e = sym (matched-is depth (classes_of units) para i) ∙ e
-
-    same_some : (a b : ℕ) → Some a ≡ Some b → a ≡ b
-    same_some a b e = cc

@@ -2,7 +2,7 @@
 use Rattle.std.proofs.Common.{◌≡◌, ℕ, suc, ◌+◌, ◌-◌, ◌<◌, Bool, true, false, Some, None, inl, inr, sym, ap, ◌∙◌, arith}
 use Rattle.std.proofs.lemmas.Bool.{cases_eq, true≢false}
 use Rattle.units.specs.Positions.{as_many}
-use Rattle.explicit.proofs.Balance.{match_of, match_none_before}
+use Rattle.explicit.proofs.Balance.{match_of, unmatched_before}
 use Rattle.explicit.proofs.StillOpen.{bit, IsOpenAt, open_unlevel, open_first, open_next, open_closed}
 
 -- the open positions below k, m of them, the last one at s (m - 1)
@@ -59,7 +59,7 @@ stack_stays o c k m s stack ok ck = record {
   complete = λ i h opener none.
       elim (cases_eq i k) [
         | inl here ↦ absurd (true≢false (sym opener ∙ ap o here ∙ ok))
-        | inr lower ↦ let b : i < k = omega arith in stack.complete i b opener (match_none_before o c k i b none)
+        | inr lower ↦ let b : i < k = omega arith in stack.complete i b opener (unmatched_before o c k (k + 1) i (omega arith) none)
       ];
 }
 
@@ -86,7 +86,7 @@ stack_push o c k m s s' stack ok ck agree top = record {
         | inl here ↦ (m, omega arith, top ∙ sym here)
         | inr lower ↦
             let b : i < k = omega arith in
-            let at = stack.complete i b opener (match_none_before o c k i b none) in
+            let at = stack.complete i b opener (unmatched_before o c k (k + 1) i (omega arith) none) in
             (at.0, omega (arith, at.1), agree at.0 at.1 ∙ at.2)
       ];
 }
@@ -110,7 +110,7 @@ stack_pop o c k n s stack ok ck = record {
         | inl here ↦ absurd (true≢false (sym opener ∙ ap o here ∙ ok))
         | inr lower ↦
             let b : i < k = omega arith in
-            let at = stack.complete i b opener (match_none_before o c k i b none) in
+            let at = stack.complete i b opener (unmatched_before o c k (k + 1) i (omega arith) none) in
             elim (cases_eq at.0 n) [
               | inl top ↦
                   let now = top_is_closed o c k n s stack ok ck in
@@ -130,6 +130,6 @@ stack_none_left o c k s stack ok = record {
   complete = λ i h opener none.
       elim (cases_eq i k) [
         | inl here ↦ absurd (true≢false (sym opener ∙ ap o here ∙ ok))
-        | inr lower ↦ let b : i < k = omega arith in stack.complete i b opener (match_none_before o c k i b none)
+        | inr lower ↦ let b : i < k = omega arith in stack.complete i b opener (unmatched_before o c k (k + 1) i (omega arith) none)
       ];
 }

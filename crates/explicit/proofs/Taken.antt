@@ -1,7 +1,7 @@
 -- The initiators that are taken and those that are refused, and their counts.
 use Rattle.std.proofs.Common.{◌≡◌, ℕ, ◌+◌, ◌<◌, ◌≤◌, Bool, true, false, ◌||◌, ◌&&◌, List, [], ◌∷◌, ◌++◌, length, arith, refl, sym, ◌∙◌, cond, inl, inr, length-append, append-nil}
 use Rattle.std.specs.Prelude.{nat_le, nat_lt}
-use Rattle.std.proofs.lemmas.Bool.{cases_Bool, false≢true, and_parts, leb-true, lt-ltb}
+use Rattle.std.proofs.lemmas.Bool.{cases_Bool, cond-true, cond-false, false≢true, and_parts, leb-true, lt-ltb}
 use Rattle.units.specs.Classes.{class_at}
 use Rattle.units.specs.Explicit.{State, entered, wanted_level, wants_odd, override_of}
 use Rattle.units.specs.declared.class.Class.{Class}
@@ -17,23 +17,17 @@ pick-sound : (b : Bool) (x y : State) → x.sound ≡ true → y.sound ≡ false
 pick-sound true x y h k = h
 pick-sound false x y h k = k
 
-pick-true : (b : Bool) (x y : State) → b ≡ true → cond b x y ≡ x
-pick-true b x y h = rw h refl
-
-pick-false : (b : Bool) (x y : State) → b ≡ false → cond b x y ≡ y
-pick-false b x y h = rw h refl
-
 pub taken_is : (depth : ℕ) (cs : List Class) (para q : ℕ) (qs : List ℕ) → is_taken depth cs para q qs ≡ ((state_within depth cs para qs).sound && nat_le (asked depth cs para q qs) depth)
 unfolding entered
 taken_is depth cs para q qs = pick-sound ((state_within depth cs para qs).sound && nat_le (asked depth cs para q qs) depth) (record { level = asked depth cs para q qs; override = override_of (class_at cs q); sound = true }) (record { level = (state_within depth cs para qs).level; override = (state_within depth cs para qs).override; sound = false }) refl refl
 
 pub state-taken : (depth : ℕ) (cs : List Class) (para q : ℕ) (qs : List ℕ) → is_taken depth cs para q qs ≡ true → state_within depth cs para (q ∷ qs) ≡ record { level = asked depth cs para q qs; override = override_of (class_at cs q); sound = true }
 unfolding entered
-state-taken depth cs para q qs h = pick-true _ _ _ (sym (taken_is depth cs para q qs) ∙ h)
+state-taken depth cs para q qs h = cond-true _ _ _ (sym (taken_is depth cs para q qs) ∙ h)
 
 pub state-refused : (depth : ℕ) (cs : List Class) (para q : ℕ) (qs : List ℕ) → is_taken depth cs para q qs ≡ false → state_within depth cs para (q ∷ qs) ≡ record { level = (state_within depth cs para qs).level; override = (state_within depth cs para qs).override; sound = false }
 unfolding entered
-state-refused depth cs para q qs h = pick-false _ _ _ (sym (taken_is depth cs para q qs) ∙ h)
+state-refused depth cs para q qs h = cond-false _ _ _ (sym (taken_is depth cs para q qs) ∙ h)
 
 -- what is taken lies only within what is taken
 pub taken-outer : (depth : ℕ) (cs : List Class) (para q : ℕ) (qs : List ℕ) → is_taken depth cs para q qs ≡ true → (state_within depth cs para qs).sound ≡ true

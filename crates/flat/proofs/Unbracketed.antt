@@ -12,7 +12,7 @@ use Rattle.units.specs.declared.class.Class.TheVariants.{NSM, ON}
 use Rattle.units.specs.declared.bracket.Bracket.{Bracket}
 use Rattle.units.specs.declared.bracket.Unit.{Unit as BidiUnit}
 use Rattle.flat.specs.IdleRules.{HasNoOpening}
-use Rattle.flat.proofs.Searches.{last_below_nowhere}
+use Rattle.units.proofs.Positions.{last_below_nowhere}
 
 -- where nothing opens, nothing is paired
 pub pairs_before-none : (bs : List Bracket) → ((p : ℕ) → is_open (bracket_at bs p) ≡ false) → (p : ℕ) → pairs_before bs p ≡ []
@@ -21,7 +21,7 @@ pairs_before-none bs none (suc p) =
     let earlier : pairs_before bs p ≡ [] = pairs_before-none bs none p in
     let closed : last_below (λ o. is_open_at bs [] o && closes (bracket_at bs o) (bracket_at bs p)) p ≡ None =
     last_below_nowhere (λ o. is_open_at bs [] o && closes (bracket_at bs o) (bracket_at bs p)) p
-    (λ o. and_left _ _ (and_left _ _ (none o))) in
+    (λ o lt. and_left _ _ (and_left _ _ (none o))) in
     ap (λ ps. ps ++ ended_with p (last_below (λ o. is_open_at bs ps o && closes (bracket_at bs o) (bracket_at bs p)) p)) earlier
     ∙ ap (ended_with p) closed
 

@@ -34,7 +34,8 @@ trimmed-begins (x ∷ xs) some =
     ] in
     go (is_blank x) refl
 
-some_bytes : (xs : List ℕ) → 0 < length xs → has_bytes xs ≡ true
+-- what is not empty has bytes
+pub some_bytes : (xs : List ℕ) → 0 < length xs → has_bytes xs ≡ true
 some_bytes [] h = absurd (omega arith)
 some_bytes (x ∷ xs) h = refl
 

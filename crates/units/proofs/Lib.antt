@@ -8,5 +8,6 @@ pub mod LineReading
 pub mod LineRunning
 pub mod LineStanding
 pub mod Numbers
+pub mod Options
 pub mod Ranges
 pub mod Positions

@@ -1,11 +1,14 @@
 -- A cutting into lines is `cut_lines`, so two cuttings of one byte list are one.
 use Rattle.std.proofs.Common.{◌≡◌, ◌≢◌, ℕ, ◌<◌, ◌≤◌, ◌==◌, List, [], ◌∷◌, ◌++◌, length, flat_map, get_or, All, refl, sym, ap, ◌∙◌, arith, length-append, append_assoc, if◌then◌else◌, true, false}
 use Rattle.std.proofs.lemmas.Bool.{ne_eqb}
-use Rattle.std.proofs.lemmas.List.Elements.{All-head, All-tail, All-same, All-push}
+use Rattle.std.proofs.lemmas.List.Elements.{All-head, All-nil, All-tail, All-same, All-push}
 use Rattle.std.proofs.Math.Seq.{get_or-append_seam}
 use Rattle.units.specs.Text.{longest_line}
 use Rattle.units.specs.Lines.{HasNoFeed, ended, IsLine, CutsInto, IsTooLongAfter, cut_lines}
 use Rattle.std.specs.List.{onto_first}
+
+pub empty_line : IsLine []
+empty_line = record { feeds = All-nil (λ x. x ≢ 10); short = omega arith }
 
 -- a line that a line feed ends
 pub cut_lines-line : (line xs : List ℕ) → HasNoFeed line → cut_lines (line ++ 10 ∷ xs) ≡ line ∷ cut_lines xs

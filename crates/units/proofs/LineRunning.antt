@@ -6,7 +6,7 @@ use Rattle.std.proofs.lemmas.Bool.{cases_lt, cases_eq}
 use Rattle.std.proofs.Math.Seq.{get_or-append_seam}
 use Rattle.units.specs.Text.{longest_line}
 use Rattle.units.specs.Lines.{HasNoFeed, EndsByFeed, ended, IsLine, CutsInto, IsTooLongAfter, cut_lines}
-use Rattle.units.proofs.LineReading.{cut_lines-line, cut_lines-rest, cut_lines-long, cut_lines-ended}
+use Rattle.units.proofs.LineReading.{empty_line, cut_lines-line, cut_lines-rest, cut_lines-long, cut_lines-ended}
 
 not_later : (ys os : List (List ℕ)) (first : List ℕ) (tail : List (List ℕ)) → All IsLine ys → ys ≡ os ++ first ∷ tail → longest_line < length first → ⊥
 not_later ys os first tail each e long =
@@ -26,9 +26,6 @@ same_before (l ∷ ls) (o ∷ os) y ys first tail each short long e =
     let more : ls ++ y ∷ ys ≡ os ++ first ∷ tail = cc in
     let again : os ≡ ls = same_before ls os y ys first tail (All-tail IsLine l ls each) short long more in
     cc
-
-empty_line : IsLine []
-empty_line = record { feeds = All-nil (λ x. x ≢ 10); short = omega arith }
 
 -- what follows a line that goes on by at most one line feed, at its end
 goes_on : (rest free : List ℕ) (x : ℕ) → HasNoFeed (rest ++ free) → (y : List ℕ) × (ys : List (List ℕ)) × (cut_lines (rest ++ (free ++ x ∷ [])) ≡ y ∷ ys) × All IsLine ys

@@ -9,7 +9,7 @@ use Rattle.units.specs.Text.{longest_line}
 use Rattle.units.specs.Lines.{HasNoFeed, EndsAtFeed, ended, IsLine, CutsInto, IsTooLongAfter, saturated, ended_lines}
 use Rattle.units.specs.LineCutting.{Cutting, HoldsAfter, StandsFor, Reaches}
 use Rattle.units.specs.LineAnswers.{Answers}
-use Rattle.units.proofs.LineReading.{never_both}
+use Rattle.units.proofs.LineReading.{empty_line, never_both}
 use Rattle.units.proofs.LineAppending.{ended_lines-free, ended_lines-line}
 use Rattle.std.specs.Borrow.{Bor}
 use Rattle.units.specs.declared.line_cut.Step.TheVariants.{More, Line, TooLong}
@@ -21,9 +21,6 @@ at phase done held = record { phase = phase; done = done; held = held }
 
 saturated-suc : (d n : ℕ) → d ≡ saturated n → saturated (d + 1) ≡ saturated (n + 1)
 saturated-suc d n e = omega arith
-
-empty_line : IsLine []
-empty_line = record { feeds = All-nil (λ x. x ≢ 10); short = omega arith }
 
 cuts_line_whole : (b : List ℕ) (lines : List (List ℕ)) (rest : List ℕ) → b ≡ flat_map ended lines ++ rest
     → b ++ 10 ∷ [] ≡ flat_map ended (lines ++ rest ∷ []) ++ []
