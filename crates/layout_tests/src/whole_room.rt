@@ -1,5 +1,7 @@
-//! Texts that fill a room of 1,048,576 units, and as many calls in it, each on one unit. Where a call walked what an
-//! earlier one left, or walked the content of each isolate or bracket anew, this would take days.
+//! Texts that fill a room of 1,048,576 units, and as many calls in it, each on one unit. They would not end within the
+//! minute that a test has where a call walked what an earlier one left, walked the content of each initiator anew, or
+//! walked back from each pair of brackets to what is strong before it (N0). To walk the content of each pair anew is no
+//! more than 63 steps for a position of any text, since no more pairs are open at once in a sequence (BD16).
 ghost use Rattle.std.specs.Prelude.{◌≡◌, ◌<◌};
 
 use crate::given::{tables, unit};
