@@ -14,7 +14,7 @@ use Rattle.ucdfiles.specs.declared.fault.TableFault.TheVariants.{Memory}
 use Rattle.ucdfiles.specs.Faults.{fault_at, first_fault}
 use Rattle.ucdfiles.specs.Reading.{Reads}
 use Rattle.ucdfiles.proofs.FirstFault.{first_fault-at, first_fault-push, fault_of_line-is}
-use Rattle.ucdfiles.proofs.Settled.{lines_of-ended_whole, lines_of-begun_whole}
+use Rattle.ucdfiles.proofs.LinesWith.{lines_of-ended, lines_of-begun}
 
 module _ (before after : List (List ℕ) → Type 0) (fault : List (List ℕ) → List ℕ → Option Fault) (cutter : Cutting) (b : List ℕ) (r : Reads before fault cutter b) where
   same : (lines : List (List ℕ)) (rest : List ℕ) → CutsInto b lines rest → lines ≡ r.lines
@@ -23,14 +23,14 @@ module _ (before after : List (List ℕ) → Type 0) (fault : List (List ℕ) �
   pub end-none : Finishes b None → (first_fault fault [] (lines_of b) ≡ None) × before (lines_of b)
   end-none finishes = elim finishes [
     | inl ended ↦
-        let e : lines_of b ≡ r.lines = lines_of-ended_whole b ended.0 ended.1 ∙ same ended.0 [] ended.1 in
+        let e : lines_of b ≡ r.lines = lines_of-ended b ended.0 ended.1 ∙ same ended.0 [] ended.1 in
         (ap (first_fault fault []) e ∙ r.faultless, subst before (sym e) r.table)
     | inr over ↦ absurd (never_both b over.0 r.lines r.rest over.1 r.whole)
   ]
 
   module _ (last : ℕ × Bor (List ℕ)) (finishes : Finishes b (Some last)) where
     begun : lines_of b ≡ r.lines ++ last.1.now ∷ []
-    begun = lines_of-begun_whole b finishes.1.0 last.1.now finishes.1.1 finishes.0 ∙ ap (λ ls. ls ++ last.1.now ∷ []) (same finishes.1.0 last.1.now finishes.1.1)
+    begun = lines_of-begun b finishes.1.0 last.1.now finishes.1.1 finishes.0 ∙ ap (λ ls. ls ++ last.1.now ∷ []) (same finishes.1.0 last.1.now finishes.1.1)
 
     pub end-ok : ((lines : List (List ℕ)) → before lines → (fault lines last.1.now ≡ None) × after (lines ++ last.1.now ∷ [])) → (first_fault fault [] (lines_of b) ≡ None) × after (lines_of b)
     end-ok adds =

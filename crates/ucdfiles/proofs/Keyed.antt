@@ -1,5 +1,6 @@
 -- Brackets with keys: one more, and the table of a faultless file.
 use Rattle.std.proofs.Common.{◌≡◌, ◌≤◌, ◌↔◌, ℕ, Option, None, Some, List, [], ◌∷◌, ◌++◌, map, refl, sym, ap, subst, ◌∙◌, inl, inr}
+use Rattle.std.proofs.lemmas.Bool.{cases_Bool}
 use Rattle.std.specs.List.{find}
 use Rattle.std.specs.Option.{option_map, unwrap_or}
 use Rattle.std.proofs.lemmas.List.{map-append}
@@ -18,7 +19,6 @@ use Rattle.ucdfiles.specs.Keys.{number_in, IsNumbering, Keeps, key_in, keyed_val
 use Rattle.ucdfiles.specs.PairFiles.{pair_line_says, bracket_in, bracket_fault, bracket_file_fault, bracket_of, bracket_stated, bracket_with, IsEquivalent, IsKeyed, StatesBrackets}
 use Rattle.ucdfiles.proofs.Rising.{find-revalued}
 use Rattle.ucdfiles.proofs.PairValues.{value_of-pairs}
-use Rattle.ucdfiles.proofs.Bools.{known}
 
 module _ (old new : List (List ℕ × ℕ)) (keeps : Keeps old new) where
   number-kept : (a : ℕ) → IsNumbered old a → number_in new (nfd (a ∷ [])) ≡ number_in old (nfd (a ∷ []))
@@ -54,7 +54,7 @@ keyed-more old new spans span brackets n h numbering keeps is =
 find-numbered : (numbers : List (List ℕ × ℕ)) (c : ℕ) (spans : List (Span SidedBracket)) (stated : SidedBracket) → AreNumbered numbers spans
     → value_by (find (holds c) spans) None ≡ Some stated → IsNumbered numbers stated.keyed_by
 find-numbered numbers c [] stated are is = absurd (let bad : ⊥ = cc in bad)
-find-numbered numbers c (s ∷ spans) stated are is = elim (known (holds c s)) [
+find-numbered numbers c (s ∷ spans) stated are is = elim (cases_Bool (holds c s)) [
   | inl held ↦
       let found : Some s.value ≡ Some stated = rw held at is in
       let same : s.value ≡ stated = cc in

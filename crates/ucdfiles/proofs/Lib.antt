@@ -1,6 +1,6 @@
-pub mod Bools
 pub mod ClassLines
 pub mod Rising
+pub mod LinesWith
 pub mod Settled
 pub mod FirstFault
 pub mod Steps

@@ -1,5 +1,6 @@
 -- Brackets of class ON: no other code point is a bracket.
 use Rattle.std.proofs.Common.{◌≡◌, ◌∙◌, ◌<◌, ◌≤◌, ℕ, true, None, List, [], length, get_or, refl, inl, inr}
+use Rattle.std.proofs.lemmas.Bool.{cases_Bool}
 use Rattle.std.specs.List.{find}
 use Rattle.std.specs.Option.{unwrap_or}
 use Rattle.units.specs.declared.bracket.Bracket.{Bracket}
@@ -10,7 +11,6 @@ use Rattle.ucdfiles.specs.declared.span.Span.{Span}
 use Rattle.ucdfiles.specs.Spans.{holds, value_in}
 use Rattle.ucdfiles.specs.Stages.{Stages, stage_at}
 use Rattle.ucdfiles.specs.Tables.{class_by, bracket_by, IsTableOf, AreNeutral}
-use Rattle.ucdfiles.proofs.Bools.{known}
 use Rattle.ucdfiles.proofs.Rising.{find-none}
 
 -- a table made of spans
@@ -24,7 +24,7 @@ HoldsNeutrals classes spans n = (k : ℕ) (d : Span Bracket) → k < n → (c : 
 
 pub neutrals-all : (classes : Stages Class) (spans : List (Span Bracket)) (table : Stages Bracket) → IsTableOf spans table → HoldsNeutrals classes spans (length spans) → AreNeutral classes table
 neutrals-all classes spans table is neutral c le other =
-    let none : find (holds c) spans ≡ None = find-none (holds c) spans (λ k d lt. elim (known (holds c (get_or spans k d))) [
+    let none : find (holds c) spans ≡ None = find-none (holds c) spans (λ k d lt. elim (cases_Bool (holds c (get_or spans k d))) [
       | inl held ↦ absurd (other (neutral k d lt c held))
       | inr aside ↦ aside
     ]) in

@@ -1,5 +1,6 @@
 -- Numbers of decompositions: one more, and the map that holds them.
 use Rattle.std.proofs.Common.{◌≡◌, ℕ, ◌+◌, true, false, cond, None, Some, List, [], ◌∷◌, length, map, refl, sym, ap, ◌∙◌, arith, ◌⊎◌, inl, inr}
+use Rattle.std.proofs.lemmas.Bool.{cases_Bool}
 use Rattle.std.proofs.Common.{Ordering, Less, Equal, Greater}
 use Rattle.std.specs.Ordering.{is_eq, nat_cmp, match_ordering}
 use Rattle.std.specs.Cmp.Lexicographic.{slice_cmp}
@@ -9,7 +10,6 @@ use Rattle.std.specs.Str.{bytes_eq}
 use Rattle.std.proofs.lemmas.Slice.Eq.{bytes_eq-Decides}
 use Rattle.std.proofs.lemmas.Map.Text.{is_eq-slice_cmp}
 use Rattle.ucdfiles.specs.Keys.{number_in, IsNumbering, Keeps}
-use Rattle.ucdfiles.proofs.Bools.{known}
 
 module _ {K : Type 0} (items : K → List ℕ) where
   -- the entries, by what their keys hold
@@ -36,7 +36,7 @@ module _ {K : Type 0} (items : K → List ℕ) where
         let apart : bytes_eq (items k) (items e.0) ≡ false = sym is in
         let rest : number_in (read es) (items k) ≡ None = rw apart at none in
         let inner = later rest in
-        elim (known (bytes_eq a (items k))) [
+        elim (cases_Bool (bytes_eq a (items k))) [
           | inl same ↦
               let whole : a ≡ items k = (bytes_eq-Decides a (items k)).0 same in
               let other : bytes_eq a (items e.0) ≡ false = ap (λ b. bytes_eq b (items e.0)) whole ∙ apart in
@@ -60,13 +60,13 @@ module _ (old new : List (List ℕ × ℕ)) (key : List ℕ) (none : number_in o
   number_in-new = looks key ∙ rw itself refl
 
   cases : (a : List ℕ) (n : ℕ) → number_in new a ≡ Some n → ((a ≡ key) × (n ≡ length old)) ⊎ (number_in old a ≡ Some n)
-  cases a n is = elim (known (bytes_eq a key)) [
+  cases a n is = elim (cases_Bool (bytes_eq a key)) [
     | inl same ↦ (let here : number_in new a ≡ Some (length old) = looks a ∙ rw same refl in inl ((bytes_eq-Decides a key).0 same, cc))
     | inr other ↦ (let there : number_in new a ≡ number_in old a = looks a ∙ rw other refl in inr (sym there ∙ is))
   ]
 
   pub keeps-new : Keeps old new
-  keeps-new a n is = elim (known (bytes_eq a key)) [
+  keeps-new a n is = elim (cases_Bool (bytes_eq a key)) [
     | inl same ↦ (let here : number_in old a ≡ None = ap (number_in old) ((bytes_eq-Decides a key).0 same) ∙ none in cc)
     | inr other ↦ looks a ∙ rw other is
   ]

@@ -3,14 +3,13 @@ use Rattle.std.proofs.Common.{◌≡◌, ℕ, suc, ◌+◌, ◌<◌, ◌≤◌, 
 use Rattle.std.specs.List.{find}
 use Rattle.std.specs.Cmp.Lexicographic.{pointwise}
 use Rattle.std.specs.Option.{option_or, unwrap_or}
-use Rattle.std.proofs.lemmas.Bool.{leb-true, le-leb, false≢true}
+use Rattle.std.proofs.lemmas.Bool.{leb-true, le-leb, false≢true, and_parts, cases_Bool}
 use Rattle.std.proofs.lemmas.List.Folds.{find-append}
 use Rattle.std.proofs.lemmas.Grind.{reverse_onto}
 use Rattle.ucdfiles.specs.declared.span.Span.{Span}
 use Rattle.ucdfiles.specs.Spans.{holds, IsRising, value_by, value_in}
 use Rattle.ucdfiles.proofs.Rising.{find-none, not_held_before}
 use Rattle.ucdfiles.specs.Stages.{value_over, value_over_all}
-use Rattle.ucdfiles.proofs.Bools.{known, both_true}
 
 module _ {V : Type 0} where
   pub value_over_all-push : (c : ℕ) (spans : List (Span V)) (span : Span V) (v : V) → value_over_all c (spans ++ span ∷ []) v ≡ value_over c span (value_over_all c spans v)
@@ -42,7 +41,7 @@ module _ {V : Type 0} where
   unwrap_or-both (Some s) b v = refl
 
   value_over-find : (c : ℕ) (s : Span V) (v : V) → value_over c s v ≡ unwrap_or (value_by None (find (holds c) (s ∷ []))) v
-  value_over-find c s v = elim (known (holds c s)) [
+  value_over-find c s v = elim (cases_Bool (holds c s)) [
     | inl held ↦ rw held refl
     | inr other ↦ rw other refl
   ]
@@ -65,14 +64,14 @@ module _ {V : Type 0} where
 
   -- of spans in order, those behind one that holds a code point don't
   none_behind : (c : ℕ) (s : Span V) (spans : List (Span V)) → IsRising (s ∷ spans) → holds c s ≡ true → find (holds c) spans ≡ None
-  none_behind c s spans rising held = find-none (holds c) spans (λ k d lt. not_held_before c (get_or spans k d) (omega (arith, leb-true c s.last ((both_true _ _ held).1), rising.apart 0 (suc k) d (omega arith) (omega arith))))
+  none_behind c s spans rising held = find-none (holds c) spans (λ k d lt. not_held_before c (get_or spans k d) (omega (arith, leb-true c s.last ((and_parts _ _ held).1), rising.apart 0 (suc k) d (omega arith) (omega arith))))
 
   -- so the one that holds it gives it its value
   pub value_over_all-rising : (c : ℕ) (spans : List (Span V)) (v : V) → IsRising spans → value_over_all c spans v ≡ unwrap_or (value_by (find (holds c) spans) None) v
   value_over_all-rising c [] v rising = refl
   value_over_all-rising c (s ∷ spans) v rising =
       let later : value_over_all c spans (value_over c s v) ≡ unwrap_or (value_by (find (holds c) spans) None) (value_over c s v) = value_over_all-rising c spans (value_over c s v) (rising-tail s spans rising) in
-      elim (known (holds c s)) [
+      elim (cases_Bool (holds c s)) [
         | inl held ↦ (let none : find (holds c) spans ≡ None = none_behind c s spans rising held in later ∙ rw (none, held) refl)
         | inr other ↦ later ∙ rw other refl
       ]
@@ -104,6 +103,6 @@ module _ {V : Type 0} where
   pointwise-exact equal exact [] (y ∷ ys) e = absurd (false≢true e)
   pointwise-exact equal exact (x ∷ xs) [] e = absurd (false≢true e)
   pointwise-exact equal exact (x ∷ xs) (y ∷ ys) e =
-      let head : x ≡ y = exact x y ((both_true _ _ e).0) in
-      let tail : xs ≡ ys = pointwise-exact equal exact xs ys ((both_true _ _ e).1) in
+      let head : x ≡ y = exact x y ((and_parts _ _ e).0) in
+      let tail : xs ≡ ys = pointwise-exact equal exact xs ys ((and_parts _ _ e).1) in
       ap (λ z. z ∷ xs) head ∙ ap (λ zs. y ∷ zs) tail

@@ -1,17 +1,24 @@
 -- Spans in order: where one that holds a code point stands, and one more among them.
-use Rattle.std.proofs.Common.{◌≡◌, ℕ, suc, ◌+◌, ◌-◌, ◌<◌, ◌≤◌, Bool, true, false, ltb, leb, ◌||◌, Option, None, Some, List, [], ◌∷◌, ◌++◌, length, map, get_or, take, drop, insert, refl, sym, ap, ◌∙◌, arith, inl, inr}
+use Rattle.std.proofs.Common.{◌≡◌, ℕ, suc, ◌+◌, ◌-◌, ◌<◌, ◌≤◌, Bool, true, false, ltb, leb, ◌||◌, None, Some, List, [], ◌∷◌, ◌++◌, length, map, get_or, take, drop, insert, refl, sym, ap, ◌∙◌, arith, inl, inr}
 use Rattle.std.specs.List.{find, list_any, AllWithin}
 use Rattle.std.specs.List.Sorted.{IsPartitionedBy}
 use Rattle.std.specs.Option.{option_map, option_or}
-use Rattle.std.proofs.lemmas.Bool.{ltb-true, lt-ltb, leb-true, le-leb, lt-leb, false_from_ne_true, cases_lt, false≢true}
+use Rattle.std.proofs.lemmas.Bool.{ltb-true, lt-ltb, leb-true, le-leb, lt-leb, false_from_ne_true, cases_lt, false≢true, and_parts, and_right, cases_Bool, or_parts}
 use Rattle.std.proofs.Math.Nat.{eq-or-lt_of_le}
 use Rattle.std.proofs.lemmas.List.{take-append-drop, get_or_default, get_or-take, get_or-drop, get_or-map, length-take, length-drop, length-map}
 use Rattle.std.proofs.lemmas.List.Edits.{length-insert, get_or-insert_at, get_or-insert_below, get_or-insert_above}
 use Rattle.std.proofs.lemmas.List.Folds.{find-append, list_any-append}
+use Rattle.units.proofs.Options.{option_or-none}
 use Rattle.ucdfiles.specs.declared.fault.Fault.{Fault}
 use Rattle.ucdfiles.specs.declared.span.Span.{Span}
-use Rattle.ucdfiles.proofs.Bools.{and_false, known, both_true, both_false, or_moves}
 use Rattle.ucdfiles.specs.Spans.{most_data, holds, overlaps, IsRising, Adds, data_fault, revalued}
+
+or_moves : (a b c : Bool) → (a || (b || c)) ≡ ((a || c) || (b || false))
+or_moves true b c = refl
+or_moves false true true = refl
+or_moves false true false = refl
+or_moves false false true = refl
+or_moves false false false = refl
 
 module _ {V : Type 0} where
   pub parted : (rs : List (Span V)) (code : ℕ) → IsRising rs → IsPartitionedBy (λ (r : Span V). ltb r.last code) rs
@@ -44,7 +51,7 @@ module _ {V : Type 0} where
       rw e (list_any-none p rs (λ k d lt. none (suc k) d (omega arith)))
 
   not_held_behind : (code : ℕ) (r : Span V) → r.last < code → holds code r ≡ false
-  not_held_behind code r lt = let e : leb code r.last ≡ false = lt-leb _ _ lt in rw e (and_false (leb r.first code))
+  not_held_behind code r lt = let e : leb code r.last ≡ false = lt-leb _ _ lt in rw e (and_right (leb r.first code) false refl)
 
   pub not_held_before : (code : ℕ) (r : Span V) → code < r.first → holds code r ≡ false
   not_held_before code r lt = let e : leb r.first code ≡ false = lt-leb _ _ lt in rw e refl
@@ -59,8 +66,8 @@ module _ {V : Type 0} where
 
   overlaps-holds : (code : ℕ) (a b : Span V) → holds code a ≡ true → holds code b ≡ true → overlaps a b ≡ true
   overlaps-holds code a b ha hb =
-      let p = both_true (leb a.first code) (leb code a.last) ha in
-      let q = both_true (leb b.first code) (leb code b.last) hb in
+      let p = and_parts (leb a.first code) (leb code a.last) ha in
+      let q = and_parts (leb b.first code) (leb code b.last) hb in
       let e : leb a.first b.last ≡ true = le-leb _ _ (omega (arith, leb-true a.first code p.0, leb-true code b.last q.1)) in
       let f : leb b.first a.last ≡ true = le-leb _ _ (omega (arith, leb-true b.first code q.0, leb-true code a.last p.1)) in
       rw (e, f) refl
@@ -72,13 +79,9 @@ module _ {V : Type 0} where
   pub find-apart : (code : ℕ) (span : Span V) (rs : List (Span V)) → holds code span ≡ true → list_any (overlaps span) rs ≡ false → find (holds code) rs ≡ None
   find-apart code span [] held none = refl
   find-apart code span (r ∷ rs) held none =
-      let parts = both_false (overlaps span r) (list_any (overlaps span) rs) none in
+      let parts = or_parts (overlaps span r) (list_any (overlaps span) rs) none in
       let e : holds code r ≡ false = apart-holds code span r held parts.0 in
       rw e (find-apart code span rs held parts.1)
-
-  option_or-none : (o : Option (Span V)) → option_or o None ≡ o
-  option_or-none None = refl
-  option_or-none (Some x) = refl
 
   finds-aside : (code : ℕ) (front back : List (Span V)) (span : Span V) → holds code span ≡ false
       → find (holds code) (front ++ span ∷ back) ≡ find (holds code) ((front ++ back) ++ span ∷ [])
@@ -91,7 +94,7 @@ module _ {V : Type 0} where
       → find (holds code) (front ++ span ∷ back) ≡ find (holds code) ((front ++ back) ++ span ∷ [])
   finds-held code front back span held none =
       let f : find (holds code) (front ++ back) ≡ None = find-apart code span (front ++ back) held none in
-      let g : find (holds code) front ≡ None = find-apart code span front held (both_false _ _ (sym (list_any-append (overlaps span) front back) ∙ none)).0 in
+      let g : find (holds code) front ≡ None = find-apart code span front held (or_parts _ _ (sym (list_any-append (overlaps span) front back) ∙ none)).0 in
       let one : find (holds code) (front ++ span ∷ back) ≡ Some span = find-append (holds code) front (span ∷ back) ∙ rw (g, held) refl in
       let other : find (holds code) ((front ++ back) ++ span ∷ []) ≡ Some span = find-append (holds code) (front ++ back) (span ∷ []) ∙ rw (f, held) refl in
       one ∙ sym other
@@ -101,7 +104,7 @@ module _ {V : Type 0} where
   finds-insert code rs at span none =
       let whole : take at rs ++ drop at rs ≡ rs = take-append-drop at rs in
       let apart : list_any (overlaps span) (take at rs ++ drop at rs) ≡ false = ap (list_any (overlaps span)) whole ∙ none in
-      elim (known (holds code span)) [
+      elim (cases_Bool (holds code span)) [
         | inl held ↦ finds-held code (take at rs) (drop at rs) span held apart
         | inr aside ↦ finds-aside code (take at rs) (drop at rs) span aside
       ] ∙ ap (λ t. find (holds code) (t ++ span ∷ [])) whole
@@ -125,7 +128,7 @@ module _ {V : Type 0} where
   overlaps-none rs n span rising le below above =
       list_any-none (overlaps span) rs (λ k d lt. elim (cases_lt k n) [
         | inl low ↦ let e : leb span.first (get_or rs k d).last ≡ false = lt-leb _ _ (below k d (omega arith) low) in rw e refl
-        | inr high ↦ let e : leb (get_or rs k d).first span.last ≡ false = lt-leb _ _ (all_above rs n span.last rising above k d high lt) in rw e (and_false (leb span.first (get_or rs k d).last))
+        | inr high ↦ let e : leb (get_or rs k d).first span.last ≡ false = lt-leb _ _ (all_above rs n span.last rising above k d high lt) in rw e (and_right (leb span.first (get_or rs k d).last) false refl)
       ])
 
   -- what is known of an element at a place is known of it whatever stands for one past the end
@@ -190,7 +193,7 @@ module _ {V W : Type 0} (value : V → W) where
   -- hold what they held
   pub find-revalued : (c : ℕ) (spans : List (Span V)) → find (holds c) (map (revalued value) spans) ≡ option_map (revalued value) (find (holds c) spans)
   find-revalued c [] = refl
-  find-revalued c (s ∷ spans) = elim (known (holds c s)) [
+  find-revalued c (s ∷ spans) = elim (cases_Bool (holds c s)) [
     | inl held ↦ rw held refl
     | inr other ↦ rw (other, find-revalued c spans) refl
   ]
