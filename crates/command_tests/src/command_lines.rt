@@ -1,4 +1,4 @@
-// Command lines that many tests run with.
+//! Command lines that many tests run with.
 pub const LEVELS: [&str; 5] = ["bidi", "levels", "--tables", "t", "FILE"];
 
 pub const REORDER: [&str; 5] = ["bidi", "reorder", "--tables", "t", "FILE"];

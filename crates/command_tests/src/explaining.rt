@@ -1,5 +1,5 @@
-// What each rule does, of texts and of classes.
-use crate::memory::{Ending, assert_run};
+//! What each rule does, of texts and of classes.
+use crate::runs::{Ending, assert_run};
 
 #[test]
 fn names_the_first_word_that_is_no_class(rt: HostRuntime) {

@@ -1,11 +1,13 @@
-// Faults of words, of writing and of memory.
+//! Faults of words, of writing and of memory.
 use crate::command_lines::{
     EXPLAIN, EXPLAIN_CLASSES, JUDGE_CHARACTERS, JUDGE_CLASSES, LEVELS, REORDER,
 };
-use crate::memory::{
-    Ending, FixedWriter, MemoryFiles, NoMemory, Outcome, ShortWriter, assert_fault_over_writer,
-    assert_run, assert_run_over, outcome_of, tables_and,
+use crate::failing_files::NoMemory;
+use crate::memory_files::{MemoryFiles, tables_and};
+use crate::runs::{
+    Ending, Outcome, assert_fault_over_writer, assert_run, assert_run_over, outcome_of,
 };
+use crate::writers::{FixedWriter, ShortWriter};
 use command::run::run;
 use std::alloc::Global;
 

@@ -1,9 +1,9 @@
-// Files that can't be read, and texts that are no text.
+//! Files that can't be read, and texts that are no text.
 use crate::command_lines::{EXPLAIN, JUDGE_CLASSES, LEVELS, REORDER};
-use crate::memory::{
-    Ending, FailingFiles, MemoryFile, ShortWriter, assert_fault_over_writer, assert_run, cut,
-    outcome_over, tables_and, whole,
-};
+use crate::failing_files::FailingFiles;
+use crate::memory_files::{MemoryFile, cut, tables_and, whole};
+use crate::runs::{Ending, assert_fault_over_writer, assert_run, outcome_over};
+use crate::writers::ShortWriter;
 use std::alloc::Global;
 use std::process::Abort;
 

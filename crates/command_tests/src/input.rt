@@ -1,5 +1,6 @@
 //! Standard input in the place of a file.
-use crate::memory::{Ending, MemoryFile, MemoryFiles, assert_run_over, cut, tables_and, whole};
+use crate::memory_files::{MemoryFile, MemoryFiles, cut, tables_and, whole};
+use crate::runs::{Ending, assert_run_over};
 
 const LEVELS: [&str; 5] = ["bidi", "levels", "--tables", "t", "-"];
 

@@ -1,53 +1,59 @@
+//! Verdicts on files of both kinds.
 use crate::command_lines::{JUDGE_CHARACTERS, JUDGE_CLASSES};
-use crate::memory::{Ending, assert_run, tables_and, whole};
+use crate::memory_files::{tables_and, whole};
+use crate::runs::{Ending, assert_run};
+
+/// The bytes of a file, and the status and the line that its judge ends with.
+type JudgedFile = (&'static [u8], u8, &'static [u8]);
+
+const CLASSES_ROWS: [JudgedFile; 10] = [
+    (
+        b"@Levels: 1 1 0\n@Reorder: 1 0 2\nR B L; 1\n",
+        0,
+        b"yes: 1 rows, 1 cases\n",
+    ),
+    (
+        b"@Levels: 0\n@Reorder: 0\nL; 7\n",
+        1,
+        b"no: line 3: rtl: levels at 0\n",
+    ),
+    (
+        b"@Levels: x\n@Reorder:\nLRE; 7\n",
+        0,
+        b"yes: 1 rows, 3 cases\n",
+    ),
+    (b"", 0, b"yes: 0 rows, 0 cases\n"),
+    (b"L; 7", 1, b"no: line 1: malformed: NoExpectation\n"),
+    (
+        b"@Levels: 0\n@Reorder: 0\nL; 16\n",
+        1,
+        b"no: line 3: malformed: BitSet\n",
+    ),
+    (
+        b"@Levels: 1\n@Reorder: 0\nON; 9\n",
+        1,
+        b"no: line 3: auto: levels at 0\n",
+    ),
+    (
+        b"@Levels: 0 0\n@Reorder: 0\nL L; 2\n",
+        1,
+        b"no: line 3: ltr: order at 1\n",
+    ),
+    (
+        b"@Type: 1\n@Level: 0\n",
+        1,
+        b"no: line 2: malformed: Directive\n",
+    ),
+    (
+        b"@Levels: 0\n@Reorder: 0\nL; 4\nL; 4\nL; 16\n",
+        1,
+        b"no: line 3: rtl: levels at 0\n",
+    ),
+];
 
 #[test]
 fn judges_files_of_classes(rt: HostRuntime) {
-    let rows: [(&[u8], u8, &[u8]); 10] = [
-        (
-            b"@Levels: 1 1 0\n@Reorder: 1 0 2\nR B L; 1\n",
-            0,
-            b"yes: 1 rows, 1 cases\n",
-        ),
-        (
-            b"@Levels: 0\n@Reorder: 0\nL; 7\n",
-            1,
-            b"no: line 3: rtl: levels at 0\n",
-        ),
-        (
-            b"@Levels: x\n@Reorder:\nLRE; 7\n",
-            0,
-            b"yes: 1 rows, 3 cases\n",
-        ),
-        (b"", 0, b"yes: 0 rows, 0 cases\n"),
-        (b"L; 7", 1, b"no: line 1: malformed: NoExpectation\n"),
-        (
-            b"@Levels: 0\n@Reorder: 0\nL; 16\n",
-            1,
-            b"no: line 3: malformed: BitSet\n",
-        ),
-        (
-            b"@Levels: 1\n@Reorder: 0\nON; 9\n",
-            1,
-            b"no: line 3: auto: levels at 0\n",
-        ),
-        (
-            b"@Levels: 0 0\n@Reorder: 0\nL L; 2\n",
-            1,
-            b"no: line 3: ltr: order at 1\n",
-        ),
-        (
-            b"@Type: 1\n@Level: 0\n",
-            1,
-            b"no: line 2: malformed: Directive\n",
-        ),
-        (
-            b"@Levels: 0\n@Reorder: 0\nL; 4\nL; 4\nL; 16\n",
-            1,
-            b"no: line 3: rtl: levels at 0\n",
-        ),
-    ];
-    for (bytes, status, line) in rows {
+    for (bytes, status, line) in CLASSES_ROWS {
         let ending = Ending::prints(status, line);
         assert_run(
             &rt,
@@ -59,51 +65,52 @@ fn judges_files_of_classes(rt: HostRuntime) {
     }
 }
 
+const CHARACTERS_ROWS: [JudgedFile; 12] = [
+    (b"", 0, b"yes: 0 rows, 0 cases\n"),
+    (
+        b"05D0 0031 002C 0032;0;0;1 2 2 2;1 2 3 0\n0627 0031;0;0;1 2;1 0\n",
+        0,
+        b"yes: 2 rows, 2 cases\n",
+    ),
+    (
+        b"05D0 0028 0061 0029 05D1;1;1;1 1 2 1 1;4 3 2 1 0\n",
+        0,
+        b"yes: 1 rows, 1 cases\n",
+    ),
+    (
+        b"0061 2329 05D0 3009 05D1;0;0;0 0 1 0 1;0 1 2 3 4\n",
+        0,
+        b"yes: 1 rows, 1 cases\n",
+    ),
+    (b"0061;0;1;0;0\n", 1, b"no: line 1: ltr: paragraph level\n"),
+    (b"\n0061;1;1;1;0\n", 1, b"no: line 2: rtl: levels at 0\n"),
+    (
+        b"0061 0028 05D0 0029;2;0;0 0 1 0;0 1 3 2\n",
+        1,
+        b"no: line 1: auto: order at 2\n",
+    ),
+    (
+        b"0061;0;0;0;0;\n",
+        1,
+        b"no: line 1: malformed: FieldCount\n",
+    ),
+    (b";0;0;;\n", 1, b"no: line 1: malformed: EmptyRow\n"),
+    (b"D800;0;0;0;0\n", 1, b"no: line 1: malformed: CodePoint\n"),
+    (
+        b"0061;4;0;0;0\n",
+        1,
+        b"no: line 1: malformed: DirectionField\n",
+    ),
+    (
+        b"0061;3;1;0;0\n",
+        1,
+        b"no: line 1: auto-rtl: paragraph level\n",
+    ),
+];
+
 #[test]
 fn judges_files_of_characters(rt: HostRuntime) {
-    let rows: [(&[u8], u8, &[u8]); 12] = [
-        (b"", 0, b"yes: 0 rows, 0 cases\n"),
-        (
-            b"05D0 0031 002C 0032;0;0;1 2 2 2;1 2 3 0\n0627 0031;0;0;1 2;1 0\n",
-            0,
-            b"yes: 2 rows, 2 cases\n",
-        ),
-        (
-            b"05D0 0028 0061 0029 05D1;1;1;1 1 2 1 1;4 3 2 1 0\n",
-            0,
-            b"yes: 1 rows, 1 cases\n",
-        ),
-        (
-            b"0061 2329 05D0 3009 05D1;0;0;0 0 1 0 1;0 1 2 3 4\n",
-            0,
-            b"yes: 1 rows, 1 cases\n",
-        ),
-        (b"0061;0;1;0;0\n", 1, b"no: line 1: ltr: paragraph level\n"),
-        (b"\n0061;1;1;1;0\n", 1, b"no: line 2: rtl: levels at 0\n"),
-        (
-            b"0061 0028 05D0 0029;2;0;0 0 1 0;0 1 3 2\n",
-            1,
-            b"no: line 1: auto: order at 2\n",
-        ),
-        (
-            b"0061;0;0;0;0;\n",
-            1,
-            b"no: line 1: malformed: FieldCount\n",
-        ),
-        (b";0;0;;\n", 1, b"no: line 1: malformed: EmptyRow\n"),
-        (b"D800;0;0;0;0\n", 1, b"no: line 1: malformed: CodePoint\n"),
-        (
-            b"0061;4;0;0;0\n",
-            1,
-            b"no: line 1: malformed: DirectionField\n",
-        ),
-        (
-            b"0061;3;1;0;0\n",
-            1,
-            b"no: line 1: auto-rtl: paragraph level\n",
-        ),
-    ];
-    for (bytes, status, line) in rows {
+    for (bytes, status, line) in CHARACTERS_ROWS {
         let ending = Ending::prints(status, line);
         assert_run(
             &rt,

@@ -1,8 +1,8 @@
-// Runs over files in memory, and of a class, whose printed bytes a contract says.
+//! Runs over files in memory, and of a class, whose printed bytes a contract says.
 ghost use Rattle.std.specs.Prelude.{◌≡◌, ◌++◌, codes, true};
 ghost use Rattle.command_tests.specs.KnownRuns.{alef_line, neutral_explained};
 
-use crate::memory::{MemoryFiles, whole};
+use crate::memory_files::{MemoryFiles, whole};
 use command::performing::perform;
 use command::request::{FileKind, Request};
 use std::alloc::Global;

@@ -1,6 +1,7 @@
 //! Texts at the limit of their files' bytes.
 use crate::command_lines::REORDER;
-use crate::memory::{FixedWriter, MemoryFiles, tables_and};
+use crate::memory_files::{MemoryFiles, tables_and};
+use crate::writers::FixedWriter;
 use command::run::run;
 use std::alloc::Global;
 use std::process::Abort;

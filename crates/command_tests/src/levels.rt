@@ -1,5 +1,7 @@
+//! Levels of texts, position by position.
 use crate::command_lines::LEVELS;
-use crate::memory::{Ending, assert_run, tables_and, whole};
+use crate::memory_files::{tables_and, whole};
+use crate::runs::{Ending, assert_run};
 
 #[test]
 fn prints_the_levels_of_a_file(rt: HostRuntime) {

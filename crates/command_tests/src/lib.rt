@@ -7,6 +7,8 @@ mod command_lines;
 #[cfg(test)]
 mod explaining;
 #[cfg(test)]
+mod failing_files;
+#[cfg(test)]
 mod faults;
 #[cfg(test)]
 mod file_faults;
@@ -21,12 +23,16 @@ mod large;
 #[cfg(test)]
 mod levels;
 #[cfg(test)]
-mod memory;
+mod memory_files;
 #[cfg(test)]
 mod reorder;
+#[cfg(test)]
+mod runs;
 #[cfg(test)]
 mod table_faults;
 #[cfg(test)]
 mod unread;
 #[cfg(test)]
 mod words;
+#[cfg(test)]
+mod writers;

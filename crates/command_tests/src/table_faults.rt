@@ -1,6 +1,8 @@
-// Tables that are faulty or can't be read.
+//! Tables that are faulty or can't be read.
 use crate::command_lines::{EXPLAIN, JUDGE_CHARACTERS, LEVELS, REORDER};
-use crate::memory::{Ending, MemoryFile, NoMemory, assert_run, assert_run_over, cut, whole};
+use crate::failing_files::NoMemory;
+use crate::memory_files::{MemoryFile, cut, whole};
+use crate::runs::{Ending, assert_run, assert_run_over};
 
 /// The names of the tables' files in the folder `t`.
 const NAMES: [&str; 3] = [
@@ -18,48 +20,50 @@ fn table_files<'a>(bytes: [&'a [u8]; 3]) -> [MemoryFile<'a>; 3] {
     ]
 }
 
+/// The bytes of the tables' files, and the line that says the first fault.
+const FAULTY_TABLES: [([&'static [u8]; 3], &'static [u8]); 10] = [
+    (
+        [b"05D0 ; R\n05CF..05D1 ; R\n", b"x", b"x"],
+        b"bidi: DerivedBidiClass.txt: line 2: Overlap\n",
+    ),
+    (
+        [b"0041 ; Left_To_Right", b"x", b"x"],
+        b"bidi: DerivedBidiClass.txt: line 1: ClassName\n",
+    ),
+    (
+        [b"0042..0041 ; L", b"", b""],
+        b"bidi: DerivedBidiClass.txt: line 1: Backwards\n",
+    ),
+    (
+        [b"#\n\n41 ; L", b"", b""],
+        b"bidi: DerivedBidiClass.txt: line 3: CodePoint\n",
+    ),
+    (
+        [b"", b"0028; 0029; n", b"x"],
+        b"bidi: BidiBrackets.txt: line 1: BracketKind\n",
+    ),
+    (
+        [b"", b"0028; 0029; o\n0028; 0029; o\n", b"x"],
+        b"bidi: BidiBrackets.txt: line 2: Twice\n",
+    ),
+    (
+        [b"", b"0028; 0029", b""],
+        b"bidi: BidiBrackets.txt: line 1: Fields\n",
+    ),
+    (
+        [b"", b"", b"0028; D800"],
+        b"bidi: BidiMirroring.txt: line 1: CodePoint\n",
+    ),
+    (
+        [b"", b"", b"0028"],
+        b"bidi: BidiMirroring.txt: line 1: Fields\n",
+    ),
+    ([b"", b"", b""], b"bidi: cannot read FILE\n"),
+];
+
 #[test]
 fn says_the_first_faulty_line_of_the_tables(rt: HostRuntime) {
-    let rows: [([&[u8]; 3], &[u8]); 10] = [
-        (
-            [b"05D0 ; R\n05CF..05D1 ; R\n", b"x", b"x"],
-            b"bidi: DerivedBidiClass.txt: line 2: Overlap\n",
-        ),
-        (
-            [b"0041 ; Left_To_Right", b"x", b"x"],
-            b"bidi: DerivedBidiClass.txt: line 1: ClassName\n",
-        ),
-        (
-            [b"0042..0041 ; L", b"", b""],
-            b"bidi: DerivedBidiClass.txt: line 1: Backwards\n",
-        ),
-        (
-            [b"#\n\n41 ; L", b"", b""],
-            b"bidi: DerivedBidiClass.txt: line 3: CodePoint\n",
-        ),
-        (
-            [b"", b"0028; 0029; n", b"x"],
-            b"bidi: BidiBrackets.txt: line 1: BracketKind\n",
-        ),
-        (
-            [b"", b"0028; 0029; o\n0028; 0029; o\n", b"x"],
-            b"bidi: BidiBrackets.txt: line 2: Twice\n",
-        ),
-        (
-            [b"", b"0028; 0029", b""],
-            b"bidi: BidiBrackets.txt: line 1: Fields\n",
-        ),
-        (
-            [b"", b"", b"0028; D800"],
-            b"bidi: BidiMirroring.txt: line 1: CodePoint\n",
-        ),
-        (
-            [b"", b"", b"0028"],
-            b"bidi: BidiMirroring.txt: line 1: Fields\n",
-        ),
-        ([b"", b"", b""], b"bidi: cannot read FILE\n"),
-    ];
-    for (bytes, line) in rows {
+    for (bytes, line) in FAULTY_TABLES {
         for words in [
             JUDGE_CHARACTERS.as_slice(),
             LEVELS.as_slice(),
@@ -72,10 +76,9 @@ fn says_the_first_faulty_line_of_the_tables(rt: HostRuntime) {
     }
 }
 
-#[test]
-fn says_the_first_table_that_is_not_read(rt: HostRuntime) {
-    let alloc = rt.alloc();
-    let rows: [([MemoryFile<'_>; 3], &[u8]); 4] = [
+/// Files of which one table can't be read, and the line that says which.
+fn unread_tables() -> [([MemoryFile<'static>; 3], &'static [u8]); 4] {
+    [
         (
             [
                 whole("FILE", b""),
@@ -108,8 +111,13 @@ fn says_the_first_table_that_is_not_read(rt: HostRuntime) {
             ],
             b"bidi: cannot read BidiMirroring.txt\n",
         ),
-    ];
-    for (files, line) in rows {
+    ]
+}
+
+#[test]
+fn says_the_first_table_that_is_not_read(rt: HostRuntime) {
+    let alloc = rt.alloc();
+    for (files, line) in unread_tables() {
         assert_run(
             &rt,
             alloc,

@@ -1,5 +1,7 @@
 //! Reads that fail behind each number of a file's bytes, under each command.
-use crate::memory::{Ending, FailingFiles, assert_run, assert_run_over, cut, tables_and};
+use crate::failing_files::FailingFiles;
+use crate::memory_files::{cut, tables_and};
+use crate::runs::{Ending, assert_run, assert_run_over};
 
 /// 28 bytes.
 const BYTES: &[u8] = b"@Levels: 0\n@Reorder: 0\nL; 7\n";

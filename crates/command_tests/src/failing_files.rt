@@ -1,0 +1,85 @@
+//! Files and standard input that fail: each behind the same bytes, or none finds memory to be opened.
+ghost use Rattle.std.specs.Prelude.{◌≡◌, ℕ, List};
+ghost use Rattle.command_tests.specs.FailingFiles.{begins-given, failing_facts};
+ghost use Rattle.command.specs.ReadFiles.{no_facts};
+
+use command::files::{Files, OpenFault};
+use std::alloc::Global;
+use std::marker::Model;
+use units::cut_source::CutSource;
+
+/// Files of which each has the same bytes, and fails behind the first of them; standard input is one more. Contracts
+/// see the bytes before that.
+#[derive(Drop)]
+pub struct FailingFiles<'a> {
+    bytes: &'a [u8],
+}
+
+impl<'a> Model for FailingFiles<'a> {
+    ghost Value = { List ℕ };
+
+    ghost view = { λ t. t.bytes.now };
+}
+
+impl<'a> FailingFiles<'a> {
+    /// Files that fail behind these bytes.
+    pub fn new(bytes: &'a [u8]) -> Self
+        ensures { result ≡ bytes.now }
+    {
+        FailingFiles { bytes }
+    }
+}
+
+impl<'a> Files for FailingFiles<'a> {
+    type Source = CutSource<'a>;
+
+    ghost opens = { λ files _ _ source. source.left ≡ files };
+
+    ghost facts = { failing_facts };
+
+    ghost gave = { λ files _ _ opened now bytes stands given.
+        begins-given files opened.left now.left bytes stands given };
+
+    ghost gave_all = { λ _ _ _ _ _ _ _ _ ended. absurd ended };
+
+    ghost gave_up = { λ files _ _ opened now bytes stands given _.
+        begins-given files opened.left now.left bytes stands given };
+
+    fn file(&self, alloc: Global, _name: &str, most: u64) -> Result<Self::Source, OpenFault> {
+        self.input(alloc, most)
+    }
+
+    fn input(&self, _alloc: Global, most: u64) -> Result<Self::Source, OpenFault> {
+        let bytes = self.bytes;
+        if bytes.len() as u64 > most {
+            return Err(OpenFault::Cannot);
+        }
+        Ok(CutSource::new(bytes, bytes.len()))
+    }
+}
+
+/// Files and a standard input of which none finds memory to be opened.
+#[derive(Drop)]
+pub struct NoMemory;
+
+impl Files for NoMemory {
+    type Source = CutSource<'static>;
+
+    ghost opens = { λ _ _ _ _. ⊥ };
+
+    ghost facts = { λ _. no_facts };
+
+    ghost gave = { λ _ _ _ _ _ _ opened _. absurd opened };
+
+    ghost gave_all = { λ _ _ _ _ _ _ opened _ _. absurd opened };
+
+    ghost gave_up = { λ _ _ _ _ _ _ opened _ _. absurd opened };
+
+    fn file(&self, _alloc: Global, _name: &str, _most: u64) -> Result<Self::Source, OpenFault> {
+        Err(OpenFault::Memory)
+    }
+
+    fn input(&self, _alloc: Global, _most: u64) -> Result<Self::Source, OpenFault> {
+        Err(OpenFault::Memory)
+    }
+}

@@ -1,0 +1,121 @@
+//! Files and standard input in memory, of which a read may fail behind some of the bytes.
+ghost use Rattle.std.specs.Prelude.{◌≡◌};
+ghost use Rattle.command_tests.specs.MemoryFiles.{StandsOver, begins-gave, memory_facts, stops-gave, stored_at, whole-gave};
+
+use command::files::{Files, OpenFault};
+use std::alloc::Global;
+use std::marker::Model;
+use ucdfiles::small::{BRACKETS, CLASSES, MIRRORS};
+use units::reader_source::ReaderSource;
+
+/// A file in memory. A read past its first `readable` bytes fails.
+#[derive(Clone, Copy)]
+pub struct MemoryFile<'a> {
+    pub name: &'a str,
+    pub bytes: &'a [u8],
+    pub readable: u64,
+}
+
+/// A file that can be read to its end.
+pub fn whole<'a>(name: &'a str, bytes: &'a [u8]) -> MemoryFile<'a>
+    ensures { result ≡ record { name = name.entry; bytes = bytes.entry; readable = u64.MAX } }
+{
+    MemoryFile {
+        name,
+        bytes,
+        readable: u64::MAX,
+    }
+}
+
+/// A file of which a read past these many bytes fails.
+pub fn cut<'a>(name: &'a str, bytes: &'a [u8], readable: u64) -> MemoryFile<'a> {
+    MemoryFile {
+        name,
+        bytes,
+        readable,
+    }
+}
+
+/// Files in memory, and standard input. Contracts see them by their names, their bytes, and how many of those can be
+/// read.
+#[derive(Drop)]
+pub struct MemoryFiles<'a> {
+    files: &'a [MemoryFile<'a>],
+    input: Option<MemoryFile<'a>>,
+}
+
+impl<'a> Model for MemoryFiles<'a> {
+    ghost use Rattle.std.specs.Prelude.{map, option_map};
+    ghost use Rattle.command_tests.specs.MemoryFiles.{Stored, stored_file};
+
+    ghost Value = { Stored };
+
+    ghost view = { λ t. record {
+      files = map (λ file. stored_file file.name file.bytes file.readable) t.files.now;
+      input = option_map (λ file. stored_file file.name file.bytes file.readable) t.input;
+    } };
+}
+
+impl<'a> MemoryFiles<'a> {
+    ghost use Rattle.std.specs.Prelude.{◌≡◌, None, Some, map};
+    ghost use Rattle.command_tests.specs.MemoryFiles.{stored_file};
+
+    /// These files, of which the first of a name is the one that has it, and no standard input.
+    pub fn new(files: &'a [MemoryFile<'a>]) -> Self
+        ensures { result ≡ record {
+          files = map (λ file. stored_file file.name file.bytes file.readable) files.now;
+          input = None;
+        } }
+    {
+        MemoryFiles { files, input: None }
+    }
+
+    /// The same files, and a standard input that holds what this one holds.
+    pub fn with_input(self, input: MemoryFile<'a>) -> Self
+        ensures { result ≡ record self.entry { input = Some (stored_file input.entry.name input.entry.bytes input.entry.readable) } }
+    {
+        MemoryFiles {
+            files: self.files,
+            input: Some(input),
+        }
+    }
+}
+
+impl<'a> Files for MemoryFiles<'a> {
+    type Source = ReaderSource<&'a [u8]>;
+
+    ghost opens = { λ files origin most source. StandsOver (stored_at files origin) most source };
+
+    ghost facts = { memory_facts };
+
+    ghost gave = { λ files origin most opened now bytes. begins-gave (stored_at files origin) most opened now bytes };
+
+    ghost gave_all = { λ files origin most opened now bytes. whole-gave (stored_at files origin) most opened now bytes };
+
+    ghost gave_up = { λ files origin most opened now bytes stands given _.
+        stops-gave (stored_at files origin) most opened now bytes stands given };
+
+    fn file(&self, _alloc: Global, name: &str, most: u64) -> Result<Self::Source, OpenFault> {
+        match self.files.iter().find(|file| file.name == name) {
+            Some(file) => Ok(ReaderSource::new(file.bytes, most.min(file.readable))),
+            None => Err(OpenFault::Cannot),
+        }
+    }
+
+    fn input(&self, _alloc: Global, most: u64) -> Result<Self::Source, OpenFault> {
+        match self.input {
+            Some(file) => Ok(ReaderSource::new(file.bytes, most.min(file.readable))),
+            None => Err(OpenFault::Cannot),
+        }
+    }
+}
+
+/// The tables of the folder `t`, and a file `FILE`.
+pub fn tables_and<'a>(bytes: &'a [u8]) -> [MemoryFile<'a>; 4] {
+    [
+        whole("t/DerivedBidiClass.txt", CLASSES),
+        whole("t/BidiBrackets.txt", BRACKETS),
+        whole("t/BidiMirroring.txt", MIRRORS),
+        whole("FILE", bytes),
+    ]
+}

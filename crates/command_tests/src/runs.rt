@@ -1,0 +1,117 @@
+//! Runs of the command over files in memory, and how they have to end.
+use crate::memory_files::{MemoryFile, MemoryFiles};
+use crate::writers::{FixedWriter, ShortWriter};
+use command::files::Files;
+use command::run::run;
+use std::alloc::Global;
+use std::process::Abort;
+
+/// What a run answered and wrote.
+#[derive(Drop)]
+pub struct Outcome {
+    pub status: u8,
+    pub out: FixedWriter,
+    pub err: FixedWriter,
+}
+
+/// A run over such files.
+pub fn outcome_over<F: Files + Drop>(alloc: Global, words: &[&str], files: F) -> Outcome {
+    let mut out = FixedWriter::new();
+    let mut err = FixedWriter::new();
+    let status = run(alloc, words, &files, &mut out, &mut err);
+    Outcome { status, out, err }
+}
+
+/// A run over these files.
+pub fn outcome_of(alloc: Global, words: &[&str], files: &[MemoryFile<'_>]) -> Outcome {
+    outcome_over(alloc, words, MemoryFiles::new(files))
+}
+
+/// What a run must have written.
+#[derive(Clone, Copy)]
+pub enum Text<'a> {
+    /// These bytes.
+    Is(&'a [u8]),
+    /// Bytes that begin with these.
+    Begins(&'a [u8]),
+}
+
+/// How a run must end: its status, and what it wrote.
+#[derive(Clone, Copy)]
+pub struct Ending<'a> {
+    pub status: u8,
+    pub out: Text<'a>,
+    pub err: Text<'a>,
+}
+
+impl<'a> Ending<'a> {
+    /// With this status, these bytes on standard output, and none on standard error.
+    pub fn prints(status: u8, out: &'a [u8]) -> Self {
+        Ending {
+            status,
+            out: Text::Is(out),
+            err: Text::Is(b""),
+        }
+    }
+
+    /// With this status, no bytes on standard output, and these on standard error.
+    pub fn fails(status: u8, err: &'a [u8]) -> Self {
+        Ending {
+            status,
+            out: Text::Is(b""),
+            err: Text::Is(err),
+        }
+    }
+}
+
+/// Compares what a run with these words wrote to one of its writers.
+fn assert_written(rt: &impl Abort, words: &[&str], written: &[u8], text: Text<'_>) {
+    match text {
+        Text::Is(bytes) => assert_eq!(rt; written, bytes, "{words:?}"),
+        Text::Begins(bytes) => assert!(rt; written.starts_with(bytes), "{words:?}"),
+    }
+}
+
+/// Compares what a run with these words answered and wrote.
+fn assert_ends(rt: &impl Abort, words: &[&str], outcome: &Outcome, ending: Ending<'_>) {
+    assert_eq!(rt; outcome.status, ending.status, "{words:?}");
+    assert_written(rt, words, outcome.out.written(), ending.out);
+    assert_written(rt, words, outcome.err.written(), ending.err);
+}
+
+/// Runs with these words over such files, and compares how that ends.
+pub fn assert_run_over<F: Files + Drop>(
+    rt: &impl Abort,
+    alloc: Global,
+    words: &[&str],
+    files: F,
+    ending: Ending<'_>,
+) {
+    assert_ends(rt, words, &outcome_over(alloc, words, files), ending);
+}
+
+/// Runs with these words over these files, and compares how that ends.
+pub fn assert_run(
+    rt: &impl Abort,
+    alloc: Global,
+    words: &[&str],
+    files: &[MemoryFile<'_>],
+    ending: Ending<'_>,
+) {
+    assert_ends(rt, words, &outcome_of(alloc, words, files), ending);
+}
+
+/// Runs with these words over these files and this writer, and checks that the status is 3 and what it says.
+pub fn assert_fault_over_writer(
+    rt: &impl Abort,
+    alloc: Global,
+    words: &[&str],
+    files: &[MemoryFile<'_>],
+    mut out: ShortWriter,
+    line: &[u8],
+) {
+    let mut err = FixedWriter::new();
+    let status = run(alloc, words, &MemoryFiles::new(files), &mut out, &mut err);
+    assert_eq!(rt; status, 3, "{words:?}");
+    assert_eq!(rt; err.written(), line, "{words:?}");
+}

@@ -1,0 +1,65 @@
+//! Writers in memory: one that fails behind some bytes, and one that holds what is written.
+use std::io::{self, Write};
+
+/// Takes so many bytes and then fails; a flush fails where it is said so.
+#[derive(Drop)]
+pub struct ShortWriter {
+    pub left: usize,
+    pub flushes: bool,
+}
+
+impl Write for ShortWriter {
+    fn write(&mut self, buf: &[u8]) -> io::Result<usize> {
+        let n = self.left.min(buf.len());
+        if n == 0 {
+            return Err(io::Error::from(io::ErrorKind::StorageFull));
+        }
+        self.left -= n;
+        Ok(n)
+    }
+
+    fn flush(&mut self) -> io::Result<()> {
+        if self.flushes {
+            Ok(())
+        } else {
+            Err(io::Error::from(io::ErrorKind::StorageFull))
+        }
+    }
+}
+
+/// As many bytes as each text of the command has at most in these tests.
+const MOST_WRITTEN: usize = 4096;
+
+/// Holds what is written in an array, and takes no memory.
+#[derive(Drop)]
+pub struct FixedWriter {
+    bytes: [u8; MOST_WRITTEN],
+    len: usize,
+}
+
+impl FixedWriter {
+    pub fn new() -> Self {
+        FixedWriter {
+            bytes: [0; MOST_WRITTEN],
+            len: 0,
+        }
+    }
+
+    pub fn written(&self) -> &[u8] {
+        &self.bytes[..self.len.min(MOST_WRITTEN)]
+    }
+}
+
+impl Write for FixedWriter {
+    fn write(&mut self, buf: &[u8]) -> io::Result<usize> {
+        let start = self.len.min(MOST_WRITTEN);
+        let taken = buf.len().min(MOST_WRITTEN - start);
+        self.bytes[start..start + taken].copy_from_slice(&buf[..taken]);
+        self.len = start + taken;
+        Ok(taken)
+    }
+
+    fn flush(&mut self) -> io::Result<()> {
+        Ok(())
+    }
+}
