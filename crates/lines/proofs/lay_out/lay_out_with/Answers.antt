@@ -1,9 +1,11 @@
-use Rattle.std.proofs.Common.{rules, arith, refl}
+use Rattle.std.proofs.Common.{rules, arith, refl, ap, ◌∙◌}
+use Rattle.lines.specs.Scratches.{layout_in}
 use Rattle.lines.proofs.lay_out.lay_out_with.Goals as goal
 
 pub returns : goal.returns
 returns g c =
-    ((refl, (λ _. tt), (search rules, tt)), record { keeps = tt; too_long = ((λ same. absurd cc), (λ less. absurd (omega arith))); laid_out = search rules; at_least = omega arith; at_most = omega arith; light = search rules })
+    let written = c.layout.ensures ∙ ap layout_in c.frozen.ensures.same in
+    ((refl, (λ _. tt), (search rules, tt)), record { keeps = tt; too_long = ((λ same. absurd cc), (λ less. absurd (omega arith))); laid_out = written ∙ search rules; at_least = omega arith; at_most = omega arith; light = search rules })
 
 pub returns-then-text-room : goal.returns-then-text-room
 returns-then-text-room g c =
