@@ -11,6 +11,7 @@ use Rattle.units.specs.Brackets.{follows_bracket, given_to}
 use Rattle.units.specs.declared.class.Class.{Class}
 use Rattle.units.specs.declared.class.Class.TheVariants.{L}
 use Rattle.units.proofs.Lengths.{length-at_each}
+use Rattle.resolve.proofs.BracketSteps.{and-true}
 use Rattle.resolve.proofs.AtEach.{class_at-at_each, same_classes}
 use Rattle.units.proofs.Positions.{positions_from-next}
 
@@ -39,10 +40,6 @@ follows_bracket-below before b j lt =
 pub follows_bracket-same : (before : List Class) (b : ℕ) → follows_bracket before b b ≡ true
 follows_bracket-same before b = ap (λ t. t || (ltb b b && marks before b b)) (eq-eqb b b refl)
 
-and-of-true : (b : Bool) → (b && true) ≡ b
-and-of-true true = refl
-and-of-true false = refl
-
 pub follows_bracket-more : (before : List Class) (b j : ℕ) → b ≤ j → follows_bracket before b (suc j) ≡ (follows_bracket before b j && is_nonspacing (class_at before (suc j)))
 follows_bracket-more before b j le =
     let n : suc j - b ≡ suc (j - b) = omega arith in
@@ -52,7 +49,7 @@ follows_bracket-more before b j le =
     ∙ ap (λ m. list_all mark (positions_from (b + 1) m)) n
     ∙ ap (list_all mark) (positions_from-next (b + 1) (j - b) ∙ ap (λ p. positions_from (b + 1) (j - b) ++ p ∷ []) e)
     ∙ list_all-append mark (positions_from (b + 1) (j - b)) (suc j ∷ [])
-    ∙ ap (λ t. marks before b j && t) (and-of-true (mark (suc j)))
+    ∙ ap (λ t. marks before b j && t) (and-true (mark (suc j)) true refl)
     ∙ ap (λ t. t && mark (suc j)) (sym (follows_bracket-from before b j le))
 
 -- no mark follows what is no mark
