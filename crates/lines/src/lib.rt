@@ -1,10 +1,10 @@
 //! The lines of a text: where they begin, their levels, the order of their positions, and how they are shown.
 #![tactic(auto)]
 
-pub mod bounds;
+mod bounds;
 pub mod breaks;
 mod columns;
-pub mod filling;
+mod filling;
 pub mod laws;
 pub mod lay_out;
 pub mod layout;
