@@ -1,7 +1,7 @@
 //! A paragraph, from its units to its resolved levels (P1 to I2).
 #![tactic(auto)]
 
-pub mod class_set;
+mod class_set;
 pub mod contents;
 mod found;
 mod gates;
