@@ -6,7 +6,7 @@ use Rattle.std.proofs.Math.Seq.{take-append-add}
 use Rattle.std.proofs.lemmas.Bool.{and_parts, cases_lt}
 use Rattle.std.proofs.lemmas.List.{get_or-append-add, get_or_append_left, get_or_past, length-map, map-append, take-append-le}
 use Rattle.std.proofs.lemmas.List.Elements.{All-cons, All-head, All-nil, All-tail}
-use Rattle.std.proofs.lemmas.List.Sums.{sum_by-append, sum_by-cons}
+use Rattle.std.proofs.lemmas.List.Sums.{sum_by-append}
 use Rattle.std.proofs.lemmas.Option.{none-some}
 use Rattle.units.specs.Classes.{classes_of, is_separator}
 use Rattle.units.specs.Layout.{resolved_levels, para_levels_of, text_levels}
@@ -21,17 +21,15 @@ use Rattle.paragraph.specs.Resolvers.{StaysAt}
 use Rattle.paragraph.proofs.FlatLevels.{kept_stays, levels_are_kept}
 use Rattle.lines.specs.Kept.{keeps_own_level}
 use Rattle.lines.specs.Spaces.{AreAtParas}
+use Rattle.lines.proofs.Separators.{count-cons}
 use Rattle.lines.proofs.TextLevels.{para_level, para_levels}
 use Rattle.units.proofs.Lengths.{length-resolved_levels}
-
-count-cons : (u : BidiUnit) (cs : List Class) → count_by is_separator (u.class ∷ cs) ≡ cond (is_separator u.class) 1 0 + count_by is_separator cs
-count-cons u cs = sum_by-cons (λ c. cond (is_separator c) 1 0) u.class cs
 
 zero_more : (n : ℕ) → 0 + n ≡ n
 zero_more n = omega arith
 
 count-other : (u : BidiUnit) (cs : List Class) → is_separator u.class ≡ false → count_by is_separator (u.class ∷ cs) ≡ count_by is_separator cs
-count-other u cs plain = count-cons u cs ∙ ap (λ b. cond b 1 0 + count_by is_separator cs) plain ∙ zero_more (count_by is_separator cs)
+count-other u cs plain = count-cons u.class cs ∙ ap (λ b. cond b 1 0 + count_by is_separator cs) plain ∙ zero_more (count_by is_separator cs)
 
 -- no separator stands before a position of a paragraph
 none_before : (us : List BidiUnit) (p : ℕ) → SeparatorOnlyLast us → p < length us → count_by is_separator (take p (classes_of us)) ≡ 0
@@ -44,7 +42,7 @@ none_before (u ∷ v ∷ us) (suc p) only lt =
 -- one is in it, where another follows
 one_within : (us : List BidiUnit) → SeparatorOnlyLast us → EndsWithSeparator us → count_by is_separator (classes_of us) ≡ 1
 one_within [] only ends = absurd ends
-one_within (u ∷ []) only ends = count-cons u [] ∙ ap (λ b. cond b 1 0 + 0) ends
+one_within (u ∷ []) only ends = count-cons u.class [] ∙ ap (λ b. cond b 1 0 + 0) ends
 one_within (u ∷ v ∷ us) only ends =
     count-other u (classes_of (v ∷ us)) only.0 ∙ one_within (v ∷ us) only.1 ends
 

@@ -1,18 +1,15 @@
 -- Whether a line is broken at a position, by rising breaks.
-use Rattle.std.proofs.Common.{◌≡◌, ◌≢◌, ℕ, ◌+◌, ◌-◌, ◌<◌, ◌≤◌, Bool, true, false, List, [], ◌∷◌, length, zero, suc, refl, ap, ◌∙◌, subst, arith, eq-eqb, ne_eqb}
+use Rattle.std.proofs.Common.{◌≡◌, ◌≢◌, ℕ, ◌+◌, ◌-◌, ◌<◌, ◌≤◌, true, false, List, [], ◌∷◌, length, zero, suc, refl, ap, ◌∙◌, subst, arith, eq-eqb, ne_eqb}
 use Rattle.std.specs.Prelude.{◌||◌, ◌==◌, slice_index}
+use Rattle.std.proofs.lemmas.Bool.{or_right}
 use Rattle.lines.specs.LineBreaks.{AreBreaks}
 use Rattle.units.specs.Reordering.{is_break}
-
-pub or_true : (b : Bool) → (b || true) ≡ true
-or_true true = refl
-or_true false = refl
 
 pub is_break_at : (at : List ℕ) (k p : ℕ) → k < length at → slice_index at k ≡ p → is_break at p ≡ true
 is_break_at [] k p h e = absurd (omega arith)
 is_break_at (b ∷ at) zero p h e = ap (λ t. t || is_break at p) (eq-eqb b p e)
 is_break_at (b ∷ at) (suc k) p h e =
-    ap (λ t. (b == p) || t) (is_break_at at k p (omega arith) e) ∙ or_true (b == p)
+    or_right (b == p) (is_break at p) (is_break_at at k p (omega arith) e)
 
 pub is_break_none : (at : List ℕ) (p : ℕ) → ((k : ℕ) → k < length at → slice_index at k ≢ p) → is_break at p ≡ false
 is_break_none [] p none = refl

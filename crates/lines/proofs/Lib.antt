@@ -6,6 +6,7 @@ pub mod Remaining
 pub mod LineOrder
 pub mod Levels
 pub mod Separators
+pub mod BoolBytes
 pub mod BreakAt
 pub mod Lengths
 pub mod LineEnd

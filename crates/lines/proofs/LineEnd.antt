@@ -1,15 +1,12 @@
 -- White space at a line's end (L1), from the end on.
-use Rattle.std.proofs.Common.{◌≡◌, ℕ, ◌+◌, ◌<◌, Bool, true, false, cond, Option, Some, List, length, get_or, suc, refl, sym, ◌∙◌}
+use Rattle.std.proofs.Common.{◌≡◌, ℕ, ◌+◌, Bool, true, false, cond, Option, Some, List, suc, refl, ◌∙◌}
 use Rattle.std.specs.Prelude.{not, ◌&&◌, ◌||◌}
-use Rattle.std.proofs.lemmas.List.{get_or-map}
 use Rattle.units.specs.declared.class.Class.{Class}
-use Rattle.units.specs.declared.class.Class.TheVariants.{L, BN, B, S, WS, LRE, LRO, RLE, RLO, PDF, LRI, RLI, FSI, PDI}
+use Rattle.units.specs.declared.class.Class.TheVariants.{BN, B, S, WS, LRE, LRO, RLE, RLO, PDF, LRI, RLI, FSI, PDI}
 use Rattle.units.specs.Classes.{class_at, is_removed}
 use Rattle.units.specs.Positions.{first_from}
 use Rattle.units.specs.Classes.{is_line_separator}
 use Rattle.units.specs.Reordering.{is_trailing_space, ends_spaces}
-use Rattle.units.specs.declared.bracket.Unit.{Unit as TextUnit}
-use Rattle.units.specs.Classes.{classes_of}
 use Rattle.lines.specs.Spaces.{resets_before}
 
 -- a position at which spaces end
@@ -63,7 +60,3 @@ class_reset PDI true = refl
 class_reset PDI false = refl
 class_reset _ true = refl
 class_reset _ false = refl
-
--- the class of a unit that was read
-pub class_read : (own : List TextUnit) (p : ℕ) (d : TextUnit) → p < length own → (get_or own p d).class ≡ class_at (classes_of own) p
-class_read own p d h = sym (get_or-map (λ u. u.class) own p d L h)

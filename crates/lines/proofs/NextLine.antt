@@ -1,13 +1,13 @@
 -- The end of the next line, by the separators and the breaks that were passed.
 use Rattle.std.proofs.Common.{◌≡◌, ◌≢◌, ℕ, ◌+◌, ◌-◌, ◌<◌, ◌≤◌, Bool, true, false, cond, List, length, refl, sym, ap, ◌∙◌, subst, inl, inr, arith, ne_eqb}
 use Rattle.std.specs.Prelude.{◌||◌, ◌==◌, slice_index}
-use Rattle.std.proofs.lemmas.Bool.{cases_lt, eqb-true, eqb-false}
+use Rattle.std.proofs.lemmas.Bool.{cases_lt, eqb-true, eqb-false, or_from, or_left, or_right}
 use Rattle.units.specs.declared.class.Class.{Class}
 use Rattle.units.specs.Classes.{class_at, is_separator}
 use Rattle.units.specs.Reordering.{begins_line, is_break}
 use Rattle.lines.specs.LineBreaks.{AreBreaks}
 use Rattle.lines.specs.LineEnds.{EndsAt}
-use Rattle.lines.proofs.BreakAt.{or_true, is_break_at, is_break_none, rising_le}
+use Rattle.lines.proofs.BreakAt.{is_break_at, is_break_none, rising_le}
 use Rattle.lines.proofs.Cuts.{Cuts}
 
 -- the breaks up to a position were passed
@@ -48,15 +48,6 @@ no_break at passed start len limit p breaks q l low high =
 begins_later : (own : List Class) (at : List ℕ) (p : ℕ) → 0 < p → begins_line own at p ≡ (is_separator (class_at own (p - 1)) || is_break at p)
 begins_later own at p h = ap (λ t. t || is_separator (class_at own (p - 1)) || is_break at p) (ne_eqb p 0 (omega arith))
 
-neither : (a b : Bool) → a ≡ false → b ≡ false → (a || b) ≡ false
-neither a b p q = ap (λ t. t || b) p ∙ q
-
-first_of : (a b : Bool) → a ≡ true → (a || b) ≡ true
-first_of a b p = ap (λ t. t || b) p
-
-second_of : (a b : Bool) → b ≡ true → (a || b) ≡ true
-second_of a b p = ap (λ t. a || t) p ∙ or_true a
-
 -- the line ends where the next one begins
 pub ends_line : (own : List Class) (at : List ℕ) (passed start limit end : ℕ) → AreBreaks at (length own) → Passing at passed start → IsLimit at passed (length own) limit → EndsAt own start limit end → Cuts (begins_line own at) start end (length own)
 ends_line own at passed start limit end breaks q l e =
@@ -65,15 +56,15 @@ ends_line own at passed start limit end breaks q l e =
       within = omega (arith, e.within, limit_within at passed (length own) limit breaks l);
       none = λ p low high.
           begins_later own at p (omega arith)
-          ∙ neither (is_separator (class_at own (p - 1))) (is_break at p) (e.joined p low high) (no_break at passed start (length own) limit p breaks q l low (omega (arith, e.within)));
+          ∙ or_from (is_separator (class_at own (p - 1))) (is_break at p) (e.joined p low high) (no_break at passed start (length own) limit p breaks q l low (omega (arith, e.within)));
       here = λ h.
           begins_later own at end (omega (arith, e.above))
           ∙ elim (cases_lt end limit) [
-            | inl below ↦ first_of (is_separator (class_at own (end - 1))) (is_break at end) (e.closed below)
+            | inl below ↦ or_left (is_separator (class_at own (end - 1))) (is_break at end) (e.closed below)
             | inr above ↦
                 let same : limit ≡ end = omega (arith, e.within) in
                 elim (cases_lt passed (length at)) [
-                  | inl some ↦ second_of (is_separator (class_at own (end - 1))) (is_break at end) (is_break_at at passed end some (sym (l.coming some) ∙ same))
+                  | inl some ↦ or_right (is_separator (class_at own (end - 1))) (is_break at end) (is_break_at at passed end some (sym (l.coming some) ∙ same))
                   | inr none ↦ absurd (let c = l.last none in omega arith)
                 ]
           ];

@@ -1,13 +1,21 @@
 -- The remaining positions of a line, rising.
-use Rattle.std.proofs.Common.{◌≡◌, ℕ, ◌+◌, ◌-◌, ◌<◌, ◌≤◌, Bool, true, false, cond, Option, None, Some, List, [], ◌∷◌, ◌++◌, zero, suc, refl, sym, ap, ◌∙◌, inl, inr, arith}
+use Rattle.std.proofs.Common.{◌≡◌, ℕ, ◌+◌, ◌-◌, ◌<◌, ◌≤◌, Bool, true, false, cond, Option, None, Some, List, [], ◌∷◌, ◌++◌, length, take, set, zero, suc, refl, sym, ap, ◌∙◌, inl, inr, arith}
 use Rattle.std.specs.Prelude.{filter, reverse, slice_index_or}
 use Rattle.std.specs.Option.{is_some}
 use Rattle.std.proofs.lemmas.Bool.{cases_lt}
-use Rattle.std.proofs.lemmas.List.{append-nil, reverse-append}
+use Rattle.std.proofs.lemmas.List.{append-nil, reverse-append, take_more_set, take-set}
 use Rattle.std.proofs.lemmas.List.Elements.{filter-append}
+use mir.Val.{bool_byte}
 use Rattle.units.specs.Positions.{positions_from}
 use Rattle.lines.specs.Turning.{ListsRemaining, Ordered, is_remaining, remaining}
 use Rattle.units.proofs.Positions.{positions_from-next}
+
+-- a position behind the first count, which are one more where it is kept
+pub kept : (order : List ℕ) (count count2 position : ℕ) (b : Bool) → count < length order → count2 ≡ count + bool_byte b → take count2 (set order count position) ≡ take count order ++ cond b (position ∷ []) []
+kept order count count2 position true h e = ap (λ n. take n (set order count position)) e ∙ take_more_set order count position h
+kept order count count2 position false h e =
+    let same : count2 ≡ count = omega arith in
+    ap (λ n. take n (set order count position)) same ∙ take-set order count position ∙ sym (append-nil (take count order))
 
 some_level : (o : Option ℕ) → is_some o ≡ true → (v : ℕ) × (o ≡ Some v)
 some_level None h = cc

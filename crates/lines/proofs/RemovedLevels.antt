@@ -21,7 +21,8 @@ use Rattle.units.proofs.Lengths.{length-resolved_levels}
 use Rattle.lines.proofs.TextEnd.{get_or-after_resets}
 use Rattle.lines.proofs.TextLevels.{para_level, para_levels}
 
-para_level-low : (cs : List Class) (direction : Direction) → para_level_of cs direction ≤ 1
+-- P2, P3: the level of a paragraph is 0 or 1
+pub para_level-low : (cs : List Class) (direction : Direction) → para_level_of cs direction ≤ 1
 unfolding para_level_of
 para_level-low cs Auto = at_most_one _
 para_level-low cs Ltr = omega arith

@@ -4,6 +4,7 @@ use Rattle.std.specs.Prelude.{count_by, not}
 use mir.Val.{bool_byte}
 use Rattle.std.proofs.lemmas.List.Sums.{sum_by-cons}
 use Rattle.units.specs.declared.bracket.Unit.{Unit as BidiUnit}
+use Rattle.units.specs.declared.class.Class.{Class}
 use Rattle.units.specs.Classes.{classes_of, is_separator}
 use Rattle.units.specs.Paragraphs.{begin_with, paragraphs_of}
 
@@ -27,8 +28,8 @@ length-paragraphs u (v ∷ us) =
     let some = length-paragraphs v us in
     omega (arith, length-begin_with u (paragraphs_of (v ∷ us)) some)
 
-count-cons : (u : BidiUnit) (us : List BidiUnit) → count_by is_separator (classes_of (u ∷ us)) ≡ cond (is_separator u.class) 1 0 + count_by is_separator (classes_of us)
-count-cons u us = sum_by-cons (λ c. cond (is_separator c) 1 0) u.class (classes_of us)
+pub count-cons : (c : Class) (cs : List Class) → count_by is_separator (c ∷ cs) ≡ cond (is_separator c) 1 0 + count_by is_separator cs
+count-cons c cs = sum_by-cons (λ (d : Class). cond (is_separator d) 1 0) c cs
 
 one_or_none : (b : Bool) → cond b 1 0 + 0 + cond b 0 1 ≡ 1
 one_or_none true = refl
@@ -36,11 +37,13 @@ one_or_none false = refl
 
 pub count-paragraphs : (us : List BidiUnit) → count_by is_separator (classes_of us) + open_ends us ≡ length (paragraphs_of us)
 count-paragraphs [] = refl
-count-paragraphs (u ∷ []) = ap (λ n. n + open_ends (u ∷ [])) (count-cons u []) ∙ one_or_none (is_separator u.class)
+count-paragraphs (u ∷ []) = ap (λ n. n + open_ends (u ∷ [])) (count-cons u.class []) ∙ one_or_none (is_separator u.class)
 count-paragraphs (u ∷ v ∷ us) =
     let next = count-paragraphs (v ∷ us) in
     let some = length-paragraphs v us in
-    omega (arith, count-cons u (v ∷ us), length-begin_with u (paragraphs_of (v ∷ us)) some, next)
+    let counted : count_by is_separator (classes_of (u ∷ v ∷ us)) ≡ cond (is_separator u.class) 1 0 + count_by is_separator (classes_of (v ∷ us)) =
+    count-cons u.class (classes_of (v ∷ us)) in
+    omega (arith, counted, length-begin_with u (paragraphs_of (v ∷ us)) some, next)
 
 -- before each position there are fewer separators than paragraphs
 pub count-before : (us : List BidiUnit) (p : ℕ) → p < length us → count_by is_separator (take p (classes_of us)) < length (paragraphs_of us)

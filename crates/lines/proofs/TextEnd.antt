@@ -4,7 +4,7 @@ use Rattle.std.specs.Prelude.{◌&&◌, ◌||◌, count_by, slice_index, slice_i
 use Rattle.std.specs.Option.{unwrap_or}
 use Rattle.std.proofs.lemmas.List.{ext_get_or, get_or-map, get_or-set_same, get_or-set_other, length-map, set-get_or, take_all}
 use Rattle.std.proofs.lemmas.List.Sums.{count_by_more_no, count_by_more_yes}
-use Rattle.std.proofs.lemmas.Bool.{cases_lt, cases_eq}
+use Rattle.std.proofs.lemmas.Bool.{cases_lt, cases_eq, or_right}
 use Rattle.units.specs.declared.class.Class.{Class}
 use Rattle.units.specs.declared.class.Class.TheVariants.{L, BN, B, S, WS, LRE, LRO, RLE, RLO, PDF, LRI, RLI, FSI, PDI}
 use Rattle.units.specs.Classes.{class_at, is_line_separator, is_separator}
@@ -15,7 +15,7 @@ use Rattle.units.specs.Reordering.{begins_line, is_break}
 use Rattle.units.specs.Reordering.{line_from, is_reset, para_level_at, reset_to, after_resets}
 use Rattle.units.proofs.Positions.{length-positions_from, get_or-positions_from}
 use Rattle.lines.proofs.LineEnd.{resets_at, resets_at-suc, may_reset, class_reset}
-use Rattle.lines.proofs.BreakAt.{or_true, is_break_at, is_break_none, rising_le}
+use Rattle.lines.proofs.BreakAt.{is_break_at, is_break_none, rising_le}
 
 -- spaces before p are reset, if no line begins at p
 abbrev pub resets_to : List Class → List ℕ → ℕ → Bool
@@ -83,7 +83,7 @@ resets_in-next own at p ends broken resets lt e b r =
           ap (λ t. t || broken || resets) e ∙ ap (λ t. is_separator (class_at own p) || t || resets) b ∙ ap (λ t. is_separator (class_at own p) || is_break at (p + 1) || t) r
           ∙ ap (λ t. t || resets_to own at (p + 1)) (sym begins) ∙ sym (resets_in-is own at (p + 1) l)
       | inr l ↦
-          ap (λ t. ends || broken || t) (r ∙ resets_to-end own at (p + 1) l) ∙ or_true (ends || broken) ∙ sym (resets_in-end own at (p + 1) l)
+          ap (λ t. ends || broken || t) (r ∙ resets_to-end own at (p + 1) l) ∙ or_right (ends || broken) true refl ∙ sym (resets_in-end own at (p + 1) l)
     ]
 
 pub resets_to-is : (own : List Class) (at : List ℕ) (p : ℕ) → p < length own → resets_to own at p ≡ resets_before (class_at own p) (resets_in own at (p + 1))

@@ -1,11 +1,11 @@
 -- Sequence by sequence, each position gets the level that its sequence gives it.
-use Rattle.std.specs.Prelude.{Option, Some, None, ℕ, zero, suc, ◌==◌, ◌+◌, ◌<◌, ◌≤◌, ◌≡◌, List, [], ◌∷◌, ◌++◌, length, map, take, drop, Contains, slice_index, slice_get, refl}
-use Rattle.std.specs.List.{All, flat_map, find, zip}
-use Rattle.std.specs.Option.{option_map}
+use Rattle.std.specs.Prelude.{Option, Some, None, ℕ, zero, suc, ◌+◌, ◌<◌, ◌≤◌, ◌≡◌, List, [], ◌∷◌, ◌++◌, length, map, take, drop, Contains, slice_get, refl}
+use Rattle.std.specs.List.{All, flat_map}
 use Rattle.std.proofs.Common.{arith, ap, sym, ◌∙◌, subst, inl, inr, get_or}
-use Rattle.std.proofs.lemmas.Bool.{cases_Bool, cases_lt, cond-true, cond-false, eqb-true}
-use Rattle.std.proofs.lemmas.List.{length-append, length-map, take-append-drop, take_more, append_assoc, append-nil}
+use Rattle.std.proofs.lemmas.Bool.{cases_lt}
+use Rattle.std.proofs.lemmas.List.{length-append, length-map, take-append-drop, take_more, append-nil}
 use Rattle.std.proofs.lemmas.List.Elements.{All-contains, All-get_or, Contains-append_left, Contains-append_right}
+use Rattle.std.proofs.lemmas.List.Concat.{flat_map-append}
 use Rattle.std.proofs.lemmas.Option.{get_or_from_slice_get}
 use Rattle.units.specs.Classes.{class_at, classes_at}
 use Rattle.units.specs.Layout.{levels_in, level_found, levels_of_sequence}
@@ -14,7 +14,8 @@ use Rattle.units.proofs.Lengths.{length-levels_of_sequence}
 use Rattle.units.specs.declared.bracket.Unit.{Unit as BidiUnit}
 use Rattle.units.specs.declared.class.Class.{Class}
 use Rattle.sequences.specs.Once.{times}
-use Rattle.sequences.proofs.Once.{one_if, one_if-same, times-append, times-cons}
+use Rattle.sequences.proofs.Once.{one_if-same, times-append, times-cons}
+use Rattle.paragraph.proofs.FoundBeside.{found-append, found-append_none, none_beside, zip_none, zip_some}
 use Rattle.paragraph.specs.Covering.{positions_in, AreDisjoint, HasLevelsBy}
 use Rattle.resolve.specs.Raised.{resolved_at}
 use Rattle.resolve.specs.Resolved.{HasLevels, KeepsOtherLevels}
@@ -26,68 +27,11 @@ times_some [] p c = absurd (omega (arith, c.1))
 times_some (x ∷ ps) p (zero, within, e) = omega (arith, times-cons x ps p, one_if-same x p e)
 times_some (x ∷ ps) p (suc k, within, e) = omega (arith, times-cons x ps p, times_some ps p (k, omega arith, e))
 
--- what is found for a position that the list does not hold
-pub found_none : (ps vs : List ℕ) (p : ℕ) → times ps p ≡ 0 → level_found (zip ps vs) p ≡ None
-found_none [] vs p e = refl
-found_none (x ∷ ps) [] p e = refl
-found_none (x ∷ ps) (v ∷ vs) p e =
-    elim (cases_Bool (x == p)) [
-      | inl same ↦ absurd (omega (arith, e, times-cons x ps p, one_if-same x p (eqb-true x p same)))
-      | inr other ↦
-          ap (option_map (λ (y : ℕ × ℕ). y.1)) (cond-false (x == p) (Some (x, v)) (find (λ (y : ℕ × ℕ). y.0 == p) (zip ps vs)) other)
-          ∙ found_none ps vs p (omega (arith, e, times-cons x ps p))
-    ]
-
--- what is found for a position that stands in the list: the level beside it
-pub found_some : (ps vs : List ℕ) (p : ℕ) → length vs ≡ length ps → 0 < times ps p →
-    (k : ℕ) × (k < length ps) × (slice_index ps k ≡ p) × (level_found (zip ps vs) p ≡ Some (slice_index vs k))
-found_some [] vs p n l = absurd (omega arith)
-found_some (x ∷ ps) [] p n l = absurd (omega arith)
-found_some (x ∷ ps) (v ∷ vs) p n l =
-    elim (cases_Bool (x == p)) [
-      | inl same ↦
-          (0, omega arith, eqb-true x p same, ap (option_map (λ (y : ℕ × ℕ). y.1)) (cond-true (x == p) (Some (x, v)) (find (λ (y : ℕ × ℕ). y.0 == p) (zip ps vs)) same))
-      | inr other ↦
-          (let zero : one_if x p ≡ 0 = cond-false (x == p) 1 0 other in
-          let w = found_some ps vs p (omega arith) (omega (arith, times-cons x ps p)) in (
-            suc w.0,
-            omega (arith, w.1),
-            w.2,
-            ap (option_map (λ (y : ℕ × ℕ). y.1)) (cond-false (x == p) (Some (x, v)) (find (λ (y : ℕ × ℕ). y.0 == p) (zip ps vs)) other) ∙ w.3,
-          ))
-    ]
-
-pub found-append : (xs ys : List (ℕ × ℕ)) (p : ℕ) → level_found xs p ≡ None → level_found (xs ++ ys) p ≡ level_found ys p
-found-append [] ys p e = refl
-found-append (x ∷ xs) ys p e =
-    elim (cases_Bool (x.0 == p)) [
-      | inl same ↦ absurd (let f : Some x.1 ≡ None = ap (option_map (λ (y : ℕ × ℕ). y.1)) (sym (cond-true (x.0 == p) (Some x) (find (λ (y : ℕ × ℕ). y.0 == p) xs) same)) ∙ e in cc)
-      | inr other ↦
-          ap (option_map (λ (y : ℕ × ℕ). y.1)) (cond-false (x.0 == p) (Some x) (find (λ (y : ℕ × ℕ). y.0 == p) (xs ++ ys)) other)
-          ∙ found-append xs ys p (ap (option_map (λ (y : ℕ × ℕ). y.1)) (sym (cond-false (x.0 == p) (Some x) (find (λ (y : ℕ × ℕ). y.0 == p) xs) other)) ∙ e)
-    ]
-
-found-append_none : (xs ys : List (ℕ × ℕ)) (p : ℕ) → level_found ys p ≡ None → level_found (xs ++ ys) p ≡ level_found xs p
-found-append_none [] ys p e = e
-found-append_none (x ∷ xs) ys p e =
-    elim (cases_Bool (x.0 == p)) [
-      | inl same ↦
-          ap (option_map (λ (y : ℕ × ℕ). y.1)) (cond-true (x.0 == p) (Some x) (find (λ (y : ℕ × ℕ). y.0 == p) (xs ++ ys)) same
-          ∙ sym (cond-true (x.0 == p) (Some x) (find (λ (y : ℕ × ℕ). y.0 == p) xs) same))
-      | inr other ↦
-          ap (option_map (λ (y : ℕ × ℕ). y.1)) (cond-false (x.0 == p) (Some x) (find (λ (y : ℕ × ℕ). y.0 == p) (xs ++ ys)) other)
-          ∙ found-append_none xs ys p e
-          ∙ ap (option_map (λ (y : ℕ × ℕ). y.1)) (sym (cond-false (x.0 == p) (Some x) (find (λ (y : ℕ × ℕ). y.0 == p) xs) other))
-    ]
-
 module _ (most_open : ℕ) (us : List BidiUnit) (before : List Class) where
   -- sequences that do not hold a position give it no level
   pub unfound : (all : List SequenceView) (p : ℕ) → times (positions_in all) p ≡ 0 → level_found (flat_map (levels_in most_open us before) all) p ≡ None
-  unfound [] p e = refl
-  unfound (s ∷ all) p e =
-      let t = times-append s.positions (positions_in all) p in
-      found-append (levels_in most_open us before s) (flat_map (levels_in most_open us before) all) p (found_none s.positions (levels_of_sequence most_open s us (classes_at before s.positions)) p (omega arith))
-      ∙ unfound all p (omega arith)
+  unfound =
+      none_beside (levels_in most_open us before) (λ s p none. zip_none s.positions (levels_of_sequence most_open s us (classes_at before s.positions)) p none)
 
 -- what these sequences leave: their positions have their levels, and the classes at all others are those before W1
 pub record IsCovered (most_open : ℕ) (us : List BidiUnit) (before : List Class) (done : List SequenceView) (classes : List Class) (levels : List (Option ℕ)) : Type 0 where
@@ -114,10 +58,6 @@ times_in-take : (xs : List SequenceView) (k : ℕ) (p : ℕ) → times (position
 times_in-take xs k p =
     let whole : times (positions_in (take k xs ++ drop k xs)) p ≡ times (positions_in xs) p = ap (λ (ys : List SequenceView). times (positions_in ys) p) (take-append-drop k xs) in
     omega (arith, whole, times_in-append (take k xs) (drop k xs) p)
-
-flat-append : (f : SequenceView → List (ℕ × ℕ)) (xs ys : List SequenceView) → flat_map f (xs ++ ys) ≡ flat_map f xs ++ flat_map f ys
-flat-append f [] ys = refl
-flat-append f (x ∷ xs) ys = ap (λ (zs : List (ℕ × ℕ)). f x ++ zs) (flat-append f xs ys) ∙ sym (append_assoc (f x) (flat_map f xs) (flat_map f ys))
 
 -- what two functions make of the elements of a list, where they agree on them
 map_where : {B : Type 0} (f g : ℕ → B) (ps : List ℕ) → ((p : ℕ) → Contains ps p → f p ≡ g p) → map f ps ≡ map g ps
@@ -173,21 +113,21 @@ module _ {extent : ℕ} {all : List SequenceView} (apart : AreDisjoint extent al
       let own : List (ℕ × ℕ) = levels_in most_open us before s in
       let earlier : List (ℕ × ℕ) = flat_map (levels_in most_open us before) (take k all) in
       let joined : flat_map (levels_in most_open us before) (take (k + 1) all) ≡ earlier ++ own =
-      ap (flat_map (levels_in most_open us before)) take_next ∙ flat-append (levels_in most_open us before) (take k all) (s ∷ []) ∙ ap (λ (xs : List (ℕ × ℕ)). earlier ++ xs) (append-nil own) in
+      ap (flat_map (levels_in most_open us before)) take_next ∙ flat_map-append (levels_in most_open us before) (take k all) (s ∷ []) ∙ ap (λ (xs : List (ℕ × ℕ)). earlier ++ xs) (append-nil own) in
       let values : List ℕ = levels_of_sequence most_open s us (classes_at before s.positions) in
       let long : length values ≡ length s.positions = length-levels_of_sequence most_open s us (classes_at before s.positions) ∙ length-map s.positions (class_at before) in
       record {
         found = λ p h.
             elim (cases_lt 0 (times s.positions p)) [
               | inl some ↦
-                  (let w = found_some s.positions values p long some in
+                  (let w = zip_some s.positions values p long some 0 in
                   let none : level_found earlier p ≡ None = unfound most_open us before (take k all) p (apart_from_earlier p (omega (arith, h, n)) some) in
                   ap (resolved_at now_levels) (sym w.2) ∙ has w.0 w.1 ∙ sym w.3 ∙ sym (found-append earlier own p none))
               | inr others ↦
                   (let none : times s.positions p ≡ 0 = omega arith in
                   keeps_levels p (λ c. let t = times_some s.positions p c in absurd (omega arith))
                   ∙ covered.found p h
-                  ∙ sym (found-append_none earlier own p (found_none s.positions values p none)))
+                  ∙ sym (found-append_none earlier own p (zip_none s.positions values p none)))
             ]
             ∙ sym (ap (λ (xs : List (ℕ × ℕ)). level_found xs p) joined);
         kept = λ p e. keeps_classes p (λ c. let t = times_some s.positions p c in absurd (omega (arith, times_next p))) ∙ covered.kept p (omega (arith, times_next p));

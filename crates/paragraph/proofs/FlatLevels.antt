@@ -1,8 +1,8 @@
 -- Flat paragraphs: what the scan of their classes tells.
-use Rattle.std.specs.Prelude.{Option, None, Some, ℕ, Bool, true, false, ◌<◌, ◌≤◌, ◌≡◌, not, List, length, map, slice_index, refl}
+use Rattle.std.specs.Prelude.{Option, None, Some, ℕ, Bool, true, false, ◌<◌, ◌≤◌, ◌≡◌, not, List, length, map, slice_index}
 use Rattle.std.specs.List.{flat_map, list_all}
 use Rattle.std.proofs.Common.{arith, ap, sym, ◌∙◌, cond, get_or, inl, inr}
-use Rattle.std.proofs.lemmas.Bool.{and_parts, cases_lt}
+use Rattle.std.proofs.lemmas.Bool.{and_parts, cases_lt, not-true}
 use Rattle.std.proofs.lemmas.Option.{none-some, same_Some}
 use Rattle.std.proofs.lemmas.List.{length-map, get_or-map, get_or_past, ext_get_or}
 use Rattle.std.proofs.lemmas.List.Sums.{AllPass-from_list_all, count_by-le-length, length-filter}
@@ -25,15 +25,11 @@ use Rattle.paragraph.specs.Contents.{has_none, keeps_level}
 use Rattle.paragraph.specs.Covering.{HasLevelsBy}
 use Rattle.paragraph.specs.Resolvers.{StaysAt}
 
-not_true : (b : Bool) → not b ≡ true → b ≡ false
-not_true true h = cc
-not_true false h = refl
-
 pub flat_from : (cs : List Class) → list_all is_flat cs ≡ true → IsFlat cs
 flat_from cs h = AllPass-from_list_all is_flat cs h
 
 pub none_from : (test : Class → Bool) (cs : List Class) → has_none test cs ≡ true → HasNone test cs
-none_from test cs h = λ k d lt. not_true (test (get_or cs k d)) (AllPass-from_list_all (λ c. not (test c)) cs h k d lt)
+none_from test cs h = λ k d lt. not-true (test (get_or cs k d)) (AllPass-from_list_all (λ c. not (test c)) cs h k d lt)
 
 -- where it keeps its level, that level at each position that remains is what the rules resolve
 pub levels_are_kept : (limits : LimitsOf) (us : List BidiUnit) (para : ℕ) → keeps_level para (classes_of us) ≡ true → map (λ (u : BidiUnit). kept_level para u.class) us ≡ resolved_levels limits us para

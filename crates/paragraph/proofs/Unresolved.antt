@@ -1,11 +1,10 @@
 -- A position has no resolved level exactly where it is removed.
-use Rattle.std.specs.Prelude.{Option, Some, None, ℕ, ◌==◌, ◌+◌, ◌<◌, ◌≤◌, ◌≡◌, Bool, true, false, not, if◌then◌else◌, List, [], ◌∷◌, ◌++◌, length, is_none, is_some, slice_index, slice_index_or, refl}
-use Rattle.std.specs.List.{flat_map, find}
+use Rattle.std.specs.Prelude.{Option, Some, None, ℕ, ◌<◌, ◌≤◌, ◌≡◌, Bool, true, false, not, if◌then◌else◌, List, [], ◌∷◌, length, is_none, is_some, slice_index, slice_index_or, refl}
+use Rattle.std.specs.List.{flat_map}
 use Rattle.std.specs.Option.{option_map}
-use Rattle.std.proofs.Common.{arith, ap, sym, ◌∙◌, inl, inr}
-use Rattle.std.proofs.lemmas.Bool.{cases_Bool, cases_lt, cond-true, cond-false}
+use Rattle.std.proofs.Common.{arith, ap, ◌∙◌, inl, inr}
+use Rattle.std.proofs.lemmas.Bool.{cases_lt, cond-true, cond-false}
 use Rattle.std.proofs.lemmas.List.{get_or-map, length-map}
-use Rattle.std.proofs.lemmas.Option.{none-some}
 use Rattle.units.specs.Classes.{class_at, classes_at, classes_of, is_removed}
 use Rattle.units.specs.Explicit.{explicit_at, explicit_of}
 use Rattle.units.specs.Layout.{current_of, level_found, levels_in, levels_of_sequence, resolved_levels}
@@ -23,21 +22,8 @@ use Rattle.units.proofs.Positions.{length-positions_from, get_or-positions_from}
 use Rattle.sequences.specs.Once.{times}
 use Rattle.sequences.proofs.Once.{sequences_hold_once, times-append}
 use Rattle.paragraph.specs.Covering.{positions_in}
-use Rattle.paragraph.proofs.Covering.{found-append, found_none, found_some, unfound}
-
--- what is found in front of more is still found
-found-append_some : (xs ys : List (ℕ × ℕ)) (p v : ℕ) → level_found xs p ≡ Some v → level_found (xs ++ ys) p ≡ Some v
-found-append_some [] ys p v e = absurd (none-some v e)
-found-append_some (x ∷ xs) ys p v e =
-    elim (cases_Bool (x.0 == p)) [
-      | inl same ↦
-          ap (option_map (λ (y : ℕ × ℕ). y.1)) (cond-true (x.0 == p) (Some x) (find (λ (y : ℕ × ℕ). y.0 == p) (xs ++ ys)) same
-          ∙ sym (cond-true (x.0 == p) (Some x) (find (λ (y : ℕ × ℕ). y.0 == p) xs) same))
-          ∙ e
-      | inr other ↦
-          ap (option_map (λ (y : ℕ × ℕ). y.1)) (cond-false (x.0 == p) (Some x) (find (λ (y : ℕ × ℕ). y.0 == p) (xs ++ ys)) other)
-          ∙ found-append_some xs ys p v (ap (option_map (λ (y : ℕ × ℕ). y.1)) (sym (cond-false (x.0 == p) (Some x) (find (λ (y : ℕ × ℕ). y.0 == p) xs) other)) ∙ e)
-    ]
+use Rattle.paragraph.proofs.Covering.{unfound}
+use Rattle.paragraph.proofs.FoundBeside.{found-append, found-append_some, zip_none, zip_some}
 
 -- a position of one of the sequences is given a level
 module _ (most_open : ℕ) (us : List BidiUnit) (before : List Class) where
@@ -50,9 +36,9 @@ module _ (most_open : ℕ) (us : List BidiUnit) (before : List Class) where
       let later : List (ℕ × ℕ) = flat_map (levels_in most_open us before) all in
       elim (cases_lt 0 (times s.positions p)) [
         | inl here ↦
-            (let w = found_some s.positions values p long here in ap is_none (found-append_some (levels_in most_open us before s) later p (slice_index values w.0) w.3))
+            (let w = zip_some s.positions values p long here 0 in ap is_none (found-append_some (levels_in most_open us before s) later p (slice_index values w.0) w.3))
         | inr none ↦
-            ap is_none (found-append (levels_in most_open us before s) later p (found_none s.positions values p (omega arith))) ∙ found_held all p (omega arith)
+            ap is_none (found-append (levels_in most_open us before s) later p (zip_none s.positions values p (omega arith))) ∙ found_held all p (omega arith)
       ]
 
 some-map : (place : Option (ℕ × Class)) → is_some (option_map (λ x. x.0) place) ≡ not (is_none place)

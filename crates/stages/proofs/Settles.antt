@@ -10,8 +10,8 @@ use Rattle.resolve.specs.Ahead.{first_class}
 use Rattle.resolve.proofs.Ahead.{nearest_after-first}
 use Rattle.units.proofs.Lengths.{length-at_each}
 use Rattle.resolve.proofs.AtEach.{class_at-at_each, drop-class_at}
-use Rattle.resolve.proofs.Gathered.{length-classes_at, classes_at-drop}
-use Rattle.resolve.proofs.Passes.{Pass, pass_start, pass_reads, pass_within, pass_rest, pass_write}
+use Rattle.resolve.proofs.Gathered.{length-classes_at}
+use Rattle.resolve.proofs.Passes.{Pass, pass_start, pass_reads, pass_within, pass_ahead, pass_write}
 use Rattle.stages.proofs.RulePasses.{pass_keep, pass_nearest_here, pass_nearest_same}
 
 -- `taken` is what the run at hand takes, if the pass is inside one
@@ -58,16 +58,12 @@ module _ {kind : Class → Bool} {rule : Class → Class → Class} {sos eos : C
         taken_is = is;
       }
 
-  -- what comes after the position is what was there
-  pub later_ahead : classes_at now (drop (k + 1) ps) ≡ drop (k + 1) (classes_at start ps)
-  later_ahead = classes_at-drop now ps (k + 1) ∙ pass_rest w.pass inside
-
   -- a run that begins here looks past itself
   pub settle_new : kind (class_at now (slice_index ps k)) ≡ true → (v : Class) →
       v ≡ rule before (first_class (λ c. not (kind c)) (classes_at now (drop (k + 1) ps)) eos) →
       SettlePass kind rule sos eos ps start (set now (slice_index ps k) v) before (Some v) (k + 1)
   settle_new t v is =
-      settle_run t v (is ∙ ap (λ (cs : List Class). rule before (first_class (λ c. not (kind c)) cs eos)) later_ahead)
+      settle_run t v (is ∙ ap (λ (cs : List Class). rule before (first_class (λ c. not (kind c)) cs eos)) (pass_ahead w.pass inside))
 
   -- a run that goes on takes what it took
   pub settle_same : (c : Class) → taken ≡ Some c → kind (class_at now (slice_index ps k)) ≡ true → (v : Class) → v ≡ c →

@@ -5,7 +5,7 @@ use Rattle.std.proofs.lemmas.List.Edits.{get_or-between, length-between}
 use Rattle.units.specs.Classes.{class_at, classes_of, is_separator}
 use Rattle.units.specs.declared.bracket.Unit.{Unit as TextUnit}
 use Rattle.units.specs.declared.class.Class.{Class}
-use Rattle.lines.proofs.LineEnd.{class_read}
+use Rattle.explicit.proofs.Roles.{class_read}
 use Rattle.lines.proofs.ParagraphLines.{ends_at_limit}
 use Rattle.lines.proofs.filling.end_of_line.Goals as goal
 
@@ -21,7 +21,7 @@ read_at : (own : List TextUnit) (start limit k end : ℕ) (d : TextUnit) (b : Bo
 read_at own start limit k end d b there within e is =
     let long : length (slice_range own start limit) ≡ limit - start = length-between own start limit within in
     ap (λ n. is_separator (class_at (classes_of own) n)) e
-    ∙ sym (is ∙ ap (λ (u : TextUnit). is_separator u.class) (get_or-between own start limit k d (omega arith)) ∙ ap is_separator (class_read own (start + k) d (omega arith)))
+    ∙ sym (is ∙ ap (λ (u : TextUnit). is_separator u.class) (get_or-between own start limit k d (omega arith)) ∙ ap is_separator (sym (class_read own (start + k) d (omega arith))))
 
 pub returns-then-paragraphs-eq1-clause-end : goal.returns-then-paragraphs-eq1-clause-end
 returns-then-paragraphs-eq1-clause-end g c =

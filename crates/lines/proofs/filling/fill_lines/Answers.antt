@@ -2,7 +2,6 @@ use Rattle.std.proofs.Common.{◌≡◌, ◌≤◌, ◌+◌, ◌-◌, ◌++◌, 
 use Rattle.std.specs.Prelude.{◌==◌, IfSome, map, slice_index_or}
 use Rattle.std.specs.Bool.{then_some}
 use Rattle.std.proofs.lemmas.List.{length-map, length-take-le, take_more_set}
-use mir.Val.{bool_byte}
 use Rattle.units.specs.Classes.{classes_of, is_separator}
 use Rattle.units.specs.Isolates.{level_of_para}
 use Rattle.units.specs.declared.level.ParaLevel.{ParaLevel}
@@ -14,24 +13,14 @@ use Rattle.lines.specs.LineBreaks.{AreBreaks}
 use Rattle.lines.specs.Turning.{IsAtOneLevel}
 use Rattle.lines.proofs.Cuts.{Cuts}
 use Rattle.lines.proofs.NextLine.{IsLimit, ends_line, limit_within, passing_none, passing_on}
-use Rattle.lines.proofs.LineEnd.{class_read}
+use Rattle.lines.proofs.BoolBytes.{bool_byte-is, bool_byte-at_most_one}
+use Rattle.explicit.proofs.AtMostOne.{at_most_one}
+use Rattle.explicit.proofs.Roles.{class_read}
 use Rattle.lines.proofs.LinesWritten.{filling_start, filling_more}
 use Rattle.lines.proofs.ParagraphLines.{counted_on, line_uniform, para_read}
 use Rattle.explicit.proofs.OneCutting.{no_more_paragraphs}
 use Rattle.lines.proofs.Separators.{paragraph_at}
 use Rattle.lines.proofs.filling.fill_lines.Goals as goal
-
-byte_is : (b : Bool) → bool_byte b ≡ cond b 1 0
-byte_is true = refl
-byte_is false = refl
-
-at_most_one : (b : Bool) → cond b 1 0 ≤ 1
-at_most_one true = omega arith
-at_most_one false = omega arith
-
-byte_small : (b : Bool) → bool_byte b ≤ 1
-byte_small true = omega arith
-byte_small false = omega arith
 
 -- with a line more, that ends there and has an order up to there
 abbrev ended_at : List Bound → ℕ → ℕ → List Bound
@@ -56,7 +45,7 @@ pub overflow_add-paragraph : goal.overflow_add-paragraph
 overflow_add-paragraph g c =
     let l = c.loop-start in
     let bound = paragraph_at c.args.own.now (length c.args.paras.now) l.start c.requires.paras (omega arith) in
-    omega (arith, l.invariant.counted, bound, c.requires.paras, no_more_paragraphs c.args.own.now, c.from-paragraph.ensures, byte_small c.is_separator.result)
+    omega (arith, l.invariant.counted, bound, c.requires.paras, no_more_paragraphs c.args.own.now, c.from-paragraph.ensures, bool_byte-at_most_one c.is_separator.result)
 
 pub write_line-filled-requires-clause-uniform : goal.write_line-filled-requires-clause-uniform
 write_line-filled-requires-clause-uniform g c =
@@ -115,7 +104,7 @@ loop-start-preserved g c =
     let e = c.end_of_line-end.ensures.end in
     let within : end ≤ length own = omega (arith, e.within, limit_within at l.passed (length own) limit breaks is_limit) in
     let cuts : Cuts (begins_line own at) l.start end (length own) = ends_line own at l.passed l.start limit end breaks l.invariant.passing is_limit e in
-    let step : l.passed + c.from-passed.result ≡ l.passed + cond (end == limit) 1 0 = ap (λ n. l.passed + n) (c.from-passed.ensures ∙ byte_is (end == limit)) in
+    let step : l.passed + c.from-passed.result ≡ l.passed + cond (end == limit) 1 0 = ap (λ n. l.passed + n) (c.from-passed.ensures ∙ bool_byte-is (end == limit)) in
     let line = c.write_line-filled in
     let written : length (take line.result.positions line.new.orders) ≡ line.result.positions =
     length-take-le line.result.positions line.new.orders (omega (arith, line.ensures.few, line.auto.orders, l.auto.orders, c.requires.orders)) in
@@ -131,9 +120,9 @@ loop-start-preserved g c =
       few_lines = omega (arith, e.above, line.ensures.lines, l.invariant.few_lines);
       few_positions = line.ensures.few;
       counted =
-          ap (λ n. l.paragraph + n) (c.from-paragraph.ensures ∙ byte_is c.is_separator.result)
+          ap (λ n. l.paragraph + n) (c.from-paragraph.ensures ∙ bool_byte-is c.is_separator.result)
           ∙ counted_on own l.start limit end l.paragraph c.is_separator.result e within l.invariant.counted
-          (c.is_separator.ensures ∙ ap is_separator (class_read c.args.own.now (end - 1) _ (omega (arith, e.above, within, len))));
+          (c.is_separator.ensures ∙ ap is_separator (sym (class_read c.args.own.now (end - 1) _ (omega (arith, e.above, within, len)))));
       at_least = omega (arith, l.invariant.at_least, e.above, c.tick.ensures, c.end_of_line-end.ensures.at_least, line.ensures.at_least);
       at_most = omega (arith, l.invariant.at_most, e.above, c.tick.ensures, c.end_of_line-end.ensures.at_most, line.ensures.at_most, line.ensures.lines);
       light = λ known.

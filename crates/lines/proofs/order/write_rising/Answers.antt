@@ -1,22 +1,12 @@
-use Rattle.std.proofs.Common.{◌≡◌, ◌<◌, ◌≤◌, ◌+◌, ◌++◌, [], ◌∷◌, ℕ, List, Bool, true, false, cond, length, take, set, arith, sym, ap, ◌∙◌}
-use Rattle.std.proofs.lemmas.List.{get_or_read, append-nil, take_more_set, take-set}
+use Rattle.std.proofs.Common.{◌≡◌, ◌<◌, ◌+◌, ◌++◌, [], ◌∷◌, cond, length, arith, sym, ap, ◌∙◌}
+use Rattle.std.proofs.lemmas.List.{get_or_read}
 use Rattle.std.specs.Prelude.{None, slice_index_or}
 use Rattle.std.specs.Option.{is_some}
 use mir.Val.{bool_byte}
 use Rattle.lines.specs.Turning.{is_remaining, remaining}
-use Rattle.lines.proofs.Remaining.{remaining-next}
+use Rattle.lines.proofs.BoolBytes.{bool_byte-at_most_one}
+use Rattle.lines.proofs.Remaining.{kept, remaining-next}
 use Rattle.lines.proofs.order.write_rising.Goals as goal
-
--- a position behind the first count, which are one more where it is kept
-kept : (order : List ℕ) (count count2 position : ℕ) (b : Bool) → count < length order → count2 ≡ count + bool_byte b → take count2 (set order count position) ≡ take count order ++ cond b (position ∷ []) []
-kept order count count2 position true h e = ap (λ n. take n (set order count position)) e ∙ take_more_set order count position h
-kept order count count2 position false h e =
-    let same : count2 ≡ count = omega arith in
-    ap (λ n. take n (set order count position)) same ∙ take-set order count position ∙ sym (append-nil (take count order))
-
-at_most_one : (b : Bool) → bool_byte b ≤ 1
-at_most_one true = omega arith
-at_most_one false = omega arith
 
 pub loop-position-preserved : goal.loop-position-preserved
 loop-position-preserved g c =
@@ -26,7 +16,7 @@ loop-position-preserved g c =
     let level : c.index-levels-position.result ≡ slice_index_or levels l.position None =
     get_or_read levels l.position c.index-levels-position.result within c.index-levels-position.is None in
     let test : c.is_some.result ≡ is_remaining levels l.position = c.is_some.ensures ∙ ap is_some level in
-    let one = at_most_one c.is_some.result in
+    let one = bool_byte-at_most_one c.is_some.result in
     let step : l.count + c.from-count.result ≡ l.count + bool_byte c.is_some.result = ap (λ n. l.count + n) c.from-count.ensures in
     record {
       order = kept l.order l.count (l.count + c.from-count.result) l.position c.is_some.result (omega (arith, l.auto.order, l.invariant.count)) step

@@ -1,7 +1,6 @@
 use Rattle.std.proofs.Common.{◌≡◌, ◌<◌, ◌+◌, ◌-◌, Bool, true, false, cond, length, take, count_by, get_or, set, None, arith, refl, sym, ap, ◌∙◌, subst}
 use Rattle.std.specs.Prelude.{◌||◌, ◌&&◌, slice_index_or, map}
 use Rattle.std.proofs.lemmas.List.{length-map, get_or-map, get_or_default}
-use mir.Val.{bool_byte}
 use Rattle.units.specs.declared.level.ParaLevel.TheVariants.{Zero}
 use Rattle.units.specs.Classes.{is_line_separator, is_separator, class_at}
 use Rattle.lines.specs.LineBreaks.{AreBreaks}
@@ -10,13 +9,11 @@ use Rattle.units.specs.Isolates.{level_of_para}
 use Rattle.lines.specs.Spaces.{resets_before}
 use Rattle.units.specs.Reordering.{para_level_at, reset_to, after_resets}
 use Rattle.lines.proofs.Separators.{paragraph_at}
-use Rattle.lines.proofs.LineEnd.{class_read, may_reset}
+use Rattle.explicit.proofs.Roles.{class_read}
+use Rattle.lines.proofs.BoolBytes.{bool_byte-is}
+use Rattle.lines.proofs.LineEnd.{may_reset}
 use Rattle.lines.proofs.TextEnd.{Comes, Resetting, resetting_start, resetting_more, resetting_on, resetting_end, counted_step}
 use Rattle.lines.proofs.resets.reset_text.Goals as goal
-
-byte_is : (b : Bool) → bool_byte b ≡ cond b 1 0
-byte_is true = refl
-byte_is false = refl
 
 pub loop-position-init : goal.loop-position-init
 loop-position-init g c =
@@ -37,10 +34,10 @@ overflow_sub-paragraph g c =
     let len : length own ≡ length c.args.own.now = length-map c.args.own.now (λ u. u.class) in
     let there : p + 1 ≡ l.position = omega arith in
     let in_text : p < length own = omega (arith, l.invariant.text.all) in
-    let e : c.is_separator-ends.result ≡ is_separator (class_at own p) = c.is_separator-ends.ensures ∙ ap is_separator (class_read c.args.own.now p _ (omega arith)) in
+    let e : c.is_separator-ends.result ≡ is_separator (class_at own p) = c.is_separator-ends.ensures ∙ ap is_separator (sym (class_read c.args.own.now p _ (omega arith))) in
     let n = counted_step own p c.is_separator-ends.result in_text e in
     let k : l.paragraph ≡ count_by is_separator (take (p + 1) own) = l.invariant.text.counted ∙ ap (λ m. count_by is_separator (take m own)) (sym there) in
-    let b : c.from-paragraph.result ≡ cond c.is_separator-ends.result 1 0 = c.from-paragraph.ensures ∙ byte_is c.is_separator-ends.result in
+    let b : c.from-paragraph.result ≡ cond c.is_separator-ends.result 1 0 = c.from-paragraph.ensures ∙ bool_byte-is c.is_separator-ends.result in
     omega arith
 
 pub bounds-paras-paragraph : goal.bounds-paras-paragraph
@@ -51,10 +48,10 @@ bounds-paras-paragraph g c =
     let len : length own ≡ length c.args.own.now = length-map c.args.own.now (λ u. u.class) in
     let there : p + 1 ≡ l.position = omega arith in
     let in_text : p < length own = omega (arith, l.invariant.text.all) in
-    let e : c.is_separator-ends.result ≡ is_separator (class_at own p) = c.is_separator-ends.ensures ∙ ap is_separator (class_read c.args.own.now p _ (omega arith)) in
+    let e : c.is_separator-ends.result ≡ is_separator (class_at own p) = c.is_separator-ends.ensures ∙ ap is_separator (sym (class_read c.args.own.now p _ (omega arith))) in
     let n = counted_step own p c.is_separator-ends.result in_text e in
     let k : l.paragraph ≡ count_by is_separator (take (p + 1) own) = l.invariant.text.counted ∙ ap (λ m. count_by is_separator (take m own)) (sym there) in
-    let b : c.from-paragraph.result ≡ cond c.is_separator-ends.result 1 0 = c.from-paragraph.ensures ∙ byte_is c.is_separator-ends.result in
+    let b : c.from-paragraph.result ≡ cond c.is_separator-ends.result 1 0 = c.from-paragraph.ensures ∙ bool_byte-is c.is_separator-ends.result in
     let bound : count_by is_separator (take p own) < length c.args.paras.now = paragraph_at c.args.own.now (length c.args.paras.now) p c.requires.paras (omega arith) in
     omega arith
 
@@ -72,13 +69,13 @@ loop-position-preserved-then-resets-broken g c =
     let breaks : AreBreaks at (length own) = subst (AreBreaks at) (c.requires.len ∙ sym len) c.positions-at.ensures.breaks in
     let there : p + 1 ≡ l.position = omega arith in
     let in_text : p < length own = omega (arith, l.invariant.text.all) in
-    let class = class_read c.args.own.now p _ (omega arith) in
+    let class = sym (class_read c.args.own.now p _ (omega arith)) in
     let e : ends ≡ is_separator (class_at own p) = c.is_separator-ends.ensures ∙ ap is_separator class in
     let before : Resetting own at paras old (p + 1) l.ahead l.paragraph l.resets l.levels =
     subst (λ n. Resetting own at paras old n l.ahead l.paragraph l.resets l.levels) (sym there) l.invariant.text in
     let n = counted_step own p ends in_text e in
     let index : l.paragraph - c.from-paragraph.result ≡ count_by is_separator (take p own) =
-    let b : c.from-paragraph.result ≡ cond ends 1 0 = c.from-paragraph.ensures ∙ byte_is ends in
+    let b : c.from-paragraph.result ≡ cond ends 1 0 = c.from-paragraph.ensures ∙ bool_byte-is ends in
     let k : l.paragraph ≡ count_by is_separator (take (p + 1) own) = before.counted in
     omega arith in
     let may : c.may_be_reset.result ≡ may_reset (class_at own p) = c.may_be_reset.ensures ∙ ap may_reset class in
@@ -95,8 +92,8 @@ loop-position-preserved-then-resets-broken g c =
     value written before in
     record {
       text =
-          subst (λ a. Resetting own at paras old p (l.ahead - a) (l.paragraph - c.from-paragraph.result) resets2 (set l.levels p c.reset_level.result)) (sym (c.from-ahead.ensures ∙ byte_is broken))
-          (subst (λ a. Resetting own at paras old p (l.ahead - cond broken 1 0) (l.paragraph - a) resets2 (set l.levels p c.reset_level.result)) (sym (c.from-paragraph.ensures ∙ byte_is ends)) more);
+          subst (λ a. Resetting own at paras old p (l.ahead - a) (l.paragraph - c.from-paragraph.result) resets2 (set l.levels p c.reset_level.result)) (sym (c.from-ahead.ensures ∙ bool_byte-is broken))
+          (subst (λ a. Resetting own at paras old p (l.ahead - cond broken 1 0) (l.paragraph - a) resets2 (set l.levels p c.reset_level.result)) (sym (c.from-paragraph.ensures ∙ bool_byte-is ends)) more);
       steps = omega (arith, c.tick.ensures, l.invariant.steps);
     }
 
@@ -120,7 +117,7 @@ loop-position-preserved g c =
     let in_text : p < length own = omega (arith, l.invariant.text.all) in
     let none = none_holds l.resets c.comes_last-broken.result c.is_line_separator.result c.if-resets-broken.false in
     let solid : is_line_separator (class_at own p) ≡ false =
-    sym (c.is_line_separator.ensures ∙ ap is_line_separator (class_read c.args.own.now p _ (omega arith))) ∙ none.2 in
+    sym (c.is_line_separator.ensures ∙ ap is_line_separator (sym (class_read c.args.own.now p _ (omega arith)))) ∙ none.2 in
     let whole : Comes at l.ahead (p + 1) → ⊥ = λ comes. let broken : c.comes_last-broken.result ≡ true = c.comes_last-broken.ensures.1 comes in let off : c.comes_last-broken.result ≡ false = none.1 in let z : false ≡ true = sym off ∙ broken in cc in
     let before : Resetting own at paras old (p + 1) l.ahead l.paragraph false l.levels =
     subst (λ n. Resetting own at paras old n l.ahead l.paragraph false l.levels) (sym there)

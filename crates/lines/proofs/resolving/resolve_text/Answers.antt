@@ -3,7 +3,7 @@ use Rattle.std.specs.List.{list_all}
 use Rattle.std.specs.Prelude.{◌&&◌, slice_range}
 use Rattle.std.proofs.Math.Bool.{and-true, and_assoc}
 use Rattle.std.proofs.lemmas.Bool.{and_parts}
-use Rattle.std.proofs.lemmas.List.{drop_all, drop-drop, length-drop, length-take-le, take_all, take_more_set}
+use Rattle.std.proofs.lemmas.List.{drop_all, drop-drop, length-drop, length-take-le, take_more_set, take_rest}
 use Rattle.std.proofs.lemmas.Slice.{take-put_mid}
 use Rattle.units.specs.declared.bracket.Unit.{Unit as BidiUnit}
 use Rattle.units.specs.Paragraphs.{paragraphs_of, SeparatorOnlyLast}
@@ -38,10 +38,6 @@ loop-start-init g c = record {
   light = λ known. omega arith;
 }
 
--- what is left, as a slice of the text
-rest_is : (text : List BidiUnit) (start : ℕ) → take (length text - start) (drop start text) ≡ drop start text
-rest_is text start = take_all (length text - start) (drop start text) (omega (arith, length-drop start text))
-
 -- the first paragraph, as a slice of the text
 piece_is : (text : List BidiUnit) (start n end : ℕ) → end ≡ start + n → slice_range text start end ≡ take n (drop start text)
 piece_is text start n end e = let m : end - start ≡ n = omega arith in ap (λ (k : ℕ). take k (drop start text)) m
@@ -52,7 +48,7 @@ resolve_known-resolved-requires-clause-separators g c =
     let text : List BidiUnit = c.args.text.now in
     let n : ℕ = c.of-first.result.length in
     let P : List (List BidiUnit) → Type 0 = λ pieces. IsWritten c.args.limits text c.args.direction l.start (take l.paragraphs l.paras) l.levels pieces in
-    let w : P (take n (drop l.start text) ∷ paragraphs_of (drop (l.start + n) text)) = subst P (next_piece text l.start n c.loop-start-test.true (c.of-first.ensures.first.length ∙ ap first_length (rest_is text l.start))) l.invariant.written in
+    let w : P (take n (drop l.start text) ∷ paragraphs_of (drop (l.start + n) text)) = subst P (next_piece text l.start n c.loop-start-test.true (c.of-first.ensures.first.length ∙ ap first_length (take_rest text l.start))) l.invariant.written in
     subst SeparatorOnlyLast (sym (piece_is text l.start n (l.start + n) refl)) (separator_last w)
 
 pub loop-start-preserved : goal.loop-start-preserved
@@ -64,10 +60,10 @@ loop-start-preserved g c =
     let end : ℕ = l.start + n in
     let para : List BidiUnit = slice_range text l.start end in
     let known = c.resolve_known-resolved in
-    let some : 0 < n = c.of-first.ensures.some (omega (arith, length-drop l.start text, ap length (rest_is text l.start))) in
-    let within : n ≤ length text - l.start = omega (arith, c.of-first.ensures.within, length-drop l.start text, ap length (rest_is text l.start)) in
+    let some : 0 < n = c.of-first.ensures.some (omega (arith, length-drop l.start text, ap length (take_rest text l.start))) in
+    let within : n ≤ length text - l.start = omega (arith, c.of-first.ensures.within, length-drop l.start text, ap length (take_rest text l.start)) in
     let split : paragraphs_of (drop l.start text) ≡ para ∷ paragraphs_of (drop end text) =
-    next_piece text l.start n c.loop-start-test.true (c.of-first.ensures.first.length ∙ ap first_length (rest_is text l.start))
+    next_piece text l.start n c.loop-start-test.true (c.of-first.ensures.first.length ∙ ap first_length (take_rest text l.start))
     ∙ ap (λ (us : List BidiUnit). us ∷ paragraphs_of (drop end text)) (sym (piece_is text l.start n end refl)) in
     let long : length para ≡ n = ap length (piece_is text l.start n end refl) ∙ length-take-le n (drop l.start text) (omega (arith, length-drop l.start text)) in
     let P : List (List BidiUnit) → Type 0 = λ pieces. IsWritten c.args.limits text direction l.start (take l.paragraphs l.paras) l.levels pieces in

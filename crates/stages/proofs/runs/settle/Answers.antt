@@ -6,8 +6,8 @@ use Rattle.std.proofs.lemmas.List.{take_rest}
 use Rattle.resolve.specs.Ahead.{first_class}
 use Rattle.stages.specs.Runs.{in_run, ends_run, taken_by}
 use Rattle.resolve.proofs.Gathered.{length-classes_at}
-use Rattle.resolve.proofs.Passes.{pass_end, pass_reads, pass_within}
-use Rattle.stages.proofs.Settles.{settle_start, settle_other, settle_new, settle_same, later_ahead}
+use Rattle.resolve.proofs.Passes.{pass_ahead, pass_end, pass_reads, pass_within}
+use Rattle.stages.proofs.Settles.{settle_start, settle_other, settle_new, settle_same}
 use Rattle.stages.proofs.StepCounts.{count_start, count_new, count_same, count_other, count_end}
 use Rattle.stages.proofs.runs.settle.Goals as goal
 use Rattle.stages.proofs.runs.settle.Goals.{then-holds, in-Some, in-None, else-holds}
@@ -25,7 +25,7 @@ loop-k-preserved g c =
     let n0 = c.loop-k.invariant.1 in
     let inside : c.loop-k.k < length ps = omega arith in
     let reads = pass_reads w0.pass inside in
-    let ahead = later_ahead w0 inside in
+    let ahead = pass_ahead w0.pass inside in
     elim c.if-holds.branch [
       | then-holds w ↦
           let t : in_run c.args.run (class_at c.loop-k.classes (slice_index ps c.loop-k.k)) ≡ true = search rules in
