@@ -1,10 +1,10 @@
 -- What a line of a file comes to, by its place.
 use Rattle.std.proofs.Common.{◌≡◌, ℕ, zero, suc, ◌+◌, ◌<◌, Option, None, Some, List, [], ◌∷◌, ◌++◌, length, take, map, reverse, refl, sym, ap, subst, ◌∙◌, arith, append_assoc, append-nil}
-use Rattle.std.specs.Prelude.{if◌then◌else◌, nat_lt, slice_index_or}
+use Rattle.std.specs.Prelude.{nat_lt, slice_index_or}
 use Rattle.std.specs.List.{slice_get}
 use Rattle.std.specs.Option.{option_map}
-use Rattle.std.proofs.lemmas.List.{reverse-append, length-map}
-use Rattle.std.proofs.lemmas.Option.{slice_get-get_or, slice_get-map, slice_get_within}
+use Rattle.std.proofs.lemmas.List.{reverse-append}
+use Rattle.std.proofs.lemmas.Option.{slice_get-get_or, slice_get-map, slice_get_within, same_Some}
 use Rattle.units.specs.Text.{longest_line, content_of, fields_of, items_of, each_read}
 use Rattle.units.specs.declared.bracket.Unit.{Unit as BidiUnit}
 use Rattle.units.specs.declared.level.Direction.{Direction}
@@ -19,7 +19,6 @@ use Rattle.bidtests.specs.FileKinds.{findings_by}
 use Rattle.ucdfiles.specs.Tables.{unit_by}
 use Rattle.bidtests.specs.Headline.{line_comes_to}
 use Rattle.bidtests.proofs.LineByLine.{length-findings}
-use Rattle.bidtests.proofs.Places.{same-held}
 use Rattle.bidtests.proofs.Ordered.{IsOrdered, one-direction, if-either, classes-ordered}
 
 -- the lines before, the nearest of them first, and those before these
@@ -91,4 +90,4 @@ line-ordered (Characters tables) lines k = characters-ordered (unit_by tables.no
 pub findings-ordered : (kind : Kind) (lines : List (List ℕ)) (k : ℕ) (f : Finding) → slice_get (findings_by kind lines) k ≡ Some f → IsOrdered f
 findings-ordered kind lines k f e =
     let within : k < length lines = omega (arith, slice_get_within (findings_by kind lines) k f e, length-findings kind lines) in
-    subst IsOrdered (same-held (sym (line-found kind lines k within) ∙ e)) (line-ordered kind lines k)
+    subst IsOrdered (same_Some _ _ (sym (line-found kind lines k within) ∙ e)) (line-ordered kind lines k)

@@ -13,7 +13,7 @@ use Rattle.units.specs.declared.line_cut.Step.TheVariants.{More, Line, TooLong}
 use Rattle.units.proofs.LineReading.{never_both}
 use Rattle.units.proofs.LineAppending.{ended_lines-CutsInto}
 use Rattle.units.proofs.LineRunning.{lines-before}
-use Rattle.units.specs.Text.{longest_line, lines_of}
+use Rattle.units.specs.Text.{has_bytes, longest_line, lines_of}
 use Rattle.bidtests.specs.declared.verdict.Verdict.{Verdict}
 use Rattle.bidtests.specs.declared.verdict.Verdict.TheVariants.{Yes, Malformed}
 use Rattle.bidtests.specs.declared.verdict.Cause.TheVariants.{LineTooLong}
@@ -25,7 +25,8 @@ use Rattle.bidtests.specs.CharactersFile.{characters_line, characters_verdict}
 use Rattle.bidtests.specs.FileKinds.{findings_by, verdict_of}
 use Rattle.bidtests.specs.Standing.{Standing, at_start, Judging, Judges, IsBehind, IsOpen, JudgesBy, no_at, no_by, after_line, after_step, no_or_yes, verdict_behind}
 use Rattle.bidtests.proofs.LineByLine.{verdict-fault, verdict-yes, behind-line, behind-none}
-use Rattle.bidtests.proofs.Lines.{lines_of-more, lines_of-empty, lines_of-rest, lines_of-over}
+use Rattle.units.proofs.FirstItem.{some_bytes}
+use Rattle.ucdfiles.proofs.LinesWith.{lines_with-more, lines_with-long, lines_of-ended, lines_of-begun}
 
 pub verdict-of : (limits : LimitsOf) (kind : Kind) (bytes : List ℕ) → verdict_of limits kind bytes ≡ verdict_on limits (findings_by kind (lines_of bytes))
 unfolding classes_verdict characters_verdict
@@ -44,13 +45,13 @@ module _ (limits : LimitsOf) (kind : Kind) (s : Standing) (lines : List (List �
   decided-line : (b : List ℕ) (line : List ℕ) (v : Verdict) → CutsInto b (lines ++ line ∷ []) []
       → no_at kind s (line_number (length lines)) line ≡ Some v → (more : List ℕ) → verdict_of limits kind (b ++ more) ≡ v
   decided-line b line v cut e more =
-      verdict-by limits kind (b ++ more) _ (lines_of-more b (lines ++ line ∷ []) more cut ∙ append_assoc lines (line ∷ []) (lines_of more))
+      verdict-by limits kind (b ++ more) _ (lines_with-more has_bytes b (lines ++ line ∷ []) more cut ∙ append_assoc lines (line ∷ []) (lines_of more))
       ∙ verdict-fault limits kind s lines line h v e (lines_of more)
 
   decided-long : (b : List ℕ) → IsTooLongAfter b lines → (more : List ℕ) → verdict_of limits kind (b ++ more) ≡ Malformed (line_number (length lines)) LineTooLong
   decided-long b over more =
-      let l = lines_of-over b lines more over in
-      verdict-by limits kind (b ++ more) _ l.2 ∙ verdict-fault limits kind s lines l.0 h _ (over_long kind l.0 l.3 s (line_number (length lines))) l.1
+      let l = lines_with-long has_bytes (λ line above. some_bytes line (omega (arith, above))) b lines more over in
+      verdict-by limits kind (b ++ more) _ l.3 ∙ verdict-fault limits kind s lines l.0 h _ (over_long kind l.0 l.2 s (line_number (length lines))) l.1
 
   -- a line that has ended, by whether it has a fault
   ends-line : (fault : Option Verdict) (new : Cutting) (t : Standing) (b line : List ℕ) → StandsFor new b → CutsInto b (lines ++ line ∷ []) []
@@ -118,14 +119,14 @@ module _ (limits : LimitsOf) (kind : Kind) (c : Cutting) (s : Standing) (b : Lis
   verdict-ended f = elim f [
     | inl cut ↦ (
         let same : cut.0 ≡ o.lines = sym (ended_lines-CutsInto b cut.0 [] cut.1) ∙ ended_lines-CutsInto b o.lines o.rest o.cut in
-        sym (verdict-by limits kind b o.lines (lines_of-empty b cut.0 cut.1 ∙ same) ∙ verdict-yes limits kind s o.lines o.behind))
+        sym (verdict-by limits kind b o.lines (lines_of-ended b cut.0 cut.1 ∙ same) ∙ verdict-yes limits kind s o.lines o.behind))
     | inr over ↦ absurd (never_both b over.0 o.lines o.rest over.1 o.cut)
   ]
 
   last-lines : (number : ℕ) (last : Bor (List ℕ)) → Finishes b (Some (number, last)) → (lines_of b ≡ o.lines ++ last.now ∷ []) × (number ≡ line_number (length o.lines))
   last-lines number last f =
       let same : f.1.0 ≡ o.lines = sym (ended_lines-CutsInto b f.1.0 last.now f.1.1) ∙ ended_lines-CutsInto b o.lines o.rest o.cut in (
-        lines_of-rest b f.1.0 last.now f.1.1 f.0 ∙ ap (λ ls. ls ++ last.now ∷ []) same,
+        lines_of-begun b f.1.0 last.now f.1.1 f.0 ∙ ap (λ ls. ls ++ last.now ∷ []) same,
         f.1.2 ∙ ap (λ (ls : List (List ℕ)). line_number (length ls)) same,
       )
 
@@ -198,7 +199,3 @@ feeds-some limits kind j b piece at e judges =
     let whole : (b ++ take at piece) ++ drop at piece ≡ b ++ piece = append_assoc b (take at piece) (drop at piece) ∙ ap (λ z. b ++ z) (take-append-drop at piece) in
     let P : List ℕ → Type 0 = λ z. Judges limits kind j z in
     subst P whole (record { of = judges.of; is = some-stays limits kind j.decided j.cutting j.standing (b ++ take at piece) (drop at piece) e judges.is })
-
-pub none-from : (o : Option Verdict) → is_some o ≡ false → o ≡ None
-none-from None e = refl
-none-from (Some v) e = absurd (false≢true (sym e))

@@ -3,6 +3,7 @@ use Rattle.std.proofs.Common.{◌≡◌, ℕ, ◌+◌, min, Option, None, Some, 
 use Rattle.std.proofs.lemmas.List.{map-append, reverse-append, length-map}
 use Rattle.std.proofs.lemmas.List.Sums.{sum_by-append}
 use Rattle.units.specs.Limits.{LimitsOf}
+use Rattle.units.proofs.Options.{option_or-assoc}
 use Rattle.bidtests.specs.declared.verdict.Verdict.{Verdict}
 use Rattle.bidtests.specs.declared.verdict.Verdict.TheVariants.{Yes}
 use Rattle.bidtests.specs.declared.kind.Kind.{Kind}
@@ -26,10 +27,6 @@ findings_behind-append earlier (x ∷ a) b =
 length-findings_behind : (earlier a : List ClassesLine) → length (findings_behind earlier a) ≡ length a
 length-findings_behind earlier [] = refl
 length-findings_behind earlier (x ∷ a) = omega (arith, length-findings_behind (x ∷ earlier) a)
-
-option_or-assoc : {A : Type 0} (a b c : Option A) → option_or a (option_or b c) ≡ option_or (option_or a b) c
-option_or-assoc None b c = refl
-option_or-assoc (Some x) b c = refl
 
 first_no-append : (limits : LimitsOf) (k : ℕ) (a b : List Finding) → first_no limits k (a ++ b) ≡ option_or (first_no limits k a) (first_no limits (k + length a) b)
 first_no-append limits k [] b = ap (λ n. first_no limits n b) (omega arith)

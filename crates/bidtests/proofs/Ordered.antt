@@ -1,8 +1,8 @@
 -- The directions that a row names stand in order.
-use Rattle.std.proofs.Common.{◌≡◌, ◌≢◌, ℕ, zero, suc, ◌<◌, Bool, true, false, Option, None, Some, List, [], ◌∷◌, length, refl, sym, ap, subst, ◌∙◌, arith, get_or}
+use Rattle.std.proofs.Common.{◌≡◌, ℕ, zero, suc, ◌<◌, Bool, true, false, Option, None, Some, List, [], ◌∷◌, length, ap, subst, ◌∙◌, arith, get_or}
 use Rattle.std.specs.Prelude.{⊤, if◌then◌else◌, IfSome, nat_eq, nat_lt, ◌==◌, codes, drop}
 use Rattle.std.specs.List.{slice_get, Contains, AllPairs, starts_with}
-use Rattle.std.proofs.lemmas.Option.{slice_get-get_or, get_or_from_slice_get, slice_get_within}
+use Rattle.std.proofs.lemmas.Option.{slice_get-get_or, get_or_from_slice_get, slice_get_within, same_Some}
 use Rattle.std.proofs.lemmas.List.Kept.{AllPairs-filter}
 use Rattle.units.specs.Text.{longest_line, content_of, fields_of, items_of, each_read, number_up_to}
 use Rattle.units.specs.declared.bracket.Unit.{Unit as BidiUnit}
@@ -10,9 +10,8 @@ use Rattle.units.specs.declared.level.Direction.{Direction}
 use Rattle.units.specs.declared.level.Direction.TheVariants.{Auto, Ltr, Rtl, AutoRtl}
 use Rattle.bidtests.specs.declared.verdict.Cause.TheVariants.{LineTooLong, Directive}
 use Rattle.bidtests.specs.Verdicts.{Finding, Silent, Row, Faulty}
-use Rattle.bidtests.specs.ClassesFile.{ClassesLine, Nothing, LevelsAre, OrderIs, RowOf, Broken, directions_in_order, directions_of, directions_by, names_direction, bit_set, levels_directive, order_directive, directive, level_item, order_item, classes_row_as_read, classes_row_of_items, unit_item, classes_row, classes_content, classes_line, row_under, comes_to, findings_behind, levels_in_force, order_in_force}
+use Rattle.bidtests.specs.ClassesFile.{ClassesLine, Nothing, LevelsAre, OrderIs, RowOf, Broken, directions_in_order, directions_of, directions_by, names_direction, bit_set, levels_directive, order_directive, directive, level_item, order_item, classes_row_as_read, classes_row_of_items, unit_item, classes_row, classes_content, classes_line, row_under, comes_to}
 use Rattle.bidtests.specs.Headline.{ComesBefore}
-use Rattle.bidtests.proofs.Places.{same-held}
 
 -- how many directions stand before one
 abbrev turn : Direction → ℕ
@@ -22,10 +21,10 @@ turn Rtl = 2
 turn AutoRtl = 3
 
 turn-at : (i : ℕ) (d : Direction) → slice_get directions_in_order i ≡ Some d → i ≡ turn d
-turn-at zero d e = ap turn (same-held e)
-turn-at (suc zero) d e = ap turn (same-held e)
-turn-at (suc (suc zero)) d e = ap turn (same-held e)
-turn-at (suc (suc (suc zero))) d e = ap turn (same-held e)
+turn-at zero d e = ap turn (same_Some _ _ e)
+turn-at (suc zero) d e = ap turn (same_Some _ _ e)
+turn-at (suc (suc zero)) d e = ap turn (same_Some _ _ e)
+turn-at (suc (suc (suc zero))) d e = ap turn (same_Some _ _ e)
 turn-at (suc (suc (suc (suc i)))) d e = absurd (cc)
 
 -- no direction comes before itself, nor two before one another

@@ -1,10 +1,11 @@
 -- Where the lists of a claim and of a layout differ, and at which place the claim is wrong.
-use Rattle.std.proofs.Common.{◌≡◌, ◌≢◌, ℕ, zero, suc, ◌+◌, ◌<◌, Bool, true, false, Option, None, Some, List, [], ◌∷◌, length, refl, sym, ap, subst, ◌∙◌, arith, inl, inr, eqb}
+use Rattle.std.proofs.Common.{◌≡◌, ◌≢◌, ℕ, zero, suc, ◌+◌, ◌<◌, Bool, true, false, Option, None, Some, List, [], ◌∷◌, refl, sym, ap, subst, arith, inl, inr, eqb}
 use Rattle.std.specs.Prelude.{if◌then◌else◌, nat_eq, IfSome, MatchBool}
 use Rattle.std.specs.List.{slice_get}
 use Rattle.std.proofs.lemmas.Bool.{eqb-true, eqb-false, cases_order, false≢true}
-use Rattle.std.proofs.lemmas.Option.{none-some}
+use Rattle.std.proofs.lemmas.Option.{none-some, same_Some}
 use Rattle.units.specs.Positions.{same_position}
+use Rattle.units.proofs.Positions.{same_position_true}
 use Rattle.units.specs.Layout.{all_orders}
 use Rattle.units.specs.Limits.{LimitsOf}
 use Rattle.units.specs.declared.level.Direction.{Direction}
@@ -12,7 +13,7 @@ use Rattle.bidtests.specs.declared.verdict.Place.{Place}
 use Rattle.bidtests.specs.declared.verdict.Place.TheVariants.{ParaLevel, Levels, Order}
 use Rattle.bidtests.specs.Verdicts.{Claim, first_difference, first_of, agrees, placed_in, wrong_place_under}
 use Rattle.std.specs.Option.{option_or}
-use Rattle.bidtests.specs.Headline.{layout_under, IsParaRight, AreLevelsRight, IsOrderRight, IsCaseRight, IsFirstDifference, IsWrongAt}
+use Rattle.bidtests.specs.Headline.{layout_under, IsParaRight, IsCaseRight, IsFirstDifference, IsWrongAt}
 
 -- the lists are one, or n is their first difference, counted from `at`
 abbrev Compared : {A : Type 0} → List A → List A → ℕ → Option ℕ → Type 0
@@ -27,10 +28,6 @@ later_before x y xs ys i e h (suc p) lt = h p (omega arith)
 here : {A : Type 0} (xs ys : List A) (at : ℕ) → slice_get xs 0 ≢ slice_get ys 0 → Compared xs ys at (Some at)
 here xs ys at ne = (0, omega arith, record { before = λ p lt. absurd (omega arith); there = ne })
 
--- two that are there hold the same
-pub same-held : {A : Type 0} {x y : A} → Some x ≡ Some y → x ≡ y
-same-held e = cc
-
 one_on : {A : Type 0} (x y : A) (xs ys : List A) (at : ℕ) (o : Option ℕ) → x ≡ y → Compared xs ys (at + 1) o → Compared (x ∷ xs) (y ∷ ys) at o
 one_on x y xs ys at None e c = cc
 one_on x y xs ys at (Some n) e c =
@@ -39,7 +36,7 @@ one_on x y xs ys at (Some n) e c =
 by_heads : {A : Type 0} (x y : A) (xs ys : List A) (at : ℕ) (o : Option ℕ) (same : Bool) → (same ≡ true → x ≡ y) → (same ≡ false → x ≢ y)
     → Compared xs ys (at + 1) o → Compared (x ∷ xs) (y ∷ ys) at (if same then o else Some at)
 by_heads x y xs ys at o true alike apart c = one_on x y xs ys at o (alike refl) c
-by_heads x y xs ys at o false alike apart c = here (x ∷ xs) (y ∷ ys) at (λ e. apart refl (same-held e))
+by_heads x y xs ys at o false alike apart c = here (x ∷ xs) (y ∷ ys) at (λ e. apart refl (same_Some _ _ e))
 
 compared : {A : Type 0} (same : A → A → Bool) → ((x y : A) → same x y ≡ true → x ≡ y) → ((x y : A) → same x y ≡ false → x ≢ y)
     → (xs ys : List A) (at : ℕ) → Compared xs ys at (first_difference same xs ys at)
@@ -58,15 +55,9 @@ difference_unique xs ys i j d e = elim (cases_order i j) [
 no_difference : {A : Type 0} (xs ys : List A) (i : ℕ) → xs ≡ ys → IsFirstDifference xs ys i → ⊥
 no_difference xs ys i e d = d.there (ap (λ zs. slice_get zs i) e)
 
-same_levels : (x y : Option ℕ) → same_position x y ≡ true → x ≡ y
-same_levels None None e = refl
-same_levels (Some p) (Some q) e = ap (λ n. Some n) (eqb-true p q e)
-same_levels None (Some q) e = absurd (false≢true e)
-same_levels (Some p) None e = absurd (false≢true e)
-
 other_levels : (x y : Option ℕ) → same_position x y ≡ false → x ≢ y
 other_levels None None e = λ _. false≢true (sym e)
-other_levels (Some p) (Some q) e = λ s. eqb-false p q e (same-held s)
+other_levels (Some p) (Some q) e = λ s. eqb-false p q e (same_Some _ _ s)
 other_levels None (Some q) e = none-some q
 other_levels (Some p) None e = λ s. none-some p (sym s)
 
@@ -86,7 +77,7 @@ para_level-is (Some level) None = none-some level
 para_level-is (Some level) (Some first) = by (eqb level first) refl where
   by : (b : Bool) → eqb level first ≡ b → MatchBool b (Some first ≡ Some level) (¬ (Some first ≡ Some level))
   by true e = ap (λ n. Some n) (sym (eqb-true level first e))
-  by false e = λ s. eqb-false level first e (sym (same-held s))
+  by false e = λ s. eqb-false level first e (sym (same_Some _ _ s))
 
 module _ (limits : LimitsOf) (claim : Claim) (d : Direction) where
   from-start : {A : Type 0} (xs ys : List A) (i n : ℕ) → n ≡ 0 + i → IsFirstDifference xs ys i → IsFirstDifference xs ys n
@@ -114,7 +105,7 @@ module _ (limits : LimitsOf) (claim : Claim) (d : Direction) where
       let layout = layout_under limits claim d in
       chosen (agrees claim.para_level (first_of layout.paras)) (first_difference same_position claim.levels layout.levels 0) (first_difference nat_eq claim.order (all_orders layout) 0)
       para_level-right
-      (compared same_position same_levels other_levels claim.levels layout.levels 0)
+      (compared same_position same_position_true other_levels claim.levels layout.levels 0)
       (compared nat_eq (λ x y e. eqb-true x y e) (λ x y e. eqb-false x y e) claim.order (all_orders layout) 0)
 
   -- no case is both right and wrong

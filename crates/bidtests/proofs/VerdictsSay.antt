@@ -2,7 +2,7 @@
 use Rattle.std.proofs.Common.{◌≡◌, ◌≢◌, ◌↔◌, ℕ, zero, suc, ◌+◌, ◌<◌, Option, None, Some, List, [], ◌∷◌, length, refl, sym, ap, subst, ◌∙◌, arith, inl, inr}
 use Rattle.std.specs.List.{slice_get, Contains, AllPairs}
 use Rattle.std.proofs.lemmas.Bool.{cases_order}
-use Rattle.std.proofs.lemmas.Option.{slice_get_within, none-some}
+use Rattle.std.proofs.lemmas.Option.{slice_get_within, none-some, same_Some}
 use Rattle.units.specs.Limits.{LimitsOf}
 use Rattle.units.specs.declared.level.Direction.{Direction}
 use Rattle.bidtests.specs.declared.verdict.Cause.{Cause}
@@ -13,7 +13,7 @@ use Rattle.bidtests.specs.Verdicts.{Claim, Finding, Silent, Row, Faulty, wrong_p
 use Rattle.std.specs.Option.{option_or}
 use Rattle.units.specs.Lines.{line_number}
 use Rattle.bidtests.specs.Headline.{IsMalformed, IsRow, IsCaseRight, IsWrongAt, ComesBefore, AreRight, FirstIsMalformed, FirstIsWrong, Says}
-use Rattle.bidtests.proofs.Places.{same-held, CaseIs, case-is, right-wrong, place-unique}
+use Rattle.bidtests.proofs.Places.{CaseIs, case-is, right-wrong, place-unique}
 use Rattle.bidtests.proofs.Ordered.{IsOrdered, never-behind, earlier-before, contained-at, at-contained}
 
 module _ (limits : LimitsOf) where
@@ -24,13 +24,13 @@ module _ (limits : LimitsOf) where
       (j : ℕ) × (slice_get ds j ≡ Some x.0) × ((i : ℕ) (d : Direction) → i < j → slice_get ds i ≡ Some d → IsCaseRight limits claim d) × IsWrongAt limits claim x.0 x.1
 
   all-right : (claim : Claim) (d : Direction) (ds : List Direction) → IsCaseRight limits claim d → CasesAre claim ds None → CasesAre claim (d ∷ ds) None
-  all-right claim d ds right rest zero e h = subst (IsCaseRight limits claim) (same-held h) right
+  all-right claim d ds right rest zero e h = subst (IsCaseRight limits claim) (same_Some _ _ h) right
   all-right claim d ds right rest (suc i) e h = rest i e h
 
   earlier-right : (claim : Claim) (d : Direction) (ds : List Direction) (j : ℕ) → IsCaseRight limits claim d
       → ((i : ℕ) (e : Direction) → i < j → slice_get ds i ≡ Some e → IsCaseRight limits claim e)
       → (i : ℕ) (e : Direction) → i < suc j → slice_get (d ∷ ds) i ≡ Some e → IsCaseRight limits claim e
-  earlier-right claim d ds j right rest zero e lt h = subst (IsCaseRight limits claim) (same-held h) right
+  earlier-right claim d ds j right rest zero e lt h = subst (IsCaseRight limits claim) (same_Some _ _ h) right
   earlier-right claim d ds j right rest (suc i) e lt h = rest i e (omega arith) h
 
   cases-more : (claim : Claim) (d : Direction) (ds : List Direction) (place : Option Place) (rest : Option (Direction × Place))
@@ -70,11 +70,11 @@ module _ (limits : LimitsOf) where
 
   module _ (f : Finding) (fs : List Finding) (n : ℕ) (first : IsLineRight f) (rest : AreRight limits fs n) where
     formed-more : (k : ℕ) (cause : Cause) → k < suc n → ¬ IsMalformed (f ∷ fs) k cause
-    formed-more zero cause lt e = first.well_formed cause (same-held e)
+    formed-more zero cause lt e = first.well_formed cause (same_Some _ _ e)
     formed-more (suc k) cause lt e = rest.well_formed k cause (omega arith) e
 
     rows-more : (k : ℕ) (claim : Claim) (d : Direction) → k < suc n → IsRow (f ∷ fs) k claim → Contains claim.directions d → IsCaseRight limits claim d
-    rows-more zero claim d lt e h = first.right claim d (same-held e) h
+    rows-more zero claim d lt e h = first.right claim d (same_Some _ _ e) h
     rows-more (suc k) claim d lt e h = rest.right k claim d (omega arith) e h
 
     right-more : AreRight limits (f ∷ fs) (suc n)
@@ -108,7 +108,7 @@ module _ (limits : LimitsOf) where
         let here = contained-at claim.directions d has in
         elim (cases_order here.0 j) [
           | inl same ↦
-              let is : d ≡ e = same-held (sym here.1 ∙ ap (λ n. slice_get claim.directions n) same ∙ at) in
+              let is : d ≡ e = same_Some _ _ (sym here.1 ∙ ap (λ n. slice_get claim.directions n) same ∙ at) in
               let P : Direction → Type 0 = λ x. ComesBefore x d in
               absurd (never-behind d e before (subst P is (subst (ComesBefore d) (sym is) before)))
           | inr other ↦ elim other [
@@ -125,7 +125,7 @@ module _ (limits : LimitsOf) where
         let j = contained-at claim.directions e he in
         elim (cases_order i.0 j.0) [
           | inl same ↦
-              let is : d ≡ e = same-held (sym i.1 ∙ ap (λ n. slice_get claim.directions n) same ∙ j.1) in
+              let is : d ≡ e = same_Some _ _ (sym i.1 ∙ ap (λ n. slice_get claim.directions n) same ∙ j.1) in
               let P : Direction → Type 0 = λ x. IsWrongAt limits claim x q in
               (is, place-unique limits claim d p q wd (subst P (sym is) we))
           | inr other ↦ elim other [
@@ -149,13 +149,13 @@ module _ (limits : LimitsOf) where
           before = before-wrong claim (ordered k (Row claim) row) are.0 x.0 are.1 are.2;
           wrong = are.3;
         } in
-        subst (Says limits fs) (same-held e) says
+        subst (Says limits fs) (same_Some _ _ e) says
 
     fault-says : (k n : ℕ) (f : Finding) → slice_get fs k ≡ Some f → AreRight limits fs k → n ≡ line_number k → (v : Verdict) → no_of limits n f ≡ Some v → Says limits fs v
     fault-says k n Silent at right number v e = absurd (none-some v e)
     fault-says k n (Faulty cause) at right number v e =
         let says : FirstIsMalformed limits fs n cause = record { k = k; numbered = number; earlier = right; malformed = at } in
-        subst (Says limits fs) (same-held e) says
+        subst (Says limits fs) (same_Some _ _ e) says
     fault-says k n (Row claim) at right number v e =
         row-says k n claim at right number (wrong_case limits claim claim.directions) (cases-are claim claim.directions) v e
 
@@ -177,14 +177,14 @@ module _ (limits : LimitsOf) where
     malformed-unique n m c e a b =
         let same : a.k ≡ b.k = same-line a.k b.k (λ lt. b.earlier.well_formed a.k c lt a.malformed) (λ lt. a.earlier.well_formed b.k e lt b.malformed) in
         let number : n ≡ m = a.numbered ∙ ap (λ k. line_number k) same ∙ sym b.numbered in
-        let faults : Faulty c ≡ Faulty e = same-held (sym a.malformed ∙ ap (λ k. slice_get fs k) same ∙ b.malformed) in
+        let faults : Faulty c ≡ Faulty e = same_Some _ _ (sym a.malformed ∙ ap (λ k. slice_get fs k) same ∙ b.malformed) in
         cc
 
     not-both : (n m : ℕ) (c : Cause) (d : Direction) (p : Place) → FirstIsMalformed limits fs n c → FirstIsWrong limits fs m d p → ⊥
     not-both n m c d p a b =
         let same : a.k ≡ b.k = same-line a.k b.k (λ lt. b.earlier.well_formed a.k c lt a.malformed)
         (λ lt. right-wrong limits b.claim d p (a.earlier.right b.k b.claim d lt b.row b.names) b.wrong) in
-        let faults : Faulty c ≡ Row b.claim = same-held (sym a.malformed ∙ ap (λ k. slice_get fs k) same ∙ b.row) in
+        let faults : Faulty c ≡ Row b.claim = same_Some _ _ (sym a.malformed ∙ ap (λ k. slice_get fs k) same ∙ b.row) in
         absurd (cc)
 
     wrong-unique : (n m : ℕ) (d e : Direction) (p q : Place) → FirstIsWrong limits fs n d p → FirstIsWrong limits fs m e q → Wrong n d p ≡ Wrong m e q
@@ -192,7 +192,7 @@ module _ (limits : LimitsOf) where
         let same : a.k ≡ b.k = same-line a.k b.k (λ lt. right-wrong limits a.claim d p (b.earlier.right a.k a.claim d lt a.row a.names) a.wrong)
         (λ lt. right-wrong limits b.claim e q (a.earlier.right b.k b.claim e lt b.row b.names) b.wrong) in
         let number : n ≡ m = a.numbered ∙ ap (λ k. line_number k) same ∙ sym b.numbered in
-        let claim : b.claim ≡ a.claim = same-claim b.claim a.claim (same-held (sym b.row ∙ ap (λ k. slice_get fs k) (sym same) ∙ a.row)) in
+        let claim : b.claim ≡ a.claim = same-claim b.claim a.claim (same_Some _ _ (sym b.row ∙ ap (λ k. slice_get fs k) (sym same) ∙ a.row)) in
         let Names : Claim → Type 0 = λ c. Contains c.directions e in
         let Before : Claim → Type 0 = λ c. (x : Direction) → Contains c.directions x → ComesBefore x e → IsCaseRight limits c x in
         let Wrongly : Claim → Type 0 = λ c. IsWrongAt limits c e q in

@@ -17,7 +17,8 @@ use Rattle.resolve.proofs.Gathered.{length-classes_at, class_at-classes_at, cont
 use Rattle.paragraph.specs.Covering.{AreDisjoint}
 use Rattle.paragraph.proofs.Covering.{times_some, within_extent}
 use Rattle.rule_columns.specs.Passes.{implicit_in, implicit_of, value_found}
-use Rattle.rule_columns.proofs.Found.{SaysOwn, zip_none, zip_some, found_here, found_elsewhere}
+use Rattle.paragraph.proofs.FoundBeside.{zip_none, zip_some}
+use Rattle.rule_columns.proofs.Found.{SaysOwn, found_here, found_elsewhere}
 
 -- the levels once these sequences have theirs
 abbrev pub AreRaised : List Class → List SequenceView → List (Option ℕ) → Type 0

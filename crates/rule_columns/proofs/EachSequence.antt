@@ -16,7 +16,8 @@ use Rattle.resolve.proofs.Gathered.{length-classes_at, class_at-classes_at, cont
 use Rattle.paragraph.specs.Covering.{positions_in, AreDisjoint}
 use Rattle.paragraph.proofs.Covering.{copied, times_some, within_extent}
 use Rattle.rule_columns.specs.Passes.{classes_in, rewritten, rewritten_at, value_found}
-use Rattle.rule_columns.proofs.Found.{SaysOwn, zip_none, zip_some, unfound, found_here, found_elsewhere}
+use Rattle.paragraph.proofs.FoundBeside.{none_beside, zip_none, zip_some}
+use Rattle.rule_columns.proofs.Found.{SaysOwn, found_here, found_elsewhere}
 
 -- what a rule leaves once it was done to these sequences
 abbrev pub IsRewritten : (SequenceView → List Class → List Class) → List SequenceView → List Class → List Class → Type 0
@@ -29,7 +30,7 @@ says_own rule start = λ s p none. zip_none s.positions (rule s (classes_at star
 pub kept_outside : (rule : SequenceView → List Class → List Class) (done : List SequenceView) (start now : List Class) → IsRewritten rule done start now →
     (p : ℕ) → times (positions_in done) p ≡ 0 → class_at now p ≡ class_at start p
 kept_outside rule done start now w p none =
-    w p ∙ ap (λ (o : Option Class). unwrap_or o (class_at start p)) (unfound (classes_in rule start) (says_own rule start) done p none)
+    w p ∙ ap (λ (o : Option Class). unwrap_or o (class_at start p)) (none_beside (classes_in rule start) (says_own rule start) done p none)
 
 module _ {extent : ℕ} {all : List SequenceView} (apart : AreDisjoint extent all) {k : ℕ} {s : SequenceView} (at : slice_get all k ≡ Some s) (inside : k < length all) where
   -- one sequence more

@@ -29,8 +29,9 @@ use Rattle.rule_columns.specs.declared.pass.Pass.{Pass}
 use Rattle.rule_columns.specs.declared.pass.Pass.TheVariants as pass
 use Rattle.rule_columns.specs.declared.rule.Rule.TheVariants as rule
 use Rattle.rule_columns.proofs.EachSequence.{says_own}
-use Rattle.rule_columns.proofs.Found.{zip_some, found_in, distinct_in}
-use Rattle.rule_columns.proofs.NamedPositions.{low}
+use Rattle.paragraph.proofs.FoundBeside.{zip_some}
+use Rattle.rule_columns.proofs.Found.{found_in, distinct_in}
+use Rattle.lines.proofs.RemovedLevels.{para_level-low}
 use Rattle.rule_columns.proofs.NeutralSteps.{in_two_steps}
 use Rattle.rule_columns.proofs.PuttingTogether.{columns_fit}
 
@@ -92,7 +93,7 @@ module _ (us : List BidiUnit) (direction : Direction) (only : SeparatorOnlyLast 
   all_here = sequences_of (leveled_of standard.depth (classes_of us) (para_level_of (classes_of us) direction))
 
   disjoint : AreDisjoint (length us) all_here
-  disjoint = sequences_are_apart standard.depth (omega arith) us (para_level_of (classes_of us) direction) (low (classes_of us) direction) only
+  disjoint = sequences_are_apart standard.depth (omega arith) us (para_level_of (classes_of us) direction) (para_level-low (classes_of us) direction) only
 
   module _ (k : ℕ) (s : SequenceView) (at : slice_get all_here k ≡ Some s) (inside : k < length all_here) where
     abbrev here : List Class → List Class

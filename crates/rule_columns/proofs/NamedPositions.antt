@@ -1,5 +1,5 @@
 -- The columns of a paragraph name no positions but its own.
-use Rattle.std.specs.Prelude.{Option, Some, None, ℕ, Bool, true, false, if◌then◌else◌, ◌==◌, ◌-◌, ◌<◌, ◌≤◌, ◌≡◌, List, [], ◌∷◌, length, map, find, IfSome, slice_index, slice_index_or, refl}
+use Rattle.std.specs.Prelude.{Option, Some, None, ℕ, Bool, ◌==◌, ◌-◌, ◌<◌, ◌≤◌, ◌≡◌, List, [], ◌∷◌, length, map, find, IfSome, slice_index, slice_index_or, refl}
 use Rattle.std.specs.List.{All, flat_map}
 use Rattle.std.specs.Option.{option_map}
 use Rattle.std.proofs.Common.{arith, ap, sym, ◌∙◌, subst, inl, inr}
@@ -18,13 +18,13 @@ use Rattle.units.specs.Runs.{SequenceView, leveled_of, sequences_of}
 use Rattle.units.specs.declared.bracket.Unit.{Unit as BidiUnit}
 use Rattle.units.specs.declared.class.Class.{Class}
 use Rattle.units.specs.declared.level.Direction.{Direction}
-use Rattle.units.specs.declared.level.Direction.TheVariants.{Auto, Ltr, Rtl, AutoRtl}
 use Rattle.units.proofs.Positions.{first_from_some, length-positions_from, get_or-positions_from}
 use Rattle.resolve.specs.Pairs.{closer_in}
 use Rattle.paragraph.proofs.AllSequences.{sequences_are_apart}
 use Rattle.lines.specs.Layouts.{no_line}
 use Rattle.lines.proofs.Law.{line_order-places}
 use Rattle.lines.proofs.Lengths.{length-levels}
+use Rattle.lines.proofs.RemovedLevels.{para_level-low}
 use Rattle.rule_columns.specs.Columns.{columns_of}
 use Rattle.rule_columns.specs.Inside.{NamesInside}
 use Rattle.rule_columns.specs.Passes.{closers_of, pairs_in, value_found}
@@ -105,24 +105,12 @@ line_inside us direction =
     subst (λ size. All (λ p. p < size) (slice_index_or (lines_cut_at levels (cuts_of own [])) 0 no_line).order) n
     (order_inside levels (cuts_of own []) (cuts_inside own (length levels) (omega arith)))
 
-at_most_one : (b : Bool) → (if b then 1 else 0) ≤ 1
-at_most_one true = omega arith
-at_most_one false = omega arith
-
--- the paragraph's level is 0 or 1
-pub low : (cs : List Class) (direction : Direction) → para_level_of cs direction ≤ 1
-unfolding para_level_of
-low cs Auto = at_most_one _
-low cs Ltr = omega arith
-low cs Rtl = omega arith
-low cs AutoRtl = at_most_one _
-
 pub columns_inside : (us : List BidiUnit) (direction : Direction) → SeparatorOnlyLast us → NamesInside (columns_of us direction) (length us)
 unfolding columns_of
 columns_inside us direction only =
     let cs : List Class = classes_of us in
     let level : ℕ = para_level_of cs direction in
-    let apart = sequences_are_apart standard.depth (omega arith) us level (low cs direction) only in
+    let apart = sequences_are_apart standard.depth (omega arith) us level (para_level-low cs direction) only in
     record {
       first_strong = strong_inside us;
       closers = closer_inside us _ (sequences_of (leveled_of standard.depth cs level)) apart.within;

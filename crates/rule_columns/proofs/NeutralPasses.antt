@@ -12,8 +12,8 @@ use Rattle.resolve.specs.Neutrals.{is_no_neutral}
 use Rattle.resolve.proofs.Ahead.{nearest_after-first}
 use Rattle.units.proofs.Lengths.{length-at_each}
 use Rattle.resolve.proofs.AtEach.{class_at-at_each, drop-class_at}
-use Rattle.resolve.proofs.Gathered.{length-classes_at, classes_at-drop}
-use Rattle.resolve.proofs.Passes.{Pass, pass_start, pass_reads, pass_within, pass_rest, pass_write}
+use Rattle.resolve.proofs.Gathered.{length-classes_at}
+use Rattle.resolve.proofs.Passes.{Pass, pass_start, pass_reads, pass_within, pass_ahead, pass_write}
 use Rattle.stages.proofs.RulePasses.{pass_keep, pass_nearest_here, pass_nearest_same}
 use Rattle.rule_columns.specs.Passes.{after_n1}
 
@@ -69,7 +69,7 @@ module _ {sos eos : Class} {ps : List ℕ} {start now : List Class} {before : Cl
       after ≡ first_class is_no_neutral (classes_at now (drop (k + 1) ps)) eos → v ≡ by_sides (class_at now (slice_index ps k)) before after →
       N1Pass sos eos ps start (set now (slice_index ps k) v) before (Some after) (k + 1)
   n1_new t after v past is =
-      let later : classes_at now (drop (k + 1) ps) ≡ drop (k + 1) (classes_at start ps) = classes_at-drop now ps (k + 1) ∙ pass_rest w.pass inside in
+      let later : classes_at now (drop (k + 1) ps) ≡ drop (k + 1) (classes_at start ps) = pass_ahead w.pass inside in
       n1_run t after v (past ∙ ap (λ (cs : List Class). first_class is_no_neutral cs eos) later) is
 
   -- a run that goes on has the same behind it

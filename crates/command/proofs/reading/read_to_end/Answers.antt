@@ -1,13 +1,10 @@
-use Rattle.std.proofs.Common.{◌≡◌, ℕ, List, ◌++◌, take, append-nil, subst}
+use Rattle.std.proofs.Common.{ℕ, List, ◌++◌, take, ap, ◌∙◌, append-nil, subst}
 use Rattle.command.proofs.reading.read_to_end.Goals as goal
-
-none-more : (n : ℕ) (xs buf : List ℕ) → n ≡ 0 → xs ++ take n buf ≡ xs
-none-more n xs buf e = rw e (append-nil xs)
 
 pub returns-in-Ok-eq0-clause-bytes : goal.returns-in-Ok-eq0-clause-bytes
 returns-in-Ok-eq0-clause-bytes g c =
     subst (λ (xs : List ℕ). g.S.ByteSource.gives c.args.source.now xs c.read.new.self)
-    (none-more c.in-Ok-eq0.field-0 c.loop-bytes.bytes.items c.read.new.buf c.in-Ok-eq0.field-0-test)
+    (ap (λ k. c.loop-bytes.bytes.items ++ take k c.read.new.buf) c.in-Ok-eq0.field-0-test ∙ append-nil c.loop-bytes.bytes.items)
     (g.met.S.ByteSource.gives_joined _ _ _ _ _ c.loop-bytes.invariant.given c.in-Ok-eq0.ensures.given)
 
 pub returns-in-Err-clause-given : goal.returns-in-Err-clause-given

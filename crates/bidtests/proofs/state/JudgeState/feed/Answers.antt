@@ -1,6 +1,7 @@
 use Rattle.std.proofs.Common.{length, take, drop, ◌-◌, ◌++◌, refl, sym, ◌∙◌}
+use Rattle.units.proofs.Options.{is_some_false}
 use Rattle.bidtests.specs.Standing.{StateOf, judging}
-use Rattle.bidtests.proofs.Judged.{feeds-on, feeds-some, none-from}
+use Rattle.bidtests.proofs.Judged.{feeds-on, feeds-some}
 use Rattle.ucdfiles.proofs.Pieces.{joined, within}
 use Rattle.bidtests.proofs.SameTables.{holds-for}
 use Rattle.bidtests.proofs.state.JudgeState.feed.Goals as goal
@@ -32,7 +33,7 @@ loop-at-preserved c =
           rw (joined at used piece b)
           (holds-for limits kind next ((b ++ take at piece) ++ take used rest)
           (feeds-on (judging kind state) c.take.follows.lender-at-none sheet decided rest used c.take.result.1
-          (none-from self.decided (sym c.is_some.ensures ∙ c.if-is_some.false)) c.take.ensures.used c.take.ensures.through c.take.ensures.answer c.take.follows.holds-at-none
+          (is_some_false self.decided (sym c.is_some.ensures ∙ c.if-is_some.false)) c.take.ensures.used c.take.ensures.through c.take.ensures.answer c.take.follows.holds-at-none
           c.judge_step-self-inside.ensures.fault c.judge_step-self-inside.ensures.standing limits kind (b ++ take at piece)
           (record { of = refl; is = c.loop-at.invariant.holds limits b h kind refl })).is);
     }
