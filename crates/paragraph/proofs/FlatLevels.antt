@@ -14,6 +14,7 @@ use Rattle.units.specs.Runs.{SequenceView, leveled_of, sequences_of}
 use Rattle.units.specs.declared.bracket.Unit.{Unit as BidiUnit}
 use Rattle.units.specs.declared.class.Class.{Class}
 use Rattle.units.specs.declared.class.Class.TheVariants.{L}
+use Rattle.explicit.specs.ExplicitLevels.{HoldsLevels}
 use Rattle.flat.specs.Flat.{is_flat, is_kept, IsFlat, remaining_of, flat_sequences}
 use Rattle.flat.specs.IdleRules.{HasNone}
 use Rattle.flat.specs.Uniform.{kept_level, may_rise}
@@ -21,8 +22,10 @@ use Rattle.units.proofs.Positions.{length-positions_from, get_or-positions_from}
 use Rattle.flat.proofs.OneSequence.{sequences_of-flat}
 use Rattle.flat.proofs.Staying.{resolved_levels-uniform}
 use Rattle.flat.proofs.WholeLevels.{resolved_levels-flat}
+use Rattle.resolve.specs.Sought.{AreOwn}
+use Rattle.paragraph.proofs.AllSequences.{found_own, found_levels}
 use Rattle.paragraph.specs.Contents.{has_none, keeps_level}
-use Rattle.paragraph.specs.Covering.{HasLevelsBy}
+use Rattle.paragraph.specs.Covering.{HasLevelsBy, classes_before}
 use Rattle.paragraph.specs.Resolvers.{StaysAt}
 
 pub flat_from : (cs : List Class) → list_all is_flat cs ≡ true → IsFlat cs
@@ -55,6 +58,18 @@ flat_levels limits us para all levels flat are n has =
     ∙ ap found (sym at)
     ∙ sym (get_or-map found (positions_of us) i 0 None (omega arith)))
     ∙ sym (resolved_levels-flat limits us para flat)
+
+-- what the sequences give by the classes before W1, in a flat paragraph and in any other
+pub own_before : (limits : LimitsOf) (us : List BidiUnit) (para : ℕ) (places : List (Option (ℕ × Class))) (flat : Bool) → (flat ≡ false → HoldsLevels places limits.depth (classes_of us) para) →
+    (ps : List ℕ) → AreOwn ps us (classes_before flat us places)
+own_before limits us para places true holds ps = λ p stands free. refl
+own_before limits us para places false holds ps = found_own limits us para places (holds refl) ps
+
+pub levels_before : (limits : LimitsOf) (us : List BidiUnit) (para : ℕ) (places : List (Option (ℕ × Class))) (flat : Bool) → (flat ≡ true → IsFlat (classes_of us)) →
+    (flat ≡ false → HoldsLevels places limits.depth (classes_of us) para) → (all : List SequenceView) (levels : List (Option ℕ)) → all ≡ sequences_of (leveled_of limits.depth (classes_of us) para) →
+    length levels ≡ length us → HasLevelsBy limits.brackets us (classes_before flat us places) all levels → levels ≡ resolved_levels limits us para
+levels_before limits us para places true is holds all levels are n has = flat_levels limits us para all levels (is refl) are n has
+levels_before limits us para places false is holds all levels are n has = found_levels limits us para places (holds refl) all levels are n has
 
 -- what is removed nowhere is not removed here
 pub unit_kept : (us : List BidiUnit) (p : ℕ) → p < length us → HasNone is_removed (classes_of us) → is_removed (get_or us p no_unit).class ≡ false

@@ -1,12 +1,17 @@
 -- The sequences of a paragraph, of which no two share a position (BD13), and the levels that they give it.
-use Rattle.std.specs.Prelude.{Option, ℕ, ◌<◌, ◌≤◌, ◌≡◌, List, length}
+use Rattle.std.specs.Prelude.{Option, ℕ, Bool, ◌<◌, ◌≤◌, ◌≡◌, if◌then◌else◌, List, length, take}
 use Rattle.std.specs.List.{All, flat_map}
-use Rattle.units.specs.Layout.{levels_in, level_found}
+use Rattle.units.specs.Classes.{classes_of}
+use Rattle.units.specs.Layout.{current_of, levels_in, level_found}
 use Rattle.units.specs.Runs.{SequenceView}
 use Rattle.units.specs.declared.bracket.Unit.{Unit as BidiUnit}
 use Rattle.units.specs.declared.class.Class.{Class}
 use Rattle.sequences.specs.Once.{times}
 use Rattle.resolve.specs.Raised.{resolved_at}
+
+-- X1 to X8: the classes before W1: the own ones of a flat paragraph, and else those that were found
+abbrev pub classes_before : Bool → List BidiUnit → List (Option (ℕ × Class)) → List Class
+classes_before flat us places = if flat then classes_of us else current_of (take (length us) places)
 
 -- the positions of these sequences, sequence by sequence
 abbrev pub positions_in : List SequenceView → List ℕ

@@ -6,7 +6,7 @@ ghost use Rattle.units.specs.Brackets.{is_open};
 ghost use Rattle.units.specs.Classes.{classes_of};
 ghost use Rattle.units.specs.Layout.{current_of};
 ghost use Rattle.units.specs.declared.class.Class.TheVariants.{BN};
-ghost use Rattle.paragraph.specs.Covering.{AreDisjoint, HasLevelsBy, positions_in};
+ghost use Rattle.paragraph.specs.Covering.{AreDisjoint, HasLevelsBy, classes_before, positions_in};
 ghost use Rattle.resolve.specs.Raised.{resolved_at};
 ghost use Rattle.resolve.specs.Sought.{AreOwn, IsSoughtIn, may_weaken};
 
@@ -60,7 +60,7 @@ fn begin_at(
 
 /// Writes the current classes of a paragraph into both columns, and no levels. Answers whether it has an opening
 /// bracket.
-fn begin<L: Ledger>(
+fn begin_found<L: Ledger>(
     para: &[Unit],
     explicit: &Explicit,
     before: &mut [Class],
@@ -115,6 +115,33 @@ fn begin_flat<L: Ledger>(
     opened
 }
 
+/// X1 to X8: writes the classes before W1 into both columns, and no levels: the own ones of a `flat` paragraph, and else
+/// those that were found. Answers whether it has an opening bracket.
+fn begin<L: Ledger>(
+    para: &[Unit],
+    flat: bool,
+    explicit: &Explicit,
+    before: &mut [Class],
+    classes: &mut [Class],
+    levels: &mut [Option<Level>],
+    steps: &mut Steps<L>,
+) -> bool
+    requires found { length para.now ≤ length explicit.now }
+    requires before { length before.old ≡ length para.now }
+    requires classes { length classes.old ≡ length para.now }
+    requires levels { length levels.old ≡ length para.now }
+    ensures opened { result ≡ list_any (λ unit. is_open unit.bracket) para.now }
+    ensures before { before.new ≡ classes_before flat para.now explicit.now }
+    ensures copy { classes.new ≡ before.new }
+    ensures none { (p : ℕ) → resolved_at levels.new p ≡ None }
+    ensures steps { steps.new ≡ steps.old + length para.now }
+{
+    if flat {
+        return begin_flat(para, before, classes, levels, steps);
+    }
+    begin_found(para, explicit, before, classes, levels, steps)
+}
+
 /// W1 to I2 over all sequences of a paragraph, in their order. `before` are the current classes of the paragraph (X1
 /// to X8), `classes` a copy of them to work on, and `levels` hold none yet. `sought` is what of the paragraph the
 /// rules look for.
@@ -151,10 +178,11 @@ fn resolve_each<L: Ledger>(
     }
 }
 
-/// W1 to I2 over a paragraph whose explicit levels and sequences were found; `weak` is false only where W1 to W7 can
-/// change none of its classes. It takes the fronts of the class columns.
+/// W1 to I2 over a paragraph whose sequences were found; `weak` is false only where W1 to W7 can change none of its
+/// classes. It takes the fronts of the class columns.
 pub fn resolve_found<L: Ledger>(
     para: &[Unit],
+    flat: bool,
     weak: bool,
     explicit: &Explicit,
     sequences: &Sequences,
@@ -168,53 +196,20 @@ pub fn resolve_found<L: Ledger>(
     requires weak { weak ≡ false → list_any may_weaken (classes_of para.now) ≡ false }
     requires found { length para.now ≤ length explicit.now }
     requires apart { AreDisjoint (length para.now) sequences.now.all }
-    requires own { AreOwn (positions_in sequences.now.all) para.now (current_of (take (length para.now) explicit.now)) }
+    requires own { AreOwn (positions_in sequences.now.all) para.now (classes_before flat para.now explicit.now) }
     requires pairs { length para.now ≤ length pairs.old }
     requires before { length para.now ≤ length before.old }
     requires classes { length para.now ≤ length classes.old }
     requires levels { length levels.old ≡ length para.now }
     ensures levels { HasLevelsBy limits.brackets para.now
-        (current_of (take (length para.now) explicit.now)) sequences.now.all levels.new }
+        (classes_before flat para.now explicit.now) sequences.now.all levels.new }
     ensures room { length pairs.new ≡ length pairs.old }
     ensures at_least { steps.old + length para.now ≤ steps.new }
     ensures at_most { steps.new ≤ steps.old + 75 * length para.now }
 {
     let before = &mut before[..para.len()];
     let classes = &mut classes[..para.len()];
-    let openings = begin(para, explicit, before, classes, levels, steps);
-    let sought = Sought { weak, openings };
-    resolve_each(
-        sequences, para, sought, before, limits, pairs, classes, levels, steps,
-    );
-}
-
-/// W1 to I2 over a flat paragraph whose sequences were found: one, or none; `weak` is false only where W1 to W7 can
-/// change none of its classes. It takes the fronts of the class columns.
-pub fn resolve_own<L: Ledger>(
-    para: &[Unit],
-    weak: bool,
-    sequences: &Sequences,
-    limits: Limits,
-    pairs: &mut Pairs,
-    before: &mut [Class],
-    classes: &mut [Class],
-    levels: &mut [Option<Level>],
-    steps: &mut Steps<L>,
-)
-    requires weak { weak ≡ false → list_any may_weaken (classes_of para.now) ≡ false }
-    requires apart { AreDisjoint (length para.now) sequences.now.all }
-    requires pairs { length para.now ≤ length pairs.old }
-    requires before { length para.now ≤ length before.old }
-    requires classes { length para.now ≤ length classes.old }
-    requires levels { length levels.old ≡ length para.now }
-    ensures levels { HasLevelsBy limits.brackets para.now (classes_of para.now) sequences.now.all levels.new }
-    ensures room { length pairs.new ≡ length pairs.old }
-    ensures at_least { steps.old + length para.now ≤ steps.new }
-    ensures at_most { steps.new ≤ steps.old + 75 * length para.now }
-{
-    let before = &mut before[..para.len()];
-    let classes = &mut classes[..para.len()];
-    let openings = begin_flat(para, before, classes, levels, steps);
+    let openings = begin(para, flat, explicit, before, classes, levels, steps);
     let sought = Sought { weak, openings };
     resolve_each(
         sequences, para, sought, before, limits, pairs, classes, levels, steps,

@@ -1,19 +1,27 @@
-//! What the gates leave to do of a paragraph: to find the level of one without initiators (P2, P3), and to write that
-//! level where nothing can leave it (X1 to I2).
-ghost use Rattle.std.specs.Prelude.{◌≡◌, false, true, ◌+◌, ◌≤◌, find, length, map};
+//! P2 to X10 over a paragraph, by the short way where it is flat: without initiators there are no isolates and no
+//! explicit levels to find. And that level, written where nothing can leave it (X1 to I2).
+ghost use Rattle.std.specs.Prelude.{◌≡◌, false, true, ◌+◌, ◌*◌, ◌≤◌, find, length, map};
 ghost use Rattle.units.specs.Classes.{classes_of, is_removed, is_strong};
-ghost use Rattle.units.specs.Isolates.{level_of_para};
-ghost use Rattle.flat.specs.Flat.{flat_para_level};
+ghost use Rattle.units.specs.Isolates.{level_of_para, para_level_of};
+ghost use Rattle.units.specs.Paragraphs.{SeparatorOnlyLast};
+ghost use Rattle.units.specs.Runs.{leveled_of, sequences_of};
+ghost use Rattle.explicit.specs.ExplicitLevels.{HoldsLevels};
+ghost use Rattle.explicit.specs.IsolateMaps.{IsFilledFrom, room};
+ghost use Rattle.flat.specs.Flat.{IsFlat, flat_para_level};
 ghost use Rattle.flat.specs.IdleRules.{HasNone};
 ghost use Rattle.flat.specs.Uniform.{kept_level};
 ghost use Rattle.paragraph.specs.FirstSides.{side_by};
 
-use explicit::para_level::level_under;
+use explicit::isolates::IsolateMap;
+use explicit::levels::{Explicit, explicit_levels};
+use explicit::para_level::{level_under, para_level};
 use explicit::side::Side;
+use sequences::sequences::Sequences;
 use std::sync::ledger::Ledger;
 use units::bracket::Unit;
 use units::class::Class;
 use units::level::{Direction, Level, ParaLevel};
+use units::limits::Limits;
 use units::steps::Steps;
 
 /// P2: the side of the first strong class, where nothing stands in an isolate.
@@ -33,12 +41,71 @@ fn first_side<L: Ledger>(para: &[Unit], steps: &mut Steps<L>) -> Side
 }
 
 /// P2, P3: the level of a paragraph without initiators.
-pub fn flat_level<L: Ledger>(para: &[Unit], direction: Direction, steps: &mut Steps<L>) -> ParaLevel
+fn flat_level<L: Ledger>(para: &[Unit], direction: Direction, steps: &mut Steps<L>) -> ParaLevel
     ensures level { level_of_para result ≡ flat_para_level (classes_of para.now) direction }
     ensures at_least { steps.old ≤ steps.new }
     ensures at_most { steps.new ≤ steps.old + length para.now }
 {
     level_under(direction, first_side(para, steps))
+}
+
+/// BD9, P2, P3: the level of a paragraph. Only where it isn't `flat`, its isolates are found for that.
+pub fn find_level<L: Ledger>(
+    para: &[Unit],
+    flat: bool,
+    direction: Direction,
+    isolates: &mut IsolateMap,
+    steps: &mut Steps<L>,
+) -> ParaLevel
+    requires flat { flat ≡ true → IsFlat (classes_of para.now) }
+    requires room { length para.now ≤ room isolates.old }
+    ensures level { level_of_para result ≡ para_level_of (classes_of para.now) direction }
+    ensures isolates { flat ≡ false → IsFilledFrom isolates.new (classes_of para.now) }
+    ensures room { room isolates.new ≡ room isolates.old }
+    ensures at_least { steps.old ≤ steps.new }
+    ensures at_most { steps.new ≤ steps.old + length para.now }
+{
+    if flat {
+        return flat_level(para, direction, steps);
+    }
+    isolates.fill(para, steps);
+    para_level(para, isolates, direction, steps)
+}
+
+/// X1 to X9, BD13, X10: the sequences of a paragraph of this level. Only where it isn't `flat`, its explicit levels are
+/// found for that; else all that remains of it is one sequence, and all of it remains if it is `whole`.
+pub fn find_sequences<L: Ledger>(
+    para: &[Unit],
+    flat: bool,
+    whole: bool,
+    level: ParaLevel,
+    limits: Limits,
+    isolates: &IsolateMap,
+    explicit: &mut Explicit,
+    sequences: &mut Sequences,
+    steps: &mut Steps<L>,
+)
+    requires flat { flat ≡ true → IsFlat (classes_of para.now) }
+    requires whole { whole ≡ true → HasNone is_removed (classes_of para.now) }
+    requires separators { SeparatorOnlyLast para.now }
+    requires isolates { flat ≡ false → IsFilledFrom isolates.now (classes_of para.now) }
+    requires explicit { length para.now ≤ length explicit.old }
+    requires room { length para.now ≤ sequences.old.room }
+    ensures levels { flat ≡ false
+        → HoldsLevels explicit.new limits.depth (classes_of para.now) (level_of_para level) }
+    ensures all { sequences.new.all
+        ≡ sequences_of (leveled_of limits.depth (classes_of para.now) (level_of_para level)) }
+    ensures explicit { length explicit.new ≡ length explicit.old }
+    ensures room { sequences.new.room ≡ sequences.old.room }
+    ensures at_least { steps.old ≤ steps.new }
+    ensures at_most { steps.new ≤ steps.old + 5 * length para.now + 1 }
+{
+    if flat {
+        sequences.fill_flat(para, whole, level, steps);
+        return;
+    }
+    explicit_levels(para, isolates, level, limits, explicit, steps);
+    sequences.fill(para, isolates, explicit, level, limits, steps);
 }
 
 /// X9: this level, or none for a class that is removed, as no class of the paragraph is if it is `whole`.

@@ -5,16 +5,14 @@ ghost use Rattle.units.specs.Classes.{classes_of};
 ghost use Rattle.units.specs.Isolates.{level_of_para, para_level_of};
 ghost use Rattle.units.specs.Layout.{resolved_levels};
 ghost use Rattle.units.specs.Paragraphs.{SeparatorOnlyLast};
-ghost use Rattle.flat.specs.Flat.{IsFlat, flat_para_level};
 ghost use Rattle.paragraph.specs.Contents.{Describes, keeps_level};
 ghost use Rattle.paragraph.specs.Resolvers.{StaysAt};
 
 use crate::contents::{Contents, FirstParagraph};
-use crate::found::{resolve_found, resolve_own};
-use crate::gates::{flat_level, write_level};
+use crate::found::resolve_found;
+use crate::gates::{find_level, find_sequences, write_level};
 use explicit::isolates::IsolateMap;
-use explicit::levels::{Explicit, explicit_levels};
-use explicit::para_level::para_level;
+use explicit::levels::Explicit;
 use resolve::pairs::Pairs;
 use sequences::sequences::Sequences;
 use std::alloc::Global;
@@ -198,89 +196,35 @@ impl Resolver {
         ensures at_most { steps.new ≤ steps.old + 81 * length para.now + 1 }
         ensures light { result.uniform ≡ true → steps.new ≤ steps.old + 2 * length para.now }
     {
-        if contents.is_flat() {
-            return self.resolve_flat(para, contents, direction, limits, levels, steps);
-        }
-
-        // BD9.
-        self.isolates.fill(para, steps);
-
-        // P2, P3.
-        let level = para_level(para, &self.isolates, direction, steps);
-
-        // X1 to X9.
-        let explicit = &mut self.explicit;
-        explicit_levels(para, &self.isolates, level, limits, explicit, steps);
-
-        // BD13, X10.
-        self.sequences
-            .fill(para, &self.isolates, &self.explicit, level, limits, steps);
-
-        // W1 to W7, BD14 to BD16 and N0, N1 and N2, I1 and I2, sequence by sequence.
-        resolve_found(
-            para,
-            contents.has_weak(),
-            &self.explicit,
-            &self.sequences,
-            limits,
-            &mut self.pairs,
-            &mut self.before,
-            &mut self.classes,
-            levels,
-            steps,
-        );
-        Resolved {
-            level,
-            uniform: false,
-        }
-    }
-
-    /// The same of a paragraph without initiators: all that remains of it (X9) is one sequence at its level.
-    fn resolve_flat<L: Ledger>(
-        &mut self,
-        para: &[Unit],
-        contents: Contents,
-        direction: Direction,
-        limits: Limits,
-        levels: &mut [Option<Level>],
-        steps: &mut Steps<L>,
-    ) -> Resolved
-        requires room { length para.now ≤ self.old }
-        requires contents { Describes contents (classes_of para.now) }
-        requires separators { SeparatorOnlyLast para.now }
-        requires flat { IsFlat (classes_of para.now) }
-        requires levels { length levels.old ≡ length para.now }
-        ensures level { level_of_para result.level ≡ flat_para_level (classes_of para.now) direction }
-        ensures levels { levels.new
-            ≡ resolved_levels limits para.now (flat_para_level (classes_of para.now) direction) }
-        ensures known { result.uniform ≡ keeps_level (level_of_para result.level) (classes_of para.now) }
-        ensures uniform { result.uniform ≡ true → StaysAt (level_of_para result.level) levels.new }
-        ensures room { self.new ≡ self.old }
-        ensures at_least { steps.old + length para.now ≤ steps.new }
-        ensures at_most { steps.new ≤ steps.old + 78 * length para.now }
-        ensures light { result.uniform ≡ true → steps.new ≤ steps.old + 2 * length para.now }
-    {
-        // P2, P3.
-        let level = flat_level(para, direction, steps);
+        // BD9, P2, P3.
+        let flat = contents.is_flat();
+        let level = find_level(para, flat, direction, &mut self.isolates, steps);
 
         // X1 to I2, where nothing can leave that level.
+        let whole = contents.is_whole();
         if contents.keeps(level) {
-            write_level(para, contents.is_whole(), level.level(), levels, steps);
+            write_level(para, whole, level.level(), levels, steps);
             return Resolved {
                 level,
                 uniform: true,
             };
         }
 
-        // X1 to X10.
-        self.sequences
-            .fill_flat(para, contents.is_whole(), level, steps);
+        // X1 to X9, BD13, X10.
+        let isolates = &self.isolates;
+        let explicit = &mut self.explicit;
+        let sequences = &mut self.sequences;
+        find_sequences(
+            para, flat, whole, level, limits, isolates, explicit, sequences, steps,
+        );
 
-        // W1 to W7, BD14 to BD16 and N0, N1 and N2, I1 and I2.
-        resolve_own(
+        // W1 to W7, BD14 to BD16 and N0, N1 and N2, I1 and I2, sequence by sequence.
+        resolve_found(
             para,
+            flat,
             contents.has_weak(),
-            &self.sequences,
+            explicit,
+            sequences,
             limits,
             &mut self.pairs,
             &mut self.before,

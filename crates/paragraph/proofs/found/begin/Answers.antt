@@ -1,13 +1,7 @@
-use Rattle.std.proofs.Common.{arith, rules}
-use Rattle.std.proofs.lemmas.Grind.{common_steps}
-use Rattle.std.proofs.lemmas.List.Folds.{list_any_more}
 use Rattle.paragraph.proofs.found.begin.Goals as goal
 
-pub loop-p-preserved : goal.loop-p-preserved
-loop-p-preserved g c = record {
-  opened = grind (arith, common_steps, list_any_more);
-  before = grind (arith, common_steps);
-  classes = grind (arith, common_steps);
-  none = search rules;
-  steps = omega arith;
-}
+pub returns-then-flat-clause-before : goal.returns-then-flat-clause-before
+returns-then-flat-clause-before g c = rw c.if-flat.true c.begin_flat.ensures.before
+
+pub returns-clause-before : goal.returns-clause-before
+returns-clause-before g c = rw c.if-flat.false c.begin_found.ensures.before

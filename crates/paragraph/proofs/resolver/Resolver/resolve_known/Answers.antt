@@ -1,46 +1,63 @@
-use Rattle.std.proofs.Common.{arith, rules, ap, sym, ◌∙◌, subst, List, length}
-use Rattle.units.specs.Classes.{classes_of}
+use Rattle.std.proofs.Common.{arith, rules, ap, sym, subst, ◌≡◌, ◌∙◌, ℕ, List, length, map, true}
+use Rattle.units.specs.Classes.{classes_of, is_removed}
 use Rattle.units.specs.Isolates.{level_of_para}
 use Rattle.units.specs.Layout.{resolved_levels}
 use Rattle.units.specs.Runs.{SequenceView}
-use Rattle.units.specs.declared.level.ParaLevel.{ParaLevel}
-use Rattle.flat.specs.Flat.{IsFlat}
-use Rattle.flat.proofs.FlatParagraph.{para_level_of-flat}
-use Rattle.paragraph.specs.Covering.{AreDisjoint, positions_in}
+use Rattle.units.specs.declared.bracket.Unit.{Unit as BidiUnit}
+use Rattle.flat.specs.Uniform.{kept_level}
 use Rattle.sequences.proofs.FilledFrom.{level_of_para-low}
-use Rattle.paragraph.proofs.AllSequences.{sequences_are_apart, found_own, found_levels}
-use Rattle.paragraph.proofs.FlatLevels.{flat_from}
+use Rattle.paragraph.specs.Contents.{keeps_level}
+use Rattle.paragraph.specs.Covering.{AreDisjoint, positions_in}
+use Rattle.paragraph.proofs.AllSequences.{sequences_are_apart}
+use Rattle.paragraph.proofs.FlatLevels.{flat_from, kept_stays, levels_are_kept, levels_before, none_from, own_before}
 use Rattle.paragraph.proofs.resolver.Resolver.resolve_known.Goals as goal
 
-pub resolve_flat-requires-clause-flat : goal.resolve_flat-requires-clause-flat
-resolve_flat-requires-clause-flat g c =
-    flat_from (classes_of c.args.para.now) (sym (c.is_flat.ensures (classes_of c.args.para.now) c.requires.contents) ∙ c.if-is_flat.true)
+pub find_level-level-requires-clause-flat : goal.find_level-level-requires-clause-flat
+find_level-level-requires-clause-flat g c = λ e.
+    flat_from (classes_of c.args.para.now) (sym (c.is_flat-flat.ensures (classes_of c.args.para.now) c.requires.contents) ∙ e)
 
-pub returns-then-is_flat-clause-level : goal.returns-then-is_flat-clause-level
-returns-then-is_flat-clause-level g c =
-    let flat : IsFlat (classes_of c.args.para.now) = flat_from (classes_of c.args.para.now) (sym (c.is_flat.ensures (classes_of c.args.para.now) c.requires.contents) ∙ c.if-is_flat.true) in
-    c.resolve_flat.ensures.level ∙ sym (para_level_of-flat (classes_of c.args.para.now) c.args.direction flat)
+pub write_level-requires-clause-whole : goal.write_level-requires-clause-whole
+write_level-requires-clause-whole g c = λ e.
+    none_from is_removed (classes_of c.args.para.now) (sym (c.is_whole-whole.ensures (classes_of c.args.para.now) c.requires.contents) ∙ e)
 
-pub returns-then-is_flat-clause-levels : goal.returns-then-is_flat-clause-levels
-returns-then-is_flat-clause-levels g c =
-    let flat : IsFlat (classes_of c.args.para.now) = flat_from (classes_of c.args.para.now) (sym (c.is_flat.ensures (classes_of c.args.para.now) c.requires.contents) ∙ c.if-is_flat.true) in
-    c.resolve_flat.ensures.levels ∙ ap (resolved_levels c.args.limits c.args.para.now) (sym (para_level_of-flat (classes_of c.args.para.now) c.args.direction flat))
+pub find_sequences-requires-clause-flat : goal.find_sequences-requires-clause-flat
+find_sequences-requires-clause-flat g c = λ e.
+    flat_from (classes_of c.args.para.now) (sym (c.is_flat-flat.ensures (classes_of c.args.para.now) c.requires.contents) ∙ e)
+
+pub find_sequences-requires-clause-whole : goal.find_sequences-requires-clause-whole
+find_sequences-requires-clause-whole g c = λ e.
+    none_from is_removed (classes_of c.args.para.now) (sym (c.is_whole-whole.ensures (classes_of c.args.para.now) c.requires.contents) ∙ e)
+
+pub returns-then-keeps-clause-levels : goal.returns-then-keeps-clause-levels
+returns-then-keeps-clause-levels g c =
+    let level : ℕ = level_of_para c.find_level-level.result in
+    let kept : keeps_level level (classes_of c.args.para.now) ≡ true = sym (c.keeps.ensures (classes_of c.args.para.now) c.requires.contents) ∙ c.if-keeps.true in
+    c.write_level.ensures.levels
+    ∙ ap (λ (l : ℕ). map (λ (u : BidiUnit). kept_level l u.class) c.args.para.now) c.level.ensures.value
+    ∙ levels_are_kept c.args.limits c.args.para.now level kept
+    ∙ ap (resolved_levels c.args.limits c.args.para.now) c.find_level-level.ensures.level
+
+pub returns-then-keeps-clause-uniform : goal.returns-then-keeps-clause-uniform
+returns-then-keeps-clause-uniform g c = λ e.
+    kept_stays c.args.para.now (level_of_para c.find_level-level.result) c.write_level.new.levels
+    (c.write_level.ensures.levels ∙ ap (λ (l : ℕ). map (λ (u : BidiUnit). kept_level l u.class) c.args.para.now) c.level.ensures.value)
 
 pub resolve_found-requires-clause-apart : goal.resolve_found-requires-clause-apart
 resolve_found-requires-clause-apart g c =
-    let level : ParaLevel = c.para_level-level.result in
+    let level : ℕ = level_of_para c.find_level-level.result in
     let P : List SequenceView → Type 0 = λ all. AreDisjoint (length c.args.para.now) all in
-    subst P (sym c.fill-2.ensures.all) (sequences_are_apart c.args.limits.depth (omega arith) c.args.para.now (level_of_para level) (level_of_para-low level) c.requires.separators)
-
-pub resolve_found-requires-clause-own : goal.resolve_found-requires-clause-own
-resolve_found-requires-clause-own g c =
-    found_own c.args.limits c.args.para.now (level_of_para c.para_level-level.result) c.explicit_levels.new.out c.explicit_levels.ensures.found (positions_in c.fill-2.new.self.all)
-
-pub returns-clause-levels : goal.returns-clause-levels
-returns-clause-levels g c =
-    found_levels c.args.limits c.args.para.now (level_of_para c.para_level-level.result) c.explicit_levels.new.out c.explicit_levels.ensures.found c.fill-2.new.self.all c.resolve_found.new.levels c.fill-2.ensures.all
-    (search rules) c.resolve_found.ensures.levels
-    ∙ ap (resolved_levels c.args.limits c.args.para.now) c.para_level-level.ensures.level
+    subst P (sym c.find_sequences.ensures.all) (sequences_are_apart c.args.limits.depth (omega arith) c.args.para.now level (level_of_para-low c.find_level-level.result) c.requires.separators)
 
 pub resolve_found-requires-clause-weak : goal.resolve_found-requires-clause-weak
 resolve_found-requires-clause-weak g c = λ e. sym (c.has_weak.ensures (classes_of c.args.para.now) c.requires.contents) ∙ e
+
+pub resolve_found-requires-clause-own : goal.resolve_found-requires-clause-own
+resolve_found-requires-clause-own g c =
+    own_before c.args.limits c.args.para.now (level_of_para c.find_level-level.result) c.find_sequences.new.explicit c.is_flat-flat.result c.find_sequences.ensures.levels (positions_in c.find_sequences.new.sequences.all)
+
+pub returns-clause-levels : goal.returns-clause-levels
+returns-clause-levels g c =
+    levels_before c.args.limits c.args.para.now (level_of_para c.find_level-level.result) c.find_sequences.new.explicit c.is_flat-flat.result
+    (λ e. flat_from (classes_of c.args.para.now) (sym (c.is_flat-flat.ensures (classes_of c.args.para.now) c.requires.contents) ∙ e)) c.find_sequences.ensures.levels c.find_sequences.new.sequences.all c.resolve_found.new.levels c.find_sequences.ensures.all (search rules)
+    c.resolve_found.ensures.levels
+    ∙ ap (resolved_levels c.args.limits c.args.para.now) c.find_level-level.ensures.level

@@ -3,7 +3,7 @@ use Rattle.std.specs.List.{list_any}
 use Rattle.units.specs.Brackets.{is_open}
 use Rattle.units.specs.Layout.{current_of}
 use Rattle.resolve.specs.Raised.{resolved_at}
-use Rattle.paragraph.proofs.found.begin.Given as goal
+use Rattle.paragraph.proofs.found.begin_found.Given as goal
 
 abbrev pub invariant-loop-p : goal.invariant-loop-p
 invariant-loop-p g l = record {
