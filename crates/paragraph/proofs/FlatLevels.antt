@@ -1,5 +1,5 @@
 -- Flat paragraphs: what the scan of their classes tells.
-use Rattle.std.specs.Prelude.{Option, None, Some, ℕ, Bool, true, false, ◌<◌, ◌≤◌, ◌≡◌, not, List, length, map, slice_index}
+use Rattle.std.specs.Prelude.{Option, None, Some, ℕ, Bool, true, false, ◌<◌, ◌≤◌, ◌≡◌, not, List, length, map, slice_index, refl}
 use Rattle.std.specs.List.{flat_map, list_all}
 use Rattle.std.proofs.Common.{arith, ap, sym, ◌∙◌, cond, get_or, inl, inr}
 use Rattle.std.proofs.lemmas.Bool.{and_parts, cases_lt, not-true}
