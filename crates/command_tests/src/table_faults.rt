@@ -76,9 +76,10 @@ fn says_the_first_faulty_line_of_the_tables(rt: HostRuntime) {
     }
 }
 
-/// Files of which one table can't be read, and the line that says which.
-fn unread_tables() -> [([MemoryFile<'static>; 3], &'static [u8]); 4] {
-    [
+#[test]
+fn says_the_first_table_that_is_not_read(rt: HostRuntime) {
+    let alloc = rt.alloc();
+    let rows: [([MemoryFile<'_>; 3], &[u8]); 4] = [
         (
             [
                 whole("FILE", b""),
@@ -111,13 +112,8 @@ fn unread_tables() -> [([MemoryFile<'static>; 3], &'static [u8]); 4] {
             ],
             b"bidi: cannot read BidiMirroring.txt\n",
         ),
-    ]
-}
-
-#[test]
-fn says_the_first_table_that_is_not_read(rt: HostRuntime) {
-    let alloc = rt.alloc();
-    for (files, line) in unread_tables() {
+    ];
+    for (files, line) in rows {
         assert_run(
             &rt,
             alloc,

@@ -1,4 +1,4 @@
-use Rattle.std.proofs.Common.{rules, tests, ◌≡◌, ℕ, List, Some, Option, find, map, option_map, ap, subst, sym, ◌∙◌}
+use Rattle.std.proofs.Common.{rules, tests, ◌≡◌, List, Some, Option, find, map, option_map, ap, subst, sym, ◌∙◌}
 use Rattle.std.specs.Borrow.{Bor}
 use Rattle.std.specs.Str.{bytes_eq}
 use Rattle.std.proofs.lemmas.Iterator.{YieldsList-from_slice}
