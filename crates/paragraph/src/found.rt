@@ -145,6 +145,8 @@ fn begin<L: Ledger>(
 /// W1 to I2 over all sequences of a paragraph, in their order. `before` are the current classes of the paragraph (X1
 /// to X8), `classes` a copy of them to work on, and `levels` hold none yet. `sought` is what of the paragraph the
 /// rules look for.
+// Inlined, its walks take more instructions.
+#[inline(never)]
 fn resolve_each<L: Ledger>(
     sequences: &Sequences,
     para: &[Unit],
