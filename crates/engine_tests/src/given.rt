@@ -51,6 +51,11 @@ pub fn classes(rt: &impl Abort, alloc: Global, names: &str) -> Result<Vec<Class>
     Ok(classes)
 }
 
+/// Checks what becomes of the classes with the names `before`.
+pub fn assert_classes(rt: &impl Abort, classes: &[Class], expected: &[Class], before: &str) {
+    assert_eq!(rt; classes, expected, "{before}");
+}
+
 /// The unit with this name: a class's short name, or a bracket of one of two kinds.
 fn unit_of(name: &str) -> Option<Unit> {
     match name {

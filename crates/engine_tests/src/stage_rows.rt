@@ -2,8 +2,7 @@
 ghost use Rattle.std.specs.Prelude.{◌≡◌, ◌<◌, length};
 
 use crate::engine::{neutral_sequences, only_sequence};
-use crate::given::classes;
-use resolve::neutral::neutral;
+use crate::given::{assert_classes, classes};
 use resolve::weak::weak;
 use sequences::sequence::Sequence;
 use stages::neutral::neutrals;
@@ -31,7 +30,6 @@ enum Stage {
     Weak,
     EngineWeak,
     Neutrals,
-    EngineNeutrals,
 }
 
 fn apply<L: Ledger>(stage: Stage, s: &Sequence, classes: &mut [Class], steps: &mut Steps<L>)
@@ -48,7 +46,6 @@ fn apply<L: Ledger>(stage: Stage, s: &Sequence, classes: &mut [Class], steps: &m
         Stage::Weak => weak_types(s, classes, steps),
         Stage::EngineWeak => weak(s, classes, steps),
         Stage::Neutrals => neutrals(s, classes, steps),
-        Stage::EngineNeutrals => neutral(s, classes, steps),
     }
 }
 
@@ -85,19 +82,15 @@ fn apply_in_paragraph(
     Ok(())
 }
 
-fn assert_classes(rt: &impl Abort, classes: &[Class], expected: &[Class], row: &Row) {
-    assert_eq!(rt; classes, expected, "{}", row.before);
-}
-
 /// Checks what a stage makes of a row's classes.
 fn assert_row(rt: &impl Abort, alloc: Global, row: &Row) -> Result<(), Memory> {
     let mut column = classes(rt, alloc, row.before)?;
     apply_in_paragraph(rt, alloc, row.stage, row.direction, &mut column)?;
-    assert_classes(rt, &column, &classes(rt, alloc, row.after)?, row);
+    assert_classes(rt, &column, &classes(rt, alloc, row.after)?, row.before);
     Ok(())
 }
 
-const ROWS: [Row; 22] = [
+const ROWS: [Row; 18] = [
     // marks
     Row {
         stage: Stage::W1,
@@ -209,31 +202,6 @@ const ROWS: [Row; 22] = [
         stage: Stage::EngineWeak,
         direction: Direction::Ltr,
         before: "EN",
-        after: "L",
-    },
-    // and what the engine's N1 and N2 make of them
-    Row {
-        stage: Stage::EngineNeutrals,
-        direction: Direction::Ltr,
-        before: "L L L L L ON AN",
-        after: "L L L L L L AN",
-    },
-    Row {
-        stage: Stage::EngineNeutrals,
-        direction: Direction::Ltr,
-        before: "R EN EN EN EN EN EN",
-        after: "R EN EN EN EN EN EN",
-    },
-    Row {
-        stage: Stage::EngineNeutrals,
-        direction: Direction::Ltr,
-        before: "R AN AN AN",
-        after: "R AN AN AN",
-    },
-    Row {
-        stage: Stage::EngineNeutrals,
-        direction: Direction::Ltr,
-        before: "L",
         after: "L",
     },
 ];
