@@ -1,12 +1,15 @@
 -- What a scan of the front of a text found, with one unit more; and where the first paragraph ends (P1).
 use Rattle.std.proofs.Common.{◌≡◌, ℕ, suc, ◌+◌, ◌<◌, true, false, List, [], ◌∷◌, ◌++◌, length, get_or, take, drop, refl, ap, ◌∙◌, arith, inl, inr}
-use Rattle.std.specs.Prelude.{find, Some}
-use Rattle.std.proofs.lemmas.Bool.{cases_Bool}
-use Rattle.std.proofs.lemmas.List.{drop_more, get_or-map, length-map, map-append, take_more}
+use Rattle.std.specs.Option.{option_or}
+use Rattle.std.specs.Prelude.{find, None, Some}
+use Rattle.std.proofs.lemmas.Bool.{both_ways, cases_Bool}
+use Rattle.std.proofs.lemmas.List.{drop_more, map-append, take_more}
+use Rattle.std.proofs.lemmas.List.Folds.{find-append}
 use Rattle.units.specs.Classes.{classes_of, is_separator, is_strong}
 use Rattle.units.specs.Paragraphs.{SeparatorOnlyLast}
 use Rattle.units.specs.declared.bracket.Unit.{Unit as BidiUnit}
 use Rattle.units.specs.declared.class.Class.{Class}
+use Rattle.units.specs.declared.class.Class.TheVariants.{L, R, AL}
 use Rattle.explicit.specs.FirstParagraph.{first_length}
 
 -- the classes of one unit more
@@ -29,6 +32,11 @@ goes_on us k d lt plain e =
     let next = length_from us k d lt ∙ first_length_other (get_or us k d) (drop (k + 1) us) plain in
     omega (arith, e, next)
 
+pub ends_here : (us : List BidiUnit) (k : ℕ) (d : BidiUnit) → k < length us → is_separator (get_or us k d).class ≡ true → first_length us ≡ k + first_length (drop k us) → k + 1 ≡ first_length us
+ends_here us k d lt separates e =
+    let last = length_from us k d lt ∙ first_length_separator (get_or us k d) (drop (k + 1) us) separates in
+    omega (arith, e, last)
+
 -- a paragraph is its own first one
 pub first_of_one : (us : List BidiUnit) → SeparatorOnlyLast us → first_length us ≡ length us
 first_of_one [] only = refl
@@ -37,21 +45,25 @@ first_of_one (unit ∷ []) only =
 first_of_one (unit ∷ second ∷ others) only =
     first_length_other unit (second ∷ others) only.0 ∙ ap suc (first_of_one (second ∷ others) only.1)
 
--- P2: a class that is not strong is passed over, and the first that is is found
-find_from : (cs : List Class) (k : ℕ) (d : Class) → k < length cs → find is_strong (drop k cs) ≡ find is_strong (get_or cs k d ∷ drop (k + 1) cs)
-find_from cs k d lt = ap (find is_strong) (drop_more cs k d lt)
+-- a separator is not strong
+pub separator_is_weak : (c : Class) → is_separator c ≡ true → is_strong c ≡ false
+separator_is_weak L h = absurd (both_ways false refl h)
+separator_is_weak R h = absurd (both_ways false refl h)
+separator_is_weak AL h = absurd (both_ways false refl h)
+separator_is_weak _ h = refl
 
+-- P2: the first strong class, with one unit more
 module _ (us : List BidiUnit) (k : ℕ) (d : BidiUnit) (lt : k < length us) where
-  here : get_or (classes_of us) k d.class ≡ (get_or us k d).class
-  here = get_or-map (λ (u : BidiUnit). u.class) us k d d.class lt
+  strong_more : find is_strong (classes_of (take (k + 1) us)) ≡ option_or (find is_strong (classes_of (take k us))) (find is_strong ((get_or us k d).class ∷ []))
+  strong_more = ap (find is_strong) (classes_more us k d lt) ∙ find-append is_strong (classes_of (take k us)) ((get_or us k d).class ∷ [])
 
-  within : k < length (classes_of us)
-  within = omega (arith, lt, length-map us (λ (u : BidiUnit). u.class))
+  -- where none was found, this one is the first if it is strong
+  pub strong_found : is_strong (get_or us k d).class ≡ true → find is_strong (classes_of (take k us)) ≡ None → find is_strong (classes_of (take (k + 1) us)) ≡ Some (get_or us k d).class
+  strong_found strong none = strong_more ∙ rw none (rw strong refl)
 
-  pub strong_found : is_strong (get_or us k d).class ≡ true → find is_strong (classes_of us) ≡ find is_strong (drop k (classes_of us)) → find is_strong (classes_of us) ≡ Some (get_or us k d).class
-  strong_found strong e =
-      e ∙ find_from (classes_of us) k d.class within ∙ ap (λ (c : Class). find is_strong (c ∷ drop (k + 1) (classes_of us))) here ∙ rw strong refl
+  pub none_found : is_strong (get_or us k d).class ≡ false → find is_strong (classes_of (take k us)) ≡ None → find is_strong (classes_of (take (k + 1) us)) ≡ None
+  none_found weak none = strong_more ∙ rw none (rw weak refl)
 
-  pub none_found : is_strong (get_or us k d).class ≡ false → find is_strong (classes_of us) ≡ find is_strong (drop k (classes_of us)) → find is_strong (classes_of us) ≡ find is_strong (drop (k + 1) (classes_of us))
-  none_found weak e =
-      e ∙ find_from (classes_of us) k d.class within ∙ ap (λ (c : Class). find is_strong (c ∷ drop (k + 1) (classes_of us))) here ∙ rw weak refl
+  -- the first that was found stays the first
+  pub still_found : (c : Class) → find is_strong (classes_of (take k us)) ≡ Some c → find is_strong (classes_of (take (k + 1) us)) ≡ Some c
+  still_found c found = strong_more ∙ rw found refl

@@ -1,13 +1,14 @@
 -- What a paragraph contains, as far as it tells which rules have something to do.
-use Rattle.std.specs.Prelude.{ℕ, Bool, ◌≡◌, ◌&&◌, not, List, take}
+use Rattle.std.specs.Prelude.{ℕ, Bool, ◌≡◌, ◌&&◌, not, List, find, take}
 use Rattle.std.specs.List.{list_all}
-use Rattle.units.specs.Classes.{classes_of}
+use Rattle.units.specs.Classes.{classes_of, is_strong}
 use Rattle.units.specs.declared.bracket.Unit.{Unit as BidiUnit}
 use Rattle.units.specs.declared.class.Class.{Class}
 use Rattle.explicit.specs.FirstParagraph.{first_length}
 use Rattle.flat.specs.Flat.{is_flat}
 use Rattle.flat.specs.Uniform.{may_rise}
 use Rattle.paragraph.specs.ClassSets.{IsSetOf}
+use Rattle.paragraph.specs.FirstSides.{side_by}
 use Rattle.paragraph.specs.declared.contents.Contents.{Contents}
 use Rattle.paragraph.specs.declared.contents.FirstParagraph.{FirstParagraph}
 
@@ -19,9 +20,10 @@ has_none test cs = list_all (λ c. not (test c)) cs
 abbrev pub keeps_level : ℕ → List Class → Bool
 keeps_level para_level cs = list_all is_flat cs && has_none (may_rise para_level) cs
 
--- what the paragraph of these classes contains
-abbrev pub Describes : Contents → List Class → Type 0
-Describes contents cs = IsSetOf contents.classes cs
+-- what the paragraph of these classes contains, and the side of its first strong class (P2, no isolates looked at)
+pub record Describes (contents : Contents) (cs : List Class) : Type 0 where
+  pub classes : IsSetOf contents.classes cs
+  pub side : contents.side ≡ side_by (find is_strong cs)
 
 -- P1: the first paragraph of a text, and what it contains
 pub record IsFirstOf (first : FirstParagraph) (text : List BidiUnit) : Type 0 where

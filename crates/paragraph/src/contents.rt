@@ -1,26 +1,30 @@
 //! What a paragraph contains, which tells the rules that have nothing to do in it; and where it ends.
-ghost use Rattle.std.specs.Prelude.{◌≡◌, ◌+◌, ◌<◌, ◌≤◌, List, length};
+ghost use Rattle.std.specs.Prelude.{◌≡◌, ◌+◌, ◌<◌, ◌≤◌, List, Some, drop, find, length, take};
 ghost use Rattle.std.specs.List.{list_all, list_any};
-ghost use Rattle.units.specs.Classes.{is_initiator, is_removed};
+ghost use Rattle.units.specs.Classes.{classes_of, is_initiator, is_removed, is_strong};
 ghost use Rattle.units.specs.Isolates.{level_of_para};
 ghost use Rattle.units.specs.declared.class.Class.{Class as BidiClass};
+ghost use Rattle.explicit.specs.FirstParagraph.{first_length};
 ghost use Rattle.flat.specs.Flat.{is_flat};
 ghost use Rattle.flat.specs.Uniform.{may_rise_at_even, may_rise_at_odd};
 ghost use Rattle.paragraph.specs.ClassSets.{IsSetOf};
 ghost use Rattle.paragraph.specs.Contents.{Describes, IsFirstOf, has_none, keeps_level};
+ghost use Rattle.paragraph.specs.FirstSides.{side_by};
 ghost use Rattle.resolve.specs.Sought.{may_weaken};
 
 use crate::class_set::ClassSet;
+use explicit::side::Side;
 use std::sync::ledger::Ledger;
 use units::bracket::Unit;
 use units::class::Class;
 use units::level::ParaLevel;
 use units::steps::Steps;
 
-/// The classes that a paragraph has.
+/// The classes that a paragraph has, and the side of the first strong one.
 #[derive(Clone, Copy)]
 pub struct Contents {
     classes: ClassSet,
+    side: Side,
 }
 
 /// The first paragraph of a text.
@@ -107,6 +111,50 @@ impl Contents {
             ParaLevel::One => !has_initiator(self.classes) & !may_rise_at_odd(self.classes),
         }
     }
+
+    /// P2: the side of the first strong class, in an isolate or not.
+    pub fn side(&self) -> Side
+        ensures { (cs : List BidiClass) → Describes self.now cs → result ≡ side_by (find is_strong cs) }
+    {
+        self.side
+    }
+}
+
+/// P1: the first paragraph of a text, of which the positions before `start` were looked at: these classes stand there,
+/// and `strong` is the first strong one (P2). A step for each unit from `start` on.
+fn scan_behind<L: Ledger>(
+    text: &[Unit],
+    start: usize,
+    strong: Class,
+    before: ClassSet,
+    steps: &mut Steps<L>,
+) -> FirstParagraph
+    requires start { start ≤ length text.now }
+    requires goes_on { first_length text.now ≡ start + first_length (drop start text.now) }
+    requires strong { find is_strong (classes_of (take start text.now)) ≡ Some strong }
+    requires before { IsSetOf before (classes_of (take start text.now)) }
+    ensures first { IsFirstOf result text.now }
+    ensures within { result.length ≤ length text.now }
+    ensures some { start ≤ result.length }
+    ensures steps { steps.new + start ≡ steps.old + result.length }
+{
+    let side = Side::Unknown.noting(strong);
+    let mut classes = before;
+    for p in start..text.len() {
+        steps.tick();
+        let class = text[p].class;
+        classes = classes.with(class);
+        if class.is_separator() {
+            return FirstParagraph {
+                length: p + 1,
+                contents: Contents { classes, side },
+            };
+        }
+    }
+    FirstParagraph {
+        length: text.len(),
+        contents: Contents { classes, side },
+    }
 }
 
 impl FirstParagraph {
@@ -118,6 +166,7 @@ impl FirstParagraph {
         ensures steps { steps.new ≡ steps.old + result.length }
     {
         let mut classes = ClassSet::none();
+        let side = Side::Unknown;
         for k in 0..text.len() {
             steps.tick();
             let class = text[k].class;
@@ -125,13 +174,16 @@ impl FirstParagraph {
             if class.is_separator() {
                 return FirstParagraph {
                     length: k + 1,
-                    contents: Contents { classes },
+                    contents: Contents { classes, side },
                 };
+            }
+            if class.is_strong() {
+                return scan_behind(text, k + 1, class, classes, steps);
             }
         }
         FirstParagraph {
             length: text.len(),
-            contents: Contents { classes },
+            contents: Contents { classes, side },
         }
     }
 }

@@ -24,49 +24,28 @@ use units::level::{Direction, Level, ParaLevel};
 use units::limits::Limits;
 use units::steps::Steps;
 
-/// P2: the side of the first strong class, where nothing stands in an isolate.
-fn first_side<L: Ledger>(para: &[Unit], steps: &mut Steps<L>) -> Side
-    ensures value { result ≡ side_by (find is_strong (classes_of para.now)) }
-    ensures at_least { steps.old ≤ steps.new }
-    ensures at_most { steps.new ≤ steps.old + length para.now }
-{
-    for k in 0..para.len() {
-        steps.tick();
-        let class = para[k].class;
-        if class.is_strong() {
-            return Side::Unknown.noting(class);
-        }
-    }
-    Side::Unknown
-}
-
-/// P2, P3: the level of a paragraph without initiators.
-fn flat_level<L: Ledger>(para: &[Unit], direction: Direction, steps: &mut Steps<L>) -> ParaLevel
-    ensures level { level_of_para result ≡ flat_para_level (classes_of para.now) direction }
-    ensures at_least { steps.old ≤ steps.new }
-    ensures at_most { steps.new ≤ steps.old + length para.now }
-{
-    level_under(direction, first_side(para, steps))
-}
-
-/// BD9, P2, P3: the level of a paragraph. Only where it isn't `flat`, its isolates are found for that.
+/// BD9, P2, P3: the level of a paragraph. Where it is `flat`, nothing stands in an isolate and `side`, the side of its
+/// first strong class, tells it without a step; only else its isolates are found for that.
 pub fn find_level<L: Ledger>(
     para: &[Unit],
     flat: bool,
+    side: Side,
     direction: Direction,
     isolates: &mut IsolateMap,
     steps: &mut Steps<L>,
 ) -> ParaLevel
     requires flat { flat ≡ true → IsFlat (classes_of para.now) }
+    requires side { side ≡ side_by (find is_strong (classes_of para.now)) }
     requires room { length para.now ≤ room isolates.old }
     ensures level { level_of_para result ≡ para_level_of (classes_of para.now) direction }
     ensures isolates { flat ≡ false → IsFilledFrom isolates.new (classes_of para.now) }
     ensures room { room isolates.new ≡ room isolates.old }
     ensures at_least { steps.old ≤ steps.new }
     ensures at_most { steps.new ≤ steps.old + length para.now }
+    ensures light { flat ≡ true → steps.new ≡ steps.old }
 {
     if flat {
-        return flat_level(para, direction, steps);
+        return level_under(direction, side);
     }
     isolates.fill(para, steps);
     para_level(para, isolates, direction, steps)

@@ -167,7 +167,7 @@ impl Resolver {
         ensures room { self.new ≡ self.old }
         ensures at_least { steps.old + 2 * length para.now ≤ steps.new }
         ensures at_most { steps.new ≤ steps.old + 82 * length para.now + 1 }
-        ensures light { result.uniform ≡ true → steps.new ≤ steps.old + 3 * length para.now }
+        ensures light { result.uniform ≡ true → steps.new ≤ steps.old + 2 * length para.now }
     {
         let first = FirstParagraph::of(para, steps);
         self.resolve_known(para, first.contents, direction, limits, levels, steps)
@@ -194,11 +194,18 @@ impl Resolver {
         ensures room { self.new ≡ self.old }
         ensures at_least { steps.old + length para.now ≤ steps.new }
         ensures at_most { steps.new ≤ steps.old + 81 * length para.now + 1 }
-        ensures light { result.uniform ≡ true → steps.new ≤ steps.old + 2 * length para.now }
+        ensures light { result.uniform ≡ true → steps.new ≤ steps.old + length para.now }
     {
         // BD9, P2, P3.
         let flat = contents.is_flat();
-        let level = find_level(para, flat, direction, &mut self.isolates, steps);
+        let level = find_level(
+            para,
+            flat,
+            contents.side(),
+            direction,
+            &mut self.isolates,
+            steps,
+        );
 
         // X1 to I2, where nothing can leave that level.
         let whole = contents.is_whole();

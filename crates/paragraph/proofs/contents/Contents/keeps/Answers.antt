@@ -14,7 +14,7 @@ both cs test a b ha hb =
     ∙ ap (λ x. list_all (λ c. not (is_initiator c)) cs && x) (none_where_not_any test cs)
 
 pub returns-in-Zero : goal.returns-in-Zero
-returns-in-Zero c = rw c.in-Zero.is λ cs is. both cs may_rise_at_even _ _ (c.has_initiator.ensures cs is) (c.may_rise_at_even.ensures cs is)
+returns-in-Zero c = rw c.in-Zero.is λ cs is. both cs may_rise_at_even _ _ (c.has_initiator.ensures cs is.classes) (c.may_rise_at_even.ensures cs is.classes)
 
 pub returns-in-One : goal.returns-in-One
-returns-in-One c = rw c.in-One.is λ cs is. both cs may_rise_at_odd _ _ (c.has_initiator-in-One.ensures cs is) (c.may_rise_at_odd.ensures cs is)
+returns-in-One c = rw c.in-One.is λ cs is. both cs may_rise_at_odd _ _ (c.has_initiator-in-One.ensures cs is.classes) (c.may_rise_at_odd.ensures cs is.classes)
