@@ -1,8 +1,8 @@
-ghost use Rattle.std.specs.Prelude.{◌≡◌, ◌+◌, ◌<◌, ◌≤◌, IfSome, length};
-ghost use Rattle.units.specs.Runs.{size_of, at_one_level, level_or_base, next_remaining, successor, eos_by};
+ghost use Rattle.std.specs.Prelude.{◌≡◌, ◌+◌, ◌<◌, ◌≤◌, ◌&&◌, IfSome, Some, None, is_some, if◌then◌else◌, length};
+ghost use Rattle.units.specs.Runs.{size_of, level_of, at_one_level, level_or_base, remains, matched_pdi, successor, eos_by};
 ghost use Rattle.sequences.specs.Links.{marked};
 ghost use Rattle.sequences.specs.Heads.{AreSuccessors, HasEnds, IsMarked};
-ghost use Rattle.sequences.specs.Ends.{end_by};
+ghost use Rattle.sequences.specs.Ends.{IsKnown, end_by};
 
 use crate::leveled::Leveled;
 use std::sync::ledger::Ledger;
@@ -11,14 +11,20 @@ use units::level::Level;
 use units::optional_position::OptionalPosition;
 use units::steps::Steps;
 
-/// Both remain at one level.
-fn at_one_level(a: Option<Level>, b: Option<Level>) -> bool
-    ensures { result ≡ at_one_level a b }
-{
-    match (a, b) {
-        (Some(a), Some(b)) => a.get() == b.get(),
-        _ => false,
-    }
+/// What stands behind a position: the next remaining position, its level, and what its sequence ends with. Where none
+/// remains, the level is the paragraph's.
+#[derive(Clone, Copy)]
+struct Behind {
+    next: Option<usize>,
+    level: Level,
+    end: Class,
+}
+
+/// How the sequence of a position goes on: the position after it, if there is one, and what the sequence ends with.
+#[derive(Clone, Copy)]
+struct Continuation {
+    link: Option<usize>,
+    end: Class,
 }
 
 /// The level of the position that is given, or the paragraph's.
@@ -35,46 +41,65 @@ pub fn level_or_base(t: &Leveled, at: Option<usize>) -> Level
     }
 }
 
-/// The position after `p` in its sequence (BD13), where the next remaining one is given.
-fn successor(t: &Leveled, p: usize, next: Option<usize>) -> Option<usize>
+/// Whether the level run of `p` goes on behind it (BD7): the next remaining position is at the same level.
+fn run_goes_on(t: &Leveled, p: usize, behind: &Behind) -> bool
     requires here { p < size_of t.now }
-    requires later { IfSome next (λ q. (p < q) × (q < size_of t.now)) }
-    requires next { next ≡ next_remaining t.now p }
-    ensures value { result ≡ successor t.now p }
+    ensures { result ≡ (is_some behind.now.next && at_one_level (level_of t.now p) (Some behind.now.level)) }
+{
+    match t.level(p) {
+        Some(level) => behind.next.is_some() && level.get() == behind.level.get(),
+        None => false,
+    }
+}
+
+/// The PDI that goes on with the sequence of `p` (BD13), whose level run ends there.
+fn pdi_after(t: &Leveled, p: usize, behind: &Behind) -> Option<usize>
+    requires here { p < size_of t.now }
+    ensures value { result ≡ (if remains t.now p && is_some behind.now.next then matched_pdi t.now p else None) }
     ensures later { IfSome result (λ q. (p < q) × (q < size_of t.now)) }
 {
-    if t.level(p).is_none() {
-        return None;
-    }
-    let q = next?;
-    if at_one_level(t.level(p), t.level(q)) {
-        Some(q)
-    } else {
+    if t.level(p).is_some() && behind.next.is_some() {
         t.matched_pdi(p)
+    } else {
+        None
     }
 }
 
-/// The end of a sequence that ends at `p` (X10), where the next remaining position is given.
-fn eos(t: &Leveled, p: usize, next: Option<usize>) -> Class
+/// The end of a sequence that ends at `p` (X10).
+fn eos(t: &Leveled, p: usize, behind: &Behind) -> Class
     requires here { p < size_of t.now }
-    requires within { IfSome next (λ q. q < size_of t.now) }
-    ensures { result ≡ eos_by t.now p next }
+    requires level { behind.now.level ≡ level_or_base t.now behind.now.next }
+    ensures { result ≡ eos_by t.now p behind.now.next }
 {
     let is_unmatched = t.is_isolate_initiator(p) && t.matched_pdi(p).is_none();
-    let after = if is_unmatched { None } else { next };
-    level_or_base(t, Some(p)).direction_with(level_or_base(t, after))
+    let after = if is_unmatched { t.base() } else { behind.level };
+    level_or_base(t, Some(p)).direction_with(after)
 }
 
-/// What the sequence of `p` ends with, where what comes after `p` is done.
-fn end(t: &Leveled, p: usize, next: Option<usize>, link: Option<usize>, ends: &[Class]) -> Class
+/// How the sequence of `p` goes on (BD13): within its level run, or at the PDI that matches `p`, or not.
+fn go_on(t: &Leveled, p: usize, behind: &Behind, ends: &[Class]) -> Continuation
     requires here { p < size_of t.now }
-    requires within { IfSome next (λ q. q < size_of t.now) }
-    requires linked { IfSome link (λ q. q < length ends.now) }
-    ensures { result ≡ end_by t.now p next link ends.now }
+    requires fits { size_of t.now ≤ length ends.now }
+    requires known { IsKnown t.now p behind.now ends.now }
+    ensures link { result.link ≡ successor t.now p }
+    ensures later { IfSome result.link (λ q. (p < q) × (q < size_of t.now)) }
+    ensures end { result.end ≡ end_by t.now p behind.now.next result.link ends.now }
 {
-    match link {
-        Some(q) => ends[q],
-        None => eos(t, p, next),
+    if run_goes_on(t, p, behind) {
+        return Continuation {
+            link: behind.next,
+            end: behind.end,
+        };
+    }
+    match pdi_after(t, p, behind) {
+        Some(q) => Continuation {
+            link: Some(q),
+            end: ends[q],
+        },
+        None => Continuation {
+            link: None,
+            end: eos(t, p, behind),
+        },
     }
 }
 
@@ -117,16 +142,24 @@ pub fn link<L: Ledger>(
     ensures marked { IsMarked t.now joined.new }
     ensures steps { steps.new ≡ steps.old + size_of t.now }
 {
-    let mut next = None;
+    let mut behind = Behind {
+        next: None,
+        level: t.base(),
+        end: t.base().direction(),
+    };
     for p in (0..t.len()).rev() {
         steps.tick();
-        let link = successor(t, p, next);
+        let Continuation { link, end } = go_on(t, p, &behind, ends);
         links[p] = link_to(link);
-        ends[p] = end(t, p, next, link, ends);
+        ends[p] = end;
         joined[p] = false;
         mark(link, joined);
-        if t.level(p).is_some() {
-            next = Some(p);
+        if let Some(level) = t.level(p) {
+            behind = Behind {
+                next: Some(p),
+                level,
+                end,
+            };
         }
     }
 }

@@ -1,32 +1,39 @@
-use Rattle.std.proofs.Common.{arith, rules, ◌-◌, ◌≡◌, ℕ, sym, subst}
+use Rattle.std.specs.Prelude.{Option, Some, None, is_some, unwrap_or}
+use Rattle.std.proofs.Common.{arith, ap, ◌-◌, ◌≡◌, ◌∙◌, ℕ, sym, subst}
 use Rattle.std.proofs.lemmas.Bool.{cond-true, cond-false}
-use Rattle.units.specs.Runs.{remains, size_of, successor}
-use Rattle.sequences.proofs.Backward.{back_next, back_later, back_within, back_step}
+use Rattle.units.specs.Runs.{level_of, remains, size_of, successor}
+use Rattle.sequences.proofs.Backward.{back_known, back_step, end_is}
 use Rattle.sequences.proofs.Marks.{AreMarked, marked_all}
 use Rattle.sequences.proofs.linking.link.Goals as goal
 
-pub successor-link-requires-clause-later : goal.successor-link-requires-clause-later
-successor-link-requires-clause-later g c = back_later c.loop-p.invariant.0 (c.loop-p.p - 1) (omega arith)
+pub go_on-link-requires-clause-known : goal.go_on-link-requires-clause-known
+go_on-link-requires-clause-known g c =
+    back_known c.args.t.now c.loop-p.p c.loop-p.behind c.loop-p.links c.loop-p.ends c.loop-p.joined c.loop-p.invariant.0 c.loop-p.invariant.1 (c.loop-p.p - 1) (omega arith)
 
-pub successor-link-requires-clause-next : goal.successor-link-requires-clause-next
-successor-link-requires-clause-next g c = back_next c.loop-p.invariant.0 (c.loop-p.p - 1) (omega arith)
-
-pub end-requires-clause-within : goal.end-requires-clause-within
-end-requires-clause-within g c = back_within c.loop-p.invariant.0 (c.loop-p.p - 1) (omega arith)
-
-pub loop-p-preserved-then-is_some : goal.loop-p-preserved-then-is_some
-loop-p-preserved-then-is_some g c = (
-  rw (c.link_to.ensures, c.mark.ensures) (back_step c.loop-p.invariant.0 (c.loop-p.p - 1) (omega arith) c.len-p.ensures.leveled c.successor-link.result c.successor-link.ensures.value
-      c.end.result c.end.ensures _ (sym (cond-true (remains c.args.t.now (c.loop-p.p - 1)) _ _ (search rules)))),
-  omega arith,
-)
+pub loop-p-preserved-in-Some : goal.loop-p-preserved-in-Some
+loop-p-preserved-in-Some g c =
+    let t = c.args.t.now in
+    let p = c.loop-p.p - 1 in
+    let here : level_of t p ≡ Some c.in-Some.level = sym c.level.ensures.value ∙ c.in-Some.is in (
+      rw (c.link_to.ensures, c.mark.ensures) (back_step c.loop-p.invariant.0 p (omega arith) c.len-p.ensures.leveled c.go_on-link.result.link c.go_on-link.ensures.link
+          c.go_on-link.result.end c.go_on-link.ensures.end _ (sym (cond-true (remains t p) _ _ (ap is_some here)))),
+      (
+        sym (ap (λ (o : Option ℕ). unwrap_or o t.base) here),
+        end_is c.loop-p.invariant.0 p (omega arith) c.len-p.ensures.leveled c.go_on-link.result.link c.go_on-link.ensures.link c.go_on-link.result.end c.go_on-link.ensures.end,
+      ),
+      omega arith,
+    )
 
 pub loop-p-preserved : goal.loop-p-preserved
-loop-p-preserved g c = (
-  rw (c.link_to.ensures, c.mark.ensures) (back_step c.loop-p.invariant.0 (c.loop-p.p - 1) (omega arith) c.len-p.ensures.leveled c.successor-link.result c.successor-link.ensures.value
-      c.end.result c.end.ensures _ (sym (cond-false (remains c.args.t.now (c.loop-p.p - 1)) _ _ (search rules)))),
-  omega arith,
-)
+loop-p-preserved g c =
+    let t = c.args.t.now in
+    let p = c.loop-p.p - 1 in
+    let here : level_of t p ≡ None = sym c.level.ensures.value ∙ c.in_default.is in (
+      rw (c.link_to.ensures, c.mark.ensures) (back_step c.loop-p.invariant.0 p (omega arith) c.len-p.ensures.leveled c.go_on-link.result.link c.go_on-link.ensures.link
+          c.go_on-link.result.end c.go_on-link.ensures.end _ (sym (cond-false (remains t p) _ _ (ap is_some here)))),
+      c.loop-p.invariant.1,
+      omega arith,
+    )
 
 pub returns-clause-marked : goal.returns-clause-marked
 returns-clause-marked g c =

@@ -1,7 +1,10 @@
 use Rattle.std.proofs.Common.{◌≡◌, ◌+◌}
 use Rattle.units.specs.Runs.{size_of}
-use Rattle.sequences.proofs.Backward.{BackWalk}
+use Rattle.sequences.proofs.Backward.{BackWalk, IsBehind}
 use Rattle.sequences.proofs.linking.link.Given as goal
 
 abbrev pub invariant-loop-p : goal.invariant-loop-p
-invariant-loop-p g l = BackWalk l.t l.p l.next l.links l.ends l.joined × (l.steps + l.p ≡ l.fn.steps + size_of l.t)
+invariant-loop-p g l =
+    BackWalk l.t l.p l.behind.next l.links l.ends l.joined
+    × IsBehind l.t l.behind
+    × (l.steps + l.p ≡ l.fn.steps + size_of l.t)
