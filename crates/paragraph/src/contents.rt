@@ -112,7 +112,7 @@ impl Contents {
         }
     }
 
-    /// P2: the side of the first strong class, in an isolate or not.
+    /// P2: the side of the first strong class, be it in an isolate or not.
     pub fn side(&self) -> Side
         ensures { (cs : List BidiClass) → Describes self.now cs → result ≡ side_by (find is_strong cs) }
     {
@@ -120,8 +120,8 @@ impl Contents {
     }
 }
 
-/// P1: the first paragraph of a text, of which the positions before `start` were looked at: these classes stand there,
-/// and `strong` is the first strong one (P2). A step for each unit from `start` on.
+/// P1: the first paragraph of a text that was scanned up to `start`: `before` are the classes of the units before it,
+/// and `strong` is the first strong one of them (P2). A step for each unit from `start` on.
 fn scan_behind<L: Ledger>(
     text: &[Unit],
     start: usize,
@@ -158,7 +158,8 @@ fn scan_behind<L: Ledger>(
 }
 
 impl FirstParagraph {
-    /// P1: the first paragraph of a text, and what it contains, a step for each of its units.
+    /// P1: the first paragraph of a text, and what it contains, a step for each of its units. Behind its first strong
+    /// class only classes and the separator are looked for.
     pub fn of<L: Ledger>(text: &[Unit], steps: &mut Steps<L>) -> FirstParagraph
         ensures first { IsFirstOf result text.now }
         ensures within { result.length ≤ length text.now }

@@ -7,7 +7,7 @@ ghost use Rattle.units.specs.Paragraphs.{SeparatorOnlyLast};
 ghost use Rattle.units.specs.Runs.{leveled_of, sequences_of};
 ghost use Rattle.explicit.specs.ExplicitLevels.{HoldsLevels};
 ghost use Rattle.explicit.specs.IsolateMaps.{IsFilledFrom, room};
-ghost use Rattle.flat.specs.Flat.{IsFlat, flat_para_level};
+ghost use Rattle.flat.specs.Flat.{IsFlat};
 ghost use Rattle.flat.specs.IdleRules.{HasNone};
 ghost use Rattle.flat.specs.Uniform.{kept_level};
 ghost use Rattle.paragraph.specs.FirstSides.{side_by};

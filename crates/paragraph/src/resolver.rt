@@ -198,14 +198,8 @@ impl Resolver {
     {
         // BD9, P2, P3.
         let flat = contents.is_flat();
-        let level = find_level(
-            para,
-            flat,
-            contents.side(),
-            direction,
-            &mut self.isolates,
-            steps,
-        );
+        let side = contents.side();
+        let level = find_level(para, flat, side, direction, &mut self.isolates, steps);
 
         // X1 to I2, where nothing can leave that level.
         let whole = contents.is_whole();
