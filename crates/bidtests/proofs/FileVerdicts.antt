@@ -1,5 +1,5 @@
 -- The verdict on the bytes of a file, in the words of the headline.
-use Rattle.std.proofs.Common.{◌≡◌, ◌↔◌, ℕ, List, sym, subst, ◌∙◌}
+use Rattle.std.proofs.Common.{◌≡◌, ◌↔◌, ℕ, List, sym, ◌∙◌}
 use Rattle.units.specs.Limits.{LimitsOf}
 use Rattle.units.specs.Text.{lines_of}
 use Rattle.bidtests.specs.declared.kind.Kind.{Kind}
@@ -8,7 +8,7 @@ use Rattle.bidtests.specs.FileKinds.{findings_by, verdict_of}
 use Rattle.bidtests.specs.Headline.{Says}
 use Rattle.bidtests.proofs.Judged.{verdict-of}
 use Rattle.bidtests.proofs.FileLines.{findings-ordered}
-use Rattle.bidtests.proofs.VerdictsSay.{verdict-says, verdict-law}
+use Rattle.bidtests.proofs.VerdictsSay.{verdict-law}
 
 pub file-law : (limits : LimitsOf) (kind : Kind) (bytes : List ℕ) (v : Verdict) → (verdict_of limits kind bytes ≡ v) ↔ Says limits (findings_by kind (lines_of bytes)) v
 file-law limits kind bytes v =

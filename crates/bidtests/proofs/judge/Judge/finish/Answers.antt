@@ -1,4 +1,4 @@
-use Rattle.std.proofs.Common.{◌≡◌, ap, sym, subst, ◌∙◌}
+use Rattle.std.proofs.Common.{ap, sym, subst, ◌∙◌}
 use Rattle.bidtests.specs.FileKinds.{verdict_of}
 use Rattle.bidtests.specs.Standing.{Judging, Judges, judging}
 use Rattle.bidtests.proofs.FileVerdicts.{file-says}
