@@ -3,18 +3,12 @@ use Rattle.std.proofs.Common.{◌≡◌, ℕ, ◌+◌, ◌-◌, ◌<◌, ◌≤�
 use Rattle.std.specs.Prelude.{filter}
 use Rattle.units.specs.Layout.{LineLayout, line_of, lines_from}
 use Rattle.units.specs.Positions.{positions_from}
+use Rattle.lines.specs.LineEnds.{Cuts}
 
 -- the lines of the last count positions
 abbrev pub lines_left : List (Option ℕ) → (ℕ → Bool) → ℕ → ℕ → ℕ → List LineLayout
 lines_left levels test start end zero = []
 lines_left levels test start end (suc count) = lines_from levels start (filter test (positions_from (start + 1) count)) end
-
--- the next line ends at the position
-pub record Cuts (test : ℕ → Bool) (start end stop : ℕ) : Type 0 where
-  pub above : start < end
-  pub within : end ≤ stop
-  pub none : (p : ℕ) → start < p → p < end → test p ≡ false
-  pub here : end < stop → test end ≡ true
 
 passes_none : (test : ℕ → Bool) (start count rest : ℕ) → ((p : ℕ) → start ≤ p → p < start + count → test p ≡ false) → filter test (positions_from start (count + rest)) ≡ filter test (positions_from (start + count) rest)
 passes_none test start zero rest none =

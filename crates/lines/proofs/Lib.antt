@@ -14,6 +14,7 @@ pub mod TextEnd
 pub mod KeptLevels
 pub mod RemovedLevels
 pub mod Cuts
+pub mod LineEnds
 pub mod NextLine
 pub mod ParagraphLines
 pub mod LinesWritten

@@ -1,19 +1,21 @@
 -- The lines of a text, written one after the other.
 use Rattle.std.proofs.Common.{◌≡◌, ℕ, ◌+◌, ◌-◌, ◌<◌, ◌≤◌, Bool, Option, List, [], ◌∷◌, ◌++◌, length, drop, zero, suc, refl, sym, ap, ◌∙◌, subst, inl, inr, arith, append_assoc, length-append}
-use Rattle.std.specs.Prelude.{map, slice_range}
+use Rattle.std.specs.Prelude.{filter, map, slice_range}
 use Rattle.std.specs.List.{All}
-use Rattle.std.proofs.lemmas.List.{take_all, take-append-le, drop_at, map_push}
+use Rattle.std.proofs.lemmas.List.{append-nil, take_all, take-append-le, drop_at, map_push}
 use Rattle.std.proofs.Math.ListN.{get_or-append}
 use Rattle.std.proofs.Math.Seq.{get_or-append_seam}
 use Rattle.std.proofs.lemmas.List.Elements.{All-nil, All-append}
 use Rattle.std.proofs.lemmas.Slice.{between_is}
 use Rattle.std.proofs.lemmas.Bool.{cases_lt}
-use Rattle.units.specs.Layout.{LineLayout, line_of}
+use Rattle.units.specs.Layout.{LineLayout, line_of, lines_cut_at, lines_from}
 use Rattle.units.specs.Positions.{positions_from}
-use Rattle.units.specs.Reordering.{line_order}
+use Rattle.units.specs.Reordering.{begins_line, cuts_of, line_order}
+use Rattle.units.specs.declared.class.Class.{Class}
 use Rattle.lines.specs.declared.bounds.Bound.{Bound}
 use Rattle.lines.specs.Bounds.{first_bound, bound_at, line_between, line_in, lines_in, Follows, AreBounds}
-use Rattle.lines.proofs.Cuts.{Cuts, lines_left, lines_left-next}
+use Rattle.lines.specs.LineEnds.{Cuts}
+use Rattle.lines.proofs.Cuts.{lines_left, lines_left-next}
 use Rattle.lines.proofs.Law.{line_order-places}
 use Rattle.units.proofs.Positions.{positions_from-next}
 
@@ -172,3 +174,19 @@ filling_more levels test start end orders orders2 bounds bounds2 c written few b
     subst (λ xs. Filling levels test end xs bounds2) (sym written)
     (subst (Filling levels test end (orders ++ more)) (sym (bound ∙ ap at_end len))
     (filling_next levels test start end orders bounds c (omega arith) f))
+
+-- all lines of a text are left before the first
+all_left : (levels : List (Option ℕ)) (own : List Class) (breaks : List ℕ) → length own ≡ length levels → lines_left levels (begins_line own breaks) 0 (length levels) (length levels) ≡ lines_cut_at levels (cuts_of own breaks)
+all_left [] own breaks same = refl
+all_left (level ∷ levels) own breaks same =
+    let e : length levels ≡ length own - 1 = omega arith in
+    ap (λ n. lines_from (level ∷ levels) 0 (filter (begins_line own breaks) (positions_from 1 n)) (length (level ∷ levels))) e
+
+-- at the text's end all are written
+pub filling_end : (levels : List (Option ℕ)) (own : List Class) (breaks : List ℕ) (start : ℕ) (orders : List ℕ) (bounds : List Bound) → length own ≡ length levels → start ≡ length levels → Filling levels (begins_line own breaks) start orders bounds → lines_in orders bounds ≡ lines_cut_at levels (cuts_of own breaks)
+filling_end levels own breaks start orders bounds same done f =
+    let none : length levels - start ≡ 0 = omega arith in
+    sym (append-nil (lines_in orders bounds))
+    ∙ ap (λ n. lines_in orders bounds ++ lines_left levels (begins_line own breaks) start (length levels) n) (sym none)
+    ∙ f.lines
+    ∙ all_left levels own breaks same

@@ -1,4 +1,4 @@
--- The end of the next line, by the separators and the breaks that were passed.
+-- The end of the next line, by the end of its paragraph and the breaks that were passed.
 use Rattle.std.proofs.Common.{◌≡◌, ◌≢◌, ℕ, ◌+◌, ◌-◌, ◌<◌, ◌≤◌, Bool, true, false, cond, List, length, refl, sym, ap, ◌∙◌, subst, inl, inr, arith, ne_eqb}
 use Rattle.std.specs.Prelude.{◌||◌, ◌==◌, slice_index}
 use Rattle.std.proofs.lemmas.Bool.{cases_lt, eqb-true, eqb-false, or_from, or_left, or_right}
@@ -6,33 +6,28 @@ use Rattle.units.specs.declared.class.Class.{Class}
 use Rattle.units.specs.Classes.{class_at, is_separator}
 use Rattle.units.specs.Reordering.{begins_line, is_break}
 use Rattle.lines.specs.LineBreaks.{AreBreaks}
-use Rattle.lines.specs.LineEnds.{EndsAt}
+use Rattle.lines.specs.LineEnds.{ArePassed, Cuts, IsParagraphAt}
 use Rattle.lines.proofs.BreakAt.{is_break_at, is_break_none, rising_le}
-use Rattle.lines.proofs.Cuts.{Cuts}
-
--- the breaks up to a position were passed
-pub record Passing (at : List ℕ) (passed start : ℕ) : Type 0 where
-  pub behind : (k : ℕ) → k < passed → k < length at → slice_index at k ≤ start
-  pub ahead : passed < length at → start < slice_index at passed
 
 -- none was passed at the start of the text
-pub passing_none : (at : List ℕ) (len : ℕ) → AreBreaks at len → Passing at 0 0
-passing_none at len breaks = record { behind = λ k h some. absurd (omega arith); ahead = λ h. let i = breaks.inside 0 h in i.after_start }
+pub passed_none : (at : List ℕ) (len : ℕ) → AreBreaks at len → ArePassed at 0 0
+passed_none at len breaks = record { behind = λ k h some. absurd (omega arith); ahead = λ h. let i = breaks.inside 0 h in i.after_start }
 
 -- the limit is the next break, or the end of the text
 pub record IsLimit (at : List ℕ) (passed len limit : ℕ) : Type 0 where
   pub coming : passed < length at → limit ≡ slice_index at passed
   pub last : length at ≤ passed → limit ≡ len
 
-pub limit_within : (at : List ℕ) (passed len limit : ℕ) → AreBreaks at len → IsLimit at passed len limit → limit ≤ len
-limit_within at passed len limit breaks l =
+-- it stands behind the position
+pub limit_above : (at : List ℕ) (passed len start limit : ℕ) → ArePassed at passed start → start < len → IsLimit at passed len limit → start < limit
+limit_above at passed len start limit q below l =
     elim (cases_lt passed (length at)) [
-      | inl h ↦ let b = breaks.inside passed h in let c = l.coming h in omega (arith, b.before_end)
+      | inl h ↦ let a = q.ahead h in let c = l.coming h in omega arith
       | inr h ↦ let c = l.last h in omega arith
     ]
 
 -- no break between the last one that was passed and the next one
-no_break : (at : List ℕ) (passed start len limit p : ℕ) → AreBreaks at len → Passing at passed start → IsLimit at passed len limit → start < p → p < limit → is_break at p ≡ false
+no_break : (at : List ℕ) (passed start len limit p : ℕ) → AreBreaks at len → ArePassed at passed start → IsLimit at passed len limit → start < p → p < limit → is_break at p ≡ false
 no_break at passed start len limit p breaks q l low high =
     is_break_none at p (λ k h e. elim (cases_lt k passed) [
       | inl below ↦ let b = q.behind k below h in omega arith
@@ -45,24 +40,27 @@ no_break at passed start len limit p breaks q l low high =
           omega arith
     ])
 
-begins_later : (own : List Class) (at : List ℕ) (p : ℕ) → 0 < p → begins_line own at p ≡ (is_separator (class_at own (p - 1)) || is_break at p)
+pub begins_later : (own : List Class) (at : List ℕ) (p : ℕ) → 0 < p → begins_line own at p ≡ (is_separator (class_at own (p - 1)) || is_break at p)
 begins_later own at p h = ap (λ t. t || is_separator (class_at own (p - 1)) || is_break at p) (ne_eqb p 0 (omega arith))
 
 -- the line ends where the next one begins
-pub ends_line : (own : List Class) (at : List ℕ) (passed start limit end : ℕ) → AreBreaks at (length own) → Passing at passed start → IsLimit at passed (length own) limit → EndsAt own start limit end → Cuts (begins_line own at) start end (length own)
-ends_line own at passed start limit end breaks q l e =
+pub ends_line : (own : List Class) (at : List ℕ) (passed first start limit stop end : ℕ) → AreBreaks at (length own) → ArePassed at passed start → IsLimit at passed (length own) limit → IsParagraphAt own first stop → first ≤ start → start < end → end ≤ limit → end ≤ stop → (end < limit → end ≡ stop) → Cuts (begins_line own at) start end (length own)
+ends_line own at passed first start limit stop end breaks q l paragraph from above within inside short =
     record {
-      above = e.above;
-      within = omega (arith, e.within, limit_within at passed (length own) limit breaks l);
+      above = above;
+      within = omega (arith, paragraph.within);
       none = λ p low high.
           begins_later own at p (omega arith)
-          ∙ or_from (is_separator (class_at own (p - 1))) (is_break at p) (e.joined p low high) (no_break at passed start (length own) limit p breaks q l low (omega (arith, e.within)));
+          ∙ or_from (is_separator (class_at own (p - 1))) (is_break at p) (paragraph.joined p (omega arith) (omega arith)) (no_break at passed start (length own) limit p breaks q l low (omega arith));
       here = λ h.
-          begins_later own at end (omega (arith, e.above))
+          begins_later own at end (omega arith)
           ∙ elim (cases_lt end limit) [
-            | inl below ↦ or_left (is_separator (class_at own (end - 1))) (is_break at end) (e.closed below)
-            | inr above ↦
-                let same : limit ≡ end = omega (arith, e.within) in
+            | inl below ↦
+                let same : end ≡ stop = short below in
+                or_left (is_separator (class_at own (end - 1))) (is_break at end)
+                (ap (λ n. is_separator (class_at own (n - 1))) same ∙ paragraph.closed (omega arith))
+            | inr past ↦
+                let same : limit ≡ end = omega arith in
                 elim (cases_lt passed (length at)) [
                   | inl some ↦ or_right (is_separator (class_at own (end - 1))) (is_break at end) (is_break_at at passed end some (sym (l.coming some) ∙ same))
                   | inr none ↦ absurd (let c = l.last none in omega arith)
@@ -70,8 +68,8 @@ ends_line own at passed start limit end breaks q l e =
           ];
     }
 
-passing_if : (at : List ℕ) (len passed start limit end : ℕ) (reached : Bool) → AreBreaks at len → Passing at passed start → IsLimit at passed len limit → start < end → end ≤ limit → (end == limit) ≡ reached → Passing at (passed + cond reached 1 0) end
-passing_if at len passed start limit end true breaks q l above within is =
+passed_if : (at : List ℕ) (len passed start limit end : ℕ) (reached : Bool) → AreBreaks at len → ArePassed at passed start → IsLimit at passed len limit → start < end → end ≤ limit → (end == limit) ≡ reached → ArePassed at (passed + cond reached 1 0) end
+passed_if at len passed start limit end true breaks q l above within is =
     let e : end ≡ limit = eqb-true end limit is in
     record {
       behind = λ k low high. elim (cases_lt k passed) [
@@ -89,16 +87,16 @@ passing_if at len passed start limit end true breaks q l above within is =
           let d : slice_index at (passed + 1 - 1) ≡ slice_index at passed = ap (slice_index at) same in
           omega arith;
     }
-passing_if at len passed start limit end false breaks q l above within is =
+passed_if at len passed start limit end false breaks q l above within is =
     let n : end ≢ limit = eqb-false end limit is in
     let same : passed ≡ passed + 0 = omega arith in
-    let on : Passing at passed end = record {
+    let on : ArePassed at passed end = record {
       behind = λ k low high. let b = q.behind k low high in omega arith;
       ahead = λ h. let c = l.coming h in omega arith;
     } in
-    subst (λ m. Passing at m end) same on
+    subst (λ m. ArePassed at m end) same on
 
 -- the breaks that were passed at the line's end
-pub passing_on : (at : List ℕ) (len passed passed2 start limit end : ℕ) → AreBreaks at len → Passing at passed start → IsLimit at passed len limit → start < end → end ≤ limit → passed2 ≡ passed + cond (end == limit) 1 0 → Passing at passed2 end
-passing_on at len passed passed2 start limit end breaks q l above within count =
-    subst (λ m. Passing at m end) (sym count) (passing_if at len passed start limit end (end == limit) breaks q l above within refl)
+pub passed_on : (at : List ℕ) (len passed passed2 start limit end : ℕ) → AreBreaks at len → ArePassed at passed start → IsLimit at passed len limit → start < end → end ≤ limit → passed2 ≡ passed + cond (end == limit) 1 0 → ArePassed at passed2 end
+passed_on at len passed passed2 start limit end breaks q l above within count =
+    subst (λ m. ArePassed at m end) (sym count) (passed_if at len passed start limit end (end == limit) breaks q l above within refl)

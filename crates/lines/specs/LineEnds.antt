@@ -1,11 +1,41 @@
--- Where a line ends: behind a separator (P1), or at a break.
-use Rattle.std.specs.Prelude.{ℕ, ◌-◌, ◌<◌, ◌≤◌, ◌≡◌, true, false, List}
-use Rattle.units.specs.Classes.{class_at, is_separator}
+-- Where lines end: at breaks, and with their paragraphs (P1).
+use Rattle.std.specs.Prelude.{ℕ, ◌+◌, ◌-◌, ◌<◌, ◌≤◌, ◌≡◌, Bool, true, false, List, length, slice_index}
+use Rattle.units.specs.Classes.{class_at, classes_of, is_separator}
+use Rattle.units.specs.Reordering.{begins_line}
+use Rattle.units.specs.declared.bracket.Unit.{Unit as BidiUnit}
 use Rattle.units.specs.declared.class.Class.{Class}
+use Rattle.lines.specs.Bounds.{bound_at, first_bound}
+use Rattle.lines.specs.declared.bounds.Bound.{Bound}
 
--- P1: a line from start on that no break comes into before the limit ends behind its first separator, or at the limit
-pub record EndsAt (own : List Class) (start limit end : ℕ) : Type 0 where
+-- P1: the paragraph from start on ends behind its first separator, or with the text
+pub record IsParagraphAt (own : List Class) (start end : ℕ) : Type 0 where
   pub above : start < end
-  pub within : end ≤ limit
+  pub within : end ≤ length own
   pub joined : (p : ℕ) → start < p → p < end → is_separator (class_at own (p - 1)) ≡ false
-  pub closed : end < limit → is_separator (class_at own (end - 1)) ≡ true
+  pub closed : end < length own → is_separator (class_at own (end - 1)) ≡ true
+
+-- the line from start on ends where the next one begins, or at the stop
+pub record Cuts (test : ℕ → Bool) (start end stop : ℕ) : Type 0 where
+  pub above : start < end
+  pub within : end ≤ stop
+  pub none : (p : ℕ) → start < p → p < end → test p ≡ false
+  pub here : end < stop → test end ≡ true
+
+-- the breaks up to the position were passed, and no other
+pub record ArePassed (breaks : List ℕ) (passed position : ℕ) : Type 0 where
+  pub behind : (k : ℕ) → k < passed → k < length breaks → slice_index breaks k ≤ position
+  pub ahead : passed < length breaks → position < slice_index breaks passed
+
+-- behind the first bound so many stand at the ends of lines of the text, one after another up to the position
+pub record AreLineEnds (own : List Class) (breaks : List ℕ) (lines position : ℕ) (bounds : List Bound) : Type 0 where
+  pub first : bound_at bounds 0 ≡ first_bound
+  pub cut : (k : ℕ) → k < lines → Cuts (begins_line own breaks) (bound_at bounds k).position (bound_at bounds (k + 1)).position (length own)
+  pub last : (bound_at bounds lines).position ≡ position
+
+-- the ends of all lines of the text
+abbrev pub AreAllLineEnds : List BidiUnit → List ℕ → ℕ → List Bound → Type 0
+AreAllLineEnds text breaks lines bounds = AreLineEnds (classes_of text) breaks lines (length text) bounds
+
+-- the ends of all lines of the text, as some breaks cut it
+abbrev pub AreEndsOfLines : List BidiUnit → ℕ → List Bound → Type 0
+AreEndsOfLines text lines bounds = (breaks : List ℕ) × AreAllLineEnds text breaks lines bounds

@@ -4,6 +4,7 @@
 mod bounds;
 pub mod breaks;
 mod columns;
+mod cutting;
 mod filling;
 pub mod laws;
 pub mod lay_out;

@@ -1,10 +1,14 @@
-//! The paragraph levels and the resolved levels of a text (P1 to I2).
-ghost use Rattle.std.specs.Prelude.{◌≡◌, ◌≤◌, ◌+◌, ◌*◌, length, map, take, true};
+//! The paragraph levels and the resolved levels of a text (P1 to I2), and where its lines end.
+ghost use Rattle.std.specs.Prelude.{◌≡◌, ◌<◌, ◌≤◌, ◌+◌, ◌*◌, ◌^◌, length, map, take, true};
 ghost use Rattle.units.specs.Isolates.{level_of_para};
 ghost use Rattle.units.specs.Layout.{para_levels_of, text_levels};
 ghost use Rattle.lines.specs.Kept.{keeps_levels};
+ghost use Rattle.lines.specs.LineEnds.{AreAllLineEnds};
 ghost use Rattle.lines.specs.Spaces.{StaysAtParas};
 
+use crate::bounds::Bound;
+use crate::breaks::Breaks;
+use crate::cutting::{cut_paragraph, start_cut};
 use paragraph::contents::FirstParagraph;
 use paragraph::resolver::Resolver;
 use std::sync::ledger::Ledger;
@@ -18,36 +22,48 @@ use units::steps::Steps;
 pub struct ResolvedText {
     /// How many paragraphs it has.
     pub paragraphs: usize,
+    /// How many lines it has.
+    pub lines: usize,
     /// Known to be at the level of its paragraph at each position that remains (X9), since each paragraph keeps its
     /// level.
     pub uniform: bool,
 }
 
 /// Writes the levels of a text's paragraphs to the front of `paras`, and the resolved levels of its positions to the
-/// front of `levels`, paragraph by paragraph, by these limits.
+/// front of `levels`, paragraph by paragraph, by these limits; and the ends of its lines, which each paragraph ends, to
+/// the front of `bounds`.
 pub(crate) fn resolve_text<L: Ledger>(
     text: &[Unit],
     direction: Direction,
+    breaks: &Breaks,
     limits: Limits,
     resolver: &mut Resolver,
     paras: &mut [ParaLevel],
     levels: &mut [Option<Level>],
+    bounds: &mut [Bound],
     steps: &mut Steps<L>,
 ) -> ResolvedText
+    requires len { breaks.now.len ≡ length text.now }
+    requires small { length text.now < 2 ^ 32 }
     requires resolver { length text.now ≤ resolver.old }
     requires paras { length text.now ≤ length paras.old }
     requires levels { length text.now ≤ length levels.old }
+    requires bounds { length text.now < length bounds.old }
     ensures resolver { resolver.new ≡ resolver.old }
     ensures paras { map level_of_para (take result.paragraphs paras.new) ≡ para_levels_of text.now direction }
     ensures few { result.paragraphs ≤ length text.now }
     ensures levels { take (length text.now) levels.new ≡ text_levels limits text.now direction }
+    ensures ends { AreAllLineEnds text.now breaks.now.positions result.lines bounds.new }
+    ensures few_lines { result.lines ≤ length text.now }
     ensures known { result.uniform ≡ keeps_levels text.now direction }
     ensures uniform { result.uniform ≡ true
         → StaysAtParas text.now (take result.paragraphs paras.new) (take (length text.now) levels.new) }
     ensures at_least { steps.old + 2 * length text.now ≤ steps.new }
-    ensures at_most { steps.new ≤ steps.old + 84 * length text.now }
-    ensures light { result.uniform ≡ true → steps.new ≤ steps.old + 4 * length text.now }
+    ensures at_most { steps.new ≤ steps.old + 85 * length text.now }
+    ensures light { result.uniform ≡ true → steps.new ≤ steps.old + 5 * length text.now }
 {
+    let at = breaks.positions();
+    let mut cut = start_cut(bounds);
     let mut paragraphs = 0;
     let mut uniform = true;
     let mut start = 0;
@@ -57,6 +73,7 @@ pub(crate) fn resolve_text<L: Ledger>(
         // P1.
         let first = FirstParagraph::of(&text[start..], steps);
         let end = start + first.length;
+        cut = cut_paragraph(at, text.len(), start, end, cut, bounds, steps);
 
         // P2 to I2.
         let resolved = resolver.resolve_known(
@@ -74,6 +91,7 @@ pub(crate) fn resolve_text<L: Ledger>(
     }
     ResolvedText {
         paragraphs,
+        lines: cut.lines,
         uniform,
     }
 }

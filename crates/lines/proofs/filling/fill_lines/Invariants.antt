@@ -1,24 +1,20 @@
-use Rattle.std.proofs.Common.{length, take, ◌≡◌, ◌-◌, ◌≤◌, ◌+◌, ◌*◌}
+use Rattle.std.proofs.Common.{take, ◌≡◌, ◌≤◌, ◌+◌, ◌*◌, List, ℕ}
 use Rattle.std.specs.Prelude.{IsTrue, count_by}
 use Rattle.units.specs.Classes.{classes_of, is_separator}
 use Rattle.units.specs.Reordering.{begins_line}
+use Rattle.lines.specs.Bounds.{bound_at}
+use Rattle.lines.specs.LineEnds.{AreAllLineEnds}
 use Rattle.lines.proofs.LinesWritten.{Filling}
-use Rattle.lines.proofs.NextLine.{Passing}
 use Rattle.lines.proofs.filling.fill_lines.Given as goal
 
-abbrev pub invariant-loop-start : goal.invariant-loop-start
-invariant-loop-start g l =
+abbrev pub invariant-loop-line : goal.invariant-loop-line
+invariant-loop-line g l =
     record {
-      filling : Filling l.levels (begins_line (classes_of l.own) l.at) l.start (take l.filled.positions l.orders) (take (l.filled.lines + 1) l.bounds);
-      passing : Passing l.at l.passed l.start;
-      few_passed : l.passed ≤ l.start;
-      few_lines : l.filled.lines ≤ l.start;
-      few_positions : l.filled.positions ≤ l.start;
-      counted : l.paragraph ≡ count_by is_separator (take l.start (classes_of l.own));
-      at_least : l.initial.steps + l.start ≤ l.steps;
-      at_most : l.steps ≤ l.initial.steps + 8 * l.start;
-      light : IsTrue l.uniform → l.steps ≤ l.initial.steps + 4 * l.start;
+      filling : (breaks : List ℕ) → AreAllLineEnds l.own breaks l.lines l.initial.bounds → Filling l.levels (begins_line (classes_of l.own) breaks) (bound_at l.initial.bounds l.line).position (take l.positions l.orders) (take (l.line + 1) l.bounds);
+      kept : (k : ℕ) → (bound_at l.bounds k).position ≡ (bound_at l.initial.bounds k).position;
+      few_positions : l.positions ≤ (bound_at l.initial.bounds l.line).position;
+      counted : l.paragraph ≡ count_by is_separator (take (bound_at l.initial.bounds l.line).position (classes_of l.own));
+      at_least : l.initial.steps + (bound_at l.initial.bounds l.line).position ≤ l.steps;
+      at_most : l.steps ≤ l.initial.steps + 7 * (bound_at l.initial.bounds l.line).position;
+      light : IsTrue l.uniform → l.steps ≤ l.initial.steps + 3 * (bound_at l.initial.bounds l.line).position;
     }
-
-abbrev pub decreases-loop-start : goal.decreases-loop-start
-decreases-loop-start g l = length l.own - l.start

@@ -3,7 +3,7 @@ use Rattle.std.specs.List.{list_all}
 use Rattle.std.specs.Prelude.{◌&&◌, slice_range}
 use Rattle.std.proofs.Math.Bool.{and-true, and_assoc}
 use Rattle.std.proofs.lemmas.Bool.{and_parts}
-use Rattle.std.proofs.lemmas.List.{drop_all, drop-drop, length-drop, length-take-le, take_more_set, take_rest}
+use Rattle.std.proofs.lemmas.List.{drop_all, drop-drop, length-drop, length-map, length-take-le, take_more_set, take_rest}
 use Rattle.std.proofs.lemmas.Slice.{take-put_mid}
 use Rattle.units.specs.declared.bracket.Unit.{Unit as BidiUnit}
 use Rattle.units.specs.Paragraphs.{paragraphs_of, SeparatorOnlyLast}
@@ -14,6 +14,11 @@ use Rattle.units.specs.Classes.{classes_of}
 use Rattle.paragraph.specs.Contents.{keeps_level}
 use Rattle.lines.specs.Kept.{keeps_levels, keeps_own_level}
 use Rattle.lines.proofs.AtParas.{all_stay, text_at_paras}
+use Rattle.lines.specs.LineBreaks.{AreBreaks}
+use Rattle.lines.specs.LineEnds.{AreLineEnds, ArePassed}
+use Rattle.lines.proofs.LineEnds.{ends_none}
+use Rattle.lines.proofs.NextLine.{passed_none}
+use Rattle.lines.proofs.ParagraphLines.{paragraph_from}
 use Rattle.lines.proofs.TextLevels.{IsWritten, written_none, separator_last, written_to, written_paras, written_levels}
 use Rattle.lines.proofs.resolving.resolve_text.Goals as goal
 
@@ -30,6 +35,12 @@ pub loop-start-init : goal.loop-start-init
 loop-start-init g c = record {
   written = written_none c.args.limits c.args.text.now c.args.direction c.args.levels.now;
   known = refl;
+  passed = subst (λ n. ArePassed c.positions-at.result.now n 0) (sym c.start_cut-cut.ensures.passed) (passed_none c.positions-at.result.now c.args.breaks.now.len c.positions-at.ensures.breaks);
+  ends =
+      subst (λ n. AreLineEnds (classes_of c.args.text.now) c.positions-at.result.now n 0 c.start_cut-cut.new.bounds) (sym c.start_cut-cut.ensures.lines)
+      (ends_none (classes_of c.args.text.now) c.positions-at.result.now c.start_cut-cut.new.bounds c.start_cut-cut.ensures.first);
+  few_passed = omega (arith, c.start_cut-cut.ensures.passed);
+  few_lines = omega (arith, c.start_cut-cut.ensures.lines);
   few = omega arith;
   inside = omega arith;
   resolver = search rules;
@@ -41,6 +52,9 @@ loop-start-init g c = record {
 -- the first paragraph, as a slice of the text
 piece_is : (text : List BidiUnit) (start n end : ℕ) → end ≡ start + n → slice_range text start end ≡ take n (drop start text)
 piece_is text start n end e = let m : end - start ≡ n = omega arith in ap (λ (k : ℕ). take k (drop start text)) m
+
+pub cut_paragraph-cut-requires-clause-breaks : goal.cut_paragraph-cut-requires-clause-breaks
+cut_paragraph-cut-requires-clause-breaks g c = subst (AreBreaks c.positions-at.result.now) c.requires.len c.positions-at.ensures.breaks
 
 pub resolve_known-resolved-requires-clause-separators : goal.resolve_known-resolved-requires-clause-separators
 resolve_known-resolved-requires-clause-separators g c =
@@ -81,6 +95,13 @@ loop-start-preserved g c =
           ∙ ap (λ b. l.uniform && (b && list_all keeps (paragraphs_of (drop end text)))) (known.ensures.known ∙ ap (λ n. keeps_level n (classes_of para)) known.ensures.level)
           ∙ ap (λ pieces. l.uniform && list_all keeps pieces) (sym split)
           ∙ l.invariant.known;
+      passed = c.cut_paragraph-cut.ensures.passed;
+      ends =
+          c.cut_paragraph-cut.ensures.ends (classes_of text) (length-map text (λ u. u.class))
+          (paragraph_from text l.start n c.loop-start-test.true (c.of-first.ensures.first.length ∙ ap first_length (take_rest text l.start)) some within)
+          l.invariant.ends;
+      few_passed = c.cut_paragraph-cut.ensures.few_passed;
+      few_lines = c.cut_paragraph-cut.ensures.few_lines;
       few = omega (arith, l.invariant.few);
       inside = omega arith;
       resolver = search rules;

@@ -1,8 +1,10 @@
 use Rattle.std.proofs.Common.{◌≡◌, ◌≤◌, ◌+◌, ◌-◌, ◌*◌, drop, length, take, true}
 use Rattle.std.specs.Prelude.{◌&&◌}
 use Rattle.std.specs.List.{list_all}
+use Rattle.units.specs.Classes.{classes_of}
 use Rattle.units.specs.Paragraphs.{paragraphs_of}
 use Rattle.lines.specs.Kept.{keeps_levels, keeps_own_level}
+use Rattle.lines.specs.LineEnds.{AreLineEnds, ArePassed}
 use Rattle.lines.proofs.TextLevels.{IsWritten}
 use Rattle.lines.proofs.resolving.resolve_text.Given as goal
 
@@ -10,12 +12,16 @@ abbrev pub invariant-loop-start : goal.invariant-loop-start
 invariant-loop-start g l = record {
   written : IsWritten l.limits l.text l.direction l.start (take l.paragraphs l.paras) l.levels (paragraphs_of (drop l.start l.text));
   known : (l.uniform && list_all (keeps_own_level l.direction) (paragraphs_of (drop l.start l.text))) ≡ keeps_levels l.text l.direction;
+  passed : ArePassed l.at l.cut.passed l.start;
+  ends : AreLineEnds (classes_of l.text) l.at l.cut.lines l.start l.bounds;
+  few_passed : l.cut.passed ≤ l.start;
+  few_lines : l.cut.lines ≤ l.start;
   few : l.paragraphs ≤ l.start;
   inside : l.start ≤ length l.text;
   resolver : l.resolver ≡ l.initial.resolver;
   at_least : l.initial.steps + 2 * l.start ≤ l.steps;
-  at_most : l.steps ≤ l.initial.steps + 84 * l.start;
-  light : l.uniform ≡ true → l.steps ≤ l.initial.steps + 4 * l.start;
+  at_most : l.steps ≤ l.initial.steps + 85 * l.start;
+  light : l.uniform ≡ true → l.steps ≤ l.initial.steps + 5 * l.start;
 }
 
 abbrev pub decreases-loop-start : goal.decreases-loop-start

@@ -1,0 +1,89 @@
+//! Where the lines of a text end: at its breaks, and with its paragraphs, each behind its separator (P1).
+ghost use Rattle.std.specs.Prelude.{◌≡◌, ◌<◌, ◌≤◌, ◌+◌, ◌-◌, ◌^◌, List, length, slice_index};
+ghost use Rattle.units.specs.declared.class.Class.{Class as BidiClass};
+ghost use Rattle.lines.specs.Bounds.{bound_at, first_bound};
+ghost use Rattle.lines.specs.LineBreaks.{AreBreaks};
+ghost use Rattle.lines.specs.LineEnds.{AreLineEnds, ArePassed, IsParagraphAt};
+
+use crate::bounds::Bound;
+use std::sync::ledger::Ledger;
+use units::steps::Steps;
+
+/// How far a text is cut into lines.
+#[derive(Clone, Copy)]
+pub struct Cut {
+    /// How many of its breaks were passed.
+    pub passed: usize,
+    /// How many of its lines have their bounds.
+    pub lines: usize,
+}
+
+/// The first break that was not passed, or the text's end.
+fn next_break(at: &[usize], passed: usize, len: usize) -> usize
+    ensures coming { passed < length at.now → result ≡ slice_index at.now passed }
+    ensures last { length at.now ≤ passed → result ≡ len }
+{
+    if passed < at.len() { at[passed] } else { len }
+}
+
+/// Begins to cut a text: writes the bound before its first line.
+pub(crate) fn start_cut(bounds: &mut [Bound]) -> Cut
+    requires { 0 < length bounds.old }
+    ensures first { bound_at bounds.new 0 ≡ first_bound }
+    ensures passed { result.passed ≡ 0 }
+    ensures lines { result.lines ≡ 0 }
+{
+    bounds[0] = Bound {
+        position: 0,
+        order: 0,
+    };
+    Cut {
+        passed: 0,
+        lines: 0,
+    }
+}
+
+/// Cuts one paragraph more into lines, and writes their ends behind the bounds of the lines before it. A break where
+/// it ends is passed with it, and makes no empty line. `at` are the breaks of the text, and `len` is its length.
+pub(crate) fn cut_paragraph<L: Ledger>(
+    at: &[usize],
+    len: usize,
+    start: usize,
+    end: usize,
+    cut: Cut,
+    bounds: &mut [Bound],
+    steps: &mut Steps<L>,
+) -> Cut
+    requires breaks { AreBreaks at.now len }
+    requires some { start < end }
+    requires within { end ≤ len }
+    requires small { end < 2 ^ 32 }
+    requires bounds { end < length bounds.old }
+    requires passed { ArePassed at.now cut.passed start }
+    requires few_passed { cut.passed ≤ start }
+    requires few_lines { cut.lines ≤ start }
+    ensures ends { (own : List BidiClass) → length own ≡ len → IsParagraphAt own start end
+        → AreLineEnds own at.now cut.lines start bounds.old
+        → AreLineEnds own at.now result.lines end bounds.new }
+    ensures passed { ArePassed at.now result.passed end }
+    ensures few_passed { result.passed ≤ end }
+    ensures few_lines { result.lines ≤ end }
+    ensures at_least { steps.old ≤ steps.new }
+    ensures at_most { steps.new ≤ steps.old + (end - start) }
+{
+    let mut passed = cut.passed;
+    let mut lines = cut.lines;
+    let mut position = start;
+    while position < end {
+        steps.tick();
+        let limit = next_break(at, passed, len);
+        position = limit.min(end);
+        passed += usize::from(position == limit);
+        lines += 1;
+        bounds[lines] = Bound {
+            position: position as u32,
+            order: 0,
+        };
+    }
+    Cut { passed, lines }
+}
