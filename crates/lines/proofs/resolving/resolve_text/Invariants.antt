@@ -21,7 +21,7 @@ invariant-loop-start g l = record {
   resolver : l.resolver ≡ l.initial.resolver;
   at_least : l.initial.steps + 2 * l.start ≤ l.steps;
   at_most : l.steps ≤ l.initial.steps + 85 * l.start;
-  light : l.uniform ≡ true → l.steps ≤ l.initial.steps + 5 * l.start;
+  light : l.uniform ≡ true → l.steps ≤ l.initial.steps + 4 * l.start;
 }
 
 abbrev pub decreases-loop-start : goal.decreases-loop-start
