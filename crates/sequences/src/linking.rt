@@ -149,12 +149,13 @@ pub fn link<L: Ledger>(
     };
     for p in (0..t.len()).rev() {
         steps.tick();
+        let level = t.level(p);
         let Continuation { link, end } = go_on(t, p, &behind, ends);
         links[p] = link_to(link);
         ends[p] = end;
         joined[p] = false;
         mark(link, joined);
-        if let Some(level) = t.level(p) {
+        if let Some(level) = level {
             behind = Behind {
                 next: Some(p),
                 level,

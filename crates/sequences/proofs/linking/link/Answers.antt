@@ -14,7 +14,7 @@ pub loop-p-preserved-in-Some : goal.loop-p-preserved-in-Some
 loop-p-preserved-in-Some g c =
     let t = c.args.t.now in
     let p = c.loop-p.p - 1 in
-    let here : level_of t p ≡ Some c.in-Some.level = sym c.level.ensures.value ∙ c.in-Some.is in (
+    let here : level_of t p ≡ Some c.in-Some.level = sym c.level-level.ensures.value ∙ c.in-Some.is in (
       rw (c.link_to.ensures, c.mark.ensures) (back_step c.loop-p.invariant.0 p (omega arith) c.len-p.ensures.leveled c.go_on-link.result.link c.go_on-link.ensures.link
           c.go_on-link.result.end c.go_on-link.ensures.end _ (sym (cond-true (remains t p) _ _ (ap is_some here)))),
       (
@@ -28,7 +28,7 @@ pub loop-p-preserved : goal.loop-p-preserved
 loop-p-preserved g c =
     let t = c.args.t.now in
     let p = c.loop-p.p - 1 in
-    let here : level_of t p ≡ None = sym c.level.ensures.value ∙ c.in_default.is in (
+    let here : level_of t p ≡ None = sym c.level-level.ensures.value ∙ c.in_default.is in (
       rw (c.link_to.ensures, c.mark.ensures) (back_step c.loop-p.invariant.0 p (omega arith) c.len-p.ensures.leveled c.go_on-link.result.link c.go_on-link.ensures.link
           c.go_on-link.result.end c.go_on-link.ensures.end _ (sym (cond-false (remains t p) _ _ (ap is_some here)))),
       c.loop-p.invariant.1,
