@@ -1,20 +1,20 @@
 use Rattle.std.proofs.Common.{◌≡◌, ◌<◌, ◌+◌, ◌-◌, ◌++◌, [], ◌∷◌, ℕ, List, Option, Bool, true, false, length, take, arith, sym, refl, ap, ◌∙◌, subst}
 use Rattle.std.specs.Prelude.{IfSome, count_by, map, slice_index_or, slice_set}
 use Rattle.std.specs.Bool.{then_some}
-use Rattle.std.proofs.lemmas.List.{length-map, length-take-le, take_more_set}
+use Rattle.std.proofs.lemmas.List.{length-map, length-take-le, take_more, take_more_set}
 use Rattle.units.specs.Classes.{classes_of, is_separator}
 use Rattle.units.specs.Isolates.{level_of_para}
 use Rattle.units.specs.declared.level.ParaLevel.{ParaLevel}
 use Rattle.units.specs.declared.level.ParaLevel.TheVariants.{Zero}
 use Rattle.units.specs.Reordering.{begins_line, para_level_at}
-use Rattle.lines.specs.Bounds.{AreBounds, bound_at}
+use Rattle.lines.specs.Bounds.{AreBounds, bound_at, first_bound}
 use Rattle.lines.specs.declared.bounds.Bound.{Bound}
 use Rattle.lines.specs.LineEnds.{Cuts}
 use Rattle.lines.specs.Turning.{IsAtOneLevel}
 use Rattle.lines.proofs.BoolBytes.{bool_byte-is}
 use Rattle.explicit.proofs.Roles.{class_read}
 use Rattle.lines.proofs.LineEnds.{cut_read, end_kept}
-use Rattle.lines.proofs.LinesWritten.{Filling, filling_end, filling_more}
+use Rattle.lines.proofs.LinesWritten.{Filling, filling_end, filling_more, filling_start}
 use Rattle.lines.proofs.ParagraphLines.{counted_on, line_uniform, para_read}
 use Rattle.lines.proofs.Separators.{paragraph_at}
 use Rattle.lines.proofs.filling.fill_lines.Goals as goal
@@ -32,6 +32,22 @@ known_level false levels start end level para e u = tt
 where_known : {P : Type 0} (known : Bool) (para : ParaLevel) (level : Option ParaLevel) → level ≡ then_some known para → IfSome level (λ _. P) → known ≡ true → P
 where_known {P} true para level e said is = subst (λ o. IfSome o (λ _. P)) e said
 where_known {P} false para level e said is = cc
+
+pub loop-line-init : goal.loop-line-init
+loop-line-init g c =
+    let bounds = c.args.bounds.now in
+    let first = c.requires.ends.1.first in
+    let start : (bound_at bounds 0).position ≡ 0 = ap (λ (b : Bound). b.position) first in
+    let one : take (0 + 1) bounds ≡ first_bound ∷ [] = take_more bounds 0 first_bound (omega arith) ∙ ap (λ (b : Bound). b ∷ []) first in
+    record {
+      filling = λ breaks all. rw (start, one) (filling_start c.args.levels.now (begins_line (classes_of c.args.own.now) breaks));
+      kept = λ k. refl;
+      few_positions = omega arith;
+      counted = ap (λ n. count_by is_separator (take n (classes_of c.args.own.now))) (sym start);
+      at_least = omega arith;
+      at_most = omega arith;
+      light = λ known. omega arith;
+    }
 
 pub bounds-paras-paragraph : goal.bounds-paras-paragraph
 bounds-paras-paragraph g c =
