@@ -54,9 +54,6 @@ entries-some depth cs para qs =
     let l = last_entry depth cs para qs in
     rw (l.2, length-append l.0 (entry_of (state_within depth cs para qs) l.1 ∷ [])) (omega arith)
 
-pub represented-some : (depth : ℕ) (cs : List Class) (para : ℕ) (qs : List ℕ) (n : StatusStack) → Represents depth cs para qs n → 0 < length n.entries.items
-represented-some depth cs para qs n r = let short : length n.entries.items ≡ length (entries_of depth cs para qs) = ap length r.entries in rw short (entries-some depth cs para qs)
-
 -- nothing to pop
 pub pdf-kept : (depth : ℕ) (cs : List Class) (para : ℕ) (qs : List ℕ) (n : StatusStack) → Represents depth cs para qs n → n.overflow_isolates ≤ 0 → n.overflow_embeddings ≤ 0 → (length n.entries.items < 2) ⊎ ((d : Status) × ((last_of n.entries.items d).is_isolate ≡ true)) → Represents depth cs para (after_pdf cs qs) n
 pdf-kept depth cs para qs n r z h k =

@@ -33,6 +33,13 @@ RefusesInitiator is_isolate old new =
     → is_taken depth cs para_level p qs ≡ false → is_isolate ≡ is_isolate_initiator (class_at cs p)
     → Represents depth cs para_level qs old → Represents depth cs para_level (p ∷ qs) new
 
+-- X5a to X6a: the level and the current class of a position of this class, which is neither removed nor a separator
+abbrev pub GivesPlaceInside : StatusStack → Class → ℕ × Class → Type 0
+GivesPlaceInside stack class place =
+    (depth : ℕ) (cs : List Class) (para_level : ℕ) (qs : List ℕ)
+    → is_removed class ≡ false → is_separator class ≡ false → Represents depth cs para_level qs stack
+    → Some place ≡ place_in (state_within depth cs para_level qs) para_level class
+
 -- X5a to X9: the level and the current class of a position of this class, or none where it is removed
 abbrev pub GivesPlace : StatusStack → ℕ → Class → Option (ℕ × Class) → Type 0
 GivesPlace stack para_level class place =

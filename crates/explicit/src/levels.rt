@@ -102,17 +102,15 @@ fn find_places<L: Ledger>(
     ensures most_steps { steps.new ≤ steps.old + (2 * length para.now + 1) }
 {
     stack.begin(base);
-    let mut current = stack.current();
     for (p, unit) in para.iter().enumerate() {
         steps.tick();
         if is_ordinary(unit.class) {
-            places[p] = Some(current.place_of(unit.class));
+            places[p] = Some(stack.place_inside(unit.class));
         } else {
             stack.close(unit.class, steps);
             places[p] = stack.place(unit.class, base);
             let odd = asks_odd(unit.class, map.is_right_to_left(p));
             stack.open(unit.class, odd, depth);
-            stack.write_current(&mut current);
         }
     }
     stack.clear(steps);

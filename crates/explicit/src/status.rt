@@ -1,11 +1,11 @@
 //! The initiators that are open, as one pass over a paragraph keeps them (X1 to X8).
-ghost use Rattle.std.specs.Prelude.{◌≡◌, ◌<◌, ◌≤◌, ◌+◌, ◌-◌, ◌==◌, ◌&&◌, nat_le, false, ℕ, List, [], ◌∷◌, Some, slice_index_or, unwrap_or, if◌then◌else◌};
+ghost use Rattle.std.specs.Prelude.{◌≡◌, ◌<◌, ◌≤◌, ◌+◌, ◌-◌, ◌==◌, ◌&&◌, nat_le, false, ℕ, List, [], ◌∷◌, Some, slice_index_or, if◌then◌else◌};
 ghost use Rattle.units.specs.Classes.{is_isolate_initiator, is_removed, is_separator};
 ghost use Rattle.units.specs.Explicit.{next_odd, next_even, override_of};
 ghost use Rattle.units.specs.declared.class.Class.{Class};
 ghost use Rattle.explicit.specs.OpenInitiators.{after_pdi, after_pdf, left_open, opened};
 ghost use Rattle.explicit.specs.StatusStacks.{Represents, IsKept, before_isolate, entry_count, is_ordinary};
-ghost use Rattle.explicit.specs.StackChanges.{Closes, Opens, TakesInitiator, RefusesInitiator, GivesPlace};
+ghost use Rattle.explicit.specs.StackChanges.{Closes, Opens, TakesInitiator, RefusesInitiator, GivesPlaceInside, GivesPlace};
 
 use arrayvec::ArrayVec;
 use std::sync::ledger::Ledger;
@@ -19,16 +19,6 @@ pub struct Status {
     pub level: Level,
     pub override_class: Option<Class>,
     pub is_isolate: bool,
-}
-
-impl Status {
-    /// X5a to X6a: the level and the current class of a position of this class inside, which is neither removed nor a
-    /// separator.
-    pub fn place_of(self, class: Class) -> (Level, Class)
-        ensures { result ≡ (self.level, unwrap_or self.override_class class) }
-    {
-        (self.level, self.override_class.unwrap_or(class))
-    }
 }
 
 impl Default for Status {
@@ -135,20 +125,22 @@ impl StatusStack {
         self.entries.clear();
     }
 
-    /// What holds inside the innermost initiator that was taken, or in the paragraph outside of all.
-    pub fn current(&self) -> Status
+    // What holds inside the innermost initiator that was taken.
+    fn current(&self) -> Status
         requires { 0 < entry_count self.now }
         ensures { result ≡ slice_index_or self.now.entries.items (entry_count self.now - 1) result }
     {
         self.entries[self.entries.len() - 1]
     }
 
-    /// Writes that over an earlier status.
-    pub fn write_current(&self, status: &mut Status)
-        requires { 0 < entry_count self.now }
-        ensures { status.new ≡ slice_index_or self.now.entries.items (entry_count self.now - 1) status.new }
+    /// X5a to X6a: the level and the current class of a position of this class, which is neither removed nor a
+    /// separator.
+    pub fn place_inside(&self, class: Class) -> (Level, Class)
+        requires { IsKept self.now }
+        ensures { GivesPlaceInside self.now class result }
     {
-        *status = self.current();
+        let current = self.current();
+        (current.level, current.override_class.unwrap_or(class))
     }
 
     /// X5a to X9: the level and the current class of a position of this class, or none where it is removed.
@@ -162,7 +154,7 @@ impl StatusStack {
         if class.is_separator() {
             return Some((base, class));
         }
-        Some(self.current().place_of(class))
+        Some(self.place_inside(class))
     }
 
     // X6a: drops the entries from the last isolate's on.

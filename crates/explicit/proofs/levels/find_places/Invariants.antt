@@ -4,13 +4,11 @@ use Rattle.units.specs.Classes.{classes_of}
 use Rattle.units.specs.Explicit.{explicit_at}
 use Rattle.explicit.specs.StatusStacks.{Represents, entry_count}
 use Rattle.explicit.proofs.Places.{open_before}
-use Rattle.explicit.proofs.Represented.{last_of}
 use Rattle.explicit.proofs.levels.find_places.Given as goal
 
 abbrev pub invariant-loop-p : goal.invariant-loop-p
 invariant-loop-p g l = record {
   keeps : Represents l.depth (classes_of l.para) l.base (open_before (classes_of l.para) l.p) l.stack;
-  current : l.current ≡ last_of l.stack.entries.items l.current;
   filled : (k : ℕ) → k < l.p → get_or l.places k None ≡ explicit_at l.depth (classes_of l.para) l.base k;
   least : l.fn.steps + l.p ≤ l.steps;
   most : l.steps + entry_count l.stack ≤ l.fn.steps + (2 * l.p + 1);
