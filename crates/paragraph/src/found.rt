@@ -115,8 +115,8 @@ fn begin_flat<L: Ledger>(
     opened
 }
 
-/// X1 to X8: writes the classes before W1 into both columns, and no levels: the own ones of a `flat` paragraph, and else
-/// those that were found. Answers whether it has an opening bracket.
+/// X1 to X8: writes the classes before W1 into both columns, and no levels: the own ones of a `flat` paragraph, and
+/// else those that were found. Answers whether it has an opening bracket.
 fn begin<L: Ledger>(
     para: &[Unit],
     flat: bool,

@@ -3,7 +3,7 @@ use Rattle.std.proofs.Common.{◌≡◌, ◌≢◌, ℕ, ◌+◌, ◌<◌, ◌�
 use Rattle.std.proofs.lemmas.Bool.{eqb-true}
 use Rattle.std.proofs.lemmas.List.{length-take, get_or-take, take_more, take_all}
 use Rattle.memchr.specs.Find.{IsFirstByte, is_byte}
-use Rattle.std.proofs.lemmas.List.Elements.{All-append, All-push, All-nil, All-from_get_or}
+use Rattle.std.proofs.lemmas.List.Elements.{All-append, All-push, All-from_get_or}
 use Rattle.std.proofs.lemmas.Grind.{flat_map-append}
 use Rattle.units.specs.Text.{longest_line}
 use Rattle.units.specs.Lines.{HasNoFeed, EndsAtFeed, ended, IsLine, CutsInto, IsTooLongAfter, saturated, ended_lines}
