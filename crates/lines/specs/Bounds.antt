@@ -26,10 +26,6 @@ line_in orders bounds k = line_between orders (bound_at bounds k) (bound_at boun
 abbrev pub lines_in : List ℕ → List Bound → List LineLayout
 lines_in orders bounds = map (line_in orders bounds) (positions_from 0 (length bounds - 1))
 
--- the bound behind a line that ends at the position, where so many positions are listed
-abbrev pub bound_behind : ℕ → ℕ → Bound
-bound_behind position order = record { position = position; order = order }
-
 -- the orders that were written
 abbrev pub orders_filled : Filled → List ℕ → List ℕ
 orders_filled filled orders = take filled.positions orders
