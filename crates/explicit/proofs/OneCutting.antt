@@ -147,3 +147,13 @@ first_length_nowhere text e =
 pub paragraphs_of_split : (text : List BidiUnit) → 0 < length text → paragraphs_of text ≡ take (first_length text) text ∷ paragraphs_of (drop (first_length text) text)
 paragraphs_of_split [] h = absurd (omega arith)
 paragraphs_of_split (unit ∷ units) h = paragraphs_of-cons unit units
+
+-- a text has no more paragraphs than units
+pub length-begin_with : (unit : BidiUnit) (pieces : List (List BidiUnit)) → length (begin_with unit pieces) ≤ length pieces + 1
+length-begin_with unit [] = omega arith
+length-begin_with unit (piece ∷ pieces) =
+    elim (cases_Bool (is_separator unit.class)) [ inl separates ↦ rw separates (omega arith) | inr plain ↦ rw plain (omega arith) ]
+
+pub no_more_paragraphs : (text : List BidiUnit) → length (paragraphs_of text) ≤ length text
+no_more_paragraphs [] = omega arith
+no_more_paragraphs (unit ∷ units) = omega (arith, length-begin_with unit (paragraphs_of units), no_more_paragraphs units)
