@@ -148,12 +148,13 @@ pub paragraphs_of_split : (text : List BidiUnit) → 0 < length text → paragra
 paragraphs_of_split [] h = absurd (omega arith)
 paragraphs_of_split (unit ∷ units) h = paragraphs_of-cons unit units
 
--- a text has no more paragraphs than units
+-- one unit in front makes at most one paragraph more
 pub length-begin_with : (unit : BidiUnit) (pieces : List (List BidiUnit)) → length (begin_with unit pieces) ≤ length pieces + 1
 length-begin_with unit [] = omega arith
 length-begin_with unit (piece ∷ pieces) =
     elim (cases_Bool (is_separator unit.class)) [ inl separates ↦ rw separates (omega arith) | inr plain ↦ rw plain (omega arith) ]
 
+-- a text has no more paragraphs than units
 pub no_more_paragraphs : (text : List BidiUnit) → length (paragraphs_of text) ≤ length text
 no_more_paragraphs [] = omega arith
 no_more_paragraphs (unit ∷ units) = omega (arith, length-begin_with unit (paragraphs_of units), no_more_paragraphs units)

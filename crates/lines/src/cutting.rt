@@ -12,7 +12,7 @@ use units::steps::Steps;
 /// How far a text is cut into lines.
 #[derive(Clone, Copy)]
 pub struct Cut {
-    /// How many of its breaks were passed.
+    /// How many of its breaks were passed; at the text's end one more, for the end.
     pub passed: usize,
     /// How many of its lines have their bounds.
     pub lines: usize,

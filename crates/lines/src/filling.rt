@@ -62,8 +62,8 @@ fn write_line<L: Ledger>(
         )
 }
 
-/// Writes the orders of a text's lines (L2) to the front of `orders`, and to the bounds of the lines, which say where
-/// they end, where their orders do. It answers how much there is of both.
+/// Writes the orders of a text's lines (L2) to the front of `orders`. The bounds say already where the lines end; where
+/// their orders end is written to them. It answers how many lines and how many positions there are.
 ///
 /// `paras` are the levels of the text's paragraphs, and the levels are those of its positions after L1; `uniform`
 /// says that each one that remains is known to have its paragraph's. `runs` is room for the order of a line. It takes

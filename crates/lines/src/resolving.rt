@@ -30,8 +30,8 @@ pub struct ResolvedText {
 }
 
 /// Writes the levels of a text's paragraphs to the front of `paras`, and the resolved levels of its positions to the
-/// front of `levels`, paragraph by paragraph, by these limits; and the ends of its lines, which each paragraph ends, to
-/// the front of `bounds`.
+/// front of `levels`, paragraph by paragraph, by these limits; and the ends of its lines, of which one is at the end of
+/// each paragraph, to the front of `bounds`.
 pub(crate) fn resolve_text<L: Ledger>(
     text: &[Unit],
     direction: Direction,

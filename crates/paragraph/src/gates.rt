@@ -25,7 +25,7 @@ use units::limits::Limits;
 use units::steps::Steps;
 
 /// BD9, P2, P3: the level of a paragraph. Where it is `flat`, nothing stands in an isolate and `side`, the side of its
-/// first strong class, tells it without a step; only else its isolates are found for that.
+/// first strong class, tells it without a step. Otherwise its isolates are found first.
 pub fn find_level<L: Ledger>(
     para: &[Unit],
     flat: bool,
