@@ -13,7 +13,7 @@ pub mod LineEnd
 pub mod TextEnd
 pub mod KeptLevels
 pub mod RemovedLevels
-pub mod Cuts
+pub mod CutLines
 pub mod LineEnds
 pub mod NextLine
 pub mod ParagraphLines

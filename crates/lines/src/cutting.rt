@@ -43,7 +43,7 @@ pub(crate) fn start_cut(bounds: &mut [Bound]) -> Cut
     }
 }
 
-/// Cuts one paragraph more into lines, and writes their ends behind the bounds of the lines before it. A break where
+/// IsLineAt one paragraph more into lines, and writes their ends behind the bounds of the lines before it. A break where
 /// it ends is passed with it, and makes no empty line. `at` are the breaks of the text, and `len` is its length.
 pub(crate) fn cut_paragraph<L: Ledger>(
     at: &[usize],
@@ -67,9 +67,9 @@ pub(crate) fn cut_paragraph<L: Ledger>(
         → AreLineEnds own at.now result.lines end bounds.new }
     ensures passed { ArePassed at.now result.passed end }
     ensures few_passed { result.passed ≤ end }
-    ensures few_lines { result.lines ≤ end }
-    ensures at_least { steps.old ≤ steps.new }
-    ensures at_most { steps.new ≤ steps.old + (end - start) }
+    ensures more_lines { cut.lines < result.lines }
+    ensures few_lines { result.lines ≤ cut.lines + (end - start) }
+    ensures steps { steps.new ≡ steps.old + (result.lines - cut.lines) }
 {
     let mut passed = cut.passed;
     let mut lines = cut.lines;

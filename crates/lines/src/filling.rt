@@ -93,7 +93,7 @@ pub fn fill_lines<L: Ledger>(
         → lines_filled result orders.new bounds.new ≡ lines_cut_at levels.now (cuts_of (classes_of own.now) breaks) }
     ensures all { result.lines ≡ lines }
     ensures few_positions { result.positions ≤ length own.now }
-    ensures at_least { steps.old + length own.now ≤ steps.new }
+    ensures at_least { steps.old + length own.now + lines ≤ steps.new }
     ensures at_most { steps.new ≤ steps.old + 7 * length own.now }
     ensures light { IsTrue uniform → steps.new ≤ steps.old + 3 * length own.now }
 {

@@ -58,7 +58,7 @@ pub(crate) fn resolve_text<L: Ledger>(
     ensures known { result.uniform ≡ keeps_levels text.now direction }
     ensures uniform { result.uniform ≡ true
         → StaysAtParas text.now (take result.paragraphs paras.new) (take (length text.now) levels.new) }
-    ensures at_least { steps.old + 2 * length text.now ≤ steps.new }
+    ensures at_least { steps.old + 2 * length text.now + result.paragraphs + result.lines ≤ steps.new }
     ensures at_most { steps.new ≤ steps.old + 85 * length text.now }
     ensures light { result.uniform ≡ true → steps.new ≤ steps.old + 4 * length text.now }
 {

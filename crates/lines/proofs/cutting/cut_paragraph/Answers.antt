@@ -27,10 +27,11 @@ loop-position-preserved g c =
       passed = passed_on at len l.passed (l.passed + c.from-passed.result) l.position limit end breaks l.invariant.passed is_limit above within step;
       few_passed = omega (arith, at_most_one (end == limit));
       few_lines = omega arith;
+      more_lines = λ _. omega arith;
+      no_fewer_lines = omega arith;
       ends = λ own same paragraph before.
           ends_more own at l.lines l.position end l.bounds _ (l.invariant.ends own same paragraph before) (omega (arith, l.auto.bounds))
           (ends_line own at l.passed c.args.start l.position limit c.args.end end (subst (AreBreaks at) (sym same) breaks) l.invariant.passed (subst (λ n. IsLimit at l.passed n limit) (sym same) is_limit) paragraph l.invariant.from above within inside (λ short. omega arith))
           refl;
-      at_least = omega arith;
-      at_most = omega arith;
+      steps = omega arith;
     }

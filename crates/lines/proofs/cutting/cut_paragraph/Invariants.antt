@@ -1,4 +1,4 @@
-use Rattle.std.proofs.Common.{◌-◌, ◌≡◌, ◌≤◌, ◌+◌, List, length}
+use Rattle.std.proofs.Common.{◌-◌, ◌≡◌, ◌<◌, ◌≤◌, ◌+◌, List, length}
 use Rattle.units.specs.declared.class.Class.{Class as BidiClass}
 use Rattle.lines.specs.LineEnds.{AreLineEnds, ArePassed, IsParagraphAt}
 use Rattle.lines.proofs.cutting.cut_paragraph.Given as goal
@@ -10,10 +10,11 @@ invariant-loop-position g l =
       within : l.position ≤ l.end;
       passed : ArePassed l.at l.passed l.position;
       few_passed : l.passed ≤ l.position;
-      few_lines : l.lines ≤ l.position;
+      few_lines : l.lines ≤ l.fn.cut.lines + (l.position - l.start);
+      more_lines : l.start < l.position → l.fn.cut.lines < l.lines;
+      no_fewer_lines : l.fn.cut.lines ≤ l.lines;
       ends : (own : List BidiClass) → length own ≡ l.len → IsParagraphAt own l.start l.end → AreLineEnds own l.at l.fn.cut.lines l.start l.initial.bounds → AreLineEnds own l.at l.lines l.position l.bounds;
-      at_least : l.initial.steps ≤ l.steps;
-      at_most : l.steps ≤ l.initial.steps + (l.position - l.start);
+      steps : l.steps ≡ l.initial.steps + (l.lines - l.fn.cut.lines);
     }
 
 abbrev pub decreases-loop-position : goal.decreases-loop-position

@@ -14,7 +14,7 @@ invariant-loop-line g l =
       kept : (k : ℕ) → (bound_at l.bounds k).position ≡ (bound_at l.initial.bounds k).position;
       few_positions : l.positions ≤ (bound_at l.initial.bounds l.line).position;
       counted : l.paragraph ≡ count_by is_separator (take (bound_at l.initial.bounds l.line).position (classes_of l.own));
-      at_least : l.initial.steps + (bound_at l.initial.bounds l.line).position ≤ l.steps;
+      at_least : l.initial.steps + (bound_at l.initial.bounds l.line).position + l.line ≤ l.steps;
       at_most : l.steps ≤ l.initial.steps + 7 * (bound_at l.initial.bounds l.line).position;
       light : IsTrue l.uniform → l.steps ≤ l.initial.steps + 3 * (bound_at l.initial.bounds l.line).position;
     }

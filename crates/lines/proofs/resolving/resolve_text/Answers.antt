@@ -44,7 +44,7 @@ loop-start-init g c = record {
   few = omega arith;
   inside = omega arith;
   resolver = search rules;
-  at_least = omega arith;
+  at_least = omega (arith, c.start_cut-cut.ensures.lines);
   at_most = omega arith;
   light = λ known. omega arith;
 }
@@ -101,7 +101,7 @@ loop-start-preserved g c =
           (paragraph_from text l.start n c.loop-start-test.true (c.of-first.ensures.first.length ∙ ap first_length (take_rest text l.start)) some within)
           l.invariant.ends;
       few_passed = c.cut_paragraph-cut.ensures.few_passed;
-      few_lines = c.cut_paragraph-cut.ensures.few_lines;
+      few_lines = omega (arith, c.cut_paragraph-cut.ensures.few_lines);
       few = omega (arith, l.invariant.few);
       inside = omega arith;
       resolver = search rules;

@@ -19,7 +19,7 @@ invariant-loop-start g l = record {
   few : l.paragraphs ≤ l.start;
   inside : l.start ≤ length l.text;
   resolver : l.resolver ≡ l.initial.resolver;
-  at_least : l.initial.steps + 2 * l.start ≤ l.steps;
+  at_least : l.initial.steps + 2 * l.start + l.paragraphs + l.cut.lines ≤ l.steps;
   at_most : l.steps ≤ l.initial.steps + 85 * l.start;
   light : l.uniform ≡ true → l.steps ≤ l.initial.steps + 4 * l.start;
 }
