@@ -3,7 +3,7 @@ use Rattle.std.proofs.Common.{◌≡◌, ℕ, ◌+◌, ◌-◌, ◌<◌, ◌≤�
 use Rattle.std.specs.Prelude.{filter}
 use Rattle.units.specs.Layout.{LineLayout, line_of, lines_from}
 use Rattle.units.specs.Positions.{positions_from}
-use Rattle.lines.specs.LineEnds.{IsLineAt}
+use Rattle.lines.specs.LineEnds.{EndsLineAt}
 
 -- the lines of the last count positions
 abbrev pub lines_left : List (Option ℕ) → (ℕ → Bool) → ℕ → ℕ → ℕ → List LineLayout
@@ -33,7 +33,7 @@ cut_rest levels test start end stop (suc rest) e here =
     ap (λ b. lines_from levels start (cond b (end ∷ next) next) stop) (here (omega arith))
 
 -- the next line, and what is left behind it
-pub lines_left-next : (levels : List (Option ℕ)) (test : ℕ → Bool) (start end stop : ℕ) → IsLineAt test start end stop → lines_left levels test start stop (stop - start) ≡ line_of levels start end ∷ lines_left levels test end stop (stop - end)
+pub lines_left-next : (levels : List (Option ℕ)) (test : ℕ → Bool) (start end stop : ℕ) → EndsLineAt test start end stop → lines_left levels test start stop (stop - start) ≡ line_of levels start end ∷ lines_left levels test end stop (stop - end)
 lines_left-next levels test start end stop c =
     let between = end - (start + 1) in
     let rest = stop - end in

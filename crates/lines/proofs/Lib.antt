@@ -1,3 +1,4 @@
+pub mod Turns
 pub mod Least
 pub mod Lists
 pub mod TextLevels

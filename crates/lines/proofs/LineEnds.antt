@@ -6,7 +6,7 @@ use Rattle.units.specs.declared.class.Class.{Class}
 use Rattle.units.specs.Reordering.{begins_line}
 use Rattle.lines.specs.declared.bounds.Bound.{Bound}
 use Rattle.lines.specs.Bounds.{bound_at, first_bound}
-use Rattle.lines.specs.LineEnds.{AreLineEnds, IsLineAt}
+use Rattle.lines.specs.LineEnds.{AreLineEnds, EndsLineAt}
 
 -- at the start of the text there is none
 pub ends_none : (own : List Class) (breaks : List ℕ) (bounds : List Bound) → bound_at bounds 0 ≡ first_bound → AreLineEnds own breaks 0 0 bounds
@@ -17,9 +17,9 @@ ends_none own breaks bounds first = record {
 }
 
 -- one end more
-pub ends_more : (own : List Class) (breaks : List ℕ) (lines start end : ℕ) (bounds : List Bound) (bound : Bound) → AreLineEnds own breaks lines start bounds → lines + 1 < length bounds → IsLineAt (begins_line own breaks) start end (length own) → bound.position ≡ end → AreLineEnds own breaks (lines + 1) end (set bounds (lines + 1) bound)
+pub ends_more : (own : List Class) (breaks : List ℕ) (lines start end : ℕ) (bounds : List Bound) (bound : Bound) → AreLineEnds own breaks lines start bounds → lines + 1 < length bounds → EndsLineAt (begins_line own breaks) start end (length own) → bound.position ≡ end → AreLineEnds own breaks (lines + 1) end (set bounds (lines + 1) bound)
 ends_more own breaks lines start end bounds bound e room cut is =
-    let Line : ℕ → ℕ → Type 0 = λ from to. IsLineAt (begins_line own breaks) from to (length own) in
+    let Line : ℕ → ℕ → Type 0 = λ from to. EndsLineAt (begins_line own breaks) from to (length own) in
     let kept : (k : ℕ) → k < lines + 1 → bound_at (set bounds (lines + 1) bound) k ≡ bound_at bounds k =
     λ k h. get_or-set_other bounds (lines + 1) k bound first_bound (omega arith) in
     let here : bound_at (set bounds (lines + 1) bound) (lines + 1) ≡ bound = get_or-set_same bounds (lines + 1) bound first_bound room in
@@ -54,5 +54,5 @@ end_kept bounds i order k room =
     ]
 
 -- a line, where its ends are read elsewhere
-pub cut_read : (test : ℕ → Bool) (start end from to stop : ℕ) → from ≡ start → to ≡ end → IsLineAt test start end stop → IsLineAt test from to stop
-cut_read test start end from to stop e f cut = subst (λ n. IsLineAt test n to stop) (sym e) (subst (λ n. IsLineAt test start n stop) (sym f) cut)
+pub cut_read : (test : ℕ → Bool) (start end from to stop : ℕ) → from ≡ start → to ≡ end → EndsLineAt test start end stop → EndsLineAt test from to stop
+cut_read test start end from to stop e f cut = subst (λ n. EndsLineAt test n to stop) (sym e) (subst (λ n. EndsLineAt test start n stop) (sym f) cut)

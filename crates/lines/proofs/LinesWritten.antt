@@ -14,7 +14,7 @@ use Rattle.units.specs.Reordering.{begins_line, cuts_of, line_order}
 use Rattle.units.specs.declared.class.Class.{Class}
 use Rattle.lines.specs.declared.bounds.Bound.{Bound}
 use Rattle.lines.specs.Bounds.{first_bound, bound_at, line_between, line_in, lines_in, Follows, AreBounds}
-use Rattle.lines.specs.LineEnds.{IsLineAt}
+use Rattle.lines.specs.LineEnds.{EndsLineAt}
 use Rattle.lines.proofs.CutLines.{lines_left, lines_left-next}
 use Rattle.lines.proofs.Law.{line_order-places}
 use Rattle.units.proofs.Positions.{positions_from-next}
@@ -141,7 +141,7 @@ bounds_more levels orders more bounds start end le within places b last =
       places = All-append (λ p. p < length levels) orders more b.places places;
     }
 
-filling_next : (levels : List (Option ℕ)) (test : ℕ → Bool) (start end : ℕ) (orders : List ℕ) (bounds : List Bound) → IsLineAt test start end (length levels) → length orders + length (line_order levels start end) ≤ end → Filling levels test start orders bounds → Filling levels test end (orders ++ line_order levels start end) (bounds ++ record { position = end; order = length orders + length (line_order levels start end) } ∷ [])
+filling_next : (levels : List (Option ℕ)) (test : ℕ → Bool) (start end : ℕ) (orders : List ℕ) (bounds : List Bound) → EndsLineAt test start end (length levels) → length orders + length (line_order levels start end) ≤ end → Filling levels test start orders bounds → Filling levels test end (orders ++ line_order levels start end) (bounds ++ record { position = end; order = length orders + length (line_order levels start end) } ∷ [])
 filling_next levels test start end orders bounds c fits f =
     let more = line_order levels start end in
     let bound : Bound = record { position = end; order = length orders + length more } in
@@ -166,7 +166,7 @@ filling_next levels test start end orders bounds c fits f =
     }
 
 -- one line more
-pub filling_more : (levels : List (Option ℕ)) (test : ℕ → Bool) (start end : ℕ) (orders orders2 : List ℕ) (bounds bounds2 : List Bound) → IsLineAt test start end (length levels) → orders2 ≡ orders ++ line_order levels start end → length orders2 ≤ end → bounds2 ≡ bounds ++ record { position = end; order = length orders2 } ∷ [] → Filling levels test start orders bounds → Filling levels test end orders2 bounds2
+pub filling_more : (levels : List (Option ℕ)) (test : ℕ → Bool) (start end : ℕ) (orders orders2 : List ℕ) (bounds bounds2 : List Bound) → EndsLineAt test start end (length levels) → orders2 ≡ orders ++ line_order levels start end → length orders2 ≤ end → bounds2 ≡ bounds ++ record { position = end; order = length orders2 } ∷ [] → Filling levels test start orders bounds → Filling levels test end orders2 bounds2
 filling_more levels test start end orders orders2 bounds bounds2 c written few bound f =
     let more = line_order levels start end in
     let len : length orders2 ≡ length orders + length more = ap length written ∙ length-append orders more in

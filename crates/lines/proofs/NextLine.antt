@@ -6,7 +6,7 @@ use Rattle.units.specs.declared.class.Class.{Class}
 use Rattle.units.specs.Classes.{class_at, is_separator}
 use Rattle.units.specs.Reordering.{begins_line, is_break}
 use Rattle.lines.specs.LineBreaks.{AreBreaks}
-use Rattle.lines.specs.LineEnds.{ArePassed, IsLineAt, IsParagraphAt}
+use Rattle.lines.specs.LineEnds.{ArePassed, EndsLineAt, IsParagraphAt}
 use Rattle.lines.proofs.BreakAt.{is_break_at, is_break_none, rising_le}
 
 -- none was passed at the start of the text
@@ -44,7 +44,7 @@ pub begins_later : (own : List Class) (at : List ℕ) (p : ℕ) → 0 < p → be
 begins_later own at p h = ap (λ t. t || is_separator (class_at own (p - 1)) || is_break at p) (ne_eqb p 0 (omega arith))
 
 -- the line ends where the next one begins
-pub ends_line : (own : List Class) (at : List ℕ) (passed first start limit stop end : ℕ) → AreBreaks at (length own) → ArePassed at passed start → IsLimit at passed (length own) limit → IsParagraphAt own first stop → first ≤ start → start < end → end ≤ limit → end ≤ stop → (end < limit → end ≡ stop) → IsLineAt (begins_line own at) start end (length own)
+pub ends_line : (own : List Class) (at : List ℕ) (passed first start limit stop end : ℕ) → AreBreaks at (length own) → ArePassed at passed start → IsLimit at passed (length own) limit → IsParagraphAt own first stop → first ≤ start → start < end → end ≤ limit → end ≤ stop → (end < limit → end ≡ stop) → EndsLineAt (begins_line own at) start end (length own)
 ends_line own at passed first start limit stop end breaks q l paragraph from above within inside short =
     record {
       above = above;

@@ -12,9 +12,9 @@ use Rattle.units.specs.declared.level.ParaLevel.TheVariants.{Zero}
 use Rattle.units.specs.Classes.{class_at, classes_of, is_separator}
 use Rattle.units.specs.Isolates.{level_of_para}
 use Rattle.units.specs.Reordering.{begins_line, is_break, para_level_at}
-use Rattle.lines.specs.LineEnds.{IsLineAt, IsParagraphAt}
+use Rattle.lines.specs.LineEnds.{EndsLineAt, IsParagraphAt}
 use Rattle.lines.specs.Spaces.{AreAtParas}
-use Rattle.lines.specs.Turning.{IsAtOneLevel}
+use Rattle.lines.specs.LinePositions.{IsAtOneLevel}
 use Rattle.lines.proofs.NextLine.{begins_later}
 use Rattle.lines.proofs.TextEnd.{counted_step}
 
@@ -73,14 +73,14 @@ paragraph_from us start n below is some within =
     }
 
 -- no position of a line but its last separates
-joined_line : (own : List Class) (at : List ℕ) (start end p : ℕ) → IsLineAt (begins_line own at) start end (length own) → start < p → p < end → is_separator (class_at own (p - 1)) ≡ false
+joined_line : (own : List Class) (at : List ℕ) (start end p : ℕ) → EndsLineAt (begins_line own at) start end (length own) → start < p → p < end → is_separator (class_at own (p - 1)) ≡ false
 joined_line own at start end p e low high =
     let off : (is_separator (class_at own (p - 1)) || is_break at p) ≡ false = sym (begins_later own at p (omega arith)) ∙ e.none p low high in
     let parts = or_parts (is_separator (class_at own (p - 1))) (is_break at p) off in
     parts.0
 
 -- as many separators stand before each position of a line
-counted_inside : (own : List Class) (at : List ℕ) (start end k : ℕ) → IsLineAt (begins_line own at) start end (length own) → start + k < end → count_by is_separator (take (start + k) own) ≡ count_by is_separator (take start own)
+counted_inside : (own : List Class) (at : List ℕ) (start end k : ℕ) → EndsLineAt (begins_line own at) start end (length own) → start + k < end → count_by is_separator (take (start + k) own) ≡ count_by is_separator (take start own)
 counted_inside own at start end zero e h =
     let f : start + 0 ≡ start = omega arith in ap (λ n. count_by is_separator (take n own)) f
 counted_inside own at start end (suc k) e h =
@@ -92,13 +92,13 @@ counted_inside own at start end (suc k) e h =
     counted_step own (start + k) false (omega (arith, e.within)) (sym off) in
     ap (λ n. count_by is_separator (take n own)) f ∙ step ∙ omega (arith, counted_inside own at start end k e (omega arith))
 
-pub counted_line : (own : List Class) (at : List ℕ) (start end p : ℕ) → IsLineAt (begins_line own at) start end (length own) → start ≤ p → p < end → count_by is_separator (take p own) ≡ count_by is_separator (take start own)
+pub counted_line : (own : List Class) (at : List ℕ) (start end p : ℕ) → EndsLineAt (begins_line own at) start end (length own) → start ≤ p → p < end → count_by is_separator (take p own) ≡ count_by is_separator (take start own)
 counted_line own at start end p e low high =
     let f : p ≡ start + (p - start) = omega arith in
     ap (λ n. count_by is_separator (take n own)) f ∙ counted_inside own at start end (p - start) e (omega arith)
 
 -- and before what comes behind it one more, where it ends with one
-pub counted_on : (own : List Class) (at : List ℕ) (start end before : ℕ) (closed : Bool) → IsLineAt (begins_line own at) start end (length own) → before ≡ count_by is_separator (take start own) → closed ≡ is_separator (class_at own (end - 1)) → before + cond closed 1 0 ≡ count_by is_separator (take end own)
+pub counted_on : (own : List Class) (at : List ℕ) (start end before : ℕ) (closed : Bool) → EndsLineAt (begins_line own at) start end (length own) → before ≡ count_by is_separator (take start own) → closed ≡ is_separator (class_at own (end - 1)) → before + cond closed 1 0 ≡ count_by is_separator (take end own)
 counted_on own at start end before closed e is last =
     let above = e.above in
     let f : end - 1 + 1 ≡ end = omega arith in
@@ -108,7 +108,7 @@ counted_on own at start end before closed e is last =
     omega arith
 
 -- positions at their paragraphs' levels have one level in a line
-pub line_uniform : (own : List Class) (at : List ℕ) (paras : List ℕ) (levels : List (Option ℕ)) (start end : ℕ) → AreAtParas own paras levels → IsLineAt (begins_line own at) start end (length own) → IsAtOneLevel levels start end (para_level_at own paras start)
+pub line_uniform : (own : List Class) (at : List ℕ) (paras : List ℕ) (levels : List (Option ℕ)) (start end : ℕ) → AreAtParas own paras levels → EndsLineAt (begins_line own at) start end (length own) → IsAtOneLevel levels start end (para_level_at own paras start)
 line_uniform own at paras levels start end all e =
     record {
       same = λ p v low high h.

@@ -7,7 +7,8 @@ use Rattle.std.proofs.lemmas.List.{append-nil, reverse-append, take_more_set, ta
 use Rattle.std.proofs.lemmas.List.Elements.{filter-append}
 use mir.Val.{bool_byte}
 use Rattle.units.specs.Positions.{positions_from}
-use Rattle.lines.specs.Turning.{ListsRemaining, Ordered, is_remaining, remaining}
+use Rattle.lines.specs.LinePositions.{is_remaining, remaining}
+use Rattle.lines.proofs.Turns.{ListsRemaining, Ordered}
 use Rattle.units.proofs.Positions.{positions_from-next}
 
 -- a position behind the first count, which are one more where it is kept

@@ -5,7 +5,7 @@ use Rattle.std.proofs.lemmas.List.{append-nil}
 use Rattle.units.specs.Reordering.{line_order}
 use Rattle.lines.specs.declared.runs.Chain.{Chain}
 use Rattle.lines.specs.declared.runs.Run.{Run}
-use Rattle.lines.specs.Turning.{Has, remaining}
+use Rattle.lines.specs.LinePositions.{Has, remaining}
 use Rattle.lines.specs.RunLinks.{IsChainOf, IsLevelRun, Leads, run_in, spelled, units_in}
 use Rattle.lines.proofs.Lists.{has_right}
 use Rattle.lines.proofs.LineOrder.{line_order-in_order}

@@ -2,7 +2,8 @@
 use Rattle.std.proofs.Common.{◌≡◌, ℕ, ◌+◌, ◌<◌, ◌≤◌, ◌%◌, Option, List, ap, ◌∙◌, arith}
 use Rattle.std.specs.Prelude.{reverse}
 use Rattle.units.specs.Reordering.{line_order}
-use Rattle.lines.specs.Turning.{Before, Has, ListsRemaining, Ordered, IsAtOneLevel, least, remaining, turns}
+use Rattle.lines.specs.LinePositions.{Has, IsAtOneLevel, remaining}
+use Rattle.lines.proofs.Turns.{Before, ListsRemaining, Ordered, least, turns}
 use Rattle.lines.proofs.Least.{least-attained}
 use Rattle.lines.proofs.Lists.{has_reverse, has_reversed, ordered_reverse}
 use Rattle.lines.proofs.Levels.{AllBelow, LowestOdd, finished, rising_before}

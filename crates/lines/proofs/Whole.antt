@@ -8,7 +8,7 @@ use Rattle.units.specs.Positions.{positions_from}
 use Rattle.units.specs.Reordering.{line_order}
 use Rattle.units.specs.declared.level.ParaLevel.{ParaLevel}
 use Rattle.units.specs.declared.level.ParaLevel.TheVariants.{Zero, One}
-use Rattle.lines.specs.Turning.{IsAtOneLevel, is_remaining, remaining}
+use Rattle.lines.specs.LinePositions.{IsAtOneLevel, is_remaining, remaining}
 use Rattle.lines.proofs.Uniform.{uniform-falling, uniform-rising}
 
 filter-all : (test : ℕ → Bool) (start count : ℕ) → ((p : ℕ) → start ≤ p → p < start + count → test p ≡ true) → filter test (positions_from start count) ≡ positions_from start count

@@ -15,7 +15,7 @@ pub record IsParagraphAt (own : List Class) (start end : ℕ) : Type 0 where
   pub closed : end < length own → is_separator (class_at own (end - 1)) ≡ true
 
 -- the line from start on ends where the next one begins, or at the stop
-pub record IsLineAt (test : ℕ → Bool) (start end stop : ℕ) : Type 0 where
+pub record EndsLineAt (test : ℕ → Bool) (start end stop : ℕ) : Type 0 where
   pub above : start < end
   pub within : end ≤ stop
   pub none : (p : ℕ) → start < p → p < end → test p ≡ false
@@ -30,7 +30,7 @@ pub record ArePassed (breaks : List ℕ) (passed position : ℕ) : Type 0 where
 pub record AreLineEnds (own : List Class) (breaks : List ℕ) (lines position : ℕ) (bounds : List Bound) : Type 0 where
   pub first : bound_at bounds 0 ≡ first_bound
   pub cut : (k : ℕ) → k < lines →
-      IsLineAt (begins_line own breaks) (bound_at bounds k).position (bound_at bounds (k + 1)).position (length own)
+      EndsLineAt (begins_line own breaks) (bound_at bounds k).position (bound_at bounds (k + 1)).position (length own)
   pub last : (bound_at bounds lines).position ≡ position
 
 -- the ends of all lines of the text

@@ -1,3 +1,4 @@
+//! Where a text is cut into lines besides its separators, checked once.
 use std::marker::Model;
 
 /// Why a list of breaks is refused; the index is that of the first faulty break.

@@ -43,7 +43,7 @@ pub(crate) fn start_cut(bounds: &mut [Bound]) -> Cut
     }
 }
 
-/// IsLineAt one paragraph more into lines, and writes their ends behind the bounds of the lines before it. A break where
+/// Cuts one paragraph more into lines, and writes their ends behind the bounds of the lines before it. A break where
 /// it ends is passed with it, and makes no empty line. `at` are the breaks of the text, and `len` is its length.
 pub(crate) fn cut_paragraph<L: Ledger>(
     at: &[usize],

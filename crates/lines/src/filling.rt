@@ -1,3 +1,4 @@
+//! The orders of all lines of a text (L2), written one behind another.
 ghost use Rattle.std.specs.Prelude.{◌≡◌, ◌<◌, ◌≤◌, ◌+◌, ◌-◌, ◌*◌, ◌^◌, ◌++◌, IfSome, IsTrue, List, ℕ, length, take};
 ghost use Rattle.units.specs.Classes.{classes_of};
 ghost use Rattle.units.specs.Isolates.{level_of_para};
@@ -7,7 +8,7 @@ ghost use Rattle.units.specs.Reordering.{cuts_of, line_order};
 ghost use Rattle.lines.specs.Bounds.{AreBounds, bounds_filled, lines_filled, orders_filled};
 ghost use Rattle.lines.specs.LineEnds.{AreAllLineEnds, AreEndsOfLines};
 ghost use Rattle.lines.specs.Spaces.{StaysAtParas};
-ghost use Rattle.lines.specs.Turning.{IsAtOneLevel};
+ghost use Rattle.lines.specs.LinePositions.{IsAtOneLevel};
 
 use crate::bounds::Bound;
 use crate::order::write_order;

@@ -1,3 +1,4 @@
+//! Laws of layouts.
 ghost use Rattle.std.specs.Prelude.{◌≡◌, ◌≤◌, ◌<◌, ◌%◌, List, ℕ, length, reverse};
 ghost use Rattle.std.specs.List.{All};
 ghost use Rattle.units.specs.Limits.{LimitsOf, AreAllowed};
@@ -5,7 +6,7 @@ ghost use Rattle.units.specs.Reordering.{IsLineOrder, line_order};
 ghost use Rattle.units.specs.declared.bracket.Unit.{Unit as BidiUnit};
 ghost use Rattle.lines.specs.Removed.{RemovedHaveNoLevel};
 ghost use Rattle.lines.specs.Spaces.{StaysAtParas, levels_reset};
-ghost use Rattle.lines.specs.Turning.{IsAtOneLevel, remaining};
+ghost use Rattle.lines.specs.LinePositions.{IsAtOneLevel, remaining};
 
 use crate::breaks::Breaks;
 use units::bracket::Unit;

@@ -1,3 +1,4 @@
+//! What a layout answers: the levels of a text and of its paragraphs, and its lines.
 ghost use Rattle.lines.specs.Bounds.{AreBounds};
 
 use crate::bounds::Bound;

@@ -1,9 +1,10 @@
+//! The order of one line's positions (L2).
 ghost use Rattle.std.specs.Prelude.{◌≡◌, ◌≤◌, ◌<◌, ◌+◌, ◌-◌, ◌*◌, ◌^◌, ◌++◌, IfSome, length, reverse, take};
 ghost use Rattle.units.specs.Isolates.{level_of_para};
 ghost use Rattle.units.specs.Positions.{positions_from};
 ghost use Rattle.units.specs.Reordering.{line_order};
 ghost use Rattle.lines.specs.RunLinks.{IsLevelRun};
-ghost use Rattle.lines.specs.Turning.{IsAtOneLevel, remaining};
+ghost use Rattle.lines.specs.LinePositions.{IsAtOneLevel, remaining};
 
 use crate::positions::{all_remain, count_down, count_up};
 use crate::runs::{Run, link_line};

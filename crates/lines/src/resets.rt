@@ -1,3 +1,4 @@
+//! The levels of separators, and of white space before them and at lines' ends (L1).
 ghost use Rattle.std.specs.Prelude.{◌≡◌, ◌<◌, ◌≤◌, ◌+◌, ◌-◌, ◌↔◌, ◌||◌, IsTrue, length, slice_index, count_by};
 ghost use Rattle.units.specs.Classes.{classes_of, is_line_separator as separates_line, is_separator};
 ghost use Rattle.units.specs.Isolates.{level_of_para};
@@ -41,6 +42,7 @@ fn may_be_reset(class: Class) -> bool
     )
 }
 
+/// L1: the level of a position that is reset, if it has one; else the one that it has.
 fn reset_level(reset: bool, para_level: ParaLevel, level: Option<Level>) -> Option<Level>
     ensures { result ≡ reset_to reset (level_of_para para_level) level }
 {

@@ -3,7 +3,7 @@ ghost use Rattle.std.specs.Prelude.{◌≡◌, ◌≢◌, ◌≤◌, ◌<◌, �
 ghost use Rattle.units.specs.Reordering.{line_order};
 ghost use Rattle.lines.specs.RunLinks.{BeginsRun, IsLineChain, IsFollowed, IsJoined, IsLinkedStretch, StopsBelow};
 ghost use Rattle.lines.specs.RunLinks.{run_in};
-ghost use Rattle.lines.specs.Turning.{HasLevel, IsAtOneLevel};
+ghost use Rattle.lines.specs.LinePositions.{HasLevel, IsAtOneLevel};
 
 use std::sync::ledger::Ledger;
 use units::level::Level;

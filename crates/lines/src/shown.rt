@@ -1,3 +1,4 @@
+//! What a line shows at a position, mirrored where its level is odd (L4).
 ghost use Rattle.std.specs.Prelude.{◌≡◌, ◌<◌, length};
 ghost use Rattle.std.specs.List.{All};
 ghost use Rattle.units.specs.Reordering.{is_odd_level, shown_at, shown_of};
@@ -16,6 +17,7 @@ pub struct Shown<'a> {
     ghost written: { length chars.now ≡ length levels.now },
 }
 
+/// Whether the level is odd; a removed position has none.
 fn is_odd(level: Option<Level>) -> bool
     ensures { result ≡ is_odd_level level }
 {
@@ -29,6 +31,7 @@ impl<'a> Shown<'a> {
     ghost use Rattle.ucdfiles.specs.Tables.{glyph_by};
     ghost use Rattle.lines.specs.Showing.{shown_left};
 
+    /// The characters that stand in this order, at these levels.
     pub(crate) fn new(
         mirrors: &'a MirrorTable,
         levels: &'a [Option<Level>],

@@ -84,7 +84,7 @@ impl Contents {
     }
 
     /// No BN, PDF or initiator of an embedding: X9 removes nothing.
-    pub fn is_whole(&self) -> bool
+    pub fn all_remain(&self) -> bool
         ensures { (cs : List BidiClass) → Describes self.now cs → result ≡ has_none is_removed cs }
     {
         !has_removed(self.classes)

@@ -52,11 +52,11 @@ pub fn find_level<L: Ledger>(
 }
 
 /// X1 to X9, BD13, X10: the sequences of a paragraph of this level. Only where it isn't `flat`, its explicit levels are
-/// found for that; else all that remains of it is one sequence, and all of it remains if it is `whole`.
+/// found for that; else all that remains of it is one sequence, and all of it remains if `all_remain`.
 pub fn find_sequences<L: Ledger>(
     para: &[Unit],
     flat: bool,
-    whole: bool,
+    all_remain: bool,
     level: ParaLevel,
     limits: Limits,
     isolates: &IsolateMap,
@@ -65,7 +65,7 @@ pub fn find_sequences<L: Ledger>(
     steps: &mut Steps<L>,
 )
     requires flat { flat ≡ true → IsFlat (classes_of para.now) }
-    requires whole { whole ≡ true → HasNone is_removed (classes_of para.now) }
+    requires all_remain { all_remain ≡ true → HasNone is_removed (classes_of para.now) }
     requires separators { SeparatorOnlyLast para.now }
     requires isolates { flat ≡ false → IsFilledFrom isolates.now (classes_of para.now) }
     requires explicit { length para.now ≤ length explicit.old }
@@ -80,41 +80,41 @@ pub fn find_sequences<L: Ledger>(
     ensures at_most { steps.new ≤ steps.old + 5 * length para.now + 1 }
 {
     if flat {
-        sequences.fill_flat(para, whole, level, steps);
+        sequences.fill_flat(para, all_remain, level, steps);
         return;
     }
     explicit_levels(para, isolates, level, limits, explicit, steps);
     sequences.fill(para, isolates, explicit, level, limits, steps);
 }
 
-/// X9: this level, or none for a class that is removed, as no class of the paragraph is if it is `whole`.
-fn kept_level(whole: bool, level: Level, class: Class) -> Option<Level>
-    requires { whole ≡ true → is_removed class ≡ false }
+/// X9: this level, or none for a class that is removed, as no class of the paragraph is if `all_remain`.
+fn kept_level(all_remain: bool, level: Level, class: Class) -> Option<Level>
+    requires { all_remain ≡ true → is_removed class ≡ false }
     ensures { result ≡ kept_level level class }
 {
-    if !whole && class.is_removed() {
+    if !all_remain && class.is_removed() {
         None
     } else {
         Some(level)
     }
 }
 
-/// Gives the positions that remain (X9) this level, and the others none, a step for each. All remain if the paragraph
-/// is `whole`.
+/// Gives the positions that remain (X9) this level, and the others none, a step for each. All remain if
+/// `all_remain`.
 pub fn write_level<L: Ledger>(
     para: &[Unit],
-    whole: bool,
+    all_remain: bool,
     level: Level,
     levels: &mut [Option<Level>],
     steps: &mut Steps<L>,
 )
-    requires whole { whole ≡ true → HasNone is_removed (classes_of para.now) }
+    requires all_remain { all_remain ≡ true → HasNone is_removed (classes_of para.now) }
     requires levels { length levels.old ≡ length para.now }
     ensures levels { levels.new ≡ map (λ unit. kept_level level unit.class) para.now }
     ensures steps { steps.new ≡ steps.old + length levels.old }
 {
     for p in 0..para.len() {
         steps.tick();
-        levels[p] = kept_level(whole, level, para[p].class);
+        levels[p] = kept_level(all_remain, level, para[p].class);
     }
 }

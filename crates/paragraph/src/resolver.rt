@@ -202,9 +202,9 @@ impl Resolver {
         let level = find_level(para, flat, side, direction, &mut self.isolates, steps);
 
         // X1 to I2, where nothing can leave that level.
-        let whole = contents.is_whole();
+        let all_remain = contents.all_remain();
         if contents.keeps(level) {
-            write_level(para, whole, level.level(), levels, steps);
+            write_level(para, all_remain, level.level(), levels, steps);
             return Resolved {
                 level,
                 uniform: true,
@@ -216,7 +216,7 @@ impl Resolver {
         let explicit = &mut self.explicit;
         let sequences = &mut self.sequences;
         find_sequences(
-            para, flat, whole, level, limits, isolates, explicit, sequences, steps,
+            para, flat, all_remain, level, limits, isolates, explicit, sequences, steps,
         );
 
         // W1 to W7, BD14 to BD16 and N0, N1 and N2, I1 and I2, sequence by sequence.

@@ -1,3 +1,4 @@
+//! Where sequences begin: their first positions, and what is said of each (BD13, X10).
 ghost use Rattle.std.specs.Prelude.{◌≡◌, ◌≤◌, ◌+◌, ◌++◌, ◌<◌, IfSome, Some, length, take};
 ghost use Rattle.units.specs.Runs.{size_of, last_remaining, begins_sequence, sequence_from};
 ghost use Rattle.sequences.specs.Links.{linked, LinksForward};

@@ -1,3 +1,4 @@
+//! A paragraph after X1 to X9, as the walks that find its sequences read it.
 ghost use Rattle.std.specs.Prelude.{◌≡◌, ◌<◌, ◌≤◌, IfSome};
 ghost use Rattle.units.specs.Classes.{class_at, classes_of, is_isolate_initiator};
 ghost use Rattle.units.specs.Paragraphs.{SeparatorOnlyLast};

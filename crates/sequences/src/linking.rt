@@ -1,3 +1,4 @@
+//! The links from each position to the next of its sequence (BD13), and what each sequence ends with (X10).
 ghost use Rattle.std.specs.Prelude.{◌≡◌, ◌+◌, ◌<◌, ◌≤◌, ◌&&◌, IfSome, Some, None, is_some, if◌then◌else◌, length};
 ghost use Rattle.units.specs.Runs.{size_of, level_of, at_one_level, level_or_base, remains, matched_pdi, successor, eos_by};
 ghost use Rattle.sequences.specs.Links.{marked};

@@ -89,9 +89,14 @@ fn only_head(level: Level, count: usize) -> Head
 }
 
 /// Writes the positions that remain (X9) into the column, from the front on: all of them, and without a look at a
-/// class, if the paragraph is `whole`. Answers how many they are.
-fn place<L: Ledger>(para: &[Unit], whole: bool, column: &mut [u32], steps: &mut Steps<L>) -> usize
-    requires whole { whole ≡ true → HasNone is_removed (classes_of para.now) }
+/// class, if `all_remain`. Answers how many they are.
+fn place<L: Ledger>(
+    para: &[Unit],
+    all_remain: bool,
+    column: &mut [u32],
+    steps: &mut Steps<L>,
+) -> usize
+    requires all_remain { all_remain ≡ true → HasNone is_removed (classes_of para.now) }
     requires small { length para.now < u32.MAX }
     requires room { length para.now ≤ length column.old }
     ensures count { result ≡ length (remaining_of (classes_of para.now)) }
@@ -99,7 +104,7 @@ fn place<L: Ledger>(para: &[Unit], whole: bool, column: &mut [u32], steps: &mut 
     ensures within { result ≤ length para.now }
     ensures steps { steps.new ≡ steps.old + length para.now }
 {
-    if whole {
+    if all_remain {
         place_all(para.len(), column, steps);
         return para.len();
     }
@@ -121,21 +126,21 @@ fn link_successive<L: Ledger>(links: &mut [OptionalPosition], steps: &mut Steps<
     links[end - 1] = OptionalPosition::none();
 }
 
-/// Links each of the positions that were placed to the next: all of the paragraph, if it is `whole`.
+/// Links each of the positions that were placed to the next: all of the paragraph, if `all_remain`.
 fn link_placed<L: Ledger>(
     positions: &[u32],
-    whole: bool,
+    all_remain: bool,
     links: &mut [OptionalPosition],
     steps: &mut Steps<L>,
 )
     requires some { 0 < length links.old }
     requires small { length links.old < u32.MAX }
     requires rise { ArePositions positions.now (length links.old) }
-    requires whole { whole ≡ true → positions.now ≡ positions_from 0 (length links.old) }
+    requires all_remain { all_remain ≡ true → positions.now ≡ positions_from 0 (length links.old) }
     ensures chain { IsChain positions.now links.new }
     ensures steps { steps.new ≡ steps.old + length positions.now }
 {
-    if whole {
+    if all_remain {
         link_successive(links, steps);
         return;
     }
@@ -146,7 +151,7 @@ fn link_placed<L: Ledger>(
 /// where no position remains.
 pub fn fill_one_sequence<L: Ledger>(
     para: &[Unit],
-    whole: bool,
+    all_remain: bool,
     level: ParaLevel,
     links: &mut [OptionalPosition],
     heads: &mut [Head],
@@ -154,7 +159,7 @@ pub fn fill_one_sequence<L: Ledger>(
     steps: &mut Steps<L>,
 ) -> usize
     requires flat { IsFlat (classes_of para.now) }
-    requires whole { whole ≡ true → HasNone is_removed (classes_of para.now) }
+    requires all_remain { all_remain ≡ true → HasNone is_removed (classes_of para.now) }
     requires small { length para.now < u32.MAX }
     requires links { length para.now ≤ length links.old }
     requires heads { length para.now ≤ length heads.old }
@@ -162,11 +167,16 @@ pub fn fill_one_sequence<L: Ledger>(
     ensures filled { HoldSequencesOf para.now (level_of_para level) result links.new heads.new column.new }
     ensures steps { steps.new ≡ steps.old + length para.now + length (remaining_of (classes_of para.now)) }
 {
-    let count = place(para, whole, column, steps);
+    let count = place(para, all_remain, column, steps);
     if count == 0 {
         return 0;
     }
-    link_placed(&column[..count], whole, &mut links[..para.len()], steps);
+    link_placed(
+        &column[..count],
+        all_remain,
+        &mut links[..para.len()],
+        steps,
+    );
     heads[0] = only_head(level.level(), count);
     1
 }

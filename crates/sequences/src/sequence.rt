@@ -1,3 +1,4 @@
+//! One sequence, as what resolves it reads it: its positions, its level, and its two ends.
 ghost use Rattle.std.specs.Prelude.{◌≡◌, ℕ, ◌+◌, ◌<◌, ◌≤◌, List, Some, length, slice_index, slice_get, IfSome, Contains};
 ghost use Rattle.std.specs.Iterator.{YieldsFirst, item_count};
 ghost use Rattle.units.specs.Runs.{LeveledView, SequenceView, sequences_of, successor};

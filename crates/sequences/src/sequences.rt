@@ -1,3 +1,4 @@
+//! Room for the sequences of paragraphs, and what was found of the last one.
 ghost use Rattle.std.specs.Prelude.{◌≡◌, ◌+◌, ◌*◌, ◌<◌, ◌≤◌, ℕ, [], Some, map, take, length, slice_get, IfOk, sum_by, true};
 ghost use Rattle.std.specs.Box.{boxed_slice_items, boxed_slice_len};
 ghost use Rattle.units.specs.Classes.{classes_of, is_removed};
@@ -191,18 +192,18 @@ impl Sequences {
     }
 
     /// Finds the one sequence of a paragraph of this level in which nothing begins an embedding or an isolate: all
-    /// that remains of it (X9), which is all of it if the paragraph is `whole`. There is room for it. What was found
+    /// that remains of it (X9), which is all of it if `all_remain`. There is room for it. What was found
     /// of an earlier one is gone.
     pub fn fill_flat<L: Ledger>(
         &mut self,
         para: &[Unit],
-        whole: bool,
+        all_remain: bool,
         level: ParaLevel,
         steps: &mut Steps<L>,
     )
         requires room { length para.now ≤ self.old.room }
         requires flat { IsFlat (classes_of para.now) }
-        requires whole { whole ≡ true → HasNone is_removed (classes_of para.now) }
+        requires all_remain { all_remain ≡ true → HasNone is_removed (classes_of para.now) }
         ensures all { (depth : ℕ)
             → self.new.all ≡ sequences_of (leveled_of depth (classes_of para.now) (level_of_para level)) }
         ensures extent { self.new.extent ≡ length para.now }
@@ -211,7 +212,7 @@ impl Sequences {
     {
         self.count = fill_one_sequence(
             para,
-            whole,
+            all_remain,
             level,
             &mut self.links,
             &mut self.heads,

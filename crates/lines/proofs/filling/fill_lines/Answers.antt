@@ -9,8 +9,8 @@ use Rattle.units.specs.declared.level.ParaLevel.TheVariants.{Zero}
 use Rattle.units.specs.Reordering.{begins_line, para_level_at}
 use Rattle.lines.specs.Bounds.{AreBounds, bound_at, first_bound}
 use Rattle.lines.specs.declared.bounds.Bound.{Bound}
-use Rattle.lines.specs.LineEnds.{IsLineAt}
-use Rattle.lines.specs.Turning.{IsAtOneLevel}
+use Rattle.lines.specs.LineEnds.{EndsLineAt}
+use Rattle.lines.specs.LinePositions.{IsAtOneLevel}
 use Rattle.lines.proofs.BoolBytes.{bool_byte-is}
 use Rattle.explicit.proofs.Roles.{class_read}
 use Rattle.lines.proofs.LineEnds.{cut_read, end_kept}
@@ -68,7 +68,7 @@ write_line-positions-requires-clause-uniform g c =
     let start = (bound_at l.bounds l.line).position in
     let end = (bound_at l.bounds (l.line + 1)).position in
     let len : length own ≡ length c.args.own.now = length-map c.args.own.now (λ u. u.class) in
-    let cut : IsLineAt (begins_line own at) start end (length own) =
+    let cut : EndsLineAt (begins_line own at) start end (length own) =
     cut_read (begins_line own at) _ _ start end (length own) (l.invariant.kept l.line) (l.invariant.kept (l.line + 1)) (c.requires.ends.1.cut l.line c.loop-line-test.true) in
     let counted : l.paragraph ≡ count_by is_separator (take start own) = l.invariant.counted ∙ ap (λ n. count_by is_separator (take n own)) (sym (l.invariant.kept l.line)) in
     let bound = paragraph_at c.args.own.now (length paras) start c.requires.paras (omega (arith, cut.above, cut.within)) in
@@ -89,7 +89,7 @@ loop-line-preserved g c =
     let len : length own ≡ length c.args.own.now = length-map c.args.own.now (λ u. u.class) in
     let same : length own ≡ length levels = len ∙ sym c.requires.levels in
     let at = c.requires.ends.0 in
-    let cut : IsLineAt (begins_line own at) start end (length own) =
+    let cut : EndsLineAt (begins_line own at) start end (length own) =
     cut_read (begins_line own at) _ _ start end (length own) same_start same_end (c.requires.ends.1.cut l.line c.loop-line-test.true) in
     let counted : l.paragraph ≡ count_by is_separator (take start own) = l.invariant.counted ∙ ap (λ n. count_by is_separator (take n own)) (sym same_start) in
     let line = c.write_line-positions in
@@ -102,10 +102,10 @@ loop-line-preserved g c =
     record {
       filling = λ breaks all.
           let test = begins_line own breaks in
-          let here : IsLineAt test start end (length own) = cut_read test _ _ start end (length own) same_start same_end (all.cut l.line c.loop-line-test.true) in
+          let here : EndsLineAt test start end (length own) = cut_read test _ _ start end (length own) same_start same_end (all.cut l.line c.loop-line-test.true) in
           subst (λ n. Filling levels test n (take line.result line.new.orders) (take (l.line + 1 + 1) (slice_set l.bounds (l.line + 1) bound))) same_end
           (filling_more levels test start end (take l.positions l.orders) (take line.result line.new.orders) (take (l.line + 1) l.bounds) (take (l.line + 1 + 1) (slice_set l.bounds (l.line + 1) bound))
-          (subst (IsLineAt test start end) same here)
+          (subst (EndsLineAt test start end) same here)
           line.ensures.order (omega (arith, written, line.ensures.few)) put
           (subst (λ n. Filling levels test n (take l.positions l.orders) (take (l.line + 1) l.bounds)) (sym same_start) (l.invariant.filling breaks all)));
       kept = λ k. end_kept l.bounds (l.line + 1) line.result k room ∙ l.invariant.kept k;

@@ -3,7 +3,7 @@ use Rattle.std.proofs.lemmas.List.{get_or_read}
 use Rattle.std.specs.Prelude.{None, reverse, slice_index_or}
 use Rattle.std.specs.Option.{is_some}
 use mir.Val.{bool_byte}
-use Rattle.lines.specs.Turning.{is_remaining, remaining}
+use Rattle.lines.specs.LinePositions.{is_remaining, remaining}
 use Rattle.lines.proofs.BoolBytes.{bool_byte-at_most_one}
 use Rattle.lines.proofs.Remaining.{kept, remaining-before, remaining-none}
 use Rattle.lines.proofs.order.write_falling.Goals as goal

@@ -1,6 +1,6 @@
 use Rattle.std.proofs.Common.{◌≡◌, ◌+◌, ◌-◌, ◌≤◌, take}
 use Rattle.std.specs.Prelude.{reverse}
-use Rattle.lines.specs.Turning.{remaining}
+use Rattle.lines.specs.LinePositions.{remaining}
 use Rattle.lines.proofs.order.write_falling.Given as goal
 
 abbrev pub invariant-loop-position : goal.invariant-loop-position

@@ -1,5 +1,5 @@
 use Rattle.std.proofs.Common.{◌≡◌, ◌+◌, ◌-◌, ◌≤◌, take}
-use Rattle.lines.specs.Turning.{remaining}
+use Rattle.lines.specs.LinePositions.{remaining}
 use Rattle.lines.proofs.order.write_rising.Given as goal
 
 abbrev pub invariant-loop-position : goal.invariant-loop-position

@@ -3,7 +3,7 @@ use Rattle.std.specs.Prelude.{slice_range}
 use Rattle.std.specs.Option.{is_some}
 use Rattle.std.proofs.lemmas.List.Sums.{AllPass-from_list_all}
 use Rattle.units.specs.Isolates.{level_of_para}
-use Rattle.lines.specs.Turning.{IsAtOneLevel}
+use Rattle.lines.specs.LinePositions.{IsAtOneLevel}
 use Rattle.lines.proofs.Uniform.{uniform-falling, uniform-rising}
 use Rattle.lines.proofs.Whole.{all_in_line, whole-order}
 use Rattle.lines.proofs.order.write_uniform.Goals as goal

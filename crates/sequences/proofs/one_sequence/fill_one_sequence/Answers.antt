@@ -24,11 +24,11 @@ link_placed-requires-clause-rise g c =
     let are : ArePositions (remaining_of (classes_of c.args.para.now)) (length (classes_of c.args.para.now)) = remaining_rise (classes_of c.args.para.now) in
     rw f.ensures.placed (subst (ArePositions (remaining_of (classes_of c.args.para.now))) (length-classes_of c.args.para.now ∙ sym front) are)
 
-pub link_placed-requires-clause-whole : goal.link_placed-requires-clause-whole
-link_placed-requires-clause-whole g c = λ e.
+pub link_placed-requires-clause-all_remain : goal.link_placed-requires-clause-all_remain
+link_placed-requires-clause-all_remain g c = λ e.
     let n : ℕ = length c.args.para.now in
     let front : length (take n c.args.links.now) ≡ n = length-take-le n c.args.links.now (omega arith) in
-    c.place-count.ensures.placed ∙ all_remain (classes_of c.args.para.now) (c.requires.whole e) ∙ ap (positions_from 0) (length-classes_of c.args.para.now ∙ sym front)
+    c.place-count.ensures.placed ∙ all_remain (classes_of c.args.para.now) (c.requires.all_remain e) ∙ ap (positions_from 0) (length-classes_of c.args.para.now ∙ sym front)
 
 pub returns-clause-filled : goal.returns-clause-filled
 returns-clause-filled g c = λ depth.

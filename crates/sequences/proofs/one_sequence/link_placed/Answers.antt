@@ -3,9 +3,9 @@ use Rattle.units.proofs.Positions.{length-positions_from}
 use Rattle.sequences.specs.Links.{IsChain}
 use Rattle.sequences.proofs.one_sequence.link_placed.Goals as goal
 
-pub returns-then-whole : goal.returns-then-whole
-returns-then-whole g c =
-    let all = c.requires.whole c.if-whole.true in
+pub returns-then-all_remain : goal.returns-then-all_remain
+returns-then-all_remain g c =
+    let all = c.requires.all_remain c.if-all_remain.true in
     let C : List ℕ → Type 0 = λ ps. IsChain ps c.link_successive.new.links in
     record {
       chain = subst C (sym all) c.link_successive.ensures.chain;

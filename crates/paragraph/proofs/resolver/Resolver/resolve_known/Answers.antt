@@ -16,17 +16,17 @@ pub find_level-level-requires-clause-flat : goal.find_level-level-requires-claus
 find_level-level-requires-clause-flat g c = λ e.
     flat_from (classes_of c.args.para.now) (sym (c.is_flat-flat.ensures (classes_of c.args.para.now) c.requires.contents) ∙ e)
 
-pub write_level-requires-clause-whole : goal.write_level-requires-clause-whole
-write_level-requires-clause-whole g c = λ e.
-    none_from is_removed (classes_of c.args.para.now) (sym (c.is_whole-whole.ensures (classes_of c.args.para.now) c.requires.contents) ∙ e)
+pub write_level-requires-clause-all_remain : goal.write_level-requires-clause-all_remain
+write_level-requires-clause-all_remain g c = λ e.
+    none_from is_removed (classes_of c.args.para.now) (sym (c.all_remain-all_remain.ensures (classes_of c.args.para.now) c.requires.contents) ∙ e)
 
 pub find_sequences-requires-clause-flat : goal.find_sequences-requires-clause-flat
 find_sequences-requires-clause-flat g c = λ e.
     flat_from (classes_of c.args.para.now) (sym (c.is_flat-flat.ensures (classes_of c.args.para.now) c.requires.contents) ∙ e)
 
-pub find_sequences-requires-clause-whole : goal.find_sequences-requires-clause-whole
-find_sequences-requires-clause-whole g c = λ e.
-    none_from is_removed (classes_of c.args.para.now) (sym (c.is_whole-whole.ensures (classes_of c.args.para.now) c.requires.contents) ∙ e)
+pub find_sequences-requires-clause-all_remain : goal.find_sequences-requires-clause-all_remain
+find_sequences-requires-clause-all_remain g c = λ e.
+    none_from is_removed (classes_of c.args.para.now) (sym (c.all_remain-all_remain.ensures (classes_of c.args.para.now) c.requires.contents) ∙ e)
 
 pub returns-then-keeps-clause-levels : goal.returns-then-keeps-clause-levels
 returns-then-keeps-clause-levels g c =

@@ -1,20 +1,7 @@
--- What the list of a line's positions keeps while its levels are turned (L2), from the highest down.
-use Rattle.std.specs.Prelude.{Option, None, Some, ℕ, Bool, ◌+◌, ◌-◌, ◌<◌, ◌≤◌, ◌≡◌, ◌≢◌, ◌⊎◌, ◌%◌, List, [], ◌∷◌, filter, slice_index_or}
-use Rattle.std.specs.Option.{is_some}
-use Rattle.units.specs.Positions.{positions_from}
+-- Which of two positions stands first once the levels of a line were turned (L2), by the least level between them.
+use Rattle.std.specs.Prelude.{Option, None, Some, ℕ, ◌+◌, ◌-◌, ◌<◌, ◌≤◌, ◌≡◌, ◌≢◌, ◌%◌, List, [], ◌∷◌}
 use Rattle.units.specs.Reordering.{least_level}
-
--- X9: the position was not removed
-abbrev pub is_remaining : List (Option ℕ) → ℕ → Bool
-is_remaining levels p = is_some (slice_index_or levels p None)
-
--- X9: the remaining positions from start up to end, rising
-abbrev pub remaining : List (Option ℕ) → ℕ → ℕ → List ℕ
-remaining levels start end = filter (is_remaining levels) (positions_from start (end - start))
-
--- BD2: the position has the level
-abbrev pub HasLevel : List (Option ℕ) → ℕ → ℕ → Type 0
-HasLevel levels p v = slice_index_or levels p None ≡ Some v
+use Rattle.lines.specs.LinePositions.{Has, HasLevel}
 
 -- a level as a number, 0 where there is none
 abbrev pub number_or_zero : Option ℕ → ℕ
@@ -35,11 +22,6 @@ pub record Before (levels : List (Option ℕ)) (k a b : ℕ) : Type 0 where
   pub rising : a < b → turns levels k a b % 2 ≡ 0
   pub falling : b < a → turns levels k b a % 2 ≡ 1
 
--- the list has the position
-abbrev pub Has : List ℕ → ℕ → Type 0
-Has [] y = ⊥
-Has (x ∷ xs) y = (y ≡ x) ⊎ Has xs y
-
 -- each element stands in the relation to all after it
 abbrev pub Ordered : (ℕ → ℕ → Type 0) → List ℕ → Type 0
 Ordered r [] = Unit {0}
@@ -49,7 +31,3 @@ Ordered r (x ∷ xs) = ((y : ℕ) → Has xs y → r x y) × Ordered r xs
 pub record ListsRemaining (levels : List (Option ℕ)) (start end : ℕ) (xs : List ℕ) : Type 0 where
   pub sound : (p : ℕ) → Has xs p → (start ≤ p) × (p < end) × ((v : ℕ) × HasLevel levels p v)
   pub complete : (p v : ℕ) → start ≤ p → p < end → HasLevel levels p v → Has xs p
-
--- L2: all remaining positions of the line have one level
-pub record IsAtOneLevel (levels : List (Option ℕ)) (start end level : ℕ) : Type 0 where
-  pub same : (p v : ℕ) → start ≤ p → p < end → HasLevel levels p v → v ≡ level
