@@ -16,9 +16,13 @@ use Rattle.paragraph.specs.declared.contents.FirstParagraph.{FirstParagraph}
 abbrev pub has_none : (Class → Bool) → List Class → Bool
 has_none test cs = list_all (λ c. not (test c)) cs
 
+-- no class is an initiator
+abbrev pub are_flat : List Class → Bool
+are_flat cs = list_all is_flat cs
+
 -- X1 to I2: these classes leave each position at the paragraph's level
 abbrev pub keeps_level : ℕ → List Class → Bool
-keeps_level para_level cs = list_all is_flat cs && has_none (may_rise para_level) cs
+keeps_level para_level cs = are_flat cs && has_none (may_rise para_level) cs
 
 -- what the paragraph of these classes contains, and the side of its first strong class (P2, no isolates looked at)
 pub record Describes (contents : Contents) (cs : List Class) : Type 0 where

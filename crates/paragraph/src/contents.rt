@@ -8,7 +8,7 @@ ghost use Rattle.explicit.specs.FirstParagraph.{first_length};
 ghost use Rattle.flat.specs.Flat.{is_flat};
 ghost use Rattle.flat.specs.Uniform.{may_rise_at_even, may_rise_at_odd};
 ghost use Rattle.paragraph.specs.ClassSets.{IsSetOf};
-ghost use Rattle.paragraph.specs.Contents.{Describes, IsFirstOf, has_none, keeps_level};
+ghost use Rattle.paragraph.specs.Contents.{Describes, IsFirstOf, are_flat, has_none, keeps_level};
 ghost use Rattle.paragraph.specs.FirstSides.{side_by};
 ghost use Rattle.resolve.specs.Sought.{may_weaken};
 
@@ -78,7 +78,7 @@ fn may_rise_at_odd(classes: ClassSet) -> bool
 impl Contents {
     /// No initiator: X1 to X9 leave all positions that remain at the paragraph's level.
     pub fn is_flat(&self) -> bool
-        ensures { (cs : List BidiClass) → Describes self.now cs → result ≡ list_all is_flat cs }
+        ensures { (cs : List BidiClass) → Describes self.now cs → result ≡ are_flat cs }
     {
         !has_initiator(self.classes)
     }

@@ -6,10 +6,12 @@ ghost use Rattle.units.specs.Brackets.{is_open};
 ghost use Rattle.units.specs.Classes.{classes_of};
 ghost use Rattle.units.specs.Layout.{current_of};
 ghost use Rattle.units.specs.declared.class.Class.TheVariants.{BN};
+ghost use Rattle.paragraph.specs.Contents.{Describes, are_flat};
 ghost use Rattle.paragraph.specs.Covering.{AreDisjoint, HasLevelsBy, classes_before, positions_in};
 ghost use Rattle.resolve.specs.Raised.{resolved_at};
-ghost use Rattle.resolve.specs.Sought.{AreOwn, IsSoughtIn, may_weaken};
+ghost use Rattle.resolve.specs.Sought.{AreOwn, IsSoughtIn};
 
+use crate::contents::Contents;
 use explicit::levels::Explicit;
 use resolve::pairs::Pairs;
 use resolve::sequence::{Sought, resolve_sequence};
@@ -180,12 +182,10 @@ fn resolve_each<L: Ledger>(
     }
 }
 
-/// W1 to I2 over a paragraph whose sequences were found; `weak` is false only where W1 to W7 can change none of its
-/// classes. It takes the fronts of the class columns.
+/// W1 to I2 over a paragraph with these contents, whose sequences were found. It takes the fronts of the class columns.
 pub fn resolve_found<L: Ledger>(
     para: &[Unit],
-    flat: bool,
-    weak: bool,
+    contents: Contents,
     explicit: &Explicit,
     sequences: &Sequences,
     limits: Limits,
@@ -195,24 +195,29 @@ pub fn resolve_found<L: Ledger>(
     levels: &mut [Option<Level>],
     steps: &mut Steps<L>,
 )
-    requires weak { weak ≡ false → list_any may_weaken (classes_of para.now) ≡ false }
+    requires contents { Describes contents (classes_of para.now) }
     requires found { length para.now ≤ length explicit.now }
     requires apart { AreDisjoint (length para.now) sequences.now.all }
-    requires own { AreOwn (positions_in sequences.now.all) para.now (classes_before flat para.now explicit.now) }
+    requires own { AreOwn (positions_in sequences.now.all) para.now
+        (classes_before (are_flat (classes_of para.now)) para.now explicit.now) }
     requires pairs { length para.now ≤ length pairs.old }
     requires before { length para.now ≤ length before.old }
     requires classes { length para.now ≤ length classes.old }
     requires levels { length levels.old ≡ length para.now }
     ensures levels { HasLevelsBy limits.brackets para.now
-        (classes_before flat para.now explicit.now) sequences.now.all levels.new }
+        (classes_before (are_flat (classes_of para.now)) para.now explicit.now) sequences.now.all levels.new }
     ensures room { length pairs.new ≡ length pairs.old }
     ensures at_least { steps.old + length para.now ≤ steps.new }
     ensures at_most { steps.new ≤ steps.old + 75 * length para.now }
 {
     let before = &mut before[..para.len()];
     let classes = &mut classes[..para.len()];
+    let flat = contents.is_flat();
     let openings = begin(para, flat, explicit, before, classes, levels, steps);
-    let sought = Sought { weak, openings };
+    let sought = Sought {
+        weak: contents.has_weak(),
+        openings,
+    };
     resolve_each(
         sequences, para, sought, before, limits, pairs, classes, levels, steps,
     );

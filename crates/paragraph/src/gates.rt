@@ -1,21 +1,19 @@
 //! P2 to X10 over a paragraph, by the short way where it is flat: without initiators there are no isolates and no
 //! explicit levels to find. And that level, written where nothing can leave it (X1 to I2).
-ghost use Rattle.std.specs.Prelude.{◌≡◌, false, true, ◌+◌, ◌*◌, ◌≤◌, find, length, map};
-ghost use Rattle.units.specs.Classes.{classes_of, is_removed, is_strong};
+ghost use Rattle.std.specs.Prelude.{◌≡◌, false, true, ◌+◌, ◌*◌, ◌≤◌, length, map};
+ghost use Rattle.units.specs.Classes.{classes_of, is_removed};
 ghost use Rattle.units.specs.Isolates.{level_of_para, para_level_of};
 ghost use Rattle.units.specs.Paragraphs.{SeparatorOnlyLast};
 ghost use Rattle.units.specs.Runs.{leveled_of, sequences_of};
 ghost use Rattle.explicit.specs.ExplicitLevels.{HoldsLevels};
 ghost use Rattle.explicit.specs.IsolateMaps.{IsFilledFrom, room};
-ghost use Rattle.flat.specs.Flat.{IsFlat};
-ghost use Rattle.flat.specs.IdleRules.{HasNone};
 ghost use Rattle.flat.specs.Uniform.{kept_level};
-ghost use Rattle.paragraph.specs.FirstSides.{side_by};
+ghost use Rattle.paragraph.specs.Contents.{Describes, are_flat};
 
+use crate::contents::Contents;
 use explicit::isolates::IsolateMap;
 use explicit::levels::{Explicit, explicit_levels};
 use explicit::para_level::{level_under, para_level};
-use explicit::side::Side;
 use sequences::sequences::Sequences;
 use std::sync::ledger::Ledger;
 use units::bracket::Unit;
@@ -24,39 +22,36 @@ use units::level::{Direction, Level, ParaLevel};
 use units::limits::Limits;
 use units::steps::Steps;
 
-/// BD9, P2, P3: the level of a paragraph. Where it is `flat`, nothing stands in an isolate and `side`, the side of its
-/// first strong class, tells it without a step. Otherwise its isolates are found first.
+/// BD9, P2, P3: the level of a paragraph with these contents. Where it is flat, nothing stands in an isolate and the
+/// side of its first strong class tells it without a step. Otherwise its isolates are found first.
 pub fn find_level<L: Ledger>(
     para: &[Unit],
-    flat: bool,
-    side: Side,
+    contents: Contents,
     direction: Direction,
     isolates: &mut IsolateMap,
     steps: &mut Steps<L>,
 ) -> ParaLevel
-    requires flat { flat ≡ true → IsFlat (classes_of para.now) }
-    requires side { side ≡ side_by (find is_strong (classes_of para.now)) }
+    requires contents { Describes contents (classes_of para.now) }
     requires room { length para.now ≤ room isolates.old }
     ensures level { level_of_para result ≡ para_level_of (classes_of para.now) direction }
-    ensures isolates { flat ≡ false → IsFilledFrom isolates.new (classes_of para.now) }
+    ensures isolates { are_flat (classes_of para.now) ≡ false → IsFilledFrom isolates.new (classes_of para.now) }
     ensures room { room isolates.new ≡ room isolates.old }
     ensures at_least { steps.old ≤ steps.new }
     ensures at_most { steps.new ≤ steps.old + length para.now }
-    ensures light { flat ≡ true → steps.new ≡ steps.old }
+    ensures light { are_flat (classes_of para.now) ≡ true → steps.new ≡ steps.old }
 {
-    if flat {
-        return level_under(direction, side);
+    if contents.is_flat() {
+        return level_under(direction, contents.side());
     }
     isolates.fill(para, steps);
     para_level(para, isolates, direction, steps)
 }
 
-/// X1 to X9, BD13, X10: the sequences of a paragraph of this level. Only where it isn't `flat`, its explicit levels are
-/// found for that; else all that remains of it is one sequence, and all of it remains if `all_remain`.
+/// X1 to X9, BD13, X10: the sequences of a paragraph with these contents, of this level. Only where it isn't flat, its
+/// explicit levels are found for that; else all that remains of it is one sequence.
 pub fn find_sequences<L: Ledger>(
     para: &[Unit],
-    flat: bool,
-    all_remain: bool,
+    contents: Contents,
     level: ParaLevel,
     limits: Limits,
     isolates: &IsolateMap,
@@ -64,13 +59,12 @@ pub fn find_sequences<L: Ledger>(
     sequences: &mut Sequences,
     steps: &mut Steps<L>,
 )
-    requires flat { flat ≡ true → IsFlat (classes_of para.now) }
-    requires all_remain { all_remain ≡ true → HasNone is_removed (classes_of para.now) }
+    requires contents { Describes contents (classes_of para.now) }
     requires separators { SeparatorOnlyLast para.now }
-    requires isolates { flat ≡ false → IsFilledFrom isolates.now (classes_of para.now) }
+    requires isolates { are_flat (classes_of para.now) ≡ false → IsFilledFrom isolates.now (classes_of para.now) }
     requires explicit { length para.now ≤ length explicit.old }
     requires room { length para.now ≤ sequences.old.room }
-    ensures levels { flat ≡ false
+    ensures levels { are_flat (classes_of para.now) ≡ false
         → HoldsLevels explicit.new limits.depth (classes_of para.now) (level_of_para level) }
     ensures all { sequences.new.all
         ≡ sequences_of (leveled_of limits.depth (classes_of para.now) (level_of_para level)) }
@@ -79,8 +73,8 @@ pub fn find_sequences<L: Ledger>(
     ensures at_least { steps.old ≤ steps.new }
     ensures at_most { steps.new ≤ steps.old + 5 * length para.now + 1 }
 {
-    if flat {
-        sequences.fill_flat(para, all_remain, level, steps);
+    if contents.is_flat() {
+        sequences.fill_flat(para, contents.all_remain(), level, steps);
         return;
     }
     explicit_levels(para, isolates, level, limits, explicit, steps);
@@ -99,20 +93,20 @@ fn kept_level(all_remain: bool, level: Level, class: Class) -> Option<Level>
     }
 }
 
-/// Gives the positions that remain (X9) this level, and the others none, a step for each. All remain if
-/// `all_remain`.
+/// Gives the positions that remain (X9) this level, and the others none, a step for each.
 pub fn write_level<L: Ledger>(
     para: &[Unit],
-    all_remain: bool,
+    contents: Contents,
     level: Level,
     levels: &mut [Option<Level>],
     steps: &mut Steps<L>,
 )
-    requires all_remain { all_remain ≡ true → HasNone is_removed (classes_of para.now) }
+    requires contents { Describes contents (classes_of para.now) }
     requires levels { length levels.old ≡ length para.now }
     ensures levels { levels.new ≡ map (λ unit. kept_level level unit.class) para.now }
     ensures steps { steps.new ≡ steps.old + length levels.old }
 {
+    let all_remain = contents.all_remain();
     for p in 0..para.len() {
         steps.tick();
         levels[p] = kept_level(all_remain, level, para[p].class);

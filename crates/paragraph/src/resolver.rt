@@ -197,14 +197,11 @@ impl Resolver {
         ensures light { result.uniform ≡ true → steps.new ≤ steps.old + length para.now }
     {
         // BD9, P2, P3.
-        let flat = contents.is_flat();
-        let side = contents.side();
-        let level = find_level(para, flat, side, direction, &mut self.isolates, steps);
+        let level = find_level(para, contents, direction, &mut self.isolates, steps);
 
         // X1 to I2, where nothing can leave that level.
-        let all_remain = contents.all_remain();
         if contents.keeps(level) {
-            write_level(para, all_remain, level.level(), levels, steps);
+            write_level(para, contents, level.level(), levels, steps);
             return Resolved {
                 level,
                 uniform: true,
@@ -216,14 +213,13 @@ impl Resolver {
         let explicit = &mut self.explicit;
         let sequences = &mut self.sequences;
         find_sequences(
-            para, flat, all_remain, level, limits, isolates, explicit, sequences, steps,
+            para, contents, level, limits, isolates, explicit, sequences, steps,
         );
 
         // W1 to W7, BD14 to BD16 and N0, N1 and N2, I1 and I2, sequence by sequence.
         resolve_found(
             para,
-            flat,
-            contents.has_weak(),
+            contents,
             explicit,
             sequences,
             limits,

@@ -1,16 +1,26 @@
-use Rattle.std.proofs.Common.{arith}
+use Rattle.std.proofs.Common.{arith, sym, ◌∙◌}
 use Rattle.std.proofs.lemmas.Bool.{both_ways}
-use Rattle.paragraph.proofs.FlatLevels.{remaining_few}
+use Rattle.units.specs.Classes.{classes_of, is_removed}
+use Rattle.paragraph.proofs.FlatLevels.{flat_from, none_from, remaining_few}
 use Rattle.paragraph.proofs.gates.find_sequences.Goals as goal
 
-pub returns-then-flat-clause-levels : goal.returns-then-flat-clause-levels
-returns-then-flat-clause-levels g c = λ deep. absurd (both_ways c.args.flat deep c.if-flat.true)
+pub fill_flat-requires-clause-flat : goal.fill_flat-requires-clause-flat
+fill_flat-requires-clause-flat g c =
+    flat_from (classes_of c.args.para.now) (sym (c.is_flat.ensures (classes_of c.args.para.now) c.requires.contents) ∙ c.if-is_flat.true)
 
-pub returns-then-flat-clause-all : goal.returns-then-flat-clause-all
-returns-then-flat-clause-all g c = c.fill_flat.ensures.all c.args.limits.depth
+pub fill_flat-requires-clause-all_remain : goal.fill_flat-requires-clause-all_remain
+fill_flat-requires-clause-all_remain g c = λ e.
+    none_from is_removed (classes_of c.args.para.now) (sym (c.all_remain.ensures (classes_of c.args.para.now) c.requires.contents) ∙ e)
 
-pub returns-then-flat-clause-at_most : goal.returns-then-flat-clause-at_most
-returns-then-flat-clause-at_most g c = omega (arith, remaining_few c.args.para.now)
+pub returns-then-is_flat-clause-levels : goal.returns-then-is_flat-clause-levels
+returns-then-is_flat-clause-levels g c = λ deep.
+    absurd (both_ways c.is_flat.result (c.is_flat.ensures (classes_of c.args.para.now) c.requires.contents ∙ deep) c.if-is_flat.true)
+
+pub returns-then-is_flat-clause-all : goal.returns-then-is_flat-clause-all
+returns-then-is_flat-clause-all g c = c.fill_flat.ensures.all c.args.limits.depth
+
+pub returns-then-is_flat-clause-at_most : goal.returns-then-is_flat-clause-at_most
+returns-then-is_flat-clause-at_most g c = omega (arith, remaining_few c.args.para.now)
 
 pub returns-clause-levels : goal.returns-clause-levels
 returns-clause-levels g c = λ deep. c.explicit_levels.ensures.found

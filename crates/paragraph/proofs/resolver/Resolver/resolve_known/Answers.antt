@@ -1,32 +1,16 @@
 use Rattle.std.proofs.Common.{arith, rules, ap, sym, subst, ◌≡◌, ◌∙◌, ℕ, List, length, map, true}
-use Rattle.units.specs.Classes.{classes_of, is_removed}
+use Rattle.units.specs.Classes.{classes_of}
 use Rattle.units.specs.Isolates.{level_of_para}
 use Rattle.units.specs.Layout.{resolved_levels}
 use Rattle.units.specs.Runs.{SequenceView}
 use Rattle.units.specs.declared.bracket.Unit.{Unit as BidiUnit}
 use Rattle.flat.specs.Uniform.{kept_level}
 use Rattle.sequences.proofs.FilledFrom.{level_of_para-low}
-use Rattle.paragraph.specs.Contents.{keeps_level}
+use Rattle.paragraph.specs.Contents.{are_flat, keeps_level}
 use Rattle.paragraph.specs.Covering.{AreDisjoint, positions_in}
 use Rattle.paragraph.proofs.AllSequences.{sequences_are_apart}
-use Rattle.paragraph.proofs.FlatLevels.{flat_from, kept_stays, levels_are_kept, levels_before, none_from, own_before}
+use Rattle.paragraph.proofs.FlatLevels.{flat_from, kept_stays, levels_are_kept, levels_before, own_before}
 use Rattle.paragraph.proofs.resolver.Resolver.resolve_known.Goals as goal
-
-pub find_level-level-requires-clause-flat : goal.find_level-level-requires-clause-flat
-find_level-level-requires-clause-flat g c = λ e.
-    flat_from (classes_of c.args.para.now) (sym (c.is_flat-flat.ensures (classes_of c.args.para.now) c.requires.contents) ∙ e)
-
-pub write_level-requires-clause-all_remain : goal.write_level-requires-clause-all_remain
-write_level-requires-clause-all_remain g c = λ e.
-    none_from is_removed (classes_of c.args.para.now) (sym (c.all_remain-all_remain.ensures (classes_of c.args.para.now) c.requires.contents) ∙ e)
-
-pub find_sequences-requires-clause-flat : goal.find_sequences-requires-clause-flat
-find_sequences-requires-clause-flat g c = λ e.
-    flat_from (classes_of c.args.para.now) (sym (c.is_flat-flat.ensures (classes_of c.args.para.now) c.requires.contents) ∙ e)
-
-pub find_sequences-requires-clause-all_remain : goal.find_sequences-requires-clause-all_remain
-find_sequences-requires-clause-all_remain g c = λ e.
-    none_from is_removed (classes_of c.args.para.now) (sym (c.all_remain-all_remain.ensures (classes_of c.args.para.now) c.requires.contents) ∙ e)
 
 pub returns-then-keeps-clause-levels : goal.returns-then-keeps-clause-levels
 returns-then-keeps-clause-levels g c =
@@ -48,16 +32,13 @@ resolve_found-requires-clause-apart g c =
     let P : List SequenceView → Type 0 = λ all. AreDisjoint (length c.args.para.now) all in
     subst P (sym c.find_sequences.ensures.all) (sequences_are_apart c.args.limits.depth (omega arith) c.args.para.now level (level_of_para-low c.find_level-level.result) c.requires.separators)
 
-pub resolve_found-requires-clause-weak : goal.resolve_found-requires-clause-weak
-resolve_found-requires-clause-weak g c = λ e. sym (c.has_weak.ensures (classes_of c.args.para.now) c.requires.contents) ∙ e
-
 pub resolve_found-requires-clause-own : goal.resolve_found-requires-clause-own
 resolve_found-requires-clause-own g c =
-    own_before c.args.limits c.args.para.now (level_of_para c.find_level-level.result) c.find_sequences.new.explicit c.is_flat-flat.result c.find_sequences.ensures.levels (positions_in c.find_sequences.new.sequences.all)
+    own_before c.args.limits c.args.para.now (level_of_para c.find_level-level.result) c.find_sequences.new.explicit (are_flat (classes_of c.args.para.now)) c.find_sequences.ensures.levels (positions_in c.find_sequences.new.sequences.all)
 
 pub returns-clause-levels : goal.returns-clause-levels
 returns-clause-levels g c =
-    levels_before c.args.limits c.args.para.now (level_of_para c.find_level-level.result) c.find_sequences.new.explicit c.is_flat-flat.result
-    (λ e. flat_from (classes_of c.args.para.now) (sym (c.is_flat-flat.ensures (classes_of c.args.para.now) c.requires.contents) ∙ e)) c.find_sequences.ensures.levels c.find_sequences.new.sequences.all c.resolve_found.new.levels c.find_sequences.ensures.all (search rules)
+    levels_before c.args.limits c.args.para.now (level_of_para c.find_level-level.result) c.find_sequences.new.explicit (are_flat (classes_of c.args.para.now))
+    (flat_from (classes_of c.args.para.now)) c.find_sequences.ensures.levels c.find_sequences.new.sequences.all c.resolve_found.new.levels c.find_sequences.ensures.all (search rules)
     c.resolve_found.ensures.levels
     ∙ ap (resolved_levels c.args.limits c.args.para.now) c.find_level-level.ensures.level
