@@ -21,6 +21,9 @@ returns-then-keeps-clause-levels g c =
     ∙ levels_are_kept c.args.limits c.args.para.now level kept
     ∙ ap (resolved_levels c.args.limits c.args.para.now) c.find_level-level.ensures.level
 
+pub returns-then-keeps-clause-known : goal.returns-then-keeps-clause-known
+returns-then-keeps-clause-known g c = sym c.if-keeps.true ∙ c.keeps.ensures (classes_of c.args.para.now) c.requires.contents
+
 pub returns-then-keeps-clause-uniform : goal.returns-then-keeps-clause-uniform
 returns-then-keeps-clause-uniform g c = λ e.
     kept_stays c.args.para.now (level_of_para c.find_level-level.result) c.write_level.new.levels
