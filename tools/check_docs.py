@@ -10,7 +10,8 @@ has made is made of what `cat FILE`, or `od -A n -t x1 FILE`, shows of it. `ucd`
 property files and test files; where FOLDER has none, commands that name it are passed over, and it says so.
 
 It ends with 0 where all is as it is written, with 1 where not, and with 2 where the program is missing. It also looks
-whether docs/crates.svg is the drawing of the crates. It runs what `rt ci` leaves, or `rt run` in crates/bidi.
+whether docs/crates.svg is the drawing of the crates, and docs/layout.svg that of the layout in docs/WALK.md. It runs
+what `rt ci` leaves, or `rt run` in crates/bidi.
 """
 
 import bz2
@@ -24,6 +25,7 @@ import tempfile
 TOP = pathlib.Path(__file__).resolve().parent.parent
 RUN = ("bidi", "cat", "od", "printf", "mkdir")
 UCD = ("DerivedBidiClass.txt", "BidiBrackets.txt", "BidiMirroring.txt", "BidiTest.txt", "BidiCharacterTest.txt")
+DRAWERS = ("draw_crates.py", "draw_layout.py")
 SECONDS = 60
 BYTES = "od -A n -t x1 "
 PACKED = {".gz": gzip.decompress, ".bz2": bz2.decompress}
@@ -113,11 +115,11 @@ def main():
     files = [TOP / "README.md", *sorted((TOP / "docs").glob("*.md"))]
     counts = [run_document(file, folder, program) for file in files]
     ran, wrong, passed = (sum(column) for column in zip(*counts))
-    drawn = subprocess.run([TOP / "tools/draw_crates.py", "--check"]).returncode
+    drawings = [subprocess.run([TOP / "tools" / tool, "--check"]).returncode for tool in DRAWERS]
     if passed:
         print(f"no published files in {folder} (package unicode-data): {passed} commands are not run")
     print(f"{ran} commands of the documents, {wrong} wrong")
-    sys.exit(1 if wrong or drawn else 0)
+    sys.exit(1 if wrong or any(drawings) else 0)
 
 
 main()
