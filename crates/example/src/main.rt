@@ -1,14 +1,8 @@
-//! Lays out a text by small tables, and prints the level of each character and each line as it is shown.
+//! Lays out a text by the tables that are built in, and prints the level of each character and each line as it is shown.
 #![tactic(auto)]
 
 use std::error::Error;
-use texts::{Direction, Tables, Text};
-
-const CLASSES: &[u8] = b"0020 ; WS\n0028..0029 ; ON\n0030..0039 ; EN\n05D0..05EA ; R\n";
-
-const BRACKETS: &[u8] = b"0028; 0029; o\n0029; 0028; c\n";
-
-const MIRRORS: &[u8] = b"0028; 0029\n0029; 0028\n";
+use texts::{Direction, Text};
 
 /// Prints each character that has a level, with it.
 fn print_levels(rt: &HostRuntime, text: &Text<'_>) -> anyhow::Result<()> {
@@ -29,7 +23,7 @@ fn print_lines(rt: &HostRuntime, text: &Text<'_>) -> anyhow::Result<()> {
 }
 
 fn main(rt: HostRuntime) -> anyhow::Result<()> {
-    let tables = Tables::read(rt.alloc(), CLASSES, BRACKETS, MIRRORS)?;
+    let tables = standard::tables(rt.alloc())?;
     let words = "ab (\u{5D2}\u{5D3}) 12";
     let text = Text::lay_out(rt.alloc(), &tables, words, Direction::Rtl, &[])?;
     print_levels(&rt, &text)?;

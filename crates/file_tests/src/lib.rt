@@ -23,6 +23,8 @@ mod reading;
 #[cfg(test)]
 mod sources;
 #[cfg(test)]
+mod standard_tables;
+#[cfg(test)]
 mod table_faults;
 #[cfg(test)]
 mod table_rows;
