@@ -1,7 +1,9 @@
 //! The explicit levels of a paragraph (X1 to X9).
 ghost use Rattle.std.specs.Prelude.{◌≡◌, ◌+◌, ◌*◌, ◌<◌, ◌≤◌, length, None, slice_index_or, IfOk};
+ghost use Rattle.std.specs.Option.{option_map_or};
 ghost use Rattle.units.specs.Classes.{classes_of};
 ghost use Rattle.units.specs.Isolates.{level_of_para};
+ghost use Rattle.units.specs.declared.class.Class.TheVariants.{BN};
 ghost use Rattle.explicit.specs.IsolateMaps.{IsFilledFrom};
 ghost use Rattle.explicit.specs.ExplicitLevels.{HoldsLevels, IsExplicitAt, IsWithinDepth};
 ghost use Rattle.explicit.specs.StatusStacks.{entry_count};
@@ -67,6 +69,18 @@ impl Explicit {
         ensures within { IsWithinDepth self.now p result }
     {
         self.places[p]
+    }
+
+    /// X1 to X9: the current class of the position `p`, BN where it is removed. `p` is a position of the paragraph that
+    /// was filled from.
+    pub fn class_at(&self, p: usize) -> Class
+        requires { p < length self.now }
+        ensures { result ≡ option_map_or (λ x. x.1) (slice_index_or self.now p None) BN }
+    {
+        match self.at(p) {
+            Some((_, class)) => class,
+            None => Class::BN,
+        }
     }
 }
 

@@ -1,11 +1,9 @@
 //! W1 to I2 over a paragraph whose sequences were found.
 ghost use Rattle.std.specs.Prelude.{◌≡◌, false, ◌+◌, ◌*◌, ◌<◌, ◌≤◌, ℕ, None, length, slice_set, take};
 ghost use Rattle.std.specs.List.{list_any};
-ghost use Rattle.std.specs.Option.{option_map_or};
 ghost use Rattle.units.specs.Brackets.{is_open};
 ghost use Rattle.units.specs.Classes.{classes_of};
 ghost use Rattle.units.specs.Layout.{current_of};
-ghost use Rattle.units.specs.declared.class.Class.TheVariants.{BN};
 ghost use Rattle.paragraph.specs.Contents.{Describes, are_flat};
 ghost use Rattle.paragraph.specs.Covering.{AreDisjoint, HasLevelsBy, classes_before, positions_in};
 ghost use Rattle.resolve.specs.Raised.{resolved_at};
@@ -22,16 +20,6 @@ use units::class::Class;
 use units::level::Level;
 use units::limits::Limits;
 use units::steps::Steps;
-
-/// The class that the weak rules begin with: the current one, or BN where X9 removes the position.
-fn current_class(place: Option<(Level, Class)>) -> Class
-    ensures { result ≡ option_map_or (λ x. x.1) place BN }
-{
-    match place {
-        Some((_, class)) => class,
-        None => Class::BN,
-    }
-}
 
 /// BD14: an opening bracket.
 fn is_open(bracket: Bracket) -> bool
@@ -84,7 +72,7 @@ fn begin_found<L: Ledger>(
     for p in 0..para.len() {
         steps.tick();
         opened = opened | is_open(para[p].bracket);
-        begin_at(p, current_class(explicit.at(p)), before, classes, levels);
+        begin_at(p, explicit.class_at(p), before, classes, levels);
     }
     opened
 }
