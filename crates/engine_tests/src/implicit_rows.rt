@@ -4,9 +4,8 @@ ghost use Rattle.std.specs.Prelude.{◌≡◌, ◌<◌, length};
 
 use crate::engine::{neutral_sequences, only_sequence};
 use crate::given::{assert_classes, assert_shown, classes};
-use resolve::implicit::resolve_levels;
+use resolve::implicit::{implicit, resolve_levels};
 use sequences::sequence::Sequence;
-use stages::implicit::implicit;
 use std::alloc::Global;
 use std::marker::Brand;
 use std::process::Abort;

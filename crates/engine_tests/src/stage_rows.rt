@@ -3,9 +3,9 @@ ghost use Rattle.std.specs.Prelude.{◌≡◌, ◌<◌, length};
 
 use crate::engine::{neutral_sequences, only_sequence};
 use crate::given::{assert_classes, classes};
+use resolve::neutral::neutral;
 use resolve::weak::weak;
 use sequences::sequence::Sequence;
-use stages::neutral::neutrals;
 use stages::weak::{w1, w2, w3, w4, w5, w6, w7, weak_types};
 use std::alloc::Global;
 use std::marker::Brand;
@@ -45,7 +45,7 @@ fn apply<L: Ledger>(stage: Stage, s: &Sequence, classes: &mut [Class], steps: &m
         Stage::W7 => w7(s, classes, steps),
         Stage::Weak => weak_types(s, classes, steps),
         Stage::EngineWeak => weak(s, classes, steps),
-        Stage::Neutrals => neutrals(s, classes, steps),
+        Stage::Neutrals => neutral(s, classes, steps),
     }
 }
 

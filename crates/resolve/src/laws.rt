@@ -1,13 +1,16 @@
-//! Laws for the layers above: of bracket pairs (BD16), with room for any number of open brackets, and of the classes
-//! before W1, at any greatest level.
-ghost use Rattle.std.specs.Prelude.{◌≡◌, ℕ, List, [], false};
+//! Laws for the layers above: of bracket pairs (BD16), with room for any number of open brackets, of the classes before
+//! W1, at any greatest level, and of the rules one after another.
+ghost use Rattle.std.specs.Prelude.{◌≡◌, ℕ, List, [], Option, false};
 ghost use Rattle.units.specs.Brackets.{bracket_pairs_of};
 ghost use Rattle.units.specs.Classes.{class_at};
 ghost use Rattle.std.specs.List.{list_any};
 ghost use Rattle.units.specs.Layout.{current_at};
+ghost use Rattle.units.specs.Runs.{SequenceView};
 ghost use Rattle.units.specs.Weak.{after_weak};
 ghost use Rattle.units.specs.declared.bracket.Bracket.{Bracket};
+ghost use Rattle.units.specs.declared.bracket.Unit.{Unit as BidiUnit};
 ghost use Rattle.units.specs.declared.class.Class.{Class};
+ghost use Rattle.resolve.specs.InOrder.{AfterEach, AreLeftInOrder, AreResolved};
 ghost use Rattle.resolve.specs.PairLaws.{PairsAreOrdered, PairsNest, PairsAreShallow, InsidesAreFew, InsidesAreFewByOpener, StopsAtFirstOpener};
 ghost use Rattle.resolve.specs.Own.{IsOwnMark, IsOwnUnlessImposed};
 ghost use Rattle.resolve.specs.Sought.{may_weaken};
@@ -56,4 +59,13 @@ pub fn marks_are_own()
 /// Where no class of a sequence is AL, EN, ES, ET, CS or NSM, W1 to W7 change nothing.
 pub fn weak_rules_are_idle()
     ensures { (sos : Class) → (cs : List Class) → list_any may_weaken cs ≡ false → after_weak sos cs ≡ cs }
+{}
+
+/// W1 to I2: `weak`, `bracket_pairs`, `paired`, `neutral` and `implicit`, called one after another, leave what
+/// `resolve_sequence` leaves.
+pub fn rules_in_order()
+    ensures { (most_open : ℕ) (s : SequenceView) (us : List BidiUnit) (before old_classes : List Class)
+        (old_levels : List (Option ℕ)) (after : AfterEach)
+        → AreLeftInOrder most_open s us before old_classes old_levels after
+        → AreResolved most_open s us before old_classes old_levels after }
 {}

@@ -4,8 +4,8 @@ ghost use Rattle.paragraph.specs.Covering.{AreDisjoint};
 ghost use Rattle.resolve.specs.Raised.{resolved_at};
 ghost use Rattle.rule_columns.specs.Passes.{implicit_of};
 
+use resolve::implicit::implicit;
 use sequences::sequences::Sequences;
-use stages::implicit::implicit;
 use std::alloc::Global;
 use std::sync::ledger::Ledger;
 use units::class::Class;

@@ -6,9 +6,8 @@ ghost use Rattle.units.specs.declared.class.Class.TheVariants.{ON};
 ghost use Rattle.sequences.specs.Links.{ArePositions};
 ghost use Rattle.resolve.specs.Rewritten.{Rewrites};
 
-use crate::rules::{by_w1, by_w3, is_base};
 use crate::runs::{RunKind, settle};
-use resolve::rules::{by_w2, by_w4, by_w6, by_w7};
+use resolve::rules::{by_w1, by_w2, by_w3, by_w4, by_w6, by_w7, is_base};
 use sequences::sequence::Sequence;
 use std::sync::ledger::Ledger;
 use units::class::Class;

@@ -1,7 +1,7 @@
 use Rattle.std.proofs.Common.{◌≡◌, ◌+◌}
 use Rattle.units.specs.Classes.{classes_at}
 use Rattle.resolve.proofs.Raising.{RaisePass}
-use Rattle.stages.proofs.implicit.implicit.Given as goal
+use Rattle.resolve.proofs.implicit.implicit.Given as goal
 
 abbrev pub invariant-loop-k : goal.invariant-loop-k
 invariant-loop-k g l =

@@ -7,7 +7,7 @@ use Rattle.sequences.specs.Links.{ArePositions}
 use Rattle.resolve.specs.Raised.{Raises}
 use Rattle.resolve.proofs.Gathered.{class_at-classes_at}
 use Rattle.resolve.proofs.Raising.{raise_start, raise_write, raise_end}
-use Rattle.stages.proofs.implicit.implicit.Goals as goal
+use Rattle.resolve.proofs.implicit.implicit.Goals as goal
 
 pub loop-k-init : goal.loop-k-init
 loop-k-init g c =
