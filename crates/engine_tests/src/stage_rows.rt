@@ -6,7 +6,7 @@ use crate::given::{assert_classes, classes};
 use resolve::neutral::neutral;
 use resolve::weak::weak;
 use sequences::sequence::Sequence;
-use stages::weak::{w1, w2, w3, w4, w5, w6, w7, weak_types};
+use rule_columns::weak::{w1, w2, w3, w4, w5, w6, w7, weak_types};
 use std::alloc::Global;
 use std::marker::Brand;
 use std::process::Abort;

@@ -5,7 +5,10 @@ pub mod ExplicitParts
 pub mod Found
 pub mod LastLevels
 pub mod NamedPositions
-pub mod NeutralPasses
 pub mod NeutralSteps
 pub mod Outside
 pub mod PuttingTogether
+pub mod RulePasses
+pub mod Separators
+pub mod Settles
+pub mod StepCounts

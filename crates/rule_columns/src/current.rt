@@ -1,24 +1,11 @@
 //! The classes of a paragraph after X1 to X9.
 ghost use Rattle.std.specs.Prelude.{◌≡◌, ◌≤◌, length, take, IfOk};
-ghost use Rattle.std.specs.Option.{option_map_or};
 ghost use Rattle.units.specs.Layout.{current_of};
-ghost use Rattle.units.specs.declared.class.Class.TheVariants.{BN};
 
 use explicit::levels::Explicit;
 use std::alloc::Global;
 use units::class::Class;
-use units::level::Level;
 use units::memory::Memory;
-
-/// The class at a place, or BN where X9 removes the position.
-fn current_class(place: Option<(Level, Class)>) -> Class
-    ensures { result ≡ option_map_or (λ x. x.1) place BN }
-{
-    match place {
-        Some((_, class)) => class,
-        None => Class::BN,
-    }
-}
 
 /// The classes after X1 to X9 of the first `n` positions that were filled. The error is refused memory.
 pub fn current_classes(alloc: Global, places: &Explicit, n: usize) -> Result<Vec<Class>, Memory>
@@ -27,7 +14,7 @@ pub fn current_classes(alloc: Global, places: &Explicit, n: usize) -> Result<Vec
 {
     let mut classes = Vec::with_capacity(alloc, n)?;
     for p in 0..n {
-        match classes.push(current_class(places.at(p))) {
+        match classes.push(places.class_at(p)) {
             Ok(()) => {}
             Err(_) => return Err(Memory),
         }

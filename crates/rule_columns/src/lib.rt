@@ -15,4 +15,6 @@ mod neutral;
 mod pass;
 mod rewriting;
 pub mod rule;
+mod runs;
 mod shown_part;
+pub mod weak;

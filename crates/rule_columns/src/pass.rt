@@ -4,8 +4,8 @@ ghost use Rattle.resolve.specs.Rewritten.{Rewrites};
 ghost use Rattle.rule_columns.specs.Passes.{by_pass};
 
 use crate::neutral::{n1, n2};
+use crate::weak::{w1, w2, w3, w4, w5, w6, w7};
 use sequences::sequence::Sequence;
-use stages::weak::{w1, w2, w3, w4, w5, w6, w7};
 use std::sync::ledger::Ledger;
 use units::class::Class;
 use units::steps::Steps;
@@ -38,7 +38,7 @@ pub fn apply<L: Ledger>(pass: Pass, s: &Sequence, classes: &mut [Class], steps: 
         Pass::W5 => w5(s, classes, steps),
         Pass::W6 => w6(s, classes, steps),
         Pass::W7 => w7(s, classes, steps),
-        Pass::N1 => n1(s, classes),
+        Pass::N1 => n1(s, classes, steps),
         Pass::N2 => n2(s, classes),
     }
 }

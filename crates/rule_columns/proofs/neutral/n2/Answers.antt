@@ -2,7 +2,7 @@ use Rattle.std.proofs.Common.{arith, rules, length, ◌≡◌, ap, ◌∙◌}
 use Rattle.units.specs.Runs.{direction_of}
 use Rattle.sequences.specs.Links.{ArePositions}
 use Rattle.resolve.proofs.Passes.{pass_end}
-use Rattle.stages.proofs.RulePasses.{each_pass_start, each_pass_write}
+use Rattle.rule_columns.proofs.RulePasses.{each_pass_start, each_pass_write}
 use Rattle.rule_columns.specs.Passes.{by_n2, after_n2}
 use Rattle.rule_columns.proofs.neutral.n2.Goals as goal
 

@@ -1,4 +1,4 @@
-use Rattle.stages.proofs.RulePasses.{EachPass}
+use Rattle.rule_columns.proofs.RulePasses.{EachPass}
 use Rattle.rule_columns.specs.Passes.{by_n2}
 use Rattle.rule_columns.proofs.neutral.n2.Given as goal
 

@@ -1,4 +1,0 @@
-pub mod RulePasses
-pub mod Separators
-pub mod Settles
-pub mod StepCounts

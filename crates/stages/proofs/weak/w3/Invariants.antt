@@ -1,7 +1,0 @@
-use Rattle.std.proofs.Common.{◌≡◌, ◌+◌}
-use Rattle.units.specs.Weak.{by_w3}
-use Rattle.stages.proofs.RulePasses.{EachPass}
-use Rattle.stages.proofs.weak.w3.Given as goal
-
-abbrev pub invariant-loop-position : goal.invariant-loop-position
-invariant-loop-position g l = EachPass by_w3 l.positions l.initial.classes l.classes l.position-index × (l.steps ≡ l.initial.steps + l.position-index)
