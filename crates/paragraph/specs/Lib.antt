@@ -3,4 +3,5 @@ pub mod Contents
 pub mod Covering
 pub mod Removed
 pub mod Resolvers
+pub mod StepBounds
 pub mod FirstSides

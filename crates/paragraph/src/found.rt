@@ -6,6 +6,7 @@ ghost use Rattle.units.specs.Classes.{classes_of};
 ghost use Rattle.units.specs.Layout.{current_of};
 ghost use Rattle.paragraph.specs.Contents.{Describes, are_flat};
 ghost use Rattle.paragraph.specs.Covering.{AreDisjoint, HasLevelsBy, classes_before, positions_in};
+ghost use Rattle.paragraph.specs.StepBounds.{each_steps, found_steps};
 ghost use Rattle.resolve.specs.Raised.{resolved_at};
 ghost use Rattle.resolve.specs.Sought.{AreOwn, IsSoughtIn};
 
@@ -159,7 +160,7 @@ fn resolve_each<L: Ledger>(
     ensures levels { HasLevelsBy limits.brackets para.now before.now sequences.now.all levels.new }
     ensures room { length pairs.new ≡ length pairs.old }
     ensures at_least { steps.old ≤ steps.new }
-    ensures at_most { steps.new ≤ steps.old + 74 * length para.now }
+    ensures at_most { steps.new ≤ steps.old + each_steps * length para.now }
 {
     for k in 0..sequences.count() {
         steps.tick();
@@ -196,7 +197,7 @@ pub fn resolve_found<L: Ledger>(
         (classes_before (are_flat (classes_of para.now)) para.now explicit.now) sequences.now.all levels.new }
     ensures room { length pairs.new ≡ length pairs.old }
     ensures at_least { steps.old + length para.now ≤ steps.new }
-    ensures at_most { steps.new ≤ steps.old + 75 * length para.now }
+    ensures at_most { steps.new ≤ steps.old + found_steps * length para.now }
 {
     let before = &mut before[..para.len()];
     let classes = &mut classes[..para.len()];

@@ -9,6 +9,7 @@ ghost use Rattle.explicit.specs.ExplicitLevels.{HoldsLevels};
 ghost use Rattle.explicit.specs.IsolateMaps.{IsFilledFrom, room};
 ghost use Rattle.flat.specs.Uniform.{kept_level};
 ghost use Rattle.paragraph.specs.Contents.{Describes, are_flat};
+ghost use Rattle.paragraph.specs.StepBounds.{finding_steps};
 
 use crate::contents::Contents;
 use explicit::isolates::IsolateMap;
@@ -71,7 +72,7 @@ pub fn find_sequences<L: Ledger>(
     ensures explicit { length explicit.new ≡ length explicit.old }
     ensures room { sequences.new.room ≡ sequences.old.room }
     ensures at_least { steps.old ≤ steps.new }
-    ensures at_most { steps.new ≤ steps.old + 5 * length para.now + 1 }
+    ensures at_most { steps.new ≤ steps.old + finding_steps * length para.now + 1 }
 {
     if contents.is_flat() {
         sequences.fill_flat(para, contents.all_remain(), level, steps);

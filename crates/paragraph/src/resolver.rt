@@ -7,6 +7,7 @@ ghost use Rattle.units.specs.Layout.{resolved_levels};
 ghost use Rattle.units.specs.Paragraphs.{SeparatorOnlyLast};
 ghost use Rattle.paragraph.specs.Contents.{Describes, keeps_level};
 ghost use Rattle.paragraph.specs.Resolvers.{StaysAt};
+ghost use Rattle.paragraph.specs.StepBounds.{known_steps, paragraph_steps};
 
 use crate::contents::{Contents, FirstParagraph};
 use crate::found::resolve_found;
@@ -166,7 +167,7 @@ impl Resolver {
         ensures uniform { result.uniform ≡ true → StaysAt (level_of_para result.level) levels.new }
         ensures room { self.new ≡ self.old }
         ensures at_least { steps.old + 2 * length para.now ≤ steps.new }
-        ensures at_most { steps.new ≤ steps.old + 82 * length para.now + 1 }
+        ensures at_most { steps.new ≤ steps.old + paragraph_steps * length para.now + 1 }
         ensures light { result.uniform ≡ true → steps.new ≤ steps.old + 2 * length para.now }
     {
         let first = FirstParagraph::of(para, steps);
@@ -193,7 +194,7 @@ impl Resolver {
         ensures uniform { result.uniform ≡ true → StaysAt (level_of_para result.level) levels.new }
         ensures room { self.new ≡ self.old }
         ensures at_least { steps.old + length para.now ≤ steps.new }
-        ensures at_most { steps.new ≤ steps.old + 81 * length para.now + 1 }
+        ensures at_most { steps.new ≤ steps.old + known_steps * length para.now + 1 }
         ensures light { result.uniform ≡ true → steps.new ≤ steps.old + length para.now }
     {
         // BD9, P2, P3.
