@@ -78,14 +78,9 @@ fn find<L: Ledger>(
         &mut found.explicit,
         &mut steps,
     );
-    found.sequences.fill(
-        para,
-        &found.map,
-        &found.explicit,
-        found.level,
-        limits,
-        &mut steps,
-    );
+    found
+        .sequences
+        .fill(para, &found.map, &found.explicit, found.level, &mut steps);
 }
 
 /// What is found of these units, which have to be a paragraph.

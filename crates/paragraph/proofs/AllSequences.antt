@@ -2,11 +2,11 @@
 use Rattle.std.specs.Prelude.{Option, None, ℕ, ◌<◌, ◌≤◌, ◌≡◌, List, length, map, filter, take, slice_index}
 use Rattle.std.specs.List.{All, flat_map}
 use Rattle.std.proofs.Common.{arith, ap, sym, ◌∙◌, subst}
-use Rattle.std.proofs.lemmas.List.{length-map, get_or-map, get_or-take, length-take-le, ext_get_or}
+use Rattle.std.proofs.lemmas.List.{length-map, get_or-map, ext_get_or}
 use Rattle.std.proofs.lemmas.List.Elements.{All-map, All-filter, All-from_get_or, All-weaker}
 use Rattle.std.proofs.lemmas.List.Sums.{length-filter, count_by-le-length}
 use Rattle.units.specs.Classes.{classes_of}
-use Rattle.units.specs.Explicit.{explicit_at, explicit_of}
+use Rattle.units.specs.Explicit.{explicit_of}
 use Rattle.units.specs.Layout.{current_of, levels_in, level_found, resolved_levels}
 use Rattle.units.specs.Limits.{LimitsOf}
 use Rattle.units.specs.Paragraphs.{SeparatorOnlyLast}
@@ -17,10 +17,11 @@ use Rattle.units.specs.declared.class.Class.{Class}
 use Rattle.explicit.specs.ExplicitLevels.{HoldsLevels}
 use Rattle.explicit.proofs.AtMostOne.{at_most_one}
 use Rattle.explicit.proofs.InsideIsolates.{nested}
-use Rattle.explicit.proofs.Leveled.{leveled, size-is, get_or-of_positions, length-of_positions}
+use Rattle.explicit.proofs.Leveled.{leveled, size-is}
 use Rattle.units.proofs.Positions.{length-positions_from, get_or-positions_from}
 use Rattle.sequences.specs.Links.{ArePositions}
 use Rattle.sequences.specs.Once.{HoldsOnce}
+use Rattle.sequences.proofs.FilledFrom.{found_front}
 use Rattle.sequences.proofs.Fits.{length-flat, sequences_fit}
 use Rattle.sequences.proofs.Forward.{successor_later}
 use Rattle.sequences.proofs.Links.{followed_rises, rising_positions}
@@ -74,14 +75,6 @@ module _ (depth : ℕ) (deep : depth ≤ 125) (us : List BidiUnit) (para : ℕ) 
 -- but for overrides and what is removed, the current classes are the own ones
 pub classes_are_kept : (depth : ℕ) (us : List BidiUnit) (para : ℕ) (ps : List ℕ) → AreOwn ps us (current_of (explicit_of depth (classes_of us) para))
 classes_are_kept depth us para ps = λ p within. current-own depth (classes_of us) para p
-
--- the front of what was found is what the rules give
-pub found_front : (depth : ℕ) (places : List (Option (ℕ × Class))) (cs : List Class) (para : ℕ) → HoldsLevels places depth cs para → take (length cs) places ≡ explicit_of depth cs para
-found_front depth places cs para holds =
-    let n : length (explicit_of depth cs para) ≡ length cs = length-of_positions cs (explicit_at depth cs para) in
-    let m : length (take (length cs) places) ≡ length cs = length-take-le (length cs) places holds.enough in
-    ext_get_or None (take (length cs) places) (explicit_of depth cs para) (m ∙ sym n)
-    (λ i h. get_or-take (length cs) places i None (omega arith) ∙ holds.at i (omega arith) ∙ sym (get_or-of_positions cs (explicit_at depth cs para) i None (omega arith)))
 
 pub levels_are_resolved : (limits : LimitsOf) (us : List BidiUnit) (para : ℕ) (levels : List (Option ℕ)) → length levels ≡ length us →
     HasLevelsBy limits.brackets us (current_of (explicit_of limits.depth (classes_of us) para)) (sequences_of (leveled_of limits.depth (classes_of us) para)) levels → levels ≡ resolved_levels limits us para

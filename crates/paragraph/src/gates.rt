@@ -79,7 +79,7 @@ pub fn find_sequences<L: Ledger>(
         return;
     }
     explicit_levels(para, isolates, level, limits, explicit, steps);
-    sequences.fill(para, isolates, explicit, level, limits, steps);
+    sequences.fill(para, isolates, explicit, level, steps);
 }
 
 /// X9: this level, or none for a class that is removed, as no class of the paragraph is if `all_remain`.

@@ -54,7 +54,7 @@ impl ExplicitPart {
 
         // X1 to X10.
         explicit_levels(para, isolates, level, limits, &mut places, steps);
-        sequences.fill(para, isolates, &places, level, limits, steps);
+        sequences.fill(para, isolates, &places, level, steps);
         Ok(ExplicitPart {
             para_level: level,
             first_strong,

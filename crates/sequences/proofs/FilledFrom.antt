@@ -1,21 +1,26 @@
 -- What the isolates and the explicit levels of a paragraph say of it, position by position.
-use Rattle.std.specs.Prelude.{Option, None, ℕ, true, false, [], ◌∷◌, ◌<◌, ◌≤◌, ◌≡◌, List, length, IfSome, slice_index_or}
+use Rattle.std.specs.Prelude.{Option, None, ℕ, true, false, [], ◌∷◌, ◌<◌, ◌≤◌, ◌≡◌, List, length, map, take, IfSome, slice_index_or}
 use Rattle.std.specs.List.{list_any}
 use Rattle.std.specs.Option.{option_map}
 use Rattle.std.proofs.Common.{arith, ap, sym, ◌∙◌, subst}
 use Rattle.std.proofs.lemmas.Bool.{cond-true, or_parts}
+use Rattle.std.proofs.lemmas.List.{get_or-map, get_or-take, length-take-le, ext_get_or}
 use Rattle.units.specs.Classes.{class_at, classes_of, is_isolate_initiator, is_separator}
+use Rattle.units.specs.Explicit.{explicit_at, explicit_of}
 use Rattle.units.specs.Isolates.{partner_of, level_of_para}
 use Rattle.units.specs.Paragraphs.{SeparatorOnlyLast}
+use Rattle.units.specs.Positions.{positions_of}
 use Rattle.units.specs.Runs.{LeveledView, leveled_of, size_of, level_of, matched_pdi}
-use Rattle.explicit.specs.Leveled.{IsLeveled}
+use Rattle.explicit.specs.ExplicitLevels.{HoldsLevels}
+use Rattle.explicit.specs.Leveled.{IsLeveled, IsNested}
 use Rattle.units.specs.declared.bracket.Unit.{Unit as BidiUnit}
 use Rattle.units.specs.declared.class.Class.{Class}
 use Rattle.units.specs.declared.level.ParaLevel.{ParaLevel}
 use Rattle.units.specs.declared.level.ParaLevel.TheVariants.{Zero, One}
-use Rattle.explicit.specs.IsolateMaps.{Isolates}
-use Rattle.explicit.proofs.Leveled.{get_or-of_positions, level-read, size-is}
-use Rattle.sequences.specs.FilledFrom.{AreOfParagraph}
+use Rattle.explicit.specs.IsolateMaps.{Isolates, IsFilledFrom}
+use Rattle.explicit.proofs.InsideIsolates.{nested}
+use Rattle.explicit.proofs.Leveled.{get_or-of_positions, length-of_positions, leveled, size-is}
+use Rattle.sequences.specs.FilledFrom.{AreExplicitLevels, AreOfParagraph, leveled_by}
 use Rattle.units.proofs.Lengths.{length-classes_of}
 
 -- P2, P3: a paragraph's level is 0 or 1
@@ -31,27 +36,60 @@ no_separator (u ∷ v ∷ us) e =
     let parts = or_parts (is_separator u.class) (list_any (λ (unit : BidiUnit). is_separator unit.class) (v ∷ us)) e in
     (parts.0, no_separator (v ∷ us) parts.1)
 
--- the paragraph has as many positions as units
-pub size-of_paragraph : (depth : ℕ) (units : List BidiUnit) (para : ℕ) → size_of (leveled_of depth (classes_of units) para) ≡ length units
-size-of_paragraph depth units para = size-is depth (classes_of units) para ∙ length-classes_of units
+-- the front of what was found is what the rules give
+pub found_front : (depth : ℕ) (places : List (Option (ℕ × Class))) (cs : List Class) (para : ℕ) → HoldsLevels places depth cs para → take (length cs) places ≡ explicit_of depth cs para
+found_front depth places cs para holds =
+    let n : length (explicit_of depth cs para) ≡ length cs = length-of_positions cs (explicit_at depth cs para) in
+    let m : length (take (length cs) places) ≡ length cs = length-take-le (length cs) places holds.enough in
+    ext_get_or None (take (length cs) places) (explicit_of depth cs para) (m ∙ sym n)
+    (λ i h. get_or-take (length cs) places i None (omega arith) ∙ holds.at i (omega arith) ∙ sym (get_or-of_positions cs (explicit_at depth cs para) i None (omega arith)))
 
-module _ {units : List BidiUnit} {isolates : Isolates} {places : List (Option (ℕ × Class))} {depth base : ℕ} {t : LeveledView}
-    (a : AreOfParagraph units isolates places depth base) (e : leveled_of depth (classes_of units) base ≡ t) (p : ℕ) (h : p < size_of t) where
+-- with what X1 to X9 give up to a depth, the paragraph is that of this depth
+pub leveled_by-is : (depth : ℕ) (places : List (Option (ℕ × Class))) (cs : List Class) (para : ℕ) → HoldsLevels places depth cs para → leveled_by places cs para ≡ leveled_of depth cs para
+leveled_by-is depth places cs para holds =
+    let with_places : List (Option (ℕ × Class)) → LeveledView = λ found. record {
+      classes = cs;
+      levels = map (option_map (λ (place : ℕ × Class). place.0)) found;
+      partners = map (partner_of cs) (positions_of cs);
+      base = para;
+    } in
+    ap with_places (found_front depth places cs para holds)
+
+-- the paragraph has as many positions as units
+pub size-of_paragraph : (places : List (Option (ℕ × Class))) (units : List BidiUnit) (para : ℕ) → AreExplicitLevels places (classes_of units) para → size_of (leveled_by places (classes_of units) para) ≡ length units
+size-of_paragraph places units para levels =
+    ap size_of (leveled_by-is levels.depth places (classes_of units) para levels.found) ∙ size-is levels.depth (classes_of units) para ∙ length-classes_of units
+
+-- what was found of a paragraph
+pub found_of : (units : List BidiUnit) (isolates : Isolates) (places : List (Option (ℕ × Class))) (base : ℕ) → SeparatorOnlyLast units → IsFilledFrom isolates (classes_of units) → AreExplicitLevels places (classes_of units) base →
+    base ≤ 1 → AreOfParagraph units isolates places base
+found_of units isolates places base only matched levels low =
+    let e = leveled_by-is levels.depth places (classes_of units) base levels.found in
+    record {
+      matched = matched;
+      enough = levels.found.enough;
+      leveled = subst IsLeveled (sym e) (leveled levels.depth (classes_of units) base levels.within low);
+      nested = subst IsNested (sym e) (nested levels.depth units base only);
+    }
+
+module _ {units : List BidiUnit} {isolates : Isolates} {places : List (Option (ℕ × Class))} {base : ℕ} {t : LeveledView}
+    (a : AreOfParagraph units isolates places base) (e : leveled_by places (classes_of units) base ≡ t) (p : ℕ) (h : p < size_of t) where
   pub within_classes : p < length (classes_of units)
-  within_classes = omega (arith, size-is depth (classes_of units) base, ap size_of e)
+  within_classes = omega (arith, a.leveled.classes_fit, ap size_of e)
 
   pub within_units : p < length units
   within_units = omega (arith, within_classes, length-classes_of units)
 
   pub within_places : p < length places
-  within_places = omega (arith, within_classes, a.levels.enough)
+  within_places = omega (arith, within_classes, a.enough)
 
   -- a position's level is that of its place
   pub level-place : level_of t p ≡ option_map (λ place. place.0) (slice_index_or places p None)
   level-place =
+      let n : length (take (length (classes_of units)) places) ≡ length (classes_of units) = length-take-le (length (classes_of units)) places a.enough in
       ap (λ (v : LeveledView). level_of v p) (sym e)
-      ∙ level-read depth (classes_of units) base p within_classes
-      ∙ ap (option_map (λ place. place.0)) (sym (a.levels.at p within_classes))
+      ∙ get_or-map (option_map (λ (place : ℕ × Class). place.0)) (take (length (classes_of units)) places) p None None (omega (arith, within_classes))
+      ∙ ap (option_map (λ place. place.0)) (get_or-take (length (classes_of units)) places p None within_classes)
 
   -- the matching PDI of an initiator is its partner
   pub matched-partner : is_isolate_initiator (class_at t.classes p) ≡ true → matched_pdi t p ≡ partner_of (classes_of units) p
@@ -60,5 +98,8 @@ module _ {units : List BidiUnit} {isolates : Isolates} {places : List (Option (�
       ∙ ap (λ (v : LeveledView). slice_index_or v.partners p None) (sym e)
       ∙ get_or-of_positions (classes_of units) (partner_of (classes_of units)) p None within_classes
 
-  pub leveled_later : IsLeveled (leveled_of depth (classes_of units) base) → IfSome (matched_pdi t p) (λ q. (p < q) × (q < size_of t))
-  leveled_later l = let P : LeveledView → Type 0 = λ v. IfSome (matched_pdi v p) (λ q. (p < q) × (q < size_of v)) in subst P e (l.later p)
+  pub level-within : IfSome (level_of t p) (λ l. l ≤ 125)
+  level-within = let P : LeveledView → Type 0 = λ v. IfSome (level_of v p) (λ l. l ≤ 125) in subst P e (a.leveled.levels_within p)
+
+  pub leveled_later : IfSome (matched_pdi t p) (λ q. (p < q) × (q < size_of t))
+  leveled_later = let P : LeveledView → Type 0 = λ v. IfSome (matched_pdi v p) (λ q. (p < q) × (q < size_of v)) in subst P e (a.leveled.later p)

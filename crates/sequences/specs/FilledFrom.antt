@@ -1,19 +1,36 @@
 -- What was found of a paragraph before its sequences.
-use Rattle.std.specs.Prelude.{Option, ℕ, ◌≤◌, List}
+use Rattle.std.specs.Prelude.{Option, ℕ, ◌≤◌, List, length, map, take}
+use Rattle.std.specs.Option.{option_map}
 use Rattle.units.specs.Classes.{classes_of}
-use Rattle.units.specs.Paragraphs.{SeparatorOnlyLast}
+use Rattle.units.specs.Isolates.{partner_of}
+use Rattle.units.specs.Positions.{positions_of}
+use Rattle.units.specs.Runs.{LeveledView}
 use Rattle.units.specs.declared.bracket.Unit.{Unit as BidiUnit}
 use Rattle.units.specs.declared.class.Class.{Class}
 use Rattle.explicit.specs.IsolateMaps.{Isolates, IsFilledFrom}
 use Rattle.explicit.specs.ExplicitLevels.{HoldsLevels}
+use Rattle.explicit.specs.Leveled.{IsLeveled, IsNested}
 
--- these are the isolates (BD9) and the explicit levels, up to a depth that is allowed (X1 to X9), of a paragraph of
--- this level, which has B in last place alone (P1)
-pub record AreOfParagraph (units : List BidiUnit) (isolates : Isolates) (places : List (Option (ℕ × Class)))
-    (depth base : ℕ) : Type 0 where
-  pub separators : SeparatorOnlyLast units
-  pub matched : IsFilledFrom isolates (classes_of units)
-  pub levels : HoldsLevels places depth (classes_of units) base
-  pub low : base ≤ 1
-  pub some : 1 ≤ depth
+-- a paragraph of this level with the explicit levels at these places, and the partners of BD9
+abbrev pub leveled_by : List (Option (ℕ × Class)) → List Class → ℕ → LeveledView
+leveled_by places cs para_level = record {
+  classes = cs;
+  levels = map (option_map (λ place. place.0)) (take (length cs) places);
+  partners = map (partner_of cs) (positions_of cs);
+  base = para_level;
+}
+
+-- X1 to X9: these are the explicit levels, up to some depth that is allowed (BD2), and the current classes of a
+-- paragraph with these classes, whose level is para_level
+pub record AreExplicitLevels (places : List (Option (ℕ × Class))) (cs : List Class) (para_level : ℕ) : Type 0 where
+  pub depth : ℕ
   pub within : depth ≤ 125
+  pub found : HoldsLevels places depth cs para_level
+
+-- these are the isolates (BD9) and the explicit levels (X1 to X9) of a paragraph of this level
+pub record AreOfParagraph (units : List BidiUnit) (isolates : Isolates) (places : List (Option (ℕ × Class)))
+    (base : ℕ) : Type 0 where
+  pub matched : IsFilledFrom isolates (classes_of units)
+  pub enough : length (classes_of units) ≤ length places
+  pub leveled : IsLeveled (leveled_by places (classes_of units) base)
+  pub nested : IsNested (leveled_by places (classes_of units) base)

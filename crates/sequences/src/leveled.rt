@@ -2,62 +2,57 @@
 ghost use Rattle.std.specs.Prelude.{◌≡◌, ◌<◌, ◌≤◌, IfSome};
 ghost use Rattle.units.specs.Classes.{class_at, classes_of, is_isolate_initiator};
 ghost use Rattle.units.specs.Paragraphs.{SeparatorOnlyLast};
-ghost use Rattle.units.specs.Runs.{LeveledView, leveled_of, size_of, level_of, matched_pdi};
+ghost use Rattle.units.specs.Runs.{LeveledView, size_of, level_of, matched_pdi};
 ghost use Rattle.explicit.specs.Leveled.{IsLeveled, IsNested};
 ghost use Rattle.units.specs.Isolates.{level_of_para};
 ghost use Rattle.explicit.specs.IsolateMaps.{IsFilledFrom};
-ghost use Rattle.explicit.specs.ExplicitLevels.{HoldsLevels};
+ghost use Rattle.sequences.specs.FilledFrom.{AreExplicitLevels, leveled_by};
 
 use explicit::isolates::IsolateMap;
-use explicit::laws::{explicit_is_leveled, explicit_is_nested};
 use explicit::levels::Explicit;
 use std::marker::Model;
 use units::bracket::Unit;
 use units::level::{Level, ParaLevel};
-use units::limits::Limits;
 
-/// A paragraph after X1 to X9, with explicit levels up to a depth (BD2).
+/// A paragraph after X1 to X9.
 #[derive(Drop)]
 pub struct Leveled<'a> {
     para: &'a [Unit],
     isolates: &'a IsolateMap,
     explicit: &'a Explicit,
     base: Level,
-    depth: u8,
 }
 
 impl<'a> Model for Leveled<'a> {
     ghost use Rattle.units.specs.Classes.{classes_of};
-    ghost use Rattle.units.specs.Runs.{LeveledView, leveled_of};
-    ghost use Rattle.sequences.specs.FilledFrom.{AreOfParagraph};
+    ghost use Rattle.units.specs.Runs.{LeveledView};
+    ghost use Rattle.sequences.specs.FilledFrom.{AreOfParagraph, leveled_by};
 
     ghost Value = { LeveledView };
 
-    ghost view = { λ t. leveled_of t.depth (classes_of t.para.now) t.base };
+    ghost view = { λ t. leveled_by t.explicit.now (classes_of t.para.now) t.base };
 
-    ghost invariant = { λ t. AreOfParagraph t.para.now t.isolates.now t.explicit.now t.depth t.base };
+    ghost invariant = { λ t. AreOfParagraph t.para.now t.isolates.now t.explicit.now t.base };
 }
 
 impl<'a> Leveled<'a> {
-    /// The paragraph, of this level, with the isolates and, by these limits, the explicit levels that were found of it.
+    /// The paragraph, of this level, with the isolates and the explicit levels that were found of it.
     pub fn new(
         para: &'a [Unit],
         isolates: &'a IsolateMap,
         explicit: &'a Explicit,
         level: ParaLevel,
-        limits: Limits,
     ) -> Self
         requires separators { SeparatorOnlyLast para.now }
         requires isolates { IsFilledFrom isolates.now (classes_of para.now) }
-        requires levels { HoldsLevels explicit.now limits.depth (classes_of para.now) (level_of_para level) }
-        ensures { result ≡ leveled_of limits.depth (classes_of para.now) (level_of_para level) }
+        requires levels { AreExplicitLevels explicit.now (classes_of para.now) (level_of_para level) }
+        ensures { result ≡ leveled_by explicit.now (classes_of para.now) (level_of_para level) }
     {
         Leveled {
             para,
             isolates,
             explicit,
             base: level.level(),
-            depth: limits.depth(),
         }
     }
 
@@ -67,8 +62,6 @@ impl<'a> Leveled<'a> {
         ensures leveled { IsLeveled self.now }
         ensures nested { IsNested self.now }
     {
-        explicit_is_leveled();
-        explicit_is_nested();
         self.para.len()
     }
 
@@ -104,7 +97,6 @@ impl<'a> Leveled<'a> {
         ensures value { result ≡ matched_pdi self.now p }
         ensures later { IfSome result (λ q. (p < q) × (q < size_of self.now)) }
     {
-        explicit_is_leveled();
         if self.is_isolate_initiator(p) {
             self.isolates.partner(p)
         } else {

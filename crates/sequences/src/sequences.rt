@@ -7,6 +7,7 @@ ghost use Rattle.units.specs.Paragraphs.{SeparatorOnlyLast};
 ghost use Rattle.units.specs.Runs.{leveled_of, size_of, sequences_of};
 ghost use Rattle.explicit.specs.ExplicitLevels.{HoldsLevels};
 ghost use Rattle.explicit.specs.IsolateMaps.{IsFilledFrom};
+ghost use Rattle.sequences.specs.FilledFrom.{AreExplicitLevels};
 ghost use Rattle.sequences.specs.View.{SequencesView};
 ghost use Rattle.flat.specs.Flat.{IsFlat, remaining_of};
 ghost use Rattle.flat.specs.IdleRules.{HasNone};
@@ -28,7 +29,6 @@ use std::sync::ledger::Ledger;
 use units::bracket::Unit;
 use units::class::Class;
 use units::level::ParaLevel;
-use units::limits::Limits;
 use units::memory::Memory;
 use units::optional_position::OptionalPosition;
 use units::steps::Steps;
@@ -164,30 +164,30 @@ impl Sequences {
         self.size = t.len();
     }
 
-    /// Finds the sequences of a paragraph of this level, from its isolates (BD9) and its explicit levels by these
-    /// limits (X1 to X9). There is room for it. What was found of an earlier one is gone.
+    /// Finds the sequences of a paragraph of this level, from its isolates (BD9) and its explicit levels, up to
+    /// whatever depth (X1 to X9). There is room for it. What was found of an earlier one is gone.
     pub fn fill<L: Ledger>(
         &mut self,
         para: &[Unit],
         isolates: &IsolateMap,
         explicit: &Explicit,
         level: ParaLevel,
-        limits: Limits,
         steps: &mut Steps<L>,
     )
         requires room { length para.now ≤ self.old.room }
         requires separators { SeparatorOnlyLast para.now }
         requires isolates { IsFilledFrom isolates.now (classes_of para.now) }
-        requires levels { HoldsLevels explicit.now limits.depth (classes_of para.now) (level_of_para level) }
-        ensures all { self.new.all
-            ≡ sequences_of (leveled_of limits.depth (classes_of para.now) (level_of_para level)) }
+        requires levels { AreExplicitLevels explicit.now (classes_of para.now) (level_of_para level) }
+        ensures all { (depth : ℕ) → HoldsLevels explicit.now depth (classes_of para.now) (level_of_para level)
+            → self.new.all ≡ sequences_of (leveled_of depth (classes_of para.now) (level_of_para level)) }
         ensures extent { self.new.extent ≡ length para.now }
         ensures room { self.new.room ≡ self.old.room }
-        ensures once { HoldsOnce (leveled_of limits.depth (classes_of para.now) (level_of_para level)) self.new.all }
+        ensures once { (depth : ℕ) → HoldsLevels explicit.now depth (classes_of para.now) (level_of_para level)
+            → HoldsOnce (leveled_of depth (classes_of para.now) (level_of_para level)) self.new.all }
         ensures fit { sum_by (λ s. length s.positions) self.new.all ≤ length para.now }
         ensures steps { steps.new ≡ steps.old + 2 * length para.now + sum_by (λ s. length s.positions) self.new.all }
     {
-        let leveled = Leveled::new(para, isolates, explicit, level, limits);
+        let leveled = Leveled::new(para, isolates, explicit, level);
         self.fill_from(&leveled, steps);
     }
 

@@ -24,3 +24,13 @@ returns-then-is_flat-clause-at_most g c = omega (arith, remaining_few c.args.par
 
 pub returns-clause-levels : goal.returns-clause-levels
 returns-clause-levels g c = λ deep. c.explicit_levels.ensures.found
+
+pub fill-requires-clause-levels : goal.fill-requires-clause-levels
+fill-requires-clause-levels g c = record {
+  depth = c.args.limits.depth;
+  within = omega arith;
+  found = c.explicit_levels.ensures.found;
+}
+
+pub returns-clause-all : goal.returns-clause-all
+returns-clause-all g c = c.fill.ensures.all c.args.limits.depth c.explicit_levels.ensures.found

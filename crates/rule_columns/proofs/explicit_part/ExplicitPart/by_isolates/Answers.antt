@@ -8,10 +8,17 @@ use Rattle.units.specs.Runs.{SequenceView, leveled_of, sequences_of}
 use Rattle.units.specs.declared.bracket.Unit.{Unit as BidiUnit}
 use Rattle.units.specs.declared.class.Class.{Class}
 use Rattle.paragraph.specs.Covering.{AreDisjoint}
-use Rattle.paragraph.proofs.AllSequences.{sequences_are_apart, found_front}
-use Rattle.sequences.proofs.FilledFrom.{level_of_para-low}
+use Rattle.paragraph.proofs.AllSequences.{sequences_are_apart}
+use Rattle.sequences.proofs.FilledFrom.{found_front, level_of_para-low}
 use Rattle.rule_columns.proofs.ExplicitParts.{explicit_from}
 use Rattle.rule_columns.proofs.explicit_part.ExplicitPart.by_isolates.Goals as goal
+
+pub fill-requires-clause-levels : goal.fill-requires-clause-levels
+fill-requires-clause-levels g c = record {
+  depth = c.standard-limits.result.depth;
+  within = omega (arith, ap (λ (limits : LimitsOf). limits.depth) c.standard-limits.ensures);
+  found = c.explicit_levels.ensures.found;
+}
 
 pub returns : goal.returns
 returns g c =
@@ -20,6 +27,7 @@ returns g c =
     let n : length cs ≡ length us = length-map us (λ (u : BidiUnit). u.class) in
     let para_level = level_of_para c.para_level-level.result in
     let depth : c.standard-limits.result.depth ≡ standard.depth = ap (λ (limits : LimitsOf). limits.depth) c.standard-limits.ensures in
+    let all = c.fill.ensures.all c.standard-limits.result.depth c.explicit_levels.ensures.found in
     let long : length c.explicit_levels.new.out ≡ length us = search rules in
     let places : c.explicit_levels.new.out ≡ explicit_of c.standard-limits.result.depth cs para_level =
     sym (take_all (length cs) c.explicit_levels.new.out (omega arith))
@@ -30,8 +38,8 @@ returns g c =
           explicit_from us c.args.direction para_level c.first_strong-first_strong.result c.explicit_levels.new.out c.fill.new.self.all
           c.para_level-level.ensures.level c.first_strong-first_strong.ensures
           (places ∙ ap (λ (d : ℕ). explicit_of d cs para_level) depth)
-          (c.fill.ensures.all ∙ ap (λ (d : ℕ). sequences_of (leveled_of d cs para_level)) depth);
+          (all ∙ ap (λ (d : ℕ). sequences_of (leveled_of d cs para_level)) depth);
       extent = c.fill.ensures.extent;
-      apart = subst P (sym c.fill.ensures.all) (sequences_are_apart c.standard-limits.result.depth (omega (arith, depth)) us para_level (level_of_para-low c.para_level-level.result) c.requires.separators);
+      apart = subst P (sym all) (sequences_are_apart c.standard-limits.result.depth (omega (arith, depth)) us para_level (level_of_para-low c.para_level-level.result) c.requires.separators);
       length = long;
     }

@@ -1,7 +1,7 @@
-use Rattle.std.proofs.Common.{◌∙◌, ap, arith, sym}
+use Rattle.std.proofs.Common.{◌∙◌, ◌≤◌, ℕ, Option, ap, subst, sym}
+use Rattle.std.specs.Prelude.{IfSome}
 use Rattle.std.specs.Option.{option_map}
-use Rattle.units.specs.Classes.{classes_of}
-use Rattle.sequences.proofs.FilledFrom.{within_classes, within_places, level-place}
+use Rattle.sequences.proofs.FilledFrom.{within_places, level-place, level-within}
 use Rattle.sequences.proofs.leveled.Leveled.level.Goals as goal
 
 pub at-requires : goal.at-requires
@@ -17,6 +17,5 @@ returns-clause-value c =
 
 pub returns-clause-within : goal.returns-clause-within
 returns-clause-within c =
-    let low = c.in_ok-level.ensures.within c.self.inside.depth (classes_of c.self.inside.para.now) c.self.inside.base c.self.invariant.levels (omega (arith, c.self.invariant.some, c.self.invariant.low))
-    (within_classes c.self.invariant c.self.view_is c.args.p c.requires) in
-    omega (arith, low, c.self.invariant.within)
+    let P : Option ℕ → Type 0 = λ o. IfSome o (λ l. l ≤ 125) in
+    subst P (sym (returns-clause-value c)) (level-within c.self.invariant c.self.view_is c.args.p c.requires)

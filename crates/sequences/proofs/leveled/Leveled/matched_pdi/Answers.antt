@@ -14,4 +14,4 @@ returns-then-is_isolate_initiator-clause-value c =
 pub returns-then-is_isolate_initiator-clause-later : goal.returns-then-is_isolate_initiator-clause-later
 returns-then-is_isolate_initiator-clause-later c =
     let P : Option ℕ → Type 0 = λ o. IfSome o (λ q. (c.args.p < q) × (q < size_of c.args.self.now)) in
-    subst P (sym (returns-then-is_isolate_initiator-clause-value c)) (leveled_later c.self.invariant c.self.view_is c.args.p c.requires (c.explicit_is_leveled.ensures _ _ _ c.self.invariant.within c.self.invariant.low))
+    subst P (sym (returns-then-is_isolate_initiator-clause-value c)) (leveled_later c.self.invariant c.self.view_is c.args.p c.requires)
