@@ -6,6 +6,7 @@ use lines::breaks::Breaks;
 use lines::order::write_order;
 use lines::resets::reset_text;
 use lines::runs::Run;
+use lines::spans::LineSpan;
 use std::marker::Brand;
 use std::process::Abort;
 use std::sync::ledger::{Blank, Ledger};
@@ -34,15 +35,8 @@ fn orders_counting<K: Ledger>(
     let mut steps = Steps::<K>::new(blank);
     let mut order = [0; 16];
     let mut runs = [Run::default(); 16];
-    let count = write_order(
-        levels,
-        start,
-        end,
-        None,
-        &mut runs[..end],
-        &mut order[..end],
-        &mut steps,
-    );
+    let line = LineSpan { levels, start, end };
+    let count = write_order(line, None, &mut runs[..end], &mut order[..end], &mut steps);
     assert_eq!(rt; &order[..count], expected);
 }
 

@@ -91,11 +91,11 @@ next_from levels runs positions last places most order count position steps (x �
       };
     })
 
-pub next_run : (levels : List (Option ℕ)) (runs : List Run) (positions : List ℕ) (last places most : ℕ) (order : List ℕ) (count position steps : ℕ) → Writes levels runs positions last places most order count position steps → Next levels runs positions last places most order count position steps
-next_run levels runs positions last places most order count position steps w =
+pub next_run : {levels : List (Option ℕ)} {runs : List Run} {positions : List ℕ} {last places most : ℕ} {order : List ℕ} {count position steps : ℕ} → Writes levels runs positions last places most order count position steps → Next levels runs positions last places most order count position steps
+next_run {levels} {runs} {positions} {last} {places} {most} {order} {count} {position} {steps} w =
     next_from levels runs positions last places most order count position steps w.rest w.leads w.are_runs w.is w.apart w.room w.budget
 
 -- it begins in the line
-pub next-within : (levels : List (Option ℕ)) (runs : List Run) (start end last places most : ℕ) (order : List ℕ) (count position steps : ℕ) → start ≤ end → Next levels runs (line_order levels start end) last places most order count position steps → position < end
-next-within levels runs start end last places most order count position steps le n =
+pub next-within : {levels : List (Option ℕ)} {runs : List Run} {last places most : ℕ} {order : List ℕ} {count position steps : ℕ} (start end : ℕ) → start ≤ end → Next levels runs (line_order levels start end) last places most order count position steps → position < end
+next-within {levels} {runs} {last} {places} {most} {order} {count} {position} {steps} start end le n =
     let s = (line_order-in_order levels start end le).holds.sound position n.has in s.1

@@ -4,15 +4,16 @@ ghost use Rattle.units.specs.Classes.{classes_of};
 ghost use Rattle.units.specs.Isolates.{level_of_para};
 ghost use Rattle.units.specs.Layout.{lines_cut_at};
 ghost use Rattle.units.specs.Paragraphs.{paragraphs_of};
-ghost use Rattle.units.specs.Reordering.{cuts_of, line_order};
+ghost use Rattle.units.specs.Reordering.{cuts_of};
 ghost use Rattle.lines.specs.Bounds.{AreBounds, bounds_filled, lines_filled, orders_filled};
 ghost use Rattle.lines.specs.LineEnds.{AreAllLineEnds, AreEndsOfLines};
 ghost use Rattle.lines.specs.Spaces.{StaysAtParas};
-ghost use Rattle.lines.specs.LinePositions.{IsAtOneLevel};
+ghost use Rattle.lines.specs.Spans.{IsSpanAtLevel, order_of, units_in_span};
 
 use crate::bounds::Bound;
 use crate::order::write_order;
 use crate::runs::Run;
+use crate::spans::LineSpan;
 use std::sync::ledger::Ledger;
 use units::bracket::Unit;
 use units::level::{Level, ParaLevel};
@@ -29,38 +30,25 @@ pub struct Filled {
 
 /// Writes the order of one line more behind those that are written, and answers how many positions they have then.
 fn write_line<L: Ledger>(
-    levels: &[Option<Level>],
-    start: usize,
-    end: usize,
+    line: LineSpan<'_>,
     uniform: Option<ParaLevel>,
     written: usize,
     runs: &mut [Run],
     orders: &mut [usize],
     steps: &mut Steps<L>,
 ) -> usize
-    requires line { start ≤ end }
-    requires within { end ≤ length levels.now }
-    requires small { length levels.now < 2 ^ 32 }
-    requires uniform { IfSome uniform (λ level. IsAtOneLevel levels.now start end (level_of_para level)) }
-    requires few { written ≤ start }
-    requires runs { end ≤ length runs.old }
-    requires orders { end ≤ length orders.old }
-    ensures order { take result orders.new ≡ take written orders.old ++ line_order levels.now start end }
-    ensures few { result ≤ end }
-    ensures at_least { steps.old + (end - start) ≤ steps.new }
-    ensures at_most { steps.new ≤ steps.old + 6 * (end - start) }
-    ensures light { IfSome uniform (λ _. steps.new ≤ steps.old + 2 * (end - start)) }
+    requires small { line.end < 2 ^ 32 }
+    requires uniform { IfSome uniform (λ level. IsSpanAtLevel line (level_of_para level)) }
+    requires few { written ≤ line.start }
+    requires runs { line.end ≤ length runs.old }
+    requires orders { line.end ≤ length orders.old }
+    ensures order { take result orders.new ≡ take written orders.old ++ order_of line.entry }
+    ensures few { result ≤ line.entry.end }
+    ensures at_least { steps.old + units_in_span line.entry ≤ steps.new }
+    ensures at_most { steps.new ≤ steps.old + 6 * units_in_span line.entry }
+    ensures light { IfSome uniform (λ _. steps.new ≤ steps.old + 2 * units_in_span line.entry) }
 {
-    written
-        + write_order(
-            levels,
-            start,
-            end,
-            uniform,
-            runs,
-            &mut orders[written..],
-            steps,
-        )
+    written + write_order(line, uniform, runs, &mut orders[written..], steps)
 }
 
 /// Writes the orders of a text's lines (L2) to the front of `orders`. The bounds say already where the lines end; where
@@ -102,10 +90,14 @@ pub fn fill_lines<L: Ledger>(
     let mut paragraph = 0;
     for line in 0..lines {
         steps.tick();
-        let start = bounds[line].position as usize;
         let end = bounds[line + 1].position as usize;
+        let span = LineSpan {
+            levels,
+            start: bounds[line].position as usize,
+            end,
+        };
         let level = uniform.then_some(paras[paragraph]);
-        positions = write_line(levels, start, end, level, positions, runs, orders, steps);
+        positions = write_line(span, level, positions, runs, orders, steps);
         bounds[line + 1].order = positions as u32;
         paragraph += usize::from(own[end - 1].class.is_separator());
     }

@@ -16,3 +16,4 @@ mod resolving;
 pub mod runs;
 pub mod scratch;
 pub mod shown;
+pub mod spans;

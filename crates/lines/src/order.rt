@@ -2,32 +2,24 @@
 ghost use Rattle.std.specs.Prelude.{◌≡◌, ◌≤◌, ◌<◌, ◌+◌, ◌-◌, ◌*◌, ◌^◌, ◌++◌, IfSome, length, reverse, take};
 ghost use Rattle.units.specs.Isolates.{level_of_para};
 ghost use Rattle.units.specs.Positions.{positions_from};
-ghost use Rattle.units.specs.Reordering.{line_order};
-ghost use Rattle.lines.specs.RunLinks.{IsLevelRun};
-ghost use Rattle.lines.specs.LinePositions.{IsAtOneLevel, remaining};
+ghost use Rattle.lines.specs.Spans.{IsRun, IsSpanAtLevel, order_of, remaining_in, units_in_span};
 
 use crate::positions::{all_remain, count_down, count_up};
 use crate::runs::{Run, link_line};
+use crate::spans::LineSpan;
 use std::sync::ledger::Ledger;
-use units::level::{Level, ParaLevel};
+use units::level::ParaLevel;
 use units::steps::Steps;
 
-/// Writes the remaining positions from `start` up to `end` to the front of `order`, rising, a step for each position,
-/// and answers how many they are.
-fn write_rising<L: Ledger>(
-    levels: &[Option<Level>],
-    start: usize,
-    end: usize,
-    order: &mut [usize],
-    steps: &mut Steps<L>,
-) -> usize
-    requires line { start ≤ end }
-    requires within { end ≤ length levels.now }
-    requires room { end - start ≤ length order.old }
-    ensures order { take result order.new ≡ remaining levels.now start end }
-    ensures count { result ≤ end - start }
-    ensures steps { steps.new ≡ steps.old + (end - start) }
+/// Writes the remaining positions of a span to the front of `order`, rising, a step for each of its positions, and
+/// answers how many they are.
+fn write_rising<L: Ledger>(span: LineSpan<'_>, order: &mut [usize], steps: &mut Steps<L>) -> usize
+    requires room { units_in_span span ≤ length order.old }
+    ensures order { take result order.new ≡ remaining_in span.entry }
+    ensures count { result ≤ units_in_span span.entry }
+    ensures steps { steps.new ≡ steps.old + units_in_span span.entry }
 {
+    let LineSpan { levels, start, end } = span;
     let mut count = 0;
     for position in start..end {
         steps.tick();
@@ -38,20 +30,13 @@ fn write_rising<L: Ledger>(
 }
 
 /// The same, falling.
-fn write_falling<L: Ledger>(
-    levels: &[Option<Level>],
-    start: usize,
-    end: usize,
-    order: &mut [usize],
-    steps: &mut Steps<L>,
-) -> usize
-    requires line { start ≤ end }
-    requires within { end ≤ length levels.now }
-    requires room { end - start ≤ length order.old }
-    ensures order { take result order.new ≡ reverse (remaining levels.now start end) }
-    ensures count { result ≤ end - start }
-    ensures steps { steps.new ≡ steps.old + (end - start) }
+fn write_falling<L: Ledger>(span: LineSpan<'_>, order: &mut [usize], steps: &mut Steps<L>) -> usize
+    requires room { units_in_span span ≤ length order.old }
+    ensures order { take result order.new ≡ reverse (remaining_in span.entry) }
+    ensures count { result ≤ units_in_span span.entry }
+    ensures steps { steps.new ≡ steps.old + units_in_span span.entry }
 {
+    let LineSpan { levels, start, end } = span;
     let mut count = 0;
     for position in (start..end).rev() {
         steps.tick();
@@ -87,147 +72,128 @@ fn write_all<L: Ledger>(
 /// Writes the remaining positions of a line that all have this level from left to right to the front of `order`, in
 /// at most two steps for each of its positions. It answers how many they are.
 fn write_uniform<L: Ledger>(
-    levels: &[Option<Level>],
-    start: usize,
-    end: usize,
+    line: LineSpan<'_>,
     level: ParaLevel,
     order: &mut [usize],
     steps: &mut Steps<L>,
 ) -> usize
-    requires line { start ≤ end }
-    requires within { end ≤ length levels.now }
-    requires uniform { IsAtOneLevel levels.now start end (level_of_para level) }
-    requires room { end - start ≤ length order.old }
-    ensures order { take result order.new ≡ line_order levels.now start end }
-    ensures count { result ≤ end - start }
-    ensures at_least { steps.old + (end - start) ≤ steps.new }
-    ensures at_most { steps.new ≤ steps.old + 2 * (end - start) }
+    requires uniform { IsSpanAtLevel line (level_of_para level) }
+    requires room { units_in_span line ≤ length order.old }
+    ensures order { take result order.new ≡ order_of line.entry }
+    ensures count { result ≤ units_in_span line.entry }
+    ensures at_least { steps.old + units_in_span line.entry ≤ steps.new }
+    ensures at_most { steps.new ≤ steps.old + 2 * units_in_span line.entry }
 {
+    let LineSpan { levels, start, end } = line;
     if all_remain(&levels[start..end], steps) {
         write_all(start, end, level, order, steps);
         return end - start;
     }
     match level {
-        ParaLevel::Zero => write_rising(levels, start, end, order, steps),
-        ParaLevel::One => write_falling(levels, start, end, order, steps),
+        ParaLevel::Zero => write_rising(line, order, steps),
+        ParaLevel::One => write_falling(line, order, steps),
     }
 }
 
 /// Writes the positions of a run from left to right to the front of `order`, a step for each. It answers how many
 /// they are.
-fn write_run<L: Ledger>(
-    levels: &[Option<Level>],
-    start: usize,
-    end: usize,
-    order: &mut [usize],
-    steps: &mut Steps<L>,
-) -> usize
-    requires run { IsLevelRun levels.now start end }
-    requires room { end - start ≤ length order.old }
-    ensures order { take result order.new ≡ line_order levels.now start end }
+fn write_run<L: Ledger>(run: LineSpan<'_>, order: &mut [usize], steps: &mut Steps<L>) -> usize
+    requires run { IsRun run }
+    requires room { units_in_span run ≤ length order.old }
+    ensures order { take result order.new ≡ order_of run.entry }
     ensures some { 0 < result }
-    ensures count { result ≤ end - start }
-    ensures steps { steps.new ≡ steps.old + (end - start) }
+    ensures count { result ≤ units_in_span run.entry }
+    ensures steps { steps.new ≡ steps.old + units_in_span run.entry }
 {
-    if levels[start].is_some_and(|level| level.get() % 2 == 1) {
-        write_falling(levels, start, end, order, steps)
+    let levels = run.levels;
+    if levels[run.start].is_some_and(|level| level.get() % 2 == 1) {
+        write_falling(run, order, steps)
     } else {
-        write_rising(levels, start, end, order, steps)
+        write_rising(run, order, steps)
     }
 }
 
 /// Writes the positions of a run behind the first `count` places of `order`, a step for each. It answers how many
 /// places are written then.
 fn append_run<L: Ledger>(
-    levels: &[Option<Level>],
-    start: usize,
-    end: usize,
+    run: LineSpan<'_>,
     order: &mut [usize],
     count: usize,
     steps: &mut Steps<L>,
 ) -> usize
-    requires run { IsLevelRun levels.now start end }
-    requires room { count + (end - start) ≤ length order.old }
-    ensures order { take result order.new ≡ take count order.old ++ line_order levels.now start end }
+    requires run { IsRun run }
+    requires room { count + units_in_span run ≤ length order.old }
+    ensures order { take result order.new ≡ take count order.old ++ order_of run.entry }
     ensures some { count < result }
-    ensures few { result ≤ count + (end - start) }
-    ensures steps { steps.new ≡ steps.old + (end - start) }
+    ensures few { result ≤ count + units_in_span run.entry }
+    ensures steps { steps.new ≡ steps.old + units_in_span run.entry }
 {
-    count + write_run(levels, start, end, &mut order[count..], steps)
+    count + write_run(run, &mut order[count..], steps)
 }
 
 /// Writes the order of a line by its runs, linked first in `runs`.
 fn write_runs<L: Ledger>(
-    levels: &[Option<Level>],
-    start: usize,
-    end: usize,
+    line: LineSpan<'_>,
     runs: &mut [Run],
     order: &mut [usize],
     steps: &mut Steps<L>,
 ) -> usize
-    requires line { start ≤ end }
-    requires within { end ≤ length levels.now }
-    requires runs { end ≤ length runs.old }
-    requires small { end < 2 ^ 32 }
-    requires room { end - start ≤ length order.old }
-    ensures order { take result order.new ≡ line_order levels.now start end }
-    ensures count { result ≤ end - start }
-    ensures at_least { steps.old + (end - start) ≤ steps.new }
-    ensures at_most { steps.new ≤ steps.old + 6 * (end - start) }
+    requires runs { line.end ≤ length runs.old }
+    requires small { line.end < 2 ^ 32 }
+    requires room { units_in_span line ≤ length order.old }
+    ensures order { take result order.new ≡ order_of line.entry }
+    ensures count { result ≤ units_in_span line.entry }
+    ensures at_least { steps.old + units_in_span line.entry ≤ steps.new }
+    ensures at_most { steps.new ≤ steps.old + 6 * units_in_span line.entry }
 {
-    let Some(chain) = link_line(levels, start, end, runs, steps) else {
+    let Some(chain) = link_line(line, runs, steps) else {
         return 0;
     };
+    let levels = line.levels;
     let mut count = 0;
     let mut position = chain.first;
     loop {
         steps.tick();
-        let run = &runs[position as usize];
-        count = append_run(
+        let link = &runs[position as usize];
+        let run = LineSpan {
             levels,
-            position as usize,
-            run.end as usize,
-            order,
-            count,
-            steps,
-        );
+            start: position as usize,
+            end: link.end as usize,
+        };
+        count = append_run(run, order, count, steps);
         if position == chain.last {
             return count;
         }
-        position = run.next;
+        position = link.next;
     }
 }
 
-/// Writes the order of a line (L2) to the front of `order`: the positions of the text from `start` up to `end` that
-/// were not removed, from left to right. It answers how many they are.
+/// Writes the order of a line (L2) to the front of `order`: its positions that were not removed, from left to right.
+/// It answers how many they are.
 ///
 /// `order` needs a place for each unit of the line; those behind the answered ones hold anything. `runs` needs a
-/// place for each unit of the text up to the line's end. The levels are those of the whole text after L1; `uniform`
-/// is the one that all remaining positions of the line have, where that is known. It takes between n and `6 * n`
-/// steps on a line of n positions, and where that level is known at most `2 * n`.
+/// place for each unit of the text up to the line's end. `uniform` is the level that all remaining positions of the
+/// line have, where that is known. It takes between n and `6 * n` steps on a line of n positions, and where that level
+/// is known at most `2 * n`.
 pub fn write_order<L: Ledger>(
-    levels: &[Option<Level>],
-    start: usize,
-    end: usize,
+    line: LineSpan<'_>,
     uniform: Option<ParaLevel>,
     runs: &mut [Run],
     order: &mut [usize],
     steps: &mut Steps<L>,
 ) -> usize
-    requires line { start ≤ end }
-    requires within { end ≤ length levels.now }
-    requires uniform { IfSome uniform (λ level. IsAtOneLevel levels.now start end (level_of_para level)) }
-    requires runs { end ≤ length runs.old }
-    requires small { end < 2 ^ 32 }
-    requires room { end - start ≤ length order.old }
-    ensures order { take result order.new ≡ line_order levels.now start end }
-    ensures count { result ≤ end - start }
-    ensures at_least { steps.old + (end - start) ≤ steps.new }
-    ensures at_most { steps.new ≤ steps.old + 6 * (end - start) }
-    ensures light { IfSome uniform (λ _. steps.new ≤ steps.old + 2 * (end - start)) }
+    requires uniform { IfSome uniform (λ level. IsSpanAtLevel line (level_of_para level)) }
+    requires runs { line.end ≤ length runs.old }
+    requires small { line.end < 2 ^ 32 }
+    requires room { units_in_span line ≤ length order.old }
+    ensures order { take result order.new ≡ order_of line.entry }
+    ensures count { result ≤ units_in_span line.entry }
+    ensures at_least { steps.old + units_in_span line.entry ≤ steps.new }
+    ensures at_most { steps.new ≤ steps.old + 6 * units_in_span line.entry }
+    ensures light { IfSome uniform (λ _. steps.new ≤ steps.old + 2 * units_in_span line.entry) }
 {
     match uniform {
-        None => write_runs(levels, start, end, runs, order, steps),
-        Some(level) => write_uniform(levels, start, end, level, order, steps),
+        None => write_runs(line, runs, order, steps),
+        Some(level) => write_uniform(line, level, order, steps),
     }
 }

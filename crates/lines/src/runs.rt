@@ -1,10 +1,11 @@
 //! The runs of a line (L2): stretches of one level, linked as they stand on the line from left to right.
 ghost use Rattle.std.specs.Prelude.{◌≡◌, ◌≢◌, ◌≤◌, ◌<◌, ◌+◌, ◌-◌, ◌*◌, ◌^◌, ◌⊎◌, ℕ, [], MatchOption, length};
-ghost use Rattle.units.specs.Reordering.{line_order};
-ghost use Rattle.lines.specs.RunLinks.{BeginsRun, IsLineChain, IsFollowed, IsJoined, IsLinkedStretch, StopsBelow};
+ghost use Rattle.lines.specs.RunLinks.{BeginsRun, IsFollowed, IsJoined, IsLinkedStretch, StopsBelow};
 ghost use Rattle.lines.specs.RunLinks.{run_in};
 ghost use Rattle.lines.specs.LinePositions.{HasLevel, IsAtOneLevel};
+ghost use Rattle.lines.specs.Spans.{IsChainOfSpan, order_of, units_in_span};
 
+use crate::spans::LineSpan;
 use std::sync::ledger::Ledger;
 use units::level::Level;
 use units::steps::Steps;
@@ -177,21 +178,18 @@ fn link_from<L: Ledger>(
 
 /// Links the runs of the line from left to right, where any position remains.
 pub(crate) fn link_line<L: Ledger>(
-    levels: &[Option<Level>],
-    start: usize,
-    end: usize,
+    line: LineSpan<'_>,
     runs: &mut [Run],
     steps: &mut Steps<L>,
 ) -> Option<Chain>
-    requires line { start ≤ end }
-    requires within { end ≤ length levels.now }
-    requires room { end ≤ length runs.old }
-    requires small { end < 2 ^ 32 }
-    ensures linked { MatchOption result (line_order levels.now start end ≡ [])
-        (IsLineChain levels.now runs.new start end) }
-    ensures at_least { steps.old + (end - start) ≤ steps.new }
-    ensures at_most { steps.new ≤ steps.old + 4 * (end - start) }
+    requires room { line.end ≤ length runs.old }
+    requires small { line.end < 2 ^ 32 }
+    ensures linked { MatchOption result (order_of line.entry ≡ [])
+        (IsChainOfSpan line.entry runs.new) }
+    ensures at_least { steps.old + units_in_span line.entry ≤ steps.new }
+    ensures at_most { steps.new ≤ steps.old + 4 * units_in_span line.entry }
 {
+    let LineSpan { levels, start, end } = line;
     for position in start..end {
         steps.tick();
         if let Some(level) = levels[position] {

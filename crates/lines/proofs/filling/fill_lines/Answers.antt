@@ -58,6 +58,15 @@ bounds-paras-paragraph g c =
     let cut = c.requires.ends.1.cut l.line c.loop-line-test.true in
     omega (arith, l.invariant.counted, paragraph_at c.args.own.now (length c.args.paras.now) start c.requires.paras (omega (arith, cut.above, cut.within)))
 
+pub invariant_of-span : goal.invariant_of-span
+invariant_of-span g c =
+    let l = c.loop-line in
+    let own = classes_of c.args.own.now in
+    let at = c.requires.ends.0 in
+    let len : length own ≡ length c.args.own.now = length-map c.args.own.now (λ u. u.class) in
+    let cut = cut_read (begins_line own at) _ _ _ _ (length own) (l.invariant.kept l.line) (l.invariant.kept (l.line + 1)) (c.requires.ends.1.cut l.line c.loop-line-test.true) in
+    record { forward = omega (arith, cut.above); within = omega (arith, cut.within, len, c.requires.levels) }
+
 pub write_line-positions-requires-clause-uniform : goal.write_line-positions-requires-clause-uniform
 write_line-positions-requires-clause-uniform g c =
     let l = c.loop-line in

@@ -11,8 +11,8 @@ use Rattle.lines.proofs.order.write_falling.Goals as goal
 pub loop-position-init : goal.loop-position-init
 loop-position-init g c =
     record {
-      within = c.requires.line;
-      order = ap reverse (sym (remaining-none c.args.levels.now c.args.end));
+      within = c.args.span.forward;
+      order = ap reverse (sym (remaining-none c.args.span.levels.now c.args.span.end));
       count = omega arith;
       steps = omega arith;
     }
@@ -20,7 +20,7 @@ loop-position-init g c =
 pub loop-position-preserved : goal.loop-position-preserved
 loop-position-preserved g c =
     let l = c.loop-position in
-    let levels = c.args.levels.now in
+    let levels = c.args.span.levels.now in
     let p = l.position - 1 in
     let there : p + 1 ≡ l.position = omega arith in
     let within : p < length levels = omega arith in
@@ -32,9 +32,9 @@ loop-position-preserved g c =
     record {
       within = omega arith;
       order = kept l.order l.count (l.count + c.from-count.result) p c.is_some.result (omega (arith, l.auto.order, l.invariant.count)) step
-          ∙ ap (λ xs. xs ++ cond c.is_some.result (p ∷ []) []) (l.invariant.order ∙ ap (λ n. reverse (remaining levels n c.args.end)) (sym there))
-          ∙ ap (λ b. reverse (remaining levels (p + 1) c.args.end) ++ cond b (p ∷ []) []) test
-          ∙ sym (remaining-before levels p c.args.end (omega arith));
+          ∙ ap (λ xs. xs ++ cond c.is_some.result (p ∷ []) []) (l.invariant.order ∙ ap (λ n. reverse (remaining levels n c.args.span.end)) (sym there))
+          ∙ ap (λ b. reverse (remaining levels (p + 1) c.args.span.end) ++ cond b (p ∷ []) []) test
+          ∙ sym (remaining-before levels p c.args.span.end (omega arith));
       count = omega (arith, l.invariant.count);
       steps = omega arith;
     }
@@ -42,5 +42,5 @@ loop-position-preserved g c =
 pub returns-clause-order : goal.returns-clause-order
 returns-clause-order g c =
     let l = c.loop-position in
-    let there : l.position ≡ c.args.start = omega (arith, l.invariant.within) in
-    l.invariant.order ∙ ap (λ n. reverse (remaining c.args.levels.now n c.args.end)) there
+    let there : l.position ≡ c.args.span.start = omega (arith, l.invariant.within) in
+    l.invariant.order ∙ ap (λ n. reverse (remaining c.args.span.levels.now n c.args.span.end)) there

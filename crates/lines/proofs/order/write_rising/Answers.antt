@@ -11,7 +11,7 @@ use Rattle.lines.proofs.order.write_rising.Goals as goal
 pub loop-position-preserved : goal.loop-position-preserved
 loop-position-preserved g c =
     let l = c.loop-position in
-    let levels = c.args.levels.now in
+    let levels = c.args.span.levels.now in
     let within : l.position < length levels = omega arith in
     let level : c.index-levels-position.result ≡ slice_index_or levels l.position None =
     get_or_read levels l.position c.index-levels-position.result within c.index-levels-position.is None in
@@ -21,8 +21,8 @@ loop-position-preserved g c =
     record {
       order = kept l.order l.count (l.count + c.from-count.result) l.position c.is_some.result (omega (arith, l.auto.order, l.invariant.count)) step
           ∙ ap (λ xs. xs ++ cond c.is_some.result (l.position ∷ []) []) l.invariant.order
-          ∙ ap (λ b. remaining levels c.args.start l.position ++ cond b (l.position ∷ []) []) test
-          ∙ sym (remaining-next levels c.args.start l.position (omega arith));
+          ∙ ap (λ b. remaining levels c.args.span.start l.position ++ cond b (l.position ∷ []) []) test
+          ∙ sym (remaining-next levels c.args.span.start l.position (omega arith));
       count = omega (arith, l.invariant.count);
       steps = omega arith;
     }

@@ -1,61 +1,72 @@
 use Rattle.std.proofs.Common.{◌+◌, ◌*◌, ◌-◌, arith, sym, ◌∙◌}
-use Rattle.units.specs.Reordering.{line_order}
 use Rattle.lines.proofs.RunWriting.{next-within, next_run, writes_start}
 use Rattle.lines.proofs.order.write_runs.Goals as goal
 
 pub loop-position-init : goal.loop-position-init
 loop-position-init g c =
     record {
-      writes = writes_start c.args.levels.now c.link_line.new.runs c.args.start c.args.end (c.link_line.new.steps + 2 * (c.args.end - c.args.start)) c.in-Some.chain c.args.order.now c.link_line.new.steps c.requires.line c.in-Some.ensures.linked (omega arith);
+      writes = writes_start c.args.line.levels.now c.link_line.new.runs c.args.line.start c.args.line.end (c.link_line.new.steps + 2 * (c.args.line.end - c.args.line.start)) c.in-Some.chain c.args.order.now c.link_line.new.steps c.args.line.forward c.in-Some.ensures.linked (omega arith);
       at_least = omega arith;
     }
 
 pub bounds-runs-position : goal.bounds-runs-position
 bounds-runs-position g c =
     let l = c.loop-position in
-    let n = next_run c.args.levels.now c.link_line.new.runs (line_order c.args.levels.now c.args.start c.args.end) c.in-Some.chain.last (c.args.end - c.args.start) (c.link_line.new.steps + 2 * (c.args.end - c.args.start)) l.order l.count l.position l.steps l.invariant.writes in
-    omega (arith, c.link_line.auto.runs, next-within c.args.levels.now c.link_line.new.runs c.args.start c.args.end c.in-Some.chain.last (c.args.end - c.args.start) (c.link_line.new.steps + 2 * (c.args.end - c.args.start)) l.order l.count l.position l.steps c.requires.line n)
+    let n = next_run l.invariant.writes in
+    omega (arith, c.link_line.auto.runs, next-within c.args.line.start c.args.line.end c.args.line.forward n)
+
+pub invariant_of-run-clause-forward : goal.invariant_of-run-clause-forward
+invariant_of-run-clause-forward g c =
+    let l = c.loop-position in
+    let n = next_run l.invariant.writes in
+    omega (arith, n.run.rises)
+
+pub invariant_of-run-clause-within : goal.invariant_of-run-clause-within
+invariant_of-run-clause-within g c =
+    let l = c.loop-position in
+    let n = next_run l.invariant.writes in
+    n.run.within
 
 pub append_run-count-requires-clause-run : goal.append_run-count-requires-clause-run
 append_run-count-requires-clause-run g c =
     let l = c.loop-position in
-    let n = next_run c.args.levels.now c.link_line.new.runs (line_order c.args.levels.now c.args.start c.args.end) c.in-Some.chain.last (c.args.end - c.args.start) (c.link_line.new.steps + 2 * (c.args.end - c.args.start)) l.order l.count l.position l.steps l.invariant.writes in
+    let n = next_run l.invariant.writes in
     n.run
 
 pub append_run-count-requires-clause-room : goal.append_run-count-requires-clause-room
 append_run-count-requires-clause-room g c =
     let l = c.loop-position in
-    let n = next_run c.args.levels.now c.link_line.new.runs (line_order c.args.levels.now c.args.start c.args.end) c.in-Some.chain.last (c.args.end - c.args.start) (c.link_line.new.steps + 2 * (c.args.end - c.args.start)) l.order l.count l.position l.steps l.invariant.writes in
+    let n = next_run l.invariant.writes in
     omega (arith, n.room, l.auto.order)
 
 pub returns-then-position-chain-clause-order : goal.returns-then-position-chain-clause-order
 returns-then-position-chain-clause-order g c =
     let l = c.loop-position in
-    let n = next_run c.args.levels.now c.link_line.new.runs (line_order c.args.levels.now c.args.start c.args.end) c.in-Some.chain.last (c.args.end - c.args.start) (c.link_line.new.steps + 2 * (c.args.end - c.args.start)) l.order l.count l.position l.steps l.invariant.writes in
+    let n = next_run l.invariant.writes in
     c.append_run-count.ensures.order ∙ sym (n.ends c.if-position-chain.true)
 
 pub returns-then-position-chain-clause-count : goal.returns-then-position-chain-clause-count
 returns-then-position-chain-clause-count g c =
     let l = c.loop-position in
-    let n = next_run c.args.levels.now c.link_line.new.runs (line_order c.args.levels.now c.args.start c.args.end) c.in-Some.chain.last (c.args.end - c.args.start) (c.link_line.new.steps + 2 * (c.args.end - c.args.start)) l.order l.count l.position l.steps l.invariant.writes in
+    let n = next_run l.invariant.writes in
     omega (arith, n.room, c.append_run-count.ensures.few)
 
 pub returns-then-position-chain-clause-at_most : goal.returns-then-position-chain-clause-at_most
 returns-then-position-chain-clause-at_most g c =
     let l = c.loop-position in
-    let n = next_run c.args.levels.now c.link_line.new.runs (line_order c.args.levels.now c.args.start c.args.end) c.in-Some.chain.last (c.args.end - c.args.start) (c.link_line.new.steps + 2 * (c.args.end - c.args.start)) l.order l.count l.position l.steps l.invariant.writes in
+    let n = next_run l.invariant.writes in
     omega (arith, n.budget, n.run.rises, c.in-Some.ensures.at_most, c.append_run-count.ensures.steps, c.tick.ensures)
 
 pub loop-position-smaller : goal.loop-position-smaller
 loop-position-smaller g c =
     let l = c.loop-position in
-    let n = next_run c.args.levels.now c.link_line.new.runs (line_order c.args.levels.now c.args.start c.args.end) c.in-Some.chain.last (c.args.end - c.args.start) (c.link_line.new.steps + 2 * (c.args.end - c.args.start)) l.order l.count l.position l.steps l.invariant.writes in
+    let n = next_run l.invariant.writes in
     omega (arith, n.room, n.run.rises, c.append_run-count.ensures.some, c.append_run-count.auto.order, l.auto.order)
 
 pub loop-position-preserved : goal.loop-position-preserved
 loop-position-preserved g c =
     let l = c.loop-position in
-    let n = next_run c.args.levels.now c.link_line.new.runs (line_order c.args.levels.now c.args.start c.args.end) c.in-Some.chain.last (c.args.end - c.args.start) (c.link_line.new.steps + 2 * (c.args.end - c.args.start)) l.order l.count l.position l.steps l.invariant.writes in
+    let n = next_run l.invariant.writes in
     record {
       writes = n.goes_on _ c.append_run-count.result c.append_run-count.new.steps c.if-position-chain.false c.append_run-count.ensures.order c.append_run-count.ensures.few (omega (arith, c.append_run-count.ensures.steps, c.tick.ensures));
       at_least = omega (arith, c.append_run-count.ensures.steps, c.tick.ensures, l.invariant.at_least);
