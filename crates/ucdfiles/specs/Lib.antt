@@ -8,5 +8,6 @@ pub mod Reading
 pub mod Keys
 pub mod Stages
 pub mod Tables
+pub mod UnitStages
 pub mod Rows
 pub mod Files

@@ -8,7 +8,7 @@ use crate::reading::{LineTable, read_lines};
 use crate::sided_bracket::SidedBracket;
 use crate::span::Span;
 use crate::statements::Statements;
-use crate::two_stage::TwoStage;
+use crate::two_stage::{LentStages, TwoStage};
 use std::alloc::Global;
 use std::marker::Model;
 use units::bracket::Bracket;
@@ -90,5 +90,12 @@ impl BracketTable {
         ensures { IsTableOf result.now self.now }
     {
         &self.spans
+    }
+
+    /// Its stages, lent.
+    pub(crate) fn lent(&self) -> LentStages<'_, Bracket>
+        ensures { result ≡ self.now }
+    {
+        self.brackets.lent()
     }
 }

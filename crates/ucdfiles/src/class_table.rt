@@ -5,7 +5,7 @@ use crate::class_line::class_line;
 use crate::fault::{Fault, TableFault};
 use crate::reading::{LineTable, read_lines};
 use crate::statements::Statements;
-use crate::two_stage::TwoStage;
+use crate::two_stage::{LentStages, TwoStage};
 use std::alloc::Global;
 use std::marker::Model;
 use units::class::Class;
@@ -73,5 +73,12 @@ impl ClassTable {
         ensures { result ≡ class_by self.now c }
     {
         self.classes.value(c)
+    }
+
+    /// Its stages, lent.
+    pub(crate) fn lent(&self) -> LentStages<'_, Class>
+        ensures { result ≡ self.now }
+    {
+        self.classes.lent()
     }
 }

@@ -8,6 +8,7 @@ use crate::bracket_table::BracketTable;
 use crate::class_table::ClassTable;
 use crate::mirror_table::MirrorTable;
 use crate::span::Span;
+use crate::two_stage::LentStages;
 use std::marker::Model;
 use units::bracket::{Bracket, Unit};
 use units::class::Class;
@@ -54,8 +55,53 @@ fn are_neutral(classes: &ClassTable, brackets: &BracketTable) -> bool
     true
 }
 
+/// The classes and the brackets of characters, lent out of the tables for a text. Contracts see what gives a code point
+/// its unit, by `unit_in`.
+#[derive(Drop)]
+pub struct LentUnits<'a> {
+    classes: LentStages<'a, Class>,
+    brackets: LentStages<'a, Bracket>,
+    brackets_are_neutral: bool,
+}
+
+impl<'a> Model for LentUnits<'a> {
+    ghost use Rattle.std.specs.Prelude.{◌≡◌, true};
+    ghost use Rattle.ucdfiles.specs.Tables.{AreNeutral};
+    ghost use Rattle.ucdfiles.specs.UnitStages.{UnitStages};
+
+    ghost Value = { UnitStages };
+
+    ghost view = { λ t. record { classes = t.classes; brackets = t.brackets } };
+
+    ghost invariant = { λ t. t.brackets_are_neutral ≡ true → AreNeutral t.classes t.brackets };
+}
+
+impl<'a> LentUnits<'a> {
+    ghost use Rattle.ucdfiles.specs.UnitStages.{unit_in};
+
+    #[tactic(auto, unfolding(crate::specs::Tables::class_by, crate::specs::Tables::bracket_by))]
+    /// What the algorithm knows of a character: its class and its bracket.
+    pub fn unit(&self, c: char) -> Unit
+        ensures { result ≡ unit_in self.now c }
+    {
+        let class = self.classes.value(c);
+        if self.brackets_are_neutral && !matches!(class, Class::ON) {
+            return Unit {
+                class,
+                bracket: Bracket::No,
+            };
+        }
+        Unit {
+            class,
+            bracket: self.brackets.value(c),
+        }
+    }
+}
+
 impl Tables {
-    ghost use Rattle.ucdfiles.specs.Tables.{TablesOf, unit_by};
+    ghost use Rattle.std.specs.Prelude.{length};
+    ghost use Rattle.ucdfiles.specs.Tables.{TablesOf, unit_by, units_by};
+    ghost use Rattle.ucdfiles.specs.UnitStages.{UnitStages, unit_stages};
 
     /// These three tables.
     pub fn new(classes: ClassTable, brackets: BracketTable, mirrors: MirrorTable) -> Self
@@ -70,20 +116,32 @@ impl Tables {
         }
     }
 
+    /// The classes and the brackets, lent, for who looks up a text's characters one by one.
+    pub fn units(&self) -> LentUnits<'_>
+        ensures { result ≡ unit_stages self.now }
+    {
+        LentUnits {
+            classes: self.classes.lent(),
+            brackets: self.brackets.lent(),
+            brackets_are_neutral: self.brackets_are_neutral,
+        }
+    }
+
     /// What the algorithm knows of a character: its class and its bracket.
     pub fn unit(&self, c: char) -> Unit
         ensures { result ≡ unit_by self.now c }
     {
-        let class = self.classes.class(c);
-        if self.brackets_are_neutral && !matches!(class, Class::ON) {
-            return Unit {
-                class,
-                bracket: Bracket::No,
-            };
-        }
-        Unit {
-            class,
-            bracket: self.brackets.bracket(c),
+        self.units().unit(c)
+    }
+
+    /// Writes what the algorithm knows of each of these characters.
+    pub fn look_up(&self, text: &[char], units: &mut [Unit])
+        requires { length units.old ≡ length text.now }
+        ensures { units.new ≡ units_by self.now text.now }
+    {
+        let lent = self.units();
+        for k in 0..text.len() {
+            units[k] = lent.unit(text[k]);
         }
     }
 

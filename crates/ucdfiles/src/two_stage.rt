@@ -157,7 +157,24 @@ impl<V: Copy + PartialEq> TwoStage<V> {
     }
 }
 
-impl<V: Copy> TwoStage<V> {
+/// The two stages, lent: who looks up many code points by them needn't ask again where they lie.
+#[derive(Drop)]
+pub struct LentStages<'a, V> {
+    places: &'a [u16],
+    values: &'a [V],
+}
+
+impl<'a, V> Model for LentStages<'a, V> {
+    ghost use Rattle.ucdfiles.specs.Stages.{Stages, AreStages};
+
+    ghost Value = { Stages V };
+
+    ghost view = { λ t. record { places = t.places.now; values = t.values.now } };
+
+    ghost invariant = { λ t. AreStages (record { places = t.places.now; values = t.values.now }) };
+}
+
+impl<'a, V: Copy> LentStages<'a, V> {
     ghost use Rattle.ucdfiles.specs.Stages.{Stages};
 
     /// The value of a character.
@@ -167,5 +184,26 @@ impl<V: Copy> TwoStage<V> {
         let code = u32::from(c) as usize;
         let place = self.places[code / BLOCK] as usize;
         self.values[place * BLOCK + code % BLOCK]
+    }
+}
+
+impl<V: Copy> TwoStage<V> {
+    ghost use Rattle.ucdfiles.specs.Stages.{Stages};
+
+    /// Both stages, lent.
+    pub fn lent(&self) -> LentStages<'_, V>
+        ensures { result ≡ self.now }
+    {
+        LentStages {
+            places: self.places.as_slice(),
+            values: self.values.as_slice(),
+        }
+    }
+
+    /// The value of a character.
+    pub fn value(&self, c: char) -> V
+        ensures { (d : V) → result ≡ stage_at self.now c d }
+    {
+        self.lent().value(c)
     }
 }
