@@ -1,4 +1,5 @@
 //! All that is done for a text: its units are looked up, and it is laid out.
+ghost use Rattle.std.specs.Prelude.{◌≡◌, length};
 
 use crate::timing::{line_count, tenths_each};
 use lines::scratch::Scratch;
@@ -20,6 +21,7 @@ pub struct Whole<'a> {
     text: &'a [char],
     units: Vec<Unit>,
     room: Scratch,
+    ghost each: { length units.items ≡ length text.now },
 }
 
 /// Room for the layout of a text of so many units.
@@ -27,13 +29,6 @@ pub fn room_for(alloc: Global, units: usize) -> io::Result<Scratch> {
     match Scratch::with_room(alloc, units) {
         Ok(room) => Ok(room),
         Err(_) => Err(io::ErrorKind::OutOfMemory.into()),
-    }
-}
-
-/// Looks up the units of a text.
-fn look_up(tables: &Tables, text: &[char], units: &mut [Unit]) {
-    for (unit, c) in units.iter_mut().zip(text) {
-        *unit = tables.unit(*c);
     }
 }
 
@@ -62,7 +57,7 @@ impl<'a> Whole<'a> {
     /// Looks the units up and lays the text out, once; answers how many lines there are.
     #[inline(never)]
     pub fn run(&mut self) -> usize {
-        look_up(self.tables, self.text, &mut self.units);
+        self.tables.look_up(self.text, &mut self.units);
         line_count(&self.units, &mut self.room)
     }
 
