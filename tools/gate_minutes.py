@@ -1,18 +1,22 @@
 #!/usr/bin/env python3
-"""Runs the gate and says what it costs: for each crate the processor minutes of its proof, its tests and its edits.
+"""Runs the gate and says what it costs: for each crate the processor minutes of its proof, its tests, its edits and, of
+the library for C, its archive; and in the last line what all of it took.
 
 usage: tools/gate_minutes.py [COMMAND ..]      (with none: rt ci; at the top of the repository)
 
-The command's own output comes first, and its status is the status. Processes of the prover are looked at twice a
-second, so each counts up to half a second less than it took. Linux alone.
+The command's own output comes first, and its status is the status. The sum is that of the system, of the command with
+all that it started. Processes of the prover are looked at twice a second, so in the table each counts up to half a
+second less than it took; what the sum has beyond them, as programs that were run, is called other. Linux alone.
 """
 import collections
 import os
+import resource
 import subprocess
 import sys
 import threading
+import time
 
-KINDS = ("proof", "tests", "edits")
+KINDS = ("proof", "tests", "edits", "archive")
 TICKS = os.sysconf("SC_CLK_TCK")
 
 
@@ -40,8 +44,16 @@ def named(process):
     words, folder = words_of(process)
     if not words or os.path.basename(words[0]) != "rattle" or "--crate-name" not in words:
         return None
-    kind = "tests" if "--test" in words else "edits" if "/rt-edit-" in folder else "proof"
-    return words[words.index("--crate-name") + 1], kind
+    return words[words.index("--crate-name") + 1], kind_of(words, folder)
+
+
+def kind_of(words, folder):
+    """Returns the kind of work that the prover was started for: rt and try_edits check an edit in a folder of its own."""
+    if "--test" in words:
+        return "tests"
+    if "/rt-edit-" in folder:
+        return "edits"
+    return "archive" if words[1] == "build" and "staticlib" in words else "proof"
 
 
 def is_below(process, top, found):
@@ -60,7 +72,14 @@ def look(top, seconds):
             seconds[process, began] = name, taken
 
 
-def main(command):
+def taken_by_children():
+    """Returns the processor seconds of the processes that this one has waited for, and of those that they waited for."""
+    used = resource.getrusage(resource.RUSAGE_CHILDREN)
+    return used.ru_utime + used.ru_stime
+
+
+def watched(command):
+    """Runs the command. Returns its status, and the name and the seconds of each of the prover's processes."""
     seconds, ended = {}, threading.Event()
     run = subprocess.Popen(command)
     watch = threading.Thread(target=lambda: [look(run.pid, seconds) for _ in iter(lambda: ended.wait(0.5), True)])
@@ -68,14 +87,28 @@ def main(command):
     status = run.wait()
     ended.set()
     watch.join()
+    return status, seconds.values()
+
+
+def by_crate(looked_at):
+    """Returns the minutes of each kind, by crate."""
     minutes = collections.defaultdict(lambda: dict.fromkeys(KINDS, 0.0))
-    for (crate, kind), taken in seconds.values():
+    for (crate, kind), taken in looked_at:
         minutes[crate][kind] += taken / 60
+    return minutes
+
+
+def main(command):
+    began = time.monotonic()
+    status, looked_at = watched(command)
+    minutes, all_taken = by_crate(looked_at), taken_by_children() / 60
     total = {kind: sum(it[kind] for it in minutes.values()) for kind in KINDS}
-    print("| crate | " + " | ".join(KINDS) + " |\n|---|---|---|---|")
+    print("| crate | " + " | ".join(KINDS) + " |\n" + "|---" * (len(KINDS) + 1) + "|")
     for crate, each in [*minutes.items(), ("all", total)]:
         print(f"| {crate} | " + " | ".join(f"{each[kind]:.1f}" for kind in KINDS) + " |")
-    print(f"{sum(total.values()):.0f} processor minutes")
+    parts = [*total.items(), ("other", max(all_taken - sum(total.values()), 0.0))]
+    of_them = ", ".join(f"{kind} {it:.0f}" for kind, it in parts)
+    print(f"{all_taken:.0f} processor minutes ({of_them}) in {(time.monotonic() - began) / 60:.0f}", flush=True)
     return status
 
 

@@ -1,0 +1,38 @@
+#!/usr/bin/env python3
+"""Builds the library that C links, crates/bidi_c/out/libbidi_c.a.
+
+usage: tools/c/build_library.py      (its status is 0 where the library is built)
+
+Where rt ci left the libraries below and no file that they are made from is younger, it builds the archive over these,
+by the same words as rt lib, which would prove each of them once more. Else it runs rt lib.
+"""
+import os
+import pathlib
+import subprocess
+import sys
+
+TOP = pathlib.Path(__file__).resolve().parents[2]
+sys.path.insert(0, str(TOP / "tools"))
+import kit  # noqa: E402  (it lies in the folder above)
+
+NAME = "bidi_c"
+
+
+def build_over_gate(crate):
+    """Builds the archive over the libraries that rt ci left."""
+    words = crate.words([], keeps=False)
+    toolchain = ["--toolchain", f"{kit.rt.KIT}/toolchain", "--backend", "llvm"]
+    return crate.call(kit.rt.rtlib.RATTLE, "build", *words, *toolchain, "-o", f"out/lib{crate.name}.a")
+
+
+def main():
+    os.chdir(TOP)
+    crate = next(it for it in kit.rt.rtlib.crates_below(str(TOP)) if it.name == NAME)
+    if all(kit.left_by_gate(it) for it in crate.below()):
+        os.makedirs(f"{crate.folder}/out", exist_ok=True)
+        return build_over_gate(crate)
+    return subprocess.run(["rt", "lib"], cwd=crate.folder, check=False).returncode
+
+
+if __name__ == "__main__":
+    sys.exit(main())

@@ -1,0 +1,283 @@
+#!/usr/bin/env python3
+"""Tries wrong bodies, many in one check: the prover must refuse each for an open goal of its own function.
+
+usage: tools/try_edits.py [--all] [CRATE | CRATE/EDIT ..]      (at the top of the repository; with no name: every crate)
+
+It takes the edits of crates/CRATE/wrong/, with --all those of must-fail/ too; an edit that is named it takes from
+either. Callers rest on contracts alone, so a wrong body hides no other: the edits of a crate that change different
+functions go into one copy, which is checked once. An edit counts as refused there if a goal of the function that it
+changes is open, by a proof file of that function or by the check's own search. What was not refused so, as where the
+function waits for a wrong one that it calls, goes into a further round, and at last is tried singly, as rt ci does. A
+function that no edit of a round changes must be proved there. For each edit a line is printed, and the last line is
+'N passed, M failed'; the status is 1 where one failed.
+
+A crate is checked over a copy of what rt check kept of it in out/, or from nothing. The libraries below are those that
+rt check or rt lib built, or those that rt ci left; where neither fit the files, rt builds them. As many crates are
+tried side by side as there are processors and memory, or as RT_JOBS says, each by one job.
+"""
+import contextlib
+import dataclasses
+import os
+import re
+import shutil
+import sys
+import tempfile
+import threading
+
+from kit import left_by_gate, rt
+
+FOLDERS = ("wrong", "must-fail")
+FLAGS = ["--jobs", "1"]
+FUNCTION = re.compile(r"( *)(?:pub(?:\([a-z]+\))? )?(?:const )?(?:unsafe )?(?:extern \"C\" )?fn (\w+)")
+OWNER = re.compile(r"(?:unsafe )?impl\b[^{;]*|(?:pub(?:\([a-z]+\))? )?trait \w+")
+OPEN = re.compile(r"^fn (\S+): (?:not proved|no proof)[^\n]*?did not prove (`[^`]*`)", re.M)
+STUCK = re.compile(r"^(?:\./)?proofs/(\S+)/\w+\.antt:\d+:\d+: error: (`[^`]*`): (.*)", re.M)
+NAMES_GONE = re.compile(r"has no field|is not in scope|has no `|was not admitted")
+printing = threading.Lock()
+
+
+@dataclasses.dataclass
+class Edit:
+    """A wrong body: its pairs of texts, the functions that it changes, and all that it changes, which no other may."""
+
+    label: str
+    file: str
+    pairs: list
+    functions: set
+    touched: set
+    fault: str
+
+
+def owner_of(header):
+    """Returns how the check names what holds a method: its type, with the trait behind it, or a trait."""
+    header = re.sub(r"\bwhere\b.*", "", header, flags=re.S)
+    while "<" in header and (flat := re.sub(r"<[^<>]*>", "", header)) != header:
+        header = flat
+    words = re.sub(r"&|'\w+|pub(\(\w+\))?", "", header).split()
+    names = [it.rpartition("::")[2] for it in words if it not in ("unsafe", "impl", "trait", "for")]
+    return "".join(reversed(names))
+
+
+def function_at(path, text, row):
+    """Returns the path, as the check names it, of the function whose lines hold this row; None where none does."""
+    lines, owner = text.split("\n"), ""
+    found, end = None, ""
+    for at, line in enumerate(lines[: row + 1]):
+        if header := OWNER.match("\n".join(lines[at : at + 4]) if line.startswith(("impl", "unsafe impl")) else line):
+            owner = owner_of(header[0])
+        if it := FUNCTION.match(line):
+            found, end = (owner if it[1] else "", it[2]), f"{it[1]}}}"
+        elif line == end and at < row:
+            found = None
+    module = path.removeprefix("src/").removesuffix(".rt").split("/")
+    module = [it for it in module if it not in ("lib", "main", "mod")]
+    return tuple([*module, *filter(None, found)]) if found else None
+
+
+def pairs_of(text):
+    """Returns the pairs of an edit: the file, the old text and the new one."""
+    path, old, pairs = "", "", []
+    for line in text.split("\n"):
+        if line.startswith("file: "):
+            path = line.removeprefix("file: ").strip()
+        elif line.startswith("old: "):
+            old = line.removeprefix("old: ")
+        elif line.startswith("new:"):
+            pairs.append((path, old, line.removeprefix("new:").removeprefix(" ")))
+    return pairs
+
+
+def read_edit(crate, file):
+    """Reads an edit and finds what it changes in the crate's files."""
+    label = f"{crate.name}/{os.path.basename(file).removesuffix('.edit')}"
+    _, fault = rt.read_edit(file, crate.folder)
+    if fault:
+        return Edit(label, file, [], set(), set(), fault)
+    with open(file, encoding="utf-8") as it:
+        pairs = pairs_of(it.read())
+    functions, touched, texts = set(), set(), {}
+    for path, old, new in pairs:
+        text = texts.get(path) or text_in(crate, path)
+        row = text[: text.index(old)].count("\n")
+        function = function_at(path, text, row)
+        functions |= {function} - {None}
+        touched.add(function or (path, row))
+        texts[path] = text.replace(old, new)
+    return Edit(label, file, pairs, functions, touched, "")
+
+
+def text_in(crate, path):
+    with open(f"{crate.folder}/{path}", encoding="utf-8") as it:
+        return it.read()
+
+
+def applied(crate, edits):
+    """Returns the texts of all files that these edits change."""
+    texts = {}
+    for edit in edits:
+        for path, old, new in edit.pairs:
+            text = texts.get(path) or text_in(crate, path)
+            texts[path] = text.replace(old, new, 1)
+    return texts
+
+
+def round_of(edits):
+    """Returns edits that change different things, as many as come first."""
+    chosen, touched = [], set()
+    for edit in edits:
+        if not touched & edit.touched:
+            chosen.append(edit)
+            touched |= edit.touched
+    return chosen
+
+
+def parts_of(path):
+    """Returns the parts of a function's path without what marks a closure or a name that stands twice."""
+    return tuple(it.lstrip("+") for it in path if it != "fn")
+
+
+def open_goals(said):
+    """Returns the functions with an open goal of their own, by path, and one such goal of each."""
+    goals = {parts_of(path.split("::")[1:]): goal for path, goal in OPEN.findall(said)}
+    for folder, goal, why in STUCK.findall(said):
+        if not NAMES_GONE.search(why):
+            goals.setdefault(parts_of(folder.split("/")), goal)
+    return goals
+
+
+def is_part(path, functions):
+    """Returns whether a path is that of one of these functions, or of a closure in one."""
+    return any(path[: len(it)] == it for it in functions)
+
+
+def try_round(crate, edits, kept):
+    """Checks the crate once with all these edits. Returns what refuses each, and what should not have been refused."""
+    texts = applied(crate, edits)
+    ran = rt.checked(crate, texts, FLAGS, kept)
+    lines = ran.stdout.rstrip("\n").split("\n")
+    reads = not any(rt.unread(it, texts) for it in lines) and not rt.rtlib.STALE.search(ran.stdout)
+    if ran.returncode != 1 or not lines[-1].startswith("logic=not-proved") or not reads:
+        return {}, []
+    goals = open_goals(ran.stdout)
+    own = {it.label: [goal for path, goal in goals.items() if is_part(path, it.functions)] for it in edits}
+    changed = set().union(*(it.functions for it in edits))
+    others = ["::".join(path) for path in goals if not is_part(path, changed)]
+    return {label: goals[0] for label, goals in own.items() if goals}, others
+
+
+@contextlib.contextmanager
+def kept_work(crate, shared):
+    """Gives a folder for a check's kept work: a copy of the crate's own, or one for all rounds where it has none that fits
+    the libraries below."""
+    own = f"{crate.folder}/out/incremental"
+    if not os.path.isdir(own) or any(left_by_gate(it) for it in crate.below()):
+        yield shared
+        return
+    with tempfile.TemporaryDirectory(prefix="rt-kept-") as room:
+        yield shutil.copytree(own, f"{room}/incremental")
+
+
+def try_joined(crate, edits, shared, tell):
+    """Tries edits in rounds as long as a round refuses some. Returns those that are to be tried singly."""
+    left, alone = [it for it in edits if it.functions], [it for it in edits if not it.functions]
+    while left:
+        chosen = round_of(left)
+        refused, others = {}, []
+        if len(chosen) > 1:
+            with kept_work(crate, shared) as kept:
+                refused, others = try_round(crate, chosen, kept)
+        for it in others:
+            tell(False, f"{crate.name}: {it} IS REFUSED, and no edit of its round changes it")
+        for it in chosen:
+            if it.label in refused:
+                tell(True, f"{it.label}: refused, as it must be: {refused[it.label]}")
+        alone += [] if refused else chosen
+        left = [it for it in left if it.label not in refused and it not in alone]
+    return alone
+
+
+def try_edits(crate, files):
+    """Tries a crate's edits, prints a line for each, and returns how many passed and how many failed."""
+    counts = [0, 0]
+
+    def tell(is_well, text):
+        counts[not is_well] += 1
+        with printing:
+            print(text, flush=True)
+
+    edits = [read_edit(crate, it) for it in files]
+    for it in edits:
+        if it.fault:
+            tell(False, f"{it.label}: BAD EDIT: {it.fault}")
+    with tempfile.TemporaryDirectory(prefix="rt-kept-") as shared:
+        for it in try_joined(crate, [it for it in edits if not it.fault], shared, tell):
+            with kept_work(crate, shared) as kept:
+                is_well, text = rt.must_fail(crate, it.file, FLAGS, kept)
+            tell(is_well, f"{it.label}: (singly) {text.partition('.edit: ')[2]}")
+    return counts
+
+
+def names_in(folder):
+    return sorted(it for it in os.listdir(folder) if it.endswith(".edit")) if os.path.isdir(folder) else []
+
+
+def files_of(crate, is_all, names):
+    """Returns the files of the crate's edits that were asked for."""
+    chosen = {it.partition("/")[2] for it in names if it.partition("/")[0] == crate.name}
+    files = []
+    for part in FOLDERS:
+        for name in names_in(f"{crate.folder}/{part}"):
+            is_asked = (not names or "" in chosen) and (is_all or part == "wrong")
+            if is_asked or name.removesuffix(".edit") in chosen:
+                files.append(f"{crate.folder}/{part}/{name}")
+    return files
+
+
+def unknown(crates, names):
+    """Returns the names that name no crate and no edit of one."""
+    known = {it.name for it in crates}
+    for crate in crates:
+        known |= {f"{crate.name}/{it[:-5]}" for part in FOLDERS for it in names_in(f"{crate.folder}/{part}")}
+    return [it for it in names if it not in known]
+
+
+def build_tasks(libraries):
+    """Returns the work to build the libraries that are not built, none where rt ci left them all."""
+    if all(left_by_gate(it) for it in libraries):
+        return {}
+    build = lambda library: lambda given, jobs: library.build_rlib(["--jobs", str(jobs)], anew=False)
+    return {
+        (it.name, "library"): ([(dep.name, "library") for dep in it.below()], it.count(rb"\n"), rt.need(it), build(it))
+        for it in libraries
+    }
+
+
+def edits_task(crate, files, libraries):
+    """Returns the work to try a crate's edits, nothing where one of the libraries below it is not proved."""
+    return lambda given, jobs: [0, 0] if any(given[it] for it in libraries) else try_edits(crate, files)
+
+
+def main(words):
+    is_all, names = "--all" in words, [it for it in words if it != "--all"]
+    rt.rtlib.guarded()
+    crates = sorted(rt.rtlib.crates_below(os.getcwd()), key=lambda it: len(it.below()))
+    if wrong := [it for it in words if it.startswith("--") and it != "--all"] + unknown(crates, names):
+        sys.exit(f"no crate and no edit: {' '.join(wrong)}\n\n{__doc__}")
+    asked = {it.name: (it, files) for it in crates if (files := files_of(it, is_all, names))}
+    below = {dep.name: dep for it, _ in asked.values() for dep in it.below()}
+    tasks = build_tasks([it for it in crates if it.name in below])
+    builds = set(tasks)
+    for name, (crate, files) in asked.items():
+        waits = [it for it in builds if it[0] in {dep.name for dep in crate.below()}]
+        tasks[name, "edits"] = (waits, crate.count(rb"\n"), rt.need(crate), edits_task(crate, files, waits))
+    given = rt.in_lanes(tasks) if tasks else {}
+    broken = sorted(key[0] for key in builds if given[key])
+    for it in broken:
+        print(f"{it} is not proved, so nothing above it was tried")
+    passed, failed = (sum(given[name, "edits"][at] for name in asked) for at in (0, 1))
+    print(f"{passed} passed, {failed + len(broken)} failed")
+    return 1 if failed or broken else 0
+
+
+if __name__ == "__main__":
+    sys.exit(main(sys.argv[1:]))
