@@ -31,7 +31,8 @@ FLAGS = ["--jobs", "1"]
 FUNCTION = re.compile(r"( *)(?:pub(?:\([a-z]+\))? )?(?:const )?(?:unsafe )?(?:extern \"C\" )?fn (\w+)")
 OWNER = re.compile(r"(?:unsafe )?impl\b[^{;]*|(?:pub(?:\([a-z]+\))? )?trait \w+")
 OPEN = re.compile(r"^fn (\S+): (?:not proved|no proof)[^\n]*?did not prove (`[^`]*`)", re.M)
-STUCK = re.compile(r"^(?:\./)?proofs/(\S+)/\w+\.antt:\d+:\d+: error: (`[^`]*`): (.*)", re.M)
+PROOF_FILE = r"^(?:\./)?proofs/(\S+)/(?:Answers|Invariants|Proof|Send)\.antt"
+STUCK = re.compile(PROOF_FILE + r":\d+:\d+: error: (`[^`]*`): (.*)", re.M)
 NAMES_GONE = re.compile(r"has no field|is not in scope|has no `|was not admitted")
 printing = threading.Lock()
 
