@@ -15,6 +15,8 @@ mod implicit_rows;
 #[cfg(test)]
 mod isolate_rows;
 #[cfg(test)]
+mod order_rows;
+#[cfg(test)]
 mod paragraph_rows;
 #[cfg(test)]
 mod resolve_rows;
