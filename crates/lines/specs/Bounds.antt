@@ -1,10 +1,9 @@
 -- The lines of a text as their bounds and the list of their orders hold them.
-use Rattle.std.specs.Prelude.{Option, ℕ, ◌+◌, ◌-◌, ◌<◌, ◌≤◌, List, length, map, slice_index_or, slice_range, take}
+use Rattle.std.specs.Prelude.{Option, ℕ, ◌+◌, ◌-◌, ◌<◌, ◌≤◌, List, length, map, slice_index_or, slice_range}
 use Rattle.std.specs.List.{All}
 use Rattle.units.specs.Layout.{LineLayout}
 use Rattle.units.specs.Positions.{positions_from}
 use Rattle.lines.specs.declared.bounds.Bound.{Bound}
-use Rattle.lines.specs.declared.filling.Filled.{Filled}
 
 -- the first bound of each text
 abbrev pub first_bound : Bound
@@ -25,18 +24,6 @@ line_in orders bounds k = line_between orders (bound_at bounds k) (bound_at boun
 -- the lines, one between each two bounds
 abbrev pub lines_in : List ℕ → List Bound → List LineLayout
 lines_in orders bounds = map (line_in orders bounds) (positions_from 0 (length bounds - 1))
-
--- the orders that were written
-abbrev pub orders_filled : Filled → List ℕ → List ℕ
-orders_filled filled orders = take filled.positions orders
-
--- the bounds that were written, one more than lines
-abbrev pub bounds_filled : Filled → List Bound → List Bound
-bounds_filled filled bounds = take (filled.lines + 1) bounds
-
--- the lines that were written
-abbrev pub lines_filled : Filled → List ℕ → List Bound → List LineLayout
-lines_filled filled orders bounds = lines_in (orders_filled filled orders) (bounds_filled filled bounds)
 
 -- one bound is not before the other
 pub record Follows (from to : Bound) : Type 0 where

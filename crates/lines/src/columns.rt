@@ -24,10 +24,12 @@ pub(crate) struct TextColumns {
 }
 
 impl TextColumns {
+    ghost use Rattle.std.specs.Prelude.{IfOk};
+    ghost use Rattle.lines.specs.Columns.{HasTextRoom};
+
     /// Columns of `n` places.
     pub(crate) fn with_room(alloc: Global, n: usize) -> Result<TextColumns, Memory>
-        ensures paras { IfOk result (λ columns. places_in columns.paras ≡ n) }
-        ensures levels { IfOk result (λ columns. places_in columns.levels ≡ n) }
+        ensures { IfOk result (λ columns. HasTextRoom columns n) }
     {
         Ok(TextColumns {
             paras: column(alloc, ParaLevel::Zero, n)?,
@@ -45,15 +47,14 @@ pub(crate) struct LineColumns {
 }
 
 impl LineColumns {
-    ghost use Rattle.std.specs.Prelude.{◌≡◌, ◌≤◌, ◌+◌, IfOk};
+    ghost use Rattle.std.specs.Prelude.{◌≤◌, IfOk};
     ghost use Rattle.units.specs.Layout.{longest_text};
+    ghost use Rattle.lines.specs.Columns.{HasLineRoom};
 
     /// Columns for `n` lines and `n` positions.
     pub(crate) fn with_room(alloc: Global, n: usize) -> Result<LineColumns, Memory>
         requires { n ≤ longest_text }
-        ensures runs { IfOk result (λ columns. places_in columns.runs ≡ n) }
-        ensures orders { IfOk result (λ columns. places_in columns.orders ≡ n) }
-        ensures bounds { IfOk result (λ columns. places_in columns.bounds ≡ n + 1) }
+        ensures { IfOk result (λ columns. HasLineRoom columns n) }
     {
         let start = Bound {
             position: 0,

@@ -5,12 +5,14 @@ ghost use Rattle.units.specs.Isolates.{level_of_para};
 ghost use Rattle.units.specs.Layout.{lines_cut_at};
 ghost use Rattle.units.specs.Paragraphs.{paragraphs_of};
 ghost use Rattle.units.specs.Reordering.{cuts_of};
-ghost use Rattle.lines.specs.Bounds.{AreBounds, bounds_filled, lines_filled, orders_filled};
+ghost use Rattle.lines.specs.Bounds.{AreBounds};
+ghost use Rattle.lines.specs.Columns.{bounds_filled, bounds_in, lines_filled, orders_filled, HasLineRoom, KeepsLineRoom};
 ghost use Rattle.lines.specs.LineEnds.{AreAllLineEnds, AreEndsOfLines};
 ghost use Rattle.lines.specs.Spaces.{StaysAtParas};
 ghost use Rattle.lines.specs.Spans.{IsSpanAtLevel, order_of, units_in_span};
 
 use crate::bounds::Bound;
+use crate::columns::LineColumns;
 use crate::order::write_order;
 use crate::runs::Run;
 use crate::spans::LineSpan;
@@ -51,41 +53,41 @@ fn write_line<L: Ledger>(
     written + write_order(line, uniform, runs, &mut orders[written..], steps)
 }
 
-/// Writes the orders of a text's lines (L2) to the front of `orders`. The bounds say already where the lines end; where
-/// their orders end is written to them. It answers how many lines and how many positions there are.
+/// Writes the orders of a text's lines (L2) to the front of their column. The bounds say already where the lines end;
+/// where their orders end is written to them. It answers how many lines and how many positions there are.
 ///
 /// `paras` are the levels of the text's paragraphs, and the levels are those of its positions after L1; `uniform`
-/// says that each one that remains is known to have its paragraph's. `runs` is room for the order of a line. It takes
-/// at least n and at most `7 * n` steps for a text of n positions, however many lines it has, and where that is known
-/// at most `3 * n`.
-pub fn fill_lines<L: Ledger>(
+/// says that each one that remains is known to have its paragraph's. It takes at least n and at most `7 * n` steps for
+/// a text of n positions, however many lines it has, and where that is known at most `3 * n`.
+pub(crate) fn fill_lines<L: Ledger>(
     own: &[Unit],
     lines: usize,
     paras: &[ParaLevel],
     uniform: bool,
     levels: &[Option<Level>],
-    runs: &mut [Run],
-    orders: &mut [usize],
-    bounds: &mut [Bound],
+    columns: &mut LineColumns,
     steps: &mut Steps<L>,
 ) -> Filled
-    requires ends { AreEndsOfLines own.now lines bounds.old }
+    requires ends { AreEndsOfLines own.now lines (bounds_in columns.old) }
+    requires few { lines ≤ length own.now }
     requires paras { length paras.now ≡ length (paragraphs_of own.now) }
     requires levels { length levels.now ≡ length own.now }
     requires uniform { IsTrue uniform → StaysAtParas own.now paras.now levels.now }
     requires small { length own.now < 2 ^ 32 }
-    requires runs { length own.now ≤ length runs.old }
-    requires orders { length own.now ≤ length orders.old }
-    requires bounds { lines < length bounds.old }
-    ensures bounds { AreBounds levels.now (orders_filled result orders.new) (bounds_filled result bounds.new) }
-    ensures lines { (breaks : List ℕ) → AreAllLineEnds own.now breaks lines bounds.old
-        → lines_filled result orders.new bounds.new ≡ lines_cut_at levels.now (cuts_of (classes_of own.now) breaks) }
+    requires room { HasLineRoom columns.old (length own.now) }
+    ensures room { KeepsLineRoom columns.old columns.new }
+    ensures bounds { AreBounds levels.now (orders_filled result columns.new) (bounds_filled result columns.new) }
+    ensures lines { (breaks : List ℕ) → AreAllLineEnds own.now breaks lines (bounds_in columns.old)
+        → lines_filled result columns.new ≡ lines_cut_at levels.now (cuts_of (classes_of own.now) breaks) }
     ensures all { result.lines ≡ lines }
     ensures few_positions { result.positions ≤ length own.now }
     ensures at_least { steps.old + length own.now + lines ≤ steps.new }
     ensures at_most { steps.new ≤ steps.old + 7 * length own.now }
     ensures light { IsTrue uniform → steps.new ≤ steps.old + 3 * length own.now }
 {
+    let runs: &mut [Run] = &mut columns.runs;
+    let orders: &mut [usize] = &mut columns.orders;
+    let bounds: &mut [Bound] = &mut columns.bounds;
     let mut positions = 0;
     let mut paragraph = 0;
     for line in 0..lines {

@@ -1,13 +1,15 @@
 //! The paragraph levels and the resolved levels of a text (P1 to I2), and where its lines end.
-ghost use Rattle.std.specs.Prelude.{◌≡◌, ◌<◌, ◌≤◌, ◌+◌, ◌*◌, ◌^◌, length, map, take, true};
+ghost use Rattle.std.specs.Prelude.{◌≡◌, ◌<◌, ◌≤◌, ◌+◌, ◌*◌, ◌^◌, length, map, true};
 ghost use Rattle.units.specs.Isolates.{level_of_para};
 ghost use Rattle.units.specs.Layout.{para_levels_of, text_levels};
+ghost use Rattle.lines.specs.Columns.{levels_filled, paras_filled, HasTextRoom, KeepsTextRoom};
 ghost use Rattle.lines.specs.Kept.{keeps_levels};
 ghost use Rattle.lines.specs.LineEnds.{AreAllLineEnds};
 ghost use Rattle.lines.specs.Spaces.{StaysAtParas};
 
 use crate::bounds::Bound;
 use crate::breaks::Breaks;
+use crate::columns::TextColumns;
 use crate::cutting::{cut_paragraph, start_cut};
 use paragraph::contents::FirstParagraph;
 use paragraph::resolver::Resolver;
@@ -29,8 +31,7 @@ pub struct ResolvedText {
     pub uniform: bool,
 }
 
-/// Writes the levels of a text's paragraphs to the front of `paras`, and the resolved levels of its positions to the
-/// front of `levels`, paragraph by paragraph, by these limits; and the ends of its lines, of which one is at the end of
+/// Writes the levels of a text's paragraphs and the resolved levels of its positions to the fronts of their columns, paragraph by paragraph, by these limits; and the ends of its lines, of which one is at the end of
 /// each paragraph, to the front of `bounds`.
 pub(crate) fn resolve_text<L: Ledger>(
     text: &[Unit],
@@ -38,30 +39,33 @@ pub(crate) fn resolve_text<L: Ledger>(
     breaks: &Breaks,
     limits: Limits,
     resolver: &mut Resolver,
-    paras: &mut [ParaLevel],
-    levels: &mut [Option<Level>],
+    columns: &mut TextColumns,
     bounds: &mut [Bound],
     steps: &mut Steps<L>,
 ) -> ResolvedText
     requires len { breaks.now.len ≡ length text.now }
     requires small { length text.now < 2 ^ 32 }
     requires resolver { length text.now ≤ resolver.old }
-    requires paras { length text.now ≤ length paras.old }
-    requires levels { length text.now ≤ length levels.old }
+    requires room { HasTextRoom columns.old (length text.now) }
     requires bounds { length text.now < length bounds.old }
     ensures resolver { resolver.new ≡ resolver.old }
-    ensures paras { map level_of_para (take result.paragraphs paras.new) ≡ para_levels_of text.now direction }
+    ensures room { KeepsTextRoom columns.old columns.new }
+    ensures paras { map level_of_para (paras_filled result.paragraphs columns.new)
+        ≡ para_levels_of text.now direction }
     ensures few { result.paragraphs ≤ length text.now }
-    ensures levels { take (length text.now) levels.new ≡ text_levels limits text.now direction }
+    ensures levels { levels_filled (length text.now) columns.new ≡ text_levels limits text.now direction }
     ensures ends { AreAllLineEnds text.now breaks.now.positions result.lines bounds.new }
     ensures few_lines { result.lines ≤ length text.now }
     ensures known { result.uniform ≡ keeps_levels text.now direction }
     ensures uniform { result.uniform ≡ true
-        → StaysAtParas text.now (take result.paragraphs paras.new) (take (length text.now) levels.new) }
+        → StaysAtParas text.now (paras_filled result.paragraphs columns.new)
+        (levels_filled (length text.now) columns.new) }
     ensures at_least { steps.old + 2 * length text.now + result.paragraphs + result.lines ≤ steps.new }
     ensures at_most { steps.new ≤ steps.old + 85 * length text.now }
     ensures light { result.uniform ≡ true → steps.new ≤ steps.old + 4 * length text.now }
 {
+    let paras: &mut [ParaLevel] = &mut columns.paras;
+    let levels: &mut [Option<Level>] = &mut columns.levels;
     let at = breaks.positions();
     let mut cut = start_cut(bounds);
     let mut paragraphs = 0;

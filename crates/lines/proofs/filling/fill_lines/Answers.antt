@@ -1,7 +1,7 @@
-use Rattle.std.proofs.Common.{◌≡◌, ◌<◌, ◌+◌, ◌-◌, ◌++◌, [], ◌∷◌, ℕ, List, Option, Bool, true, false, length, take, arith, sym, refl, ap, ◌∙◌, subst}
+use Rattle.std.proofs.Common.{rules, ◌≡◌, ◌<◌, ◌+◌, ◌-◌, ◌++◌, [], ◌∷◌, ℕ, List, Option, Bool, true, false, length, take, arith, sym, refl, ap, ◌∙◌, subst}
 use Rattle.std.specs.Prelude.{IfSome, count_by, map, slice_index_or, slice_set}
 use Rattle.std.specs.Bool.{then_some}
-use Rattle.std.proofs.lemmas.List.{length-map, length-take-le, take_more, take_more_set}
+use Rattle.std.proofs.lemmas.List.{length-map, length-take-le, take_more, take_more_set, with_items_is}
 use Rattle.units.specs.Classes.{classes_of, is_separator}
 use Rattle.units.specs.Isolates.{level_of_para}
 use Rattle.units.specs.declared.level.ParaLevel.{ParaLevel}
@@ -9,7 +9,7 @@ use Rattle.units.specs.declared.level.ParaLevel.TheVariants.{Zero}
 use Rattle.units.specs.Reordering.{begins_line, para_level_at}
 use Rattle.lines.specs.Bounds.{AreBounds, bound_at, first_bound}
 use Rattle.lines.specs.declared.bounds.Bound.{Bound}
-use Rattle.lines.specs.LineEnds.{EndsLineAt}
+use Rattle.lines.specs.LineEnds.{AreAllLineEnds, EndsLineAt}
 use Rattle.lines.specs.LinePositions.{IsAtOneLevel}
 use Rattle.lines.proofs.BoolBytes.{bool_byte-is}
 use Rattle.explicit.proofs.Roles.{class_read}
@@ -35,10 +35,11 @@ where_known {P} false para level e said is = cc
 
 pub loop-line-init : goal.loop-line-init
 loop-line-init g c =
-    let bounds = c.args.bounds.now in
-    let first = c.requires.ends.1.first in
+    let ends = subst (AreAllLineEnds c.args.own.now c.requires.ends.0 c.args.lines) (sym c.deref_mut-bounds.ensures.value) c.requires.ends.1 in
+    let bounds = c.deref_mut-bounds.result.now in
+    let first = ends.first in
     let start : (bound_at bounds 0).position ≡ 0 = ap (λ (b : Bound). b.position) first in
-    let one : take (0 + 1) bounds ≡ first_bound ∷ [] = take_more bounds 0 first_bound (omega arith) ∙ ap (λ (b : Bound). b ∷ []) first in
+    let one : take (0 + 1) bounds ≡ first_bound ∷ [] = take_more bounds 0 first_bound (omega (arith, ap length c.deref_mut-bounds.ensures.value, c.requires.room.bounds)) ∙ ap (λ (b : Bound). b ∷ []) first in
     record {
       filling = λ breaks all. rw (start, one) (filling_start c.args.levels.now (begins_line (classes_of c.args.own.now) breaks));
       kept = λ k. refl;
@@ -52,24 +53,27 @@ loop-line-init g c =
 pub bounds-paras-paragraph : goal.bounds-paras-paragraph
 bounds-paras-paragraph g c =
     let l = c.loop-line in
+    let ends = subst (AreAllLineEnds c.args.own.now c.requires.ends.0 c.args.lines) (sym c.deref_mut-bounds.ensures.value) c.requires.ends.1 in
     let own = classes_of c.args.own.now in
-    let start = (bound_at c.args.bounds.now l.line).position in
+    let start = (bound_at c.deref_mut-bounds.result.now l.line).position in
     let len : length own ≡ length c.args.own.now = length-map c.args.own.now (λ u. u.class) in
-    let cut = c.requires.ends.1.cut l.line c.loop-line-test.true in
+    let cut = ends.cut l.line c.loop-line-test.true in
     omega (arith, l.invariant.counted, paragraph_at c.args.own.now (length c.args.paras.now) start c.requires.paras (omega (arith, cut.above, cut.within)))
 
 pub invariant_of-span : goal.invariant_of-span
 invariant_of-span g c =
     let l = c.loop-line in
+    let ends = subst (AreAllLineEnds c.args.own.now c.requires.ends.0 c.args.lines) (sym c.deref_mut-bounds.ensures.value) c.requires.ends.1 in
     let own = classes_of c.args.own.now in
     let at = c.requires.ends.0 in
     let len : length own ≡ length c.args.own.now = length-map c.args.own.now (λ u. u.class) in
-    let cut = cut_read (begins_line own at) _ _ _ _ (length own) (l.invariant.kept l.line) (l.invariant.kept (l.line + 1)) (c.requires.ends.1.cut l.line c.loop-line-test.true) in
+    let cut = cut_read (begins_line own at) _ _ _ _ (length own) (l.invariant.kept l.line) (l.invariant.kept (l.line + 1)) (ends.cut l.line c.loop-line-test.true) in
     record { forward = omega (arith, cut.above); within = omega (arith, cut.within, len, c.requires.levels) }
 
 pub write_line-positions-requires-clause-uniform : goal.write_line-positions-requires-clause-uniform
 write_line-positions-requires-clause-uniform g c =
     let l = c.loop-line in
+    let ends = subst (AreAllLineEnds c.args.own.now c.requires.ends.0 c.args.lines) (sym c.deref_mut-bounds.ensures.value) c.requires.ends.1 in
     let own = classes_of c.args.own.now in
     let levels = c.args.levels.now in
     let paras = c.args.paras.now in
@@ -78,7 +82,7 @@ write_line-positions-requires-clause-uniform g c =
     let end = (bound_at l.bounds (l.line + 1)).position in
     let len : length own ≡ length c.args.own.now = length-map c.args.own.now (λ u. u.class) in
     let cut : EndsLineAt (begins_line own at) start end (length own) =
-    cut_read (begins_line own at) _ _ start end (length own) (l.invariant.kept l.line) (l.invariant.kept (l.line + 1)) (c.requires.ends.1.cut l.line c.loop-line-test.true) in
+    cut_read (begins_line own at) _ _ start end (length own) (l.invariant.kept l.line) (l.invariant.kept (l.line + 1)) (ends.cut l.line c.loop-line-test.true) in
     let counted : l.paragraph ≡ count_by is_separator (take start own) = l.invariant.counted ∙ ap (λ n. count_by is_separator (take n own)) (sym (l.invariant.kept l.line)) in
     let bound = paragraph_at c.args.own.now (length paras) start c.requires.paras (omega (arith, cut.above, cut.within)) in
     let para = para_read own paras start l.paragraph counted (omega (arith, bound, counted)) in
@@ -89,6 +93,7 @@ write_line-positions-requires-clause-uniform g c =
 pub loop-line-preserved : goal.loop-line-preserved
 loop-line-preserved g c =
     let l = c.loop-line in
+    let ends = subst (AreAllLineEnds c.args.own.now c.requires.ends.0 c.args.lines) (sym c.deref_mut-bounds.ensures.value) c.requires.ends.1 in
     let own = classes_of c.args.own.now in
     let levels = c.args.levels.now in
     let start : ℕ = (bound_at l.bounds l.line).position in
@@ -99,13 +104,13 @@ loop-line-preserved g c =
     let same : length own ≡ length levels = len ∙ sym c.requires.levels in
     let at = c.requires.ends.0 in
     let cut : EndsLineAt (begins_line own at) start end (length own) =
-    cut_read (begins_line own at) _ _ start end (length own) same_start same_end (c.requires.ends.1.cut l.line c.loop-line-test.true) in
+    cut_read (begins_line own at) _ _ start end (length own) same_start same_end (ends.cut l.line c.loop-line-test.true) in
     let counted : l.paragraph ≡ count_by is_separator (take start own) = l.invariant.counted ∙ ap (λ n. count_by is_separator (take n own)) (sym same_start) in
     let line = c.write_line-positions in
-    let room : l.line + 1 < length l.bounds = omega (arith, l.auto.bounds, c.requires.bounds) in
+    let room : l.line + 1 < length l.bounds = omega (arith, l.auto.bounds, ap length c.deref_mut-bounds.ensures.value, c.requires.room.bounds, c.requires.few) in
     let bound : Bound = record { position = end; order = line.result } in
     let written : length (take line.result line.new.orders) ≡ line.result =
-    length-take-le line.result line.new.orders (omega (arith, cut.within, line.ensures.few, line.auto.orders, l.auto.orders, c.requires.orders)) in
+    length-take-le line.result line.new.orders (omega (arith, cut.within, line.ensures.few, line.auto.orders, l.auto.orders, ap length c.deref_mut-orders.ensures.value, c.requires.room.orders)) in
     let put : take (l.line + 1 + 1) (slice_set l.bounds (l.line + 1) bound) ≡ take (l.line + 1) l.bounds ++ record { position = end; order = length (take line.result line.new.orders) } ∷ [] =
     take_more_set l.bounds (l.line + 1) bound room ∙ ap (ended_at (take (l.line + 1) l.bounds) end) (sym written) in
     record {
@@ -134,18 +139,29 @@ loop-line-preserved g c =
 pub returns-clause-bounds : goal.returns-clause-bounds
 returns-clause-bounds g c =
     let l = c.loop-line in
+    let room = c.args.columns.now in
     let all : l.line ≡ c.args.lines = omega (arith, l.auto.line-end) in
-    let f = l.invariant.filling c.requires.ends.0 c.requires.ends.1 in
-    subst (λ n. AreBounds c.args.levels.now (take l.positions l.orders) (take (n + 1) l.bounds)) all f.bounded
+    let ends = subst (AreAllLineEnds c.args.own.now c.requires.ends.0 c.args.lines) (sym c.deref_mut-bounds.ensures.value) c.requires.ends.1 in
+    let f = l.invariant.filling c.requires.ends.0 ends in
+    let as_orders : length l.orders ≡ room.orders.items.len = search rules in
+    let as_bounds : length l.bounds ≡ room.bounds.items.len = search rules in
+    rw (with_items_is room.orders.items l.orders as_orders, with_items_is room.bounds.items l.bounds as_bounds)
+    (subst (λ n. AreBounds c.args.levels.now (take l.positions l.orders) (take (n + 1) l.bounds)) all f.bounded)
 
 pub returns-clause-lines : goal.returns-clause-lines
 returns-clause-lines g c = λ breaks ends.
     let l = c.loop-line in
+    let room = c.args.columns.now in
+    let held = c.deref_mut-bounds.result.now in
     let own = classes_of c.args.own.now in
     let levels = c.args.levels.now in
     let all : l.line ≡ c.args.lines = omega (arith, l.auto.line-end) in
     let len : length own ≡ length c.args.own.now = length-map c.args.own.now (λ u. u.class) in
-    let done : (bound_at c.args.bounds.now l.line).position ≡ length levels = ap (λ n. (bound_at c.args.bounds.now n).position) all ∙ ends.last ∙ sym c.requires.levels in
-    let f : Filling levels (begins_line own breaks) (bound_at c.args.bounds.now l.line).position (take l.positions l.orders) (take (c.args.lines + 1) l.bounds) =
-    subst (λ n. Filling levels (begins_line own breaks) (bound_at c.args.bounds.now l.line).position (take l.positions l.orders) (take (n + 1) l.bounds)) all (l.invariant.filling breaks ends) in
-    filling_end levels own breaks (bound_at c.args.bounds.now l.line).position (take l.positions l.orders) (take (c.args.lines + 1) l.bounds) (len ∙ sym c.requires.levels) done f
+    let were = subst (AreAllLineEnds c.args.own.now breaks c.args.lines) (sym c.deref_mut-bounds.ensures.value) ends in
+    let done : (bound_at held l.line).position ≡ length levels = ap (λ n. (bound_at held n).position) all ∙ were.last ∙ sym c.requires.levels in
+    let f : Filling levels (begins_line own breaks) (bound_at held l.line).position (take l.positions l.orders) (take (c.args.lines + 1) l.bounds) =
+    subst (λ n. Filling levels (begins_line own breaks) (bound_at held l.line).position (take l.positions l.orders) (take (n + 1) l.bounds)) all (l.invariant.filling breaks were) in
+    let as_orders : length l.orders ≡ room.orders.items.len = search rules in
+    let as_bounds : length l.bounds ≡ room.bounds.items.len = search rules in
+    rw (with_items_is room.orders.items l.orders as_orders, with_items_is room.bounds.items l.bounds as_bounds)
+    (filling_end levels own breaks (bound_at held l.line).position (take l.positions l.orders) (take (c.args.lines + 1) l.bounds) (len ∙ sym c.requires.levels) done f)

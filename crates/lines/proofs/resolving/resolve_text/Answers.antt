@@ -3,7 +3,7 @@ use Rattle.std.specs.List.{list_all}
 use Rattle.std.specs.Prelude.{◌&&◌, slice_range}
 use Rattle.std.proofs.Math.Bool.{and-true, and_assoc}
 use Rattle.std.proofs.lemmas.Bool.{and_parts}
-use Rattle.std.proofs.lemmas.List.{drop_all, drop-drop, length-drop, length-map, length-take-le, take_more_set, take_rest}
+use Rattle.std.proofs.lemmas.List.{drop_all, drop-drop, length-drop, length-map, length-take-le, take_more_set, take_rest, with_items_is}
 use Rattle.std.proofs.lemmas.Slice.{take-put_mid}
 use Rattle.units.specs.declared.bracket.Unit.{Unit as BidiUnit}
 use Rattle.units.specs.Paragraphs.{paragraphs_of, SeparatorOnlyLast}
@@ -33,7 +33,7 @@ next_piece text start n lt e =
 
 pub loop-start-init : goal.loop-start-init
 loop-start-init g c = record {
-  written = written_none c.args.limits c.args.text.now c.args.direction c.args.levels.now;
+  written = written_none c.args.limits c.args.text.now c.args.direction c.deref_mut-levels.result.now;
   known = refl;
   passed = subst (λ n. ArePassed c.positions-at.result.now n 0) (sym c.start_cut-cut.ensures.passed) (passed_none c.positions-at.result.now c.args.breaks.now.len c.positions-at.ensures.breaks);
   ends =
@@ -82,7 +82,7 @@ loop-start-preserved g c =
     let long : length para ≡ n = ap length (piece_is text l.start n end refl) ∙ length-take-le n (drop l.start text) (omega (arith, length-drop l.start text)) in
     let P : List (List BidiUnit) → Type 0 = λ pieces. IsWritten c.args.limits text direction l.start (take l.paragraphs l.paras) l.levels pieces in
     let w : P (para ∷ paragraphs_of (drop end text)) = subst P split l.invariant.written in
-    let room : l.paragraphs < length l.paras = omega (arith, l.auto.paras, l.invariant.few, c.requires.paras) in
+    let room : l.paragraphs < length l.paras = omega (arith, l.auto.paras, l.invariant.few, ap length c.deref_mut-paras.ensures.value, c.requires.room.paras) in
     let keeps : List BidiUnit → Bool = keeps_own_level direction in
     record {
       written =
@@ -130,4 +130,8 @@ returns-clause-uniform g c = λ e.
     let done : drop l.start text ≡ [] = drop_all l.start text (omega arith) in
     let P : List (List BidiUnit) → Type 0 = λ pieces. IsWritten c.args.limits text direction l.start (take l.paragraphs l.paras) l.levels pieces in
     let w : P [] = subst P (ap paragraphs_of done) l.invariant.written in
-    rw (written_paras w, written_levels w) (text_at_paras c.args.limits direction text (all_stay c.args.limits direction (paragraphs_of text) (sym (known_whole text direction l.start l.uniform done l.invariant.known) ∙ e)))
+    let room = c.args.columns.now in
+    let as_paras : length l.paras ≡ room.paras.items.len = search rules in
+    let as_levels : length l.levels ≡ room.levels.items.len = search rules in
+    rw (with_items_is room.paras.items l.paras as_paras, with_items_is room.levels.items l.levels as_levels, written_paras w, written_levels w)
+    (text_at_paras c.args.limits direction text (all_stay c.args.limits direction (paragraphs_of text) (sym (known_whole text direction l.start l.uniform done l.invariant.known) ∙ e)))

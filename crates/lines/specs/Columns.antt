@@ -1,0 +1,64 @@
+-- What the columns of a scratch hold, and how much room they have.
+use Rattle.std.specs.Prelude.{ℕ, ◌≤◌, ◌<◌, ◌≡◌, ◌+◌, Option, List, take}
+use Rattle.std.specs.Box.{boxed_slice_items}
+use Rattle.units.specs.Layout.{LineLayout, longest_text}
+use Rattle.units.specs.declared.level.ParaLevel.{ParaLevel}
+use Rattle.lines.specs.Bounds.{lines_in}
+use Rattle.lines.specs.Room.{places_in}
+use Rattle.lines.specs.declared.bounds.Bound.{Bound}
+use Rattle.lines.specs.declared.columns.LineColumns.{LineColumns}
+use Rattle.lines.specs.declared.columns.TextColumns.{TextColumns}
+use Rattle.lines.specs.declared.filling.Filled.{Filled}
+
+-- the levels of the first so many paragraphs
+abbrev pub paras_filled : ℕ → TextColumns → List ParaLevel
+paras_filled paragraphs columns = take paragraphs (boxed_slice_items columns.paras)
+
+-- the levels of the first so many positions
+abbrev pub levels_filled : ℕ → TextColumns → List (Option ℕ)
+levels_filled units columns = take units (boxed_slice_items columns.levels)
+
+-- the bounds of lines, of this layout and of earlier ones
+abbrev pub bounds_in : LineColumns → List Bound
+bounds_in columns = boxed_slice_items columns.bounds
+
+-- the orders that were written
+abbrev pub orders_filled : Filled → LineColumns → List ℕ
+orders_filled filled columns = take filled.positions (boxed_slice_items columns.orders)
+
+-- the bounds that were written, one more than lines
+abbrev pub bounds_filled : Filled → LineColumns → List Bound
+bounds_filled filled columns = take (filled.lines + 1) (bounds_in columns)
+
+-- the lines that were written
+abbrev pub lines_filled : Filled → LineColumns → List LineLayout
+lines_filled filled columns = lines_in (orders_filled filled columns) (bounds_filled filled columns)
+
+-- there is room for a text of so many units
+pub record HasTextRoom (columns : TextColumns) (units : ℕ) : Type 0 where
+  pub paras : units ≤ places_in columns.paras
+  pub levels : units ≤ places_in columns.levels
+
+-- there is room for the lines of such a text
+pub record HasLineRoom (columns : LineColumns) (units : ℕ) : Type 0 where
+  pub runs : units ≤ places_in columns.runs
+  pub orders : units ≤ places_in columns.orders
+  pub bounds : units < places_in columns.bounds
+
+-- columns don't grow
+pub record KeepsTextRoom (old new : TextColumns) : Type 0 where
+  pub paras : places_in new.paras ≡ places_in old.paras
+  pub levels : places_in new.levels ≡ places_in old.levels
+
+-- columns don't grow
+pub record KeepsLineRoom (old new : LineColumns) : Type 0 where
+  pub runs : places_in new.runs ≡ places_in old.runs
+  pub orders : places_in new.orders ≡ places_in old.orders
+  pub bounds : places_in new.bounds ≡ places_in old.bounds
+
+-- there is room for a text of so many units in all columns, and no more than any may have
+pub record HaveRoom (room for_paragraphs : ℕ) (text : TextColumns) (lines : LineColumns) : Type 0 where
+  pub most : room ≤ longest_text
+  pub paragraphs : room ≤ for_paragraphs
+  pub for_text : HasTextRoom text room
+  pub for_lines : HasLineRoom lines room
