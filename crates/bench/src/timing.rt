@@ -1,7 +1,7 @@
 //! The clock.
 
 use lines::breaks::Breaks;
-use lines::lay_out::lay_in;
+use lines::lay_out::lay_out_into;
 use lines::scratch::Scratch;
 use std::io;
 use std::time::{Duration, Instant};
@@ -13,7 +13,7 @@ pub fn line_count(text: &[Unit], room: &mut Scratch) -> usize {
     let Ok(breaks) = Breaks::new(&[], text.len()) else {
         return 0;
     };
-    match lay_in(room, text, Direction::Auto, &breaks) {
+    match lay_out_into(room, text, Direction::Auto, &breaks) {
         Ok(()) => room.layout().line_count(),
         Err(_) => 0,
     }

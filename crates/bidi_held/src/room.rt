@@ -12,7 +12,7 @@ ghost use Rattle.bidi_held.specs.Refusals.{IsFirstNoCharacter, IsFirstNoClass, T
 
 use crate::refusal::{Refusal, of_breaks};
 use lines::breaks::Breaks;
-use lines::lay_out::{lay_in, lay_in_with};
+use lines::lay_out::{lay_out_into, lay_out_into_with};
 use lines::scratch::{MOST, RoomFault, Scratch};
 use std::alloc::Global;
 use std::boxed::BoxedSlice;
@@ -134,7 +134,7 @@ fn lay_out_nothing(scratch: &mut Scratch)
     ensures empty { layout_in scratch.new ≡ layout_of standard [] Auto [] }
 {
     if let Ok(breaks) = Breaks::new(&[], 0) {
-        let _done = lay_in(scratch, &[], Direction::Auto, &breaks);
+        let _done = lay_out_into(scratch, &[], Direction::Auto, &breaks);
     }
 }
 
@@ -168,7 +168,7 @@ impl Room {
             (take breaks.now.len (boxed_slice_items self.old.units)) direction breaks.now.positions }
     {
         let text = &self.units[..breaks.text_len()];
-        match lay_in_with(&mut self.scratch, text, direction, breaks, limits) {
+        match lay_out_into_with(&mut self.scratch, text, direction, breaks, limits) {
             Ok(()) => Ok(()),
             Err(_) => Err(Refusal::TooLong),
         }

@@ -1,7 +1,7 @@
 //! Rows of many units: explicit levels and open brackets up to their limits, and isolates in one another.
 use crate::given::{append_units, levels, repeated, shows_in_room, unit, units_of};
 use lines::breaks::Breaks;
-use lines::lay_out::lay_in_with;
+use lines::lay_out::lay_out_into_with;
 use lines::scratch::Scratch;
 use std::alloc::Global;
 use std::process::Abort;
@@ -190,7 +190,7 @@ fn level_by_depth(rt: &impl Abort, room: &mut Scratch, depth: u8, level: u8) -> 
     let expected = [None, None, Level::new(level)];
     let limits = Limits::new(depth, 63)?;
     let breaks = Breaks::new(&[], text.len())?;
-    lay_in_with(room, &text, Direction::Ltr, &breaks, limits)?;
+    lay_out_into_with(room, &text, Direction::Ltr, &breaks, limits)?;
     assert_eq!(rt; room.layout().levels(), expected.as_slice());
     Ok(())
 }

@@ -4,7 +4,7 @@ ghost use Rattle.std.specs.Prelude.{OnOk};
 
 use crate::given::{levels, numbers, shows, unit, units_of};
 use lines::breaks::{BreakFault, Breaks};
-use lines::lay_out::lay_in;
+use lines::lay_out::lay_out_into;
 use lines::layout::Layout;
 use lines::scratch::{RoomFault, Scratch};
 use std::alloc::Global;
@@ -51,7 +51,7 @@ fn line_shows(
 fn lays_out_broken(rt: &impl Abort, room: &mut Scratch, text: &[Unit]) -> Result<(), Fail> {
     let at = [2];
     let breaks = Breaks::new(&at, text.len())?;
-    lay_in(room, text, Direction::Ltr, &breaks)?;
+    lay_out_into(room, text, Direction::Ltr, &breaks)?;
     let layout = room.layout();
     assert_eq!(rt; layout.line_count(), 2);
     line_shows(rt, &layout, 0, &[Level::new(1), Level::new(0)], &[0, 1]);
@@ -85,7 +85,7 @@ fn no_growth_comes_after_making(rt: HostRuntime) -> Result<(), Fail> {
 fn refuses_then_lays_out(rt: &impl Abort, room: &mut Scratch) -> Result<(), Fail> {
     let long = [unit(Class::R), unit(Class::WS), unit(Class::R)];
     let breaks = Breaks::new(&[], long.len())?;
-    assert!(rt; lay_in(room, &long, Direction::Ltr, &breaks).is_err());
+    assert!(rt; lay_out_into(room, &long, Direction::Ltr, &breaks).is_err());
     let text = [unit(Class::L), unit(Class::L)];
     let expected = [Level::new(0), Level::new(0)];
     shows(rt, room, &text, Direction::Ltr, &expected, &[0, 1])
@@ -104,7 +104,7 @@ fn two_paragraphs_broken(alloc: Global, room: &mut Scratch, at: usize) -> Result
     let text = units_of(alloc, "\u{5D0}1\na")?;
     let at = [at];
     let breaks = Breaks::new(&at, text.len())?;
-    lay_in(room, &text, Direction::Auto, &breaks)?;
+    lay_out_into(room, &text, Direction::Auto, &breaks)?;
     Ok(())
 }
 

@@ -1,7 +1,7 @@
 //! Rows of what is shown: L4 over the order of a line.
 use crate::given::tables;
 use lines::breaks::Breaks;
-use lines::lay_out::lay_in;
+use lines::lay_out::lay_out_into;
 use lines::scratch::Scratch;
 use lines::shown::Shown;
 use std::alloc::Global;
@@ -54,7 +54,7 @@ fn is_shown(
     row: &Row,
 ) -> Result<(), Fail> {
     let breaks = Breaks::new(&[], text.len())?;
-    lay_in(room, text, Direction::Ltr, &breaks)?;
+    lay_out_into(room, text, Direction::Ltr, &breaks)?;
     let layout = room.layout();
     assert_eq!(rt; layout.line_count(), 1);
     assert_eq!(rt; layout.levels().len(), row.chars.len());

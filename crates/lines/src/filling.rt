@@ -9,6 +9,7 @@ ghost use Rattle.lines.specs.Bounds.{AreBounds};
 ghost use Rattle.lines.specs.Columns.{bounds_filled, bounds_in, lines_filled, orders_filled, HasLineRoom, KeepsLineRoom};
 ghost use Rattle.lines.specs.LineEnds.{AreAllLineEnds, AreEndsOfLines};
 ghost use Rattle.lines.specs.Spaces.{StaysAtParas};
+ghost use Rattle.lines.specs.StepBounds.{light_line_steps, light_order_steps, line_steps, order_steps};
 ghost use Rattle.lines.specs.Spans.{IsSpanAtLevel, order_of, units_in_span};
 
 use crate::bounds::Bound;
@@ -47,8 +48,8 @@ fn write_line<L: Ledger>(
     ensures order { take result orders.new ≡ take written orders.old ++ order_of line.entry }
     ensures few { result ≤ line.entry.end }
     ensures at_least { steps.old + units_in_span line.entry ≤ steps.new }
-    ensures at_most { steps.new ≤ steps.old + 6 * units_in_span line.entry }
-    ensures light { IfSome uniform (λ _. steps.new ≤ steps.old + 2 * units_in_span line.entry) }
+    ensures at_most { steps.new ≤ steps.old + order_steps * units_in_span line.entry }
+    ensures light { IfSome uniform (λ _. steps.new ≤ steps.old + light_order_steps * units_in_span line.entry) }
 {
     written + write_order(line, uniform, runs, &mut orders[written..], steps)
 }
@@ -82,8 +83,8 @@ pub(crate) fn fill_lines<L: Ledger>(
     ensures all { result.lines ≡ lines }
     ensures few_positions { result.positions ≤ length own.now }
     ensures at_least { steps.old + length own.now + lines ≤ steps.new }
-    ensures at_most { steps.new ≤ steps.old + 7 * length own.now }
-    ensures light { IsTrue uniform → steps.new ≤ steps.old + 3 * length own.now }
+    ensures at_most { steps.new ≤ steps.old + line_steps * length own.now }
+    ensures light { IsTrue uniform → steps.new ≤ steps.old + light_line_steps * length own.now }
 {
     let runs: &mut [Run] = &mut columns.runs;
     let orders: &mut [usize] = &mut columns.orders;

@@ -3,6 +3,7 @@ ghost use Rattle.std.specs.Prelude.{◌≡◌, ◌≤◌, ◌<◌, ◌+◌, ◌-
 ghost use Rattle.units.specs.Isolates.{level_of_para};
 ghost use Rattle.units.specs.Positions.{positions_from};
 ghost use Rattle.lines.specs.Spans.{IsRun, IsSpanAtLevel, order_of, remaining_in, units_in_span};
+ghost use Rattle.lines.specs.StepBounds.{light_order_steps, order_steps};
 
 use crate::positions::{all_remain, count_down, count_up};
 use crate::runs::{Run, link_line};
@@ -82,7 +83,7 @@ fn write_uniform<L: Ledger>(
     ensures order { take result order.new ≡ order_of line.entry }
     ensures count { result ≤ units_in_span line.entry }
     ensures at_least { steps.old + units_in_span line.entry ≤ steps.new }
-    ensures at_most { steps.new ≤ steps.old + 2 * units_in_span line.entry }
+    ensures at_most { steps.new ≤ steps.old + light_order_steps * units_in_span line.entry }
 {
     let LineSpan { levels, start, end } = line;
     if all_remain(&levels[start..end], steps) {
@@ -144,7 +145,7 @@ fn write_runs<L: Ledger>(
     ensures order { take result order.new ≡ order_of line.entry }
     ensures count { result ≤ units_in_span line.entry }
     ensures at_least { steps.old + units_in_span line.entry ≤ steps.new }
-    ensures at_most { steps.new ≤ steps.old + 6 * units_in_span line.entry }
+    ensures at_most { steps.new ≤ steps.old + order_steps * units_in_span line.entry }
 {
     let Some(chain) = link_line(line, runs, steps) else {
         return 0;
@@ -189,8 +190,8 @@ pub fn write_order<L: Ledger>(
     ensures order { take result order.new ≡ order_of line.entry }
     ensures count { result ≤ units_in_span line.entry }
     ensures at_least { steps.old + units_in_span line.entry ≤ steps.new }
-    ensures at_most { steps.new ≤ steps.old + 6 * units_in_span line.entry }
-    ensures light { IfSome uniform (λ _. steps.new ≤ steps.old + 2 * units_in_span line.entry) }
+    ensures at_most { steps.new ≤ steps.old + order_steps * units_in_span line.entry }
+    ensures light { IfSome uniform (λ _. steps.new ≤ steps.old + light_order_steps * units_in_span line.entry) }
 {
     match uniform {
         None => write_runs(line, runs, order, steps),

@@ -6,6 +6,7 @@ ghost use Rattle.lines.specs.Columns.{levels_filled, paras_filled, HasTextRoom, 
 ghost use Rattle.lines.specs.Kept.{keeps_levels};
 ghost use Rattle.lines.specs.LineEnds.{AreAllLineEnds};
 ghost use Rattle.lines.specs.Spaces.{StaysAtParas};
+ghost use Rattle.lines.specs.StepBounds.{light_text_steps, text_steps};
 
 use crate::bounds::Bound;
 use crate::breaks::Breaks;
@@ -61,8 +62,8 @@ pub(crate) fn resolve_text<L: Ledger>(
         → StaysAtParas text.now (paras_filled result.paragraphs columns.new)
         (levels_filled (length text.now) columns.new) }
     ensures at_least { steps.old + 2 * length text.now + result.paragraphs + result.lines ≤ steps.new }
-    ensures at_most { steps.new ≤ steps.old + 85 * length text.now }
-    ensures light { result.uniform ≡ true → steps.new ≤ steps.old + 4 * length text.now }
+    ensures at_most { steps.new ≤ steps.old + text_steps * length text.now }
+    ensures light { result.uniform ≡ true → steps.new ≤ steps.old + light_text_steps * length text.now }
 {
     let paras: &mut [ParaLevel] = &mut columns.paras;
     let levels: &mut [Option<Level>] = &mut columns.levels;

@@ -4,6 +4,7 @@ ghost use Rattle.lines.specs.RunLinks.{BeginsRun, IsFollowed, IsJoined, IsLinked
 ghost use Rattle.lines.specs.RunLinks.{run_in};
 ghost use Rattle.lines.specs.LinePositions.{HasLevel, IsAtOneLevel};
 ghost use Rattle.lines.specs.Spans.{IsChainOfSpan, order_of, units_in_span};
+ghost use Rattle.lines.specs.StepBounds.{linking_steps};
 
 use crate::spans::LineSpan;
 use std::sync::ledger::Ledger;
@@ -153,7 +154,7 @@ fn link_from<L: Ledger>(
     ensures stops { StopsBelow levels.now least result.end end }
     ensures kept { (p : ℕ) → p < position → run_in runs.new p ≡ run_in runs.old p }
     ensures at_least { steps.old + (result.end - position) ≤ steps.new }
-    ensures at_most { steps.new + 1 ≤ steps.old + 4 * (result.end - position) }
+    ensures at_most { steps.new + 1 ≤ steps.old + linking_steps * (result.end - position) }
 {
     steps.tick();
     let mut stretch = link_run(levels, position, level, end, runs, steps);
@@ -187,7 +188,7 @@ pub(crate) fn link_line<L: Ledger>(
     ensures linked { MatchOption result (order_of line.entry ≡ [])
         (IsChainOfSpan line.entry runs.new) }
     ensures at_least { steps.old + units_in_span line.entry ≤ steps.new }
-    ensures at_most { steps.new ≤ steps.old + 4 * units_in_span line.entry }
+    ensures at_most { steps.new ≤ steps.old + linking_steps * units_in_span line.entry }
 {
     let LineSpan { levels, start, end } = line;
     for position in start..end {

@@ -9,7 +9,7 @@ ghost use Rattle.lines.specs.Scratches.{room_of, layout_in, IsFilled};
 ghost use Rattle.ucdfiles.specs.Tables.{units_by};
 
 use lines::breaks::{BreakFault, Breaks};
-use lines::lay_out::lay_in;
+use lines::lay_out::lay_out_into;
 use lines::layout::Layout;
 use lines::scratch::{MOST, Scratch};
 use std::alloc::{AllocError, Global};
@@ -78,17 +78,6 @@ fn units_of(alloc: Global, tables: &Tables, chars: &[char]) -> Result<Vec<Unit>,
     Ok(units)
 }
 
-/// Room for so many characters.
-fn room_for(alloc: Global, length: usize) -> Result<Scratch, AllocError>
-    requires { length ≤ longest_text }
-    ensures { IfOk result (λ scratch. room_of scratch ≡ length) }
-{
-    match Scratch::with_room(alloc, length) {
-        Ok(scratch) => Ok(scratch),
-        Err(_) => Err(AllocError),
-    }
-}
-
 impl<'t> Text<'t> {
     ghost use Rattle.std.specs.Prelude.{◌≡◌, ◌<◌, ◌≤◌, length, string_bytes, IfOk, OnOk, IfErr};
     ghost use Rattle.std.specs.Str.{chars, encode_utf8_all};
@@ -115,8 +104,8 @@ impl<'t> Text<'t> {
             ≡ layout_of standard (units_by tables.now chars.items) direction breaks.now.positions) }
     {
         let units = units_of(alloc, tables, &chars)?;
-        let mut scratch = room_for(alloc, units.len())?;
-        lay_in(&mut scratch, &units, direction, breaks).unwrap();
+        let mut scratch = Scratch::reserve(alloc, units.len()).map_err(|_| AllocError)?;
+        lay_out_into(&mut scratch, &units, direction, breaks).unwrap();
         Ok(Text {
             tables,
             chars,

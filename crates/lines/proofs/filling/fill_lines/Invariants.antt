@@ -4,6 +4,7 @@ use Rattle.units.specs.Classes.{classes_of, is_separator}
 use Rattle.units.specs.Reordering.{begins_line}
 use Rattle.lines.specs.Bounds.{bound_at}
 use Rattle.lines.specs.LineEnds.{AreAllLineEnds}
+use Rattle.lines.specs.StepBounds.{light_line_steps, line_steps}
 use Rattle.lines.proofs.LinesWritten.{Filling}
 use Rattle.lines.proofs.filling.fill_lines.Given as goal
 
@@ -15,6 +16,6 @@ invariant-loop-line g l =
       few_positions : l.positions ≤ (bound_at l.initial.bounds l.line).position;
       counted : l.paragraph ≡ count_by is_separator (take (bound_at l.initial.bounds l.line).position (classes_of l.own));
       at_least : l.initial.steps + (bound_at l.initial.bounds l.line).position + l.line ≤ l.steps;
-      at_most : l.steps ≤ l.initial.steps + 7 * (bound_at l.initial.bounds l.line).position;
-      light : IsTrue l.uniform → l.steps ≤ l.initial.steps + 3 * (bound_at l.initial.bounds l.line).position;
+      at_most : l.steps ≤ l.initial.steps + line_steps * (bound_at l.initial.bounds l.line).position;
+      light : IsTrue l.uniform → l.steps ≤ l.initial.steps + light_line_steps * (bound_at l.initial.bounds l.line).position;
     }

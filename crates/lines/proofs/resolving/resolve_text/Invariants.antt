@@ -5,6 +5,7 @@ use Rattle.units.specs.Classes.{classes_of}
 use Rattle.units.specs.Paragraphs.{paragraphs_of}
 use Rattle.lines.specs.Kept.{keeps_levels, keeps_own_level}
 use Rattle.lines.specs.LineEnds.{AreLineEnds, ArePassed}
+use Rattle.lines.specs.StepBounds.{light_text_steps, text_steps}
 use Rattle.lines.proofs.TextLevels.{IsWritten}
 use Rattle.lines.proofs.resolving.resolve_text.Given as goal
 
@@ -20,8 +21,8 @@ invariant-loop-start g l = record {
   inside : l.start ≤ length l.text;
   resolver : l.resolver ≡ l.initial.resolver;
   at_least : l.initial.steps + 2 * l.start + l.paragraphs + l.cut.lines ≤ l.steps;
-  at_most : l.steps ≤ l.initial.steps + 85 * l.start;
-  light : l.uniform ≡ true → l.steps ≤ l.initial.steps + 4 * l.start;
+  at_most : l.steps ≤ l.initial.steps + text_steps * l.start;
+  light : l.uniform ≡ true → l.steps ≤ l.initial.steps + light_text_steps * l.start;
 }
 
 abbrev pub decreases-loop-start : goal.decreases-loop-start

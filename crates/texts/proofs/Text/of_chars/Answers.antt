@@ -7,7 +7,7 @@ use Rattle.texts.proofs.Text.of_chars.Goals as goal
 
 pub invariant_of-result-clause-whole : goal.invariant_of-result-clause-whole
 invariant_of-result-clause-whole c =
-    let laid = rw c.unwrap.ensures at c.lay_in.ensures.laid_out in
+    let laid = rw c.unwrap.ensures at c.lay_out_into.ensures.laid_out in
     let units : c.deref-2.result.now ≡ units_by c.args.tables.now c.args.chars.items =
     c.deref-2.ensures.value ∙ c.in_ok-units.ensures ∙ ap (units_by c.args.tables.now) c.deref.ensures.value in
     ap (λ (layout : TextLayout). length layout.levels) laid ∙ length-levels _ _ _ _ ∙ ap length units ∙ length-map _ _

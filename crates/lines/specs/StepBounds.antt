@@ -1,0 +1,46 @@
+-- How many steps a layout takes, for each position of its text.
+use Rattle.std.specs.Prelude.{ℕ, ◌+◌}
+
+-- P1 to I2 at most: paragraphs and their contents are found, lines are cut, and the rules take the rest
+abbrev pub text_steps : ℕ
+text_steps = 81 + 4
+
+-- where each paragraph keeps its level
+abbrev pub light_text_steps : ℕ
+light_text_steps = 4
+
+-- L2 at most: the runs of a line are linked
+abbrev pub linking_steps : ℕ
+linking_steps = 4
+
+-- L2 at most: they are linked, and each is turned to and written
+abbrev pub order_steps : ℕ
+order_steps = linking_steps + 2
+
+-- L2 at most, where a line is known to have one level: what remains is looked for, and written
+abbrev pub light_order_steps : ℕ
+light_order_steps = 1 + 1
+
+-- L2 at most, line by line: each has a position of its own
+abbrev pub line_steps : ℕ
+line_steps = order_steps + 1
+
+-- the same, where the levels are known
+abbrev pub light_line_steps : ℕ
+light_line_steps = light_order_steps + 1
+
+-- L1 and L2 at most
+abbrev pub arranging_steps : ℕ
+arranging_steps = 1 + line_steps
+
+-- P1 to L2 at most
+abbrev pub layout_steps : ℕ
+layout_steps = text_steps + arranging_steps
+
+-- the same, where each paragraph keeps its level
+abbrev pub light_layout_steps : ℕ
+light_layout_steps = light_text_steps + light_line_steps
+
+-- P1 to L2 at least: contents are found, levels written, and the order
+abbrev pub least_layout_steps : ℕ
+least_layout_steps = 2 + 1
