@@ -6,7 +6,7 @@ use Rattle.bidtests.specs.declared.kind.Kind.{Kind}
 use Rattle.bidtests.specs.declared.verdict.Verdict.{Verdict}
 use Rattle.bidtests.specs.FileKinds.{findings_by, verdict_of}
 use Rattle.bidtests.specs.Headline.{Says}
-use Rattle.bidtests.proofs.Judged.{verdict-of}
+use Rattle.bidtests.proofs.CutterSteps.{verdict-of}
 use Rattle.bidtests.proofs.FileLines.{findings-ordered}
 use Rattle.bidtests.proofs.VerdictsSay.{verdict-law}
 

@@ -15,7 +15,7 @@ use Rattle.bidtests.specs.ClassesFile.{ClassesLine, Nothing, LevelsAre, OrderIs,
 use Rattle.bidtests.specs.CharactersFile.{characters_line}
 use Rattle.bidtests.specs.FileKinds.{findings_by}
 use Rattle.ucdfiles.specs.Tables.{unit_by}
-use Rattle.bidtests.specs.Standing.{Standing, at_start, AreInForce, levels_behind, order_behind, rows_behind, cases_behind, comes_to_behind, after_line, IsBehind}
+use Rattle.bidtests.specs.Carried.{Carried, at_start, AreInForce, levels_behind, order_behind, rows_behind, cases_behind, comes_to_behind, after_line, IsBehind}
 
 findings_behind-append : (earlier a b : List ClassesLine) → findings_behind earlier (a ++ b) ≡ findings_behind earlier a ++ findings_behind (reverse a ++ earlier) b
 findings_behind-append earlier [] b = refl
@@ -56,12 +56,12 @@ classes_findings-last lines line =
 length-classes_findings : (lines : List (List ℕ)) → length (classes_findings lines) ≡ length lines
 length-classes_findings lines = length-findings_behind [] (map classes_line lines) ∙ length-map lines classes_line
 
-said-is : (s : Standing) (lines : List (List ℕ)) (line : List ℕ) → s.levels ≡ levels_in_force (reverse (map classes_line lines)) → s.order ≡ order_in_force (reverse (map classes_line lines))
+said-is : (s : Carried) (lines : List (List ℕ)) (line : List ℕ) → s.levels ≡ levels_in_force (reverse (map classes_line lines)) → s.order ≡ order_in_force (reverse (map classes_line lines))
     → comes_to (levels_in_force (reverse (map classes_line lines))) (order_in_force (reverse (map classes_line lines))) (classes_line line) ≡ comes_to s.levels s.order (classes_line line)
 said-is s lines line l o = rw (l, o) refl
 
 -- what a line of either kind of file comes to stands behind what the lines before it come to
-findings-line : (kind : Kind) (s : Standing) (lines : List (List ℕ)) (line : List ℕ) (others : List (List ℕ)) → AreInForce kind s.levels s.order lines
+findings-line : (kind : Kind) (s : Carried) (lines : List (List ℕ)) (line : List ℕ) (others : List (List ℕ)) → AreInForce kind s.levels s.order lines
     → (rest : List Finding) × (findings_by kind (lines ++ line ∷ others) ≡ findings_by kind lines ++ comes_to_behind kind s line ∷ rest)
 findings-line Classes s lines line others h =
     let f = classes_findings-line lines line others in
@@ -70,7 +70,7 @@ findings-line (Characters tables) s lines line others h =
     let reading = characters_line (unit_by tables.now) in
     (map reading others, map-append reading lines (line ∷ others))
 
-findings-last : (kind : Kind) (s : Standing) (lines : List (List ℕ)) (line : List ℕ) → AreInForce kind s.levels s.order lines
+findings-last : (kind : Kind) (s : Carried) (lines : List (List ℕ)) (line : List ℕ) → AreInForce kind s.levels s.order lines
     → findings_by kind (lines ++ line ∷ []) ≡ findings_by kind lines ++ comes_to_behind kind s line ∷ []
 findings-last Classes s lines line h = classes_findings-last lines line ∙ ap (λ x. classes_findings lines ++ x ∷ []) (said-is s lines line h.0 h.1)
 findings-last (Characters tables) s lines line h = map-append (characters_line (unit_by tables.now)) lines (line ∷ [])
@@ -94,7 +94,7 @@ order-behind (OrderIs now) says order e = refl
 order-behind (RowOf text directions) says order e = e
 order-behind (Broken cause) says order e = e
 
-in-force : (kind : Kind) (s : Standing) (lines : List (List ℕ)) (line : List ℕ) → AreInForce kind s.levels s.order lines
+in-force : (kind : Kind) (s : Carried) (lines : List (List ℕ)) (line : List ℕ) → AreInForce kind s.levels s.order lines
     → AreInForce kind (after_line kind line s).levels (after_line kind line s).order (lines ++ line ∷ [])
 in-force Classes s lines line h =
     let says = map classes_line lines in
@@ -106,11 +106,11 @@ in-force Classes s lines line h =
 in-force (Characters tables) s lines line h = tt
 
 -- the counts are those before the line, with its own
-rows-after : (kind : Kind) (line : List ℕ) (s : Standing) → (after_line kind line s).rows ≡ rows_behind (comes_to_behind kind s line) s.rows
+rows-after : (kind : Kind) (line : List ℕ) (s : Carried) → (after_line kind line s).rows ≡ rows_behind (comes_to_behind kind s line) s.rows
 rows-after Classes line s = refl
 rows-after (Characters tables) line s = refl
 
-cases-after : (kind : Kind) (line : List ℕ) (s : Standing) → (after_line kind line s).cases ≡ cases_behind (comes_to_behind kind s line) s.cases
+cases-after : (kind : Kind) (line : List ℕ) (s : Carried) → (after_line kind line s).cases ≡ cases_behind (comes_to_behind kind s line) s.cases
 cases-after Classes line s = refl
 cases-after (Characters tables) line s = refl
 
@@ -137,11 +137,11 @@ cases-behind limits number (Row claim) cases fs e c = cases-push cases fs (Row c
 cases-behind limits number (Faulty cause) cases fs e c = absurd (cc)
 
 -- a line changes no limits
-limits-after : (kind : Kind) (line : List ℕ) (s : Standing) → (after_line kind line s).limits ≡ s.limits
+limits-after : (kind : Kind) (line : List ℕ) (s : Carried) → (after_line kind line s).limits ≡ s.limits
 limits-after Classes line s = refl
 limits-after (Characters tables) line s = refl
 
-module _ (limits : LimitsOf) (kind : Kind) (s : Standing) (lines : List (List ℕ)) (line : List ℕ) (h : IsBehind limits kind s lines) where
+module _ (limits : LimitsOf) (kind : Kind) (s : Carried) (lines : List (List ℕ)) (line : List ℕ) (h : IsBehind limits kind s lines) where
   -- what the line comes to behind these
   abbrev found : Finding
   found = comes_to_behind kind s line
@@ -179,7 +179,7 @@ module _ (limits : LimitsOf) (kind : Kind) (s : Standing) (lines : List (List �
       }
 
 -- with no fault the numbers are those held
-pub verdict-yes : (limits : LimitsOf) (kind : Kind) (s : Standing) (lines : List (List ℕ)) → IsBehind limits kind s lines
+pub verdict-yes : (limits : LimitsOf) (kind : Kind) (s : Carried) (lines : List (List ℕ)) → IsBehind limits kind s lines
     → verdict_on limits (findings_by kind lines) ≡ Yes s.rows s.cases
 unfolding verdict_on
 verdict-yes limits kind s lines h = rw (h.faultless, h.rows, h.cases) refl

@@ -10,7 +10,8 @@ use Rattle.bidtests.specs.Verdicts.{Finding, first_no, rows_in, cases_in}
 use Rattle.bidtests.specs.ClassesFile.{classes_findings, classes_verdict}
 use Rattle.bidtests.specs.CharactersFile.{characters_line, characters_verdict}
 use Rattle.bidtests.specs.FileKinds.{findings_by, verdict_of}
-use Rattle.bidtests.specs.Standing.{Standing, StateOf, AreInForce, IsBehind, JudgesBy, Judges, HoldsFor, judging, tables_of}
+use Rattle.bidtests.specs.Carried.{Carried, AreInForce, IsBehind}
+use Rattle.bidtests.specs.Standing.{StateOf, JudgesBy, Judges, HoldsFor, judging, tables_of}
 
 abbrev findings_with : Option TablesOf → List (List ℕ) → List Finding
 findings_with None lines = classes_findings lines
@@ -39,7 +40,7 @@ module _ (limits : LimitsOf) (kind other : Kind) (same : tables_of other ≡ tab
   findings-as : (lines : List (List ℕ)) → findings_by kind lines ≡ findings_by other lines
   findings-as lines = findings-with kind lines ∙ ap (λ t. findings_with t lines) (sym same) ∙ sym (findings-with other lines)
 
-  behind-as : (s : Standing) (lines : List (List ℕ)) → IsBehind limits kind s lines → IsBehind limits other s lines
+  behind-as : (s : Carried) (lines : List (List ℕ)) → IsBehind limits kind s lines → IsBehind limits other s lines
   behind-as s lines h =
       let e = findings-as lines in
       record {
@@ -50,16 +51,16 @@ module _ (limits : LimitsOf) (kind other : Kind) (same : tables_of other ≡ tab
         cases = h.cases ∙ ap cases_in e;
       }
 
-  judges-as : (decided : Option Verdict) (cutting : Cutting) (s : Standing) (b : List ℕ) → JudgesBy limits kind decided cutting s b → JudgesBy limits other decided cutting s b
+  judges-as : (decided : Option Verdict) (cutting : Cutting) (s : Carried) (b : List ℕ) → JudgesBy limits kind decided cutting s b → JudgesBy limits other decided cutting s b
   judges-as None cutting s b h =
       record { cutter = h.cutter; lines = h.lines; rest = h.rest; cut = h.cut; behind = behind-as s h.lines h.behind }
   judges-as (Some verdict) cutting s b h = λ more.
       verdict-with limits other (b ++ more) ∙ ap (λ t. verdict_with limits t (b ++ more)) same ∙ sym (verdict-with limits kind (b ++ more)) ∙ h more
 
 -- a judge of a file of one kind has come so far for each kind with the same tables
-pub holds-for : (limits : LimitsOf) (kind : Kind) (state : StateOf) (b : List ℕ) → JudgesBy limits kind state.decided state.cutting state.standing b
+pub holds-for : (limits : LimitsOf) (kind : Kind) (state : StateOf) (b : List ℕ) → JudgesBy limits kind state.decided state.cutting state.carried b
     → HoldsFor limits (tables_of kind) state b
-holds-for limits kind state b h = λ other same. judges-as limits kind other same state.decided state.cutting state.standing b h
+holds-for limits kind state b h = λ other same. judges-as limits kind other same state.decided state.cutting state.carried b h
 
 -- what a judge of this kind has come to
 pub state-of : (limits : LimitsOf) (kind own : Kind) (state : StateOf) (b : List ℕ) → Judges limits kind (judging own state) b → HoldsFor limits (tables_of own) state b

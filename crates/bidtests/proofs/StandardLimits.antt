@@ -10,7 +10,7 @@ use Rattle.bidtests.specs.declared.kind.Kind.{Kind}
 use Rattle.bidtests.specs.Verdicts.{Claim, Finding, Silent, Row, Faulty, wrong_case, wrong_at, no_of, first_no, or_yes, verdict_on}
 use Rattle.bidtests.specs.FileKinds.{findings_by, verdict_of}
 use Rattle.bidtests.specs.StandardVerdicts.{standard_wrong_case, standard_no_of, standard_first_no, standard_verdict_of}
-use Rattle.bidtests.proofs.Judged.{verdict-of}
+use Rattle.bidtests.proofs.CutterSteps.{verdict-of}
 
 module _ (same : (text : List BidiUnit) (direction : Direction) (breaks : List ℕ) → layout_of standard text direction breaks ≡ standard_layout text direction breaks) where
   standard-case : (claim : Claim) (ds : List Direction) → wrong_case standard claim ds ≡ standard_wrong_case claim ds

@@ -27,9 +27,10 @@ line_comes_to Classes lines k =
     comes_to (levels_in_force earlier) (order_in_force earlier) (classes_line (slice_index_or lines k []))
 line_comes_to (Characters tables) lines k = characters_line (unit_by tables.now) (slice_index_or lines k [])
 
--- each line of a file comes to what the list has at its index
-abbrev pub ComeTo : Kind → List (List ℕ) → List Finding → Type 0
-ComeTo kind lines found = (k : ℕ) → k < length lines → slice_get found k ≡ Some (line_comes_to kind lines k)
+-- there are as many findings as lines, and each line of a file comes to the finding at its index
+pub record ComeTo (kind : Kind) (lines : List (List ℕ)) (found : List Finding) : Type 0 where
+  pub count : length found ≡ length lines
+  pub each : (k : ℕ) → k < length lines → slice_get found k ≡ Some (line_comes_to kind lines k)
 
 -- line k is malformed, for this cause, where the lines of a file come to these
 abbrev pub IsMalformed : List Finding → ℕ → Cause → Type 0

@@ -7,7 +7,9 @@ pub mod Headline
 pub mod ThreeDirections
 pub mod StandardVerdicts
 pub mod Readings
+pub mod LineFaults
+pub mod Carried
 pub mod Standing
-pub mod Rows
-pub mod CharactersRows
+pub mod WorkedClassesFiles
+pub mod WorkedCharactersFiles
 pub mod VerdictText

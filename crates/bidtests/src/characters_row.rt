@@ -71,7 +71,7 @@ fn para_level(field: &[u8]) -> Option<ParaLevel>
 
 /// Reads a row's text and the lists that it claims, and hands out the direction that it asks for and the level of the
 /// first paragraph that it claims.
-pub fn read_characters(
+pub fn read_characters_row(
     content: &[u8],
     tables: &Tables,
     text: &mut Vec<Unit>,

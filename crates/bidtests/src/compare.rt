@@ -1,5 +1,5 @@
 // Claims compared with layouts.
-ghost use Rattle.std.specs.Prelude.{◌≡◌, ◌<◌, ◌≤◌, List, None, Some, [], ◌∷◌, length, map, nat_eq, MatchOption, IfSome};
+ghost use Rattle.std.specs.Prelude.{◌≡◌, ◌≤◌, List, None, Some, [], ◌∷◌, length, map, nat_eq, MatchOption, IfSome};
 ghost use Rattle.std.specs.Prelude.{IsSome};
 ghost use Rattle.std.specs.Option.{option_map};
 ghost use Rattle.units.specs.Layout.{all_orders};
@@ -9,21 +9,21 @@ ghost use Rattle.units.specs.Isolates.{level_of_para, para_level_of};
 ghost use Rattle.units.specs.Positions.{same_position};
 ghost use Rattle.lines.specs.Layouts.{view_of};
 ghost use Rattle.lines.specs.Scratches.{room_of};
-ghost use Rattle.bidtests.specs.Verdicts.{agrees, first_of, first_difference, wrong_case, no_of, Row};
+ghost use Rattle.bidtests.specs.Verdicts.{agrees, first_of, first_difference, Row};
+ghost use Rattle.bidtests.specs.LineFaults.{fault_of};
+ghost use Rattle.std.specs.Result.{result_err};
 ghost use Rattle.bidtests.specs.Readings.{claim_of};
 ghost use Rattle.bidtests.specs.Comparisons.{Compares, ComparesWith, DiffersAt, GoesOnBehind};
 
 use crate::claim::Claim;
-use crate::verdict::{Place, Verdict};
+use crate::line_fault::LineFault;
+use crate::verdict::Place;
 use lines::breaks::Breaks;
-use lines::lay_out::lay_out_with;
+use lines::lay_out::lay_in_with;
 use lines::layout::Layout;
 use lines::scratch::Scratch;
-use std::marker::Brand;
-use std::sync::ledger::{Blank, Ledger};
 use units::level::{Direction, Level, ParaLevel};
 use units::limits::Limits;
-use units::steps::Steps;
 
 /// No level is claimed, or that of the first paragraph.
 fn agrees_with(claimed: Option<ParaLevel>, defined: &[ParaLevel]) -> bool
@@ -131,28 +131,6 @@ fn compare_with(claim: Claim<'_>, layout: &Layout<'_>) -> Comparison
     }
 }
 
-/// Compares a claim with the layout of its text under a direction, by a count of steps that begins with the blank.
-fn compare_counting<L: Ledger>(
-    scratch: &mut Scratch,
-    claim: Claim<'_>,
-    direction: Direction,
-    limits: Limits,
-    blank: Blank,
-) -> Comparison
-    requires fits { length claim.text.now ≤ room_of scratch.old }
-    requires name { blank.name ≡ L.name }
-    requires parts { blank.parts ≡ L.parts }
-    requires some { 0 < blank.parts }
-    ensures compares { Compares limits result (claim_of claim.entry) direction }
-    ensures room { room_of scratch.new ≡ room_of scratch.old }
-{
-    let mut steps = Steps::<L>::new(blank);
-    let breaks = no_breaks(claim.text.len());
-    let laid_out = lay_out_with(scratch, claim.text, direction, &breaks, limits, &mut steps);
-    let Ok(layout) = laid_out else { unreachable!() };
-    compare_with(claim, &layout)
-}
-
 /// Compares a claim with the layout of its text under a direction.
 fn compare(
     scratch: &mut Scratch,
@@ -164,18 +142,16 @@ fn compare(
     ensures compares { Compares limits result (claim_of claim.entry) direction }
     ensures room { room_of scratch.new ≡ room_of scratch.old }
 {
-    compare_counting::<Brand>(scratch, claim, direction, limits, Blank::new(1))
+    let breaks = no_breaks(claim.text.len());
+    lay_in_with(scratch, claim.text, direction, &breaks, limits).unwrap();
+    compare_with(claim, &scratch.layout())
 }
 
-/// The first of the claim's directions under which it differs from the layout, and where. LTR or RTL is passed over
-/// where auto gave the same layout.
-fn first_wrong(
-    scratch: &mut Scratch,
-    claim: Claim<'_>,
-    limits: Limits,
-) -> Option<(Direction, Place)>
+/// Judges a claim under each of its directions: the fault is the first of them under which it differs from the layout,
+/// and where. LTR or RTL is passed over where auto gave the same layout.
+pub fn judge_claim(scratch: &mut Scratch, claim: Claim<'_>, limits: Limits) -> Result<(), LineFault>
     requires { length claim.text.now ≤ room_of scratch.old }
-    ensures wrong { result ≡ wrong_case limits (claim_of claim.entry) claim.entry.directions.now }
+    ensures fault { result_err result ≡ fault_of limits (Row (claim_of claim.entry)) }
     ensures room { room_of scratch.new ≡ room_of scratch.old }
 {
     let mut right = None;
@@ -184,28 +160,9 @@ fn first_wrong(
             continue;
         }
         match compare(scratch, claim, *direction, limits) {
-            Comparison::Differs(place) => return Some((*direction, place)),
+            Comparison::Differs(place) => return Err(LineFault::OfCase(*direction, place)),
             Comparison::Agrees { also_under } => right = right.or(also_under),
         }
     }
-    None
-}
-
-/// The fault of a row at this line: the no that it gives if its claim is wrong by these limits.
-pub fn row_fault(
-    scratch: &mut Scratch,
-    number: u64,
-    claim: Claim<'_>,
-    limits: Limits,
-) -> Option<Verdict>
-    requires { length claim.text.now ≤ room_of scratch.old }
-    ensures fault { result ≡ no_of limits number (Row (claim_of claim.entry)) }
-    ensures room { room_of scratch.new ≡ room_of scratch.old }
-{
-    let (direction, place) = first_wrong(scratch, claim, limits)?;
-    Some(Verdict::Wrong {
-        line: number,
-        direction,
-        place,
-    })
+    Ok(())
 }

@@ -1,14 +1,16 @@
 //! What a judge has come to, apart from the tables that it borrows.
-ghost use Rattle.std.specs.Prelude.{◌≡◌, ◌≤◌, ℕ, List, [], Option, IfOk, IfSome, IsNone, length};
+ghost use Rattle.std.specs.Prelude.{◌≡◌, ◌≤◌, ℕ, List, [], Option, IfOk, IfSome, OnOk, length};
+ghost use Rattle.std.specs.Result.{result_err};
 ghost use Rattle.units.specs.LineAnswers.{StepIsShort};
 ghost use Rattle.units.specs.Limits.{LimitsOf};
 ghost use Rattle.units.specs.Text.{longest_line};
 ghost use Rattle.ucdfiles.specs.Tables.{TablesOf};
 ghost use Rattle.bidtests.specs.FileKinds.{verdict_of};
-ghost use Rattle.bidtests.specs.Standing.{HoldsFor, HasTakenIn, tables_of, no_by, after_step, verdict_behind};
+ghost use Rattle.bidtests.specs.Carried.{no_by, after_step, verdict_behind};
+ghost use Rattle.bidtests.specs.Standing.{HoldsFor, HasTakenIn, tables_of};
 
 use crate::kind::Kind;
-use crate::sheet::Sheet;
+use crate::line_judge::LineJudge;
 use crate::verdict::{Cause, Verdict};
 use std::alloc::Global;
 use std::marker::Model;
@@ -22,7 +24,7 @@ use units::memory::Memory;
 #[derive(Drop)]
 pub struct JudgeState {
     cutter: LineCut,
-    sheet: Sheet,
+    line_judge: LineJudge,
     decided: Option<Verdict>,
 }
 
@@ -31,19 +33,19 @@ impl Model for JudgeState {
 
     ghost Value = { StateOf };
 
-    ghost view = { λ s. record { cutting = s.cutter; standing = s.sheet; decided = s.decided } };
+    ghost view = { λ s. record { cutting = s.cutter; carried = s.line_judge; decided = s.decided } };
 }
 
-/// Judges the line that a step ends, if it ends one.
-fn judge_step(kind: Kind<'_>, sheet: &mut Sheet, step: Step<'_>) -> Option<Verdict>
+/// Judges the line that a step ends, if it ends one. The error is the no that it gives.
+fn judge_step(kind: Kind<'_>, line_judge: &mut LineJudge, step: Step<'_>) -> Result<(), Verdict>
     requires { StepIsShort step }
-    ensures fault { result ≡ no_by kind.entry sheet.old step.entry }
-    ensures standing { IsNone result → sheet.new ≡ after_step kind.entry step.entry sheet.old }
+    ensures no { result_err result ≡ no_by kind.entry line_judge.old step.entry }
+    ensures carried { OnOk result (line_judge.new ≡ after_step kind.entry step.entry line_judge.old) }
 {
     match step {
-        Step::More => None,
-        Step::Line { number, text } => sheet.judge_line(kind, number, text),
-        Step::TooLong { number } => Some(Verdict::Malformed {
+        Step::More => Ok(()),
+        Step::Line { number, text } => line_judge.judge_line(kind, number, text),
+        Step::TooLong { number } => Err(Verdict::Malformed {
             line: number,
             cause: Cause::LineTooLong,
         }),
@@ -51,16 +53,16 @@ fn judge_step(kind: Kind<'_>, sheet: &mut Sheet, step: Step<'_>) -> Option<Verdi
 }
 
 /// Judges the line that has begun, if one has.
-fn judge_last(kind: Kind<'_>, sheet: &mut Sheet, last: Option<(u64, &[u8])>) -> Verdict
+fn judge_last(kind: Kind<'_>, line_judge: &mut LineJudge, last: Option<(u64, &[u8])>) -> Verdict
     requires { IfSome last (λ line. length line.1.now ≤ longest_line) }
-    ensures { result ≡ verdict_behind kind.entry sheet.old last.entry }
+    ensures { result ≡ verdict_behind kind.entry line_judge.old last.entry }
 {
     if let Some((number, text)) = last {
-        if let Some(verdict) = sheet.judge_line(kind, number, text) {
-            return verdict;
+        if let Err(no) = line_judge.judge_line(kind, number, text) {
+            return no;
         }
     }
-    sheet.yes()
+    line_judge.yes()
 }
 
 impl JudgeState {
@@ -71,7 +73,7 @@ impl JudgeState {
     {
         Ok(JudgeState {
             cutter: LineCut::new(),
-            sheet: Sheet::new(alloc, limits)?,
+            line_judge: LineJudge::new(alloc, limits)?,
             decided: None,
         })
     }
@@ -87,7 +89,7 @@ impl JudgeState {
                 return;
             }
             let (used, step) = self.cutter.take(&piece[at..]);
-            self.decided = judge_step(kind, &mut self.sheet, step);
+            self.decided = judge_step(kind, &mut self.line_judge, step).err();
             at += used;
         }
     }
@@ -102,6 +104,6 @@ impl JudgeState {
             return verdict;
         }
         let last = self.cutter.finish();
-        judge_last(kind, &mut self.sheet, last)
+        judge_last(kind, &mut self.line_judge, last)
     }
 }

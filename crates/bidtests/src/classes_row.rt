@@ -12,7 +12,7 @@ use units::level::Direction;
 use units::text::cut::two_fields;
 
 /// Reads a row's text into the list, and hands out its directions.
-pub fn read_row(content: &[u8], text: &mut Vec<Unit>) -> Result<&'static [Direction], Cause>
+pub fn read_classes_row(content: &[u8], text: &mut Vec<Unit>) -> Result<&'static [Direction], Cause>
     requires { length content.now ≤ 2 * vec_capacity text.old }
     ensures row { row_read result text.new.items ≡ classes_row (fields_of content.now) }
     ensures count { 2 * length text.new.items ≤ length content.now + 1 }

@@ -4,7 +4,7 @@ use Rattle.lines.specs.Scratches.{room_of}
 use Rattle.bidtests.specs.Verdicts.{wrong_case}
 use Rattle.bidtests.specs.Comparisons.{HasNoWrongPlace}
 use Rattle.bidtests.specs.Readings.{claim_of}
-use Rattle.bidtests.proofs.compare.first_wrong.Given as goal
+use Rattle.bidtests.proofs.compare.judge_claim.Given as goal
 
 abbrev pub invariant-loop-direction : goal.invariant-loop-direction
 invariant-loop-direction l = record {

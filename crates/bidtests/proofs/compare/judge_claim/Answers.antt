@@ -6,7 +6,7 @@ use Rattle.units.specs.declared.level.Direction.TheVariants.{Auto}
 use Rattle.bidtests.specs.Readings.{claim_of}
 use Rattle.bidtests.specs.Comparisons.{HasNoWrongPlace}
 use Rattle.bidtests.proofs.SameLayout.{passed-over}
-use Rattle.bidtests.proofs.compare.first_wrong.Goals as goal
+use Rattle.bidtests.proofs.compare.judge_claim.Goals as goal
 
 -- what holds of the direction that is there holds of an equal one
 at-equal : (eq : Direction → Direction → Bool) (found : Option Direction) (d : Direction) (P : Direction → Type 0)
@@ -37,6 +37,6 @@ loop-direction-preserved c = record {
   room = c.compare.ensures.room ∙ c.loop-direction.invariant.room;
 }
 
-pub returns-in-Differs-clause-wrong : goal.returns-in-Differs-clause-wrong
-returns-in-Differs-clause-wrong c =
+pub returns-in-Differs-clause-fault : goal.returns-in-Differs-clause-fault
+returns-in-Differs-clause-fault c =
     rw (c.loop-direction.invariant.rest, drop-cons c.args.claim.directions.now c.loop-direction.direction-index Auto c.loop-direction-test.true, c.in-Differs.ensures.compares) refl

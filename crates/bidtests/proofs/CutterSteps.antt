@@ -1,5 +1,7 @@
 -- What a step of the cutter does to what a judge stands for.
-use Rattle.std.proofs.Common.{◌≡◌, ◌≢◌, ℕ, ◌<◌, ◌≤◌, Option, None, Some, List, [], ◌∷◌, ◌++◌, length, take, refl, sym, ap, subst, ◌∙◌, arith, append_assoc, append-nil, length-append, inl, inr, IsNone, is_some, true, drop}
+use Rattle.std.proofs.Common.{◌≡◌, ◌≢◌, ℕ, ◌<◌, ◌≤◌, Option, None, Some, List, [], ◌∷◌, ◌++◌, length, take, refl, sym, ap, subst, ◌∙◌, arith, append_assoc, append-nil, length-append, inl, inr, is_some, true, drop}
+use Rattle.std.specs.Prelude.{Result, Ok, Err, OnOk}
+use Rattle.std.specs.Result.{result_err}
 use Rattle.std.proofs.lemmas.List.Elements.{All-nil}
 use Rattle.std.proofs.lemmas.List.{take_all, take-append-drop}
 use Rattle.std.proofs.lemmas.Bool.{lt-ltb, false≢true}
@@ -23,7 +25,8 @@ use Rattle.bidtests.specs.declared.kind.Kind.TheVariants.{Classes, Characters}
 use Rattle.bidtests.specs.ClassesFile.{classes_line, classes_verdict}
 use Rattle.bidtests.specs.CharactersFile.{characters_line, characters_verdict}
 use Rattle.bidtests.specs.FileKinds.{findings_by, verdict_of}
-use Rattle.bidtests.specs.Standing.{Standing, at_start, Judging, Judges, IsBehind, IsOpen, JudgesBy, no_at, no_by, after_line, after_step, no_or_yes, verdict_behind}
+use Rattle.bidtests.specs.Carried.{Carried, at_start, IsBehind, no_at, no_by, after_line, after_step, no_or_yes, verdict_behind}
+use Rattle.bidtests.specs.Standing.{Judging, Judges, IsOpen, JudgesBy}
 use Rattle.bidtests.proofs.LineByLine.{verdict-fault, verdict-yes, behind-line, behind-none}
 use Rattle.units.proofs.FirstItem.{some_bytes}
 use Rattle.ucdfiles.proofs.LinesWith.{lines_with-more, lines_with-long, lines_of-ended, lines_of-begun}
@@ -36,12 +39,12 @@ verdict-of limits (Characters tables) bytes = refl
 verdict-by : (limits : LimitsOf) (kind : Kind) (bytes : List ℕ) (lines : List (List ℕ)) → lines_of bytes ≡ lines → verdict_of limits kind bytes ≡ verdict_on limits (findings_by kind lines)
 verdict-by limits kind bytes lines e = verdict-of limits kind bytes ∙ ap (λ ls. verdict_on limits (findings_by kind ls)) e
 
-over_long : (kind : Kind) (line : List ℕ) → longest_line < length line → (s : Standing) (number : ℕ) → no_at kind s number line ≡ Some (Malformed number LineTooLong)
+over_long : (kind : Kind) (line : List ℕ) → longest_line < length line → (s : Carried) (number : ℕ) → no_at kind s number line ≡ Some (Malformed number LineTooLong)
 unfolding classes_line characters_line
 over_long Classes line long s number = rw (lt-ltb longest_line (length line) long) refl
 over_long (Characters tables) line long s number = rw (lt-ltb longest_line (length line) long) refl
 
-module _ (limits : LimitsOf) (kind : Kind) (s : Standing) (lines : List (List ℕ)) (h : IsBehind limits kind s lines) where
+module _ (limits : LimitsOf) (kind : Kind) (s : Carried) (lines : List (List ℕ)) (h : IsBehind limits kind s lines) where
   decided-line : (b : List ℕ) (line : List ℕ) (v : Verdict) → CutsInto b (lines ++ line ∷ []) []
       → no_at kind s (line_number (length lines)) line ≡ Some v → (more : List ℕ) → verdict_of limits kind (b ++ more) ≡ v
   decided-line b line v cut e more =
@@ -54,7 +57,7 @@ module _ (limits : LimitsOf) (kind : Kind) (s : Standing) (lines : List (List �
       verdict-by limits kind (b ++ more) _ l.3 ∙ verdict-fault limits kind s lines l.0 h _ (over_long kind l.0 l.2 s (line_number (length lines))) l.1
 
   -- a line that has ended, by whether it has a fault
-  ends-line : (fault : Option Verdict) (new : Cutting) (t : Standing) (b line : List ℕ) → StandsFor new b → CutsInto b (lines ++ line ∷ []) []
+  ends-line : (fault : Option Verdict) (new : Cutting) (t : Carried) (b line : List ℕ) → StandsFor new b → CutsInto b (lines ++ line ∷ []) []
       → no_at kind s (line_number (length lines)) line ≡ fault → (fault ≡ None → t ≡ after_line kind line s) → JudgesBy limits kind fault new t b
   ends-line None new t b line stands cut e after = record {
     cutter = stands;
@@ -62,7 +65,7 @@ module _ (limits : LimitsOf) (kind : Kind) (s : Standing) (lines : List (List �
     rest = [];
     cut = cut;
     behind =
-        let P : Standing → Type 0 = λ u. IsBehind limits kind u (lines ++ line ∷ []) in
+        let P : Carried → Type 0 = λ u. IsBehind limits kind u (lines ++ line ∷ []) in
         subst P (sym (after refl)) (behind-line limits kind s lines line h e);
   }
   ends-line (Some v) new t b line stands cut e after = decided-line b line v cut e
@@ -70,7 +73,7 @@ module _ (limits : LimitsOf) (kind : Kind) (s : Standing) (lines : List (List �
 same_count : (a c : List (List ℕ)) (x : List ℕ) → a ++ x ∷ [] ≡ c ++ x ∷ [] → length a ≡ length c
 same_count a c x e = omega (arith, ap length e, length-append a (x ∷ []), length-append c (x ∷ []))
 
-module _ (limits : LimitsOf) (kind : Kind) (old new : Cutting) (s t : Standing) (b piece : List ℕ) (used : ℕ) (o : IsOpen limits kind old s b)
+module _ (limits : LimitsOf) (kind : Kind) (old new : Cutting) (s t : Carried) (b piece : List ℕ) (used : ℕ) (o : IsOpen limits kind old s b)
     (within : used ≤ length piece) (through : EndsByFeed used piece) (stands : StandsFor new (b ++ take used piece)) where
   abbrev ended-old : ended_lines b ≡ o.lines
   ended-old = ended_lines-CutsInto b o.lines o.rest o.cut
@@ -83,7 +86,7 @@ module _ (limits : LimitsOf) (kind : Kind) (old new : Cutting) (s t : Standing) 
       let cut = subst C (sym all) a.3.2 in
       let same : a.3.0 ≡ o.lines = sym (ended_lines-CutsInto _ a.3.0 a.3.1 cut) ∙ a.2 ∙ ended-old in
       let D : List (List ℕ) → Type 0 = λ ls. CutsInto (b ++ take used piece) ls a.3.1 in
-      let P : Standing → Type 0 = λ u. IsBehind limits kind u o.lines in
+      let P : Carried → Type 0 = λ u. IsBehind limits kind u o.lines in
       record { cutter = stands; lines = o.lines; rest = a.3.1; cut = subst D same cut; behind = subst P (sym (after refl)) o.behind }
   judges-on (Line number text) a after =
       let same : a.2.0 ++ text.now ∷ [] ≡ o.lines ++ text.now ∷ [] =
@@ -100,20 +103,20 @@ module _ (limits : LimitsOf) (kind : Kind) (old new : Cutting) (s t : Standing) 
       decided-long limits kind s o.lines o.behind (b ++ take used piece) (subst D same a.1) more ∙ ap (λ n. Malformed n LineTooLong) (sym is)
 
 -- what is decided stays so
-pub judges-decided : (limits : LimitsOf) (kind : Kind) (v : Verdict) (old new : Cutting) (s t : Standing) (b xs : List ℕ) → JudgesBy limits kind (Some v) old s b → JudgesBy limits kind (Some v) new t (b ++ xs)
+pub judges-decided : (limits : LimitsOf) (kind : Kind) (v : Verdict) (old new : Cutting) (s t : Carried) (b xs : List ℕ) → JudgesBy limits kind (Some v) old s b → JudgesBy limits kind (Some v) new t (b ++ xs)
 judges-decided limits kind v old new s t b xs j more = ap (verdict_of limits kind) (append_assoc b xs more) ∙ j (xs ++ more)
 
-pub verdict-decided : (limits : LimitsOf) (kind : Kind) (v : Verdict) (c : Cutting) (s : Standing) (b : List ℕ) → JudgesBy limits kind (Some v) c s b → v ≡ verdict_of limits kind b
+pub verdict-decided : (limits : LimitsOf) (kind : Kind) (v : Verdict) (c : Cutting) (s : Carried) (b : List ℕ) → JudgesBy limits kind (Some v) c s b → v ≡ verdict_of limits kind b
 verdict-decided limits kind v c s b j = sym (j []) ∙ ap (verdict_of limits kind) (append-nil b)
 
-last-fault : (limits : LimitsOf) (kind : Kind) (s : Standing) (lines : List (List ℕ)) (last b : List ℕ) → IsBehind limits kind s lines
+last-fault : (limits : LimitsOf) (kind : Kind) (s : Carried) (lines : List (List ℕ)) (last b : List ℕ) → IsBehind limits kind s lines
     → verdict_of limits kind b ≡ verdict_on limits (findings_by kind (lines ++ last ∷ [])) → (fault : Option Verdict)
     → no_at kind s (line_number (length lines)) last ≡ fault → no_or_yes fault (after_line kind last s) ≡ verdict_of limits kind b
 last-fault limits kind s lines last b h whole None e =
     sym (whole ∙ verdict-yes limits kind (after_line kind last s) (lines ++ last ∷ []) (behind-line limits kind s lines last h e))
 last-fault limits kind s lines last b h whole (Some v) e = sym (whole ∙ verdict-fault limits kind s lines last h v e [])
 
-module _ (limits : LimitsOf) (kind : Kind) (c : Cutting) (s : Standing) (b : List ℕ) (o : IsOpen limits kind c s b) where
+module _ (limits : LimitsOf) (kind : Kind) (c : Cutting) (s : Carried) (b : List ℕ) (o : IsOpen limits kind c s b) where
   -- no line that has begun
   pub verdict-ended : Finishes b None → Yes s.rows s.cases ≡ verdict_of limits kind b
   verdict-ended f = elim f [
@@ -144,52 +147,54 @@ module _ (limits : LimitsOf) (kind : Kind) (c : Cutting) (s : Standing) (b : Lis
   verdict-last (Some last) f = last-by last.0 last.1 f (no_at kind s last.0 last.1.now) refl
 
 -- what is decided, if anything is, and the bytes, of a judge of this kind
-kind-is : (limits : LimitsOf) (kind : Kind) (j : Judging) (b : List ℕ) → Judges limits kind j b → JudgesBy limits j.kind j.decided j.cutting j.standing b
+kind-is : (limits : LimitsOf) (kind : Kind) (j : Judging) (b : List ℕ) → Judges limits kind j b → JudgesBy limits j.kind j.decided j.cutting j.carried b
 kind-is limits kind j b judges =
-    let P : Kind → Type 0 = λ k. JudgesBy limits k j.decided j.cutting j.standing b in
+    let P : Kind → Type 0 = λ k. JudgesBy limits k j.decided j.cutting j.carried b in
     subst P (sym judges.of) judges.is
 
 -- the verdict that a judge gives at the end
 pub finishes : (j : Judging) (last : Option (ℕ × Bor (List ℕ))) → j.decided ≡ None → ((b : List ℕ) → StandsFor j.cutting b → Finishes b last)
-    → (limits : LimitsOf) (kind : Kind) (b : List ℕ) → Judges limits kind j b → verdict_behind j.kind j.standing last ≡ verdict_of limits kind b
+    → (limits : LimitsOf) (kind : Kind) (b : List ℕ) → Judges limits kind j b → verdict_behind j.kind j.carried last ≡ verdict_of limits kind b
 finishes j last undecided f limits kind b judges =
-    let P : Option Verdict → Type 0 = λ d. JudgesBy limits j.kind d j.cutting j.standing b in
-    let o : IsOpen limits j.kind j.cutting j.standing b = subst P undecided (kind-is limits kind j b judges) in
-    verdict-last limits j.kind j.cutting j.standing b o last (f b o.cutter) ∙ ap (λ k. verdict_of limits k b) judges.of
+    let P : Option Verdict → Type 0 = λ d. JudgesBy limits j.kind d j.cutting j.carried b in
+    let o : IsOpen limits j.kind j.cutting j.carried b = subst P undecided (kind-is limits kind j b judges) in
+    verdict-last limits j.kind j.cutting j.carried b o last (f b o.cutter) ∙ ap (λ k. verdict_of limits k b) judges.of
 
 pub finishes-decided : (j : Judging) (v : Verdict) → j.decided ≡ Some v → (limits : LimitsOf) (kind : Kind) (b : List ℕ) → Judges limits kind j b → v ≡ verdict_of limits kind b
 finishes-decided j v e limits kind b judges =
-    let P : Option Verdict → Type 0 = λ d. JudgesBy limits kind d j.cutting j.standing b in
-    verdict-decided limits kind v j.cutting j.standing b (subst P e judges.is)
+    let P : Option Verdict → Type 0 = λ d. JudgesBy limits kind d j.cutting j.carried b in
+    verdict-decided limits kind v j.cutting j.carried b (subst P e judges.is)
 
-none-is : (o : Option Verdict) → o ≡ None → IsNone o
-none-is o e = let P : Option Verdict → Type 0 = λ v. IsNone v in subst P (sym e) refl
+-- what holds where there is no error holds if there is none
+pub if-no-error : {T E : Type 0} (P : Type 0) (r : Result T E) → result_err r ≡ None → OnOk r P → P
+if-no-error P (Ok x) none holds = holds
+if-no-error P (Err e) none holds = absurd cc
 
-module _ (j : Judging) (new : Cutting) (t : Standing) (decided : Option Verdict) (rest : List ℕ) (used : ℕ) (step : Step)
+module _ (j : Judging) (new : Cutting) (t : Carried) (decided : Option Verdict) (rest : List ℕ) (used : ℕ) (step : Step)
     (undecided : j.decided ≡ None) (within : used ≤ length rest)
     (through : (b : List ℕ) (lines : List (List ℕ)) (r : List ℕ) → StandsFor j.cutting b → CutsInto b lines r → EndsByFeed used rest)
     (answers : (b : List ℕ) → StandsFor j.cutting b → Answers b rest used step)
     (stands : (b : List ℕ) → StandsFor j.cutting b → StandsFor new (b ++ take used rest))
-    (fault : decided ≡ no_by j.kind j.standing step) (after : IsNone decided → t ≡ after_step j.kind step j.standing) where
+    (fault : decided ≡ no_by j.kind j.carried step) (after : decided ≡ None → t ≡ after_step j.kind step j.carried) where
   -- a judge that has decided nothing, after what the cutter used
-  pub feeds-on : (limits : LimitsOf) (kind : Kind) (b : List ℕ) → Judges limits kind j b → Judges limits kind (record { kind = j.kind; cutting = new; standing = t; decided = decided }) (b ++ take used rest)
+  pub feeds-on : (limits : LimitsOf) (kind : Kind) (b : List ℕ) → Judges limits kind j b → Judges limits kind (record { kind = j.kind; cutting = new; carried = t; decided = decided }) (b ++ take used rest)
   feeds-on limits kind b judges =
-      let P : Option Verdict → Type 0 = λ d. JudgesBy limits j.kind d j.cutting j.standing b in
-      let o : IsOpen limits j.kind j.cutting j.standing b = subst P undecided (kind-is limits kind j b judges) in
+      let P : Option Verdict → Type 0 = λ d. JudgesBy limits j.kind d j.cutting j.carried b in
+      let o : IsOpen limits j.kind j.cutting j.carried b = subst P undecided (kind-is limits kind j b judges) in
       let Q : Option Verdict → Type 0 = λ d. JudgesBy limits j.kind d new t (b ++ take used rest) in
       let by : JudgesBy limits j.kind decided new t (b ++ take used rest) =
-      subst Q (sym fault) (judges-on limits j.kind j.cutting new j.standing t b rest used o within (through b o.lines o.rest o.cutter o.cut) (stands b o.cutter) step (answers b o.cutter)
-      (λ e. after (none-is decided (fault ∙ e)))) in
+      subst Q (sym fault) (judges-on limits j.kind j.cutting new j.carried t b rest used o within (through b o.lines o.rest o.cutter o.cut) (stands b o.cutter) step (answers b o.cutter)
+      (λ e. after (fault ∙ e))) in
       let R : Kind → Type 0 = λ k. JudgesBy limits k decided new t (b ++ take used rest) in
       record { of = judges.of; is = subst R judges.of by }
 
 nothing : CutsInto [] [] []
 nothing = record { whole = refl; each = All-nil IsLine; partial = record { feeds = All-nil (λ x. x ≢ 10); short = omega arith } }
 
-pub judges-none : (limits : LimitsOf) (kind : Kind) (c : Cutting) → StandsFor c [] → Judges limits kind (record { kind = kind; cutting = c; standing = at_start limits; decided = None }) []
+pub judges-none : (limits : LimitsOf) (kind : Kind) (c : Cutting) → StandsFor c [] → Judges limits kind (record { kind = kind; cutting = c; carried = at_start limits; decided = None }) []
 judges-none limits kind c s = record { of = refl; is = record { cutter = s; lines = []; rest = []; cut = nothing; behind = behind-none limits kind } }
 
-some-stays : (limits : LimitsOf) (kind : Kind) (d : Option Verdict) (c : Cutting) (s : Standing) (b xs : List ℕ) → is_some d ≡ true → JudgesBy limits kind d c s b → JudgesBy limits kind d c s (b ++ xs)
+some-stays : (limits : LimitsOf) (kind : Kind) (d : Option Verdict) (c : Cutting) (s : Carried) (b xs : List ℕ) → is_some d ≡ true → JudgesBy limits kind d c s b → JudgesBy limits kind d c s (b ++ xs)
 some-stays limits kind None c s b xs e j = absurd (false≢true e)
 some-stays limits kind (Some v) c s b xs e j = judges-decided limits kind v c c s s b xs j
 
@@ -198,4 +203,4 @@ pub feeds-some : (limits : LimitsOf) (kind : Kind) (j : Judging) (b piece : List
 feeds-some limits kind j b piece at e judges =
     let whole : (b ++ take at piece) ++ drop at piece ≡ b ++ piece = append_assoc b (take at piece) (drop at piece) ∙ ap (λ z. b ++ z) (take-append-drop at piece) in
     let P : List ℕ → Type 0 = λ z. Judges limits kind j z in
-    subst P whole (record { of = judges.of; is = some-stays limits kind j.decided j.cutting j.standing (b ++ take at piece) (drop at piece) e judges.is })
+    subst P whole (record { of = judges.of; is = some-stays limits kind j.decided j.cutting j.carried (b ++ take at piece) (drop at piece) e judges.is })

@@ -13,7 +13,7 @@ use Rattle.bidtests.specs.CharactersFile.{characters_line, characters_verdict}
 use Rattle.bidtests.specs.declared.verdict.Place.TheVariants.{ParaLevel, Levels}
 use Rattle.bidtests.specs.declared.verdict.Cause.TheVariants.{FieldCount, EmptyRow, CodePoint, DirectionField, ParaField, LevelItem, OrderItem}
 use Rattle.bidtests.specs.declared.verdict.Verdict.TheVariants.{Yes, Malformed, Wrong}
-use Rattle.bidtests.specs.Rows.{written}
+use Rattle.bidtests.specs.WorkedClassesFiles.{written}
 
 -- what worked files of characters compute with, as one name
 unfoldable pub characters_files_compute : ⊤

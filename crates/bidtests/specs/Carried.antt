@@ -1,0 +1,134 @@
+-- What a judge carries from line to line, and the no that a line gives.
+use Rattle.std.specs.Prelude.{◌≡◌, Option, Some, None, ℕ, ◌+◌, List, map, reverse, length, ⊤}
+use Rattle.std.specs.Borrow.{Bor}
+use Rattle.units.specs.Limits.{LimitsOf}
+use Rattle.units.specs.Lines.{saturated}
+use Rattle.units.specs.declared.line_cut.Step.{Step}
+use Rattle.units.specs.declared.line_cut.Step.TheVariants.{More, Line, TooLong}
+use Rattle.ucdfiles.specs.Tables.{unit_by}
+use Rattle.bidtests.specs.declared.kind.Kind.{Kind}
+use Rattle.bidtests.specs.declared.kind.Kind.TheVariants.{Classes, Characters}
+use Rattle.bidtests.specs.declared.line_fault.LineFault.{LineFault}
+use Rattle.bidtests.specs.declared.verdict.Verdict.{Verdict}
+use Rattle.bidtests.specs.declared.verdict.Verdict.TheVariants.{Yes, Malformed}
+use Rattle.bidtests.specs.declared.verdict.Cause.TheVariants.{LineTooLong}
+use Rattle.bidtests.specs.Verdicts.{Finding, Row, first_no, no_of, rows_in, cases_in}
+use Rattle.bidtests.specs.LineFaults.{fault_of}
+use Rattle.bidtests.specs.ClassesFile.{ClassesLine, LevelsAre, OrderIs, classes_line, comes_to, levels_in_force, order_in_force}
+use Rattle.bidtests.specs.CharactersFile.{characters_line}
+use Rattle.bidtests.specs.FileKinds.{findings_by}
+
+-- what a judge carries from line to line: the limits, the lists in force, and how many rows and cases were right
+pub record Carried : Type 0 where
+  pub limits : LimitsOf
+  pub levels : Option (List (Option ℕ))
+  pub order : Option (List ℕ)
+  pub rows : ℕ
+  pub cases : ℕ
+
+-- before the first line
+abbrev pub at_start : LimitsOf → Carried
+at_start limits = record { limits = limits; levels = None; order = None; rows = 0; cases = 0 }
+
+-- the levels in force behind a line that says this
+abbrev pub levels_behind : ClassesLine → Option (List (Option ℕ)) → Option (List (Option ℕ))
+levels_behind (LevelsAre levels) before = Some levels
+levels_behind _ before = before
+
+-- the order in force behind a line that says this
+abbrev pub order_behind : ClassesLine → Option (List ℕ) → Option (List ℕ)
+order_behind (OrderIs order) before = Some order
+order_behind _ before = before
+
+-- how many rows there are behind a line that comes to this
+abbrev pub rows_behind : Finding → ℕ → ℕ
+rows_behind (Row claim) before = saturated (before + 1)
+rows_behind _ before = before
+
+-- how many cases there are behind a line that comes to this
+abbrev pub cases_behind : Finding → ℕ → ℕ
+cases_behind (Row claim) before = saturated (before + length claim.directions)
+cases_behind _ before = before
+
+-- with the row and the cases counted of a line that comes to this
+abbrev pub counted : Finding → Carried → Carried
+counted found s = record { limits = s.limits; levels = s.levels; order = s.order; rows = rows_behind found s.rows; cases = cases_behind found s.cases }
+
+-- with a row counted that has so many cases
+abbrev pub with_row : ℕ → Carried → Carried
+with_row cases s = record { limits = s.limits; levels = s.levels; order = s.order; rows = saturated (s.rows + 1); cases = saturated (s.cases + cases) }
+
+-- with the list in force that a line of a classes file says
+abbrev pub listed : ClassesLine → Carried → Carried
+listed said s = record { limits = s.limits; levels = levels_behind said s.levels; order = order_behind said s.order; rows = s.rows; cases = s.cases }
+
+-- with no list in force
+abbrev pub unlisted : Carried → Carried
+unlisted s = record { limits = s.limits; levels = None; order = None; rows = s.rows; cases = s.cases }
+
+-- no list is in force
+pub record HasNoLists (s : Carried) : Type 0 where
+  pub levels : s.levels ≡ None
+  pub order : s.order ≡ None
+
+-- what is carried behind a line of a classes file that says this
+abbrev pub after_said : ClassesLine → Carried → Carried
+after_said said s = counted (comes_to s.levels s.order said) (listed said s)
+
+-- what a line of such a file comes to
+abbrev pub comes_to_behind : Kind → Carried → List ℕ → Finding
+comes_to_behind Classes s line = comes_to s.levels s.order (classes_line line)
+comes_to_behind (Characters tables) s line = characters_line (unit_by tables.now) line
+
+-- with the list in force that a line says; in a characters file none is
+abbrev pub listed_by : Kind → List ℕ → Carried → Carried
+listed_by Classes line s = listed (classes_line line) s
+listed_by (Characters tables) line s = unlisted s
+
+-- what is carried behind a line that is neither malformed nor wrong
+abbrev pub after_line : Kind → List ℕ → Carried → Carried
+after_line kind line s = counted (comes_to_behind kind s line) (listed_by kind line s)
+
+-- the lists in force behind these lines
+abbrev pub AreInForce : Kind → Option (List (Option ℕ)) → Option (List ℕ) → List (List ℕ) → Type 0
+AreInForce Classes levels order lines =
+    (levels ≡ levels_in_force (reverse (map classes_line lines))) × (order ≡ order_in_force (reverse (map classes_line lines)))
+AreInForce (Characters tables) levels order lines = ⊤
+
+-- this is carried behind these lines, none of which is malformed or, by these limits, wrong
+pub record IsBehind (limits : LimitsOf) (kind : Kind) (s : Carried) (lines : List (List ℕ)) : Type 0 where
+  pub under : s.limits ≡ limits
+  pub faultless : first_no limits 0 (findings_by kind lines) ≡ None
+  pub lists : AreInForce kind s.levels s.order lines
+  pub rows : s.rows ≡ rows_in (findings_by kind lines)
+  pub cases : s.cases ≡ cases_in (findings_by kind lines)
+
+-- what is wrong with a line of a classes file that says this
+abbrev pub fault_said : Carried → ClassesLine → Option LineFault
+fault_said s said = fault_of s.limits (comes_to s.levels s.order said)
+
+-- the no that a line of this number gives
+abbrev pub no_at : Kind → Carried → ℕ → List ℕ → Option Verdict
+no_at kind s number line = no_of s.limits number (comes_to_behind kind s line)
+
+-- the no that a step of the cutter gives
+abbrev pub no_by : Kind → Carried → Step → Option Verdict
+no_by kind s More = None
+no_by kind s (Line number text) = no_at kind s number text.now
+no_by kind s (TooLong number) = Some (Malformed number LineTooLong)
+
+-- what is carried behind a step that ends no such line
+abbrev pub after_step : Kind → Step → Carried → Carried
+after_step kind More s = s
+after_step kind (Line number text) s = after_line kind text.now s
+after_step kind (TooLong number) s = s
+
+-- the no that is given, or else yes with the counts that are carried
+abbrev pub no_or_yes : Option Verdict → Carried → Verdict
+no_or_yes (Some verdict) s = verdict
+no_or_yes None s = Yes s.rows s.cases
+
+-- the verdict at the end of the file, behind the line that has begun, if one has
+abbrev pub verdict_behind : Kind → Carried → Option (ℕ × Bor (List ℕ)) → Verdict
+verdict_behind kind s None = Yes s.rows s.cases
+verdict_behind kind s (Some last) = no_or_yes (no_at kind s last.0 last.1.now) (after_line kind last.1.now s)

@@ -1,0 +1,26 @@
+-- What is wrong with a line by itself, and the no that it gives by its number.
+use Rattle.std.specs.Prelude.{Option, Some, None, ℕ}
+use Rattle.units.specs.Limits.{LimitsOf}
+use Rattle.units.specs.declared.level.Direction.{Direction}
+use Rattle.bidtests.specs.declared.line_fault.LineFault.{LineFault}
+use Rattle.bidtests.specs.declared.line_fault.LineFault.TheVariants.{OfForm, OfCase}
+use Rattle.bidtests.specs.declared.verdict.Place.{Place}
+use Rattle.bidtests.specs.declared.verdict.Verdict.{Verdict}
+use Rattle.bidtests.specs.declared.verdict.Verdict.TheVariants.{Malformed, Wrong}
+use Rattle.bidtests.specs.Verdicts.{Finding, Silent, Row, Faulty, wrong_case}
+
+-- the fault of a wrong case, where there is one
+abbrev pub wrong_fault : Option (Direction × Place) → Option LineFault
+wrong_fault None = None
+wrong_fault (Some x) = Some (OfCase x.0 x.1)
+
+-- what is wrong with a line that comes to this, if it is malformed or holds a wrong case
+abbrev pub fault_of : LimitsOf → Finding → Option LineFault
+fault_of limits Silent = None
+fault_of limits (Faulty cause) = Some (OfForm cause)
+fault_of limits (Row claim) = wrong_fault (wrong_case limits claim claim.directions)
+
+-- the no that a line of this number gives with this fault
+abbrev pub no_with : ℕ → LineFault → Verdict
+no_with number (OfForm cause) = Malformed number cause
+no_with number (OfCase direction place) = Wrong number direction place
