@@ -2,9 +2,9 @@
 //! the bidirectional algorithm.
 #![tactic(auto)]
 
-use command::fault::Fault;
-use command::files::SystemFiles;
 use command::run::run;
+use requests::fault::Fault;
+use requests::files::SystemFiles;
 use std::env;
 use std::io::{self, BufWriter, Write};
 use std::process::ExitCode;

@@ -20,10 +20,12 @@ use Rattle.units.specs.declared.level.Direction.{Direction}
 use Rattle.units.specs.declared.level.Direction.TheVariants.{Auto, Ltr, Rtl, AutoRtl}
 use Rattle.bidtests.specs.VerdictText.{direction_word}
 use Rattle.command.specs.Refusals.{kind_without_request}
-use Rattle.command.specs.declared.request.FileKind.{FileKind}
-use Rattle.command.specs.declared.request.FileKind.TheVariants.{Classes, Characters}
-use Rattle.command.specs.declared.request.Request.{Request}
-use Rattle.command.specs.declared.request.Request.TheVariants.{Levels, Reorder, Explain, ExplainClasses, Judge}
+use Rattle.requests.specs.declared.request.FileKind.{FileKind}
+use Rattle.requests.specs.declared.request.FileKind.TheVariants.{Classes, Characters}
+use Rattle.requests.specs.declared.request.Print.{Print}
+use Rattle.requests.specs.declared.request.Print.TheVariants.{Levels, Reorder, Explained}
+use Rattle.requests.specs.declared.request.Request.{Request}
+use Rattle.requests.specs.declared.request.Request.TheVariants as requested
 
 -- words that a value may be
 abbrev pub Choice : Type 0
@@ -138,21 +140,21 @@ abbrev pub ColumnsAre : Option Text → Option NonZeroU16 → Type 0
 ColumnsAre None columns = columns ≡ None
 ColumnsAre (Some text) columns = ReadsOne ReadsColumns text columns
 
+-- the subcommand of this name prints this of a text, by these values
+abbrev pub AsksToPrint : Text → List Row → Print → Type 0
+AsksToPrint name rows Levels = name ≡ codes "levels"
+AsksToPrint name rows (Reorder columns) = (name ≡ codes "reorder") × ColumnsAre (one_of (codes "columns") rows) columns
+AsksToPrint name rows Explained = (name ≡ codes "explain") × (first_of (codes "classes") rows ≡ None)
+
 -- the values of the subcommand of this name make this request
 abbrev pub AsksFor : Text → List Row → Request → Type 0
-AsksFor name rows (Levels tables direction file) = (name ≡ codes "levels")
+AsksFor name rows (requested.Text tables direction file print) = AsksToPrint name rows print
     × (first_of (codes "tables") rows ≡ Some tables.now) × (direction ≡ direction_named (first_of (codes "direction") rows))
     × (first_of (codes "file") rows ≡ Some file.now)
-AsksFor name rows (Reorder tables direction columns file) = (name ≡ codes "reorder")
-    × (first_of (codes "tables") rows ≡ Some tables.now) × (direction ≡ direction_named (first_of (codes "direction") rows))
-    × ColumnsAre (one_of (codes "columns") rows) columns × (first_of (codes "file") rows ≡ Some file.now)
-AsksFor name rows (Explain tables direction file) = (name ≡ codes "explain")
-    × (first_of (codes "tables") rows ≡ Some tables.now) × (first_of (codes "classes") rows ≡ None)
-    × (direction ≡ direction_named (first_of (codes "direction") rows)) × (first_of (codes "file") rows ≡ Some file.now)
-AsksFor name rows (ExplainClasses classes direction) = (name ≡ codes "explain")
+AsksFor name rows (requested.ExplainClasses classes direction) = (name ≡ codes "explain")
     × (first_of (codes "tables") rows ≡ None) × (first_of (codes "classes") rows ≡ Some classes.now)
     × (direction ≡ direction_named (first_of (codes "direction") rows)) × (first_of (codes "file") rows ≡ None)
-AsksFor name rows (Judge kind tables file) = (name ≡ codes "judge")
+AsksFor name rows (requested.Judge kind tables file) = (name ≡ codes "judge")
     × (kind_named (first_of (codes "kind") rows) ≡ Some kind) × (first_of (codes "tables") rows ≡ option_map (λ folder. folder.now) tables)
     × (first_of (codes "file") rows ≡ Some file.now)
 

@@ -1,13 +1,4 @@
-pub mod ClassWords
 pub mod CommandLine
-pub mod FaultText
-pub mod HandedOut
-pub mod Judged
 pub mod Outcomes
-pub mod Printed
-pub mod ReadFiles
 pub mod Refusals
-pub mod Steps
-pub mod SystemFiles
-pub mod TableFaults
 pub mod WordRows

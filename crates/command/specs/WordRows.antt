@@ -9,8 +9,8 @@ use Rattle.units.specs.declared.level.Direction.{Direction}
 use Rattle.units.specs.declared.level.Direction.TheVariants.{Auto, Rtl}
 use Rattle.command.specs.CommandLine.{Choice, bidi_app, direction_named, kind_named}
 use Rattle.command.specs.Refusals.{kind_without_request}
-use Rattle.command.specs.declared.request.FileKind.{FileKind}
-use Rattle.command.specs.declared.request.FileKind.TheVariants.{Characters}
+use Rattle.requests.specs.declared.request.FileKind.{FileKind}
+use Rattle.requests.specs.declared.request.FileKind.TheVariants.{Characters}
 
 -- a subcommand, with its folder, classes, direction, text of columns, kind and file
 pub record Met : Type 0 where

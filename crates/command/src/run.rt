@@ -1,93 +1,80 @@
 // A run of the command.
-ghost use Rattle.std.specs.Prelude.{◌≡◌, ◌≤◌, Ok, Err, IfOk, IfErr};
-ghost use Rattle.command.specs.Outcomes.{ComesTo, HasComeTo, HasRun, IsDone};
-ghost use Rattle.command.specs.HandedOut.{CameToNo, HasSaidNo};
+ghost use Rattle.std.specs.Prelude.{◌≡◌, ◌≢◌, ◌≤◌, ◌⊎◌};
 ghost use Rattle.clap.specs.Walk.{texts};
-ghost use Rattle.command.specs.ReadFiles.{no_facts};
-ghost use Rattle.command.specs.Steps.{FailsIn, steps_of};
-ghost use Rattle.command.specs.declared.request.Request.{Request};
+ghost use Rattle.command.specs.Outcomes.{CameToNo, EndsWithout, HasComeTo, HasRun, HasSaidNo};
 
-use crate::fault::Fault;
-use crate::files::Files;
-use crate::outcome::Outcome;
-use crate::performing::perform;
-use crate::request::{Request, request_of};
+use crate::words::request_of;
+use clap::Error;
 use clap::error::ErrorKind;
+use requests::fault::Fault;
+use requests::files::Files;
+use requests::request::Request;
+use requests::run::run_request;
 use std::alloc::Global;
 use std::io;
 use std::io::Write;
 
-/// Does what is asked for, with all that was written handed on.
-fn perform_and_flush<'a, F: Files, W: Write>(
-    alloc: Global,
-    request: Request<'a>,
-    files: &F,
-    out: &mut W,
-) -> Result<Outcome, Fault<'a>>
-    ensures done { IfOk result (IsDone (F.facts files.now)
-        (W.contents out.old) (W.contents out.new) request.entry) }
-    ensures fault { IfErr result (FailsIn (steps_of (F.facts files.now) request.entry)
-        (W.contents out.old) (W.contents out.new)) }
-{
-    let outcome = perform(alloc, request, files, out)?;
-    if out.flush().is_err() {
-        return Err(Fault::CannotWrite);
-    }
-    Ok(outcome)
-}
-
 /// Writes the text of help or of the version.
-fn print_help<W: Write>(out: &mut W, help: &clap::Error) -> io::Result<()> {
+fn print_help<W: Write>(out: &mut W, help: &Error) -> io::Result<()> {
     write!(out, "{help}")?;
     out.flush()
 }
 
-/// What words that are no request lead to: help, the version, or the fault that is to be said.
-fn outcome_of_error<'a, W: Write>(error: clap::Error, out: &mut W) -> Result<Outcome, Fault<'a>>
-    ensures { ComesTo no_facts (W.contents out.old) (W.contents out.new) (Err error) result }
+/// Writes the text of help or of the version, says where that fails, and answers the exit status.
+fn run_help<W: Write, E: Write>(help: &Error, out: &mut W, err: &mut E) -> u8
+    ensures status { (result ≡ 0) ⊎ (result ≡ 3) }
+    ensures silent { result ≤ 1 → E.contents err.new ≡ E.contents err.old }
 {
-    if error.kind() == ErrorKind::OutOfMemory {
-        return Err(Fault::OutOfMemory);
+    match print_help(out, help) {
+        Ok(()) => 0,
+        Err(_) => Fault::CannotWrite.report(err),
     }
-    if error.use_stderr() {
-        return Err(Fault::Refused(error));
-    }
-    print_help(out, &error)?;
-    Ok(Outcome::Helped)
 }
 
-/// What words lead to, as they were read: an outcome, or the fault that is to be said.
-fn outcome_of<'a, F: Files, W: Write>(
-    alloc: Global,
-    read: Result<Request<'a>, clap::Error>,
-    files: &F,
-    out: &mut W,
-) -> Result<Outcome, Fault<'a>>
-    ensures { ComesTo (F.facts files.now)
-        (W.contents out.old) (W.contents out.new) read.entry result }
+/// Says why words are refused, and answers the exit status, which stays where that can't be written.
+fn refuse<E: Write>(refusal: &Error, err: &mut E) -> u8
+    ensures { result ≡ 2 }
 {
-    match read {
-        Ok(request) => perform_and_flush(alloc, request, files, out),
-        Err(error) => outcome_of_error(error, out),
+    let _ = write!(err, "{refusal}");
+    let _ = err.flush();
+    2
+}
+
+/// Answers the exit status of words that are no request: help or the version is printed, or it is said why they are
+/// refused.
+fn run_without_request<W: Write, E: Write>(error: &Error, out: &mut W, err: &mut E) -> u8
+    ensures status { result ≤ 3 }
+    ensures ended { EndsWithout (W.contents out.old) (W.contents out.new) error.now result }
+    ensures no { result ≢ 1 }
+    ensures silent { result ≤ 1 → E.contents err.new ≡ E.contents err.old }
+{
+    if error.kind() == ErrorKind::OutOfMemory {
+        return Fault::OutOfMemory.report(err);
     }
+    if error.use_stderr() {
+        return refuse(error, err);
+    }
+    run_help(error, out, err)
 }
 
 /// Does what words ask for, as they were read, and answers the exit status.
-fn run_as_read<'a, F: Files, W: Write, E: Write>(
+fn run_as_read<F: Files, W: Write, E: Write>(
     alloc: Global,
-    read: Result<Request<'a>, clap::Error>,
+    read: Result<Request<'_>, Error>,
     files: &F,
     out: &mut W,
     err: &mut E,
 ) -> u8
     ensures status { result ≤ 3 }
-    ensures ended { HasComeTo (F.facts files.now) (W.contents out.old) (W.contents out.new) read.entry result }
+    ensures ended { HasComeTo (F.facts files.now)
+        (W.contents out.old) (W.contents out.new) read.entry result }
     ensures no { result ≡ 1
         → CameToNo (F.facts files.now) (W.contents out.old) (W.contents out.new) read.entry }
+    ensures silent { result ≤ 1 → E.contents err.new ≡ E.contents err.old }
 {
-    match outcome_of(alloc, read, files, out) {
-        Ok(outcome) => outcome.status(),
-        Err(fault) => fault.report(err),
+    match read {
+        Ok(request) => run_request(alloc, request, files, out, err),
+        Err(error) => run_without_request(&error, out, err),
     }
 }
 
@@ -95,7 +82,7 @@ fn run_as_read<'a, F: Files, W: Write, E: Write>(
 /// status: 0 where a text was printed or explained, after a yes, help or the version, 1 after a no, 2 where the words
 /// are refused, name no tables though they are needed, or name what is no class or too much of it, 3 where a file or
 /// standard input can't be read, a table or the text is faulty, a write fails or memory is refused. After 2 and 3
-/// `err` has a line that says so, if it took it.
+/// `err` has a line that says so, if it took it, and after 0 and 1 nothing was written to it.
 pub fn run<F: Files, W: Write, E: Write>(
     alloc: Global,
     words: &[&str],
@@ -112,6 +99,7 @@ pub fn run<F: Files, W: Write, E: Write>(
     // was written.
     ensures no { result ≡ 1
         → HasSaidNo (F.facts files.now) (W.contents out.old) (W.contents out.new) (texts words.now) }
+    ensures silent { result ≤ 1 → E.contents err.new ≡ E.contents err.old }
 {
     run_as_read(alloc, request_of(alloc, words), files, out, err)
 }

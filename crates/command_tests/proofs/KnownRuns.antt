@@ -24,24 +24,25 @@ use Rattle.bidtests.specs.ClassesFile.{classes_line, classes_verdict}
 use Rattle.bidtests.specs.CharactersFile.{characters_line, characters_findings, characters_verdict}
 use Rattle.bidtests.specs.Verdicts.{Claim, Row, verdict_on}
 use Rattle.bidtests.specs.declared.verdict.Verdict.TheVariants.{Yes}
-use Rattle.command.specs.ClassWords.{classes_named}
+use Rattle.requests.specs.ClassWords.{classes_named}
 use Rattle.command_tests.specs.KnownRuns.{alef_line, neutral_explained}
-use Rattle.command.specs.Judged.{HasJudged, IsClassesVerdict, IsCharactersVerdict}
+use Rattle.requests.specs.Judged.{HasJudged, IsClassesVerdict, IsCharactersVerdict}
 use Rattle.printing.specs.LevelsText.{code_text, levels_text}
 use Rattle.command_tests.specs.MemoryFiles.{Stored, StoredFile, memory_facts}
-use Rattle.command.specs.Printed.{HasExplained, HasPrinted}
+use Rattle.requests.specs.Printed.{HasExplained, HasPrinted}
 use Rattle.printing.specs.PrintedTexts.{printed_levels, printed_reorder}
-use Rattle.command.specs.ReadFiles.{AreTables}
+use Rattle.requests.specs.ReadFiles.{AreTables}
 use Rattle.printing.specs.ReorderText.{reorder_text}
 use Rattle.bidtests.specs.VerdictText.{verdict_text}
 use Rattle.explain.specs.Explained.{explained_classes}
 use Rattle.explain.specs.ExplainedRows.{no_strong}
-use Rattle.command.specs.Outcomes.{IsDone}
-use Rattle.command.specs.declared.request.FileKind.TheVariants.{Classes, Characters}
-use Rattle.command.specs.declared.request.Request.TheVariants.{Levels, Reorder, ExplainClasses, Judge}
-use Rattle.command.specs.declared.fault.Fault.{Fault}
-use Rattle.command.specs.declared.outcome.Outcome.{Outcome}
-use Rattle.command.specs.declared.outcome.Outcome.TheVariants.{Judged, Printed, Helped}
+use Rattle.requests.specs.Outcomes.{IsDone}
+use Rattle.requests.specs.declared.request.FileKind.TheVariants.{Classes, Characters}
+use Rattle.requests.specs.declared.request.Print.TheVariants.{Levels, Reorder}
+use Rattle.requests.specs.declared.request.Request.TheVariants.{Text, ExplainClasses, Judge}
+use Rattle.requests.specs.declared.fault.Fault.{Fault}
+use Rattle.requests.specs.declared.outcome.Outcome.{Outcome}
+use Rattle.requests.specs.declared.outcome.Outcome.TheVariants.{Judged, Printed}
 
 abbrev pub whole_file : List ℕ → List ℕ → StoredFile
 whole_file name bytes = record { name = name; bytes = bytes; readable = 2 ^ 64 - 1 }
@@ -191,18 +192,16 @@ line_of_characters_verdict before after status h =
 
 -- what was done over these files, as a request asks
 pub levels_done : (files : Stored) (folder file : Bor (List ℕ)) (before after : Option (List ℕ)) (outcome : Outcome) → files ≡ alef_files
-    → folder.now ≡ codes "t" → file.now ≡ codes "FILE" → IsDone (memory_facts files) before after (Levels folder Auto file) outcome
+    → folder.now ≡ codes "t" → file.now ≡ codes "FILE" → IsDone (memory_facts files) before after (Text folder Auto file Levels) outcome
     → Appends before after (codes "paragraph 0 level 1\n0 05D0 R 1\n")
 levels_done files folder file before after (Judged status) e f g h = absurd h
-levels_done files folder file before after Helped e f g h = absurd h
 levels_done files folder file before after Printed e f g h =
     levels_of_alef before after (rw (e, f, g) at h)
 
 pub line_done : (files : Stored) (folder file : Bor (List ℕ)) (before after : Option (List ℕ)) (outcome : Outcome) → files ≡ alef_files
-    → folder.now ≡ codes "t" → file.now ≡ codes "FILE" → IsDone (memory_facts files) before after (Reorder folder Auto None file) outcome
+    → folder.now ≡ codes "t" → file.now ≡ codes "FILE" → IsDone (memory_facts files) before after (Text folder Auto file (Reorder None)) outcome
     → Appends before after alef_line
 line_done files folder file before after (Judged status) e f g h = absurd h
-line_done files folder file before after Helped e f g h = absurd h
 line_done files folder file before after Printed e f g h =
     line_of_alef before after (rw (e, f, g) at h)
 
@@ -210,21 +209,18 @@ pub explanation_done : (files : Stored) (word : Bor (List ℕ)) (before after : 
     → word.now ≡ codes "ON" → IsDone (memory_facts files) before after (ExplainClasses word Auto) outcome
     → Appends before after neutral_explained
 explanation_done files word before after (Judged status) e h = absurd h
-explanation_done files word before after Helped e h = absurd h
 explanation_done files word before after Printed e h = explanation_of_neutral before after (rw e at h)
 
 pub verdict_done : (files : Stored) (file : Bor (List ℕ)) (before after : Option (List ℕ)) (outcome : Outcome) → files ≡ row_files
     → file.now ≡ codes "-" → IsDone (memory_facts files) before after (Judge Classes None file) outcome
     → Appends before after (codes "yes: 1 rows, 1 cases\n")
 verdict_done files file before after Printed e g h = absurd h
-verdict_done files file before after Helped e g h = absurd h
 verdict_done files file before after (Judged status) e g h = line_of_verdict before after status (rw (e, g) at h)
 
 pub characters_verdict_done : (files : Stored) (folder file : Bor (List ℕ)) (before after : Option (List ℕ)) (outcome : Outcome) → files ≡ character_files
     → folder.now ≡ codes "t" → file.now ≡ codes "FILE" → IsDone (memory_facts files) before after (Judge Characters (Some folder) file) outcome
     → Appends before after (codes "yes: 1 rows, 1 cases\n")
 characters_verdict_done files folder file before after Printed e f g h = absurd h
-characters_verdict_done files folder file before after Helped e f g h = absurd h
 characters_verdict_done files folder file before after (Judged status) e f g h =
     line_of_characters_verdict before after status (rw (e, f, g) at h)
 

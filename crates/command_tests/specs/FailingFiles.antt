@@ -1,7 +1,11 @@
 -- Files and standard input that all have the same bytes, of which a read fails behind the first.
 use Rattle.std.specs.Prelude.{◌≡◌, ℕ, List, ◌++◌}
 use Rattle.std.proofs.Common.{sym, ◌∙◌}
-use Rattle.command.specs.ReadFiles.{FileFacts}
+use Rattle.requests.specs.ReadFiles.{FileFacts}
+
+-- nothing is said of any origin
+abbrev pub no_facts : FileFacts
+no_facts = record { Begins = λ _ _ _. ⊥; Holds = λ _ _ _. ⊥; Fails = λ _ _ _. ⊥ }
 
 -- the bytes begin with these
 abbrev pub BeginsWith : List ℕ → List ℕ → Type 0

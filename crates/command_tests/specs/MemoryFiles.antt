@@ -6,7 +6,7 @@ use Rattle.std.specs.Str.{bytes_eq}
 use Rattle.std.proofs.Common.{append-nil, arith, sym, ap, subst, ◌∙◌}
 use Rattle.units.specs.HandsOut.{Reading, HasEnded, failures_of}
 use Rattle.units.specs.declared.reader_source.State.TheVariants.{Open}
-use Rattle.command.specs.ReadFiles.{FileFacts, FileNamed, Gives, Origin, StandardInput}
+use Rattle.requests.specs.ReadFiles.{FileFacts, FileNamed, Gives, Origin, StandardInput}
 
 -- a file: its name, its bytes, and how many of them can be read
 pub record StoredFile : Type 0 where

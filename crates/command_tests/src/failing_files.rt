@@ -1,9 +1,8 @@
 //! Files and standard input that fail: each behind the same bytes, or none finds memory to be opened.
 ghost use Rattle.std.specs.Prelude.{◌≡◌, ℕ, List};
-ghost use Rattle.command_tests.specs.FailingFiles.{begins-given, failing_facts};
-ghost use Rattle.command.specs.ReadFiles.{no_facts};
+ghost use Rattle.command_tests.specs.FailingFiles.{begins-given, failing_facts, no_facts};
 
-use command::files::{Files, OpenFault};
+use requests::files::{Files, OpenFault};
 use std::alloc::Global;
 use std::marker::Model;
 use units::cut_source::CutSource;

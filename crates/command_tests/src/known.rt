@@ -3,8 +3,8 @@ ghost use Rattle.std.specs.Prelude.{◌≡◌, ◌++◌, codes, true};
 ghost use Rattle.command_tests.specs.KnownRuns.{alef_line, neutral_explained};
 
 use crate::memory_files::{MemoryFiles, whole};
-use command::performing::perform;
-use command::request::{FileKind, Request};
+use requests::performing::perform;
+use requests::request::{FileKind, Print, Request};
 use std::alloc::Global;
 use units::level::Direction;
 
@@ -20,10 +20,11 @@ fn print_levels_of_alef(alloc: Global, tables: &str, file: &str, out: &mut Vec<u
         whole("t/BidiMirroring.txt", b""),
         whole("FILE", b"\xd7\x90"),
     ];
-    let request = Request::Levels {
+    let request = Request::Text {
         tables,
         direction: Direction::Auto,
         file,
+        print: Print::Levels,
     };
     perform(alloc, request, &MemoryFiles::new(&files), out).is_ok()
 }
@@ -40,11 +41,11 @@ fn print_lines_of_alef(alloc: Global, tables: &str, file: &str, out: &mut Vec<u8
         whole("t/BidiMirroring.txt", b""),
         whole("FILE", b"\xd7\x90"),
     ];
-    let request = Request::Reorder {
+    let request = Request::Text {
         tables,
         direction: Direction::Auto,
-        columns: None,
         file,
+        print: Print::Reorder { columns: None },
     };
     perform(alloc, request, &MemoryFiles::new(&files), out).is_ok()
 }

@@ -2,7 +2,7 @@
 ghost use Rattle.std.specs.Prelude.{◌≡◌};
 ghost use Rattle.command_tests.specs.MemoryFiles.{StandsOver, begins-gave, memory_facts, stops-gave, stored_at, whole-gave};
 
-use command::files::{Files, OpenFault};
+use requests::files::{Files, OpenFault};
 use std::alloc::Global;
 use std::marker::Model;
 use ucdfiles::small::{BRACKETS, CLASSES, MIRRORS};

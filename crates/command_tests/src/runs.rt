@@ -1,8 +1,8 @@
 //! Runs of the command over files in memory, and how they have to end.
 use crate::memory_files::{MemoryFile, MemoryFiles};
 use crate::writers::{FixedWriter, ShortWriter};
-use command::files::Files;
 use command::run::run;
+use requests::files::Files;
 use std::alloc::Global;
 use std::process::Abort;
 

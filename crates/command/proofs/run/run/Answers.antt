@@ -2,7 +2,7 @@ use Rattle.std.proofs.Common.{◌≡◌, ℕ, List, Result, Ok, subst}
 use Rattle.clap.specs.declared.error.Error.{Error}
 use Rattle.clap.specs.Walk.{texts}
 use Rattle.command.specs.CommandLine.{IsRead, IsReadAs}
-use Rattle.command.specs.declared.request.Request.{Request}
+use Rattle.requests.specs.declared.request.Request.{Request}
 use Rattle.command.proofs.run.run.Goals as goal
 
 read_so : (words : List (List ℕ)) (read : Result Request Error) (request : Request) → read ≡ Ok request → IsReadAs words read → IsRead words request

@@ -5,7 +5,7 @@ use Rattle.std.proofs.lemmas.Iterator.{YieldsList-from_slice}
 use Rattle.std.proofs.lemmas.Iterator.Search.{find_from_yields_List}
 use Rattle.clap.proofs.WalkLemmas.{find-map}
 use Rattle.command_tests.specs.MemoryFiles.{StandsOver, Stored, StoredFile, stored_at, stored_file}
-use Rattle.command.specs.ReadFiles.{FileNamed}
+use Rattle.requests.specs.ReadFiles.{FileNamed}
 use Rattle.command_tests.specs.declared.memory_files.MemoryFile.{MemoryFile}
 use Rattle.command_tests.proofs.memory_files.MemoryFilesFiles.file.Goals as goal
 

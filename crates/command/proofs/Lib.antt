@@ -1,4 +1,0 @@
-pub mod ClassNames
-pub mod FirstFaults
-pub mod SourceEnds
-pub mod TableEnds

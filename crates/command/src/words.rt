@@ -1,0 +1,231 @@
+// What the words of a command line ask for.
+ghost use Rattle.std.specs.Prelude.{◌≡◌, codes, option_map, Err, IfOk, IfErr, IfSome, IfNone, is_some};
+ghost use Rattle.clap.specs.Matches.{found_of};
+ghost use Rattle.clap.specs.Simple.{subcommand_rows_of};
+ghost use Rattle.clap.specs.Walk.{first_of, one_of, rows_of, texts};
+ghost use Rattle.clap.specs.Values.{kind_of};
+ghost use Rattle.command.specs.CommandLine.{AsksFor, ColumnsAre, HasMet, IsAskedBy, IsReadAs, MakesNone};
+ghost use Rattle.command.specs.CommandLine.{direction_named, kind_named};
+ghost use Rattle.command.specs.Refusals.{has_classes_and_text, kind_in_subcommand, kind_without_request};
+ghost use Rattle.requests.specs.declared.request.Request.{Request as RequestOf};
+
+use crate::command_line::{bidi_command, explain_command};
+use crate::help;
+use clap::error::ErrorKind;
+use clap::{ArgMatches, Command, Error};
+use requests::request::{FileKind, Print, Request};
+use std::alloc::{AllocError, Global};
+use std::num::NonZeroU16;
+use units::level::Direction;
+
+/// The value of an argument, if it has one.
+fn text_of<'a>(matches: &ArgMatches<'a>, id: &str) -> Option<&'a str>
+    ensures { option_map (λ text. text.now) result ≡ first_of id.now (rows_of (found_of matches.now)) }
+{
+    matches.get_str(id)
+}
+
+/// Whether an argument has a value.
+fn has_value(matches: &ArgMatches<'_>, id: &str) -> bool
+    ensures { result ≡ is_some (first_of id.now (rows_of (found_of matches.now))) }
+{
+    text_of(matches, id).is_some()
+}
+
+fn direction_in(matches: &ArgMatches<'_>) -> Direction
+    ensures { result ≡ direction_named (first_of (codes "direction") (rows_of (found_of matches.now))) }
+{
+    match text_of(matches, "direction") {
+        Some("ltr") => Direction::Ltr,
+        Some("rtl") => Direction::Rtl,
+        Some("auto-rtl") => Direction::AutoRtl,
+        _ => Direction::Auto,
+    }
+}
+
+fn columns_in(matches: &ArgMatches<'_>) -> Option<NonZeroU16>
+    ensures { ColumnsAre (one_of (codes "columns") (rows_of (found_of matches.now))) result }
+{
+    matches.get_one::<NonZeroU16>("columns")
+}
+
+fn kind_in(matches: &ArgMatches<'_>) -> Option<FileKind>
+    ensures { result ≡ kind_named (first_of (codes "kind") (rows_of (found_of matches.now))) }
+{
+    match text_of(matches, "kind") {
+        Some("classes") => Some(FileKind::Classes),
+        Some("characters") => Some(FileKind::Characters),
+        _ => None,
+    }
+}
+
+/// What `levels` asks for, by its arguments.
+fn levels_in<'a>(matches: &ArgMatches<'a>) -> Option<Request<'a>>
+    ensures some { IfSome result (AsksFor (codes "levels") (rows_of (found_of matches.now))) }
+    ensures none { IfNone result ((request : RequestOf)
+        → ¬ (AsksFor (codes "levels") (rows_of (found_of matches.now)) request)) }
+{
+    Some(Request::Text {
+        tables: text_of(matches, "tables")?,
+        direction: direction_in(matches),
+        file: text_of(matches, "file")?,
+        print: Print::Levels,
+    })
+}
+
+/// What `reorder` asks for, by its arguments.
+fn reorder_in<'a>(matches: &ArgMatches<'a>) -> Option<Request<'a>>
+    ensures some { IfSome result (AsksFor (codes "reorder") (rows_of (found_of matches.now))) }
+    ensures none { IfNone result ((request : RequestOf)
+        → ¬ (AsksFor (codes "reorder") (rows_of (found_of matches.now)) request)) }
+{
+    let columns = columns_in(matches);
+    Some(Request::Text {
+        tables: text_of(matches, "tables")?,
+        direction: direction_in(matches),
+        file: text_of(matches, "file")?,
+        print: Print::Reorder { columns },
+    })
+}
+
+/// What `explain` asks for, by its arguments: a text by tables, or classes.
+fn explain_in<'a>(matches: &ArgMatches<'a>) -> Option<Request<'a>>
+    ensures some { IfSome result (AsksFor (codes "explain") (rows_of (found_of matches.now))) }
+    ensures none { IfNone result ((request : RequestOf)
+        → ¬ (AsksFor (codes "explain") (rows_of (found_of matches.now)) request)) }
+{
+    let direction = direction_in(matches);
+    match (
+        text_of(matches, "tables"),
+        text_of(matches, "classes"),
+        text_of(matches, "file"),
+    ) {
+        (Some(tables), None, Some(file)) => Some(Request::Text {
+            tables,
+            direction,
+            file,
+            print: Print::Explained,
+        }),
+        (None, Some(classes), None) => Some(Request::ExplainClasses { classes, direction }),
+        _ => None,
+    }
+}
+
+/// What `judge` asks for, by its arguments.
+fn judge_in<'a>(matches: &ArgMatches<'a>) -> Option<Request<'a>>
+    ensures some { IfSome result (AsksFor (codes "judge") (rows_of (found_of matches.now))) }
+    ensures none { IfNone result ((request : RequestOf)
+        → ¬ (AsksFor (codes "judge") (rows_of (found_of matches.now)) request)) }
+{
+    Some(Request::Judge {
+        kind: kind_in(matches)?,
+        tables: text_of(matches, "tables"),
+        file: text_of(matches, "file")?,
+    })
+}
+
+/// What a subcommand of this name asks for, by its arguments.
+fn request_in<'a>(name: &str, matches: &ArgMatches<'a>) -> Option<Request<'a>>
+    ensures some { IfSome result (AsksFor name.now (rows_of (found_of matches.now))) }
+    ensures none { IfNone result ((request : RequestOf)
+        → ¬ (AsksFor name.now (rows_of (found_of matches.now)) request)) }
+{
+    match name {
+        "levels" => levels_in(matches),
+        "reorder" => reorder_in(matches),
+        "explain" => explain_in(matches),
+        "judge" => judge_in(matches),
+        _ => None,
+    }
+}
+
+/// What the subcommand that was met asks for.
+fn request_by<'a>(matches: &ArgMatches<'a>) -> Option<Request<'a>>
+    ensures some { IfSome result (IsAskedBy (subcommand_rows_of matches.now)) }
+    ensures none { IfNone result ((request : RequestOf)
+        → ¬ (IsAskedBy (subcommand_rows_of matches.now) request)) }
+{
+    let (name, inner) = matches.subcommand()?;
+    request_in(name, inner)
+}
+
+/// Whether `explain` is given classes, and a text or tables beside them.
+fn has_both(matches: &ArgMatches<'_>) -> bool
+    ensures { result ≡ has_classes_and_text (rows_of (found_of matches.now)) }
+{
+    has_value(matches, "classes") && (has_value(matches, "tables") || has_value(matches, "file"))
+}
+
+/// The kind of error where the subcommand of this name makes no request of its arguments.
+fn kind_in_subcommand(name: &str, matches: &ArgMatches<'_>) -> ErrorKind
+    ensures { result ≡ kind_in_subcommand name.now (rows_of (found_of matches.now)) }
+{
+    match name {
+        "explain" if has_both(matches) => ErrorKind::ArgumentConflict,
+        "explain" => ErrorKind::MissingRequiredArgument,
+        _ => ErrorKind::MissingSubcommand,
+    }
+}
+
+/// The kind of error where the subcommand that was met makes no request.
+fn kind_without_request(matches: &ArgMatches<'_>) -> ErrorKind
+    ensures { result ≡ kind_without_request (subcommand_rows_of matches.now) }
+{
+    match matches.subcommand() {
+        Some((name, inner)) => kind_in_subcommand(name, inner),
+        None => ErrorKind::MissingSubcommand,
+    }
+}
+
+/// The error of this kind, by a command if there was memory to make it.
+fn error_by(
+    made: Result<Command<'_>, AllocError>,
+    kind: ErrorKind,
+    message: &str,
+) -> Result<Error, AllocError>
+    ensures { IfOk result (λ error. kind_of error ≡ kind) }
+{
+    made?.error(kind, message)
+}
+
+/// The error of this kind, where words make no request.
+fn error_without_request(alloc: Global, kind: ErrorKind) -> Result<Error, AllocError>
+    ensures { IfOk result (λ error. kind_of error ≡ kind) }
+{
+    match kind {
+        ErrorKind::ArgumentConflict => error_by(explain_command(alloc), kind, help::EXPLAIN_BOTH),
+        ErrorKind::MissingRequiredArgument => {
+            error_by(explain_command(alloc), kind, help::EXPLAIN_NEITHER)
+        }
+        _ => error_by(bidi_command(alloc), kind, "a subcommand is needed"),
+    }
+}
+
+/// What the words of a command line give to its arguments, or the error by which they are refused.
+fn matches_of<'a>(alloc: Global, words: &'a [&'a str]) -> Result<ArgMatches<'a>, Error>
+    ensures met { IfOk result (λ matches. HasMet (texts words.now) (subcommand_rows_of matches)) }
+    ensures refused { IfErr result (λ error. IsReadAs (texts words.now) (Err error)) }
+{
+    let mut command = bidi_command(alloc)?;
+    command.try_get_matches_from_mut(words)
+}
+
+/// The request of the subcommand that was met, or the error that it makes none.
+fn request_or_error<'a>(alloc: Global, matches: &ArgMatches<'a>) -> Result<Request<'a>, Error>
+    ensures request { IfOk result (IsAskedBy (subcommand_rows_of matches.now)) }
+    ensures error { IfErr result (MakesNone (subcommand_rows_of matches.now)) }
+{
+    match request_by(matches) {
+        Some(request) => Ok(request),
+        None => Err(error_without_request(alloc, kind_without_request(matches))?),
+    }
+}
+
+/// Reads the words of a command line, of which the first is the program's name. Words that are refused, or that ask for
+/// help or the version, are answered as an error with the text for the user.
+pub fn request_of<'a>(alloc: Global, words: &'a [&'a str]) -> Result<Request<'a>, Error>
+    ensures { IsReadAs (texts words.now) result }
+{
+    let matches = matches_of(alloc, words)?;
+    request_or_error(alloc, &matches)
+}

@@ -1,0 +1,111 @@
+-- The fault of the first step that fails, where steps are joined; and what ends a step.
+use Rattle.std.proofs.Common.{◌≡◌, ℕ, List, [], ◌∷◌, ◌++◌, Option, None, Some, Result, Ok, Err, IfErr, IsErrAnd, inl, inr, subst, sym}
+use Rattle.std.specs.Io.KnownBytes.{Appends}
+use Rattle.std.specs.Str.{IsUtf8, chars}
+use Rattle.units.specs.Text.{lines_of}
+use Rattle.ucdfiles.specs.ClassFile.{class_fault, class_file_fault}
+use Rattle.ucdfiles.specs.Faults.{first_fault}
+use Rattle.ucdfiles.specs.PairFiles.{bracket_fault, bracket_file_fault, mirror_fault, mirror_file_fault}
+use Rattle.ucdfiles.specs.Tables.{TablesOf}
+use Rattle.requests.specs.ReadFiles.{AreTables, FileFacts, most_file_bytes, origin_of}
+use Rattle.requests.specs.FaultText.{print_fault}
+use Rattle.requests.specs.Outcomes.{IsDone}
+use Rattle.requests.specs.Printed.{HasPrinted, most_text_bytes}
+use Rattle.requests.specs.Steps.{AreDone, EndsWriting, FailsIn, IsFirstFault, RequestStep, file_step, printing_steps, steps_of, table_steps, text_steps}
+use Rattle.requests.specs.declared.request.FileKind.TheVariants.{Classes, Characters}
+use Rattle.requests.specs.declared.request.Request.{Request}
+use Rattle.requests.specs.declared.request.Request.TheVariants.{Text, ExplainClasses, Judge}
+use Rattle.requests.specs.declared.fault.Fault.{Fault}
+use Rattle.printing.specs.declared.fault.PrintFault.{PrintFault}
+use Rattle.printing.specs.declared.fault.PrintFault.TheVariants.{Write, Memory}
+use Rattle.requests.specs.declared.outcome.Outcome.{Outcome}
+use Rattle.requests.specs.declared.outcome.Outcome.TheVariants.{Judged, Printed}
+
+pub first_of_all : (xs ys : List RequestStep) (fault : Fault) → IsFirstFault xs fault → IsFirstFault (xs ++ ys) fault
+first_of_all [] ys fault h = absurd h
+first_of_all (x ∷ xs) ys fault (inl here) = inl here
+first_of_all (x ∷ xs) ys fault (inr later) = inr (later.0, first_of_all xs ys fault later.1)
+
+pub first_behind : (xs ys : List RequestStep) (fault : Fault) → AreDone xs → IsFirstFault ys fault → IsFirstFault (xs ++ ys) fault
+first_behind [] ys fault done h = h
+first_behind (x ∷ xs) ys fault done h = inr (done.0, first_behind xs ys fault done.1 h)
+
+pub all_done : (xs ys : List RequestStep) → AreDone xs → AreDone ys → AreDone (xs ++ ys)
+all_done [] ys done rest = rest
+all_done (x ∷ xs) ys done rest = (done.0, all_done xs ys done.1 rest)
+
+-- behind steps that are done, what ends the rest ends all
+pub FailsIn-behind : (xs ys : List RequestStep) (before after : Option (List ℕ)) (fault : Fault) → AreDone xs → FailsIn ys before after fault
+    → FailsIn (xs ++ ys) before after fault
+FailsIn-behind xs ys before after fault done (inl h) = inl (first_behind xs ys fault done h.0, h.1)
+FailsIn-behind xs ys before after fault done (inr h) = inr (all_done xs ys done h.0, h.1)
+
+-- the tables that were read state no fault
+pub class_faultless : (bytes : List ℕ) → class_file_fault bytes ≡ None → first_fault class_fault [] (lines_of bytes) ≡ None
+unfolding class_file_fault
+class_faultless bytes h = h
+
+pub bracket_faultless : (bytes : List ℕ) → bracket_file_fault bytes ≡ None → first_fault bracket_fault [] (lines_of bytes) ≡ None
+unfolding bracket_file_fault
+bracket_faultless bytes h = h
+
+pub mirror_faultless : (bytes : List ℕ) → mirror_file_fault bytes ≡ None → first_fault mirror_fault [] (lines_of bytes) ≡ None
+unfolding mirror_file_fault
+mirror_faultless bytes h = h
+
+pub tables_done : (files : FileFacts) (folder : List ℕ) (tables : TablesOf) → AreTables files folder tables → AreDone (table_steps files folder)
+tables_done files folder tables h = (
+  (h.class_bytes, h.class_file, class_faultless h.class_bytes h.classes.faultless),
+  (
+    (h.bracket_bytes, h.bracket_file, bracket_faultless h.bracket_bytes h.brackets.faultless),
+    ((h.mirror_bytes, h.mirror_file, mirror_faultless h.mirror_bytes h.mirrors.faultless), tt),
+  ),
+)
+
+-- and so are all steps of the printing of a text
+pub text_done : (files : FileFacts) (folder file : List ℕ) (tables : TablesOf) → AreTables files folder tables
+    → (bytes : List ℕ) → files.Holds (origin_of file) most_text_bytes bytes → IsUtf8 bytes → AreDone (printing_steps files folder file)
+unfolding printing_steps
+text_done files folder file tables h bytes whole utf8 =
+    all_done (table_steps files folder) (text_steps files file) (tables_done files folder tables h) ((bytes, whole), ((bytes, whole, utf8), tt))
+
+writing_ends : (f : PrintFault) → EndsWriting (print_fault f)
+writing_ends Write = tt
+writing_ends Memory = tt
+
+-- where all was read, a fault of printing is one of writing
+pub printing_fails : {A : Type 0} (steps : List RequestStep) (before after : Option (List ℕ)) (r : Result A Fault) (f : PrintFault) → AreDone steps
+    → IsErrAnd r (λ fault. fault ≡ print_fault f) → IfErr r (FailsIn steps before after)
+printing_fails steps before after (Ok x) f done h = tt
+printing_fails steps before after (Err fault) f done h = inr (done, subst EndsWriting (sym h) (writing_ends f))
+
+-- what was printed by the tables and of the text that were read is what FILE holds
+pub has_printed : (files : FileFacts) (printed : TablesOf → List ℕ → List ℕ) (folder file : List ℕ) (tables : TablesOf) (text : List ℕ)
+    (before after : Option (List ℕ)) → AreTables files folder tables
+    → ((bytes : List ℕ) × files.Holds (origin_of file) most_text_bytes bytes × IsUtf8 bytes × (text ≡ chars bytes))
+    → Appends before after (printed tables text) → HasPrinted files printed folder file before after
+has_printed files printed folder file tables text before after stated read said = record {
+  tables = tables;
+  stated = stated;
+  bytes = read.0;
+  read = read.1;
+  utf8 = read.2;
+  said = subst (λ (xs : List ℕ). Appends before after (printed tables xs)) read.3 said;
+}
+
+-- what was done was read before
+pub request_done : (files : FileFacts) (before after : Option (List ℕ)) (request : Request) (outcome : Outcome)
+    → IsDone files before after request outcome → AreDone (steps_of files request)
+request_done files before after (Text folder direction file print) Printed h =
+    text_done files folder.now file.now h.tables h.stated h.bytes h.read h.utf8
+request_done files before after (ExplainClasses word direction) Printed h = (h.short, ((h.classes, h.named), tt))
+request_done files before after (Judge Classes tables file) (Judged status) h = ((h.bytes, h.read), tt)
+request_done files before after (Judge Characters (Some folder) file) (Judged status) h =
+    all_done (table_steps files folder.now) (file_step files most_file_bytes file.now ∷ [])
+    (tables_done files folder.now h.is.0 h.is.1) ((h.bytes, h.read), tt)
+request_done files before after (Text folder direction file print) (Judged status) h = absurd h
+request_done files before after (ExplainClasses word direction) (Judged status) h = absurd h
+request_done files before after (Judge Classes tables file) Printed h = absurd h
+request_done files before after (Judge Characters (Some folder) file) Printed h = absurd h
+request_done files before after (Judge Characters None file) (Judged status) h = absurd h
+request_done files before after (Judge Characters None file) Printed h = absurd h

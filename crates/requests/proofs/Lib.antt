@@ -1,0 +1,3 @@
+pub mod ClassNames
+pub mod FirstFaults
+pub mod TableEnds

@@ -1,0 +1,19 @@
+use Rattle.std.specs.Prelude.{ℕ, ◌+◌, ◌≤◌, List, length}
+use Rattle.requests.specs.Printed.{most_text_bytes}
+use Rattle.requests.specs.ReadFiles.{origin_of}
+use Rattle.requests.proofs.reading.bytes_in_file.Given as goal
+
+-- what was handed out so far, and how much may still come
+pub record HandedOut {S : Type 0} (Opens : S → Type 0) (gives : S → List ℕ → S → Type 0) (room : S → ℕ) (now : S) (bytes : List ℕ) : Type 0 where
+  pub opened : S
+  pub is : Opens opened
+  pub given : gives opened bytes now
+  pub bound : length bytes + room now ≤ most_text_bytes
+
+abbrev pub invariant-loop-bytes : goal.invariant-loop-bytes
+invariant-loop-bytes g l =
+    HandedOut (g.F.Files.opens l.files (origin_of l.file) most_text_bytes) g.F.Source.ByteSource.gives
+    g.F.Source.ByteSource.room l.source l.bytes.items
+
+abbrev pub decreases-loop-bytes : goal.decreases-loop-bytes
+decreases-loop-bytes g l = g.F.Source.ByteSource.room l.source

@@ -1,0 +1,62 @@
+-- How a fault is said: its line on standard error, and the exit status that goes with it.
+use Rattle.std.specs.Prelude.{◌≡◌, ℕ, List, [], ◌∷◌, Option, codes}
+use Rattle.std.specs.List.{concat}
+use Rattle.std.specs.Fmt.{decimal}
+use Rattle.std.specs.Io.KnownBytes.{Appends}
+use Rattle.ucdfiles.specs.declared.fault.TableFault.{TableFault}
+use Rattle.ucdfiles.specs.Faults.{name_of}
+use Rattle.printing.specs.declared.fault.PrintFault.{PrintFault}
+use Rattle.printing.specs.declared.fault.PrintFault.TheVariants.{Write, Memory}
+use Rattle.requests.specs.declared.fault.Fault.{Fault}
+use Rattle.requests.specs.declared.fault.Fault.TheVariants.{WordNotUtf8, TablesNeeded, ClassesTooLong, NoClass, CannotRead, FaultyLine, NotUtf8, CannotWrite, OutOfMemory}
+use Rattle.printing.specs.LevelsText.{line_feed}
+
+-- the line that says what is wrong with a line of a table's file: the file's name, the line's number from 1, and the
+-- fault's name
+abbrev pub faulty_line_text : List ℕ → ℕ → TableFault → List ℕ
+faulty_line_text name line fault =
+    concat (codes "bidi: " ∷ name ∷ codes ": line " ∷ decimal line ∷ codes ": " ∷ name_of fault ∷ line_feed ∷ [])
+
+-- the line that says that a name is that of no class
+abbrev pub no_class_text : List ℕ → List ℕ
+no_class_text name = concat (codes "bidi: " ∷ name ∷ codes " is no class" ∷ line_feed ∷ [])
+
+-- the line that says that the text in the file of this name is not UTF-8
+abbrev pub not_utf8_text : List ℕ → List ℕ
+not_utf8_text name = concat (codes "bidi: " ∷ name ∷ codes ": not UTF-8" ∷ line_feed ∷ [])
+
+-- what known bytes grew by says this fault
+abbrev pub SaysFault : Option (List ℕ) → Option (List ℕ) → Fault → Type 0
+SaysFault before after WordNotUtf8 = Appends before after (concat (codes "bidi: a word is not UTF-8" ∷ line_feed ∷ []))
+SaysFault before after TablesNeeded = Appends before after (concat (codes "bidi: --tables is needed" ∷ line_feed ∷ []))
+SaysFault before after ClassesTooLong = Appends before after (concat (codes "bidi: --classes is too long" ∷ line_feed ∷ []))
+SaysFault before after (NoClass name) = Appends before after (no_class_text name.now)
+SaysFault before after (CannotRead name) =
+    Appends before after (concat (codes "bidi: cannot read " ∷ name.now ∷ line_feed ∷ []))
+SaysFault before after (FaultyLine name line fault) = Appends before after (faulty_line_text name.now line fault)
+SaysFault before after (NotUtf8 name) = Appends before after (not_utf8_text name.now)
+SaysFault before after CannotWrite = Appends before after (concat (codes "bidi: cannot write" ∷ line_feed ∷ []))
+SaysFault before after OutOfMemory = Appends before after (concat (codes "bidi: out of memory" ∷ line_feed ∷ []))
+
+-- 2 where the words of the command line are no text, name no tables or no classes, 3 where the run failed
+abbrev pub fault_status : Fault → ℕ
+fault_status WordNotUtf8 = 2
+fault_status TablesNeeded = 2
+fault_status ClassesTooLong = 2
+fault_status (NoClass name) = 2
+fault_status (CannotRead name) = 3
+fault_status (FaultyLine name line fault) = 3
+fault_status (NotUtf8 name) = 3
+fault_status CannotWrite = 3
+fault_status OutOfMemory = 3
+
+-- when a fault, said by this name, ends the opening of a file: it can't be opened, or memory was refused
+abbrev pub EndsOpening : Type 0 → List ℕ → Fault → Type 0
+EndsOpening Cannot name (CannotRead unread) = (unread.now ≡ name) × Cannot
+EndsOpening Cannot name OutOfMemory = Unit {0}
+EndsOpening Cannot name _ = ⊥
+
+-- the fault of a run in which printing failed so
+abbrev pub print_fault : PrintFault → Fault
+print_fault Write = CannotWrite
+print_fault Memory = OutOfMemory

@@ -1,0 +1,9 @@
+pub mod ClassWords
+pub mod FaultText
+pub mod Judged
+pub mod Outcomes
+pub mod Printed
+pub mod ReadFiles
+pub mod Steps
+pub mod SystemFiles
+pub mod TableFaults

@@ -1,0 +1,45 @@
+-- What is printed of a file's text, and of classes in a word.
+use Rattle.std.specs.Prelude.{◌≡◌, ◌≤◌, ℕ, ◌^◌, List, length, Option, Some}
+use Rattle.std.specs.Io.KnownBytes.{Appends}
+use Rattle.std.specs.Str.{chars, IsUtf8}
+use Rattle.units.specs.declared.class.Class.{Class}
+use Rattle.units.specs.declared.level.Direction.{Direction}
+use Rattle.ucdfiles.specs.Tables.{TablesOf}
+use Rattle.explain.specs.Explained.{explained, explained_classes}
+use Rattle.printing.specs.PrintedTexts.{printed_levels, printed_reorder}
+use Rattle.requests.specs.ClassWords.{classes_named}
+use Rattle.requests.specs.declared.request.Print.{Print}
+use Rattle.requests.specs.declared.request.Print.TheVariants.{Levels, Reorder, Explained}
+use Rattle.requests.specs.ReadFiles.{FileFacts, AreTables, origin_of}
+
+-- what is printed of a text, by tables
+abbrev pub printed_text : Print → Direction → TablesOf → List ℕ → List ℕ
+printed_text Levels direction tables text = printed_levels tables text direction
+printed_text (Reorder columns) direction tables text = printed_reorder tables text direction columns
+printed_text Explained direction tables text = explained tables text direction
+
+-- the most bytes that a text may have
+abbrev pub most_text_bytes : ℕ
+most_text_bytes = 2 ^ 24
+
+-- what FILE names was read whole and is UTF-8, and this is the text of its characters
+abbrev pub HoldsText : FileFacts → List ℕ → List ℕ → Type 0
+HoldsText files file text =
+    (bytes : List ℕ) × files.Holds (origin_of file) most_text_bytes bytes × IsUtf8 bytes × (text ≡ chars bytes)
+
+-- what FILE names was read whole and is UTF-8, and what known bytes grew by is what is printed of its characters
+-- by the tables of the folder
+pub record HasPrinted (files : FileFacts) (printed : TablesOf → List ℕ → List ℕ) (folder file : List ℕ) (before after : Option (List ℕ)) : Type 0 where
+  pub tables : TablesOf
+  pub stated : AreTables files folder tables
+  pub bytes : List ℕ
+  pub read : files.Holds (origin_of file) most_text_bytes bytes
+  pub utf8 : IsUtf8 bytes
+  pub said : Appends before after (printed tables (chars bytes))
+
+-- a word names classes, and what known bytes grew by is what `explain` prints of them
+pub record HasExplained (word : List ℕ) (direction : Direction) (before after : Option (List ℕ)) : Type 0 where
+  pub short : length word ≤ most_text_bytes
+  pub classes : List Class
+  pub named : classes_named word ≡ Some classes
+  pub said : Appends before after (explained_classes classes direction)

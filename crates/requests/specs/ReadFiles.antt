@@ -1,0 +1,67 @@
+-- What was read, from standard input or from files by their names, and the tables that three files state.
+use Rattle.std.specs.Prelude.{ℕ, ◌^◌, List, [], ◌∷◌, codes, if◌then◌else◌}
+use Rattle.std.specs.List.{concat}
+use Rattle.std.specs.Str.{bytes_eq}
+use Rattle.units.specs.HandsOut.{Reading, HandsOut}
+use Rattle.ucdfiles.specs.ClassFile.{StatesClasses}
+use Rattle.ucdfiles.specs.PairFiles.{StatesBrackets, StatesMirrors}
+use Rattle.ucdfiles.specs.Tables.{TablesOf, class_by, bracket_by, glyph_by}
+
+-- a source handed out these bytes on the way from one state to another
+abbrev pub Gives : Reading → List ℕ → Reading → Type 0
+Gives opened bytes now = HandsOut opened.remaining now.remaining opened.left now.left opened.state now.state bytes
+
+-- where bytes come from: standard input, or the file of a name
+pub data Origin : Type 0 where
+  StandardInput : Origin
+  FileNamed : List ℕ → Origin
+
+-- what the word FILE of a command line names: `-` standard input, and any other word the file of that name
+abbrev pub origin_of : List ℕ → Origin
+origin_of word = if bytes_eq word (codes "-") then StandardInput else FileNamed word
+
+-- what is said of an origin, by the limit that it is read with, and bytes
+abbrev pub OfOrigin : Type 1
+OfOrigin = Origin → ℕ → List ℕ → Type 0
+
+-- what is said of origins: that one begins with these bytes; that it holds them and no more; that it can't be opened,
+-- or a read behind them fails
+pub record FileFacts : Type 1 where
+  pub Begins : OfOrigin
+  pub Holds : OfOrigin
+  pub Fails : OfOrigin
+
+-- the most bytes that a conformance file or a table's file may have
+abbrev pub most_file_bytes : ℕ
+most_file_bytes = 2 ^ 40
+
+-- the names of the tables' files
+abbrev pub class_name : List ℕ
+class_name = codes "DerivedBidiClass.txt"
+
+abbrev pub bracket_name : List ℕ
+bracket_name = codes "BidiBrackets.txt"
+
+abbrev pub mirror_name : List ℕ
+mirror_name = codes "BidiMirroring.txt"
+
+-- a file of this name in the folder
+abbrev pub in_folder : List ℕ → List ℕ → List ℕ
+in_folder folder name = concat (folder ∷ codes "/" ∷ name ∷ [])
+
+-- the file of this name in the folder was read whole, and its bytes state this
+abbrev pub HoldsTable : FileFacts → List ℕ → List ℕ → (List ℕ → Type 0) → Type 0
+HoldsTable files folder name States =
+    (bytes : List ℕ) × files.Holds (FileNamed (in_folder folder name)) most_file_bytes bytes × States bytes
+
+-- the tables are those that the bytes of the folder's three files state, each read whole
+pub record AreTables (files : FileFacts) (folder : List ℕ) (tables : TablesOf) : Type 0 where
+  pub class_bytes : List ℕ
+  pub class_file : files.Holds (FileNamed (in_folder folder class_name)) most_file_bytes class_bytes
+  pub classes : StatesClasses class_bytes (class_by tables.classes)
+  pub bracket_bytes : List ℕ
+  pub bracket_file : files.Holds (FileNamed (in_folder folder bracket_name)) most_file_bytes bracket_bytes
+  pub brackets : StatesBrackets bracket_bytes (bracket_by tables.brackets)
+  pub mirror_bytes : List ℕ
+  pub mirror_file : files.Holds (FileNamed (in_folder folder mirror_name)) most_file_bytes mirror_bytes
+  pub mirrors : StatesMirrors mirror_bytes (glyph_by tables.mirrors)

@@ -1,0 +1,122 @@
+-- The steps in which a request is done, in their order, and the fault of the first that fails.
+use Rattle.std.specs.Prelude.{◌≡◌, ◌<◌, ◌≤◌, ◌⊎◌, ℕ, List, [], ◌∷◌, ◌++◌, length, Option, Some, None}
+use Rattle.std.specs.Str.{IsUtf8}
+use Rattle.ucdfiles.specs.ClassFile.{class_fault}
+use Rattle.ucdfiles.specs.PairFiles.{bracket_fault, mirror_fault}
+use Rattle.ucdfiles.specs.declared.fault.Fault.{Fault as LineFault}
+use Rattle.units.specs.declared.class.Class.{Class}
+use Rattle.requests.specs.ClassWords.{EndsNames, classes_named}
+use Rattle.requests.specs.declared.request.FileKind.TheVariants.{Classes, Characters}
+use Rattle.requests.specs.declared.request.Request.{Request}
+use Rattle.requests.specs.declared.request.Request.TheVariants.{Text, ExplainClasses, Judge}
+use Rattle.requests.specs.declared.fault.Fault.{Fault}
+use Rattle.requests.specs.declared.fault.Fault.TheVariants.{TablesNeeded, ClassesTooLong, CannotRead, NotUtf8, CannotWrite, OutOfMemory}
+use Rattle.requests.specs.Printed.{most_text_bytes}
+use Rattle.requests.specs.ReadFiles.{FileFacts, class_name, bracket_name, mirror_name, in_folder, most_file_bytes, origin_of}
+use Rattle.requests.specs.TableFaults.{EndsTable, IsFaultless}
+
+-- a step: that it is done, and the faults that end it
+pub record RequestStep : Type 1 where
+  pub Done : Type 0
+  pub EndsBy : Fault → Type 0
+
+-- all of these steps are done
+abbrev pub AreDone : List RequestStep → Type 0
+AreDone [] = Unit {0}
+AreDone (step ∷ steps) = step.Done × AreDone steps
+
+-- the fault ends one of these steps, and all earlier ones are done
+abbrev pub IsFirstFault : List RequestStep → Fault → Type 0
+IsFirstFault [] fault = ⊥
+IsFirstFault (step ∷ steps) fault = step.EndsBy fault ⊎ (step.Done × IsFirstFault steps fault)
+
+-- the folder of the tables, where none is named
+abbrev pub EndsUnnamed : Fault → Type 0
+EndsUnnamed fault = fault ≡ TablesNeeded
+
+-- when a fault ends the reading of what FILE names: it can't be opened, a read of it fails, or memory was refused
+abbrev pub EndsFile : FileFacts → ℕ → List ℕ → Fault → Type 0
+EndsFile files most file (CannotRead unread) = (unread.now ≡ file) × (bytes : List ℕ) × files.Fails (origin_of file) most bytes
+EndsFile files most file OutOfMemory = Unit {0}
+EndsFile files most file _ = ⊥
+
+-- when a fault ends the reading of the characters of what FILE names: its bytes are not UTF-8, or memory was refused
+abbrev pub EndsText : FileFacts → List ℕ → Fault → Type 0
+EndsText files file (NotUtf8 named) = (named.now ≡ file) × (bytes : List ℕ) × files.Holds (origin_of file) most_text_bytes bytes × ¬ (IsUtf8 bytes)
+EndsText files file OutOfMemory = Unit {0}
+EndsText files file _ = ⊥
+
+-- that a word for classes has no more bytes than a text may have
+abbrev pub length_step : List ℕ → RequestStep
+length_step word = record {
+  Done = length word ≤ most_text_bytes;
+  EndsBy = λ fault. (fault ≡ ClassesTooLong) × (most_text_bytes < length word);
+}
+
+-- the reading of the names in it
+abbrev pub names_step : List ℕ → RequestStep
+names_step word = record {
+  Done = (classes : List Class) × (classes_named word ≡ Some classes);
+  EndsBy = EndsNames word;
+}
+
+-- what is read of a word for classes
+abbrev pub classes_steps : List ℕ → List RequestStep
+classes_steps word = length_step word ∷ names_step word ∷ []
+
+-- when a fault ends the writing: a write failed, or memory was refused
+abbrev pub EndsWriting : Fault → Type 0
+EndsWriting CannotWrite = Unit {0}
+EndsWriting OutOfMemory = Unit {0}
+EndsWriting _ = ⊥
+
+-- the fault is that of the first step of reading that fails, and nothing is written; or all is read, and a write or
+-- memory failed
+abbrev pub FailsIn : List RequestStep → Option (List ℕ) → Option (List ℕ) → Fault → Type 0
+FailsIn steps before after fault = (IsFirstFault steps fault × (after ≡ before)) ⊎ (AreDone steps × EndsWriting fault)
+
+module _ (files : FileFacts) where
+  -- the reading of the folder's table of this name, by the fault of a line behind others
+  abbrev pub table_step : (List (List ℕ) → List ℕ → Option LineFault) → List ℕ → List ℕ → RequestStep
+  table_step fault folder name = record {
+    Done = IsFaultless files fault (in_folder folder name);
+    EndsBy = EndsTable files fault (in_folder folder name) name;
+  }
+
+  -- the classes, the brackets, the mirror images
+  abbrev pub table_steps : List ℕ → List RequestStep
+  table_steps folder =
+      table_step class_fault folder class_name ∷ table_step bracket_fault folder bracket_name ∷ table_step mirror_fault folder mirror_name ∷ []
+
+  -- the reading of what FILE names to its end
+  abbrev pub file_step : ℕ → List ℕ → RequestStep
+  file_step most file = record {
+    Done = (bytes : List ℕ) × files.Holds (origin_of file) most bytes;
+    EndsBy = EndsFile files most file;
+  }
+
+  -- the reading of its characters
+  abbrev pub characters_step : List ℕ → RequestStep
+  characters_step file = record {
+    Done = (bytes : List ℕ) × files.Holds (origin_of file) most_text_bytes bytes × IsUtf8 bytes;
+    EndsBy = EndsText files file;
+  }
+
+  abbrev pub text_steps : List ℕ → List RequestStep
+  text_steps file = file_step most_text_bytes file ∷ characters_step file ∷ []
+
+  -- what is read to print a text
+  unfoldable pub printing_steps : List ℕ → List ℕ → List RequestStep
+  printing_steps folder file = table_steps folder ++ text_steps file
+
+  -- what is read to judge a file of characters
+  abbrev pub characters_steps : List ℕ → List ℕ → List RequestStep
+  characters_steps folder file = table_steps folder ++ file_step most_file_bytes file ∷ []
+
+  -- what is read for a request, in this order
+  abbrev pub steps_of : Request → List RequestStep
+  steps_of (Text folder direction file print) = printing_steps folder.now file.now
+  steps_of (ExplainClasses word direction) = classes_steps word.now
+  steps_of (Judge Classes tables file) = file_step most_file_bytes file.now ∷ []
+  steps_of (Judge Characters (Some folder) file) = characters_steps folder.now file.now
+  steps_of (Judge Characters None file) = record { Done = ⊥; EndsBy = EndsUnnamed } ∷ []

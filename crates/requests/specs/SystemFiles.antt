@@ -1,0 +1,46 @@
+-- What reading a file of the system or its standard input came to, by the limit that it was opened with; of its name
+-- nothing is known.
+use Rattle.std.specs.Prelude.{◌≡◌, ◌⊎◌, ℕ, List, []}
+use Rattle.units.specs.HandsOut.{Reading, HasEnded, failures_of}
+use Rattle.units.specs.declared.reader_source.State.TheVariants.{Open}
+use Rattle.requests.specs.ReadFiles.{FileFacts, Gives}
+
+-- a source with this limit that was not read yet
+pub record IsOpened (most : ℕ) (source : Reading) : Type 0 where
+  pub left : source.left ≡ most
+  pub state : source.state ≡ Open
+
+-- a source was opened with this limit and handed out these bytes
+pub record HasBegun (most : ℕ) (bytes : List ℕ) : Type 0 where
+  pub opened : Reading
+  pub now : Reading
+  pub as_named : IsOpened most opened
+  pub given : Gives opened bytes now
+
+-- and then ended
+pub record WasReadWhole (most : ℕ) (bytes : List ℕ) : Type 0 where
+  pub opened : Reading
+  pub now : Reading
+  pub as_named : IsOpened most opened
+  pub given : Gives opened bytes now
+  pub whole : HasEnded now
+
+-- or failed
+pub record GaveUp (most : ℕ) (bytes : List ℕ) : Type 0 where
+  pub opened : Reading
+  pub now : Reading
+  pub as_named : IsOpened most opened
+  pub given : Gives opened bytes now
+  pub failed : failures_of now.state ≡ 1
+
+-- no source was opened, or one failed
+abbrev pub HasFailed : ℕ → List ℕ → Type 0
+HasFailed most bytes = (bytes ≡ []) ⊎ GaveUp most bytes
+
+-- what is said of files of the system and its standard input
+abbrev pub system_facts : FileFacts
+system_facts = record {
+  Begins = λ _ most bytes. HasBegun most bytes;
+  Holds = λ _ most bytes. WasReadWhole most bytes;
+  Fails = λ _ most bytes. HasFailed most bytes;
+}

@@ -1,0 +1,44 @@
+// Classes read from a word of the command line.
+ghost use Rattle.std.specs.Prelude.{◌≡◌, ◌≤◌, length, IfOk, IfErr, OnOk};
+ghost use Rattle.units.specs.Layout.{longest_text};
+ghost use Rattle.requests.specs.ClassWords.{EndsNames, classes_named};
+ghost use Rattle.requests.specs.Printed.{most_text_bytes};
+ghost use Rattle.requests.specs.Steps.{IsFirstFault, classes_steps};
+
+use crate::fault::Fault;
+use crate::opening::MOST_TEXT_BYTES;
+use std::alloc::Global;
+use units::class::Class;
+use units::text::items::next_item;
+
+/// The classes of these names. The faults are the first name of no class, and refused memory.
+fn classes_of_names<'a>(alloc: Global, names: &'a [u8]) -> Result<Vec<Class>, Fault<'a>>
+    ensures classes { IfOk result (λ classes. classes_named names.now ≡ Some classes.items) }
+    ensures count { IfOk result (λ classes. length classes.items ≤ length names.now) }
+    ensures fault { IfErr result (EndsNames names.now) }
+{
+    let mut classes = Vec::new(alloc);
+    let mut left = names;
+    while let Some((name, rest)) = next_item(left) {
+        match Class::from_short(name) {
+            None => return Err(Fault::NoClass(name)),
+            Some(class) => classes.push(class)?,
+        }
+        left = rest;
+    }
+    Ok(classes)
+}
+
+/// The classes whose short names stand in a word, with blanks between them: as many as there are, or none. The faults
+/// are a word of more bytes than a text may have, the first name of no class, and refused memory.
+pub fn classes_in<'a>(alloc: Global, word: &'a str) -> Result<Vec<Class>, Fault<'a>>
+    ensures classes { IfOk result (λ classes. classes_named word.now ≡ Some classes.items) }
+    ensures bound { IfOk result (λ classes. length classes.items ≤ longest_text) }
+    ensures short { OnOk result (length word.now ≤ most_text_bytes) }
+    ensures fault { IfErr result (IsFirstFault (classes_steps word.now)) }
+{
+    if word.len() as u64 > MOST_TEXT_BYTES {
+        return Err(Fault::ClassesTooLong);
+    }
+    classes_of_names(alloc, word.as_bytes())
+}

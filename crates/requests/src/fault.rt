@@ -1,0 +1,181 @@
+// What goes wrong in a run, and how it is said.
+ghost use Rattle.std.specs.Prelude.{◌≡◌, [], ◌∷◌, codes, OnOk};
+ghost use Rattle.std.specs.List.{concat};
+ghost use Rattle.std.specs.Io.KnownBytes.{Appends};
+ghost use Rattle.printing.specs.LevelsText.{line_feed};
+ghost use Rattle.requests.specs.FaultText.{SaysFault, fault_status, faulty_line_text, no_class_text, not_utf8_text};
+
+use printing::fault::PrintFault;
+use std::alloc::{AllocError, AllocFailed};
+use std::io;
+use std::io::Write;
+use ucdfiles::fault::TableFault;
+use units::memory::Memory;
+
+/// Why a run did not end well.
+#[derive(Debug, Drop)]
+pub enum Fault<'a> {
+    /// A word of the command line is not UTF-8.
+    WordNotUtf8,
+    /// A file of characters is to be judged, and no folder of tables was given.
+    TablesNeeded,
+    /// The word for the classes has more bytes than a text may have.
+    ClassesTooLong,
+    /// This name in the word for the classes is that of no class.
+    NoClass(&'a [u8]),
+    /// The file of this name can't be opened, a read of it failed, or it has more bytes than are allowed.
+    CannotRead(&'a str),
+    /// A line of the table's file of this name is faulty.
+    FaultyLine {
+        name: &'a str,
+        line: u64,
+        fault: TableFault,
+    },
+    /// The text in the file of this name is not UTF-8.
+    NotUtf8(&'a str),
+    /// A write to the output, or its flush, failed.
+    CannotWrite,
+    /// Memory was refused.
+    OutOfMemory,
+}
+
+impl From<io::Error> for Fault<'_> {
+    ghost use Rattle.std.specs.Prelude.{◌≡◌};
+    ghost use Rattle.requests.specs.declared.fault.Fault.TheVariants.{CannotWrite};
+
+    ghost from_gives = { λ _ fault. fault ≡ CannotWrite };
+
+    fn from(_error: io::Error) -> Self {
+        Fault::CannotWrite
+    }
+}
+
+impl From<PrintFault> for Fault<'_> {
+    ghost use Rattle.std.specs.Prelude.{◌≡◌};
+    ghost use Rattle.requests.specs.FaultText.{print_fault};
+
+    ghost from_gives = { λ fault given. given ≡ print_fault fault };
+
+    fn from(fault: PrintFault) -> Self {
+        match fault {
+            PrintFault::Write => Fault::CannotWrite,
+            PrintFault::Memory => Fault::OutOfMemory,
+        }
+    }
+}
+
+impl From<Memory> for Fault<'_> {
+    ghost use Rattle.std.specs.Prelude.{◌≡◌};
+    ghost use Rattle.requests.specs.declared.fault.Fault.TheVariants.{OutOfMemory};
+
+    ghost from_gives = { λ _ fault. fault ≡ OutOfMemory };
+
+    fn from(_memory: Memory) -> Self {
+        Fault::OutOfMemory
+    }
+}
+
+impl From<AllocError> for Fault<'_> {
+    ghost use Rattle.std.specs.Prelude.{◌≡◌};
+    ghost use Rattle.requests.specs.declared.fault.Fault.TheVariants.{OutOfMemory};
+
+    ghost from_gives = { λ _ fault. fault ≡ OutOfMemory };
+
+    fn from(_error: AllocError) -> Self {
+        Fault::OutOfMemory
+    }
+}
+
+impl<T: Drop> From<AllocFailed<T>> for Fault<'_> {
+    ghost use Rattle.std.specs.Prelude.{◌≡◌};
+    ghost use Rattle.requests.specs.declared.fault.Fault.TheVariants.{OutOfMemory};
+
+    ghost from_gives = { λ _ fault. fault ≡ OutOfMemory };
+
+    fn from(_error: AllocFailed<T>) -> Self {
+        Fault::OutOfMemory
+    }
+}
+
+/// Writes this line.
+fn print_line<E: Write>(err: &mut E, line: &str) -> io::Result<()>
+    ensures { OnOk result (Appends (E.contents err.old) (E.contents err.new) (concat (line.now ∷ line_feed ∷ []))) }
+{
+    writeln!(err, "{line}")
+}
+
+/// Writes the line that says that the file of this name can't be read.
+fn print_unread<E: Write>(err: &mut E, name: &str) -> io::Result<()>
+    ensures { OnOk result (Appends (E.contents err.old) (E.contents err.new)
+        (concat (codes "bidi: cannot read " ∷ name.now ∷ line_feed ∷ []))) }
+{
+    writeln!(err, "bidi: cannot read {name}")
+}
+
+/// Writes the line that says that the text in the file of this name is not UTF-8.
+fn print_not_utf8<E: Write>(err: &mut E, name: &str) -> io::Result<()>
+    ensures { OnOk result (Appends (E.contents err.old) (E.contents err.new) (not_utf8_text name.now)) }
+{
+    writeln!(err, "bidi: {name}: not UTF-8")
+}
+
+/// Writes the line that says what is wrong with a line of a table's file.
+fn print_faulty_line<E: Write>(
+    err: &mut E,
+    name: &str,
+    line: u64,
+    fault: TableFault,
+) -> io::Result<()>
+    ensures { OnOk result (Appends (E.contents err.old) (E.contents err.new) (faulty_line_text name.now line fault)) }
+{
+    let fault = fault.name();
+    writeln!(err, "bidi: {name}: line {line}: {fault}")
+}
+
+/// Writes the line that says that a name is that of no class.
+fn print_no_class<E: Write>(err: &mut E, name: &[u8]) -> io::Result<()>
+    ensures { OnOk result (Appends (E.contents err.old) (E.contents err.new) (no_class_text name.now)) }
+{
+    err.write_all(b"bidi: ")?;
+    err.write_all(name)?;
+    err.write_all(b" is no class\n")
+}
+
+impl Fault<'_> {
+    /// The exit status: 2 where the words of the command line are no text, name no tables or no classes, else 3.
+    fn status(&self) -> u8
+        ensures { result ≡ fault_status self.now }
+    {
+        match self {
+            Fault::WordNotUtf8 | Fault::TablesNeeded | Fault::ClassesTooLong | Fault::NoClass(_) =>
+                2,
+            _ => 3,
+        }
+    }
+
+    /// Writes the line that says the fault.
+    fn print<E: Write>(&self, err: &mut E) -> io::Result<()>
+        ensures { OnOk result (SaysFault (E.contents err.old) (E.contents err.new) self.now) }
+    {
+        match self {
+            Fault::WordNotUtf8 => print_line(err, "bidi: a word is not UTF-8"),
+            Fault::TablesNeeded => print_line(err, "bidi: --tables is needed"),
+            Fault::ClassesTooLong => print_line(err, "bidi: --classes is too long"),
+            Fault::NoClass(name) => print_no_class(err, name),
+            Fault::CannotRead(name) => print_unread(err, name),
+            Fault::FaultyLine { name, line, fault } => print_faulty_line(err, name, *line, *fault),
+            Fault::NotUtf8(name) => print_not_utf8(err, name),
+            Fault::CannotWrite => print_line(err, "bidi: cannot write"),
+            Fault::OutOfMemory => print_line(err, "bidi: out of memory"),
+        }
+    }
+
+    /// Says the fault, and answers the exit status, which stays where the line can't be written.
+    pub fn report<E: Write>(&self, err: &mut E) -> u8
+        ensures { result ≡ fault_status self.now }
+    {
+        let _ = self.print(err);
+        let _ = err.flush();
+        self.status()
+    }
+}

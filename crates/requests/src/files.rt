@@ -1,0 +1,105 @@
+// Files by their names, and standard input.
+ghost use Rattle.std.specs.Prelude.{◌≡◌, ◌≤◌, ℕ, List, [], IfOk, IfErr};
+ghost use Rattle.std.proofs.Common.{inr};
+ghost use Rattle.requests.specs.ReadFiles.{FileFacts, FileNamed, Origin, StandardInput};
+ghost use Rattle.requests.specs.SystemFiles.{IsOpened, system_facts};
+
+use either::Either;
+use std::alloc::Global;
+use std::io::{self, Input};
+use units::reader_source::ReaderSource;
+use units::source::ByteSource;
+
+/// Why a file gave no source.
+#[derive(Clone, Copy, Debug, PartialEq, Eq)]
+pub enum OpenFault {
+    /// There is no such file, or it can't be opened.
+    Cannot,
+    /// Memory was refused.
+    Memory,
+}
+
+/// Files that can be read, by their names, and standard input. Of each it is said what reading it comes to, with a
+/// limit of so many bytes.
+pub trait Files {
+    /// What hands out the bytes of a file or of standard input.
+    type Source: ByteSource + Drop;
+
+    // The source was opened as the file of a name or as standard input, to hand out at most so many bytes.
+    ghost opens: { Self → Origin → ℕ → Self.Source → Type 0 };
+
+    // What each of them begins with, what it holds, and where it fails.
+    ghost facts: { Self → FileFacts };
+
+    /// A source of the bytes of the file of this name, of which a read past the first `most` bytes fails. The fault is
+    /// `Cannot` where there is no such file or it can't be opened, and `Memory` where memory was refused.
+    fn file(&self, alloc: Global, name: &str, most: u64) -> Result<Self::Source, OpenFault>
+        ensures opened { IfOk result (opens self.now (FileNamed name.now) most) }
+        ensures limit { IfOk result (λ source. Self.Source.room source ≤ most) }
+        ensures cannot { IfErr result (λ fault. fault ≡ OpenFault.Cannot
+            → (facts self.now).Fails (FileNamed name.now) most []) };
+
+    /// A source of the bytes of standard input, of which a read past the first `most` bytes fails. The faults are the
+    /// same.
+    fn input(&self, alloc: Global, most: u64) -> Result<Self::Source, OpenFault>
+        ensures opened { IfOk result (opens self.now StandardInput most) }
+        ensures limit { IfOk result (λ source. Self.Source.room source ≤ most) }
+        ensures cannot { IfErr result (λ fault. fault ≡ OpenFault.Cannot
+            → (facts self.now).Fails StandardInput most []) };
+
+    ghost gave: { (files : Self) (origin : Origin) (most : ℕ) (opened now : Self.Source) (bytes : List ℕ)
+        → opens files origin most opened → Self.Source.gives opened bytes now → (facts files).Begins origin most bytes };
+
+    ghost gave_all: { (files : Self) (origin : Origin) (most : ℕ) (opened now : Self.Source) (bytes : List ℕ)
+        → opens files origin most opened → Self.Source.gives opened bytes now → Self.Source.ended now
+        → (facts files).Holds origin most bytes };
+
+    ghost gave_up: { (files : Self) (origin : Origin) (most : ℕ) (opened now : Self.Source) (bytes : List ℕ)
+        → opens files origin most opened → Self.Source.gives opened bytes now → Self.Source.failures now ≡ 1
+        → (facts files).Fails origin most bytes };
+}
+
+/// The files of the system, and its standard input.
+#[derive(Drop)]
+pub struct SystemFiles<'a, R: std::rt::Files + Input> {
+    rt: &'a R,
+}
+
+impl<'a, R: std::rt::Files + Input> SystemFiles<'a, R> {
+    /// The files that the runtime opens, and the standard input that it reads.
+    pub fn new(rt: &'a R) -> Self {
+        SystemFiles { rt }
+    }
+}
+
+impl<'a, R: std::rt::Files + Input> Files for SystemFiles<'a, R> {
+    type Source = ReaderSource<Either<R::File, R::Reader>>;
+
+    // Of a file of the system, and of its standard input, no clause says what it holds, nor why it can't be opened.
+    ghost opens = { λ _ _ most source. IsOpened most source };
+
+    ghost facts = { λ _. system_facts };
+
+    ghost gave = { λ _ _ most opened now bytes as_named given.
+        record { opened = opened; now = now; as_named = as_named; given = given } };
+
+    ghost gave_all = { λ _ _ most opened now bytes as_named given whole.
+        record { opened = opened; now = now; as_named = as_named; given = given; whole = whole } };
+
+    ghost gave_up = { λ _ _ most opened now bytes as_named given failed.
+        inr (record { opened = opened; now = now; as_named = as_named; given = given; failed = failed }) };
+
+    fn file(&self, _alloc: Global, name: &str, most: u64) -> Result<Self::Source, OpenFault> {
+        match std::fs::open(self.rt, name) {
+            Ok(file) => Ok(ReaderSource::new(Either::Left(file), most)),
+            Err(error) => match error.kind() {
+                io::ErrorKind::OutOfMemory => Err(OpenFault::Memory),
+                _ => Err(OpenFault::Cannot),
+            },
+        }
+    }
+
+    fn input(&self, _alloc: Global, most: u64) -> Result<Self::Source, OpenFault> {
+        Ok(ReaderSource::new(Either::Right(self.rt.reader()), most))
+    }
+}

@@ -1,0 +1,15 @@
+//! What is asked of the command `bidi`, done over the files and writers that its caller hands it: bidirectional text is
+//! laid out, what each rule does to it is shown, and conformance files of the bidirectional algorithm are judged.
+#![tactic(auto)]
+
+mod class_names;
+pub mod fault;
+pub mod files;
+mod judging;
+mod opening;
+pub mod outcome;
+pub mod performing;
+mod reading;
+pub mod request;
+pub mod run;
+mod table_files;

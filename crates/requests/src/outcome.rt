@@ -1,0 +1,24 @@
+// What a request came to.
+ghost use Rattle.std.specs.Prelude.{◌≡◌, Ok};
+ghost use Rattle.requests.specs.Outcomes.{outcome_status};
+
+/// What a request that is done came to.
+#[derive(Clone, Copy, Debug, PartialEq, Eq)]
+pub enum Outcome {
+    /// A file was judged and its verdict printed: the verdict's exit status.
+    Judged(u8),
+    /// A text was printed, by its levels or as it is shown, or what each rule does to a text or to classes.
+    Printed,
+}
+
+impl Outcome {
+    /// The exit status: that of the verdict, and 0 after a text.
+    pub fn status(self) -> u8
+        ensures { result ≡ outcome_status (Ok self) }
+    {
+        match self {
+            Outcome::Judged(status) => status,
+            Outcome::Printed => 0,
+        }
+    }
+}

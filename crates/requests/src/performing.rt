@@ -1,0 +1,134 @@
+// What a request asks for, done.
+ghost use Rattle.std.specs.Prelude.{◌≤◌, length, IfOk, IfErr, OnOk};
+ghost use Rattle.std.specs.Io.KnownBytes.{Appends};
+ghost use Rattle.units.specs.Layout.{longest_text};
+ghost use Rattle.requests.specs.Outcomes.{IsDone};
+ghost use Rattle.requests.specs.Printed.{HasExplained, HasPrinted, HoldsText, printed_text};
+ghost use Rattle.requests.specs.ReadFiles.{AreTables};
+ghost use Rattle.requests.specs.Steps.{FailsIn, IsFirstFault, classes_steps, printing_steps, steps_of};
+
+use crate::class_names::classes_in;
+use crate::fault::Fault;
+use crate::files::Files;
+use crate::judging::judge_file;
+use crate::outcome::Outcome;
+use crate::reading::text_in_file;
+use crate::request::{Print, Request};
+use crate::table_files::read_tables;
+use explain::print::{print_explained, print_explained_classes};
+use printing::fault::PrintFault;
+use printing::print::{print_levels, print_reorder};
+use std::alloc::Global;
+use std::io::Write;
+use ucdfiles::tables::Tables;
+use units::level::Direction;
+
+/// A text, and the tables of the folder by which it is printed.
+#[derive(Drop)]
+struct TextWithTables {
+    tables: Tables,
+    text: Vec<char>,
+}
+
+/// The tables of the folder, which are read first, and the text in what FILE names.
+fn text_with_tables<'a, F: Files>(
+    alloc: Global,
+    folder: &str,
+    file: &'a str,
+    files: &F,
+) -> Result<TextWithTables, Fault<'a>>
+    ensures tables { IfOk result (λ read. AreTables (F.facts files.now) folder.now read.tables) }
+    ensures text { IfOk result (λ read. HoldsText (F.facts files.now) file.now read.text.items) }
+    ensures bound { IfOk result (λ read. length read.text.items ≤ longest_text) }
+    ensures fault { IfErr result
+        (IsFirstFault (printing_steps (F.facts files.now) folder.now file.now)) }
+{
+    let tables = read_tables(alloc, files, folder)?;
+    let text = text_in_file(alloc, file, files)?;
+    Ok(TextWithTables { tables, text })
+}
+
+/// Prints this of a text, by its tables.
+fn print_text<W: Write>(
+    alloc: Global,
+    read: &TextWithTables,
+    direction: Direction,
+    print: Print,
+    out: &mut W,
+) -> Result<(), PrintFault>
+    requires { length read.now.text.items ≤ longest_text }
+    ensures { OnOk result (Appends (W.contents out.old) (W.contents out.new)
+        (printed_text print direction read.now.tables read.now.text.items)) }
+{
+    let TextWithTables { tables, text } = read;
+    match print {
+        Print::Levels => print_levels(alloc, out, tables, text, direction),
+        Print::Reorder { columns } => print_reorder(alloc, out, tables, text, direction, columns),
+        Print::Explained => print_explained(alloc, out, tables, text, direction),
+    }
+}
+
+/// Prints this of the text in what FILE names, by the tables of the folder, which are read first.
+fn print_file<'a, F: Files, W: Write>(
+    alloc: Global,
+    folder: &str,
+    direction: Direction,
+    file: &'a str,
+    print: Print,
+    files: &F,
+    out: &mut W,
+) -> Result<(), Fault<'a>>
+    ensures printed { OnOk result (HasPrinted (F.facts files.now) (printed_text print direction)
+        folder.now file.now (W.contents out.old) (W.contents out.new)) }
+    ensures fault { IfErr result (FailsIn (printing_steps (F.facts files.now) folder.now file.now)
+        (W.contents out.old) (W.contents out.new)) }
+{
+    let read = text_with_tables(alloc, folder, file, files)?;
+    print_text(alloc, &read, direction, print, out)?;
+    Ok(())
+}
+
+/// Prints what each rule does to the classes that the word names.
+fn explain_classes<'a, W: Write>(
+    alloc: Global,
+    word: &'a str,
+    direction: Direction,
+    out: &mut W,
+) -> Result<(), Fault<'a>>
+    ensures printed { OnOk result (HasExplained word.now direction (W.contents out.old) (W.contents out.new)) }
+    ensures fault { IfErr result
+        (FailsIn (classes_steps word.now) (W.contents out.old) (W.contents out.new)) }
+{
+    let classes = classes_in(alloc, word)?;
+    print_explained_classes(alloc, out, &classes, direction)?;
+    Ok(())
+}
+
+/// Does what is asked for.
+pub fn perform<'a, F: Files, W: Write>(
+    alloc: Global,
+    request: Request<'a>,
+    files: &F,
+    out: &mut W,
+) -> Result<Outcome, Fault<'a>>
+    ensures done { IfOk result (IsDone (F.facts files.now)
+        (W.contents out.old) (W.contents out.new) request.entry) }
+    ensures fault { IfErr result (FailsIn (steps_of (F.facts files.now) request.entry)
+        (W.contents out.old) (W.contents out.new)) }
+{
+    match request {
+        Request::Text {
+            tables,
+            direction,
+            file,
+            print,
+        } => print_file(alloc, tables, direction, file, print, files, out)?,
+        Request::ExplainClasses { classes, direction } => {
+            explain_classes(alloc, classes, direction, out)?
+        }
+        Request::Judge { kind, tables, file } => {
+            return judge_file(alloc, kind, tables, file, files, out);
+        }
+    }
+    Ok(Outcome::Printed)
+}

@@ -1,0 +1,47 @@
+// What may be asked for.
+
+use std::num::NonZeroU16;
+use units::level::Direction;
+
+/// The kinds of conformance files.
+#[derive(Clone, Copy, Debug, PartialEq, Eq)]
+pub enum FileKind {
+    /// In the form of BidiTest.txt: the rows are lists of classes.
+    Classes,
+    /// In the form of BidiCharacterTest.txt: the rows are lists of code points.
+    Characters,
+}
+
+/// What is printed of a text.
+#[derive(Clone, Copy, Debug, PartialEq, Eq)]
+pub enum Print {
+    /// Its levels.
+    Levels,
+    /// Its lines as they are shown, with a break at every so many columns.
+    Reorder { columns: Option<NonZeroU16> },
+    /// What each rule does to it.
+    Explained,
+}
+
+/// What is asked for. Files and folders are named as they were given.
+#[derive(Clone, Copy, Debug, PartialEq, Eq)]
+pub enum Request<'a> {
+    /// Print this of the file's text, by the tables of the folder.
+    Text {
+        tables: &'a str,
+        direction: Direction,
+        file: &'a str,
+        print: Print,
+    },
+    /// Print what each rule does to the classes whose names stand in the word.
+    ExplainClasses {
+        classes: &'a str,
+        direction: Direction,
+    },
+    /// Judge a conformance file. The folder of the tables, where it is given, is needed for files of characters alone.
+    Judge {
+        kind: FileKind,
+        tables: Option<&'a str>,
+        file: &'a str,
+    },
+}
