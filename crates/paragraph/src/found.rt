@@ -1,9 +1,10 @@
 //! W1 to I2 over a paragraph whose sequences were found.
-ghost use Rattle.std.specs.Prelude.{◌≡◌, false, ◌+◌, ◌*◌, ◌<◌, ◌≤◌, ℕ, None, length, slice_set, take};
+ghost use Rattle.std.specs.Prelude.{◌≡◌, false, true, ◌+◌, ◌*◌, ◌<◌, ◌≤◌, ℕ, None, length, slice_index_or, slice_set, take};
 ghost use Rattle.std.specs.List.{list_any};
+ghost use Rattle.std.specs.Option.{option_map_or};
 ghost use Rattle.units.specs.Brackets.{is_open};
 ghost use Rattle.units.specs.Classes.{classes_of};
-ghost use Rattle.units.specs.Layout.{current_of};
+ghost use Rattle.units.specs.declared.class.Class.TheVariants.{BN};
 ghost use Rattle.paragraph.specs.Contents.{Describes, are_flat};
 ghost use Rattle.paragraph.specs.Covering.{AreDisjoint, HasLevelsBy, classes_before, positions_in};
 ghost use Rattle.paragraph.specs.StepBounds.{each_steps, found_steps};
@@ -11,9 +12,10 @@ ghost use Rattle.resolve.specs.Raised.{resolved_at};
 ghost use Rattle.resolve.specs.Sought.{AreOwn, IsSoughtIn};
 
 use crate::contents::Contents;
+use crate::rooms::{RoomToFind, RoomToResolve};
 use explicit::levels::Explicit;
 use resolve::pairs::Pairs;
-use resolve::sequence::{Sought, resolve_sequence};
+use resolve::sequence::{Sought, Unresolved, resolve_sequence};
 use sequences::sequences::Sequences;
 use std::sync::ledger::Ledger;
 use units::bracket::{Bracket, Unit};
@@ -21,6 +23,19 @@ use units::class::Class;
 use units::level::Level;
 use units::limits::Limits;
 use units::steps::Steps;
+
+/// X1 to X8: the class of a position before W1: its own if the paragraph is `flat`, and else the current one that was
+/// found, BN where X9 removes it.
+fn class_before(flat: bool, unit: Unit, explicit: &Explicit, p: usize) -> Class
+    requires { p < length explicit.now }
+    ensures flat { flat ≡ true → result ≡ unit.class }
+    ensures found { flat ≡ false → result ≡ option_map_or (λ x. x.1) (slice_index_or explicit.now p None) BN }
+{
+    if flat {
+        return unit.class;
+    }
+    explicit.class_at(p)
+}
 
 /// BD14: an opening bracket.
 fn is_open(bracket: Bracket) -> bool
@@ -49,65 +64,8 @@ fn begin_at(
     levels[p] = None;
 }
 
-/// Writes the current classes of a paragraph into both columns, and no levels. Answers whether it has an opening
-/// bracket.
-fn begin_found<L: Ledger>(
-    para: &[Unit],
-    explicit: &Explicit,
-    before: &mut [Class],
-    classes: &mut [Class],
-    levels: &mut [Option<Level>],
-    steps: &mut Steps<L>,
-) -> bool
-    requires found { length para.now ≤ length explicit.now }
-    requires before { length before.old ≡ length para.now }
-    requires classes { length classes.old ≡ length para.now }
-    requires levels { length levels.old ≡ length para.now }
-    ensures opened { result ≡ list_any (λ unit. is_open unit.bracket) para.now }
-    ensures before { before.new ≡ current_of (take (length para.now) explicit.now) }
-    ensures copy { classes.new ≡ before.new }
-    ensures none { (p : ℕ) → resolved_at levels.new p ≡ None }
-    ensures steps { steps.new ≡ steps.old + length para.now }
-{
-    let mut opened = false;
-    for p in 0..para.len() {
-        steps.tick();
-        opened = opened | is_open(para[p].bracket);
-        begin_at(p, explicit.class_at(p), before, classes, levels);
-    }
-    opened
-}
-
-/// Writes the classes of a paragraph's units into both columns, and no levels. Answers whether it has an opening
-/// bracket.
-fn begin_flat<L: Ledger>(
-    para: &[Unit],
-    before: &mut [Class],
-    classes: &mut [Class],
-    levels: &mut [Option<Level>],
-    steps: &mut Steps<L>,
-) -> bool
-    requires before { length before.old ≡ length para.now }
-    requires classes { length classes.old ≡ length para.now }
-    requires levels { length levels.old ≡ length para.now }
-    ensures opened { result ≡ list_any (λ unit. is_open unit.bracket) para.now }
-    ensures before { before.new ≡ classes_of para.now }
-    ensures copy { classes.new ≡ before.new }
-    ensures none { (p : ℕ) → resolved_at levels.new p ≡ None }
-    ensures steps { steps.new ≡ steps.old + length para.now }
-{
-    let mut opened = false;
-    for p in 0..para.len() {
-        steps.tick();
-        let unit = para[p];
-        opened = opened | is_open(unit.bracket);
-        begin_at(p, unit.class, before, classes, levels);
-    }
-    opened
-}
-
-/// X1 to X8: writes the classes before W1 into both columns, and no levels: the own ones of a `flat` paragraph, and
-/// else those that were found. Answers whether it has an opening bracket.
+/// X1 to X8: writes the classes before W1 to the fronts of both columns, and no levels: the own ones of a `flat`
+/// paragraph, and else those that were found. Answers whether it has an opening bracket.
 fn begin<L: Ledger>(
     para: &[Unit],
     flat: bool,
@@ -118,96 +76,110 @@ fn begin<L: Ledger>(
     steps: &mut Steps<L>,
 ) -> bool
     requires found { length para.now ≤ length explicit.now }
-    requires before { length before.old ≡ length para.now }
-    requires classes { length classes.old ≡ length para.now }
+    requires before { length para.now ≤ length before.old }
+    requires classes { length para.now ≤ length classes.old }
     requires levels { length levels.old ≡ length para.now }
     ensures opened { result ≡ list_any (λ unit. is_open unit.bracket) para.now }
-    ensures before { before.new ≡ classes_before flat para.now explicit.now }
-    ensures copy { classes.new ≡ before.new }
+    ensures before { take (length para.now) before.new ≡ classes_before flat para.now explicit.now }
+    ensures copy { take (length para.now) classes.new ≡ take (length para.now) before.new }
     ensures none { (p : ℕ) → resolved_at levels.new p ≡ None }
     ensures steps { steps.new ≡ steps.old + length para.now }
 {
-    if flat {
-        return begin_flat(para, before, classes, levels, steps);
+    let mut opened = false;
+    for p in 0..para.len() {
+        steps.tick();
+        let unit = para[p];
+        opened = opened | is_open(unit.bracket);
+        let class = class_before(flat, unit, explicit, p);
+        begin_at(p, class, before, classes, levels);
     }
-    begin_found(para, explicit, before, classes, levels, steps)
+    opened
 }
 
-/// W1 to I2 over all sequences of a paragraph, in their order. `before` are the current classes of the paragraph (X1
-/// to X8), `classes` a copy of them to work on, and `levels` hold none yet. `sought` is what of the paragraph the
-/// rules look for.
+/// W1 to I2 over all sequences of a paragraph, in their order. The front of `classes` is a copy of its classes before W1
+/// to work on, and `levels` hold none yet.
 // Inlined, its walks take more instructions.
 #[inline(never)]
 fn resolve_each<L: Ledger>(
     sequences: &Sequences,
-    para: &[Unit],
-    sought: Sought,
-    before: &[Class],
-    limits: Limits,
+    para: &Unresolved,
     pairs: &mut Pairs,
     classes: &mut [Class],
     levels: &mut [Option<Level>],
     steps: &mut Steps<L>,
 )
-    requires apart { AreDisjoint (length para.now) sequences.now.all }
-    requires sought { IsSoughtIn sought para.now }
-    requires own { AreOwn (positions_in sequences.now.all) para.now before.now }
-    requires before { length before.now ≡ length para.now }
-    requires copy { classes.old ≡ before.now }
-    requires levels { length levels.old ≡ length para.now }
+    requires apart { AreDisjoint (length para.now.units.now) sequences.now.all }
+    requires sought { IsSoughtIn para.now.sought para.now.units.now }
+    requires own { AreOwn (positions_in sequences.now.all) para.now.units.now para.now.before.now }
+    requires before { length para.now.before.now ≡ length para.now.units.now }
+    requires classes { length para.now.units.now ≤ length classes.old }
+    requires copy { take (length para.now.units.now) classes.old ≡ para.now.before.now }
+    requires levels { length levels.old ≡ length para.now.units.now }
     requires fresh { (p : ℕ) → resolved_at levels.old p ≡ None }
-    requires room { length para.now ≤ length pairs.old }
-    ensures levels { HasLevelsBy limits.brackets para.now before.now sequences.now.all levels.new }
+    requires room { length para.now.units.now ≤ length pairs.old }
+    ensures levels { HasLevelsBy para.now.limits.brackets para.now.units.now para.now.before.now
+        sequences.now.all levels.new }
     ensures room { length pairs.new ≡ length pairs.old }
     ensures at_least { steps.old ≤ steps.new }
-    ensures at_most { steps.new ≤ steps.old + each_steps * length para.now }
+    ensures at_most { steps.new ≤ steps.old + each_steps * length para.now.units.now }
 {
+    let classes = &mut classes[..para.units.len()];
     for k in 0..sequences.count() {
         steps.tick();
         let sequence = sequences.get(k);
-        resolve_sequence(
-            &sequence, para, sought, before, limits, pairs, classes, levels, steps,
-        );
+        resolve_sequence(&sequence, para, pairs, classes, levels, steps);
     }
 }
 
-/// W1 to I2 over a paragraph with these contents, whose sequences were found. It takes the fronts of the class columns.
+/// W1 to I2 over a paragraph with these contents, whose sequences were found.
 pub fn resolve_found<L: Ledger>(
     para: &[Unit],
     contents: Contents,
-    explicit: &Explicit,
-    sequences: &Sequences,
+    found: &RoomToFind,
     limits: Limits,
-    pairs: &mut Pairs,
-    before: &mut [Class],
-    classes: &mut [Class],
+    work: &mut RoomToResolve,
     levels: &mut [Option<Level>],
     steps: &mut Steps<L>,
 )
     requires contents { Describes contents (classes_of para.now) }
-    requires found { length para.now ≤ length explicit.now }
-    requires apart { AreDisjoint (length para.now) sequences.now.all }
-    requires own { AreOwn (positions_in sequences.now.all) para.now
-        (classes_before (are_flat (classes_of para.now)) para.now explicit.now) }
-    requires pairs { length para.now ≤ length pairs.old }
-    requires before { length para.now ≤ length before.old }
-    requires classes { length para.now ≤ length classes.old }
+    requires found { length para.now ≤ length found.now.explicit }
+    requires apart { AreDisjoint (length para.now) found.now.sequences.all }
+    requires own { AreOwn (positions_in found.now.sequences.all) para.now
+        (classes_before (are_flat (classes_of para.now)) para.now found.now.explicit) }
+    requires room { length para.now ≤ work.old }
     requires levels { length levels.old ≡ length para.now }
     ensures levels { HasLevelsBy limits.brackets para.now
-        (classes_before (are_flat (classes_of para.now)) para.now explicit.now) sequences.now.all levels.new }
-    ensures room { length pairs.new ≡ length pairs.old }
+        (classes_before (are_flat (classes_of para.now)) para.now found.now.explicit)
+        found.now.sequences.all levels.new }
+    ensures room { work.new ≡ work.old }
     ensures at_least { steps.old + length para.now ≤ steps.new }
     ensures at_most { steps.new ≤ steps.old + found_steps * length para.now }
 {
-    let before = &mut before[..para.len()];
-    let classes = &mut classes[..para.len()];
     let flat = contents.is_flat();
-    let openings = begin(para, flat, explicit, before, classes, levels, steps);
-    let sought = Sought {
-        weak: contents.has_weak(),
-        openings,
+    let openings = begin(
+        para,
+        flat,
+        &found.explicit,
+        &mut work.before,
+        &mut work.classes,
+        levels,
+        steps,
+    );
+    let unresolved = Unresolved {
+        units: para,
+        before: &work.before[..para.len()],
+        sought: Sought {
+            weak: contents.has_weak(),
+            openings,
+        },
+        limits,
     };
     resolve_each(
-        sequences, para, sought, before, limits, pairs, classes, levels, steps,
+        &found.sequences,
+        &unresolved,
+        &mut work.pairs,
+        &mut work.classes,
+        levels,
+        steps,
     );
 }

@@ -12,10 +12,10 @@ ghost use Rattle.paragraph.specs.Contents.{Describes, are_flat};
 ghost use Rattle.paragraph.specs.StepBounds.{finding_steps};
 
 use crate::contents::Contents;
+use crate::rooms::RoomToFind;
 use explicit::isolates::IsolateMap;
-use explicit::levels::{Explicit, explicit_levels};
+use explicit::levels::explicit_levels;
 use explicit::para_level::{level_under, para_level};
-use sequences::sequences::Sequences;
 use std::sync::ledger::Ledger;
 use units::bracket::Unit;
 use units::class::Class;
@@ -55,31 +55,36 @@ pub fn find_sequences<L: Ledger>(
     contents: Contents,
     level: ParaLevel,
     limits: Limits,
-    isolates: &IsolateMap,
-    explicit: &mut Explicit,
-    sequences: &mut Sequences,
+    found: &mut RoomToFind,
     steps: &mut Steps<L>,
 )
     requires contents { Describes contents (classes_of para.now) }
     requires separators { SeparatorOnlyLast para.now }
-    requires isolates { are_flat (classes_of para.now) ≡ false → IsFilledFrom isolates.now (classes_of para.now) }
-    requires explicit { length para.now ≤ length explicit.old }
-    requires room { length para.now ≤ sequences.old.room }
+    requires isolates { are_flat (classes_of para.now) ≡ false
+        → IsFilledFrom found.old.isolates (classes_of para.now) }
+    requires explicit { length para.now ≤ length found.old.explicit }
+    requires room { length para.now ≤ found.old.sequences.room }
     ensures levels { are_flat (classes_of para.now) ≡ false
-        → HoldsLevels explicit.new limits.depth (classes_of para.now) (level_of_para level) }
-    ensures all { sequences.new.all
+        → HoldsLevels found.new.explicit limits.depth (classes_of para.now) (level_of_para level) }
+    ensures all { found.new.sequences.all
         ≡ sequences_of (leveled_of limits.depth (classes_of para.now) (level_of_para level)) }
-    ensures explicit { length explicit.new ≡ length explicit.old }
-    ensures room { sequences.new.room ≡ sequences.old.room }
+    ensures isolates { room found.new.isolates ≡ room found.old.isolates }
+    ensures explicit { length found.new.explicit ≡ length found.old.explicit }
+    ensures room { found.new.sequences.room ≡ found.old.sequences.room }
     ensures at_least { steps.old ≤ steps.new }
     ensures at_most { steps.new ≤ steps.old + finding_steps * length para.now + 1 }
 {
     if contents.is_flat() {
-        sequences.fill_flat(para, contents.all_remain(), level, steps);
+        found
+            .sequences
+            .fill_flat(para, contents.all_remain(), level, steps);
         return;
     }
-    explicit_levels(para, isolates, level, limits, explicit, steps);
-    sequences.fill(para, isolates, explicit, level, steps);
+    let isolates = &found.isolates;
+    explicit_levels(para, isolates, level, limits, &mut found.explicit, steps);
+    found
+        .sequences
+        .fill(para, isolates, &found.explicit, level, steps);
 }
 
 /// X9: this level, or none for a class that is removed, as no class of the paragraph is if `all_remain`.

@@ -7,3 +7,4 @@ mod found;
 mod gates;
 pub mod laws;
 pub mod resolver;
+mod rooms;

@@ -37,11 +37,11 @@ resolve_found-requires-clause-apart g c =
 
 pub resolve_found-requires-clause-own : goal.resolve_found-requires-clause-own
 resolve_found-requires-clause-own g c =
-    own_before c.args.limits c.args.para.now (level_of_para c.find_level-level.result) c.find_sequences.new.explicit (are_flat (classes_of c.args.para.now)) c.find_sequences.ensures.levels (positions_in c.find_sequences.new.sequences.all)
+    own_before c.args.limits c.args.para.now (level_of_para c.find_level-level.result) c.find_sequences.new.found.explicit (are_flat (classes_of c.args.para.now)) c.find_sequences.ensures.levels (positions_in c.find_sequences.new.found.sequences.all)
 
 pub returns-clause-levels : goal.returns-clause-levels
 returns-clause-levels g c =
-    levels_before c.args.limits c.args.para.now (level_of_para c.find_level-level.result) c.find_sequences.new.explicit (are_flat (classes_of c.args.para.now))
-    (flat_from (classes_of c.args.para.now)) c.find_sequences.ensures.levels c.find_sequences.new.sequences.all c.resolve_found.new.levels c.find_sequences.ensures.all (search rules)
+    levels_before c.args.limits c.args.para.now (level_of_para c.find_level-level.result) c.find_sequences.new.found.explicit (are_flat (classes_of c.args.para.now))
+    (flat_from (classes_of c.args.para.now)) c.find_sequences.ensures.levels c.find_sequences.new.found.sequences.all c.resolve_found.new.levels c.find_sequences.ensures.all (search rules)
     c.resolve_found.ensures.levels
     ∙ ap (resolved_levels c.args.limits c.args.para.now) c.find_level-level.ensures.level
