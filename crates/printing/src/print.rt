@@ -1,9 +1,8 @@
 //! What `levels` and `reorder` print of a text.
-ghost use Rattle.std.specs.Prelude.{◌≡◌, ◌<◌, ◌≤◌, [], length, IfOk, OnOk};
+ghost use Rattle.std.specs.Prelude.{◌≡◌, ◌≤◌, [], length, OnOk};
 ghost use Rattle.std.specs.Io.KnownBytes.{Appends};
 ghost use Rattle.units.specs.Layout.{layout_of, longest_text};
 ghost use Rattle.units.specs.Limits.{standard};
-ghost use Rattle.lines.specs.Scratches.{room_of};
 ghost use Rattle.ucdfiles.specs.Tables.{glyph_by};
 ghost use Rattle.printing.specs.LevelsText.{levels_text};
 ghost use Rattle.printing.specs.PrintedTexts.{lines_text, printed_levels, printed_reorder};
@@ -14,83 +13,38 @@ use crate::layout_text::print_paragraphs;
 use crate::reorder_text::print_lines;
 use crate::text_units::units_of;
 use lines::breaks::Breaks;
-use lines::lay_out::lay_out;
+use lines::lay_out::lay_out_into;
 use lines::scratch::Scratch;
 use std::alloc::Global;
 use std::io::Write;
-use std::marker::Brand;
 use std::num::NonZeroU16;
-use std::sync::ledger::{Blank, Ledger};
 use ucdfiles::mirror_table::MirrorTable;
 use ucdfiles::tables::Tables;
 use units::bracket::Unit;
 use units::level::Direction;
-use units::memory::Memory;
-use units::steps::Steps;
 
-/// Room for a text of so many units.
-fn room_for(alloc: Global, n: usize) -> Result<Scratch, Memory>
-    requires { n ≤ longest_text }
-    ensures { IfOk result (λ room. room_of room ≡ n) }
-{
-    match Scratch::with_room(alloc, n) {
-        Ok(room) => Ok(room),
-        Err(_) => Err(Memory),
-    }
-}
-
-/// Writes the levels of a text of these units, laid out by a count of steps that begins with the blank.
-fn print_levels_of<W: Write, L: Ledger>(
+/// Writes the levels of a text of these units.
+fn print_levels_of<W: Write>(
+    alloc: Global,
     w: &mut W,
-    room: &mut Scratch,
     text: &[char],
     units: &[Unit],
     direction: Direction,
-    blank: Blank,
 ) -> Result<(), PrintFault>
+    requires longest { length text.now ≤ longest_text }
     requires units { length units.now ≡ length text.now }
-    requires fits { length units.now ≤ room_of room.old }
-    requires name { blank.name ≡ L.name }
-    requires parts { blank.parts ≡ L.parts }
-    requires some { 0 < blank.parts }
     ensures { OnOk result (Appends (W.contents w.old) (W.contents w.new)
         (levels_text text.now units.now (layout_of standard units.now direction []))) }
 {
-    let mut steps = Steps::<L>::new(blank);
     let breaks = Breaks::new(&[], units.len()).unwrap();
-    let layout = lay_out(room, units, direction, &breaks, &mut steps).unwrap();
-    print_paragraphs(w, text, units, &layout)?;
-    Ok(())
-}
-
-/// Writes the lines of a text of these units, laid out by a count of steps that begins with the blank.
-fn print_lines_of<W: Write, L: Ledger>(
-    w: &mut W,
-    room: &mut Scratch,
-    mirrors: &MirrorTable,
-    text: &[char],
-    units: &[Unit],
-    direction: Direction,
-    breaks: &Breaks,
-    blank: Blank,
-) -> Result<(), PrintFault>
-    requires units { length units.now ≡ length text.now }
-    requires breaks { breaks.now.len ≡ length units.now }
-    requires fits { length units.now ≤ room_of room.old }
-    requires name { blank.name ≡ L.name }
-    requires parts { blank.parts ≡ L.parts }
-    requires some { 0 < blank.parts }
-    ensures { OnOk result (Appends (W.contents w.old) (W.contents w.new)
-        (lines_text (glyph_by mirrors.now) text.now units.now direction breaks.now.positions)) }
-{
-    let mut steps = Steps::<L>::new(blank);
-    let layout = lay_out(room, units, direction, breaks, &mut steps).unwrap();
-    print_lines(w, mirrors, text, units, &layout)?;
+    let mut room = Scratch::reserve(alloc, units.len())?;
+    lay_out_into(&mut room, units, direction, &breaks).unwrap();
+    print_paragraphs(w, text, units, &room.layout())?;
     Ok(())
 }
 
 /// Writes the lines of a text of these units, broken at these positions.
-fn print_broken<W: Write>(
+fn print_lines_of<W: Write>(
     alloc: Global,
     w: &mut W,
     mirrors: &MirrorTable,
@@ -105,17 +59,10 @@ fn print_broken<W: Write>(
     ensures { OnOk result (Appends (W.contents w.old) (W.contents w.new)
         (lines_text (glyph_by mirrors.now) text.now units.now direction breaks.now.positions)) }
 {
-    let mut room = room_for(alloc, text.len())?;
-    print_lines_of::<W, Brand>(
-        w,
-        &mut room,
-        mirrors,
-        text,
-        units,
-        direction,
-        breaks,
-        Blank::new(1),
-    )
+    let mut room = Scratch::reserve(alloc, units.len())?;
+    lay_out_into(&mut room, units, direction, breaks).unwrap();
+    print_lines(w, mirrors, text, units, &room.layout())?;
+    Ok(())
 }
 
 /// Writes the levels of a text: for each paragraph a line with its number, counted from 0, and its level (P2, P3);
@@ -134,8 +81,7 @@ pub fn print_levels<W: Write>(
         (printed_levels tables.now text.now direction)) }
 {
     let units = units_of(alloc, tables, text)?;
-    let mut room = room_for(alloc, text.len())?;
-    print_levels_of::<W, Brand>(w, &mut room, text, &units, direction, Blank::new(1))
+    print_levels_of(alloc, w, text, &units, direction)
 }
 
 /// Writes a text as it is shown: each line from left to right (L2), in UTF-8, with mirror images at odd levels (L4),
@@ -158,7 +104,7 @@ pub fn print_reorder<W: Write>(
     let units = units_of(alloc, tables, text)?;
     let positions = breaks_of(alloc, &units, columns)?;
     let at_columns = Breaks::new(&positions, text.len()).unwrap();
-    print_broken(
+    print_lines_of(
         alloc,
         w,
         tables.mirrors(),

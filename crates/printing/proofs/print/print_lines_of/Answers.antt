@@ -10,11 +10,11 @@ use Rattle.printing.proofs.print.print_lines_of.Goals as goal
 
 pub print_lines-requires-clause-levels : goal.print_lines-requires-clause-levels
 print_lines-requires-clause-levels g c =
-    let laid = rw c.unwrap-layout.ensures at c.lay_out.ensures.laid_out in
+    let laid = c.layout.ensures ∙ rw c.unwrap.ensures at c.lay_out_into.ensures.laid_out in
     ap (λ (layout : TextLayout). length layout.levels) laid ∙ length-levels _ _ _ _ ∙ c.requires.units
 
 pub returns : goal.returns
 returns g c =
-    let laid : view_of c.unwrap-layout.result ≡ layout_of standard c.args.units.now c.args.direction c.args.breaks.now.positions =
-    rw c.unwrap-layout.ensures at c.lay_out.ensures.laid_out in
+    let laid : view_of c.layout.result ≡ layout_of standard c.args.units.now c.args.direction c.args.breaks.now.positions =
+    c.layout.ensures ∙ rw c.unwrap.ensures at c.lay_out_into.ensures.laid_out in
     subst (λ (layout : TextLayout). Appends (g.W.Write.contents c.args.w.now) (g.W.Write.contents c.print_lines.new.w) (reorder_text (glyph_by c.args.mirrors.now) c.args.text.now c.args.units.now layout)) laid c.in_ok-print_lines.ensures
