@@ -32,17 +32,6 @@ impl Model for ShownPart {
     ghost view = { λ part. record { levels = part.levels.items; order = part.order.items } };
 }
 
-/// Room for the layout of so many units.
-fn room_for(alloc: Global, n: usize) -> Result<Scratch, Memory>
-    requires { n ≤ longest_text }
-    ensures { IfOk result (λ room. room_of room ≡ n) }
-{
-    match Scratch::with_room(alloc, n) {
-        Ok(room) => Ok(room),
-        Err(_) => Err(Memory),
-    }
-}
-
 /// The order of the first line, if there is one.
 fn first_order(alloc: Global, layout: &Layout<'_>) -> Result<Vec<usize>, Memory>
     ensures { IfOk result (λ order. order.items ≡ (line_at (view_of layout.now) 0).order) }
@@ -91,7 +80,7 @@ impl ShownPart {
         requires { length para.now ≤ longest_text }
         ensures { IfOk result (λ part. part ≡ shown_part para.now direction) }
     {
-        let mut room = room_for(alloc, para.len())?;
+        let mut room = Scratch::reserve(alloc, para.len())?;
         shown_in(alloc, &mut room, para, direction, steps)
     }
 }
