@@ -2,12 +2,9 @@
 use Rattle.std.specs.Prelude.{ℕ, Option, List}
 use Rattle.units.specs.Layout.{TextLayout, LineLayout}
 use Rattle.ucdfiles.specs.Tables.{TablesOf}
-use Rattle.bidi_held.specs.Holdings.{tables_in, capacity_in, layout_held, line_held}
-use Rattle.bidi_held.specs.RefusedCalls.{RefusesLayout, RefusesLayoutWith}
+use Rattle.bidi_held.specs.Holdings.{tables_in, capacity_in, layout_held, line_numbered}
 use Rattle.bidi_held.specs.Visual.{shown_line}
 use Rattle.bidi_held.specs.declared.held.Held.{Held}
-use Rattle.bidi_held.specs.declared.limits.BidiLimits.{BidiLimits}
-use Rattle.bidi_held.specs.declared.refusal.Refusal.{Refusal}
 use Rattle.bidi_c.specs.declared.bidi_handle.BidiHandle.{BidiHandle}
 
 -- what a handle holds
@@ -28,18 +25,8 @@ layout_at handle = layout_held (held_at handle)
 
 -- its line with the number k
 abbrev pub line_of_room : BidiHandle → ℕ → LineLayout
-line_of_room handle k = line_held (held_at handle) k
+line_of_room handle k = line_numbered (layout_at handle) k
 
 -- L4: its line with the number k of a text of these code points, as it is shown by tables
 abbrev pub shown_of_room : BidiHandle → BidiHandle → List ℕ → ℕ → List ℕ
 shown_of_room room tables codes k = shown_line (layout_at room) (tables_at tables) codes k
-
--- a room refuses the layout of a text of code points by tables for this reason
-abbrev pub RefusesLayoutAt : BidiHandle → BidiHandle → List ℕ → ℕ → List ℕ → Refusal → Type 0
-RefusesLayoutAt room tables codes direction breaks refusal =
-    RefusesLayout (held_at room) (held_at tables) codes direction breaks refusal
-
--- the same by limits that are handed in
-abbrev pub RefusesLayoutWithAt : BidiLimits → BidiHandle → BidiHandle → List ℕ → ℕ → List ℕ → Refusal → Type 0
-RefusesLayoutWithAt limits room tables codes direction breaks refusal =
-    RefusesLayoutWith limits (held_at room) (held_at tables) codes direction breaks refusal

@@ -1,24 +1,22 @@
 // Test files judged.
-ghost use Rattle.std.specs.Prelude.{◌≡◌, ◌<◌, [], None, IsSome, IfErr, IsErrAnd, OnOk, OnErr};
-ghost use Rattle.units.specs.Limits.{AreAllowed, standard};
-ghost use Rattle.bidi_held.specs.JudgeCalls.{judge_in, HandleWasFed, IsFedOn, OfItsVerdict, RefusesJudge, RefusesTableJudge, RefusesJudgeWith, RefusesTableJudgeWith, verdict_told};
-ghost use Rattle.bidi_held.specs.LimitsGiven.{limits_in, RefusesLimits};
-ghost use Rattle.bidi_held.specs.Statuses.{IsRefusedFor};
-ghost use Rattle.bidi_c.specs.HeldAt.{held_at, tables_at};
+ghost use Rattle.std.specs.Prelude.{◌≡◌, None, IsSome};
+ghost use Rattle.units.specs.Limits.{standard};
+ghost use Rattle.bidi_held.specs.JudgeCalls.{judge_in, IsFedOn, MakesJudge, MakesTableJudge, OfItsVerdict, verdict_told};
+ghost use Rattle.bidi_held.specs.LimitsGiven.{ByLimits};
+ghost use Rattle.bidi_held.specs.Statuses.{Answers};
+ghost use Rattle.bidi_c.specs.HeldAt.{held_at};
 
 use crate::bidi_handle::BidiHandle;
 use bidi_held::held::Held;
 use bidi_held::judging::{feed_held, finish_held, make_into_judge, new_judge};
 use bidi_held::limits::BidiLimits;
-use bidi_held::refusal::{DONE, Refusal};
+use bidi_held::refusal::{DONE, Refusal, status};
 use bidi_held::told_verdict::{BidiVerdict, told};
 use std::alloc::Global;
 use units::limits::Limits;
 
 fn make_classes_judge(alloc: Global, judge: &mut BidiHandle, limits: Limits) -> Result<(), Refusal>
-    ensures made { OnOk result (HandleWasFed limits (held_at judge.new) None []) }
-    ensures kept { OnErr result (held_at judge.new ≡ held_at judge.old) }
-    ensures refused { IfErr result RefusesJudge }
+    ensures { MakesJudge limits (held_at judge.old) (held_at judge.new) result }
 {
     let made = new_judge(alloc, limits)?;
     if judge.hold(alloc, Held::Judge(made)) {
@@ -32,14 +30,9 @@ fn make_classes_judge(alloc: Global, judge: &mut BidiHandle, limits: Limits) -> 
 /// once the judge is made; where it is refused, the handle holds that still.
 #[unsafe(no_mangle)]
 pub extern "C" fn bidi_judge_new_classes(alloc: Global, judge: &mut BidiHandle) -> u32
-    ensures made { result ≡ 0 → HandleWasFed standard (held_at judge.new) None [] }
-    ensures kept { 0 < result → held_at judge.new ≡ held_at judge.old }
-    ensures refused { 0 < result → IsRefusedFor RefusesJudge result }
+    ensures { Answers (MakesJudge standard (held_at judge.old) (held_at judge.new)) result }
 {
-    match make_classes_judge(alloc, judge, Limits::standard()) {
-        Ok(()) => DONE,
-        Err(refusal) => refusal.code(),
-    }
+    status(make_classes_judge(alloc, judge, Limits::standard()))
 }
 
 fn make_classes_judge_with(
@@ -47,11 +40,8 @@ fn make_classes_judge_with(
     judge: &mut BidiHandle,
     limits: BidiLimits,
 ) -> Result<(), Refusal>
-    ensures made { OnOk result (HandleWasFed (limits_in limits) (held_at judge.new) None []) }
-    ensures allowed { OnOk result (AreAllowed (limits_in limits)) }
-    ensures limits_first { (AreAllowed (limits_in limits) → ⊥) → IsErrAnd result (RefusesLimits limits) }
-    ensures kept { OnErr result (held_at judge.new ≡ held_at judge.old) }
-    ensures refused { IfErr result (RefusesJudgeWith limits) }
+    ensures { ByLimits limits (held_at judge.new ≡ held_at judge.old) (λ limits. MakesJudge limits
+        (held_at judge.old) (held_at judge.new)) result }
 {
     let allowed = limits.allowed()?;
     make_classes_judge(alloc, judge, allowed)
@@ -65,16 +55,10 @@ pub extern "C" fn bidi_judge_new_classes_with(
     judge: &mut BidiHandle,
     limits: BidiLimits,
 ) -> u32
-    ensures made { result ≡ 0 → HandleWasFed (limits_in limits) (held_at judge.new) None [] }
-    ensures allowed { result ≡ 0 → AreAllowed (limits_in limits) }
-    ensures limits_first { (AreAllowed (limits_in limits) → ⊥) → IsRefusedFor (RefusesLimits limits) result }
-    ensures kept { 0 < result → held_at judge.new ≡ held_at judge.old }
-    ensures refused { 0 < result → IsRefusedFor (RefusesJudgeWith limits) result }
+    ensures { Answers (ByLimits limits (held_at judge.new ≡ held_at judge.old) (λ limits. MakesJudge limits
+        (held_at judge.old) (held_at judge.new))) result }
 {
-    match make_classes_judge_with(alloc, judge, limits) {
-        Ok(()) => DONE,
-        Err(refusal) => refusal.code(),
-    }
+    status(make_classes_judge_with(alloc, judge, limits))
 }
 
 fn make_characters_judge(
@@ -83,12 +67,8 @@ fn make_characters_judge(
     judge: &mut BidiHandle,
     limits: Limits,
 ) -> Result<(), Refusal>
-    ensures made { OnOk result (IsSome (tables_at tables.old)
-        × HandleWasFed limits (held_at judge.new) (tables_at tables.old) []) }
-    ensures taken { OnOk result (held_at tables.new ≡ None) }
-    ensures kept_tables { OnErr result (held_at tables.new ≡ held_at tables.old) }
-    ensures kept { OnErr result (held_at judge.new ≡ held_at judge.old) }
-    ensures refused { IfErr result (RefusesTableJudge (held_at tables.old)) }
+    ensures { MakesTableJudge limits (held_at tables.old) (held_at tables.new) (held_at judge.old)
+        (held_at judge.new) result }
 {
     let Some(mut held) = tables.take(alloc) else {
         return Err(Refusal::NoTables);
@@ -115,17 +95,10 @@ pub extern "C" fn bidi_judge_new_characters(
     tables: &mut BidiHandle,
     judge: &mut BidiHandle,
 ) -> u32
-    ensures made { result ≡ 0 → IsSome (tables_at tables.old)
-        × HandleWasFed standard (held_at judge.new) (tables_at tables.old) [] }
-    ensures taken { result ≡ 0 → held_at tables.new ≡ None }
-    ensures kept_tables { 0 < result → held_at tables.new ≡ held_at tables.old }
-    ensures kept { 0 < result → held_at judge.new ≡ held_at judge.old }
-    ensures refused { 0 < result → IsRefusedFor (RefusesTableJudge (held_at tables.old)) result }
+    ensures { Answers (MakesTableJudge standard (held_at tables.old) (held_at tables.new) (held_at judge.old)
+        (held_at judge.new)) result }
 {
-    match make_characters_judge(alloc, tables, judge, Limits::standard()) {
-        Ok(()) => DONE,
-        Err(refusal) => refusal.code(),
-    }
+    status(make_characters_judge(alloc, tables, judge, Limits::standard()))
 }
 
 fn make_characters_judge_with(
@@ -134,14 +107,9 @@ fn make_characters_judge_with(
     judge: &mut BidiHandle,
     limits: BidiLimits,
 ) -> Result<(), Refusal>
-    ensures made { OnOk result (IsSome (tables_at tables.old)
-        × HandleWasFed (limits_in limits) (held_at judge.new) (tables_at tables.old) []) }
-    ensures allowed { OnOk result (AreAllowed (limits_in limits)) }
-    ensures limits_first { (AreAllowed (limits_in limits) → ⊥) → IsErrAnd result (RefusesLimits limits) }
-    ensures taken { OnOk result (held_at tables.new ≡ None) }
-    ensures kept_tables { OnErr result (held_at tables.new ≡ held_at tables.old) }
-    ensures kept { OnErr result (held_at judge.new ≡ held_at judge.old) }
-    ensures refused { IfErr result (RefusesTableJudgeWith limits (held_at tables.old)) }
+    ensures { ByLimits limits ((held_at tables.new ≡ held_at tables.old) × (held_at judge.new ≡ held_at judge.old))
+        (λ limits. MakesTableJudge limits (held_at tables.old) (held_at tables.new) (held_at judge.old)
+        (held_at judge.new)) result }
 {
     let allowed = limits.allowed()?;
     make_characters_judge(alloc, tables, judge, allowed)
@@ -156,19 +124,12 @@ pub extern "C" fn bidi_judge_new_characters_with(
     judge: &mut BidiHandle,
     limits: BidiLimits,
 ) -> u32
-    ensures made { result ≡ 0 → IsSome (tables_at tables.old)
-        × HandleWasFed (limits_in limits) (held_at judge.new) (tables_at tables.old) [] }
-    ensures allowed { result ≡ 0 → AreAllowed (limits_in limits) }
-    ensures limits_first { (AreAllowed (limits_in limits) → ⊥) → IsRefusedFor (RefusesLimits limits) result }
-    ensures taken { result ≡ 0 → held_at tables.new ≡ None }
-    ensures kept_tables { 0 < result → held_at tables.new ≡ held_at tables.old }
-    ensures kept { 0 < result → held_at judge.new ≡ held_at judge.old }
-    ensures refused { 0 < result → IsRefusedFor (RefusesTableJudgeWith limits (held_at tables.old)) result }
+    ensures { Answers (ByLimits limits
+        ((held_at tables.new ≡ held_at tables.old) × (held_at judge.new ≡ held_at judge.old))
+        (λ limits. MakesTableJudge limits (held_at tables.old) (held_at tables.new) (held_at judge.old)
+        (held_at judge.new))) result }
 {
-    match make_characters_judge_with(alloc, tables, judge, limits) {
-        Ok(()) => DONE,
-        Err(refusal) => refusal.code(),
-    }
+    status(make_characters_judge_with(alloc, tables, judge, limits))
 }
 
 /// Frees a judge and its tables. The handle is all zero then, as it may be before.

@@ -1,12 +1,10 @@
 // Texts laid out.
-ghost use Rattle.std.specs.Prelude.{◌≡◌, ◌<◌, None, IfErr, IsErrAnd, OnOk, OnErr};
-ghost use Rattle.units.specs.Limits.{AreAllowed, standard};
-ghost use Rattle.bidi_held.specs.LimitsGiven.{limits_in, RefusesLimits};
-ghost use Rattle.bidi_held.specs.Holdings.{room_in};
-ghost use Rattle.bidi_held.specs.Statuses.{IsRefused};
-ghost use Rattle.bidi_held.specs.RefusedCalls.{RoomTakes, RoomTakesClasses, RefusesClassLayout, RefusesClassLayoutWith};
-ghost use Rattle.bidi_held.specs.LaidOut.{IsLayout, IsClassLayout};
-ghost use Rattle.bidi_c.specs.HeldAt.{held_at, tables_at, capacity_at, layout_at, RefusesLayoutAt, RefusesLayoutWithAt};
+ghost use Rattle.std.specs.Prelude.{◌≡◌};
+ghost use Rattle.units.specs.Limits.{standard};
+ghost use Rattle.bidi_held.specs.LaidOut.{LaysOutClasses, LaysOutCodes};
+ghost use Rattle.bidi_held.specs.LimitsGiven.{ByLimits};
+ghost use Rattle.bidi_held.specs.Statuses.{AnswersAt};
+ghost use Rattle.bidi_c.specs.HeldAt.{held_at};
 
 use crate::bidi_handle::BidiHandle;
 use bidi_held::layouts::{lay_out_classes_held, lay_out_held};
@@ -25,13 +23,8 @@ fn lay_out(
     limits: Limits,
 ) -> Result<(), Refusal>
     ensures tables { held_at tables.new ≡ held_at tables.old }
-    ensures capacity { capacity_at room.new ≡ capacity_at room.old }
-    ensures other { room_in (held_at room.old) ≡ None → held_at room.new ≡ held_at room.old }
-    ensures kept { OnErr result (layout_at room.new ≡ layout_at room.old) }
-    ensures refused { IfErr result (RefusesLayoutAt room.old tables.old codes.now direction breaks.now) }
-    ensures taken { OnOk result (RoomTakes (held_at room.old) codes.now breaks.now) }
-    ensures laid_out { OnOk result (IsLayout limits (tables_at tables.old) codes.now direction breaks.now
-        (layout_at room.new)) }
+    ensures room { LaysOutCodes limits (held_at tables.old) codes.now direction breaks.now (held_at room.old)
+        (held_at room.new) result }
 {
     let Some(mut held) = room.take(alloc) else {
         return Err(Refusal::NoRoom);
@@ -60,15 +53,8 @@ pub extern "C" fn bidi_lay_out(
     place: &mut u64,
 ) -> u32
     ensures tables { held_at tables.new ≡ held_at tables.old }
-    ensures capacity { capacity_at room.new ≡ capacity_at room.old }
-    ensures other { room_in (held_at room.old) ≡ None → held_at room.new ≡ held_at room.old }
-    ensures kept { 0 < result → layout_at room.new ≡ layout_at room.old }
-    ensures refused { 0 < result → IsRefused (RefusesLayoutAt room.old tables.old codes.now direction
-        breaks.now) result place.new }
-    ensures unplaced { result ≡ 0 → place.new ≡ place.old }
-    ensures taken { result ≡ 0 → RoomTakes (held_at room.old) codes.now breaks.now }
-    ensures laid_out { result ≡ 0 → IsLayout standard (tables_at tables.old) codes.now direction breaks.now
-        (layout_at room.new) }
+    ensures room { AnswersAt (LaysOutCodes standard (held_at tables.old) codes.now direction breaks.now
+        (held_at room.old) (held_at room.new)) result place.old place.new }
 {
     let limits = Limits::standard();
     let done = lay_out(alloc, room, tables, codes, direction, breaks, limits);
@@ -85,15 +71,8 @@ fn lay_out_with(
     limits: BidiLimits,
 ) -> Result<(), Refusal>
     ensures tables { held_at tables.new ≡ held_at tables.old }
-    ensures capacity { capacity_at room.new ≡ capacity_at room.old }
-    ensures other { room_in (held_at room.old) ≡ None → held_at room.new ≡ held_at room.old }
-    ensures kept { OnErr result (layout_at room.new ≡ layout_at room.old) }
-    ensures refused { IfErr result (RefusesLayoutWithAt limits room.old tables.old codes.now direction breaks.now) }
-    ensures allowed { OnOk result (AreAllowed (limits_in limits)) }
-    ensures limits_first { (AreAllowed (limits_in limits) → ⊥) → IsErrAnd result (RefusesLimits limits) }
-    ensures taken { OnOk result (RoomTakes (held_at room.old) codes.now breaks.now) }
-    ensures laid_out { OnOk result (IsLayout (limits_in limits) (tables_at tables.old) codes.now direction breaks.now
-        (layout_at room.new)) }
+    ensures room { ByLimits limits (held_at room.new ≡ held_at room.old) (λ limits. LaysOutCodes limits
+        (held_at tables.old) codes.now direction breaks.now (held_at room.old) (held_at room.new)) result }
 {
     let allowed = limits.allowed()?;
     lay_out(alloc, room, tables, codes, direction, breaks, allowed)
@@ -113,17 +92,9 @@ pub extern "C" fn bidi_lay_out_with(
     place: &mut u64,
 ) -> u32
     ensures tables { held_at tables.new ≡ held_at tables.old }
-    ensures capacity { capacity_at room.new ≡ capacity_at room.old }
-    ensures other { room_in (held_at room.old) ≡ None → held_at room.new ≡ held_at room.old }
-    ensures kept { 0 < result → layout_at room.new ≡ layout_at room.old }
-    ensures refused { 0 < result → IsRefused (RefusesLayoutWithAt limits room.old tables.old codes.now direction
-        breaks.now) result place.new }
-    ensures allowed { result ≡ 0 → AreAllowed (limits_in limits) }
-    ensures limits_first { (AreAllowed (limits_in limits) → ⊥) → IsRefused (RefusesLimits limits) result place.new }
-    ensures unplaced { result ≡ 0 → place.new ≡ place.old }
-    ensures taken { result ≡ 0 → RoomTakes (held_at room.old) codes.now breaks.now }
-    ensures laid_out { result ≡ 0 → IsLayout (limits_in limits) (tables_at tables.old) codes.now direction breaks.now
-        (layout_at room.new) }
+    ensures room { AnswersAt (ByLimits limits (held_at room.new ≡ held_at room.old) (λ limits. LaysOutCodes limits
+        (held_at tables.old) codes.now direction breaks.now (held_at room.old) (held_at room.new))) result place.old
+        place.new }
 {
     let done = lay_out_with(alloc, room, tables, codes, direction, breaks, limits);
     answer(done, place)
@@ -137,13 +108,7 @@ fn lay_out_classes(
     breaks: &[usize],
     limits: Limits,
 ) -> Result<(), Refusal>
-    ensures capacity { capacity_at room.new ≡ capacity_at room.old }
-    ensures other { room_in (held_at room.old) ≡ None → held_at room.new ≡ held_at room.old }
-    ensures kept { OnErr result (layout_at room.new ≡ layout_at room.old) }
-    ensures refused { IfErr result (RefusesClassLayout (held_at room.old) numbers.now direction breaks.now) }
-    ensures taken { OnOk result (RoomTakesClasses (held_at room.old) numbers.now breaks.now) }
-    ensures laid_out { OnOk result (IsClassLayout limits numbers.now direction breaks.now
-        (layout_at room.new)) }
+    ensures { LaysOutClasses limits numbers.now direction breaks.now (held_at room.old) (held_at room.new) result }
 {
     let Some(mut held) = room.take(alloc) else {
         return Err(Refusal::NoRoom);
@@ -164,15 +129,8 @@ pub extern "C" fn bidi_lay_out_classes(
     breaks: &[usize],
     place: &mut u64,
 ) -> u32
-    ensures capacity { capacity_at room.new ≡ capacity_at room.old }
-    ensures other { room_in (held_at room.old) ≡ None → held_at room.new ≡ held_at room.old }
-    ensures kept { 0 < result → layout_at room.new ≡ layout_at room.old }
-    ensures refused { 0 < result → IsRefused (RefusesClassLayout (held_at room.old) numbers.now direction
-        breaks.now) result place.new }
-    ensures unplaced { result ≡ 0 → place.new ≡ place.old }
-    ensures taken { result ≡ 0 → RoomTakesClasses (held_at room.old) numbers.now breaks.now }
-    ensures laid_out { result ≡ 0 → IsClassLayout standard numbers.now direction breaks.now
-        (layout_at room.new) }
+    ensures { AnswersAt (LaysOutClasses standard numbers.now direction breaks.now (held_at room.old)
+        (held_at room.new)) result place.old place.new }
 {
     let limits = Limits::standard();
     let done = lay_out_classes(alloc, room, numbers, direction, breaks, limits);
@@ -187,15 +145,8 @@ fn lay_out_classes_with(
     breaks: &[usize],
     limits: BidiLimits,
 ) -> Result<(), Refusal>
-    ensures capacity { capacity_at room.new ≡ capacity_at room.old }
-    ensures other { room_in (held_at room.old) ≡ None → held_at room.new ≡ held_at room.old }
-    ensures kept { OnErr result (layout_at room.new ≡ layout_at room.old) }
-    ensures refused { IfErr result (RefusesClassLayoutWith limits (held_at room.old) numbers.now direction breaks.now) }
-    ensures allowed { OnOk result (AreAllowed (limits_in limits)) }
-    ensures limits_first { (AreAllowed (limits_in limits) → ⊥) → IsErrAnd result (RefusesLimits limits) }
-    ensures taken { OnOk result (RoomTakesClasses (held_at room.old) numbers.now breaks.now) }
-    ensures laid_out { OnOk result (IsClassLayout (limits_in limits) numbers.now direction breaks.now
-        (layout_at room.new)) }
+    ensures { ByLimits limits (held_at room.new ≡ held_at room.old) (λ limits. LaysOutClasses limits
+        numbers.now direction breaks.now (held_at room.old) (held_at room.new)) result }
 {
     let allowed = limits.allowed()?;
     lay_out_classes(alloc, room, numbers, direction, breaks, allowed)
@@ -212,17 +163,8 @@ pub extern "C" fn bidi_lay_out_classes_with(
     limits: BidiLimits,
     place: &mut u64,
 ) -> u32
-    ensures capacity { capacity_at room.new ≡ capacity_at room.old }
-    ensures other { room_in (held_at room.old) ≡ None → held_at room.new ≡ held_at room.old }
-    ensures kept { 0 < result → layout_at room.new ≡ layout_at room.old }
-    ensures refused { 0 < result → IsRefused (RefusesClassLayoutWith limits (held_at room.old) numbers.now direction
-        breaks.now) result place.new }
-    ensures allowed { result ≡ 0 → AreAllowed (limits_in limits) }
-    ensures limits_first { (AreAllowed (limits_in limits) → ⊥) → IsRefused (RefusesLimits limits) result place.new }
-    ensures unplaced { result ≡ 0 → place.new ≡ place.old }
-    ensures taken { result ≡ 0 → RoomTakesClasses (held_at room.old) numbers.now breaks.now }
-    ensures laid_out { result ≡ 0 → IsClassLayout (limits_in limits) numbers.now direction breaks.now
-        (layout_at room.new) }
+    ensures { AnswersAt (ByLimits limits (held_at room.new ≡ held_at room.old) (λ limits. LaysOutClasses limits
+        numbers.now direction breaks.now (held_at room.old) (held_at room.new))) result place.old place.new }
 {
     let done = lay_out_classes_with(alloc, room, numbers, direction, breaks, limits);
     answer(done, place)

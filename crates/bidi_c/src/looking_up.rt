@@ -1,13 +1,14 @@
 // What a room holds, copied out.
-ghost use Rattle.std.specs.Prelude.{◌≡◌, ◌≤◌, ◌<◌, OnOk, OnErr, IfErr, length, map, take, drop};
-ghost use Rattle.bidi_held.specs.Statuses.{IsRefusedFor};
+ghost use Rattle.std.specs.Prelude.{◌≡◌, length, map};
+ghost use Rattle.bidi_held.specs.Statuses.{Answers, Puts};
 ghost use Rattle.bidi_held.specs.Texts.{level_byte};
-ghost use Rattle.bidi_held.specs.LinesOut.{TellsLine, RefusesLine};
+ghost use Rattle.bidi_held.specs.LinesOut.{TellsOf, RefusesLine};
+ghost use Rattle.bidi_held.specs.Written.{WritesWhole};
 ghost use Rattle.bidi_c.specs.HeldAt.{held_at, layout_at, line_of_room};
 
 use crate::bidi_handle::BidiHandle;
 use bidi_held::lines_out::{BidiLine, tell_line, write_levels, write_order_of, write_para_levels};
-use bidi_held::refusal::{DONE, Refusal};
+use bidi_held::refusal::{Refusal, status};
 use std::alloc::Global;
 
 /// How many code points the text has that was laid out, 0 without a room. Their levels after L1 are written to
@@ -15,11 +16,7 @@ use std::alloc::Global;
 #[unsafe(no_mangle)]
 pub extern "C" fn bidi_levels(alloc: Global, room: &mut BidiHandle, levels: &mut [u8]) -> usize
     ensures room { held_at room.new ≡ held_at room.old }
-    ensures count { result ≡ length (layout_at room.old).levels }
-    ensures written { result ≤ length levels.old
-        → take result levels.new ≡ map level_byte (layout_at room.old).levels }
-    ensures behind { drop result levels.new ≡ drop result levels.old }
-    ensures unwritten { length levels.old < result → levels.new ≡ levels.old }
+    ensures levels { WritesWhole (map level_byte (layout_at room.old).levels) result levels.old levels.new }
 {
     let Some(held) = room.take(alloc) else {
         return 0;
@@ -36,10 +33,7 @@ pub extern "C" fn bidi_levels(alloc: Global, room: &mut BidiHandle, levels: &mut
 #[unsafe(no_mangle)]
 pub extern "C" fn bidi_para_levels(alloc: Global, room: &mut BidiHandle, levels: &mut [u8]) -> usize
     ensures room { held_at room.new ≡ held_at room.old }
-    ensures count { result ≡ length (layout_at room.old).paras }
-    ensures written { result ≤ length levels.old → take result levels.new ≡ (layout_at room.old).paras }
-    ensures behind { drop result levels.new ≡ drop result levels.old }
-    ensures unwritten { length levels.old < result → levels.new ≡ levels.old }
+    ensures levels { WritesWhole (layout_at room.old).paras result levels.old levels.new }
 {
     let Some(held) = room.take(alloc) else {
         return 0;
@@ -76,9 +70,7 @@ fn look_up_line(
     line: &mut BidiLine,
 ) -> Result<(), Refusal>
     ensures room { held_at room.new ≡ held_at room.old }
-    ensures line { OnOk result ((k < length (layout_at room.old).lines) × TellsLine (line_of_room room.old k) line.new) }
-    ensures kept { OnErr result (line.new ≡ line.old) }
-    ensures refused { IfErr result (RefusesLine (held_at room.old) k) }
+    ensures line { Puts (TellsOf (layout_at room.old) k) (RefusesLine (held_at room.old) k) line.old line.new result }
 {
     let Some(held) = room.take(alloc) else {
         return Err(Refusal::NoRoom);
@@ -100,14 +92,10 @@ pub extern "C" fn bidi_line(
     line: &mut BidiLine,
 ) -> u32
     ensures room { held_at room.new ≡ held_at room.old }
-    ensures line { result ≡ 0 → (k < length (layout_at room.old).lines) × TellsLine (line_of_room room.old k) line.new }
-    ensures kept { 0 < result → line.new ≡ line.old }
-    ensures refused { 0 < result → IsRefusedFor (RefusesLine (held_at room.old) k) result }
+    ensures line { Answers (Puts (TellsOf (layout_at room.old) k) (RefusesLine (held_at room.old) k) line.old
+        line.new) result }
 {
-    match look_up_line(alloc, room, k, line) {
-        Ok(()) => DONE,
-        Err(refusal) => refusal.code(),
-    }
+    status(look_up_line(alloc, room, k, line))
 }
 
 /// How many positions the order of the line with the number `k` has, 0 where there is no such line. They are written
@@ -120,10 +108,7 @@ pub extern "C" fn bidi_order(
     order: &mut [usize],
 ) -> usize
     ensures room { held_at room.new ≡ held_at room.old }
-    ensures count { result ≡ length (line_of_room room.old k).order }
-    ensures written { result ≤ length order.old → take result order.new ≡ (line_of_room room.old k).order }
-    ensures behind { drop result order.new ≡ drop result order.old }
-    ensures unwritten { length order.old < result → order.new ≡ order.old }
+    ensures order { WritesWhole (line_of_room room.old k).order result order.old order.new }
 {
     let Some(held) = room.take(alloc) else {
         return 0;

@@ -1,24 +1,19 @@
 // Rooms made and freed.
-ghost use Rattle.std.specs.Prelude.{◌≡◌, ◌<◌, [], None, Some, IfErr, OnOk, OnErr};
+ghost use Rattle.std.specs.Prelude.{◌≡◌, None};
 ghost use Rattle.std.specs.Option.{unwrap_or};
-ghost use Rattle.units.specs.Layout.{layout_of};
-ghost use Rattle.units.specs.Limits.{standard};
-ghost use Rattle.units.specs.declared.level.Direction.TheVariants.{Auto};
+ghost use Rattle.bidi_held.specs.Holdings.{IsNewRoom};
 ghost use Rattle.bidi_held.specs.RefusedCalls.{RefusesRoom};
-ghost use Rattle.bidi_held.specs.Statuses.{IsRefusedFor};
-ghost use Rattle.bidi_c.specs.HeldAt.{held_at, capacity_at, layout_at};
+ghost use Rattle.bidi_held.specs.Statuses.{Answers, Puts};
+ghost use Rattle.bidi_c.specs.HeldAt.{held_at, capacity_at};
 
 use crate::bidi_handle::BidiHandle;
 use bidi_held::held::Held;
-use bidi_held::refusal::{DONE, Refusal, of_room};
+use bidi_held::refusal::{Refusal, of_room, status};
 use bidi_held::room::Room;
 use std::alloc::Global;
 
 fn make_room(alloc: Global, n: usize, room: &mut BidiHandle) -> Result<(), Refusal>
-    ensures made { OnOk result (capacity_at room.new ≡ Some n) }
-    ensures empty { OnOk result (layout_at room.new ≡ layout_of standard [] Auto []) }
-    ensures kept { OnErr result (held_at room.new ≡ held_at room.old) }
-    ensures refused { IfErr result (RefusesRoom n) }
+    ensures { Puts (IsNewRoom n) (RefusesRoom n) (held_at room.old) (held_at room.new) result }
 {
     let made = Room::with_room(alloc, n).map_err(of_room)?;
     if room.hold(alloc, Held::Room(made)) {
@@ -32,15 +27,9 @@ fn make_room(alloc: Global, n: usize, room: &mut BidiHandle) -> Result<(), Refus
 /// held before is freed once the room is made; where it is refused, the handle holds that still.
 #[unsafe(no_mangle)]
 pub extern "C" fn bidi_room_new(alloc: Global, n: usize, room: &mut BidiHandle) -> u32
-    ensures made { result ≡ 0 → capacity_at room.new ≡ Some n }
-    ensures empty { result ≡ 0 → layout_at room.new ≡ layout_of standard [] Auto [] }
-    ensures kept { 0 < result → held_at room.new ≡ held_at room.old }
-    ensures refused { 0 < result → IsRefusedFor (RefusesRoom n) result }
+    ensures { Answers (Puts (IsNewRoom n) (RefusesRoom n) (held_at room.old) (held_at room.new)) result }
 {
-    match make_room(alloc, n, room) {
-        Ok(()) => DONE,
-        Err(refusal) => refusal.code(),
-    }
+    status(make_room(alloc, n, room))
 }
 
 /// Frees a room. The handle is all zero then, as it may be before.

@@ -1,13 +1,13 @@
 // Tables made of the bytes of their files, and asked.
-ghost use Rattle.std.specs.Prelude.{◌≡◌, ◌<◌, None, IfErr, OnOk, OnErr};
+ghost use Rattle.std.specs.Prelude.{◌≡◌, None};
 ghost use Rattle.std.specs.Char.{IsScalar};
-ghost use Rattle.bidi_held.specs.MadeTables.{HaveTables, RefusesTables, IsRefusedAt, image_by};
+ghost use Rattle.bidi_held.specs.MadeTables.{AnswersFault, MakesTables, image_by};
 ghost use Rattle.bidi_c.specs.HeldAt.{held_at, tables_at};
 
 use crate::bidi_handle::BidiHandle;
 use bidi_held::held::Held;
 use bidi_held::read_tables::{BidiFault, kind_in, mirror_image, read_tables};
-use bidi_held::refusal::{DONE, Refusal};
+use bidi_held::refusal::{Refusal, status};
 use std::alloc::Global;
 
 fn make_tables(
@@ -17,9 +17,7 @@ fn make_tables(
     mirrors: &[u8],
     tables: &mut BidiHandle,
 ) -> Result<(), Refusal>
-    ensures made { OnOk result (HaveTables (held_at tables.new) classes.now brackets.now mirrors.now) }
-    ensures kept { OnErr result (held_at tables.new ≡ held_at tables.old) }
-    ensures refused { IfErr result (RefusesTables classes.now brackets.now mirrors.now) }
+    ensures { MakesTables classes.now brackets.now mirrors.now (held_at tables.old) (held_at tables.new) result }
 {
     let made = read_tables(alloc, classes, brackets, mirrors)?;
     if tables.hold(alloc, Held::Tables(made)) {
@@ -41,22 +39,17 @@ pub extern "C" fn bidi_tables_new(
     tables: &mut BidiHandle,
     fault: &mut BidiFault,
 ) -> u32
-    ensures made { result ≡ 0 → HaveTables (held_at tables.new) classes.now brackets.now mirrors.now }
-    ensures kept { 0 < result → held_at tables.new ≡ held_at tables.old }
-    ensures unplaced { result ≡ 0 → fault.new ≡ fault.old }
-    ensures refused { 0 < result → IsRefusedAt (RefusesTables classes.now brackets.now mirrors.now) result
-        fault.new.line fault.new.kind }
+    ensures { AnswersFault (MakesTables classes.now brackets.now mirrors.now (held_at tables.old)
+        (held_at tables.new)) result fault.old fault.new }
 {
-    match make_tables(alloc, classes, brackets, mirrors, tables) {
-        Ok(()) => DONE,
-        Err(refusal) => {
-            *fault = BidiFault {
-                line: refusal.place(),
-                kind: kind_in(refusal),
-            };
-            refusal.code()
-        }
+    let done = make_tables(alloc, classes, brackets, mirrors, tables);
+    if let Err(refusal) = done {
+        *fault = BidiFault {
+            line: refusal.place(),
+            kind: kind_in(refusal),
+        };
     }
+    status(done)
 }
 
 /// Frees tables. The handle is all zero then, as it may be before.

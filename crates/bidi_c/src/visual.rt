@@ -1,13 +1,11 @@
 // A line from left to right, copied out.
-ghost use Rattle.std.specs.Prelude.{◌≡◌, ◌≤◌, ◌<◌, IfOk, IfErr, length, take, drop};
-ghost use Rattle.std.specs.List.{All};
-ghost use Rattle.std.specs.Char.{IsScalar};
-ghost use Rattle.bidi_held.specs.Statuses.{IsRefusedFor};
-ghost use Rattle.bidi_held.specs.Visual.{ArePlaces, IsRun, RefusesRun, span_of};
+ghost use Rattle.std.specs.Prelude.{◌≡◌, IfOk, IfErr};
+ghost use Rattle.bidi_held.specs.Statuses.{Answers, Puts};
+ghost use Rattle.bidi_held.specs.Visual.{IsRun, RefusesRun, WritesPlaces, WritesShown};
 ghost use Rattle.bidi_c.specs.HeldAt.{held_at, layout_at, line_of_room, shown_of_room};
 
 use crate::bidi_handle::BidiHandle;
-use bidi_held::refusal::{DONE, Refusal};
+use bidi_held::refusal::{Refusal, status};
 use bidi_held::visual_lines::{BidiRun, run_of, show, write_places_of};
 use std::alloc::Global;
 
@@ -22,10 +20,7 @@ pub extern "C" fn bidi_places(
     places: &mut [usize],
 ) -> usize
     ensures room { held_at room.new ≡ held_at room.old }
-    ensures count { result ≡ span_of (line_of_room room.old k) }
-    ensures written { result ≤ length places.old → ArePlaces (line_of_room room.old k) places.new }
-    ensures behind { drop result places.new ≡ drop result places.old }
-    ensures unwritten { length places.old < result → places.new ≡ places.old }
+    ensures places { WritesPlaces (line_of_room room.old k) result places.old places.new }
 {
     let Some(held) = room.take(alloc) else {
         return 0;
@@ -70,16 +65,15 @@ pub extern "C" fn bidi_run(
     run: &mut BidiRun,
 ) -> u32
     ensures room { held_at room.new ≡ held_at room.old }
-    ensures run { result ≡ 0 → IsRun (layout_at room.old).levels (line_of_room room.old k).order from run.new }
-    ensures kept { 0 < result → run.new ≡ run.old }
-    ensures refused { 0 < result → IsRefusedFor (RefusesRun (held_at room.old) k from) result }
+    ensures run { Answers (Puts (IsRun (layout_at room.old).levels (line_of_room room.old k).order from)
+        (RefusesRun (held_at room.old) k from) run.old run.new) result }
 {
     match look_up_run(alloc, room, k, from) {
         Ok(found) => {
             *run = found;
-            DONE
+            status(Ok(()))
         }
-        Err(refusal) => refusal.code(),
+        Err(refusal) => status(Err(refusal)),
     }
 }
 
@@ -98,11 +92,7 @@ pub extern "C" fn bidi_shown(
 ) -> usize
     ensures room { held_at room.new ≡ held_at room.old }
     ensures tables { held_at tables.new ≡ held_at tables.old }
-    ensures count { result ≡ length (shown_of_room room.old tables.old codes.now k) }
-    ensures written { All IsScalar codes.now → result ≤ length shown.old
-        → take result shown.new ≡ shown_of_room room.old tables.old codes.now k }
-    ensures behind { drop result shown.new ≡ drop result shown.old }
-    ensures unwritten { length shown.old < result → shown.new ≡ shown.old }
+    ensures shown { WritesShown codes.now (shown_of_room room.old tables.old codes.now k) result shown.old shown.new }
 {
     let Some(held) = room.take(alloc) else {
         return 0;

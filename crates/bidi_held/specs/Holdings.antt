@@ -1,7 +1,9 @@
 -- What a handle holds.
-use Rattle.std.specs.Prelude.{ℕ, Option, Some, None, [], slice_index_or}
+use Rattle.std.specs.Prelude.{ℕ, ◌≡◌, Option, Some, None, [], slice_index_or}
 use Rattle.std.specs.Option.{option_map}
-use Rattle.units.specs.Layout.{TextLayout, LineLayout}
+use Rattle.units.specs.Layout.{TextLayout, LineLayout, layout_of}
+use Rattle.units.specs.Limits.{standard}
+use Rattle.units.specs.declared.level.Direction.TheVariants.{Auto}
 use Rattle.ucdfiles.specs.Tables.{TablesOf}
 use Rattle.lines.specs.Layouts.{no_line}
 use Rattle.lines.specs.Scratches.{layout_in, room_of}
@@ -40,6 +42,7 @@ layout_held handle = layout_of_room (room_in handle)
 abbrev pub line_numbered : TextLayout → ℕ → LineLayout
 line_numbered layout k = slice_index_or layout.lines k no_line
 
--- its line with the number k
-abbrev pub line_held : Option Held → ℕ → LineLayout
-line_held handle k = line_numbered (layout_held handle) k
+-- there is room for n code points, with the layout of an empty text
+pub record IsNewRoom (n : ℕ) (handle : Option Held) : Type 0 where
+  pub capacity : capacity_in handle ≡ Some n
+  pub empty : layout_held handle ≡ layout_of standard [] Auto []

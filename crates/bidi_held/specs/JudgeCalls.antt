@@ -1,5 +1,5 @@
 -- What C is told of judges.
-use Rattle.std.specs.Prelude.{ℕ, ◌≡◌, ◌⊎◌, ◌++◌, Option, Some, None, List, [], MatchOption}
+use Rattle.std.specs.Prelude.{ℕ, ◌≡◌, ◌⊎◌, ◌++◌, Option, Some, None, IsSome, List, [], MatchOption, OnErr, OnOk}
 use Rattle.units.specs.Limits.{LimitsOf}
 use Rattle.units.specs.declared.level.Direction.{Direction}
 use Rattle.units.specs.declared.level.Direction.TheVariants.{Auto, Ltr, Rtl, AutoRtl}
@@ -13,12 +13,11 @@ use Rattle.bidtests.specs.declared.verdict.Verdict.TheVariants.{Yes, Malformed, 
 use Rattle.bidtests.specs.Standing.{HoldsFor}
 use Rattle.bidi_held.specs.Holdings.{tables_in}
 use Rattle.bidi_held.specs.Judged.{WasFed, verdict_by}
-use Rattle.bidi_held.specs.LimitsGiven.{RefusesLimits}
+use Rattle.bidi_held.specs.Statuses.{Outcome, Puts}
 use Rattle.bidi_held.specs.declared.held.Held.{Held}
 use Rattle.bidi_held.specs.declared.held.Held.TheVariants.{Judge}
 use Rattle.bidi_held.specs.declared.judge.TableJudge.{TableJudge}
 use Rattle.bidi_held.specs.declared.told_verdict.BidiVerdict.{BidiVerdict}
-use Rattle.bidi_held.specs.declared.limits.BidiLimits.{BidiLimits}
 use Rattle.bidi_held.specs.declared.refusal.Refusal.{Refusal}
 use Rattle.bidi_held.specs.declared.refusal.Refusal.TheVariants.{Memory, NoTables}
 
@@ -53,17 +52,21 @@ OfItsVerdict handle P =
 abbrev pub RefusesJudge : Refusal → Type 0
 RefusesJudge refusal = refusal ≡ Memory
 
--- a judge by limits that are handed in is refused for this reason
-abbrev pub RefusesJudgeWith : BidiLimits → Refusal → Type 0
-RefusesJudgeWith limits refusal = RefusesLimits limits refusal ⊎ RefusesJudge refusal
-
 -- a judge that takes over tables is refused for this reason: memory, or there are none
 abbrev pub RefusesTableJudge : Option Held → Refusal → Type 0
 RefusesTableJudge tables refusal = (refusal ≡ Memory) ⊎ ((refusal ≡ NoTables) × (tables_in tables ≡ None))
 
--- a judge that takes over tables, by limits that are handed in, is refused for this reason
-abbrev pub RefusesTableJudgeWith : BidiLimits → Option Held → Refusal → Type 0
-RefusesTableJudgeWith limits tables refusal = RefusesLimits limits refusal ⊎ RefusesTableJudge tables refusal
+-- what a call leaves in a handle that is to make a judge of a BidiTest.txt by these limits
+abbrev pub MakesJudge : LimitsOf → Option Held → Option Held → Outcome → Type 0
+MakesJudge limits old new outcome = Puts (λ judge. HandleWasFed limits judge None []) RefusesJudge old new outcome
+
+-- what a call leaves that is to make a judge of a BidiCharacterTest.txt by these limits: where it is done the judge has
+-- taken over the tables, else both handles keep what they hold
+pub record MakesTableJudge (limits : LimitsOf) (tables tables_new old new : Option Held) (outcome : Outcome) : Type 0 where
+  pub made : Puts (λ judge. HandleWasFed limits judge (tables_in tables) []) (RefusesTableJudge tables) old new outcome
+  pub some : OnOk outcome (IsSome (tables_in tables))
+  pub taken : OnOk outcome (tables_new ≡ None)
+  pub kept : OnErr outcome (tables_new ≡ tables)
 
 -- the number of a direction
 abbrev pub direction_number : Direction → ℕ

@@ -7,6 +7,7 @@ pub mod Refusals
 pub mod RefusedCalls
 pub mod MadeTables
 pub mod LaidOut
+pub mod Written
 pub mod LinesOut
 pub mod Visual
 pub mod Judged

@@ -1,6 +1,7 @@
 -- The limits that C hands in.
-use Rattle.std.specs.Prelude.{◌≡◌, ◌<◌, ◌≤◌, ◌⊎◌}
-use Rattle.units.specs.Limits.{LimitsOf}
+use Rattle.std.specs.Prelude.{◌≡◌, ◌<◌, ◌≤◌, ◌⊎◌, IsErrAnd}
+use Rattle.units.specs.Limits.{LimitsOf, AreAllowed}
+use Rattle.bidi_held.specs.Statuses.{Outcome}
 use Rattle.bidi_held.specs.declared.limits.BidiLimits.{BidiLimits}
 use Rattle.bidi_held.specs.declared.refusal.Refusal.{Refusal}
 use Rattle.bidi_held.specs.declared.refusal.Refusal.TheVariants.{Depth, Brackets}
@@ -15,3 +16,10 @@ abbrev pub RefusesLimits : BidiLimits → Refusal → Type 0
 RefusesLimits limits Depth = (limits.depth ≡ 0) ⊎ (125 < limits.depth)
 RefusesLimits limits Brackets = (1 ≤ limits.depth) × (limits.depth ≤ 125) × (63 < limits.brackets)
 RefusesLimits limits _ = ⊥
+
+-- a call by limits that are handed in looks at them before all else: where they aren't allowed it is refused for that
+-- and keeps what there is, else it comes to what it comes to by them
+pub record ByLimits (given : BidiLimits) (Keeps : Type 0) (IsSo : LimitsOf → Outcome → Type 0) (outcome : Outcome) : Type 0 where
+  pub refused : (AreAllowed (limits_in given) → ⊥) → IsErrAnd outcome (RefusesLimits given)
+  pub kept : (AreAllowed (limits_in given) → ⊥) → Keeps
+  pub allowed : AreAllowed (limits_in given) → IsSo (limits_in given) outcome

@@ -1,7 +1,7 @@
 -- Lines as C is told of them.
-use Rattle.std.specs.Prelude.{ℕ, ◌≡◌, ◌≤◌, ◌⊎◌, Option, None, length}
-use Rattle.units.specs.Layout.{LineLayout}
-use Rattle.bidi_held.specs.Holdings.{room_in, layout_held}
+use Rattle.std.specs.Prelude.{ℕ, ◌≡◌, ◌≤◌, ◌<◌, ◌⊎◌, Option, None, length}
+use Rattle.units.specs.Layout.{LineLayout, TextLayout}
+use Rattle.bidi_held.specs.Holdings.{room_in, layout_held, line_numbered}
 use Rattle.bidi_held.specs.declared.held.Held.{Held}
 use Rattle.bidi_held.specs.declared.refusal.Refusal.{Refusal}
 use Rattle.bidi_held.specs.declared.refusal.Refusal.TheVariants.{NoRoom, NoLine}
@@ -13,7 +13,14 @@ pub record TellsLine (line : LineLayout) (told : BidiLine) : Type 0 where
   pub end : told.end ≡ line.end
   pub shown : told.shown ≡ length line.order
 
+-- this tells of the line with the number k, and there is such a line
+abbrev pub TellsOf : TextLayout → ℕ → BidiLine → Type 0
+TellsOf layout k told = (k < length layout.lines) × TellsLine (line_numbered layout k) told
+
+-- the line with the number k is refused for this reason: there is no such line
+abbrev pub LayoutRefusesLine : TextLayout → ℕ → Refusal → Type 0
+LayoutRefusesLine layout k refusal = (refusal ≡ NoLine) × (length layout.lines ≤ k)
+
 -- the line with the number k is refused for this reason: there is no room, or no such line
 abbrev pub RefusesLine : Option Held → ℕ → Refusal → Type 0
-RefusesLine room k refusal =
-    ((refusal ≡ NoRoom) × (room_in room ≡ None)) ⊎ ((refusal ≡ NoLine) × (length (layout_held room).lines ≤ k))
+RefusesLine room k refusal = ((refusal ≡ NoRoom) × (room_in room ≡ None)) ⊎ LayoutRefusesLine (layout_held room) k refusal

@@ -1,5 +1,5 @@
 -- Tables made of the bytes of their files.
-use Rattle.std.specs.Prelude.{ℕ, ◌≡◌, ◌⊎◌, Option, Some, None, IsSome, List, MatchOption}
+use Rattle.std.specs.Prelude.{ℕ, ◌≡◌, ◌⊎◌, Option, Some, None, IsSome, List, MatchOption, Ok, Err}
 use Rattle.std.specs.Option.{unwrap_or}
 use Rattle.ucdfiles.specs.Files.{StateTables, IsFirstFaulty}
 use Rattle.ucdfiles.specs.Faults.{line_of_fault}
@@ -9,8 +9,9 @@ use Rattle.ucdfiles.specs.declared.fault.TableFault.TheVariants as table
 use Rattle.ucdfiles.specs.declared.files.FileFault.{FileFault}
 use Rattle.ucdfiles.specs.declared.files.FileFault.TheVariants.{Classes, Brackets, Mirrors}
 use Rattle.bidi_held.specs.Holdings.{tables_in}
-use Rattle.bidi_held.specs.Statuses.{code_of, place_of}
+use Rattle.bidi_held.specs.Statuses.{Outcome, Puts, place_of, status_of}
 use Rattle.bidi_held.specs.declared.held.Held.{Held}
+use Rattle.bidi_held.specs.declared.read_tables.BidiFault.{BidiFault}
 use Rattle.bidi_held.specs.declared.refusal.Refusal.{Refusal}
 use Rattle.bidi_held.specs.declared.refusal.Refusal.TheVariants.{Memory, ClassFile, BracketFile, MirrorFile}
 
@@ -37,6 +38,11 @@ RefusesTables classes brackets mirrors refusal =
     ⊎ ((fault : FileFault) × (refusal ≡ refusal_of_file fault) × IsOfLine fault
     × IsFirstFaulty classes brackets mirrors fault)
 
+-- what a call leaves in a handle that is to make tables of files with these bytes
+abbrev pub MakesTables : List ℕ → List ℕ → List ℕ → Option Held → Option Held → Outcome → Type 0
+MakesTables classes brackets mirrors old new outcome =
+    Puts (λ held. HaveTables held classes brackets mirrors) (RefusesTables classes brackets mirrors) old new outcome
+
 -- the number of the kind of a fault, 0 where it is none of a line
 abbrev pub fault_number : TableFault → ℕ
 fault_number (table.CodePoint line) = 1
@@ -58,14 +64,17 @@ fault_number_in (BracketFile fault) = fault_number fault
 fault_number_in (MirrorFile fault) = fault_number fault
 fault_number_in _ = 0
 
--- a call that answers this number, names this line and this kind of fault is refused for a reason that it may be
--- refused for
-pub record IsRefusedAt (Refuses : Refusal → Type 0) (number line kind : ℕ) : Type 0 where
-  pub refusal : Refusal
-  pub coded : number ≡ code_of refusal
-  pub placed : line ≡ place_of refusal
-  pub told : kind ≡ fault_number_in refusal
-  pub reason : Refuses refusal
+-- what is said of the fault: where the call is done, what was said before
+abbrev pub fault_named : Outcome → BidiFault → BidiFault
+fault_named (Ok done) before = before
+fault_named (Err refusal) before = record { line = place_of refusal; kind = fault_number_in refusal }
+
+-- a call answers this number, and says what is wrong where it is refused, and what it comes to is so
+pub record AnswersFault (IsSo : Outcome → Type 0) (number : ℕ) (before after : BidiFault) : Type 0 where
+  pub outcome : Outcome
+  pub coded : number ≡ status_of outcome
+  pub told : after ≡ fault_named outcome before
+  pub so : IsSo outcome
 
 -- the mirror image of a character by the tables, itself where it has none
 abbrev pub image_by : Option TablesOf → ℕ → ℕ

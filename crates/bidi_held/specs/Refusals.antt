@@ -1,5 +1,5 @@
 -- Why a text is not laid out.
-use Rattle.std.specs.Prelude.{ℕ, ◌<◌, ◌≤◌, ◌≡◌, ◌≢◌, None, List, length, slice_index}
+use Rattle.std.specs.Prelude.{ℕ, ◌<◌, ◌≤◌, ◌≡◌, ◌≢◌, ◌⊎◌, None, List, length, slice_index}
 use Rattle.std.specs.Char.{IsScalar}
 use Rattle.lines.specs.LineBreaks.{AreBreaks, IsFirstBreakFault}
 use Rattle.lines.specs.declared.breaks.BreakFault.TheVariants.{OutOfRange, NotRising}
@@ -7,44 +7,41 @@ use Rattle.bidi_held.specs.Texts.{class_numbered}
 use Rattle.bidi_held.specs.declared.refusal.Refusal.{Refusal}
 use Rattle.bidi_held.specs.declared.refusal.Refusal.TheVariants.{TooLong, NoCharacter, NoClass, BreakOutOfRange, BreakNotRising}
 
--- the index is that of the first code point that is no scalar value
-pub record IsFirstNoCharacter (codes : List ℕ) (index : ℕ) : Type 0 where
-  pub inside : index < length codes
-  pub outside : IsScalar (slice_index codes index) → ⊥
-  pub earlier : (k : ℕ) → k < index → IsScalar (slice_index codes k)
+-- a class has this number
+abbrev pub IsClassNumber : ℕ → Type 0
+IsClassNumber number = class_numbered number ≢ None
 
--- the index is that of the first number that is no class
-pub record IsFirstNoClass (numbers : List ℕ) (index : ℕ) : Type 0 where
+-- the index is that of the first number which isn't of this kind
+pub record IsFirstOther (IsOfKind : ℕ → Type 0) (numbers : List ℕ) (index : ℕ) : Type 0 where
   pub inside : index < length numbers
-  pub outside : class_numbered (slice_index numbers index) ≡ None
-  pub earlier : (k : ℕ) → k < index → class_numbered (slice_index numbers k) ≢ None
+  pub outside : IsOfKind (slice_index numbers index) → ⊥
+  pub earlier : (k : ℕ) → k < index → IsOfKind (slice_index numbers k)
 
--- a room for so many takes the text of these code points, with these breaks
-pub record TakesText (capacity : ℕ) (codes breaks : List ℕ) : Type 0 where
-  pub fits : length codes ≤ capacity
-  pub inside : AreBreaks breaks (length codes)
-  pub scalars : (k : ℕ) → k < length codes → IsScalar (slice_index codes k)
-
--- a room for so many takes the text of the classes with these numbers, with these breaks
-pub record TakesClasses (capacity : ℕ) (numbers breaks : List ℕ) : Type 0 where
+-- a room for so many takes a text of numbers of this kind, with these breaks
+pub record Takes (IsOfKind : ℕ → Type 0) (capacity : ℕ) (numbers breaks : List ℕ) : Type 0 where
   pub fits : length numbers ≤ capacity
   pub inside : AreBreaks breaks (length numbers)
-  pub classes : (k : ℕ) → k < length numbers → class_numbered (slice_index numbers k) ≢ None
+  pub all : (k : ℕ) → k < length numbers → IsOfKind (slice_index numbers k)
 
--- a room for so many refuses the text of these code points for this reason
-abbrev pub RefusesText : ℕ → List ℕ → List ℕ → Refusal → Type 0
-RefusesText capacity codes breaks TooLong = capacity < length codes
-RefusesText capacity codes breaks (BreakOutOfRange index) = IsFirstBreakFault breaks (length codes) (OutOfRange index)
-RefusesText capacity codes breaks (BreakNotRising index) = IsFirstBreakFault breaks (length codes) (NotRising index)
-RefusesText capacity codes breaks (NoCharacter index) = IsFirstNoCharacter codes index
-RefusesText capacity codes breaks _ = ⊥
+-- breaks of a text of n are refused for this reason
+abbrev pub RefusesBreaks : List ℕ → ℕ → Refusal → Type 0
+RefusesBreaks breaks n (BreakOutOfRange index) = IsFirstBreakFault breaks n (OutOfRange index)
+RefusesBreaks breaks n (BreakNotRising index) = IsFirstBreakFault breaks n (NotRising index)
+RefusesBreaks breaks n _ = ⊥
 
--- a room for so many refuses the text of the classes with these numbers for this reason
-abbrev pub RefusesClasses : ℕ → List ℕ → List ℕ → Refusal → Type 0
-RefusesClasses capacity numbers breaks TooLong = capacity < length numbers
-RefusesClasses capacity numbers breaks (BreakOutOfRange index) =
-    IsFirstBreakFault breaks (length numbers) (OutOfRange index)
-RefusesClasses capacity numbers breaks (BreakNotRising index) =
-    IsFirstBreakFault breaks (length numbers) (NotRising index)
-RefusesClasses capacity numbers breaks (NoClass index) = IsFirstNoClass numbers index
-RefusesClasses capacity numbers breaks _ = ⊥
+-- the code points are refused for this reason
+abbrev pub RefusesCodes : List ℕ → Refusal → Type 0
+RefusesCodes codes (NoCharacter index) = IsFirstOther IsScalar codes index
+RefusesCodes codes _ = ⊥
+
+-- the numbers of classes are refused for this reason
+abbrev pub RefusesNumbered : List ℕ → Refusal → Type 0
+RefusesNumbered numbers (NoClass index) = IsFirstOther IsClassNumber numbers index
+RefusesNumbered numbers _ = ⊥
+
+-- a room for so many refuses a text of n for this reason: its length; where that fits the breaks; where they are right
+-- what the text holds
+abbrev pub Refuses : ℕ → ℕ → List ℕ → (Refusal → Type 0) → Refusal → Type 0
+Refuses capacity n breaks RefusesText refusal =
+    ((refusal ≡ TooLong) × (capacity < n))
+    ⊎ ((n ≤ capacity) × (RefusesBreaks breaks n refusal ⊎ (AreBreaks breaks n × RefusesText refusal)))

@@ -1,5 +1,5 @@
 -- The numbers that say why a call is refused.
-use Rattle.std.specs.Prelude.{ℕ, ◌≡◌}
+use Rattle.std.specs.Prelude.{ℕ, ◌≡◌, Result, Ok, Err, IfErr, OnErr, OnOk}
 use Rattle.std.specs.Option.{unwrap_or}
 use Rattle.ucdfiles.specs.Faults.{line_of_fault}
 use Rattle.bidi_held.specs.declared.refusal.Refusal.{Refusal}
@@ -39,15 +39,36 @@ place_of (BracketFile fault) = unwrap_or (line_of_fault fault) 0
 place_of (MirrorFile fault) = unwrap_or (line_of_fault fault) 0
 place_of _ = 0
 
--- a call that answers this number is refused for a reason that it may be refused for
-pub record IsRefusedFor (Refuses : Refusal → Type 0) (number : ℕ) : Type 0 where
-  pub refusal : Refusal
-  pub coded : number ≡ code_of refusal
-  pub reason : Refuses refusal
+-- what a call comes to: it is done, or refused
+abbrev pub Outcome : Type 0
+Outcome = Result (Unit {0}) Refusal
 
--- a call that answers this number and names this place is refused for a reason that it may be refused for
-pub record IsRefused (Refuses : Refusal → Type 0) (number place : ℕ) : Type 0 where
-  pub refusal : Refusal
-  pub coded : number ≡ code_of refusal
-  pub placed : place ≡ place_of refusal
-  pub reason : Refuses refusal
+-- the number that a call answers which comes to this
+abbrev pub status_of : Outcome → ℕ
+status_of (Ok done) = 0
+status_of (Err refusal) = code_of refusal
+
+-- the place that it names; where it is done, that from before
+abbrev pub place_named : Outcome → ℕ → ℕ
+place_named (Ok done) before = before
+place_named (Err refusal) before = place_of refusal
+
+-- a call answers this number, and what it comes to is so
+pub record Answers (IsSo : Outcome → Type 0) (number : ℕ) : Type 0 where
+  pub outcome : Outcome
+  pub coded : number ≡ status_of outcome
+  pub so : IsSo outcome
+
+-- a call answers this number, and names a place where it is refused, and what it comes to is so
+pub record AnswersAt (IsSo : Outcome → Type 0) (number before after : ℕ) : Type 0 where
+  pub outcome : Outcome
+  pub coded : number ≡ status_of outcome
+  pub placed : after ≡ place_named outcome before
+  pub so : IsSo outcome
+
+-- a call that is to put something right into a place: where it is done it has put it there, else the place keeps what it
+-- has, and the call is refused for a reason
+pub record Puts {A : Type 0} (IsRight : A → Type 0) (IsRefused : Refusal → Type 0) (old new : A) (outcome : Outcome) : Type 0 where
+  pub right : OnOk outcome (IsRight new)
+  pub kept : OnErr outcome (new ≡ old)
+  pub refused : IfErr outcome IsRefused

@@ -1,10 +1,11 @@
 -- The line that says a verdict, of its numbers.
-use Rattle.std.specs.Prelude.{ℕ, ◌≡◌, ◌≢◌, ◌<◌, ◌^◌, ◌⊎◌, List, length}
+use Rattle.std.specs.Prelude.{ℕ, ◌≡◌, ◌≢◌, ◌<◌, ◌≤◌, ◌^◌, ◌⊎◌, ◌++◌, List, Err, IfErr, OnErr, OnOk, length, drop}
 use Rattle.bidtests.specs.VerdictText.{verdict_text}
 use Rattle.bidtests.specs.declared.verdict.Place.{Place}
 use Rattle.bidtests.specs.declared.verdict.Verdict.{Verdict}
 use Rattle.bidtests.specs.declared.verdict.Verdict.TheVariants.{Yes, Malformed, Wrong}
 use Rattle.bidi_held.specs.JudgeCalls.{verdict_told, index_in}
+use Rattle.bidi_held.specs.Statuses.{Outcome}
 use Rattle.bidi_held.specs.declared.refusal.Refusal.{Refusal}
 use Rattle.bidi_held.specs.declared.refusal.Refusal.TheVariants.{Memory, NoVerdict, TooSmall}
 use Rattle.bidi_held.specs.declared.told_verdict.BidiVerdict.{BidiVerdict}
@@ -41,3 +42,15 @@ IsLongerThan numbers place = (line : List ℕ) × IsVerdictLine numbers line × 
 abbrev pub RefusesVerdictText : BidiVerdict → ℕ → Refusal → Type 0
 RefusesVerdictText numbers place refusal =
     RefusesNumbers numbers refusal ⊎ ((refusal ≡ TooSmall) × IsLongerThan numbers place)
+
+-- what a call leaves that is to write the line of these numbers: where it is done the line stands whole in front of what
+-- was there, else what was there stays, for a reason; where the numbers tell a verdict and there was memory the length
+-- that is named is the line's, 72 at most, else it stays
+pub record SaysVerdict (numbers : BidiVerdict) (old new : List ℕ) (before after : ℕ) (outcome : Outcome) : Type 0 where
+  pub fits : OnOk outcome ((line : List ℕ) × IsVerdictLine numbers line × (length line ≤ length old))
+  pub written : OnOk outcome ((line : List ℕ) → IsVerdictLine numbers line → new ≡ line ++ drop (length line) old)
+  pub kept : OnErr outcome (new ≡ old)
+  pub refused : IfErr outcome (RefusesVerdictText numbers (length old))
+  pub said : (line : List ℕ) → IsVerdictLine numbers line → outcome ≢ Err Memory → after ≡ length line
+  pub short : IfErr outcome (λ refusal. refusal ≡ TooSmall) → after ≤ 72
+  pub unsaid : IfErr outcome (λ refusal. refusal ≢ TooSmall → after ≡ before)

@@ -1,9 +1,7 @@
 // Texts laid out in what is held.
-ghost use Rattle.std.specs.Prelude.{◌≡◌, IfErr, OnOk, OnErr, None, Some};
-ghost use Rattle.bidi_held.specs.RefusedCalls.{RoomTakes, RoomTakesClasses, RefusesLayout, RefusesClassLayout};
+ghost use Rattle.std.specs.Prelude.{◌≡◌, Some};
 ghost use Rattle.bidi_held.specs.Texts.{direction_numbered};
-ghost use Rattle.bidi_held.specs.Holdings.{capacity_in, tables_in, room_in, layout_held};
-ghost use Rattle.bidi_held.specs.LaidOut.{IsLayout, IsClassLayout};
+ghost use Rattle.bidi_held.specs.LaidOut.{LaysOutClasses, LaysOutCodes};
 
 use crate::held::Held;
 use crate::refusal::Refusal;
@@ -32,13 +30,8 @@ pub fn lay_out_held(
     breaks: &[usize],
     limits: Limits,
 ) -> Result<(), Refusal>
-    ensures capacity { capacity_in (Some room.new) ≡ capacity_in (Some room.old) }
-    ensures other { room_in (Some room.old) ≡ None → room.new ≡ room.old }
-    ensures kept { OnErr result (layout_held (Some room.new) ≡ layout_held (Some room.old)) }
-    ensures refused { IfErr result (RefusesLayout (Some room.old) (Some tables.now) codes.now direction breaks.now) }
-    ensures taken { OnOk result (RoomTakes (Some room.old) codes.now breaks.now) }
-    ensures laid_out { OnOk result (IsLayout limits (tables_in (Some tables.now)) codes.now direction breaks.now
-        (layout_held (Some room.new))) }
+    ensures { LaysOutCodes limits (Some tables.now) codes.now direction breaks.now (Some room.old) (Some room.new)
+        result }
 {
     let Held::Room(room) = room else {
         return Err(Refusal::NoRoom);
@@ -60,13 +53,7 @@ pub fn lay_out_classes_held(
     breaks: &[usize],
     limits: Limits,
 ) -> Result<(), Refusal>
-    ensures capacity { capacity_in (Some room.new) ≡ capacity_in (Some room.old) }
-    ensures other { room_in (Some room.old) ≡ None → room.new ≡ room.old }
-    ensures kept { OnErr result (layout_held (Some room.new) ≡ layout_held (Some room.old)) }
-    ensures refused { IfErr result (RefusesClassLayout (Some room.old) numbers.now direction breaks.now) }
-    ensures taken { OnOk result (RoomTakesClasses (Some room.old) numbers.now breaks.now) }
-    ensures laid_out { OnOk result (IsClassLayout limits numbers.now direction breaks.now
-        (layout_held (Some room.new))) }
+    ensures { LaysOutClasses limits numbers.now direction breaks.now (Some room.old) (Some room.new) result }
 {
     let Held::Room(room) = room else {
         return Err(Refusal::NoRoom);

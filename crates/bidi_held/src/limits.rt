@@ -1,10 +1,10 @@
 // The limits that C hands in.
-ghost use Rattle.std.specs.Prelude.{◌≡◌, IfOk, IfErr, OnOk};
+ghost use Rattle.std.specs.Prelude.{◌≡◌, IfOk, IfErr, OnErr, OnOk};
 ghost use Rattle.units.specs.Limits.{AreAllowed};
 ghost use Rattle.bidi_held.specs.LimitsGiven.{limits_in, RefusesLimits};
 
-use crate::refusal::{Refusal, of_limits};
-use units::limits::Limits;
+use crate::refusal::Refusal;
+use units::limits::{LimitFault, Limits};
 
 /// How deep explicit levels go (BD2), and how many brackets can be open at once (BD16).
 #[repr(C)]
@@ -22,10 +22,12 @@ impl BidiLimits {
         ensures limits { IfOk result (λ limits. limits ≡ limits_in self) }
         ensures allowed { OnOk result (AreAllowed (limits_in self)) }
         ensures refused { IfErr result (RefusesLimits self) }
+        ensures forbidden { OnErr result (AreAllowed (limits_in self) → ⊥) }
     {
         match Limits::new(self.depth, self.brackets) {
             Ok(limits) => Ok(limits),
-            Err(fault) => Err(of_limits(fault)),
+            Err(LimitFault::Depth) => Err(Refusal::Depth),
+            Err(LimitFault::Brackets) => Err(Refusal::Brackets),
         }
     }
 }

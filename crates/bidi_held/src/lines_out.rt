@@ -1,10 +1,12 @@
 // What a room holds, written out.
-ghost use Rattle.std.specs.Prelude.{◌≡◌, ◌≤◌, ◌<◌, Err, IsOk, length, map, take, drop};
+ghost use Rattle.std.specs.Prelude.{◌≡◌, map};
 ghost use Rattle.units.specs.Isolates.{level_of_para};
 ghost use Rattle.lines.specs.Layouts.{view_of};
 ghost use Rattle.bidi_held.specs.Holdings.{line_numbered};
 ghost use Rattle.bidi_held.specs.Texts.{level_byte};
-ghost use Rattle.bidi_held.specs.LinesOut.{TellsLine};
+ghost use Rattle.bidi_held.specs.LinesOut.{LayoutRefusesLine, TellsOf};
+ghost use Rattle.bidi_held.specs.Statuses.{Puts};
+ghost use Rattle.bidi_held.specs.Written.{WritesWhole};
 
 use crate::refusal::Refusal;
 use lines::layout::Layout;
@@ -34,10 +36,7 @@ pub(crate) fn byte_of(level: Option<Level>) -> u8
 
 /// Writes the levels to the front of `out`, if all have place there. It answers how many they are.
 pub fn write_levels(levels: &[Option<Level>], out: &mut [u8]) -> usize
-    ensures count { result ≡ length levels.now }
-    ensures levels { length levels.now ≤ length out.old → take (length levels.now) out.new ≡ map level_byte levels.now }
-    ensures behind { drop (length levels.now) out.new ≡ drop (length levels.now) out.old }
-    ensures kept { length out.old < length levels.now → out.new ≡ out.old }
+    ensures { WritesWhole (map level_byte levels.now) result out.old out.new }
 {
     if levels.len() <= out.len() {
         for i in 0..levels.len() {
@@ -49,11 +48,7 @@ pub fn write_levels(levels: &[Option<Level>], out: &mut [u8]) -> usize
 
 /// Writes the paragraphs' levels to the front of `out`, if all have place there. It answers how many they are.
 pub fn write_para_levels(levels: &[ParaLevel], out: &mut [u8]) -> usize
-    ensures count { result ≡ length levels.now }
-    ensures levels { length levels.now ≤ length out.old
-        → take (length levels.now) out.new ≡ map level_of_para levels.now }
-    ensures behind { drop (length levels.now) out.new ≡ drop (length levels.now) out.old }
-    ensures kept { length out.old < length levels.now → out.new ≡ out.old }
+    ensures { WritesWhole (map level_of_para levels.now) result out.old out.new }
 {
     if levels.len() <= out.len() {
         for i in 0..levels.len() {
@@ -65,10 +60,7 @@ pub fn write_para_levels(levels: &[ParaLevel], out: &mut [u8]) -> usize
 
 /// Writes positions to the front of `out`, if all have place there. It answers how many they are.
 fn write_order(order: &[usize], out: &mut [usize]) -> usize
-    ensures count { result ≡ length order.now }
-    ensures order { length order.now ≤ length out.old → take (length order.now) out.new ≡ order.now }
-    ensures behind { drop (length order.now) out.new ≡ drop (length order.now) out.old }
-    ensures kept { length out.old < length order.now → out.new ≡ out.old }
+    ensures { WritesWhole order.now result out.old out.new }
 {
     if order.len() <= out.len() {
         out[..order.len()].copy_from_slice(order);
@@ -78,10 +70,7 @@ fn write_order(order: &[usize], out: &mut [usize]) -> usize
 
 /// Writes the order of the line with the number `k`, if there is one.
 pub fn write_order_of(layout: &Layout<'_>, k: usize, out: &mut [usize]) -> usize
-    ensures count { result ≡ length (line_numbered (view_of layout.now) k).order }
-    ensures order { result ≤ length out.old → take result out.new ≡ (line_numbered (view_of layout.now) k).order }
-    ensures behind { drop result out.new ≡ drop result out.old }
-    ensures kept { length out.old < result → out.new ≡ out.old }
+    ensures { WritesWhole (line_numbered (view_of layout.now) k).order result out.old out.new }
 {
     if layout.line_count() <= k {
         return 0;
@@ -91,9 +80,8 @@ pub fn write_order_of(layout: &Layout<'_>, k: usize, out: &mut [usize]) -> usize
 
 /// Tells of the line with the number `k`, if there is one.
 pub fn tell_line(layout: &Layout<'_>, k: usize, line: &mut BidiLine) -> Result<(), Refusal>
-    ensures none { length (view_of layout.now).lines ≤ k → (result ≡ Err Refusal.NoLine) × (line.new ≡ line.old) }
-    ensures line { k < length (view_of layout.now).lines
-        → IsOk result × TellsLine (line_numbered (view_of layout.now) k) line.new }
+    ensures { Puts (TellsOf (view_of layout.now) k) (LayoutRefusesLine (view_of layout.now) k) line.old line.new
+        result }
 {
     if layout.line_count() <= k {
         return Err(Refusal::NoLine);

@@ -1,11 +1,9 @@
 // Why a call is refused, and the numbers that say so.
-ghost use Rattle.std.specs.Prelude.{◌≡◌, ◌↔◌, ℕ, IsOk, IfErr};
-ghost use Rattle.bidi_held.specs.Statuses.{code_of, place_of};
+ghost use Rattle.std.specs.Prelude.{◌≡◌, ◌<◌, ◌↔◌};
+ghost use Rattle.bidi_held.specs.Statuses.{code_of, place_of, place_named, status_of};
 
-use lines::breaks::BreakFault;
 use lines::scratch::RoomFault;
 use ucdfiles::fault::TableFault;
-use units::limits::LimitFault;
 
 /// Why a call is refused.
 #[derive(Clone, Copy, Debug, PartialEq, Eq)]
@@ -56,9 +54,10 @@ pub enum Refusal {
 pub const DONE: u32 = 0;
 
 impl Refusal {
-    /// What a call answers that is refused so.
+    /// What a call answers that is refused so; it is never what one answers that is done.
     pub fn code(self) -> u32
-        ensures { result ≡ code_of self }
+        ensures coded { result ≡ code_of self }
+        ensures refused { 0 < result }
     {
         match self {
             Refusal::Memory => 1,
@@ -100,17 +99,6 @@ impl Refusal {
     }
 }
 
-/// How faulty breaks are refused.
-pub fn of_breaks(fault: BreakFault) -> Refusal
-    ensures range { (index : ℕ) → fault ≡ BreakFault.OutOfRange index → result ≡ Refusal.BreakOutOfRange index }
-    ensures rising { (index : ℕ) → fault ≡ BreakFault.NotRising index → result ≡ Refusal.BreakNotRising index }
-{
-    match fault {
-        BreakFault::OutOfRange(index) => Refusal::BreakOutOfRange(index),
-        BreakFault::NotRising(index) => Refusal::BreakNotRising(index),
-    }
-}
-
 /// How room that is not made is refused.
 pub fn of_room(fault: RoomFault) -> Refusal
     ensures too_big { (result ≡ Refusal.TooBig) ↔ (fault ≡ RoomFault.TooBig) }
@@ -122,28 +110,23 @@ pub fn of_room(fault: RoomFault) -> Refusal
     }
 }
 
-/// How limits that are not allowed are refused.
-pub fn of_limits(fault: LimitFault) -> Refusal
-    ensures depth { fault ≡ LimitFault.Depth → result ≡ Refusal.Depth }
-    ensures brackets { fault ≡ LimitFault.Brackets → result ≡ Refusal.Brackets }
+/// What a call answers that comes to this.
+pub fn status(outcome: Result<(), Refusal>) -> u32
+    ensures { result ≡ status_of outcome }
 {
-    match fault {
-        LimitFault::Depth => Refusal::Depth,
-        LimitFault::Brackets => Refusal::Brackets,
+    match outcome {
+        Ok(()) => DONE,
+        Err(refusal) => refusal.code(),
     }
 }
 
-/// What a call answers, and the place that it names; where it is not refused, the place stays as it was.
-pub fn answer(done: Result<(), Refusal>, place: &mut u64) -> u32
-    ensures done { (result ≡ 0) ↔ IsOk done }
-    ensures refused { IfErr done (λ refusal. (result ≡ code_of refusal) × (place.new ≡ place_of refusal)) }
-    ensures kept { result ≡ 0 → place.new ≡ place.old }
+/// What a call answers that comes to this, and the place that it names; where it is done, the place stays as it was.
+pub fn answer(outcome: Result<(), Refusal>, place: &mut u64) -> u32
+    ensures coded { result ≡ status_of outcome }
+    ensures placed { place.new ≡ place_named outcome place.old }
 {
-    match done {
-        Ok(()) => DONE,
-        Err(refusal) => {
-            *place = refusal.place();
-            refusal.code()
-        }
+    if let Err(refusal) = outcome {
+        *place = refusal.place();
     }
+    status(outcome)
 }

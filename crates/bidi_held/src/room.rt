@@ -1,17 +1,18 @@
 // A room: the units of a text, and its layout.
-ghost use Rattle.std.specs.Prelude.{ℕ, ◌≡◌, ◌≢◌, ◌≤◌, ◌<◌, ◌↔◌, [], None, MatchOption, Err, length, slice_index, take, IfOk, IfSome, OnOk, IfErr, OnErr, IsOk, IsNone};
+ghost use Rattle.std.specs.Prelude.{ℕ, ◌≡◌, ◌≤◌, ◌<◌, ◌↔◌, [], MatchOption, Err, length, slice_index, take, IfOk, OnOk, IfErr, OnErr, IsOk};
 ghost use Rattle.std.specs.Box.{boxed_slice_items};
 ghost use Rattle.std.specs.Char.{IsScalar};
 ghost use Rattle.units.specs.Layout.{layout_of, longest_text};
 ghost use Rattle.units.specs.Limits.{standard};
 ghost use Rattle.units.specs.declared.level.Direction.TheVariants.{Auto};
+ghost use Rattle.lines.specs.LineBreaks.{AreBreaksOf};
 ghost use Rattle.lines.specs.Scratches.{room_of, layout_in, IsFilled};
 ghost use Rattle.bidi_held.specs.Texts.{class_numbered, unit_numbered, units_numbered};
 ghost use Rattle.ucdfiles.specs.Tables.{units_by};
-ghost use Rattle.bidi_held.specs.Refusals.{IsFirstNoCharacter, IsFirstNoClass, TakesText, TakesClasses, RefusesText, RefusesClasses};
+ghost use Rattle.bidi_held.specs.Refusals.{IsClassNumber, Refuses, RefusesBreaks, RefusesCodes, RefusesNumbered, Takes};
 
-use crate::refusal::{Refusal, of_breaks};
-use lines::breaks::Breaks;
+use crate::refusal::Refusal;
+use lines::breaks::{BreakFault, Breaks};
 use lines::lay_out::{lay_out_into, lay_out_into_with};
 use lines::scratch::{MOST, RoomFault, Scratch};
 use std::alloc::Global;
@@ -31,22 +32,21 @@ pub struct Room {
     ghost filled: { IsFilled scratch },
 }
 
-/// Writes the units of code points to the front of the column. It answers the index of the first code point that is
-/// no scalar value, if one is not.
-fn fill_units(units: &mut [Unit], tables: &Tables, codes: &[u32]) -> Option<usize>
+/// Writes the units of code points to the front of the column, up to the first that is no scalar value.
+fn fill_units(units: &mut [Unit], tables: &Tables, codes: &[u32]) -> Result<(), Refusal>
     requires { length codes.now ≤ length units.old }
     ensures len { length units.new ≡ length units.old }
-    ensures first { IfSome result (IsFirstNoCharacter codes.now) }
-    ensures scalars { IsNone result → (k : ℕ) → k < length codes.now → IsScalar (slice_index codes.now k) }
-    ensures units { IsNone result → take (length codes.now) units.new ≡ units_by tables.now codes.now }
+    ensures refused { IfErr result (RefusesCodes codes.now) }
+    ensures scalars { OnOk result ((k : ℕ) → k < length codes.now → IsScalar (slice_index codes.now k)) }
+    ensures units { OnOk result (take (length codes.now) units.new ≡ units_by tables.now codes.now) }
 {
     for i in 0..codes.len() {
         let Some(c) = char::from_u32(codes[i]) else {
-            return Some(i);
+            return Err(Refusal::NoCharacter(i));
         };
         units[i] = tables.unit(c);
     }
-    None
+    Ok(())
 }
 
 /// The class with this number, if there is one.
@@ -83,8 +83,8 @@ fn class_numbered(number: u8) -> Option<Class>
 
 /// The unit of the class with this number, if there is one; it is no bracket.
 fn unit_of(number: u8) -> Option<Unit>
-    ensures { MatchOption result (class_numbered number ≡ None)
-        (λ unit. (class_numbered number ≢ None) × (unit ≡ unit_numbered number)) }
+    ensures { MatchOption result (IsClassNumber number → ⊥)
+        (λ unit. IsClassNumber number × (unit ≡ unit_numbered number)) }
 {
     let class = class_numbered(number)?;
     Some(Unit {
@@ -93,23 +93,33 @@ fn unit_of(number: u8) -> Option<Unit>
     })
 }
 
-/// Writes the units of classes, by their numbers, to the front of the column. It answers the index of the first
-/// number that is no class, if one is not.
-fn fill_classes(units: &mut [Unit], numbers: &[u8]) -> Option<usize>
+/// Writes the units of classes, by their numbers, to the front of the column, up to the first number of no class.
+fn fill_classes(units: &mut [Unit], numbers: &[u8]) -> Result<(), Refusal>
     requires { length numbers.now ≤ length units.old }
     ensures len { length units.new ≡ length units.old }
-    ensures first { IfSome result (IsFirstNoClass numbers.now) }
-    ensures classes { IsNone result → (k : ℕ) → k < length numbers.now
-        → class_numbered (slice_index numbers.now k) ≢ None }
-    ensures units { IsNone result → take (length numbers.now) units.new ≡ units_numbered numbers.now }
+    ensures refused { IfErr result (RefusesNumbered numbers.now) }
+    ensures classes { OnOk result ((k : ℕ) → k < length numbers.now → IsClassNumber (slice_index numbers.now k)) }
+    ensures units { OnOk result (take (length numbers.now) units.new ≡ units_numbered numbers.now) }
 {
     for i in 0..numbers.len() {
         let Some(unit) = unit_of(numbers[i]) else {
-            return Some(i);
+            return Err(Refusal::NoClass(i));
         };
         units[i] = unit;
     }
-    None
+    Ok(())
+}
+
+/// The breaks of a text of `n` units.
+fn breaks_of(at: &[usize], n: usize) -> Result<Breaks<'_>, Refusal>
+    ensures made { IfOk result (AreBreaksOf at.now n) }
+    ensures refused { IfErr result (RefusesBreaks at.now n) }
+{
+    match Breaks::new(at, n) {
+        Ok(breaks) => Ok(breaks),
+        Err(BreakFault::OutOfRange(index)) => Err(Refusal::BreakOutOfRange(index)),
+        Err(BreakFault::NotRising(index)) => Err(Refusal::BreakNotRising(index)),
+    }
 }
 
 /// A column of `n` units.
@@ -174,7 +184,8 @@ impl Room {
         }
     }
 
-    /// Lays out the text of these code points by these limits.
+    /// Lays out the text of these code points by these limits. Its length is looked at first, then the breaks, then
+    /// the code points.
     pub fn lay_out(
         &mut self,
         tables: &Tables,
@@ -184,26 +195,22 @@ impl Room {
         limits: Limits,
     ) -> Result<(), Refusal>
         ensures room { room_of self.new.scratch ≡ room_of self.old.scratch }
-        ensures refused { IfErr result (RefusesText (room_of self.old.scratch) codes.now at.now) }
+        ensures refused { IfErr result (Refuses (room_of self.old.scratch) (length codes.now) at.now
+            (RefusesCodes codes.now)) }
         ensures kept { OnErr result (self.new.scratch ≡ self.old.scratch) }
-        ensures taken { OnOk result (TakesText (room_of self.old.scratch) codes.now at.now) }
+        ensures taken { OnOk result (Takes IsScalar (room_of self.old.scratch) codes.now at.now) }
         ensures laid_out { OnOk result (layout_in self.new.scratch ≡ layout_of limits
             (units_by tables.now codes.now) direction at.now) }
     {
         if self.scratch.room() < codes.len() {
             return Err(Refusal::TooLong);
         }
-        let breaks = match Breaks::new(at, codes.len()) {
-            Ok(breaks) => breaks,
-            Err(fault) => return Err(of_breaks(fault)),
-        };
-        if let Some(index) = fill_units(&mut self.units, tables, codes) {
-            return Err(Refusal::NoCharacter(index));
-        }
+        let breaks = breaks_of(at, codes.len())?;
+        fill_units(&mut self.units, tables, codes)?;
         self.lay_out_units(direction, &breaks, limits)
     }
 
-    /// Lays out a text of these classes, by their numbers, by these limits.
+    /// Lays out a text of these classes, by their numbers, by these limits, and looks at it in the same order.
     pub fn lay_out_classes(
         &mut self,
         numbers: &[u8],
@@ -212,22 +219,18 @@ impl Room {
         limits: Limits,
     ) -> Result<(), Refusal>
         ensures room { room_of self.new.scratch ≡ room_of self.old.scratch }
-        ensures refused { IfErr result (RefusesClasses (room_of self.old.scratch) numbers.now at.now) }
+        ensures refused { IfErr result (Refuses (room_of self.old.scratch) (length numbers.now) at.now
+            (RefusesNumbered numbers.now)) }
         ensures kept { OnErr result (self.new.scratch ≡ self.old.scratch) }
-        ensures taken { OnOk result (TakesClasses (room_of self.old.scratch) numbers.now at.now) }
+        ensures taken { OnOk result (Takes IsClassNumber (room_of self.old.scratch) numbers.now at.now) }
         ensures laid_out { OnOk result (layout_in self.new.scratch ≡ layout_of limits
             (units_numbered numbers.now) direction at.now) }
     {
         if self.scratch.room() < numbers.len() {
             return Err(Refusal::TooLong);
         }
-        let breaks = match Breaks::new(at, numbers.len()) {
-            Ok(breaks) => breaks,
-            Err(fault) => return Err(of_breaks(fault)),
-        };
-        if let Some(index) = fill_classes(&mut self.units, numbers) {
-            return Err(Refusal::NoClass(index));
-        }
+        let breaks = breaks_of(at, numbers.len())?;
+        fill_classes(&mut self.units, numbers)?;
         self.lay_out_units(direction, &breaks, limits)
     }
 }

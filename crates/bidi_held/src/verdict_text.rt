@@ -1,9 +1,8 @@
 // The line that says a verdict, of its numbers.
-ghost use Rattle.std.specs.Prelude.{◌≡◌, ◌≢◌, ◌≤◌, ◌<◌, ◌++◌, ◌⊎◌, ℕ, List, length, drop, IfOk, IfErr};
-ghost use Rattle.bidi_held.specs.Statuses.{IsRefusedFor};
-ghost use Rattle.bidi_held.specs.VerdictLines.{IsVerdictLine, RefusesNumbers, RefusesVerdictText};
+ghost use Rattle.std.specs.Prelude.{◌≤◌, length, IfOk, IfErr};
+ghost use Rattle.bidi_held.specs.VerdictLines.{IsVerdictLine, RefusesNumbers, SaysVerdict};
 
-use crate::refusal::{DONE, Refusal};
+use crate::refusal::Refusal;
 use crate::told_verdict::BidiVerdict;
 use bidtests::verdict_line::print_verdict;
 use std::alloc::Global;
@@ -31,24 +30,14 @@ pub fn write_verdict_line(
     numbers: &BidiVerdict,
     out: &mut [u8],
     line_length: &mut usize,
-) -> u32
-    ensures fits { result ≡ 0 → (line : List ℕ) × IsVerdictLine numbers.now line × (length line ≤ length out.old) }
-    ensures written { (line : List ℕ) → IsVerdictLine numbers.now line → result ≡ 0
-        → out.new ≡ line ++ drop (length line) out.old }
-    ensures said { (line : List ℕ) → IsVerdictLine numbers.now line → result ≢ 1 → line_length.new ≡ length line }
-    ensures short { ((result ≡ 0) ⊎ (result ≡ 20)) → line_length.new ≤ 72 }
-    ensures kept { 0 < result → out.new ≡ out.old }
-    ensures unsaid { ((result ≡ 1) ⊎ (result ≡ 19)) → line_length.new ≡ line_length.old }
-    ensures refused { 0 < result → IsRefusedFor (RefusesVerdictText numbers.now (length out.old)) result }
+) -> Result<(), Refusal>
+    ensures { SaysVerdict numbers.now out.old out.new line_length.old line_length.new result }
 {
-    let line = match verdict_line(alloc, numbers) {
-        Ok(line) => line,
-        Err(refusal) => return refusal.code(),
-    };
+    let line = verdict_line(alloc, numbers)?;
     *line_length = line.len();
     if out.len() < line.len() {
-        return Refusal::TooSmall.code();
+        return Err(Refusal::TooSmall);
     }
     out[..line.len()].copy_from_slice(&line);
-    DONE
+    Ok(())
 }

@@ -1,5 +1,5 @@
 // A line from left to right: the places of its positions, its runs, and its characters as they are shown.
-ghost use Rattle.std.specs.Prelude.{◌≡◌, ◌≢◌, ◌≤◌, ◌<◌, ◌+◌, ◌↔◌, ◌⊎◌, ℕ, true, false, Some, Err, IfOk, IfErr, length, take, drop, slice_index};
+ghost use Rattle.std.specs.Prelude.{◌≡◌, ◌≢◌, ◌≤◌, ◌<◌, ◌+◌, ℕ, true, false, Some, IfOk, IfErr, length, take, drop, slice_index};
 ghost use Rattle.std.specs.Option.{unwrap_or};
 ghost use Rattle.std.specs.List.{All};
 ghost use Rattle.std.specs.Char.{IsScalar};
@@ -7,7 +7,7 @@ ghost use Rattle.units.specs.Reordering.{is_odd_level, shown_of};
 ghost use Rattle.ucdfiles.specs.Tables.{glyph_by};
 ghost use Rattle.lines.specs.Layouts.{view_of};
 ghost use Rattle.bidi_held.specs.Holdings.{line_numbered};
-ghost use Rattle.bidi_held.specs.Visual.{IsPlace, ArePlaces, IsRun, span_of, shown_held, shown_line, byte_at};
+ghost use Rattle.bidi_held.specs.Visual.{IsPlace, WritesPlaces, IsRun, LineRefusesRun, WritesShown, shown_held, shown_line, byte_at};
 
 use crate::held::Held;
 use crate::lines_out::byte_of;
@@ -119,10 +119,7 @@ fn write_shown(
 /// Writes the places of the positions of the line with the number `k`, if all have place there. It answers how many
 /// positions the line has.
 pub fn write_places_of(layout: &Layout<'_>, k: usize, out: &mut [usize]) -> usize
-    ensures count { result ≡ span_of (line_numbered (view_of layout.now) k) }
-    ensures places { result ≤ length out.old → ArePlaces (line_numbered (view_of layout.now) k) out.new }
-    ensures behind { drop result out.new ≡ drop result out.old }
-    ensures kept { length out.old < result → out.new ≡ out.old }
+    ensures { WritesPlaces (line_numbered (view_of layout.now) k) result out.old out.new }
 {
     if layout.line_count() <= k {
         return 0;
@@ -138,10 +135,7 @@ pub fn write_places_of(layout: &Layout<'_>, k: usize, out: &mut [usize]) -> usiz
 /// The run of the line with the number `k` that begins at a place, if there are such a line and place.
 pub fn run_of(layout: &Layout<'_>, k: usize, from: usize) -> Result<BidiRun, Refusal>
     ensures run { IfOk result (IsRun (view_of layout.now).levels (line_numbered (view_of layout.now) k).order from) }
-    ensures no_line { (result ≡ Err Refusal.NoLine) ↔ (length (view_of layout.now).lines ≤ k) }
-    ensures no_place { result ≡ Err Refusal.NoPlace
-        → length (line_numbered (view_of layout.now) k).order ≤ from }
-    ensures only { IfErr result (λ refusal. (refusal ≡ Refusal.NoLine) ⊎ (refusal ≡ Refusal.NoPlace)) }
+    ensures refused { IfErr result (LineRefusesRun (view_of layout.now) k from) }
 {
     if layout.line_count() <= k {
         return Err(Refusal::NoLine);
@@ -162,11 +156,8 @@ fn write_shown_of(
     k: usize,
     out: &mut [u32],
 ) -> usize
-    ensures count { result ≡ length (shown_line (view_of layout.now) (Some tables.now) codes.now k) }
-    ensures shown { All IsScalar codes.now → result ≤ length out.old
-        → take result out.new ≡ shown_line (view_of layout.now) (Some tables.now) codes.now k }
-    ensures behind { drop result out.new ≡ drop result out.old }
-    ensures kept { length out.old < result → out.new ≡ out.old }
+    ensures { WritesShown codes.now (shown_line (view_of layout.now) (Some tables.now) codes.now k) result
+        out.old out.new }
 {
     if layout.line_count() <= k || codes.len() != layout.levels().len() {
         return 0;
@@ -181,11 +172,8 @@ fn write_shown_of(
 /// Writes the characters of the line with the number `k` as they are shown, if all have place there and these are a
 /// room and tables. It answers how many there are.
 pub fn show(room: &Held, tables: &Held, codes: &[u32], k: usize, out: &mut [u32]) -> usize
-    ensures count { result ≡ length (shown_held (Some room.now) (Some tables.now) codes.now k) }
-    ensures shown { All IsScalar codes.now → result ≤ length out.old
-        → take result out.new ≡ shown_held (Some room.now) (Some tables.now) codes.now k }
-    ensures behind { drop result out.new ≡ drop result out.old }
-    ensures kept { length out.old < result → out.new ≡ out.old }
+    ensures { WritesShown codes.now (shown_held (Some room.now) (Some tables.now) codes.now k) result
+        out.old out.new }
 {
     let Some(layout) = room.layout() else {
         return 0;

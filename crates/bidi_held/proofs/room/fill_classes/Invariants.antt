@@ -1,7 +1,8 @@
-use Rattle.std.proofs.Common.{◌≡◌, ◌<◌, ℕ, map, take, slice_index, ◌≢◌, None}
-use Rattle.bidi_held.specs.Texts.{class_numbered, unit_numbered}
+use Rattle.std.proofs.Common.{◌≡◌, ◌<◌, ℕ, map, take, slice_index}
+use Rattle.bidi_held.specs.Refusals.{IsClassNumber}
+use Rattle.bidi_held.specs.Texts.{unit_numbered}
 use Rattle.bidi_held.proofs.room.fill_classes.Given as goal
 
 -- the units of the numbers before i stand there, and each of these is a class
 abbrev pub invariant-loop-i : goal.invariant-loop-i
-invariant-loop-i l = (take l.i l.units ≡ map unit_numbered (take l.i l.numbers)) × ((k : ℕ) → k < l.i → class_numbered (slice_index l.numbers k) ≢ None)
+invariant-loop-i l = (take l.i l.units ≡ map unit_numbered (take l.i l.numbers)) × ((k : ℕ) → k < l.i → IsClassNumber (slice_index l.numbers k))
