@@ -9,5 +9,5 @@ pub mod Keys
 pub mod Stages
 pub mod Tables
 pub mod UnitStages
-pub mod Rows
+pub mod WorkedFiles
 pub mod Files

@@ -9,6 +9,7 @@ use crate::class_table::ClassTable;
 use crate::mirror_table::MirrorTable;
 use crate::span::Span;
 use crate::two_stage::LentStages;
+use std::alloc::{AllocError, Global};
 use std::marker::Model;
 use units::bracket::{Bracket, Unit};
 use units::class::Class;
@@ -99,7 +100,7 @@ impl<'a> LentUnits<'a> {
 }
 
 impl Tables {
-    ghost use Rattle.std.specs.Prelude.{length};
+    ghost use Rattle.std.specs.Prelude.{length, IfOk};
     ghost use Rattle.ucdfiles.specs.Tables.{TablesOf, unit_by, units_by};
     ghost use Rattle.ucdfiles.specs.UnitStages.{UnitStages, unit_stages};
 
@@ -143,6 +144,19 @@ impl Tables {
         for k in 0..text.len() {
             units[k] = lent.unit(text[k]);
         }
+    }
+
+    /// What the algorithm knows of each of these characters, in a list of its own.
+    pub fn units_of(&self, alloc: Global, text: &[char]) -> Result<Vec<Unit>, AllocError>
+        ensures { IfOk result (λ units. units.items ≡ units_by self.now text.now) }
+    {
+        let none = Unit {
+            class: Class::L,
+            bracket: Bracket::No,
+        };
+        let mut units = Vec::from_elem(alloc, none, text.len())?;
+        self.look_up(text, &mut units);
+        Ok(units)
     }
 
     /// The mirror images.

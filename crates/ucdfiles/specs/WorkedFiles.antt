@@ -1,4 +1,4 @@
--- Rows that the definitions compute to.
+-- Worked lines and files, and what the definitions compute of them.
 use Rattle.std.specs.Prelude.{ℕ, ◌≡◌, List, [], ◌∷◌, ◌++◌, Some, None, refl, codes, ⊤}
 use Rattle.unicode_normalization.proofs.Computing.{unicode_normalization}
 use Rattle.units.specs.Text.{settled_lines}
