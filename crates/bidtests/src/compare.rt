@@ -19,7 +19,7 @@ use crate::claim::Claim;
 use crate::line_fault::LineFault;
 use crate::verdict::Place;
 use lines::breaks::Breaks;
-use lines::lay_out::lay_in_with;
+use lines::lay_out::lay_out_into_with;
 use lines::layout::Layout;
 use lines::scratch::Scratch;
 use units::level::{Direction, Level, ParaLevel};
@@ -143,7 +143,7 @@ fn compare(
     ensures room { room_of scratch.new ≡ room_of scratch.old }
 {
     let breaks = no_breaks(claim.text.len());
-    lay_in_with(scratch, claim.text, direction, &breaks, limits).unwrap();
+    lay_out_into_with(scratch, claim.text, direction, &breaks, limits).unwrap();
     compare_with(claim, &scratch.layout())
 }
 
