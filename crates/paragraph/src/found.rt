@@ -96,8 +96,8 @@ fn begin<L: Ledger>(
     opened
 }
 
-/// W1 to I2 over all sequences of a paragraph, in their order. The front of `classes` is a copy of its classes before W1
-/// to work on, and `levels` hold none yet.
+/// W1 to I2 over all sequences of a paragraph, in their order. The front of `classes` is a copy of its classes before
+/// W1 to work on, and `levels` hold none yet.
 // Inlined, its walks take more instructions.
 #[inline(never)]
 fn resolve_each<L: Ledger>(
