@@ -16,6 +16,7 @@ rt check or rt lib built, or those that rt ci left; where neither fit the files,
 tried side by side as there are processors and memory, or as RT_JOBS says, each by one job.
 """
 import contextlib
+import copy
 import dataclasses
 import os
 import re
@@ -242,13 +243,29 @@ def unknown(crates, names):
     return [it for it in names if it not in known]
 
 
+def build(library, jobs):
+    """Builds a library as rt does, and returns its status; what is said of it is printed where it is not proved."""
+    library = copy.copy(library)
+    with tempfile.TemporaryFile("w+", errors="replace") as library.out:
+        status = library.build_rlib(["--jobs", str(jobs)], anew=False)
+        library.out.seek(0)
+        said = library.out.read() if status else ""
+    with printing:
+        print(said, end="", flush=True)
+    return status
+
+
 def build_tasks(libraries):
     """Returns the work to build the libraries that are not built, none where rt ci left them all."""
     if all(left_by_gate(it) for it in libraries):
         return {}
-    build = lambda library: lambda given, jobs: library.build_rlib(["--jobs", str(jobs)], anew=False)
     return {
-        (it.name, "library"): ([(dep.name, "library") for dep in it.below()], it.count(rb"\n"), rt.need(it), build(it))
+        (it.name, "library"): (
+            [(dep.name, "library") for dep in it.below()],
+            it.count(rb"\n"),
+            rt.need(it),
+            lambda given, jobs, library=it: build(library, jobs),
+        )
         for it in libraries
     }
 
