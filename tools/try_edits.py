@@ -50,30 +50,54 @@ class Edit:
     fault: str
 
 
+def parameters_of(header):
+    """Returns the type parameters of an impl, and what stands behind them."""
+    if not header.startswith("<"):
+        return set(), header
+    depth = 0
+    for at, sign in enumerate(header):
+        depth += (sign == "<") - (sign == ">")
+        if not depth:
+            break
+    return set(re.findall(r"[<,]\s*(?:const )?(\w+)", re.sub(r"'\w+", "", header[: at + 1]))), header[at + 1 :]
+
+
 def owner_of(header):
-    """Returns how the check names what holds a method: its type, with the trait behind it, or a trait."""
+    """Returns how the check names what holds a method, a type with the trait behind it or a trait, and that type where
+    it has the method by itself."""
     header = re.sub(r"\bwhere\b.*", "", header, flags=re.S)
-    while "<" in header and (flat := re.sub(r"<[^<>]*>", "", header)) != header:
-        header = flat
-    words = re.sub(r"&|'\w+|pub(\(\w+\))?", "", header).split()
-    names = [it.rpartition("::")[2] for it in words if it not in ("unsafe", "impl", "trait", "for")]
-    return "".join(reversed(names))
+    if found := re.match(r"(?:pub(?:\(\w+\))? )?trait (\w+)", header):
+        return found[1], ""
+    parameters, header = parameters_of(header.removeprefix("unsafe ").removeprefix("impl"))
+    trait, _, of_type = header.rpartition(" for ")
+    words = re.findall(r"(?:\w+::)*(\w+)", re.sub(r"'\w+", "", f"{of_type} {trait}"))
+    words = [it for it in words if it not in parameters]
+    return "".join(it[0].upper() + it[1:] for it in words), "" if trait else words[0]
 
 
-def function_at(path, text, row):
+def home_of(crate, name, path):
+    """Returns the file that defines a type: by it the check names the methods that the type has by itself."""
+    sources = [os.path.relpath(it, crate.folder) for it in rt.rtlib.files_of(crate.folder) if it.endswith(".rt")]
+    defines = re.compile(rf"^(?:pub(?:\(\w+\))? )?(?:struct|enum|union) {name}\b", re.M)
+    return next((it for it in [path, *sources] if defines.search(text_in(crate, it))), path)
+
+
+def function_at(crate, path, text, row):
     """Returns the path, as the check names it, of the function whose lines hold this row; None where none does."""
-    lines, owner = text.split("\n"), ""
+    lines, owner, own_type = text.split("\n"), "", ""
     found, end = None, ""
     for at, line in enumerate(lines[: row + 1]):
-        if header := OWNER.match("\n".join(lines[at : at + 4]) if line.startswith(("impl", "unsafe impl")) else line):
-            owner = owner_of(header[0])
+        if header := OWNER.match("\n".join(lines[at : at + 4])):
+            owner, own_type = owner_of(header[0])
         if it := FUNCTION.match(line):
             found, end = (owner if it[1] else "", it[2]), f"{it[1]}}}"
         elif line == end and at < row:
             found = None
-    module = path.removeprefix("src/").removesuffix(".rt").split("/")
-    module = [it for it in module if it not in ("lib", "main", "mod")]
-    return tuple([*module, *filter(None, found)]) if found else None
+    if not found:
+        return None
+    file = home_of(crate, own_type, path) if found[0] and own_type else path
+    module = file.removeprefix("src/").removesuffix(".rt").split("/")
+    return tuple(it for it in [*module, *found] if it not in ("", "lib", "main", "mod"))
 
 
 def pairs_of(text):
@@ -101,7 +125,7 @@ def read_edit(crate, file):
     for path, old, new in pairs:
         text = texts.get(path) or text_in(crate, path)
         row = text[: text.index(old)].count("\n")
-        function = function_at(path, text, row)
+        function = function_at(crate, path, text, row)
         functions |= {function} - {None}
         touched.add(function or (path, row))
         texts[path] = text.replace(old, new)
