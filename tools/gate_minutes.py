@@ -48,7 +48,7 @@ def named(process):
 
 
 def kind_of(words, folder):
-    """Returns the kind of work that the prover was started for: rt and try_edits check an edit in a folder of its own."""
+    """Returns what the prover was started for: rt and try_edits check an edit in a folder of its own."""
     if "--test" in words:
         return "tests"
     if "/rt-edit-" in folder:
@@ -73,7 +73,7 @@ def look(top, seconds):
 
 
 def taken_by_children():
-    """Returns the processor seconds of the processes that this one has waited for, and of those that they waited for."""
+    """Returns the processor seconds of all processes that this one, or one below it, has waited for."""
     used = resource.getrusage(resource.RUSAGE_CHILDREN)
     return used.ru_utime + used.ru_stime
 

@@ -193,8 +193,8 @@ def try_round(crate, edits, kept):
 
 @contextlib.contextmanager
 def kept_work(crate, shared):
-    """Gives a folder for a check's kept work: a copy of the crate's own, or one for all rounds where it has none that fits
-    the libraries below."""
+    """Gives a folder for a check's kept work: a copy of the crate's own, or one for all rounds where it has none that
+    fits the libraries below."""
     own = f"{crate.folder}/out/incremental"
     if not os.path.isdir(own) or any(left_by_gate(it) for it in crate.below()):
         yield shared
