@@ -1,9 +1,8 @@
 -- What handles hold.
-use Rattle.std.specs.Prelude.{ℕ, Option, List}
+use Rattle.std.specs.Prelude.{ℕ, Option}
 use Rattle.units.specs.Layout.{TextLayout, LineLayout}
 use Rattle.ucdfiles.specs.Tables.{TablesOf}
 use Rattle.bidi_held.specs.Holdings.{tables_in, capacity_in, layout_held, line_numbered}
-use Rattle.bidi_held.specs.Visual.{shown_line}
 use Rattle.bidi_held.specs.declared.held.Held.{Held}
 use Rattle.bidi_c.specs.declared.bidi_handle.BidiHandle.{BidiHandle}
 
@@ -26,7 +25,3 @@ layout_at handle = layout_held (held_at handle)
 -- its line with the number k
 abbrev pub line_of_room : BidiHandle → ℕ → LineLayout
 line_of_room handle k = line_numbered (layout_at handle) k
-
--- L4: its line with the number k of a text of these code points, as it is shown by tables
-abbrev pub shown_of_room : BidiHandle → BidiHandle → List ℕ → ℕ → List ℕ
-shown_of_room room tables codes k = shown_line (layout_at room) (tables_at tables) codes k

@@ -55,8 +55,8 @@ pub extern "C" fn bidi_judge_new_classes_with(
     judge: &mut BidiHandle,
     limits: BidiLimits,
 ) -> u32
-    ensures { Answers (ByLimits limits (held_at judge.new ≡ held_at judge.old) (λ limits. MakesJudge limits
-        (held_at judge.old) (held_at judge.new))) result }
+    ensures { Answers (ByLimits limits (held_at judge.new ≡ held_at judge.old) (λ limits.
+        MakesJudge limits (held_at judge.old) (held_at judge.new))) result }
 {
     status(make_classes_judge_with(alloc, judge, limits))
 }
@@ -95,8 +95,8 @@ pub extern "C" fn bidi_judge_new_characters(
     tables: &mut BidiHandle,
     judge: &mut BidiHandle,
 ) -> u32
-    ensures { Answers (MakesTableJudge standard (held_at tables.old) (held_at tables.new) (held_at judge.old)
-        (held_at judge.new)) result }
+    ensures { Answers (MakesTableJudge standard (held_at tables.old) (held_at tables.new)
+        (held_at judge.old) (held_at judge.new)) result }
 {
     status(make_characters_judge(alloc, tables, judge, Limits::standard()))
 }
@@ -107,9 +107,10 @@ fn make_characters_judge_with(
     judge: &mut BidiHandle,
     limits: BidiLimits,
 ) -> Result<(), Refusal>
-    ensures { ByLimits limits ((held_at tables.new ≡ held_at tables.old) × (held_at judge.new ≡ held_at judge.old))
-        (λ limits. MakesTableJudge limits (held_at tables.old) (held_at tables.new) (held_at judge.old)
-        (held_at judge.new)) result }
+    ensures { ByLimits limits
+        ((held_at tables.new ≡ held_at tables.old) × (held_at judge.new ≡ held_at judge.old))
+        (λ limits. MakesTableJudge limits (held_at tables.old) (held_at tables.new)
+        (held_at judge.old) (held_at judge.new)) result }
 {
     let allowed = limits.allowed()?;
     make_characters_judge(alloc, tables, judge, allowed)
@@ -126,8 +127,8 @@ pub extern "C" fn bidi_judge_new_characters_with(
 ) -> u32
     ensures { Answers (ByLimits limits
         ((held_at tables.new ≡ held_at tables.old) × (held_at judge.new ≡ held_at judge.old))
-        (λ limits. MakesTableJudge limits (held_at tables.old) (held_at tables.new) (held_at judge.old)
-        (held_at judge.new))) result }
+        (λ limits. MakesTableJudge limits (held_at tables.old) (held_at tables.new)
+        (held_at judge.old) (held_at judge.new))) result }
 {
     status(make_characters_judge_with(alloc, tables, judge, limits))
 }

@@ -3,7 +3,7 @@ ghost use Rattle.std.specs.Prelude.{◌≡◌};
 ghost use Rattle.units.specs.Limits.{standard};
 ghost use Rattle.bidi_held.specs.LaidOut.{LaysOutClasses, LaysOutCodes};
 ghost use Rattle.bidi_held.specs.LimitsGiven.{ByLimits};
-ghost use Rattle.bidi_held.specs.Statuses.{AnswersAt};
+ghost use Rattle.bidi_held.specs.Statuses.{AnswersNaming, place_named};
 ghost use Rattle.bidi_c.specs.HeldAt.{held_at};
 
 use crate::bidi_handle::BidiHandle;
@@ -23,8 +23,8 @@ fn lay_out(
     limits: Limits,
 ) -> Result<(), Refusal>
     ensures tables { held_at tables.new ≡ held_at tables.old }
-    ensures room { LaysOutCodes limits (held_at tables.old) codes.now direction breaks.now (held_at room.old)
-        (held_at room.new) result }
+    ensures room { LaysOutCodes limits (held_at tables.old) codes.now direction breaks.now
+        (held_at room.old) (held_at room.new) result }
 {
     let Some(mut held) = room.take(alloc) else {
         return Err(Refusal::NoRoom);
@@ -53,8 +53,8 @@ pub extern "C" fn bidi_lay_out(
     place: &mut u64,
 ) -> u32
     ensures tables { held_at tables.new ≡ held_at tables.old }
-    ensures room { AnswersAt (LaysOutCodes standard (held_at tables.old) codes.now direction breaks.now
-        (held_at room.old) (held_at room.new)) result place.old place.new }
+    ensures room { AnswersNaming place_named (LaysOutCodes standard (held_at tables.old) codes.now
+        direction breaks.now (held_at room.old) (held_at room.new)) result place.old place.new }
 {
     let limits = Limits::standard();
     let done = lay_out(alloc, room, tables, codes, direction, breaks, limits);
@@ -71,8 +71,9 @@ fn lay_out_with(
     limits: BidiLimits,
 ) -> Result<(), Refusal>
     ensures tables { held_at tables.new ≡ held_at tables.old }
-    ensures room { ByLimits limits (held_at room.new ≡ held_at room.old) (λ limits. LaysOutCodes limits
-        (held_at tables.old) codes.now direction breaks.now (held_at room.old) (held_at room.new)) result }
+    ensures room { ByLimits limits (held_at room.new ≡ held_at room.old) (λ limits.
+        LaysOutCodes limits (held_at tables.old) codes.now direction breaks.now
+        (held_at room.old) (held_at room.new)) result }
 {
     let allowed = limits.allowed()?;
     lay_out(alloc, room, tables, codes, direction, breaks, allowed)
@@ -92,9 +93,9 @@ pub extern "C" fn bidi_lay_out_with(
     place: &mut u64,
 ) -> u32
     ensures tables { held_at tables.new ≡ held_at tables.old }
-    ensures room { AnswersAt (ByLimits limits (held_at room.new ≡ held_at room.old) (λ limits. LaysOutCodes limits
-        (held_at tables.old) codes.now direction breaks.now (held_at room.old) (held_at room.new))) result place.old
-        place.new }
+    ensures room { AnswersNaming place_named (ByLimits limits (held_at room.new ≡ held_at room.old)
+        (λ limits. LaysOutCodes limits (held_at tables.old) codes.now direction breaks.now
+        (held_at room.old) (held_at room.new))) result place.old place.new }
 {
     let done = lay_out_with(alloc, room, tables, codes, direction, breaks, limits);
     answer(done, place)
@@ -108,7 +109,8 @@ fn lay_out_classes(
     breaks: &[usize],
     limits: Limits,
 ) -> Result<(), Refusal>
-    ensures { LaysOutClasses limits numbers.now direction breaks.now (held_at room.old) (held_at room.new) result }
+    ensures { LaysOutClasses limits numbers.now direction breaks.now (held_at room.old)
+        (held_at room.new) result }
 {
     let Some(mut held) = room.take(alloc) else {
         return Err(Refusal::NoRoom);
@@ -129,8 +131,8 @@ pub extern "C" fn bidi_lay_out_classes(
     breaks: &[usize],
     place: &mut u64,
 ) -> u32
-    ensures { AnswersAt (LaysOutClasses standard numbers.now direction breaks.now (held_at room.old)
-        (held_at room.new)) result place.old place.new }
+    ensures { AnswersNaming place_named (LaysOutClasses standard numbers.now direction breaks.now
+        (held_at room.old) (held_at room.new)) result place.old place.new }
 {
     let limits = Limits::standard();
     let done = lay_out_classes(alloc, room, numbers, direction, breaks, limits);
@@ -145,8 +147,8 @@ fn lay_out_classes_with(
     breaks: &[usize],
     limits: BidiLimits,
 ) -> Result<(), Refusal>
-    ensures { ByLimits limits (held_at room.new ≡ held_at room.old) (λ limits. LaysOutClasses limits
-        numbers.now direction breaks.now (held_at room.old) (held_at room.new)) result }
+    ensures { ByLimits limits (held_at room.new ≡ held_at room.old) (λ limits. LaysOutClasses
+        limits numbers.now direction breaks.now (held_at room.old) (held_at room.new)) result }
 {
     let allowed = limits.allowed()?;
     lay_out_classes(alloc, room, numbers, direction, breaks, allowed)
@@ -163,8 +165,9 @@ pub extern "C" fn bidi_lay_out_classes_with(
     limits: BidiLimits,
     place: &mut u64,
 ) -> u32
-    ensures { AnswersAt (ByLimits limits (held_at room.new ≡ held_at room.old) (λ limits. LaysOutClasses limits
-        numbers.now direction breaks.now (held_at room.old) (held_at room.new))) result place.old place.new }
+    ensures { AnswersNaming place_named (ByLimits limits (held_at room.new ≡ held_at room.old)
+        (λ limits. LaysOutClasses limits numbers.now direction breaks.now
+        (held_at room.old) (held_at room.new))) result place.old place.new }
 {
     let done = lay_out_classes_with(alloc, room, numbers, direction, breaks, limits);
     answer(done, place)

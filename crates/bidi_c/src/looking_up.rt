@@ -12,11 +12,12 @@ use bidi_held::refusal::{Refusal, status};
 use std::alloc::Global;
 
 /// How many code points the text has that was laid out, 0 without a room. Their levels after L1 are written to
-/// `levels`, if all have place there: 255 where a position was removed (X9).
+/// `levels`, if all fit there: 255 where a position was removed (X9).
 #[unsafe(no_mangle)]
 pub extern "C" fn bidi_levels(alloc: Global, room: &mut BidiHandle, levels: &mut [u8]) -> usize
     ensures room { held_at room.new ≡ held_at room.old }
-    ensures levels { WritesWhole (map level_byte (layout_at room.old).levels) result levels.old levels.new }
+    ensures levels { WritesWhole (map level_byte (layout_at room.old).levels) result levels.old
+        levels.new }
 {
     let Some(held) = room.take(alloc) else {
         return 0;
@@ -29,7 +30,7 @@ pub extern "C" fn bidi_levels(alloc: Global, room: &mut BidiHandle, levels: &mut
     count
 }
 
-/// How many paragraphs the text has. Their levels (P2, P3) are written to `levels`, if all have place there.
+/// How many paragraphs the text has. Their levels (P2, P3) are written to `levels`, if all fit there.
 #[unsafe(no_mangle)]
 pub extern "C" fn bidi_para_levels(alloc: Global, room: &mut BidiHandle, levels: &mut [u8]) -> usize
     ensures room { held_at room.new ≡ held_at room.old }
@@ -70,7 +71,8 @@ fn look_up_line(
     line: &mut BidiLine,
 ) -> Result<(), Refusal>
     ensures room { held_at room.new ≡ held_at room.old }
-    ensures line { Puts (TellsOf (layout_at room.old) k) (RefusesLine (held_at room.old) k) line.old line.new result }
+    ensures line { Puts (TellsOf (layout_at room.old) k) (RefusesLine (held_at room.old) k)
+        line.old line.new result }
 {
     let Some(held) = room.take(alloc) else {
         return Err(Refusal::NoRoom);
@@ -92,14 +94,14 @@ pub extern "C" fn bidi_line(
     line: &mut BidiLine,
 ) -> u32
     ensures room { held_at room.new ≡ held_at room.old }
-    ensures line { Answers (Puts (TellsOf (layout_at room.old) k) (RefusesLine (held_at room.old) k) line.old
-        line.new) result }
+    ensures line { Answers (Puts (TellsOf (layout_at room.old) k)
+        (RefusesLine (held_at room.old) k) line.old line.new) result }
 {
     status(look_up_line(alloc, room, k, line))
 }
 
 /// How many positions the order of the line with the number `k` has, 0 where there is no such line. They are written
-/// to `order`, if all have place there: positions of the text, from left to right (L2).
+/// to `order`, if all fit there: positions of the text, from left to right (L2).
 #[unsafe(no_mangle)]
 pub extern "C" fn bidi_order(
     alloc: Global,

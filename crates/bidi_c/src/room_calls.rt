@@ -1,8 +1,7 @@
 // Rooms made and freed.
 ghost use Rattle.std.specs.Prelude.{◌≡◌, None};
 ghost use Rattle.std.specs.Option.{unwrap_or};
-ghost use Rattle.bidi_held.specs.Holdings.{IsNewRoom};
-ghost use Rattle.bidi_held.specs.RefusedCalls.{RefusesRoom};
+ghost use Rattle.bidi_held.specs.Holdings.{IsNewRoom, RefusesRoom};
 ghost use Rattle.bidi_held.specs.Statuses.{Answers, Puts};
 ghost use Rattle.bidi_c.specs.HeldAt.{held_at, capacity_at};
 
@@ -27,7 +26,8 @@ fn make_room(alloc: Global, n: usize, room: &mut BidiHandle) -> Result<(), Refus
 /// held before is freed once the room is made; where it is refused, the handle holds that still.
 #[unsafe(no_mangle)]
 pub extern "C" fn bidi_room_new(alloc: Global, n: usize, room: &mut BidiHandle) -> u32
-    ensures { Answers (Puts (IsNewRoom n) (RefusesRoom n) (held_at room.old) (held_at room.new)) result }
+    ensures { Answers (Puts (IsNewRoom n) (RefusesRoom n) (held_at room.old) (held_at room.new))
+        result }
 {
     status(make_room(alloc, n, room))
 }

@@ -1,7 +1,8 @@
 // Tables made of the bytes of their files, and asked.
 ghost use Rattle.std.specs.Prelude.{◌≡◌, None};
 ghost use Rattle.std.specs.Char.{IsScalar};
-ghost use Rattle.bidi_held.specs.MadeTables.{AnswersFault, MakesTables, image_by};
+ghost use Rattle.bidi_held.specs.MadeTables.{MakesTables, fault_named, image_by};
+ghost use Rattle.bidi_held.specs.Statuses.{AnswersNaming};
 ghost use Rattle.bidi_c.specs.HeldAt.{held_at, tables_at};
 
 use crate::bidi_handle::BidiHandle;
@@ -17,7 +18,8 @@ fn make_tables(
     mirrors: &[u8],
     tables: &mut BidiHandle,
 ) -> Result<(), Refusal>
-    ensures { MakesTables classes.now brackets.now mirrors.now (held_at tables.old) (held_at tables.new) result }
+    ensures { MakesTables classes.now brackets.now mirrors.now (held_at tables.old)
+        (held_at tables.new) result }
 {
     let made = read_tables(alloc, classes, brackets, mirrors)?;
     if tables.hold(alloc, Held::Tables(made)) {
@@ -39,8 +41,8 @@ pub extern "C" fn bidi_tables_new(
     tables: &mut BidiHandle,
     fault: &mut BidiFault,
 ) -> u32
-    ensures { AnswersFault (MakesTables classes.now brackets.now mirrors.now (held_at tables.old)
-        (held_at tables.new)) result fault.old fault.new }
+    ensures { AnswersNaming fault_named (MakesTables classes.now brackets.now mirrors.now
+        (held_at tables.old) (held_at tables.new)) result fault.old fault.new }
 {
     let done = make_tables(alloc, classes, brackets, mirrors, tables);
     if let Err(refusal) = done {

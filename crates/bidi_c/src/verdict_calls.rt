@@ -7,7 +7,7 @@ use bidi_held::told_verdict::BidiVerdict;
 use bidi_held::verdict_text::write_verdict_line;
 use std::alloc::Global;
 
-/// Writes the line that says a verdict, with its LF, to the front of `text`, if it has place there; `line_length` says
+/// Writes the line that says a verdict, with its LF, to the front of `text`, if it fits there; `line_length` says
 /// how many bytes it has. Where the numbers tell no verdict or memory is refused, both stay as they were.
 #[unsafe(no_mangle)]
 pub extern "C" fn bidi_verdict_text(
@@ -16,7 +16,8 @@ pub extern "C" fn bidi_verdict_text(
     text: &mut [u8],
     line_length: &mut usize,
 ) -> u32
-    ensures { Answers (SaysVerdict verdict.now text.old text.new line_length.old line_length.new) result }
+    ensures { Answers (SaysVerdict verdict.now text.old text.new line_length.old line_length.new)
+        result }
 {
     status(write_verdict_line(alloc, verdict, text, line_length))
 }

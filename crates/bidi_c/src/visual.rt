@@ -1,8 +1,8 @@
 // A line from left to right, copied out.
 ghost use Rattle.std.specs.Prelude.{◌≡◌, IfOk, IfErr};
 ghost use Rattle.bidi_held.specs.Statuses.{Answers, Puts};
-ghost use Rattle.bidi_held.specs.Visual.{IsRun, RefusesRun, WritesPlaces, WritesShown};
-ghost use Rattle.bidi_c.specs.HeldAt.{held_at, layout_at, line_of_room, shown_of_room};
+ghost use Rattle.bidi_held.specs.Visual.{IsRun, RefusesRun, WritesPlaces, WritesShown, shown_held};
+ghost use Rattle.bidi_c.specs.HeldAt.{held_at, layout_at, line_of_room};
 
 use crate::bidi_handle::BidiHandle;
 use bidi_held::refusal::{Refusal, status};
@@ -10,7 +10,7 @@ use bidi_held::visual_lines::{BidiRun, run_of, show, write_places_of};
 use std::alloc::Global;
 
 /// How many positions the line with the number `k` has, 0 where there is no such line. The place of each in the order
-/// of the line is written to `places`, if all have place there: `SIZE_MAX` where a position was removed (X9). The
+/// of the line is written to `places`, if all fit there: `SIZE_MAX` where a position was removed (X9). The
 /// first stands for the position at which the line begins.
 #[unsafe(no_mangle)]
 pub extern "C" fn bidi_places(
@@ -65,7 +65,8 @@ pub extern "C" fn bidi_run(
     run: &mut BidiRun,
 ) -> u32
     ensures room { held_at room.new ≡ held_at room.old }
-    ensures run { Answers (Puts (IsRun (layout_at room.old).levels (line_of_room room.old k).order from)
+    ensures run { Answers (Puts
+        (IsRun (layout_at room.old).levels (line_of_room room.old k).order from)
         (RefusesRun (held_at room.old) k from) run.old run.new) result }
 {
     match look_up_run(alloc, room, k, from) {
@@ -77,7 +78,7 @@ pub extern "C" fn bidi_run(
     }
 }
 
-/// How many characters of the line with the number `k` are shown. They are written to `shown`, if all have place
+/// How many characters of the line with the number `k` are shown. They are written to `shown`, if all fit
 /// there, from left to right, each at an odd level as its mirror image, where it has one (L4). `codes` are the code
 /// points of the whole text that was laid out. It answers 0 where there is no such line, where there are no tables,
 /// and where the text that was laid out has another length.
@@ -92,7 +93,8 @@ pub extern "C" fn bidi_shown(
 ) -> usize
     ensures room { held_at room.new ≡ held_at room.old }
     ensures tables { held_at tables.new ≡ held_at tables.old }
-    ensures shown { WritesShown codes.now (shown_of_room room.old tables.old codes.now k) result shown.old shown.new }
+    ensures shown { WritesShown codes.now
+        (shown_held (held_at room.old) (held_at tables.old) codes.now k) result shown.old shown.new }
 {
     let Some(held) = room.take(alloc) else {
         return 0;

@@ -1,7 +1,7 @@
 -- What a handle holds.
-use Rattle.std.specs.Prelude.{ℕ, ◌≡◌, Option, Some, None, [], slice_index_or}
+use Rattle.std.specs.Prelude.{ℕ, ◌≡◌, ◌<◌, ◌≤◌, ◌⊎◌, Option, Some, None, [], slice_index_or}
 use Rattle.std.specs.Option.{option_map}
-use Rattle.units.specs.Layout.{TextLayout, LineLayout, layout_of}
+use Rattle.units.specs.Layout.{TextLayout, LineLayout, layout_of, longest_text}
 use Rattle.units.specs.Limits.{standard}
 use Rattle.units.specs.declared.level.Direction.TheVariants.{Auto}
 use Rattle.ucdfiles.specs.Tables.{TablesOf}
@@ -10,6 +10,8 @@ use Rattle.lines.specs.Scratches.{layout_in, room_of}
 use Rattle.bidi_held.specs.declared.held.Held.{Held}
 use Rattle.bidi_held.specs.declared.held.Held.TheVariants.{Tables, Room}
 use Rattle.bidi_held.specs.declared.room.Room.{Room as RoomOf}
+use Rattle.bidi_held.specs.declared.refusal.Refusal.{Refusal}
+use Rattle.bidi_held.specs.declared.refusal.Refusal.TheVariants.{Memory, TooBig}
 
 -- the tables that it holds, if it holds tables
 abbrev pub tables_in : Option Held → Option TablesOf
@@ -46,3 +48,7 @@ line_numbered layout k = slice_index_or layout.lines k no_line
 pub record IsNewRoom (n : ℕ) (handle : Option Held) : Type 0 where
   pub capacity : capacity_in handle ≡ Some n
   pub empty : layout_held handle ≡ layout_of standard [] Auto []
+
+-- room for n code points is refused for this reason: there may be none, or memory was refused
+abbrev pub RefusesRoom : ℕ → Refusal → Type 0
+RefusesRoom n refusal = ((refusal ≡ TooBig) × (longest_text < n)) ⊎ ((refusal ≡ Memory) × (n ≤ longest_text))

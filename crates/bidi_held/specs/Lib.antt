@@ -4,7 +4,6 @@ pub mod Texts
 pub mod Holdings
 pub mod LimitsGiven
 pub mod Refusals
-pub mod RefusedCalls
 pub mod MadeTables
 pub mod LaidOut
 pub mod Written

@@ -9,7 +9,7 @@ use Rattle.ucdfiles.specs.declared.fault.TableFault.TheVariants as table
 use Rattle.ucdfiles.specs.declared.files.FileFault.{FileFault}
 use Rattle.ucdfiles.specs.declared.files.FileFault.TheVariants.{Classes, Brackets, Mirrors}
 use Rattle.bidi_held.specs.Holdings.{tables_in}
-use Rattle.bidi_held.specs.Statuses.{Outcome, Puts, place_of, status_of}
+use Rattle.bidi_held.specs.Statuses.{Outcome, Puts, place_of}
 use Rattle.bidi_held.specs.declared.held.Held.{Held}
 use Rattle.bidi_held.specs.declared.read_tables.BidiFault.{BidiFault}
 use Rattle.bidi_held.specs.declared.refusal.Refusal.{Refusal}
@@ -68,13 +68,6 @@ fault_number_in _ = 0
 abbrev pub fault_named : Outcome → BidiFault → BidiFault
 fault_named (Ok done) before = before
 fault_named (Err refusal) before = record { line = place_of refusal; kind = fault_number_in refusal }
-
--- a call answers this number, and says what is wrong where it is refused, and what it comes to is so
-pub record AnswersFault (IsSo : Outcome → Type 0) (number : ℕ) (before after : BidiFault) : Type 0 where
-  pub outcome : Outcome
-  pub coded : number ≡ status_of outcome
-  pub told : after ≡ fault_named outcome before
-  pub so : IsSo outcome
 
 -- the mirror image of a character by the tables, itself where it has none
 abbrev pub image_by : Option TablesOf → ℕ → ℕ

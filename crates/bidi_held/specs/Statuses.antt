@@ -59,11 +59,11 @@ pub record Answers (IsSo : Outcome → Type 0) (number : ℕ) : Type 0 where
   pub coded : number ≡ status_of outcome
   pub so : IsSo outcome
 
--- a call answers this number, and names a place where it is refused, and what it comes to is so
-pub record AnswersAt (IsSo : Outcome → Type 0) (number before after : ℕ) : Type 0 where
+-- a call answers this number, and names beside it what it comes to, from what was named before; and that is so
+pub record AnswersNaming {A : Type 0} (named : Outcome → A → A) (IsSo : Outcome → Type 0) (number : ℕ) (before after : A) : Type 0 where
   pub outcome : Outcome
   pub coded : number ≡ status_of outcome
-  pub placed : after ≡ place_named outcome before
+  pub told : after ≡ named outcome before
   pub so : IsSo outcome
 
 -- a call that is to put something right into a place: where it is done it has put it there, else the place keeps what it

@@ -36,12 +36,12 @@ RefusesNumbers numbers refusal = (refusal ≡ Memory) ⊎ ((refusal ≡ NoVerdic
 
 -- the numbers tell a verdict whose line has more than so many bytes
 abbrev pub IsLongerThan : BidiVerdict → ℕ → Type 0
-IsLongerThan numbers place = (line : List ℕ) × IsVerdictLine numbers line × (place < length line)
+IsLongerThan numbers most = (line : List ℕ) × IsVerdictLine numbers line × (most < length line)
 
--- the line of these numbers is not written, with place for so many bytes, for this reason
+-- the line of these numbers is not written where so many bytes fit, for this reason
 abbrev pub RefusesVerdictText : BidiVerdict → ℕ → Refusal → Type 0
-RefusesVerdictText numbers place refusal =
-    RefusesNumbers numbers refusal ⊎ ((refusal ≡ TooSmall) × IsLongerThan numbers place)
+RefusesVerdictText numbers most refusal =
+    RefusesNumbers numbers refusal ⊎ ((refusal ≡ TooSmall) × IsLongerThan numbers most)
 
 -- what a call leaves that is to write the line of these numbers: where it is done the line stands whole in front of what
 -- was there, else what was there stays, for a reason; where the numbers tell a verdict and there was memory the length

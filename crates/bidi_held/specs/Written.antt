@@ -1,7 +1,7 @@
 -- What is written out for C.
 use Rattle.std.specs.Prelude.{ℕ, ◌≡◌, ◌≤◌, ◌<◌, List, length, take, drop}
 
--- n items are counted, and written to the front if there is place for all, else none; those that are written are
+-- n items are counted, and written to the front if all fit there, else none; those that are written are
 -- right, and what stands behind them stays
 pub record Writes {A : Type 0} (n : ℕ) (AreRight : List A → Type 0) (counted : ℕ) (old new : List A) : Type 0 where
   pub count : counted ≡ n

@@ -30,8 +30,8 @@ pub fn lay_out_held(
     breaks: &[usize],
     limits: Limits,
 ) -> Result<(), Refusal>
-    ensures { LaysOutCodes limits (Some tables.now) codes.now direction breaks.now (Some room.old) (Some room.new)
-        result }
+    ensures { LaysOutCodes limits (Some tables.now) codes.now direction breaks.now (Some room.old)
+        (Some room.new) result }
 {
     let Held::Room(room) = room else {
         return Err(Refusal::NoRoom);
@@ -53,7 +53,8 @@ pub fn lay_out_classes_held(
     breaks: &[usize],
     limits: Limits,
 ) -> Result<(), Refusal>
-    ensures { LaysOutClasses limits numbers.now direction breaks.now (Some room.old) (Some room.new) result }
+    ensures { LaysOutClasses limits numbers.now direction breaks.now (Some room.old)
+        (Some room.new) result }
 {
     let Held::Room(room) = room else {
         return Err(Refusal::NoRoom);

@@ -34,7 +34,7 @@ pub(crate) fn byte_of(level: Option<Level>) -> u8
     }
 }
 
-/// Writes the levels to the front of `out`, if all have place there. It answers how many they are.
+/// Writes the levels to the front of `out`, if all fit there. It answers how many they are.
 pub fn write_levels(levels: &[Option<Level>], out: &mut [u8]) -> usize
     ensures { WritesWhole (map level_byte levels.now) result out.old out.new }
 {
@@ -46,7 +46,7 @@ pub fn write_levels(levels: &[Option<Level>], out: &mut [u8]) -> usize
     levels.len()
 }
 
-/// Writes the paragraphs' levels to the front of `out`, if all have place there. It answers how many they are.
+/// Writes the paragraphs' levels to the front of `out`, if all fit there. It answers how many they are.
 pub fn write_para_levels(levels: &[ParaLevel], out: &mut [u8]) -> usize
     ensures { WritesWhole (map level_of_para levels.now) result out.old out.new }
 {
@@ -58,7 +58,7 @@ pub fn write_para_levels(levels: &[ParaLevel], out: &mut [u8]) -> usize
     levels.len()
 }
 
-/// Writes positions to the front of `out`, if all have place there. It answers how many they are.
+/// Writes positions to the front of `out`, if all fit there. It answers how many they are.
 fn write_order(order: &[usize], out: &mut [usize]) -> usize
     ensures { WritesWhole order.now result out.old out.new }
 {
@@ -80,8 +80,8 @@ pub fn write_order_of(layout: &Layout<'_>, k: usize, out: &mut [usize]) -> usize
 
 /// Tells of the line with the number `k`, if there is one.
 pub fn tell_line(layout: &Layout<'_>, k: usize, line: &mut BidiLine) -> Result<(), Refusal>
-    ensures { Puts (TellsOf (view_of layout.now) k) (LayoutRefusesLine (view_of layout.now) k) line.old line.new
-        result }
+    ensures { Puts (TellsOf (view_of layout.now) k) (LayoutRefusesLine (view_of layout.now) k)
+        line.old line.new result }
 {
     if layout.line_count() <= k {
         return Err(Refusal::NoLine);

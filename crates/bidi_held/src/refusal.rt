@@ -46,7 +46,7 @@ pub enum Refusal {
     MirrorFile(TableFault),
     /// The numbers tell no verdict.
     NoVerdict,
-    /// The line has more bytes than there is place for.
+    /// The line has more bytes than fit.
     TooSmall,
 }
 

@@ -37,8 +37,10 @@ fn fill_units(units: &mut [Unit], tables: &Tables, codes: &[u32]) -> Result<(), 
     requires { length codes.now ≤ length units.old }
     ensures len { length units.new ≡ length units.old }
     ensures refused { IfErr result (RefusesCodes codes.now) }
-    ensures scalars { OnOk result ((k : ℕ) → k < length codes.now → IsScalar (slice_index codes.now k)) }
-    ensures units { OnOk result (take (length codes.now) units.new ≡ units_by tables.now codes.now) }
+    ensures scalars { OnOk result ((k : ℕ) → k < length codes.now
+        → IsScalar (slice_index codes.now k)) }
+    ensures units { OnOk result (take (length codes.now) units.new
+        ≡ units_by tables.now codes.now) }
 {
     for i in 0..codes.len() {
         let Some(c) = char::from_u32(codes[i]) else {
@@ -98,7 +100,8 @@ fn fill_classes(units: &mut [Unit], numbers: &[u8]) -> Result<(), Refusal>
     requires { length numbers.now ≤ length units.old }
     ensures len { length units.new ≡ length units.old }
     ensures refused { IfErr result (RefusesNumbered numbers.now) }
-    ensures classes { OnOk result ((k : ℕ) → k < length numbers.now → IsClassNumber (slice_index numbers.now k)) }
+    ensures classes { OnOk result ((k : ℕ) → k < length numbers.now
+        → IsClassNumber (slice_index numbers.now k)) }
     ensures units { OnOk result (take (length numbers.now) units.new ≡ units_numbered numbers.now) }
 {
     for i in 0..numbers.len() {
@@ -219,10 +222,11 @@ impl Room {
         limits: Limits,
     ) -> Result<(), Refusal>
         ensures room { room_of self.new.scratch ≡ room_of self.old.scratch }
-        ensures refused { IfErr result (Refuses (room_of self.old.scratch) (length numbers.now) at.now
-            (RefusesNumbered numbers.now)) }
+        ensures refused { IfErr result (Refuses (room_of self.old.scratch) (length numbers.now)
+            at.now (RefusesNumbered numbers.now)) }
         ensures kept { OnErr result (self.new.scratch ≡ self.old.scratch) }
-        ensures taken { OnOk result (Takes IsClassNumber (room_of self.old.scratch) numbers.now at.now) }
+        ensures taken { OnOk result (Takes IsClassNumber (room_of self.old.scratch) numbers.now
+            at.now) }
         ensures laid_out { OnOk result (layout_in self.new.scratch ≡ layout_of limits
             (units_numbered numbers.now) direction at.now) }
     {

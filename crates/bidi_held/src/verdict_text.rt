@@ -23,7 +23,7 @@ fn verdict_line(alloc: Global, numbers: &BidiVerdict) -> Result<Vec<u8>, Refusal
     }
 }
 
-/// Writes the line that says the verdict with these numbers to the front of `out`, with its LF, if it has place there.
+/// Writes the line that says the verdict with these numbers to the front of `out`, with its LF, if it fits there.
 /// Where the numbers tell a verdict and there is memory, `line_length` says how many bytes the line has.
 pub fn write_verdict_line(
     alloc: Global,

@@ -116,7 +116,7 @@ fn write_shown(
     }
 }
 
-/// Writes the places of the positions of the line with the number `k`, if all have place there. It answers how many
+/// Writes the places of the positions of the line with the number `k`, if all fit there. It answers how many
 /// positions the line has.
 pub fn write_places_of(layout: &Layout<'_>, k: usize, out: &mut [usize]) -> usize
     ensures { WritesPlaces (line_numbered (view_of layout.now) k) result out.old out.new }
@@ -134,7 +134,8 @@ pub fn write_places_of(layout: &Layout<'_>, k: usize, out: &mut [usize]) -> usiz
 
 /// The run of the line with the number `k` that begins at a place, if there are such a line and place.
 pub fn run_of(layout: &Layout<'_>, k: usize, from: usize) -> Result<BidiRun, Refusal>
-    ensures run { IfOk result (IsRun (view_of layout.now).levels (line_numbered (view_of layout.now) k).order from) }
+    ensures run { IfOk result (IsRun (view_of layout.now).levels
+        (line_numbered (view_of layout.now) k).order from) }
     ensures refused { IfErr result (LineRefusesRun (view_of layout.now) k from) }
 {
     if layout.line_count() <= k {
@@ -147,7 +148,7 @@ pub fn run_of(layout: &Layout<'_>, k: usize, from: usize) -> Result<BidiRun, Ref
     Ok(run_from(layout.levels(), order, from))
 }
 
-/// Writes the characters of the line with the number `k` as they are shown, if all have place there; `codes` are those
+/// Writes the characters of the line with the number `k` as they are shown, if all fit there; `codes` are those
 /// of the whole text. It answers how many there are.
 fn write_shown_of(
     layout: &Layout<'_>,
@@ -156,8 +157,8 @@ fn write_shown_of(
     k: usize,
     out: &mut [u32],
 ) -> usize
-    ensures { WritesShown codes.now (shown_line (view_of layout.now) (Some tables.now) codes.now k) result
-        out.old out.new }
+    ensures { WritesShown codes.now
+        (shown_line (view_of layout.now) (Some tables.now) codes.now k) result out.old out.new }
 {
     if layout.line_count() <= k || codes.len() != layout.levels().len() {
         return 0;
@@ -169,11 +170,11 @@ fn write_shown_of(
     order.len()
 }
 
-/// Writes the characters of the line with the number `k` as they are shown, if all have place there and these are a
+/// Writes the characters of the line with the number `k` as they are shown, if all fit there and these are a
 /// room and tables. It answers how many there are.
 pub fn show(room: &Held, tables: &Held, codes: &[u32], k: usize, out: &mut [u32]) -> usize
-    ensures { WritesShown codes.now (shown_held (Some room.now) (Some tables.now) codes.now k) result
-        out.old out.new }
+    ensures { WritesShown codes.now (shown_held (Some room.now) (Some tables.now) codes.now k)
+        result out.old out.new }
 {
     let Some(layout) = room.layout() else {
         return 0;
