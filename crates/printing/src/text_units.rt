@@ -11,13 +11,5 @@ use units::memory::Memory;
 pub fn units_of(alloc: Global, tables: &Tables, chars: &[char]) -> Result<Vec<Unit>, Memory>
     ensures { IfOk result (λ units. units.items ≡ units_by tables.now chars.now) }
 {
-    let mut units = Vec::with_capacity(alloc, chars.len())?;
-    for c in chars {
-        let unit = tables.unit(*c);
-        match units.push(unit) {
-            Ok(()) => {}
-            Err(_) => return Err(Memory),
-        }
-    }
-    Ok(units)
+    Ok(tables.units_of(alloc, chars)?)
 }

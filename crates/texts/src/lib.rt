@@ -6,7 +6,6 @@ ghost use Rattle.std.specs.Prelude.{◌≡◌, ◌≤◌, length, IfOk};
 ghost use Rattle.std.specs.Str.{chars};
 ghost use Rattle.units.specs.Layout.{longest_text};
 ghost use Rattle.lines.specs.Scratches.{room_of, layout_in, IsFilled};
-ghost use Rattle.ucdfiles.specs.Tables.{units_by};
 
 use lines::breaks::{BreakFault, Breaks};
 use lines::lay_out::lay_out_into;
@@ -15,7 +14,6 @@ use lines::scratch::{MOST, Scratch};
 use std::alloc::{AllocError, Global};
 use thiserror::Error;
 pub use ucdfiles::tables::Tables;
-use units::bracket::Unit;
 pub use units::level::Direction;
 
 /// Why a text is not laid out.
@@ -67,17 +65,6 @@ fn chars_of(alloc: Global, text: &str) -> Result<Vec<char>, AllocError>
     text.chars().collect(alloc)
 }
 
-/// What the tables know of each character of a text.
-fn units_of(alloc: Global, tables: &Tables, chars: &[char]) -> Result<Vec<Unit>, AllocError>
-    ensures { IfOk result (λ units. units.items ≡ units_by tables.now chars.now) }
-{
-    let mut units = Vec::new(alloc);
-    for c in chars {
-        units.push(tables.unit(*c))?;
-    }
-    Ok(units)
-}
-
 impl<'t> Text<'t> {
     ghost use Rattle.std.specs.Prelude.{◌≡◌, ◌<◌, ◌≤◌, length, string_bytes, IfOk, OnOk, IfErr};
     ghost use Rattle.std.specs.Str.{chars, encode_utf8_all};
@@ -103,7 +90,7 @@ impl<'t> Text<'t> {
         ensures laid_out { IfOk result (λ laid. layout_in_text laid
             ≡ layout_of standard (units_by tables.now chars.items) direction breaks.now.positions) }
     {
-        let units = units_of(alloc, tables, &chars)?;
+        let units = tables.units_of(alloc, &chars)?;
         let mut scratch = Scratch::reserve(alloc, units.len()).map_err(|_| AllocError)?;
         lay_out_into(&mut scratch, &units, direction, breaks).unwrap();
         Ok(Text {
