@@ -42,11 +42,12 @@ fn fill_units(units: &mut [Unit], tables: &Tables, codes: &[u32]) -> Result<(), 
     ensures units { OnOk result (take (length codes.now) units.new
         ≡ units_by tables.now codes.now) }
 {
+    let lent = tables.units();
     for i in 0..codes.len() {
         let Some(c) = char::from_u32(codes[i]) else {
             return Err(Refusal::NoCharacter(i));
         };
-        units[i] = tables.unit(c);
+        units[i] = lent.unit(c);
     }
     Ok(())
 }
