@@ -1,7 +1,7 @@
 -- A row by equal parts.
 use Rattle.std.proofs.Common.{◌≡◌, ◌∙◌, ℕ, List, Option, ap}
 use Rattle.units.specs.declared.class.Class.{Class}
-use Rattle.explain.specs.Rows.{row_text}
+use Rattle.explain.specs.RowText.{row_text}
 use Rattle.explain.specs.declared.row.RowLevels.{RowLevels}
 
 pub same_row : (p : ℕ) (c d : Option ℕ) (cs ds : List Class) (l m : RowLevels) → c ≡ d → cs ≡ ds → l ≡ m → row_text p c cs l ≡ row_text p d ds m

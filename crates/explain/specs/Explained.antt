@@ -16,7 +16,7 @@ use Rattle.printing.specs.LevelsText.{printed}
 use Rattle.rule_columns.specs.Columns.{ColumnsOf, column_after, columns_of}
 use Rattle.explain.specs.Feet.{sequence_text, pair_text, order_text}
 use Rattle.explain.specs.Heads.{head_text, decider_of}
-use Rattle.explain.specs.Rows.{row_text}
+use Rattle.explain.specs.RowText.{row_text}
 use Rattle.explain.specs.declared.row.RowLevels.{RowLevels}
 use Rattle.rule_columns.specs.declared.rule.Rule.{Rule}
 use Rattle.rule_columns.specs.declared.rule.Rule.TheVariants as rule

@@ -1,7 +1,7 @@
 // The row of a position: what each rule made of it.
 ghost use Rattle.std.specs.Prelude.{◌<◌, length, OnOk};
 ghost use Rattle.std.specs.Io.KnownBytes.{Appends};
-ghost use Rattle.explain.specs.Rows.{changes_text, row_start_text, row_end_text, row_text};
+ghost use Rattle.explain.specs.RowText.{changes_text, row_start_text, row_end_text, row_text};
 
 use crate::cell::{class_cell, explicit_cell, level_cell};
 use crate::code::Code;

@@ -1,5 +1,5 @@
 use Rattle.printing.proofs.Printing.{HasPrinted}
-use Rattle.explain.specs.Rows.{change_text}
+use Rattle.explain.specs.RowText.{change_text}
 use Rattle.explain.proofs.row.print_changes.Given as goal
 
 abbrev pub invariant-loop-k : goal.invariant-loop-k
