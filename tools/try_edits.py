@@ -1,15 +1,16 @@
 #!/usr/bin/env python3
 """Tries wrong bodies, many in one check: the prover must refuse each for an open goal of its own function.
 
-usage: tools/try_edits.py [--all] [CRATE | CRATE/EDIT ..]      (at the top of the repository; with no name: every crate)
+usage: tools/try_edits.py [--all] [--read] [CRATE | CRATE/EDIT ..]      (at the top; with no name: every crate)
 
 It takes the edits of crates/CRATE/wrong/, with --all those of must-fail/ too; an edit that is named it takes from
-either. Callers rest on contracts alone, so a wrong body hides no other: the edits of a crate that change different
-functions go into one copy, which is checked once. An edit counts as refused there if a goal of the function that it
-changes is open, by a proof file of that function or by the check's own search. What was not refused so, as where the
-function waits for a wrong one that it calls, goes into a further round, and at last is tried singly, as rt ci does. A
-function that no edit of a round changes must be proved there. For each edit a line is printed, and the last line is
-'N passed, M failed'; the status is 1 where one failed.
+either. With --read it checks nothing, and says which edits can't be applied to the files as they are. Callers rest on
+contracts alone, so a wrong body hides no other: the edits of a crate that change different functions go into one copy,
+which is checked once. An edit counts as refused there if a goal of the function that it changes is open, by a proof
+file of that function or by the check's own search. What was not refused so, as where the function waits for a wrong
+one that it calls, goes into a further round, and at last is tried singly, as rt ci does. A function that no edit of a
+round changes must be proved there. For each edit a line is printed, and the last line is 'N passed, M failed'; the
+status is 1 where one failed.
 
 A crate is checked over a copy of what rt check kept of it in out/, or from nothing. The libraries below are those that
 rt check or rt lib built, or those that rt ci left; where neither fit the files, rt builds them. As many crates are
@@ -299,13 +300,30 @@ def edits_task(crate, files, libraries):
     return lambda given, jobs: [0, 0] if any(given[it] for it in libraries) else try_edits(crate, files)
 
 
+def read_all(asked):
+    """Says which edits can't be applied, and returns the status."""
+    edits = [read_edit(crate, file) for crate, files in asked.values() for file in files]
+    faults = [it for it in edits if it.fault]
+    for it in faults:
+        print(f"{it.label}: BAD EDIT: {it.fault}")
+    print(f"{len(edits) - len(faults)} can be applied, {len(faults)} can't")
+    return 1 if faults else 0
+
+
 def main(words):
-    is_all, names = "--all" in words, [it for it in words if it != "--all"]
+    names = [it for it in words if it not in ("--all", "--read")]
     rt.rtlib.guarded()
     crates = sorted(rt.rtlib.crates_below(os.getcwd()), key=lambda it: len(it.below()))
-    if wrong := [it for it in words if it.startswith("--") and it != "--all"] + unknown(crates, names):
+    if wrong := unknown(crates, names):
         sys.exit(f"no crate and no edit: {' '.join(wrong)}\n\n{__doc__}")
-    asked = {it.name: (it, files) for it in crates if (files := files_of(it, is_all, names))}
+    asked = {it.name: (it, files) for it in crates if (files := files_of(it, "--all" in words, names))}
+    if "--read" in words:
+        return read_all(asked)
+    return try_all(crates, asked)
+
+
+def try_all(crates, asked):
+    """Tries the edits of each crate, behind the libraries that they stand on, and returns the status."""
     below = {dep.name: dep for it, _ in asked.values() for dep in it.below()}
     tasks = build_tasks([it for it in crates if it.name in below])
     builds = set(tasks)
