@@ -14,8 +14,8 @@ ghost use Rattle.bidtests.specs.Headline.{ComeTo, YesIsExact, MalformedIsExact, 
 /// `wrong`: with this line's number, direction and place exactly if the line is a row that is well formed and names
 /// the direction, the place is the first of the paragraph's level, the levels and the order at which its claim
 /// differs from the layout, and neither an earlier line nor an earlier one of its directions, in the order auto, LTR,
-/// RTL, AutoRtl, is malformed or wrong. `line`: there are as many findings as lines, and what these say of a line is what
-/// it comes to by itself and, in a BidiTest.txt, by the lists in force behind the lines before it.
+/// RTL, AutoRtl, is malformed or wrong. `line`: there are as many findings as lines, and what these say of a line
+/// is what it comes to by itself and, in a BidiTest.txt, by the lists in force behind the lines before it.
 pub fn verdict_law()
     ensures line { (kind : Kind) (lines : List (List ℕ)) → ComeTo kind lines (findings_by kind lines) }
     ensures yes { (limits : LimitsOf) (kind : Kind) (b : List ℕ) → YesIsExact limits kind b }

@@ -162,8 +162,10 @@ impl LineJudge {
     /// Judges a row of classes by the lists in force.
     fn judge_row(&mut self, content: &[u8]) -> Result<(), LineFault>
         requires { length content.now ≤ longest_line }
-        ensures fault { result_err result ≡ fault_said self.old (classes_row (fields_of content.now)) }
-        ensures carried { OnOk result (self.new ≡ after_said (classes_row (fields_of content.now)) self.old) }
+        ensures fault { result_err result
+            ≡ fault_said self.old (classes_row (fields_of content.now)) }
+        ensures carried { OnOk result (self.new
+            ≡ after_said (classes_row (fields_of content.now)) self.old) }
     {
         let directions = read_classes_row(content, &mut self.text)?;
         if !self.has_levels || !self.has_order {
@@ -228,7 +230,8 @@ impl LineJudge {
     /// Judges a line of a characters file, in which no list is in force.
     fn judge_characters_line(&mut self, line: &[u8], tables: &Tables) -> Result<(), LineFault>
         requires { length line.now ≤ longest_line }
-        ensures fault { result_err result ≡ fault_of self.old.limits (characters_line (unit_by tables.now) line.now) }
+        ensures fault { result_err result
+            ≡ fault_of self.old.limits (characters_line (unit_by tables.now) line.now) }
         ensures carried { OnOk result (self.new
             ≡ counted (characters_line (unit_by tables.now) line.now) (unlisted self.old)) }
     {

@@ -40,7 +40,8 @@ impl Model for JudgeState {
 fn judge_step(kind: Kind<'_>, line_judge: &mut LineJudge, step: Step<'_>) -> Result<(), Verdict>
     requires { StepIsShort step }
     ensures no { result_err result ≡ no_by kind.entry line_judge.old step.entry }
-    ensures carried { OnOk result (line_judge.new ≡ after_step kind.entry step.entry line_judge.old) }
+    ensures carried { OnOk result (line_judge.new
+        ≡ after_step kind.entry step.entry line_judge.old) }
 {
     match step {
         Step::More => Ok(()),
