@@ -1,9 +1,10 @@
 -- How many steps a layout takes, for each position of its text.
 use Rattle.std.specs.Prelude.{ℕ, ◌+◌}
+use Rattle.paragraph.specs.StepBounds.{known_steps}
 
 -- P1 to I2 at most: paragraphs and their contents are found, lines are cut, and the rules take the rest
 abbrev pub text_steps : ℕ
-text_steps = 81 + 4
+text_steps = known_steps + 4
 
 -- where each paragraph keeps its level
 abbrev pub light_text_steps : ℕ
