@@ -39,17 +39,6 @@ pub enum Fault<'a> {
     OutOfMemory,
 }
 
-impl From<io::Error> for Fault<'_> {
-    ghost use Rattle.std.specs.Prelude.{◌≡◌};
-    ghost use Rattle.requests.specs.declared.fault.Fault.TheVariants.{CannotWrite};
-
-    ghost from_gives = { λ _ fault. fault ≡ CannotWrite };
-
-    fn from(_error: io::Error) -> Self {
-        Fault::CannotWrite
-    }
-}
-
 impl From<PrintFault> for Fault<'_> {
     ghost use Rattle.std.specs.Prelude.{◌≡◌};
     ghost use Rattle.requests.specs.FaultText.{print_fault};

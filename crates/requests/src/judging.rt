@@ -13,10 +13,10 @@ use crate::opening::{MOST_FILE_BYTES, open};
 use crate::outcome::Outcome;
 use crate::request::FileKind;
 use crate::table_files::read_tables;
+use crate::verdict_line::print_verdict;
 use bidtests::judge::Judge;
 use bidtests::reader::judge_reader;
 use bidtests::verdict::Verdict;
-use bidtests::verdict_line::print_verdict;
 use std::alloc::Global;
 use std::io::Write;
 

@@ -13,3 +13,4 @@ mod reading;
 pub mod request;
 pub mod run;
 mod table_files;
+pub mod verdict_line;

@@ -1,0 +1,18 @@
+// The line that says a verdict, printed.
+ghost use Rattle.std.specs.Prelude.{◌≡◌, IfErr, OnOk};
+ghost use Rattle.std.specs.Io.KnownBytes.{Appends};
+ghost use Rattle.bidtests.specs.VerdictText.{verdict_text};
+
+use bidtests::verdict::Verdict;
+use bidtests::verdict_line::print_verdict as print_line;
+use printing::fault::PrintFault;
+use std::io::Write;
+
+/// Writes the line that says a verdict, with its LF. The fault is `Write` where the writer fails, when it is not known
+/// how much it took.
+pub fn print_verdict<W: Write>(w: &mut W, verdict: &Verdict) -> Result<(), PrintFault>
+    ensures line { OnOk result (Appends (W.contents w.old) (W.contents w.new) (verdict_text verdict.now)) }
+    ensures fault { IfErr result (λ fault. fault ≡ PrintFault.Write) }
+{
+    Ok(print_line(w, verdict)?)
+}
