@@ -22,7 +22,7 @@ use Rattle.sequences.specs.contracts.heads.Head as head
 use Rattle.resolve.specs.contracts.pairs.Pairs as pairs
 use Rattle.paragraph.specs.contracts.resolver.Resolver as resolver
 use Rattle.lines.specs.contracts.scratch.Scratch as scratch
-use Rattle.bidtests.specs.contracts.sheet.Sheet as sheet
+use Rattle.bidtests.specs.contracts.line_judge.LineJudge as line_judge
 use Rattle.bidtests.specs.contracts.state.JudgeState as state
 use Rattle.bidi_held.specs.contracts.room.Room as room
 use Rattle.bidi_held.specs.contracts.judge.TableJudge as judge
@@ -88,14 +88,14 @@ unit_sent = search (class_field_sent, sendable, crosses) depth 80 fits 1000000
 limits_sent : IsSend limits.the_row
 limits_sent = search (sendable, crosses) depth 20
 
-sheet_sent : IsSend sheet.the_row
-sheet_sent = search (limits_sent, scratch_field_sent, unit_sent, sendable, crosses) depth 60 fits 1000000
+line_judge_sent : IsSend line_judge.the_row
+line_judge_sent = search (limits_sent, scratch_field_sent, unit_sent, sendable, crosses) depth 60 fits 1000000
 
 line_cut_sent : IsSend line_cut.the_row
 line_cut_sent = search (sendable, crosses) depth 20
 
 state_sent : IsSend state.the_row
-state_sent = search (sheet_sent, line_cut_sent, sendable, crosses) depth 60 fits 1000000
+state_sent = search (line_judge_sent, line_cut_sent, sendable, crosses) depth 60 fits 1000000
 
 judge_sent : IsSend judge.the_row
 judge_sent = search (tables_sent, state_sent, sendable, crosses) depth 60 fits 1000000
