@@ -132,6 +132,8 @@ if [ -n "$found" ]; then
     official=$("$tools/judge_official_files.sh" "$folder")
     is 'status of the official files' 0 $?
     echo "$official"
+    "$tools/standard_tables.py" --check "$folder"
+    is 'status of the facts that are built in' 0 $?
     mkdir real
     for name in DerivedBidiClass.txt BidiBrackets.txt BidiMirroring.txt; do
         cp "$(find "$folder" -name "$name" | sort | head -n 1)" real

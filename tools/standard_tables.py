@@ -7,7 +7,7 @@ usage: tools/standard_tables.py [--check] [FOLDER]
 FOLDER holds BidiBrackets.txt, BidiMirroring.txt and DerivedBidiClass.txt, the last of these there or in its folder
 `extracted` (/usr/share/unicode, where the package unicode-data has them). With --check nothing is written: it ends with
 1 where the facts are not those that would be written, or where the class, the bracket or the mirror image of some code
-point is another by the facts than by the published file.
+point is another by the facts than by the published file; files of another edition than the facts are not compared.
 """
 
 import pathlib
@@ -155,6 +155,9 @@ def main(words):
         FACTS.write_text(made, encoding="utf-8")
         return 0
     kept = FACTS.read_text(encoding="utf-8")
+    if f'EDITION: &str = "{edition}"' not in kept:
+        print(f"the published files are those of Unicode {edition}: the facts that are built in are of another edition")
+        return 0
     wrong = list(differences(texts, kept))[:5] or ([] if kept == made else ["the source is not the one that is made"])
     print("\n".join(wrong) or f"the facts that are built in are those of Unicode {edition}, of {CODE_POINTS} code points")
     return 1 if wrong else 0
