@@ -1,6 +1,6 @@
 #!/usr/bin/env python3
-"""Writes the facts of the tables that are built in: crates/standard/src/facts.rt, of the three property files as Unicode
-publishes them. Their comments are left out, and ranges of one class that stand side by side are joined.
+"""Writes the facts of the tables that are built in: crates/standard/src/facts.rt, of the three property files that
+Unicode publishes. Their comments are left out, and ranges of one class that stand side by side are joined.
 
 usage: tools/standard_tables.py [--check] [FOLDER]
 
@@ -159,7 +159,7 @@ def main(words):
         print(f"the published files are those of Unicode {edition}: the facts that are built in are of another edition")
         return 0
     wrong = list(differences(texts, kept))[:5] or ([] if kept == made else ["the source is not the one that is made"])
-    print("\n".join(wrong) or f"the facts that are built in are those of Unicode {edition}, of {CODE_POINTS} code points")
+    print("\n".join(wrong) or f"built in are the facts of Unicode {edition}, of {CODE_POINTS} code points")
     return 1 if wrong else 0
 
 
