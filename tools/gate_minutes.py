@@ -11,6 +11,7 @@ second less than it took; what the sum has beyond them, as programs that were ru
 import collections
 import os
 import resource
+import signal
 import subprocess
 import sys
 import threading
@@ -83,10 +84,13 @@ def watched(command):
     seconds, ended = {}, threading.Event()
     run = subprocess.Popen(command)
     watch = threading.Thread(target=lambda: [look(run.pid, seconds) for _ in iter(lambda: ended.wait(0.5), True)])
+    signal.signal(signal.SIGTERM, lambda *_: run.terminate())
     watch.start()
-    status = run.wait()
-    ended.set()
-    watch.join()
+    try:
+        status = run.wait()
+    finally:
+        ended.set()
+        watch.join()
     return status, seconds.values()
 
 

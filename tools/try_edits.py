@@ -19,6 +19,7 @@ tried side by side as there are processors and memory, or as RT_JOBS says, each 
 import contextlib
 import copy
 import dataclasses
+import glob
 import os
 import re
 import shutil
@@ -26,7 +27,7 @@ import sys
 import tempfile
 import threading
 
-from kit import left_by_gate, rt
+from kit import crates_here, left_by_gate, rt
 
 FOLDERS = ("wrong", "must-fail")
 FLAGS = ["--jobs", "1"]
@@ -36,6 +37,7 @@ OPEN = re.compile(r"^fn (\S+): (?:not proved|no proof)[^\n]*?did not prove (`[^`
 PROOF_FILE = r"^(?:\./)?proofs/(\S+)/(?:Answers|Invariants|Proof|Send)\.antt"
 STUCK = re.compile(PROOF_FILE + r":\d+:\d+: error: (`[^`]*`): (.*)", re.M)
 NAMES_GONE = re.compile(r"has no field|is not in scope|has no `|was not admitted")
+OF_PROOF = re.compile(r"`(?:invariant|decreases|ghosts)-")
 printing = threading.Lock()
 
 
@@ -165,9 +167,9 @@ def parts_of(path):
 
 def open_goals(said):
     """Returns the functions with an open goal of their own, by path, and one such goal of each."""
-    goals = {parts_of(path.split("::")[1:]): goal for path, goal in OPEN.findall(said)}
+    goals = {parts_of(path.split("::")[1:]): goal for path, goal in OPEN.findall(said) if not OF_PROOF.match(goal)}
     for folder, goal, why in STUCK.findall(said):
-        if not NAMES_GONE.search(why):
+        if not NAMES_GONE.search(why) and not OF_PROOF.match(goal):
             goals.setdefault(parts_of(folder.split("/")), goal)
     return goals
 
@@ -239,13 +241,33 @@ def try_edits(crate, files):
     with tempfile.TemporaryDirectory(prefix="rt-kept-") as shared:
         for it in try_joined(crate, [it for it in edits if not it.fault], shared, tell):
             with kept_work(crate, shared) as kept:
-                is_well, text = rt.must_fail(crate, it.file, FLAGS, kept)
-            tell(is_well, f"{it.label}: (singly) {text.partition('.edit: ')[2]}")
+                is_well, text = try_alone(crate, it, kept)
+            tell(is_well, f"{it.label}: (singly) {text}")
+        if os.listdir(shared) and rt.checked(crate, {}, FLAGS, shared).returncode:
+            tell(False, f"{crate.name}: NOT PROVED over what its rounds kept, so what they refused says nothing")
     return counts
+
+
+def try_alone(crate, edit, kept):
+    """Tries one edit. Returns whether the prover refuses it for what a contract says, and what to say."""
+    is_well, text = rt.must_fail(crate, edit.file, FLAGS, kept)
+    is_by_contract = "only because a proof file names" not in text
+    return is_well and is_by_contract, text.partition(".edit: ")[2]
 
 
 def names_in(folder):
     return sorted(it for it in os.listdir(folder) if it.endswith(".edit")) if os.path.isdir(folder) else []
+
+
+def strays():
+    """Returns what lies below a folder of wrong bodies and is none of a crate's edits."""
+    known = {it.folder for it in crates_here()}
+    found = []
+    for folder in sorted(glob.glob(f"{os.getcwd()}/crates/*/wrong")):
+        for at, _, names in os.walk(folder):
+            is_read = at == folder and os.path.dirname(folder) in known
+            found += [f"{at}/{it}" for it in sorted(names) if not is_read or not it.endswith(".edit")]
+    return [os.path.relpath(it) for it in found]
 
 
 def files_of(crate, is_all, names):
@@ -313,9 +335,11 @@ def read_all(asked):
 def main(words):
     names = [it for it in words if it not in ("--all", "--read")]
     rt.rtlib.guarded()
-    crates = sorted(rt.rtlib.crates_below(os.getcwd()), key=lambda it: len(it.below()))
+    crates = sorted(crates_here(), key=lambda it: len(it.below()))
     if wrong := unknown(crates, names):
         sys.exit(f"no crate and no edit: {' '.join(wrong)}\n\n{__doc__}")
+    if lost := strays():
+        sys.exit(f"no edits of a crate, so nothing tries them: {' '.join(lost)}")
     asked = {it.name: (it, files) for it in crates if (files := files_of(it, "--all" in words, names))}
     if "--read" in words:
         return read_all(asked)

@@ -3,8 +3,8 @@
 
 usage: tools/c/build_library.py      (its status is 0 where the library is built)
 
-Where rt ci left the libraries below and no file that they are made from is younger, it builds the archive over these,
-by the same words as rt lib, which would prove each of them once more. Else it runs rt lib.
+Where rt ci left the libraries below, made from what stands there now (tools/kit.py marks them), it builds the archive
+over these, by the same words as rt lib, which would prove each of them once more. Else it runs rt lib.
 """
 import os
 import pathlib
@@ -27,7 +27,7 @@ def build_over_gate(crate):
 
 def main():
     os.chdir(TOP)
-    crate = next(it for it in kit.rt.rtlib.crates_below(str(TOP)) if it.name == NAME)
+    crate = next(it for it in kit.crates_here() if it.name == NAME)
     if all(kit.left_by_gate(it) for it in crate.below()):
         os.makedirs(f"{crate.folder}/out", exist_ok=True)
         return build_over_gate(crate)
