@@ -1,10 +1,13 @@
 //! Worked rows: the rules of a sequence called one after another, from the classes before W1 to the resolved levels.
 ghost use Rattle.std.specs.Prelude.{◌≡◌, ◌<◌, ◌≤◌, length, IfOk};
 ghost use Rattle.units.specs.Classes.{classes_of};
+ghost use Rattle.units.specs.Limits.{standard};
+ghost use Rattle.resolve.specs.Resolved.{HasLevels, KeepsOtherLevels};
 
 use crate::engine::{only_sequence, sequences_in};
 use crate::given::{assert_shown, units_of};
 use resolve::implicit::implicit;
+use resolve::laws::rules_in_order;
 use resolve::neutral::neutral;
 use resolve::paired::paired;
 use resolve::pairs::{Pairs, bracket_pairs};
@@ -41,7 +44,11 @@ fn resolve_in_order<L: Ledger>(
     requires name { blank.name ≡ L.name }
     requires parts { blank.parts ≡ L.parts }
     requires some { 0 < blank.parts }
+    requires copy { classes.old ≡ before.now }
+    ensures levels { HasLevels standard.brackets s.now para.now before.now levels.new }
+    ensures other_levels { KeepsOtherLevels s.now.positions levels.old levels.new }
 {
+    rules_in_order();
     let mut steps = Steps::<L>::new(blank);
     weak(s, classes, &mut steps);
     bracket_pairs(s, para, classes, Limits::standard(), pairs, &mut steps);
@@ -120,7 +127,7 @@ fn assert_rows(rt: &impl Abort, alloc: Global, rows: &[Row]) -> Result<(), Memor
 }
 
 #[test]
-fn rules_in_order(rt: HostRuntime) -> Result<(), Fail> {
+fn rules_one_after_another(rt: HostRuntime) -> Result<(), Fail> {
     assert_rows(&rt, rt.alloc(), &ROWS)?;
     Ok(())
 }

@@ -34,6 +34,17 @@ bounds_filled filled columns = take (filled.lines + 1) (bounds_in columns)
 abbrev pub lines_filled : Filled → LineColumns → List LineLayout
 lines_filled filled columns = lines_in (orders_filled filled columns) (bounds_filled filled columns)
 
+-- these are columns for a text of so many units: each has a place for each unit
+pub record IsTextRoom (columns : TextColumns) (units : ℕ) : Type 0 where
+  pub paras : places_in columns.paras ≡ units
+  pub levels : places_in columns.levels ≡ units
+
+-- these are columns for its lines: the bounds have one place more
+pub record IsLineRoom (columns : LineColumns) (units : ℕ) : Type 0 where
+  pub runs : places_in columns.runs ≡ units
+  pub orders : places_in columns.orders ≡ units
+  pub bounds : places_in columns.bounds ≡ units + 1
+
 -- there is room for a text of so many units
 pub record HasTextRoom (columns : TextColumns) (units : ℕ) : Type 0 where
   pub paras : units ≤ places_in columns.paras
@@ -56,9 +67,9 @@ pub record KeepsLineRoom (old new : LineColumns) : Type 0 where
   pub orders : places_in new.orders ≡ places_in old.orders
   pub bounds : places_in new.bounds ≡ places_in old.bounds
 
--- there is room for a text of so many units in all columns, and no more than any may have
+-- all columns are made for texts of so many units, and that is no more than any may have
 pub record HaveRoom (room for_paragraphs : ℕ) (text : TextColumns) (lines : LineColumns) : Type 0 where
   pub most : room ≤ longest_text
-  pub paragraphs : room ≤ for_paragraphs
-  pub for_text : HasTextRoom text room
-  pub for_lines : HasLineRoom lines room
+  pub paragraphs : for_paragraphs ≡ room
+  pub for_text : IsTextRoom text room
+  pub for_lines : IsLineRoom lines room

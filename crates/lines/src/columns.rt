@@ -25,11 +25,11 @@ pub(crate) struct TextColumns {
 
 impl TextColumns {
     ghost use Rattle.std.specs.Prelude.{IfOk};
-    ghost use Rattle.lines.specs.Columns.{HasTextRoom};
+    ghost use Rattle.lines.specs.Columns.{IsTextRoom};
 
     /// Columns of `n` places.
     pub(crate) fn with_room(alloc: Global, n: usize) -> Result<TextColumns, Memory>
-        ensures { IfOk result (λ columns. HasTextRoom columns n) }
+        ensures { IfOk result (λ columns. IsTextRoom columns n) }
     {
         Ok(TextColumns {
             paras: column(alloc, ParaLevel::Zero, n)?,
@@ -49,12 +49,12 @@ pub(crate) struct LineColumns {
 impl LineColumns {
     ghost use Rattle.std.specs.Prelude.{◌≤◌, IfOk};
     ghost use Rattle.units.specs.Layout.{longest_text};
-    ghost use Rattle.lines.specs.Columns.{HasLineRoom};
+    ghost use Rattle.lines.specs.Columns.{IsLineRoom};
 
     /// Columns for `n` lines and `n` positions.
     pub(crate) fn with_room(alloc: Global, n: usize) -> Result<LineColumns, Memory>
         requires { n ≤ longest_text }
-        ensures { IfOk result (λ columns. HasLineRoom columns n) }
+        ensures { IfOk result (λ columns. IsLineRoom columns n) }
     {
         let start = Bound {
             position: 0,

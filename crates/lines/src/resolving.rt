@@ -32,8 +32,9 @@ pub struct ResolvedText {
     pub uniform: bool,
 }
 
-/// Writes the levels of a text's paragraphs and the resolved levels of its positions to the fronts of their columns, paragraph by paragraph, by these limits; and the ends of its lines, of which one is at the end of
-/// each paragraph, to the front of `bounds`.
+/// Writes the levels of a text's paragraphs and the resolved levels of its positions to the fronts of their columns,
+/// paragraph by paragraph, by these limits; and the ends of its lines, of which one is at the end of each paragraph, to
+/// the front of `bounds`.
 pub(crate) fn resolve_text<L: Ledger>(
     text: &[Unit],
     direction: Direction,

@@ -68,7 +68,7 @@ pub fn find_sequences<L: Ledger>(
         → HoldsLevels found.new.explicit limits.depth (classes_of para.now) (level_of_para level) }
     ensures all { found.new.sequences.all
         ≡ sequences_of (leveled_of limits.depth (classes_of para.now) (level_of_para level)) }
-    ensures isolates { room found.new.isolates ≡ room found.old.isolates }
+    ensures isolates { found.new.isolates ≡ found.old.isolates }
     ensures explicit { length found.new.explicit ≡ length found.old.explicit }
     ensures room { found.new.sequences.room ≡ found.old.sequences.room }
     ensures at_least { steps.old ≤ steps.new }

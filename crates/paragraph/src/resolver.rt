@@ -37,7 +37,8 @@ impl Model for Resolver {
 
     ghost view = { λ r. r.work };
 
-    ghost invariant = { λ r. HasRoomForParagraphs r.work (room r.found.isolates) (length r.found.explicit) r.found.sequences.room };
+    ghost invariant = { λ r. HasRoomForParagraphs r.work (room r.found.isolates) (length r.found.explicit)
+        r.found.sequences.room };
 }
 
 /// What is known of a paragraph that was resolved.

@@ -61,7 +61,8 @@ impl Model for RoomToResolve {
 
     ghost view = { λ r. length (boxed_slice_items r.before) };
 
-    ghost invariant = { λ r. HasRoomToResolve (length (boxed_slice_items r.before)) (length (boxed_slice_items r.classes)) (length r.pairs) };
+    ghost invariant = { λ r. HasRoomToResolve (length (boxed_slice_items r.before))
+        (length (boxed_slice_items r.classes)) (length r.pairs) };
 }
 
 impl RoomToResolve {
