@@ -31,7 +31,7 @@ pub record AreLeftInOrder (most_open : ℕ) (s : SequenceView) (us : List BidiUn
   pub neutral : Rewrites (after_neutral (direction_of s.level) s.sos s.eos) s.positions after.paired after.neutral
   pub levels : Raises s.level after.neutral s.positions old_levels after.levels
 
--- the last columns are what `resolve_sequence` leaves of the same classes and levels
+-- the last columns are the levels, the classes and the pairs that `resolve_sequence` leaves of the same ones
 pub record AreResolved (most_open : ℕ) (s : SequenceView) (us : List BidiUnit) (before old_classes : List Class) (old_levels : List (Option ℕ)) (after : AfterEach) : Type 0 where
   pub levels : HasLevels most_open s us before after.levels
   pub other_levels : KeepsOtherLevels s.positions old_levels after.levels
