@@ -6,7 +6,7 @@ use Rattle.std.proofs.lemmas.List.{drop_more}
 use Rattle.std.proofs.lemmas.List.Sums.{sum_by-cons, sum_by_more, sum_by_more_le}
 use Rattle.units.specs.Paragraphs.{IsCut, SeparatorOnlyLast, joined, paragraphs_of}
 use Rattle.units.specs.declared.bracket.Unit.{Unit as BidiUnit}
-use Rattle.explicit.proofs.OneCutting.{IsCut-paragraphs_of, joined-paragraphs_of}
+use Rattle.explicit.proofs.LevelsFound.OneCutting.{IsCut-paragraphs_of, joined-paragraphs_of}
 use Rattle.printing.specs.LevelsText.{printed}
 use Rattle.printing.proofs.Printing.{HasPrinted, nothing_printed, one_more_printed}
 use Rattle.units.specs.declared.level.Direction.{Direction}

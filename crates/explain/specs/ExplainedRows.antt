@@ -1,7 +1,7 @@
 -- Worked texts, and what `explain` prints of them.
 use Rattle.std.specs.Prelude.{◌≡◌, [], ◌∷◌, ◌++◌, codes, refl}
 use Rattle.std.specs.Fmt.{digits}
-use Rattle.units.specs.Rows.{layouts_compute, plain, opens, shuts}
+use Rattle.units.specs.RowWords.{layouts_compute, plain, opens, shuts}
 use Rattle.units.specs.declared.class.Class.TheVariants.{L, R, EN, B, WS, ON, LRE, LRO, RLE, PDF}
 use Rattle.units.specs.declared.level.Direction.TheVariants.{Auto, Ltr, Rtl}
 use Rattle.printing.specs.LevelsText.{code_text}

@@ -16,7 +16,7 @@ use Rattle.units.specs.Reordering.{para_level_at}
 use Rattle.units.specs.declared.bracket.Unit.{Unit as BidiUnit}
 use Rattle.units.specs.declared.class.Class.{Class}
 use Rattle.units.specs.declared.level.Direction.{Direction}
-use Rattle.explicit.proofs.OneCutting.{IsCut-paragraphs_of, joined-paragraphs_of}
+use Rattle.explicit.proofs.LevelsFound.OneCutting.{IsCut-paragraphs_of, joined-paragraphs_of}
 use Rattle.paragraph.specs.Resolvers.{StaysAt}
 use Rattle.paragraph.proofs.FlatLevels.{kept_stays, levels_are_kept}
 use Rattle.lines.specs.Kept.{keeps_own_level}

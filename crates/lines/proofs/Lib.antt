@@ -13,11 +13,13 @@ pub mod Lengths
 pub mod LineEnd
 pub mod TextEnd
 pub mod KeptLevels
+pub mod KeptResolved
 pub mod RemovedLevels
 pub mod CutLines
 pub mod LineEnds
 pub mod NextLine
 pub mod ParagraphLines
+pub mod ParagraphEnds
 pub mod LinesWritten
 pub mod LinesRead
 pub mod Law

@@ -5,8 +5,8 @@ use Rattle.std.proofs.lemmas.List.{append-nil}
 use Rattle.units.specs.Reordering.{line_order}
 use Rattle.lines.specs.declared.runs.Chain.{Chain}
 use Rattle.lines.specs.declared.runs.Run.{Run}
-use Rattle.lines.specs.LinePositions.{Has, remaining}
-use Rattle.lines.specs.RunLinks.{IsChainOf, IsLevelRun, Leads, run_in, spelled, units_in}
+use Rattle.lines.specs.LinePositions.{IsAmong, remaining}
+use Rattle.lines.specs.RunLinks.{IsChainOf, IsLevelRun, LinksThrough, run_in, spelled, units_in}
 use Rattle.lines.proofs.Lists.{has_right}
 use Rattle.lines.proofs.LineOrder.{line_order-in_order}
 use Rattle.lines.proofs.RunChains.{has_spelled, once}
@@ -19,7 +19,7 @@ pub run-falling : (levels : List (Option ℕ)) (start end : ℕ) (r : IsLevelRun
 run-falling levels start end r odd = sym (uniform-falling levels start end r.level (omega (arith, r.rises)) odd r.uniform)
 
 -- a run has a position
-none_has : (xs : List ℕ) (x : ℕ) → Has xs x → 0 < length xs
+none_has : (xs : List ℕ) (x : ℕ) → IsAmong xs x → 0 < length xs
 none_has [] x h = absurd h
 none_has (y ∷ ys) x h = omega arith
 
@@ -31,10 +31,10 @@ run-some levels start end r =
 -- for these
 pub record Writes (levels : List (Option ℕ)) (runs : List Run) (positions : List ℕ) (last places most : ℕ) (order : List ℕ) (count position steps : ℕ) : Type 0 where
   pub rest : List ℕ
-  pub leads : Leads runs position rest last
-  pub are_runs : (x : ℕ) → Has (rest ++ last ∷ []) x → IsLevelRun levels x (run_in runs x).end
+  pub leads : LinksThrough runs position rest last
+  pub are_runs : (x : ℕ) → IsAmong (rest ++ last ∷ []) x → IsLevelRun levels x (run_in runs x).end
   pub is : positions ≡ take count order ++ spelled levels runs (rest ++ last ∷ [])
-  pub apart : Has rest last → ⊥
+  pub apart : IsAmong rest last → ⊥
   pub room : count + units_in runs (rest ++ last ∷ []) ≤ places
   pub budget : steps + 2 * units_in runs (rest ++ last ∷ []) ≤ most
 
@@ -53,17 +53,17 @@ writes_start levels runs start end most chain order steps le h budget =
 -- the run that is written next, and what is left then
 pub record Next (levels : List (Option ℕ)) (runs : List Run) (positions : List ℕ) (last places most : ℕ) (order : List ℕ) (count position steps : ℕ) : Type 0 where
   pub run : IsLevelRun levels position (run_in runs position).end
-  pub has : Has positions position
+  pub has : IsAmong positions position
   pub room : count + ((run_in runs position).end - position) ≤ places
   pub budget : steps + 2 * ((run_in runs position).end - position) ≤ most
   pub ends : position ≡ last → positions ≡ take count order ++ line_order levels position (run_in runs position).end
   pub goes_on : (order2 : List ℕ) (count2 steps2 : ℕ) → (position ≡ last → ⊥) → take count2 order2 ≡ take count order ++ line_order levels position (run_in runs position).end → count2 ≤ count + ((run_in runs position).end - position) → steps2 ≤ steps + 1 + ((run_in runs position).end - position) → Writes levels runs positions last places most order2 count2 (run_in runs position).next steps2
 
-next_from : (levels : List (Option ℕ)) (runs : List Run) (positions : List ℕ) (last places most : ℕ) (order : List ℕ) (count position steps : ℕ) (rest : List ℕ) → Leads runs position rest last → ((x : ℕ) → Has (rest ++ last ∷ []) x → IsLevelRun levels x (run_in runs x).end) → positions ≡ take count order ++ spelled levels runs (rest ++ last ∷ []) → (Has rest last → ⊥) → count + units_in runs (rest ++ last ∷ []) ≤ places → steps + 2 * units_in runs (rest ++ last ∷ []) ≤ most → Next levels runs positions last places most order count position steps
+next_from : (levels : List (Option ℕ)) (runs : List Run) (positions : List ℕ) (last places most : ℕ) (order : List ℕ) (count position steps : ℕ) (rest : List ℕ) → LinksThrough runs position rest last → ((x : ℕ) → IsAmong (rest ++ last ∷ []) x → IsLevelRun levels x (run_in runs x).end) → positions ≡ take count order ++ spelled levels runs (rest ++ last ∷ []) → (IsAmong rest last → ⊥) → count + units_in runs (rest ++ last ∷ []) ≤ places → steps + 2 * units_in runs (rest ++ last ∷ []) ≤ most → Next levels runs positions last places most order count position steps
 next_from levels runs positions last places most order count position steps [] leads all is apart room budget =
     subst (λ n. Next levels runs positions last places most order count n steps) (sym leads) (record {
       run = all last (inl refl);
-      has = subst (λ ps. Has ps last) (sym is) (has_right (take count order) (spelled levels runs (last ∷ [])) last (has_spelled levels runs (last ∷ []) all last (inl refl)));
+      has = subst (λ ps. IsAmong ps last) (sym is) (has_right (take count order) (spelled levels runs (last ∷ [])) last (has_spelled levels runs (last ∷ []) all last (inl refl)));
       room = omega arith;
       budget = omega (arith, (all last (inl refl)).rises);
       ends = λ e. is ∙ ap (λ ps. take count order ++ ps) (append-nil (line_order levels last (run_in runs last).end));
@@ -73,7 +73,7 @@ next_from levels runs positions last places most order count position steps (x �
     let r = all x (inl refl) in
     subst (λ n. Next levels runs positions last places most order count n steps) (sym leads.0) (record {
       run = r;
-      has = subst (λ ps. Has ps x) (sym is) (has_right (take count order) (spelled levels runs (x ∷ (xs ++ last ∷ []))) x (has_spelled levels runs (x ∷ (xs ++ last ∷ [])) all x (inl refl)));
+      has = subst (λ ps. IsAmong ps x) (sym is) (has_right (take count order) (spelled levels runs (x ∷ (xs ++ last ∷ []))) x (has_spelled levels runs (x ∷ (xs ++ last ∷ [])) all x (inl refl)));
       room = omega arith;
       budget = omega arith;
       ends = λ e. absurd (apart (inl (sym e)));

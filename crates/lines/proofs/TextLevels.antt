@@ -13,7 +13,7 @@ use Rattle.units.specs.declared.bracket.Unit.{Unit as BidiUnit}
 use Rattle.units.specs.declared.class.Class.{Class}
 use Rattle.units.specs.declared.level.Direction.{Direction}
 use Rattle.units.specs.declared.level.ParaLevel.{ParaLevel}
-use Rattle.explicit.proofs.OneCutting.{joined-paragraphs_of, IsCut-paragraphs_of}
+use Rattle.explicit.proofs.LevelsFound.OneCutting.{joined-paragraphs_of, IsCut-paragraphs_of}
 
 -- the level of a paragraph
 abbrev pub para_level : Direction → List BidiUnit → ℕ

@@ -1,7 +1,7 @@
 -- Which of two positions stands first once the levels of a line were turned (L2), by the least level between them.
 use Rattle.std.specs.Prelude.{Option, None, Some, ℕ, ◌+◌, ◌-◌, ◌<◌, ◌≤◌, ◌≡◌, ◌≢◌, ◌%◌, List, [], ◌∷◌}
 use Rattle.units.specs.Reordering.{least_level}
-use Rattle.lines.specs.LinePositions.{Has, HasLevel}
+use Rattle.lines.specs.LinePositions.{IsAmong, HasLevel}
 
 -- a level as a number, 0 where there is none
 abbrev pub number_or_zero : Option ℕ → ℕ
@@ -25,9 +25,9 @@ pub record Before (levels : List (Option ℕ)) (k a b : ℕ) : Type 0 where
 -- each element stands in the relation to all after it
 abbrev pub Ordered : (ℕ → ℕ → Type 0) → List ℕ → Type 0
 Ordered r [] = Unit {0}
-Ordered r (x ∷ xs) = ((y : ℕ) → Has xs y → r x y) × Ordered r xs
+Ordered r (x ∷ xs) = ((y : ℕ) → IsAmong xs y → r x y) × Ordered r xs
 
 -- a list of exactly the remaining positions from start up to end
 pub record ListsRemaining (levels : List (Option ℕ)) (start end : ℕ) (xs : List ℕ) : Type 0 where
-  pub sound : (p : ℕ) → Has xs p → (start ≤ p) × (p < end) × ((v : ℕ) × HasLevel levels p v)
-  pub complete : (p v : ℕ) → start ≤ p → p < end → HasLevel levels p v → Has xs p
+  pub sound : (p : ℕ) → IsAmong xs p → (start ≤ p) × (p < end) × ((v : ℕ) × HasLevel levels p v)
+  pub complete : (p v : ℕ) → start ≤ p → p < end → HasLevel levels p v → IsAmong xs p

@@ -2,7 +2,7 @@
 use Rattle.std.proofs.Common.{◌≡◌, ℕ, ◌+◌, ◌<◌, ◌≤◌, ◌%◌, Option, List, ap, ◌∙◌, arith}
 use Rattle.std.specs.Prelude.{reverse}
 use Rattle.units.specs.Reordering.{line_order}
-use Rattle.lines.specs.LinePositions.{Has, IsAtOneLevel, remaining}
+use Rattle.lines.specs.LinePositions.{IsAmong, IsAtOneLevel, remaining}
 use Rattle.lines.proofs.Turns.{Before, ListsRemaining, Ordered, least, turns}
 use Rattle.lines.proofs.Least.{least-attained}
 use Rattle.lines.proofs.Lists.{has_reverse, has_reversed, ordered_reverse}
@@ -24,7 +24,7 @@ uniform-rising levels start end v le even u =
     (finished levels start end (v + 1) (remaining levels start end) r.holds lowest (rising_before levels start end (v + 1) (remaining levels start end) r.holds below r.ordered))
 
 -- two positions of the line are turned round at their level
-turned_round : (levels : List (Option ℕ)) (start end v a b : ℕ) → ListsRemaining levels start end (remaining levels start end) → IsAtOneLevel levels start end v → Has (remaining levels start end) a → Has (remaining levels start end) b → a < b → Before levels v b a
+turned_round : (levels : List (Option ℕ)) (start end v a b : ℕ) → ListsRemaining levels start end (remaining levels start end) → IsAtOneLevel levels start end v → IsAmong (remaining levels start end) a → IsAmong (remaining levels start end) b → a < b → Before levels v b a
 turned_round levels start end v a b h u ha hb lt =
     let sa = h.sound a ha in
     let sb = h.sound b hb in

@@ -1,5 +1,5 @@
 -- What the columns of a scratch hold, and how much room they have.
-use Rattle.std.specs.Prelude.{ℕ, ◌≤◌, ◌<◌, ◌≡◌, ◌+◌, Option, List, take}
+use Rattle.std.specs.Prelude.{ℕ, ◌≤◌, ◌<◌, ◌≡◌, ◌+◌, Bool, if◌then◌else◌, Option, List, take}
 use Rattle.std.specs.Box.{boxed_slice_items}
 use Rattle.units.specs.Layout.{LineLayout, longest_text}
 use Rattle.units.specs.declared.level.ParaLevel.{ParaLevel}
@@ -17,6 +17,11 @@ paras_filled paragraphs columns = take paragraphs (boxed_slice_items columns.par
 -- the levels of the first so many positions
 abbrev pub levels_filled : ℕ → TextColumns → List (Option ℕ)
 levels_filled units columns = take units (boxed_slice_items columns.levels)
+
+-- P1 to I2: the resolved levels of the first so many positions, before L1, which leaves those of a uniform text
+abbrev pub resolved_filled : ℕ → Bool → TextColumns → List (Option ℕ)
+resolved_filled units uniform columns =
+    take units (if uniform then boxed_slice_items columns.levels else boxed_slice_items columns.resolved)
 
 -- the bounds of lines, of this layout and of earlier ones
 abbrev pub bounds_in : LineColumns → List Bound
@@ -38,6 +43,7 @@ lines_filled filled columns = lines_in (orders_filled filled columns) (bounds_fi
 pub record IsTextRoom (columns : TextColumns) (units : ℕ) : Type 0 where
   pub paras : places_in columns.paras ≡ units
   pub levels : places_in columns.levels ≡ units
+  pub resolved : places_in columns.resolved ≡ units
 
 -- these are columns for its lines: the bounds have one place more
 pub record IsLineRoom (columns : LineColumns) (units : ℕ) : Type 0 where
@@ -49,6 +55,7 @@ pub record IsLineRoom (columns : LineColumns) (units : ℕ) : Type 0 where
 pub record HasTextRoom (columns : TextColumns) (units : ℕ) : Type 0 where
   pub paras : units ≤ places_in columns.paras
   pub levels : units ≤ places_in columns.levels
+  pub resolved : units ≤ places_in columns.resolved
 
 -- there is room for the lines of such a text
 pub record HasLineRoom (columns : LineColumns) (units : ℕ) : Type 0 where
@@ -60,6 +67,7 @@ pub record HasLineRoom (columns : LineColumns) (units : ℕ) : Type 0 where
 pub record KeepsTextRoom (old new : TextColumns) : Type 0 where
   pub paras : places_in new.paras ≡ places_in old.paras
   pub levels : places_in new.levels ≡ places_in old.levels
+  pub resolved : places_in new.resolved ≡ places_in old.resolved
 
 -- columns don't grow
 pub record KeepsLineRoom (old new : LineColumns) : Type 0 where

@@ -1,8 +1,11 @@
 -- What a scratch is once the layout that borrows it is gone.
-use Rattle.std.specs.Prelude.{◌≡◌, ⊤, Result, OnErr}
+use Rattle.std.specs.Prelude.{◌≡◌, ⊤, List, Result, OnErr, OnOk}
 use Rattle.std.specs.Borrow.{follows_so, MutBor, Fml}
 use mathlib.Core.Option.{none}
-use Rattle.lines.specs.Scratches.{room_of}
+use Rattle.units.specs.Limits.{LimitsOf}
+use Rattle.units.specs.declared.bracket.Unit.{Unit as BidiUnit}
+use Rattle.units.specs.declared.level.Direction.{Direction}
+use Rattle.lines.specs.Scratches.{room_of, HoldsText, StillHoldsText}
 use Rattle.lines.specs.declared.scratch.Scratch.{Scratch}
 use Rattle.lines.specs.contracts.scratch.Scratch.{the_row}
 
@@ -10,8 +13,16 @@ use Rattle.lines.specs.contracts.scratch.Scratch.{the_row}
 abbrev pub IsLentOut : MutBor Scratch → Fml
 IsLentOut room = follows_so the_row the_row room.ghost_name none (λ _ _. ⊤) (λ last. last ≡ room.now)
 
--- it has the room that it had, and after an error it is what it was
-abbrev pub KeepsRoom : {T E : Type 0} → MutBor Scratch → Result T E → Fml
-KeepsRoom room result =
+-- it has the room that it had; after an error it is what it was, and else it holds the text that was laid out
+abbrev pub KeepsRoom : {T E : Type 0} → LimitsOf → List BidiUnit → Direction → MutBor Scratch → Result T E → Fml
+KeepsRoom limits text direction room result =
     follows_so the_row the_row room.ghost_name none (λ _ _. ⊤)
-    (λ last. (room_of last ≡ room_of room.now) × OnErr result (last ≡ room.now))
+    (λ last.
+    (room_of last ≡ room_of room.now) × OnErr result (last ≡ room.now)
+    × OnOk result (HoldsText limits text direction last))
+
+-- it has the room that it had, and still holds the text
+abbrev pub KeepsText : List BidiUnit → MutBor Scratch → Fml
+KeepsText text room =
+    follows_so the_row the_row room.ghost_name none (λ _ _. ⊤)
+    (λ last. (room_of last ≡ room_of room.now) × StillHoldsText text room.now last)

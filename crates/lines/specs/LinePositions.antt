@@ -16,9 +16,9 @@ abbrev pub HasLevel : List (Option ℕ) → ℕ → ℕ → Type 0
 HasLevel levels p v = slice_index_or levels p None ≡ Some v
 
 -- the list has the position
-abbrev pub Has : List ℕ → ℕ → Type 0
-Has [] y = ⊥
-Has (x ∷ xs) y = (y ≡ x) ⊎ Has xs y
+abbrev pub IsAmong : List ℕ → ℕ → Type 0
+IsAmong [] y = ⊥
+IsAmong (x ∷ xs) y = (y ≡ x) ⊎ IsAmong xs y
 
 -- L2: all remaining positions of the line have one level
 pub record IsAtOneLevel (levels : List (Option ℕ)) (start end level : ℕ) : Type 0 where

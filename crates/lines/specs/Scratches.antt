@@ -1,14 +1,23 @@
 -- What a scratch holds.
-use Rattle.std.specs.Prelude.{ℕ, map}
+use Rattle.std.specs.Prelude.{ℕ, ◌≡◌, true, Option, List, length, map}
 use Rattle.units.specs.Isolates.{level_of_para}
-use Rattle.units.specs.Layout.{TextLayout}
+use Rattle.units.specs.Layout.{TextLayout, layout_of, para_levels_of, text_levels}
+use Rattle.units.specs.Limits.{LimitsOf}
+use Rattle.units.specs.declared.bracket.Unit.{Unit as BidiUnit}
+use Rattle.units.specs.declared.level.Direction.{Direction}
+use Rattle.units.specs.declared.level.ParaLevel.{ParaLevel}
 use Rattle.lines.specs.Bounds.{AreBounds}
-use Rattle.lines.specs.Columns.{bounds_filled, levels_filled, lines_filled, orders_filled, paras_filled}
+use Rattle.lines.specs.Columns.{bounds_filled, levels_filled, lines_filled, orders_filled, paras_filled, resolved_filled}
+use Rattle.lines.specs.Kept.{keeps_levels}
 use Rattle.lines.specs.declared.scratch.Scratch.{Scratch}
 
 -- the length of the longest text that there is room for
 abbrev pub room_of : Scratch → ℕ
 room_of scratch = scratch.room
+
+-- the length of the text that it holds
+abbrev pub text_len_of : Scratch → ℕ
+text_len_of scratch = scratch.used.units
 
 -- the layout that it holds, all at the fronts of the columns
 abbrev pub layout_in : Scratch → TextLayout
@@ -24,3 +33,37 @@ abbrev pub IsFilled : Scratch → Type 0
 IsFilled scratch =
     AreBounds (levels_filled scratch.used.units scratch.text) (orders_filled scratch.used.filled scratch.lines)
     (bounds_filled scratch.used.filled scratch.lines)
+
+-- P2, P3: the levels of the paragraphs of the text that it holds
+abbrev pub paras_in : Scratch → List ParaLevel
+paras_in scratch = paras_filled scratch.used.paragraphs scratch.text
+
+-- P1 to I2: the resolved levels of that text, before L1
+abbrev pub resolved_in : Scratch → List (Option ℕ)
+resolved_in scratch = resolved_filled scratch.used.units scratch.used.uniform scratch.text
+
+-- P1 to I2: it holds what this text comes to under the direction, by the limits, whatever the breaks are
+pub record HoldsText (limits : LimitsOf) (text : List BidiUnit) (direction : Direction) (scratch : Scratch) : Type 0 where
+  pub units : text_len_of scratch ≡ length text
+  pub paras : map level_of_para (paras_in scratch) ≡ para_levels_of text direction
+  pub levels : resolved_in scratch ≡ text_levels limits text direction
+  pub known : scratch.used.uniform ≡ keeps_levels text direction
+
+-- it holds this text, under some direction, by some limits
+abbrev pub HoldsSomeLayoutOf : List BidiUnit → Scratch → Type 0
+HoldsSomeLayoutOf text scratch = (limits : LimitsOf) × (direction : Direction) × HoldsText limits text direction scratch
+
+-- it holds this text, each paragraph of which keeps its level
+abbrev pub HoldsLightText : List BidiUnit → Scratch → Type 0
+HoldsLightText text scratch =
+    (limits : LimitsOf) × (direction : Direction) × HoldsText limits text direction scratch × (keeps_levels text direction ≡ true)
+
+-- under each direction and by all limits under which the one held this text, the other does
+abbrev pub StillHoldsText : List BidiUnit → Scratch → Scratch → Type 0
+StillHoldsText text old new =
+    (limits : LimitsOf) (direction : Direction) → HoldsText limits text direction old → HoldsText limits text direction new
+
+-- L1, L2: under each direction and by all limits under which the one held this text, the layout is that with these breaks
+abbrev pub IsBrokenAnew : List BidiUnit → List ℕ → Scratch → TextLayout → Type 0
+IsBrokenAnew text breaks old layout =
+    (limits : LimitsOf) (direction : Direction) → HoldsText limits text direction old → layout ≡ layout_of limits text direction breaks

@@ -34,9 +34,9 @@ light_line_steps = light_order_steps + 1
 abbrev pub arranging_steps : ℕ
 arranging_steps = 1 + line_steps
 
--- P1 to L2 at most
+-- P1 to L2 at most: the levels before L1 are kept besides
 abbrev pub layout_steps : ℕ
-layout_steps = text_steps + arranging_steps
+layout_steps = text_steps + 1 + arranging_steps
 
 -- the same, where each paragraph keeps its level
 abbrev pub light_layout_steps : ℕ
@@ -45,3 +45,19 @@ light_layout_steps = light_text_steps + light_line_steps
 -- P1 to L2 at least: contents are found, levels written, and the order
 abbrev pub least_layout_steps : ℕ
 least_layout_steps = 2 + 1
+
+-- where a text is cut into lines anew, at most: the ends of its paragraphs are looked for, and each has a line
+abbrev pub cutting_steps : ℕ
+cutting_steps = 1 + 2
+
+-- L1 and L2 at most, where a text is broken anew: the levels before L1 are put back besides
+abbrev pub breaking_steps : ℕ
+breaking_steps = cutting_steps + 1 + arranging_steps
+
+-- the same, where each paragraph keeps its level
+abbrev pub light_breaking_steps : ℕ
+light_breaking_steps = cutting_steps + light_line_steps
+
+-- L1 and L2 at least, where a text is broken anew: the ends of its paragraphs are looked for, and the order is written
+abbrev pub least_breaking_steps : ℕ
+least_breaking_steps = 1 + 1

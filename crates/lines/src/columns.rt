@@ -1,13 +1,15 @@
 //! Columns: boxed slices, which don't grow, with a place for each unit of room.
-ghost use Rattle.std.specs.Prelude.{◌≡◌, IfOk};
+ghost use Rattle.std.specs.Prelude.{◌≡◌, ◌≤◌, ◌+◌, IfOk, length, take};
 ghost use Rattle.lines.specs.Room.{places_in};
 
 use crate::bounds::Bound;
 use crate::runs::Run;
 use std::alloc::Global;
 use std::boxed::BoxedSlice;
+use std::sync::ledger::Ledger;
 use units::level::{Level, ParaLevel};
 use units::memory::Memory;
+use units::steps::Steps;
 
 /// A column of `n` places, all with this value.
 fn column<T: Copy>(alloc: Global, value: T, n: usize) -> Result<BoxedSlice<T>, Memory>
@@ -16,16 +18,32 @@ fn column<T: Copy>(alloc: Global, value: T, n: usize) -> Result<BoxedSlice<T>, M
     Ok(vec![in alloc; value; n]?.into_boxed_slice())
 }
 
-/// The columns of a text: the levels of its paragraphs, and the levels of its positions.
+/// Copies levels to the front of a column, in a step for each.
+fn copy_levels<L: Ledger>(
+    levels: &[Option<Level>],
+    column: &mut [Option<Level>],
+    steps: &mut Steps<L>,
+)
+    requires { length levels.now ≤ length column.old }
+    ensures copied { take (length levels.now) column.new ≡ levels.now }
+    ensures steps { steps.new ≡ steps.old + length levels.now }
+{
+    steps.add(levels.len());
+    column[..levels.len()].copy_from_slice(levels);
+}
+
+/// The columns of a text: the levels of its paragraphs, and the levels of its positions, after L1 and before it. Those
+/// before it are kept apart only where L1 may change some.
 #[derive(Drop)]
 pub(crate) struct TextColumns {
     pub(crate) paras: BoxedSlice<ParaLevel>,
     pub(crate) levels: BoxedSlice<Option<Level>>,
+    resolved: BoxedSlice<Option<Level>>,
 }
 
 impl TextColumns {
-    ghost use Rattle.std.specs.Prelude.{IfOk};
-    ghost use Rattle.lines.specs.Columns.{IsTextRoom};
+    ghost use Rattle.std.specs.Prelude.{◌≡◌, ◌≤◌, ◌+◌, IfOk, IsTrue};
+    ghost use Rattle.lines.specs.Columns.{levels_filled, resolved_filled, HasTextRoom, IsTextRoom, KeepsTextRoom};
 
     /// Columns of `n` places.
     pub(crate) fn with_room(alloc: Global, n: usize) -> Result<TextColumns, Memory>
@@ -34,7 +52,54 @@ impl TextColumns {
         Ok(TextColumns {
             paras: column(alloc, ParaLevel::Zero, n)?,
             levels: column(alloc, None, n)?,
+            resolved: column(alloc, None, n)?,
         })
+    }
+
+    /// Keeps the levels of the first so many positions, as they are before L1, unless the text is uniform, whose levels
+    /// L1 leaves.
+    pub(crate) fn keep_resolved<L: Ledger>(
+        &mut self,
+        units: usize,
+        uniform: bool,
+        steps: &mut Steps<L>,
+    )
+        requires { HasTextRoom self.old units }
+        ensures room { KeepsTextRoom self.old self.new }
+        ensures paras { self.new.paras ≡ self.old.paras }
+        ensures levels { self.new.levels ≡ self.old.levels }
+        ensures resolved { resolved_filled units uniform self.new ≡ levels_filled units self.old }
+        ensures at_least { steps.old ≤ steps.new }
+        ensures at_most { steps.new ≤ steps.old + units }
+        ensures light { IsTrue uniform → steps.new ≡ steps.old }
+    {
+        if uniform {
+            return;
+        }
+        copy_levels(&self.levels[..units], &mut self.resolved, steps);
+    }
+
+    /// Gives the first so many positions the levels again that they had before L1.
+    pub(crate) fn restore_resolved<L: Ledger>(
+        &mut self,
+        units: usize,
+        uniform: bool,
+        steps: &mut Steps<L>,
+    )
+        requires { HasTextRoom self.old units }
+        ensures room { KeepsTextRoom self.old self.new }
+        ensures paras { self.new.paras ≡ self.old.paras }
+        ensures kept { self.new.resolved ≡ self.old.resolved }
+        ensures levels { levels_filled units self.new ≡ resolved_filled units uniform self.old }
+        ensures resolved { resolved_filled units uniform self.new ≡ resolved_filled units uniform self.old }
+        ensures at_least { steps.old ≤ steps.new }
+        ensures at_most { steps.new ≤ steps.old + units }
+        ensures light { IsTrue uniform → steps.new ≡ steps.old }
+    {
+        if uniform {
+            return;
+        }
+        copy_levels(&self.resolved[..units], &mut self.levels, steps);
     }
 }
 

@@ -11,6 +11,7 @@ pub mod lay_out;
 pub mod layout;
 pub mod order;
 mod positions;
+mod recutting;
 pub mod resets;
 mod resolving;
 pub mod runs;

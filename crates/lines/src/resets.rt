@@ -126,6 +126,7 @@ pub(crate) fn reset_unless_uniform<L: Ledger>(
     requires paras { length paras.now ≡ length (paragraphs_of own.now) }
     requires uniform { IsTrue uniform → StaysAtParas own.now paras.now levels.old }
     ensures levels { levels.new ≡ levels_reset own.now breaks.now.positions paras.now levels.old }
+    ensures same { IsTrue uniform → levels.new ≡ levels.old }
     ensures uniform { IsTrue uniform → StaysAtParas own.now paras.now levels.new }
     ensures at_least { steps.old ≤ steps.new }
     ensures at_most { steps.new ≤ steps.old + length own.now }

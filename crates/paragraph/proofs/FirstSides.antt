@@ -8,7 +8,7 @@ use Rattle.units.specs.declared.level.Direction.TheVariants.{Auto, Ltr, Rtl, Aut
 use Rattle.explicit.specs.SideLevels.{level_by_side, level_under}
 use Rattle.flat.specs.Flat.{flat_para_level, level_by_strong}
 use Rattle.paragraph.specs.FirstSides.{side_by}
-use Rattle.explicit.proofs.LevelUnder.{level_of_side}
+use Rattle.explicit.proofs.StrongSides.LevelUnder.{level_of_side}
 
 by_strong : (o : Option Class) (otherwise : ℕ) → level_by_side (side_by o) otherwise ≡ level_by_strong otherwise o
 by_strong None otherwise = refl

@@ -7,7 +7,7 @@ use Rattle.std.proofs.lemmas.Bool.{cases_lt, cond-true, cond-false}
 use Rattle.std.proofs.lemmas.List.{get_or-map, length-map}
 use Rattle.units.specs.Classes.{class_at, classes_at, classes_of, is_removed}
 use Rattle.units.specs.Explicit.{explicit_at, explicit_of}
-use Rattle.units.specs.Layout.{current_of, level_found, levels_in, levels_of_sequence, resolved_levels}
+use Rattle.units.specs.Layout.{current_of, value_found, levels_in, levels_of_sequence, resolved_levels}
 use Rattle.units.specs.Limits.{LimitsOf, AreAllowed}
 use Rattle.units.specs.Paragraphs.{SeparatorOnlyLast}
 use Rattle.units.specs.Positions.{positions_of}
@@ -15,9 +15,9 @@ use Rattle.units.specs.Runs.{LeveledView, SequenceView, leveled_of, remains, seq
 use Rattle.units.specs.declared.bracket.Unit.{Unit as BidiUnit}
 use Rattle.units.specs.declared.class.Class.{Class}
 use Rattle.units.proofs.Lengths.{length-levels_of_sequence}
-use Rattle.explicit.proofs.InsideIsolates.{nested}
-use Rattle.explicit.proofs.Leveled.{leveled, level-read, size-is}
-use Rattle.explicit.proofs.Places.{explicit-none}
+use Rattle.explicit.proofs.LevelsFound.InsideIsolates.{nested}
+use Rattle.explicit.proofs.LevelsFound.Leveled.{leveled, level-read, size-is}
+use Rattle.explicit.proofs.LevelsFound.Places.{explicit-none}
 use Rattle.units.proofs.Positions.{length-positions_from, get_or-positions_from}
 use Rattle.sequences.specs.Once.{times}
 use Rattle.sequences.proofs.Once.{sequences_hold_once, times-append}
@@ -27,7 +27,7 @@ use Rattle.paragraph.proofs.FoundBeside.{found-append, found-append_some, zip_no
 
 -- a position of one of the sequences is given a level
 module _ (most_open : ℕ) (us : List BidiUnit) (before : List Class) where
-  found_held : (all : List SequenceView) (p : ℕ) → 0 < times (positions_in all) p → is_none (level_found (flat_map (levels_in most_open us before) all) p) ≡ false
+  found_held : (all : List SequenceView) (p : ℕ) → 0 < times (positions_in all) p → is_none (value_found (flat_map (levels_in most_open us before) all) p) ≡ false
   found_held [] p some = absurd (omega (arith, some))
   found_held (s ∷ all) p some =
       let values : List ℕ = levels_of_sequence most_open s us (classes_at before s.positions) in
@@ -67,7 +67,7 @@ module _ (limits : LimitsOf) (allowed : AreAllowed limits) (us : List BidiUnit) 
   current = current_of (explicit_of limits.depth (classes_of us) para_level)
 
   abbrev found_at : ℕ → Option ℕ
-  found_at = level_found (flat_map (levels_in limits.brackets us current) (sequences_of here))
+  found_at = value_found (flat_map (levels_in limits.brackets us current) (sequences_of here))
 
   found_none_if : (removed : Bool) → is_removed (class_at (classes_of us) p) ≡ removed → is_none (found_at p) ≡ removed
   found_none_if true e =

@@ -2,4 +2,4 @@ pub mod Columns
 pub mod LevelsText
 pub mod PrintedTexts
 pub mod ReorderText
-pub mod Rows
+pub mod PrintedRows

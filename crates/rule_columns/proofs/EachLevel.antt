@@ -10,13 +10,14 @@ use Rattle.units.specs.Positions.{positions_of}
 use Rattle.units.specs.Runs.{SequenceView}
 use Rattle.units.specs.declared.class.Class.{Class}
 use Rattle.units.specs.declared.class.Class.TheVariants.{L}
+use Rattle.units.specs.Layout.{value_found}
 use Rattle.units.proofs.Positions.{length-positions_from, get_or-positions_from}
 use Rattle.sequences.specs.Once.{times}
 use Rattle.resolve.specs.Raised.{Raises, resolved_at}
 use Rattle.resolve.proofs.Gathered.{length-classes_at, class_at-classes_at, contains_index}
 use Rattle.paragraph.specs.Covering.{AreDisjoint}
 use Rattle.paragraph.proofs.Covering.{times_some, within_extent}
-use Rattle.rule_columns.specs.Passes.{implicit_in, implicit_of, value_found}
+use Rattle.rule_columns.specs.Passes.{implicit_in, implicit_of}
 use Rattle.paragraph.proofs.FoundBeside.{zip_none, zip_some}
 use Rattle.rule_columns.proofs.Found.{SaysOwn, found_here, found_elsewhere}
 

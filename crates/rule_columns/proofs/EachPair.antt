@@ -8,7 +8,7 @@ use Rattle.std.proofs.lemmas.List.{length-map, get_or-map, ext_get_or, take_all}
 use Rattle.std.proofs.lemmas.List.Elements.{All-append, All-cons, All-head, All-nil, All-tail, All-weaker}
 use Rattle.units.specs.Brackets.{bracket_pairs_of, closer_of, ended_with, pairs_before, is_open_at, closes, bracket_at}
 use Rattle.units.specs.Classes.{classes_at}
-use Rattle.units.specs.Layout.{brackets_of}
+use Rattle.units.specs.Layout.{brackets_of, value_found}
 use Rattle.units.specs.Limits.{standard}
 use Rattle.units.specs.Positions.{last_below, positions_of}
 use Rattle.units.specs.Runs.{SequenceView}
@@ -23,7 +23,7 @@ use Rattle.resolve.proofs.Nesting.{ends_somewhere}
 use Rattle.resolve.proofs.Scan.{length-brackets_at}
 use Rattle.paragraph.specs.Covering.{AreDisjoint}
 use Rattle.paragraph.proofs.Covering.{times_some, within_extent}
-use Rattle.rule_columns.specs.Passes.{closers_of, pairs_in, value_found}
+use Rattle.rule_columns.specs.Passes.{closers_of, pairs_in}
 use Rattle.rule_columns.proofs.Found.{SaysOwn, found_here, found_elsewhere, index_in, IsDistinct, distinct_in}
 
 -- both indices of a pair lie below this one

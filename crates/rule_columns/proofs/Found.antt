@@ -5,6 +5,7 @@ use Rattle.std.proofs.Common.{arith, ap, sym, ◌∙◌, subst, inl, inr}
 use Rattle.std.proofs.lemmas.Bool.{cases_lt, cases_order}
 use Rattle.std.proofs.lemmas.List.{append-nil}
 use Rattle.std.proofs.lemmas.List.Concat.{flat_map-append}
+use Rattle.units.specs.Layout.{value_found}
 use Rattle.units.specs.Runs.{SequenceView}
 use Rattle.sequences.specs.Once.{times}
 use Rattle.sequences.proofs.Once.{one_if-same, times-append, times-cons}
@@ -12,7 +13,6 @@ use Rattle.resolve.proofs.Gathered.{contains_index}
 use Rattle.paragraph.specs.Covering.{positions_in, AreDisjoint}
 use Rattle.paragraph.proofs.FoundBeside.{found-append, found-append_none, none_beside, zip_some}
 use Rattle.paragraph.proofs.Covering.{take_next, apart_from_earlier, times_some, within_extent}
-use Rattle.rule_columns.specs.Passes.{value_found}
 
 -- a position that stands in the list has an index
 pub index_in : (ps : List ℕ) (p : ℕ) → 0 < times ps p → (k : ℕ) × (k < length ps) × (slice_index ps k ≡ p)

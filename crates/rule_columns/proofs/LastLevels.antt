@@ -7,7 +7,7 @@ use Rattle.std.proofs.lemmas.List.{length-map}
 use Rattle.units.specs.Classes.{class_at, classes_at, classes_of}
 use Rattle.units.specs.Implicit.{implicit_level}
 use Rattle.units.specs.Isolates.{para_level_of}
-use Rattle.units.specs.Layout.{after_brackets, after_rules, levels_in, resolved_levels}
+use Rattle.units.specs.Layout.{after_brackets, after_rules, levels_in, resolved_levels, value_found}
 use Rattle.units.specs.Limits.{standard}
 use Rattle.units.specs.Paragraphs.{SeparatorOnlyLast}
 use Rattle.units.specs.Positions.{positions_from}
@@ -24,7 +24,7 @@ use Rattle.paragraph.specs.Covering.{AreDisjoint}
 use Rattle.paragraph.proofs.AllSequences.{sequences_are_apart}
 use Rattle.paragraph.proofs.Covering.{times_some, within_extent}
 use Rattle.rule_columns.specs.Columns.{ColumnsOf, columns_of}
-use Rattle.rule_columns.specs.Passes.{by_n0, by_n2, by_pass, classes_in, implicit_in, implicit_of, rewritten, rewritten_at, value_found}
+use Rattle.rule_columns.specs.Passes.{by_n0, by_n2, by_pass, classes_in, implicit_in, implicit_of, rewritten, rewritten_at}
 use Rattle.rule_columns.specs.declared.pass.Pass.{Pass}
 use Rattle.rule_columns.specs.declared.pass.Pass.TheVariants as pass
 use Rattle.rule_columns.specs.declared.rule.Rule.TheVariants as rule

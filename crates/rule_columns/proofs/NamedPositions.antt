@@ -9,7 +9,7 @@ use Rattle.std.proofs.lemmas.List.Elements.{All-append, All-filter, All-from_get
 use Rattle.units.specs.Brackets.{closer_of}
 use Rattle.units.specs.Classes.{classes_of}
 use Rattle.units.specs.Isolates.{first_strong, para_level_of}
-use Rattle.units.specs.Layout.{layout_of, lines_cut_at, para_levels_of, text_levels}
+use Rattle.units.specs.Layout.{layout_of, lines_cut_at, para_levels_of, text_levels, value_found}
 use Rattle.units.specs.Limits.{standard}
 use Rattle.units.specs.Paragraphs.{SeparatorOnlyLast}
 use Rattle.units.specs.Positions.{first_from, positions_from, positions_of}
@@ -27,7 +27,7 @@ use Rattle.lines.proofs.Lengths.{length-levels}
 use Rattle.lines.proofs.RemovedLevels.{para_level-low}
 use Rattle.rule_columns.specs.Columns.{columns_of}
 use Rattle.rule_columns.specs.Inside.{NamesInside}
-use Rattle.rule_columns.specs.Passes.{closers_of, pairs_in, value_found}
+use Rattle.rule_columns.specs.Passes.{closers_of, pairs_in}
 use Rattle.rule_columns.proofs.EachPair.{LiesBelow, pairs_lie, placed_pair}
 
 -- what is found beside a position has what all values have

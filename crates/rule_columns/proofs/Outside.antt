@@ -7,8 +7,8 @@ use Rattle.units.specs.Isolates.{first_strong, isolate_around, isolate_holds, ma
 use Rattle.units.specs.Positions.{same_position}
 use Rattle.units.specs.declared.class.Class.{Class}
 use Rattle.units.proofs.Positions.{first_from_is, first_from_nowhere, last_below_none, same_position_true}
-use Rattle.explicit.proofs.Around.{around_nowhere}
-use Rattle.explicit.proofs.Nesting.{IsHeld, holds_from, holds_down, inner_match}
+use Rattle.explicit.proofs.StrongSides.Around.{around_nowhere}
+use Rattle.explicit.proofs.Matched.Nesting.{IsHeld, holds_from, holds_down, inner_match}
 
 -- what an isolate holds isn't outside of all
 pub held_inside : (cs : List Class) (i p : ℕ) → IsHeld cs i p → isolate_around cs p ≢ None

@@ -13,7 +13,7 @@ use Rattle.units.specs.declared.bracket.Unit.{Unit as BidiUnit}
 use Rattle.units.specs.declared.class.Class.{Class}
 use Rattle.units.specs.declared.level.Direction.{Direction}
 use Rattle.units.proofs.Positions.{length-positions_from}
-use Rattle.explicit.proofs.Leveled.{length-of_positions}
+use Rattle.explicit.proofs.LevelsFound.Leveled.{length-of_positions}
 use Rattle.resolve.specs.Sought.{AreOwn}
 use Rattle.paragraph.proofs.AllSequences.{classes_are_kept}
 use Rattle.units.specs.declared.memory.Memory.{Memory}

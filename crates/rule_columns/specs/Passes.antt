@@ -1,11 +1,10 @@
 -- What one rule leaves of the classes of a paragraph, over all of its sequences.
-use Rattle.std.specs.Prelude.{Option, ℕ, ◌==◌, if◌then◌else◌, List, map, find, slice_index, unwrap_or}
+use Rattle.std.specs.Prelude.{Option, ℕ, if◌then◌else◌, List, map, slice_index, unwrap_or}
 use Rattle.std.specs.List.{flat_map, zip}
-use Rattle.std.specs.Option.{option_map}
 use Rattle.units.specs.Brackets.{bracket_pairs_of, closer_of}
 use Rattle.units.specs.Classes.{class_at, classes_at, is_neutral}
 use Rattle.units.specs.Implicit.{implicit_level}
-use Rattle.units.specs.Layout.{after_brackets, brackets_of}
+use Rattle.units.specs.Layout.{after_brackets, brackets_of, value_found}
 use Rattle.units.specs.Limits.{standard}
 use Rattle.units.specs.Neutral.{by_sides}
 use Rattle.units.specs.Positions.{positions_of}
@@ -47,10 +46,6 @@ by_n0 us before s weak = after_brackets standard.brackets s us (classes_at befor
 -- the positions of a sequence, each with the class that a rule leaves there
 abbrev pub classes_in : (SequenceView → List Class → List Class) → List Class → SequenceView → List (ℕ × Class)
 classes_in rule cs s = zip s.positions (rule s (classes_at cs s.positions))
-
--- the value that is found beside p, if one is
-abbrev pub value_found : {V : Type 0} → List (ℕ × V) → ℕ → Option V
-value_found found p = option_map (λ x. x.1) (find (λ x. x.0 == p) found)
 
 -- the class at p after a rule: what the rule leaves there, where p stands in a sequence, and else the class before it
 abbrev pub rewritten_at : (SequenceView → List Class → List Class) → List SequenceView → List Class → ℕ → Class

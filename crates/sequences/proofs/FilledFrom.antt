@@ -18,8 +18,8 @@ use Rattle.units.specs.declared.class.Class.{Class}
 use Rattle.units.specs.declared.level.ParaLevel.{ParaLevel}
 use Rattle.units.specs.declared.level.ParaLevel.TheVariants.{Zero, One}
 use Rattle.explicit.specs.IsolateMaps.{Isolates, IsFilledFrom}
-use Rattle.explicit.proofs.InsideIsolates.{nested}
-use Rattle.explicit.proofs.Leveled.{get_or-of_positions, length-of_positions, leveled, size-is}
+use Rattle.explicit.proofs.LevelsFound.InsideIsolates.{nested}
+use Rattle.explicit.proofs.LevelsFound.Leveled.{get_or-of_positions, length-of_positions, leveled, size-is}
 use Rattle.sequences.specs.FilledFrom.{AreExplicitLevels, AreOfParagraph, leveled_by}
 use Rattle.units.proofs.Lengths.{length-classes_of}
 

@@ -9,7 +9,7 @@ use Rattle.std.proofs.lemmas.List.Sums.{sum_by-cons}
 use Rattle.units.specs.Positions.{positions_from}
 use Rattle.units.specs.Runs.{SequenceView, LeveledView, size_of, remains, successor, begins_sequence, sequence_from, sequence_at, sequences_of}
 use Rattle.explicit.specs.Leveled.{IsLeveled, IsNested}
-use Rattle.explicit.proofs.AtMostOne.{at_most_one}
+use Rattle.explicit.proofs.Matched.AtMostOne.{at_most_one}
 use Rattle.sequences.specs.Once.{times, HoldsOnce}
 use Rattle.sequences.proofs.Once.{one_if, times-cons, times-positions, sequences_hold_once}
 use Rattle.sequences.proofs.Forward.{successor_later}

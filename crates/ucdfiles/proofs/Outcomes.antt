@@ -8,7 +8,7 @@ use Rattle.ucdfiles.specs.declared.fault.Fault.{Fault}
 use Rattle.ucdfiles.specs.declared.fault.TableFault.{TableFault}
 use Rattle.ucdfiles.specs.declared.fault.TableFault.TheVariants.{Read, Memory}
 use Rattle.ucdfiles.specs.Faults.{first_fault}
-use Rattle.ucdfiles.specs.Reading.{Reads, Refuses, IsFault, IsOutcome}
+use Rattle.ucdfiles.specs.Reading.{Reads, RefusesBytes, IsFault, IsOutcome}
 use Rattle.ucdfiles.proofs.Settled.{settled-whole}
 
 module _ (before after : List (List ℕ) → Type 0) (fault : List (List ℕ) → List ℕ → Option Fault) (cutter : Cutting) (ended : Type 0) (b : List ℕ) (r : Reads before fault cutter b) where
@@ -30,7 +30,7 @@ module _ (before after : List (List ℕ) → Type 0) (fault : List (List ℕ) �
     other = λ _. elim (err b r) [ inl memory ↦ inl (inl memory) | inr faulty ↦ inr (end, faulty) ];
   }
 
-pub refused : (fault : List (List ℕ) → List ℕ → Option Fault) (ended : Type 0) (b : List ℕ) (e : TableFault) → 0 < length b → Refuses fault b e → e ≢ Read → IsFault fault ended b e
+pub refused : (fault : List (List ℕ) → List ℕ → Option Fault) (ended : Type 0) (b : List ℕ) (e : TableFault) → 0 < length b → RefusesBytes fault b e → e ≢ Read → IsFault fault ended b e
 refused fault ended b e some refuses not_read = record { read = λ is. absurd (not_read is); memory = λ _. inr some; other = λ _. inl refuses }
 
 pub some-given : (b xs : List ℕ) (n : ℕ) → n ≢ 0 → n ≤ length xs → 0 < length (b ++ take n xs)

@@ -4,7 +4,7 @@ use Rattle.std.specs.Option.{option_map}
 use Rattle.units.specs.LineCutting.{Cutting, StandsFor}
 use Rattle.units.specs.Lines.{EndsByFeed, CutsInto, IsTooLongAfter, saturated, ended_lines}
 use Rattle.std.proofs.lemmas.List.{take_all, append_cancel_right}
-use Rattle.units.specs.LineAnswers.{Answers}
+use Rattle.units.specs.LineAnswers.{AnswersPiece}
 use Rattle.units.specs.declared.line_cut.Step.{Step}
 use Rattle.units.specs.declared.line_cut.Step.TheVariants.{More, Line, TooLong}
 use Rattle.units.proofs.LineAppending.{ended_lines-CutsInto}
@@ -13,7 +13,7 @@ use Rattle.units.specs.Text.{longest_line}
 use Rattle.ucdfiles.specs.declared.fault.Fault.{Fault}
 use Rattle.ucdfiles.specs.declared.fault.TableFault.{TableFault}
 use Rattle.ucdfiles.specs.Faults.{fault_at, first_fault, over_long_line}
-use Rattle.ucdfiles.specs.Reading.{Reads, IsStep, IsRefusal, Refuses}
+use Rattle.ucdfiles.specs.Reading.{Reads, IsStep, IsRefusal, RefusesBytes}
 use Rattle.ucdfiles.proofs.FirstFault.{first_fault-at, first_fault-push, fault_of_line-is}
 use Rattle.ucdfiles.proofs.Settled.{settled-more, settled-long}
 
@@ -24,7 +24,7 @@ same_lines b t own lines rest text whole now more =
     append_cancel_right lines own (text ∷ []) (sym (ended_lines-CutsInto (b ++ t) (lines ++ text ∷ []) [] now) ∙ more ∙ ap (λ ls. ls ++ text ∷ []) (ended_lines-CutsInto b own rest whole))
 
 module _ (before after : List (List ℕ) → Type 0) (fault : List (List ℕ) → List ℕ → Option Fault) (old new : Cutting) (b piece : List ℕ) (used : ℕ) where
-  pub step-ok : (step : Step) → Reads before fault old b → StandsFor new (b ++ take used piece) → Answers b piece used step → IsStep before after fault step
+  pub step-ok : (step : Step) → Reads before fault old b → StandsFor new (b ++ take used piece) → AnswersPiece b piece used step → IsStep before after fault step
       → Reads after fault new (b ++ take used piece)
   step-ok More r cuts answer step =
       let taken : take used piece ≡ piece = ap (λ n. take n piece) answer.1 ∙ take_all (length piece) piece (omega arith) in
@@ -52,7 +52,7 @@ module _ (before after : List (List ℕ) → Type 0) (fault : List (List ℕ) �
   step-ok (TooLong number) r cuts answer step = absurd step
 
   pub step-err : (step : Step) (e : TableFault) (more : List ℕ) → ((lines : List (List ℕ)) (line : List ℕ) → longest_line < length line → fault lines line ≡ Some over_long_line)
-      → Reads before fault old b → used ≤ length piece → EndsByFeed used piece → Answers b piece used step → IsRefusal before fault step e → Refuses fault ((b ++ take used piece) ++ more) e
+      → Reads before fault old b → used ≤ length piece → EndsByFeed used piece → AnswersPiece b piece used step → IsRefusal before fault step e → RefusesBytes fault ((b ++ take used piece) ++ more) e
   step-err More e more long r le through answer refused = absurd refused
   step-err (Line number text) e more long r le through answer refused =
       let same : answer.2.0 ≡ r.lines = same_lines b (take used piece) r.lines answer.2.0 r.rest text.now r.whole answer.2.1 answer.1 in

@@ -41,8 +41,8 @@ IsRefusal before fault (Line number text) e = IsLineRefusal before fault number 
 IsRefusal before fault (TooLong number) e = e ≡ LineTooLong number
 
 -- a growth was refused, or this is the fault of the first faulty of the settled lines
-abbrev pub Refuses : (List (List ℕ) → List ℕ → Option Fault) → List ℕ → TableFault → Type 0
-Refuses fault bytes e = (e ≡ Memory) ⊎ (first_fault fault [] (settled_lines bytes) ≡ Some e)
+abbrev pub RefusesBytes : (List (List ℕ) → List ℕ → Option Fault) → List ℕ → TableFault → Type 0
+RefusesBytes fault bytes e = (e ≡ Memory) ⊎ (first_fault fault [] (settled_lines bytes) ≡ Some e)
 
 -- a cutter and a table that were handed some bytes were handed this piece behind them
 abbrev pub ReadsOn : (List (List ℕ) → Type 0) → (List (List ℕ) → Type 0) → (List (List ℕ) → List ℕ → Option Fault) → Cutting → Cutting → List ℕ → Type 0
@@ -63,7 +63,7 @@ EndsFaulty before fault cutter e =
 pub record IsFault (fault : List (List ℕ) → List ℕ → Option Fault) (ended : Type 0) (bytes : List ℕ) (e : TableFault) : Type 0 where
   pub read : e ≡ Read → first_fault fault [] (settled_lines bytes) ≡ None
   pub memory : e ≡ Memory → ended ⊎ (0 < length bytes)
-  pub other : e ≢ Read → Refuses fault bytes e ⊎ (ended × (first_fault fault [] (lines_of bytes) ≡ Some e))
+  pub other : e ≢ Read → RefusesBytes fault bytes e ⊎ (ended × (first_fault fault [] (lines_of bytes) ≡ Some e))
 
 -- what a reader answers: all lines state the table, or a fault
 abbrev pub IsOutcome : (List (List ℕ) → Type 0) → (List (List ℕ) → List ℕ → Option Fault) → Type 0 → Result (Unit {0}) TableFault → List ℕ → Type 0

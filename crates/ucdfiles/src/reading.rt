@@ -4,7 +4,7 @@ ghost use Rattle.std.specs.Prelude.{OnOk};
 ghost use Rattle.ucdfiles.specs.Faults.{over_long_line};
 ghost use Rattle.units.specs.Text.{longest_line};
 ghost use Rattle.ucdfiles.specs.Reading.{Reads, ReadsOn, TakesLine, IsLineRefusal, EndsFaultless, EndsFaulty, IsStep};
-ghost use Rattle.ucdfiles.specs.Reading.{IsRefusal, Refuses, IsOutcome, OfBytes};
+ghost use Rattle.ucdfiles.specs.Reading.{IsRefusal, RefusesBytes, IsOutcome, OfBytes};
 ghost use Rattle.ucdfiles.specs.declared.fault.Fault.{Fault as FaultKind};
 
 use crate::fault::TableFault;
@@ -45,7 +45,7 @@ fn feed<T: LineTable>(table: &mut T, cutter: &mut LineCut, piece: &[u8]) -> Resu
     ensures ok { OnOk result (ReadsOn (T.stands table.old) (T.stands table.new) T.fault cutter.old cutter.new
         piece.now) }
     ensures err { IfErr result (λ e. (b : List ℕ) → Reads (T.stands table.old) T.fault cutter.old b
-        → Refuses T.fault (b ++ piece.now) e) }
+        → RefusesBytes T.fault (b ++ piece.now) e) }
     ensures not_read { IfErr result (λ e. e ≢ TableFault.Read) }
 {
     let mut at = 0;

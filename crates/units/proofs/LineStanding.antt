@@ -8,7 +8,7 @@ use Rattle.std.proofs.lemmas.Grind.{flat_map-append}
 use Rattle.units.specs.Text.{longest_line}
 use Rattle.units.specs.Lines.{HasNoFeed, EndsAtFeed, ended, IsLine, CutsInto, IsTooLongAfter, saturated, ended_lines}
 use Rattle.units.specs.LineCutting.{Cutting, HoldsAfter, StandsFor, Reaches}
-use Rattle.units.specs.LineAnswers.{Answers}
+use Rattle.units.specs.LineAnswers.{AnswersPiece}
 use Rattle.units.proofs.LineReading.{empty_line, never_both}
 use Rattle.units.proofs.LineAppending.{ended_lines-free, ended_lines-line}
 use Rattle.std.specs.Borrow.{Bor}
@@ -126,7 +126,7 @@ reaches_feed Ended used piece f e = e
 reaches_feed Failed used piece f e = tt
 
 module _ (v : Cutting) (b piece : List ℕ) (used : ℕ) (s : StandsFor v (b ++ take used piece)) (r : Reaches v.phase used piece) where
-  pub answers_more : v.phase ≡ Within → Answers b piece used More
+  pub answers_more : v.phase ≡ Within → AnswersPiece b piece used More
   answers_more e =
       let P : Phase → Type 0 = λ p. HoldsAfter p v.done v.held (b ++ take used piece) s.lines in
       let R : Phase → Type 0 = λ p. Reaches p used piece in
@@ -136,7 +136,7 @@ module _ (v : Cutting) (b piece : List ℕ) (used : ℕ) (s : StandsFor v (b ++ 
       let all : take used piece ≡ piece = take_all used piece (omega (arith, reached.1)) in
       (reached.0, reached.1, (ap (λ t. ended_lines (b ++ t)) all ∙ ended_lines-free b piece reached.0), (s.lines, v.held, subst C (take_all used piece (omega (arith, reached.1))) h.0))
 
-  pub answers_line : (number : ℕ) (text : Bor (List ℕ)) → v.phase ≡ Ended → number ≡ v.done → text.now ≡ v.held → Answers b piece used (Line number text)
+  pub answers_line : (number : ℕ) (text : Bor (List ℕ)) → v.phase ≡ Ended → number ≡ v.done → text.now ≡ v.held → AnswersPiece b piece used (Line number text)
   answers_line number text e n t =
       let P : Phase → Type 0 = λ p. HoldsAfter p v.done v.held (b ++ take used piece) s.lines in
       let R : Phase → Type 0 = λ p. Reaches p used piece in
@@ -145,7 +145,7 @@ module _ (v : Cutting) (b piece : List ℕ) (used : ℕ) (s : StandsFor v (b ++ 
       let cut = subst C (sym t) h.0 in
       (subst R e r, ended_lines-line b piece used s.lines text.now (subst R e r) cut, (s.lines, cut, n ∙ h.1))
 
-  pub answers_long : (number : ℕ) → v.phase ≡ Failed → number ≡ saturated (v.done + 1) → Answers b piece used (TooLong number)
+  pub answers_long : (number : ℕ) → v.phase ≡ Failed → number ≡ saturated (v.done + 1) → AnswersPiece b piece used (TooLong number)
   answers_long number e n =
       let P : Phase → Type 0 = λ p. HoldsAfter p v.done v.held (b ++ take used piece) s.lines in
       let h = subst P e s.holds in

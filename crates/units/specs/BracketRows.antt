@@ -1,7 +1,7 @@
 -- Worked rows of bracket pairs (BD14 to BD16) and paired brackets (N0).
 use Rattle.std.specs.Prelude.{ℕ, ◌≡◌, List, [], ◌∷◌, ◌++◌, Some, None, refl, replicate, reverse}
 use Rattle.units.specs.Positions.{positions_from}
-use Rattle.units.specs.Rows.{plain, opens, shuts, levels, levels_alone, closers_alone, laid_out, sequences_compute, layouts_compute}
+use Rattle.units.specs.RowWords.{plain, opens, shuts, levels, levels_alone, closers_alone, laid_out, sequences_compute, layouts_compute}
 use Rattle.units.specs.declared.class.Class.TheVariants.{L, R, NSM, LRE, LRO, PDF}
 use Rattle.units.specs.declared.bracket.Unit.{Unit as BidiUnit}
 use Rattle.units.specs.declared.level.Direction.TheVariants.{Ltr, Rtl}

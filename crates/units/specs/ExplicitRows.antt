@@ -3,7 +3,7 @@ use Rattle.std.specs.Prelude.{◌≡◌, [], ◌∷◌, ◌++◌, Some, None, ma
 use Rattle.units.specs.Isolates.{matching_pdi, matching_initiator, partner_of, isolate_holds, isolate_around, first_strong}
 use Rattle.units.specs.Limits.{standard}
 use Rattle.units.specs.Explicit.{explicit_of}
-use Rattle.units.specs.Rows.{plain, replicated, partners_in, laid_out, explicit_levels_compute, layouts_compute}
+use Rattle.units.specs.RowWords.{plain, replicated, partners_in, laid_out, explicit_levels_compute, layouts_compute}
 use Rattle.units.specs.declared.class.Class.TheVariants.{L, R, EN, ON, LRE, RLE, RLO, PDF, LRI, RLI, FSI, PDI}
 use Rattle.units.specs.declared.level.Direction.TheVariants.{Auto, Ltr, Rtl}
 

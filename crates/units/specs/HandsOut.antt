@@ -14,7 +14,7 @@ pub record Reading : Type 0 where
   pub state : State
 
 -- a read found the end, and the reader gives no more
-pub record HasEnded (source : Reading) : Type 0 where
+pub record ReaderHasEnded (source : Reading) : Type 0 where
   pub state_is : source.state ≡ Ended
   pub no_more : IsAtEnd source.remaining
 

@@ -14,7 +14,7 @@ pub mod Implicit
 pub mod Reordering
 pub mod Layout
 pub mod StandardLimits
-pub mod Rows
+pub mod RowWords
 pub mod ExplicitRows
 pub mod ParagraphRows
 pub mod SequenceRows

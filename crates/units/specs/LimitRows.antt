@@ -1,7 +1,7 @@
 -- Worked rows of limits (BD2, BD16).
 use Rattle.std.specs.Prelude.{◌≡◌, List, [], ◌∷◌, Some, None, map, refl}
 use Rattle.units.specs.Limits.{standard}
-use Rattle.units.specs.Rows.{plain, opens, shuts, levels, closers_by, limited, laid_out_by, sequences_compute, layouts_compute}
+use Rattle.units.specs.RowWords.{plain, opens, shuts, levels, closers_by, limited, laid_out_by, sequences_compute, layouts_compute}
 use Rattle.units.specs.declared.class.Class.TheVariants.{L, R, LRE, RLE, RLI}
 use Rattle.units.specs.declared.bracket.Unit.{Unit as BidiUnit}
 

@@ -7,15 +7,15 @@ use Rattle.units.specs.declared.line_cut.Step.{Step}
 use Rattle.units.specs.declared.line_cut.Step.TheVariants.{More, Line, TooLong}
 
 -- the answer to a piece of which so many bytes were used, after these bytes
-abbrev pub Answers : List ℕ → List ℕ → ℕ → Step → Type 0
-Answers bytes piece used More =
+abbrev pub AnswersPiece : List ℕ → List ℕ → ℕ → Step → Type 0
+AnswersPiece bytes piece used More =
     HasNoFeed piece × (used ≡ length piece) × (ended_lines (bytes ++ take used piece) ≡ ended_lines bytes)
     × ((lines : List (List ℕ)) × (rest : List ℕ) × CutsInto (bytes ++ piece) lines rest)
-Answers bytes piece used (Line number text) =
+AnswersPiece bytes piece used (Line number text) =
     EndsAtFeed used piece × (ended_lines (bytes ++ take used piece) ≡ ended_lines bytes ++ text.now ∷ [])
     × ((lines : List (List ℕ)) × CutsInto (bytes ++ take used piece) (lines ++ text.now ∷ []) []
     × (number ≡ saturated (length lines + 1)))
-Answers bytes piece used (TooLong number) =
+AnswersPiece bytes piece used (TooLong number) =
     (lines : List (List ℕ)) × IsTooLongAfter (bytes ++ take used piece) lines × (number ≡ saturated (length lines + 1))
 
 -- the last line, if it has a byte and no line feed, and no line is over-long

@@ -2,7 +2,7 @@
 use Rattle.std.specs.Prelude.{◌≡◌, [], ◌∷◌, Some, None, map, refl}
 use Rattle.units.specs.Limits.{standard}
 use Rattle.units.specs.Layout.{layout_of}
-use Rattle.units.specs.Rows.{plain, levels, laid_out, line, layouts_compute}
+use Rattle.units.specs.RowWords.{plain, levels, laid_out, line, layouts_compute}
 use Rattle.units.specs.declared.class.Class.TheVariants.{L, R, EN, B, WS, RLO}
 use Rattle.units.specs.declared.level.Direction.TheVariants.{Auto, Ltr}
 

@@ -1,6 +1,6 @@
 -- Worked rows of neutral types (N1, N2).
 use Rattle.std.specs.Prelude.{◌≡◌, [], ◌∷◌, Some, map, refl}
-use Rattle.units.specs.Rows.{plain, laid_out, layouts_compute}
+use Rattle.units.specs.RowWords.{plain, laid_out, layouts_compute}
 use Rattle.units.specs.declared.class.Class.TheVariants.{L, R, ON}
 use Rattle.units.specs.declared.level.Direction.TheVariants.{Ltr, Rtl}
 

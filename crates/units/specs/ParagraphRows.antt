@@ -1,6 +1,6 @@
 -- Worked rows of paragraphs and their levels (P1 to P3).
 use Rattle.std.specs.Prelude.{◌≡◌, [], ◌∷◌, Some, map, refl}
-use Rattle.units.specs.Rows.{plain, laid_out, layouts_compute}
+use Rattle.units.specs.RowWords.{plain, laid_out, layouts_compute}
 use Rattle.units.specs.declared.class.Class.TheVariants.{L, R, B, ON, FSI, PDI}
 use Rattle.units.specs.declared.level.Direction.TheVariants.{Auto, Rtl, AutoRtl}
 

@@ -2,7 +2,7 @@
 use Rattle.std.specs.Prelude.{◌≡◌, [], ◌∷◌, Some, None, map, refl}
 use Rattle.units.specs.Limits.{standard}
 use Rattle.units.specs.Runs.{leveled_of, sequences_of}
-use Rattle.units.specs.Rows.{plain, sequence, laid_out, explicit_levels_compute, layouts_compute}
+use Rattle.units.specs.RowWords.{plain, sequence, laid_out, explicit_levels_compute, layouts_compute}
 use Rattle.units.specs.declared.class.Class.TheVariants.{L, R, AL, ON, LRE, PDF, LRI, RLI, FSI, PDI}
 use Rattle.units.specs.declared.level.Direction.TheVariants.{Ltr}
 

@@ -1,7 +1,7 @@
 -- Worked rows of weak types (W1 to W7).
 use Rattle.std.specs.Prelude.{◌≡◌, [], ◌∷◌, Some, map, refl}
 use Rattle.units.specs.Weak.{after_w5, after_weak}
-use Rattle.units.specs.Rows.{plain, laid_out, layouts_compute}
+use Rattle.units.specs.RowWords.{plain, laid_out, layouts_compute}
 use Rattle.units.specs.declared.class.Class.TheVariants.{L, R, AL, EN, ES, ET, AN, CS, NSM, ON}
 use Rattle.units.specs.declared.level.Direction.TheVariants.{Ltr}
 

@@ -64,7 +64,7 @@ fn put(buffer: &mut [u8], at: usize, bytes: &[u8])
 
 impl LineCut {
     ghost use Rattle.units.specs.LineCutting.{Cutting, StandsFor, GoesOn, IfCut, IfTooLong, Reaches};
-    ghost use Rattle.units.specs.LineAnswers.{Answers, Finishes, StepIsShort};
+    ghost use Rattle.units.specs.LineAnswers.{AnswersPiece, Finishes, StepIsShort};
     ghost use Rattle.units.specs.contracts.line_cut.LineCut.{the_row};
     ghost use Rattle.std.specs.Borrow.{sem};
     ghost use Rattle.std.specs.Io.BufRead.{Rests};
@@ -163,7 +163,7 @@ impl LineCut {
         ensures line { IfCut self.old (UsesOneLine result.0 piece.now) }
         ensures whole { IfTooLong self.old (result.0 ≡ length piece.now) }
         ensures short { StepIsShort result.1 }
-        ensures answer { (b : List ℕ) → StandsFor self.old b → Answers b piece.now result.0 result.1 }
+        ensures answer { (b : List ℕ) → StandsFor self.old b → AnswersPiece b piece.now result.0 result.1 }
         ensures* after { sem 𝓛 (Rests the_row self.entry (GoesOn self.old (take result.0 piece.now))) }
     {
         let used = self.advance(piece);

@@ -1,6 +1,6 @@
 // A source over any reader.
 ghost use Rattle.std.specs.Prelude.{◌≡◌};
-ghost use Rattle.units.specs.HandsOut.{HandsOut, HasEnded, failures_of, HandsOut-nothing, HandsOut-joined};
+ghost use Rattle.units.specs.HandsOut.{HandsOut, ReaderHasEnded, failures_of, HandsOut-nothing, HandsOut-joined};
 
 use crate::source::{ByteSource, SourceFault};
 use std::io::Read;
@@ -57,7 +57,7 @@ impl<R: Read + Drop> ReaderSource<R> {
 impl<R: Read + Drop> ByteSource for ReaderSource<R> {
     ghost gives = { λ s xs t. HandsOut s.remaining t.remaining s.left t.left s.state t.state xs };
 
-    ghost ended = { λ s. HasEnded s };
+    ghost ended = { λ s. ReaderHasEnded s };
 
     ghost failures = { λ s. failures_of s.state };
 

@@ -1,9 +1,9 @@
 use Rattle.std.proofs.Common.{◌≡◌, ◌+◌, ◌-◌, ◌<◌, suc, length, true, false, arith, refl, sym, ap, ◌∙◌}
 use Rattle.std.proofs.lemmas.List.{length-map, length-set}
 use Rattle.units.specs.Classes.{class_at, classes_of, is_isolate_initiator, is_pdi, is_strong}
-use Rattle.explicit.proofs.Roles.{class_read}
-use Rattle.explicit.proofs.Filling.{filling_opening, filling_other, filling_unmatched, filling_matched, filling_all, filling_none}
-use Rattle.explicit.proofs.Sides.{noted_none, noted_weak, noted_opening, noted_strong, noted_all_inside, noted_all_outside, strong_is_other, pdi_is_weak, sides_kept}
+use Rattle.explicit.proofs.Holders.Roles.{class_read}
+use Rattle.explicit.proofs.Matched.Filling.{filling_opening, filling_other, filling_unmatched, filling_matched, filling_all, filling_none}
+use Rattle.explicit.proofs.StrongSides.Sides.{noted_none, noted_weak, noted_opening, noted_strong, noted_all_inside, noted_all_outside, strong_is_other, pdi_is_weak, sides_kept}
 use Rattle.explicit.proofs.isolates.match_partners.Goals as goal
 use Rattle.explicit.proofs.isolates.match_partners.Goals.{then-is_isolate_initiator, else-is_isolate_initiator+then-is_pdi+then-depth-gt0, else-is_isolate_initiator+else-is_pdi+then-is_strong, else-is_isolate_initiator+else-is_pdi+else-is_strong, else-is_pdi-via-then-is_pdi+else-depth-gt0, else-is_pdi-via-else-is_pdi}
 

@@ -1,7 +1,7 @@
 use Rattle.std.proofs.Common.{◌≡◌, ◌+◌, length}
 use Rattle.units.specs.Classes.{classes_of}
-use Rattle.explicit.proofs.Filling.{IsFilling}
-use Rattle.explicit.proofs.Sides.{AreNoted}
+use Rattle.explicit.proofs.Matched.Filling.{IsFilling}
+use Rattle.explicit.proofs.StrongSides.Sides.{AreNoted}
 use Rattle.explicit.proofs.isolates.match_partners.Given as goal
 
 abbrev pub invariant-loop-p : goal.invariant-loop-p

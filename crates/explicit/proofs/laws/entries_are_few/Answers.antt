@@ -1,5 +1,5 @@
 use Rattle.std.proofs.Common.{arith, ap, length}
-use Rattle.explicit.proofs.Taken.{entries-few, level-bound}
+use Rattle.explicit.proofs.Holders.Taken.{entries-few, level-bound}
 use Rattle.explicit.proofs.laws.entries_are_few.Goals as goal
 
 pub returns-clause-defined : goal.returns-clause-defined

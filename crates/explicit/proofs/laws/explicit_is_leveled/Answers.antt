@@ -1,4 +1,4 @@
-use Rattle.explicit.proofs.Leveled.{leveled}
+use Rattle.explicit.proofs.LevelsFound.Leveled.{leveled}
 use Rattle.explicit.proofs.laws.explicit_is_leveled.Goals as goal
 
 pub returns : goal.returns

@@ -1,4 +1,4 @@
-use Rattle.explicit.proofs.Nesting.{nest_or_apart}
+use Rattle.explicit.proofs.Matched.Nesting.{nest_or_apart}
 use Rattle.explicit.proofs.laws.isolates_nest.Goals as goal
 
 pub returns : goal.returns

@@ -1,4 +1,4 @@
-use Rattle.explicit.proofs.WantedLevels.{odd_least, even_least, wanted_least}
+use Rattle.explicit.proofs.LevelsFound.WantedLevels.{odd_least, even_least, wanted_least}
 use Rattle.explicit.proofs.laws.wanted_levels_are_least.Goals as goal
 
 pub returns-clause-odd : goal.returns-clause-odd

@@ -4,9 +4,9 @@ use Rattle.units.specs.Classes.{classes_of, is_isolate_initiator}
 use Rattle.units.specs.Layout.{no_unit}
 use Rattle.units.specs.declared.class.Class.{Class}
 use Rattle.explicit.specs.StatusStacks.{Represents, is_ordinary, place_in, state_within}
-use Rattle.explicit.proofs.Open.{holders}
-use Rattle.explicit.proofs.Roles.{class_read}
-use Rattle.explicit.proofs.Places.{open_before, left-is, open_before-next, explicit-place_in, kept-at, places-more, ordinary_is, ordinary_left, ordinary_opened}
+use Rattle.explicit.proofs.Holders.Open.{holders}
+use Rattle.explicit.proofs.Holders.Roles.{class_read}
+use Rattle.explicit.proofs.LevelsFound.Places.{open_before, left-is, open_before-next, explicit-place_in, kept-at, places-more, ordinary_is, ordinary_left, ordinary_opened}
 use Rattle.explicit.proofs.levels.find_places.Goals as goal
 use Rattle.explicit.proofs.levels.find_places.Goals.{then-is_ordinary, else-is_ordinary}
 

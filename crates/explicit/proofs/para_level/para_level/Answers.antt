@@ -1,7 +1,7 @@
 use Rattle.std.proofs.Common.{ap, ◌∙◌}
 use Rattle.units.specs.Classes.{classes_of}
 use Rattle.explicit.specs.SideLevels.{level_under}
-use Rattle.explicit.proofs.LevelUnder.{level_under-is}
+use Rattle.explicit.proofs.StrongSides.LevelUnder.{level_under-is}
 use Rattle.explicit.proofs.para_level.para_level.Goals as goal
 
 pub returns-clause-level : goal.returns-clause-level

@@ -4,7 +4,7 @@ use Rattle.lines.specs.LineBreaks.{AreBreaks}
 use Rattle.lines.proofs.BoolBytes.{bool_byte-is}
 use Rattle.lines.proofs.LineEnds.{ends_more}
 use Rattle.lines.proofs.NextLine.{IsLimit, ends_line, limit_above, passed_on}
-use Rattle.explicit.proofs.AtMostOne.{at_most_one}
+use Rattle.explicit.proofs.Matched.AtMostOne.{at_most_one}
 use Rattle.lines.proofs.cutting.cut_paragraph.Goals as goal
 
 pub loop-position-preserved : goal.loop-position-preserved

@@ -12,7 +12,7 @@ use Rattle.lines.specs.declared.bounds.Bound.{Bound}
 use Rattle.lines.specs.LineEnds.{AreAllLineEnds, EndsLineAt}
 use Rattle.lines.specs.LinePositions.{IsAtOneLevel}
 use Rattle.lines.proofs.BoolBytes.{bool_byte-is}
-use Rattle.explicit.proofs.Roles.{class_read}
+use Rattle.explicit.proofs.Holders.Roles.{class_read}
 use Rattle.lines.proofs.LineEnds.{cut_read, end_kept}
 use Rattle.lines.proofs.LinesWritten.{Filling, filling_end, filling_more, filling_start}
 use Rattle.lines.proofs.ParagraphLines.{counted_on, line_uniform, para_read}

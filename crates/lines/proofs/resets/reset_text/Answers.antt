@@ -9,7 +9,7 @@ use Rattle.units.specs.Isolates.{level_of_para}
 use Rattle.lines.specs.Spaces.{resets_before}
 use Rattle.units.specs.Reordering.{para_level_at, reset_to, after_resets}
 use Rattle.lines.proofs.Separators.{paragraph_at}
-use Rattle.explicit.proofs.Roles.{class_read}
+use Rattle.explicit.proofs.Holders.Roles.{class_read}
 use Rattle.lines.proofs.BoolBytes.{bool_byte-is}
 use Rattle.lines.proofs.LineEnd.{may_reset}
 use Rattle.lines.proofs.TextEnd.{Comes, Resetting, resetting_start, resetting_more, resetting_on, resetting_end, counted_step}

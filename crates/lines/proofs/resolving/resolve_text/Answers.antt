@@ -9,7 +9,7 @@ use Rattle.units.specs.declared.bracket.Unit.{Unit as BidiUnit}
 use Rattle.units.specs.Paragraphs.{paragraphs_of, SeparatorOnlyLast}
 use Rattle.units.specs.declared.level.Direction.{Direction}
 use Rattle.explicit.specs.FirstParagraph.{first_length}
-use Rattle.explicit.proofs.OneCutting.{paragraphs_of_split}
+use Rattle.explicit.proofs.LevelsFound.OneCutting.{paragraphs_of_split}
 use Rattle.units.specs.Classes.{classes_of}
 use Rattle.paragraph.specs.Contents.{keeps_level}
 use Rattle.lines.specs.Kept.{keeps_levels, keeps_own_level}

@@ -3,7 +3,7 @@ use Rattle.std.proofs.lemmas.List.{length-map}
 use Rattle.units.specs.Classes.{class_at, classes_of, is_strong}
 use Rattle.units.specs.Layout.{no_unit}
 use Rattle.units.specs.declared.bracket.Unit.{Unit as BidiUnit}
-use Rattle.explicit.proofs.Roles.{class_read}
+use Rattle.explicit.proofs.Holders.Roles.{class_read}
 use Rattle.rule_columns.proofs.Outside.{undecided_start, undecided_next, decided_at, decided_nowhere}
 use Rattle.rule_columns.proofs.deciding.first_strong.Goals as goal
 

@@ -4,10 +4,10 @@ use Rattle.units.specs.Classes.{class_at, classes_of, is_isolate_initiator}
 use Rattle.units.specs.Isolates.{matching_pdi, partner_of}
 use Rattle.units.specs.Layout.{no_unit}
 use Rattle.units.specs.declared.bracket.Unit.{Unit as BidiUnit}
-use Rattle.explicit.proofs.Matching.{opener_is_no_pdi}
-use Rattle.explicit.proofs.Nesting.{match_bounds}
-use Rattle.explicit.proofs.PartnerOf.{partner_of_other}
-use Rattle.explicit.proofs.Roles.{class_read}
+use Rattle.explicit.proofs.Matched.Matching.{opener_is_no_pdi}
+use Rattle.explicit.proofs.Matched.Nesting.{match_bounds}
+use Rattle.explicit.proofs.Matched.PartnerOf.{partner_of_other}
+use Rattle.explicit.proofs.Holders.Roles.{class_read}
 use Rattle.rule_columns.proofs.Outside.{outside_next, outside_match, inside_match, inside_unmatched}
 use Rattle.rule_columns.proofs.deciding.next_outside.Goals as goal
 

@@ -4,7 +4,7 @@ use Rattle.std.specs.Box.{boxed_slice_items}
 use Rattle.std.proofs.lemmas.List.{get_or_read}
 use Rattle.units.specs.Explicit.{explicit_at}
 use Rattle.units.specs.declared.class.Class.{Class}
-use Rattle.explicit.proofs.MatchedIsolates.{level-at_most}
+use Rattle.explicit.proofs.Holders.MatchedIsolates.{level-at_most}
 use Rattle.explicit.proofs.levels.Explicit.at.Goals as goal
 
 pub returns-clause-within : goal.returns-clause-within

@@ -1,6 +1,6 @@
 use Rattle.std.proofs.Common.{refl, arith, sym, ap, ◌∙◌, inl, inr}
 use Rattle.std.proofs.lemmas.Bool.{not-false, not-true}
-use Rattle.explicit.proofs.Represented.{pdf-within_overflow, pdf-overflow, pdf-kept, pdf-popped}
+use Rattle.explicit.proofs.Holders.Represented.{pdf-within_overflow, pdf-overflow, pdf-kept, pdf-popped}
 use Rattle.explicit.proofs.status.StatusStack.close_embedding.Goals as goal
 use Rattle.explicit.proofs.status.StatusStack.close_embedding.Goals.{else-len-ge2-via-then-len-ge2+else-not-current, else-len-ge2-via-else-len-ge2}
 

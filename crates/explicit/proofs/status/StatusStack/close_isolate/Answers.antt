@@ -1,5 +1,5 @@
 use Rattle.std.proofs.Common.{refl, arith}
-use Rattle.explicit.proofs.Represented.{pdi-overflow, pdi-ended, pdi-unmatched}
+use Rattle.explicit.proofs.Holders.Represented.{pdi-overflow, pdi-ended, pdi-unmatched}
 use Rattle.explicit.proofs.status.StatusStack.close_isolate.Goals as goal
 
 pub returns-then-self-gt0-clause-closed : goal.returns-then-self-gt0-clause-closed

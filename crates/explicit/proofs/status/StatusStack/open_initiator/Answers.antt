@@ -1,6 +1,6 @@
 use Rattle.std.proofs.Common.{◌+◌, sym, ap, ◌∙◌}
 use Rattle.units.specs.Classes.{is_isolate_initiator}
-use Rattle.explicit.proofs.Represented.{kept-bounded, asked-is, entry-is, taken-by}
+use Rattle.explicit.proofs.Holders.Represented.{kept-bounded, asked-is, entry-is, taken-by}
 use Rattle.explicit.proofs.status.StatusStack.open_initiator.Goals as goal
 
 pub current-level-requires : goal.current-level-requires

@@ -1,7 +1,7 @@
 use Rattle.std.proofs.Common.{ap, ◌∙◌}
 use Rattle.std.specs.Prelude.{Some}
 use Rattle.units.specs.declared.class.Class.{Class}
-use Rattle.explicit.proofs.Represented.{kept-bounded, place_in-by}
+use Rattle.explicit.proofs.Holders.Represented.{kept-bounded, place_in-by}
 use Rattle.explicit.proofs.status.StatusStack.place_inside.Goals as goal
 
 pub current-current-requires : goal.current-current-requires

@@ -1,6 +1,6 @@
 use Rattle.std.proofs.Common.{sym, ap, ◌∙◌, arith}
 use Rattle.explicit.specs.StatusStacks.{before_isolate}
-use Rattle.explicit.proofs.ClosingIsolate.{before-isolate, before-other}
+use Rattle.explicit.proofs.Holders.ClosingIsolate.{before-isolate, before-other}
 use Rattle.explicit.proofs.status.StatusStack.pop_isolate.Goals as goal
 
 pub loop-entry-preserved : goal.loop-entry-preserved

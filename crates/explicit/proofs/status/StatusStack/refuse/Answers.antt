@@ -1,5 +1,5 @@
 use Rattle.std.proofs.Common.{arith}
-use Rattle.explicit.proofs.Represented.{kept-bounded}
+use Rattle.explicit.proofs.Holders.Represented.{kept-bounded}
 use Rattle.explicit.proofs.status.StatusStack.refuse.Goals as goal
 
 pub overflow_add-self : goal.overflow_add-self

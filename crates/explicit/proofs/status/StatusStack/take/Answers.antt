@@ -1,6 +1,6 @@
 use Rattle.std.proofs.Common.{◌≤◌, arith, inl, inr}
 use Rattle.std.proofs.lemmas.Bool.{cases_Bool}
-use Rattle.explicit.proofs.Represented.{kept-bounded}
+use Rattle.explicit.proofs.Holders.Represented.{kept-bounded}
 use Rattle.explicit.proofs.status.StatusStack.take.Goals as goal
 
 pub overflow_add-self : goal.overflow_add-self

@@ -1,9 +1,11 @@
-use Rattle.std.proofs.Common.{rules, refl, ◌≡◌, List, ℕ, length, map, take}
+use Rattle.std.proofs.Common.{rules, ap, refl, ◌∙◌, ◌≡◌, List, ℕ, length, map, take}
+use Rattle.std.specs.Box.{boxed_slice_items}
 use Rattle.std.proofs.lemmas.List.{with_items_is}
 use Rattle.units.specs.Classes.{classes_of}
 use Rattle.units.specs.Isolates.{level_of_para}
 use Rattle.units.specs.Reordering.{after_resets}
 use Rattle.lines.specs.Columns.{levels_filled, lines_filled, paras_filled}
+use Rattle.lines.proofs.KeptResolved.{resolved_stay}
 use Rattle.lines.proofs.TextLevels.{laid_out}
 use Rattle.lines.proofs.scratch.Scratch.fill.Goals as goal
 
@@ -11,19 +13,44 @@ pub returns-clause-layout : goal.returns-clause-layout
 returns-clause-layout g c =
     let n : ℕ = length c.args.text.now in
     let found = c.resolve_text-resolved in
+    let kept = c.keep_resolved in
     let filled = c.arrange-filled in
-    let column = found.new.columns.levels.items in
+    let column = kept.new.self.levels.items in
     let as_levels : length filled.new.levels ≡ column.len = search rules in
     let levels_are = with_items_is column filled.new.levels as_levels in
-    let paras : List ℕ = map level_of_para (paras_filled found.result.paragraphs found.new.columns) in
-    let reset : take n filled.new.levels ≡ after_resets (classes_of c.args.text.now) c.args.breaks.now.positions paras (levels_filled n found.new.columns) =
+    let paras : List ℕ = map level_of_para (paras_filled found.result.paragraphs kept.new.self) in
+    let reset : take n filled.new.levels ≡ after_resets (classes_of c.args.text.now) c.args.breaks.now.positions paras (levels_filled n kept.new.self) =
     rw (← c.deref_mut-2.ensures.value, ← c.deref.ensures.value) filled.ensures.levels in
     rw levels_are
-    (laid_out c.args.limits c.args.text.now c.args.direction c.args.breaks.now.positions paras (levels_filled n found.new.columns) (take n filled.new.levels) (take n filled.new.levels)
-    (lines_filled filled.result filled.new.columns) refl found.ensures.paras found.ensures.levels reset filled.ensures.lines)
+    (laid_out c.args.limits c.args.text.now c.args.direction c.args.breaks.now.positions paras (levels_filled n kept.new.self) (take n filled.new.levels) (take n filled.new.levels)
+    (lines_filled filled.result filled.new.columns) refl
+    (ap (λ ps. map level_of_para (take found.result.paragraphs (boxed_slice_items ps))) kept.ensures.paras ∙ found.ensures.paras)
+    (ap (λ column. take n (boxed_slice_items column)) kept.ensures.levels ∙ found.ensures.levels)
+    reset filled.ensures.lines)
+
+pub returns-clause-holds : goal.returns-clause-holds
+returns-clause-holds g c =
+    let n : ℕ = length c.args.text.now in
+    let found = c.resolve_text-resolved in
+    let kept = c.keep_resolved in
+    let filled = c.arrange-filled in
+    let column = kept.new.self.levels.items in
+    let as_levels : length filled.new.levels ≡ column.len = search rules in
+    let levels_are = with_items_is column filled.new.levels as_levels in
+    record {
+      units = refl;
+      paras = ap (λ ps. map level_of_para (take found.result.paragraphs (boxed_slice_items ps))) kept.ensures.paras ∙ found.ensures.paras;
+      levels =
+          rw levels_are
+          (resolved_stay found.result.uniform n (boxed_slice_items kept.new.self.resolved) (boxed_slice_items kept.new.self.levels) filled.new.levels (λ known. filled.ensures.same known ∙ ap (take n) c.deref_mut-2.ensures.value)
+          ∙ kept.ensures.resolved
+          ∙ found.ensures.levels);
+      known = found.ensures.known;
+    }
 
 pub arrange-filled-requires-clause-uniform : goal.arrange-filled-requires-clause-uniform
-arrange-filled-requires-clause-uniform g c = λ known. rw (c.deref_mut-2.ensures.value, c.deref.ensures.value) (c.resolve_text-resolved.ensures.uniform known)
+arrange-filled-requires-clause-uniform g c = λ known.
+    rw (c.deref_mut-2.ensures.value, c.deref.ensures.value, c.keep_resolved.ensures.levels, c.keep_resolved.ensures.paras) (c.resolve_text-resolved.ensures.uniform known)
 
 pub arrange-filled-requires-clause-ends : goal.arrange-filled-requires-clause-ends
 arrange-filled-requires-clause-ends g c =

@@ -1,0 +1,14 @@
+pub mod Closing
+pub mod ClosingIsolate
+pub mod EmbeddingStep
+pub mod HoldersStep
+pub mod IsolateStep
+pub mod MatchedIsolates
+pub mod Open
+pub mod OpenEmbeddings
+pub mod OpenIsolates
+pub mod Represented
+pub mod Roles
+pub mod InnermostOpen
+pub mod Taken
+pub mod TheTail

@@ -1,0 +1,151 @@
+-- What a PDI does to what the pass keeps.
+use Rattle.std.proofs.Common.{◌≡◌, ℕ, suc, ◌<◌, Bool, true, false, ◌||◌, List, [], ◌∷◌, ◌++◌, arith, refl, sym, ap, subst, ◌∙◌, inl, inr, append-nil}
+use Rattle.std.specs.List.{list_any}
+use Rattle.std.proofs.lemmas.Bool.{cases_Bool, cases_lt, false≢true}
+use Rattle.units.specs.declared.class.Class.{Class}
+use Rattle.explicit.specs.OpenInitiators.{is_isolate, past_isolate, after_pdi}
+use Rattle.explicit.specs.StatusStacks.{is_taken, entry_at, entries_of, taken_isolates, refused_isolates, refused_embeddings, before_isolate}
+use Rattle.explicit.specs.declared.status.Status.{Status}
+use Rattle.explicit.proofs.Holders.Taken.{none_refused, taken-outer, adds-taken, adds-isolate, adds-embedding_within, adds-embedding}
+
+any-snoc : (p : Status → Bool) (xs : List Status) (e : Status) → list_any p (xs ++ e ∷ []) ≡ (list_any p xs || p e)
+any-snoc p [] e = elim (cases_Bool (p e)) [ inl u ↦ rw u refl | inr u ↦ rw u refl ]
+any-snoc p (x ∷ xs) e = elim (cases_Bool (p x)) [ inl u ↦ rw u refl | inr u ↦ rw u (any-snoc p xs e) ]
+
+pub before-isolate : (xs : List Status) (e : Status) → e.is_isolate ≡ true → before_isolate (xs ++ e ∷ []) ≡ xs
+before-isolate [] e u = refl
+before-isolate (x ∷ xs) e u =
+    let a : list_any (λ e. e.is_isolate) (xs ++ e ∷ []) ≡ true = any-snoc (λ e. e.is_isolate) xs e ∙ rw u (elim (cases_Bool (list_any (λ e. e.is_isolate) xs)) [ inl v ↦ rw v refl | inr v ↦ rw v refl ]) in
+    rw (a, before-isolate xs e u) refl
+
+pub before-other : (xs : List Status) (e : Status) → e.is_isolate ≡ false → before_isolate (xs ++ e ∷ []) ≡ before_isolate xs
+before-other [] e u = refl
+before-other (x ∷ xs) e u =
+    let a : list_any (λ e. e.is_isolate) (xs ++ e ∷ []) ≡ list_any (λ e. e.is_isolate) xs = any-snoc (λ e. e.is_isolate) xs e ∙ rw u (elim (cases_Bool (list_any (λ e. e.is_isolate) xs)) [ inl v ↦ rw v refl | inr v ↦ rw v refl ]) in
+    rw (a, before-other xs e u) refl
+
+-- an isolate fewer that was not taken
+pub record IsOverflowLess (depth : ℕ) (cs : List Class) (para : ℕ) (xs ys : List ℕ) : Type 0 where
+  pub entries : entries_of depth cs para xs ≡ entries_of depth cs para ys
+  pub isolates : refused_isolates depth cs para xs ≡ suc (refused_isolates depth cs para ys)
+  pub embeddings : refused_embeddings depth cs para xs ≡ refused_embeddings depth cs para ys
+  pub taken : taken_isolates depth cs para xs ≡ taken_isolates depth cs para ys
+
+-- an isolate fewer that was taken, and none that was not
+pub record IsIsolateLess (depth : ℕ) (cs : List Class) (para : ℕ) (xs ys : List ℕ) : Type 0 where
+  pub entries : entries_of depth cs para ys ≡ before_isolate (entries_of depth cs para xs)
+  pub isolates : refused_isolates depth cs para ys ≡ 0
+  pub embeddings : refused_embeddings depth cs para ys ≡ 0
+  pub taken : taken_isolates depth cs para xs ≡ suc (taken_isolates depth cs para ys)
+
+past-here : (cs : List Class) (q : ℕ) (qs : List ℕ) → is_isolate cs q ≡ true → qs ≡ past_isolate cs (q ∷ qs)
+past-here cs q qs u = rw u refl
+
+past-further : (cs : List Class) (q : ℕ) (qs : List ℕ) → is_isolate cs q ≡ false → past_isolate cs qs ≡ past_isolate cs (q ∷ qs)
+past-further cs q qs u = rw u refl
+
+past-refused : (depth : ℕ) (cs : List Class) (para : ℕ) (qs : List ℕ) → list_any (is_isolate cs) qs ≡ true → 0 < refused_isolates depth cs para qs → IsOverflowLess depth cs para qs (past_isolate cs qs)
+past-refused depth cs para [] v h = absurd (omega arith)
+past-refused depth cs para (q ∷ qs) v h =
+    let P : List ℕ → Type 0 = λ ys. IsOverflowLess depth cs para (q ∷ qs) ys in
+    elim (cases_Bool (is_taken depth cs para q qs)) [
+      | inl t ↦ absurd (let z : refused_isolates depth cs para (q ∷ qs) ≡ 0 = (none_refused depth cs para (q ∷ qs) t).0 in omega arith)
+      | inr t ↦ elim (cases_Bool (is_isolate cs q)) [
+        | inl u ↦
+            let a = adds-isolate depth cs para q qs t u in
+            subst P (past-here cs q qs u) (record {
+              entries = a.entry_is ∙ append-nil (entries_of depth cs para qs);
+              isolates = omega (arith, a.isolates_is);
+              embeddings = omega (arith, a.embeddings_is);
+              taken = omega (arith, a.taken_isolates_is);
+            })
+        | inr u ↦ elim (cases_lt 0 (refused_isolates depth cs para qs)) [
+          | inl k ↦
+              let a = adds-embedding_within depth cs para q qs t u k in
+              let ih = past-refused depth cs para qs (rw u at v) k in
+              subst P (past-further cs q qs u) (record {
+                entries = a.entry_is ∙ append-nil (entries_of depth cs para qs) ∙ ih.entries;
+                isolates = omega (arith, a.isolates_is, ih.isolates);
+                embeddings = omega (arith, a.embeddings_is, ih.embeddings);
+                taken = omega (arith, a.taken_isolates_is, ih.taken);
+              })
+          | inr k ↦ absurd (let a = adds-embedding depth cs para q qs t u (omega arith) in omega (arith, a.isolates_is))
+        ]
+      ]
+    ]
+
+past-taken : (depth : ℕ) (cs : List Class) (para : ℕ) (qs : List ℕ) → list_any (is_isolate cs) qs ≡ true → refused_isolates depth cs para qs ≡ 0 → IsIsolateLess depth cs para qs (past_isolate cs qs)
+past-taken depth cs para [] v h = absurd (false≢true v)
+past-taken depth cs para (q ∷ qs) v h =
+    let P : List ℕ → Type 0 = λ ys. IsIsolateLess depth cs para (q ∷ qs) ys in
+    elim (cases_Bool (is_taken depth cs para q qs)) [
+      | inl t ↦
+          let a = adds-taken depth cs para q qs t in
+          let z = none_refused depth cs para qs (taken-outer depth cs para q qs t) in
+          elim (cases_Bool (is_isolate cs q)) [
+            | inl u ↦ subst P (past-here cs q qs u) (record {
+              entries = sym (before-isolate (entries_of depth cs para qs) (entry_at depth cs para q qs) u) ∙ ap before_isolate (sym a.entry_is);
+              isolates = z.0;
+              embeddings = z.1;
+              taken = a.taken_isolates_is ∙ rw u (omega arith);
+            })
+            | inr u ↦
+                let ih = past-taken depth cs para qs (rw u at v) z.0 in
+                subst P (past-further cs q qs u) (record {
+                  entries = ih.entries ∙ sym (before-other (entries_of depth cs para qs) (entry_at depth cs para q qs) u) ∙ ap before_isolate (sym a.entry_is);
+                  isolates = ih.isolates;
+                  embeddings = ih.embeddings;
+                  taken = a.taken_isolates_is ∙ rw u (omega (arith, ih.taken));
+                })
+          ]
+      | inr t ↦ elim (cases_Bool (is_isolate cs q)) [
+        | inl u ↦ absurd (let a = adds-isolate depth cs para q qs t u in omega (arith, a.isolates_is))
+        | inr u ↦ elim (cases_lt 0 (refused_isolates depth cs para qs)) [
+          | inl k ↦ absurd (let a = adds-embedding_within depth cs para q qs t u k in omega (arith, a.isolates_is))
+          | inr k ↦
+              let a = adds-embedding depth cs para q qs t u (omega arith) in
+              let ih = past-taken depth cs para qs (rw u at v) (omega arith) in
+              subst P (past-further cs q qs u) (record {
+                entries = ih.entries ∙ ap before_isolate (sym (a.entry_is ∙ append-nil (entries_of depth cs para qs)));
+                isolates = ih.isolates;
+                embeddings = ih.embeddings;
+                taken = omega (arith, a.taken_isolates_is, ih.taken);
+              })
+        ]
+      ]
+    ]
+
+-- where no isolate is open, none was refused and none taken
+no_isolates : (depth : ℕ) (cs : List Class) (para : ℕ) (qs : List ℕ) → list_any (is_isolate cs) qs ≡ false → (refused_isolates depth cs para qs ≡ 0) × (taken_isolates depth cs para qs ≡ 0)
+no_isolates depth cs para [] v = (refl, refl)
+no_isolates depth cs para (q ∷ qs) v =
+    elim (cases_Bool (is_isolate cs q)) [
+      | inl u ↦ absurd (false≢true (sym v ∙ rw u refl))
+      | inr u ↦
+          let ih = no_isolates depth cs para qs (rw u at v) in
+          elim (cases_Bool (is_taken depth cs para q qs)) [
+            | inl t ↦ (rw (t, ih.0) refl, rw (t, u, ih.1) refl)
+            | inr t ↦ (rw (t, u, ih.0) refl, rw (t, ih.1) refl)
+          ]
+    ]
+
+pub pdi-refused : (depth : ℕ) (cs : List Class) (para : ℕ) (qs : List ℕ) → 0 < refused_isolates depth cs para qs → IsOverflowLess depth cs para qs (after_pdi cs qs)
+pdi-refused depth cs para qs h =
+    elim (cases_Bool (list_any (is_isolate cs) qs)) [
+      | inl v ↦ rw v (past-refused depth cs para qs v h)
+      | inr v ↦ absurd (let z = no_isolates depth cs para qs v in omega (arith, z.0))
+    ]
+
+pub pdi-taken : (depth : ℕ) (cs : List Class) (para : ℕ) (qs : List ℕ) → refused_isolates depth cs para qs ≡ 0 → 0 < taken_isolates depth cs para qs → IsIsolateLess depth cs para qs (after_pdi cs qs)
+pdi-taken depth cs para qs z h =
+    elim (cases_Bool (list_any (is_isolate cs) qs)) [
+      | inl v ↦ rw v (past-taken depth cs para qs v z)
+      | inr v ↦ absurd (let k = no_isolates depth cs para qs v in omega (arith, k.1))
+    ]
+
+pub pdi-none : (depth : ℕ) (cs : List Class) (para : ℕ) (qs : List ℕ) → refused_isolates depth cs para qs ≡ 0 → taken_isolates depth cs para qs ≡ 0 → after_pdi cs qs ≡ qs
+pdi-none depth cs para qs z h =
+    elim (cases_Bool (list_any (is_isolate cs) qs)) [
+      | inl v ↦ absurd (let k = past-taken depth cs para qs v z in omega (arith, k.taken))
+      | inr v ↦ rw v refl
+    ]

@@ -1,0 +1,104 @@
+-- The initiators that were refused are a tail of the chain.
+use Rattle.std.proofs.Common.{◌≡◌, ℕ, ◌+◌, ◌<◌, Bool, true, false, not, ◌||◌, List, [], ◌∷◌, ◌++◌, length, arith, refl, sym, ap, subst, ◌∙◌, cond, inl, inr, length-append, reverse}
+use Rattle.std.specs.Prelude.{count_by, nat_lt, ◌==◌}
+use Rattle.std.specs.List.{suffix_len, prefix_len}
+use Rattle.std.proofs.lemmas.Bool.{cases_Bool, cases_lt, lt-ltb, le-ltb, eq-eqb, ne_eqb, or_right}
+use Rattle.std.proofs.lemmas.List.{reverse-append, length-reverse}
+use Rattle.std.proofs.lemmas.List.Sums.{sum_by-append}
+use Rattle.std.proofs.lemmas.List.Folds.{prefix_len-append}
+use Rattle.units.specs.declared.class.Class.{Class}
+use Rattle.explicit.specs.OpenInitiators.{is_isolate}
+use Rattle.explicit.specs.StatusStacks.{state_within, is_taken, entry_at, entries_of, taken_isolates, refused_isolates, IsRefusedTail}
+use Rattle.explicit.proofs.Matched.StillOpen.{bit}
+use Rattle.explicit.proofs.Holders.Taken.{taken-outer, none_refused, adds-taken}
+
+count-cons : (t : ℕ → Bool) (q : ℕ) (qs : List ℕ) → count_by t (q ∷ qs) ≡ bit (t q) + count_by t qs
+count-cons t q qs = sum_by-append (λ x. cond (t x) 1 0) (q ∷ []) qs ∙ ap (λ k. k + count_by t qs) (omega arith)
+
+suffix-cons : (t : ℕ → Bool) (q : ℕ) (qs : List ℕ) → suffix_len t (q ∷ qs) ≡ cond (suffix_len t qs == length qs) (length qs + bit (t q)) (suffix_len t qs)
+suffix-cons t q qs = ap (prefix_len t) (reverse-append (q ∷ []) qs) ∙ prefix_len-append t (reverse qs) (q ∷ []) ∙ ap (λ n. cond (suffix_len t qs == n) (n + bit (t q)) (suffix_len t qs)) (length-reverse qs)
+
+-- all pass from the end back where none fails, and not all where one does
+suffix-all : (t : ℕ → Bool) (qs : List ℕ) → count_by t qs ≡ 0 → suffix_len (λ q. not (t q)) qs ≡ length qs
+suffix-all t [] h = refl
+suffix-all t (q ∷ qs) h =
+    let n = count-cons t q qs in
+    let c : count_by t qs ≡ 0 = omega (arith, n, h) in
+    let b : bit (t q) ≡ 0 = omega (arith, n, h) in
+    elim (cases_Bool (t q)) [
+      | inl u ↦ absurd (let z : bit true ≡ 0 = rw u at b in omega arith)
+      | inr u ↦ suffix-cons (λ q. not (t q)) q qs ∙ rw (suffix-all t qs c, eq-eqb (length qs) (length qs) refl, u) (omega arith)
+    ]
+
+suffix-some : (t : ℕ → Bool) (qs : List ℕ) → 0 < count_by t qs → suffix_len (λ q. not (t q)) qs < length qs
+suffix-some t [] h = absurd (omega arith)
+suffix-some t (q ∷ qs) h =
+    let n = count-cons t q qs in
+    let P : ℕ → Type 0 = λ k. k < length (q ∷ qs) in
+    subst P (sym (suffix-cons (λ q. not (t q)) q qs)) (elim (cases_lt 0 (count_by t qs)) [
+      | inl more ↦
+          let ih : suffix_len (λ q. not (t q)) qs < length qs = suffix-some t qs more in
+          rw (ne_eqb (suffix_len (λ q. not (t q)) qs) (length qs) (λ e. omega arith)) (omega arith)
+      | inr none ↦
+          let e : suffix_len (λ q. not (t q)) qs ≡ length qs = suffix-all t qs (omega arith) in
+          elim (cases_Bool (t q)) [
+            | inl u ↦ rw (e, eq-eqb (length qs) (length qs) refl, u) (omega arith)
+            | inr u ↦ absurd (let z : bit (t q) ≡ 0 = rw u refl in omega (arith, n, z))
+          ]
+    ])
+
+all_taken : (depth : ℕ) (cs : List Class) (para : ℕ) (qs : List ℕ) → (state_within depth cs para qs).sound ≡ true → (length (entries_of depth cs para qs) ≡ length qs + 1) × (taken_isolates depth cs para qs ≡ count_by (is_isolate cs) qs)
+all_taken depth cs para [] s = (refl, refl)
+all_taken depth cs para (q ∷ qs) s =
+    let ih = all_taken depth cs para qs (taken-outer depth cs para q qs s) in
+    let a = adds-taken depth cs para q qs s in
+    let n : length (entries_of depth cs para qs ++ entry_at depth cs para q qs ∷ []) ≡ length (entries_of depth cs para qs) + 1 = length-append (entries_of depth cs para qs) (entry_at depth cs para q qs ∷ []) in
+    (ap length a.entry_is ∙ n ∙ omega (arith, ih.0), a.taken_isolates_is ∙ ap (λ k. bit (is_isolate cs q) + k) ih.1 ∙ sym (count-cons (is_isolate cs) q qs))
+
+cut-sound : (depth : ℕ) (cs : List Class) (para : ℕ) (qs : List ℕ) → (state_within depth cs para qs).sound ≡ true → IsRefusedTail depth cs para [] qs
+cut-sound depth cs para qs s =
+    let a = all_taken depth cs para qs s in
+    let z = none_refused depth cs para qs s in
+    record { sound = s; entries = refl; one_each = a.0; overflow_isolates = z.0; overflow_embeddings = z.1; valid_isolates = a.1 }
+
+cut-refused : (depth : ℕ) (cs : List Class) (para q : ℕ) (refused taken : List ℕ) → is_taken depth cs para q (refused ++ taken) ≡ false → IsRefusedTail depth cs para refused taken → IsRefusedTail depth cs para (q ∷ refused) taken
+cut-refused depth cs para q refused taken t c =
+    let t' = λ (q : ℕ). not (is_isolate cs q) in
+    record {
+      sound = c.sound;
+      entries = rw t c.entries;
+      one_each = c.one_each;
+      overflow_isolates = rw t (ap (λ k. bit (is_isolate cs q) + k) c.overflow_isolates ∙ sym (count-cons (is_isolate cs) q refused));
+      overflow_embeddings = elim (cases_lt 0 (refused_isolates depth cs para (refused ++ taken))) [
+        | inl more ↦
+            let some : suffix_len t' refused < length refused = suffix-some (is_isolate cs) refused (omega (arith, c.overflow_isolates)) in
+            let off : (suffix_len t' refused == length refused) ≡ false = ne_eqb (suffix_len t' refused) (length refused) (λ e. omega arith) in
+            let none : (is_isolate cs q || nat_lt 0 (refused_isolates depth cs para (refused ++ taken))) ≡ true = or_right (is_isolate cs q) (nat_lt 0 (refused_isolates depth cs para (refused ++ taken))) (lt-ltb 0 (refused_isolates depth cs para (refused ++ taken)) more) in
+            let s : suffix_len t' (q ∷ refused) ≡ suffix_len t' refused = suffix-cons t' q refused ∙ rw off refl in
+            rw (t, none) (omega (arith, s, c.overflow_embeddings))
+        | inr nothing ↦
+            let all : suffix_len t' refused ≡ length refused = suffix-all (is_isolate cs) refused (omega (arith, c.overflow_isolates)) in
+            let on : (suffix_len t' refused == length refused) ≡ true = eq-eqb (suffix_len t' refused) (length refused) all in
+            let none : nat_lt 0 (refused_isolates depth cs para (refused ++ taken)) ≡ false = le-ltb 0 (refused_isolates depth cs para (refused ++ taken)) (omega arith) in
+            elim (cases_Bool (is_isolate cs q)) [
+              | inl u ↦
+                  let s : suffix_len t' (q ∷ refused) ≡ length refused + 0 = suffix-cons t' q refused ∙ rw (on, u) refl in
+                  rw (t, u) (omega (arith, s, c.overflow_embeddings, all))
+              | inr u ↦
+                  let s : suffix_len t' (q ∷ refused) ≡ length refused + 1 = suffix-cons t' q refused ∙ rw (on, u) refl in
+                  rw (t, u, none) (omega (arith, s, c.overflow_embeddings, all))
+            ]
+      ];
+      valid_isolates = rw t (omega (arith, c.valid_isolates));
+    }
+
+-- whatever initiators are open, those that were refused stand in front of those that were taken
+pub cut_of : (depth : ℕ) (cs : List Class) (para : ℕ) (qs : List ℕ) → (refused : List ℕ) × (taken : List ℕ) × (qs ≡ refused ++ taken) × IsRefusedTail depth cs para refused taken
+cut_of depth cs para [] = ([], [], refl, cut-sound depth cs para [] refl)
+cut_of depth cs para (q ∷ qs) =
+    elim (cases_Bool (is_taken depth cs para q qs)) [
+      | inl t ↦ ([], q ∷ qs, refl, cut-sound depth cs para (q ∷ qs) t)
+      | inr t ↦
+          let ih = cut_of depth cs para qs in
+          (q ∷ ih.0, ih.1, ap (λ xs. q ∷ xs) ih.2, cut-refused depth cs para q ih.0 ih.1 (ap (is_taken depth cs para q) (sym ih.2) ∙ t) ih.3)
+    ]

@@ -1,0 +1,5 @@
+pub mod OneCutting
+pub mod Places
+pub mod WantedLevels
+pub mod Leveled
+pub mod InsideIsolates

@@ -1,0 +1,148 @@
+-- Explicit levels from the initiators that are open.
+use Rattle.std.proofs.Common.{◌≡◌, ℕ, zero, suc, ◌+◌, ◌<◌, ◌≤◌, Bool, true, false, List, [], ◌∷◌, ◌++◌, length, arith, refl, sym, ap, subst, ◌∙◌, inl, inr, zero-add, append-nil, get_or, set, Option, ◌^◌, reverse}
+use Rattle.std.proofs.lemmas.List.{length-map, reverse-append, get_or-set_same, get_or-set_other}
+use Rattle.std.specs.Prelude.{None, filter, fold, is_none}
+use Rattle.std.proofs.lemmas.Bool.{cases_Bool, cases_eq}
+use Rattle.std.proofs.lemmas.List.Elements.{filter-append}
+use Rattle.units.specs.Positions.{positions_from}
+use Rattle.units.specs.Classes.{class_at, classes_of, is_initiator, is_pdi, is_pdf, is_removed, is_separator}
+use Rattle.units.specs.declared.bracket.Unit.{Unit}
+use Rattle.units.specs.Explicit.{State, entered, state_of, chain, explicit_at}
+use Rattle.units.specs.declared.class.Class.{Class}
+use Rattle.explicit.specs.OpenInitiators.{opened, left_open}
+use Rattle.units.specs.declared.class.Class.TheVariants.{L, R, AL, EN, ES, ET, AN, CS, NSM, S, WS, ON}
+use Rattle.explicit.specs.StatusStacks.{state_within, place_in, is_ordinary, Represents, IsKept}
+use Rattle.explicit.specs.declared.status.StatusStack.{StatusStack}
+use Rattle.units.proofs.Positions.{positions_from-next}
+use Rattle.explicit.proofs.Holders.Open.{below, holders, holds}
+use Rattle.explicit.proofs.Holders.HoldersStep.{holders-step}
+
+-- the initiators that are open before p
+abbrev pub open_before : List Class → ℕ → List ℕ
+open_before cs zero = []
+open_before cs (suc p) = opened cs p (holders cs p)
+
+pub left_before : (cs : List Class) (p : ℕ) → p < length cs → left_open cs (class_at cs p) (open_before cs p) ≡ holders cs p
+left_before cs zero l =
+    elim (cases_Bool (is_pdi (class_at cs 0))) [
+      | inl u ↦ rw u refl
+      | inr u ↦ elim (cases_Bool (is_pdf (class_at cs 0))) [ inl v ↦ rw (u, v) refl | inr v ↦ rw (u, v) refl ]
+    ]
+left_before cs (suc p) l = sym (holders-step cs p l)
+
+pub open_before-next : (cs : List Class) (p : ℕ) → opened cs p (holders cs p) ≡ open_before cs (p + 1)
+open_before-next cs p = let e : p + 1 ≡ suc p = omega arith in rw e refl
+
+few-filtered : (t : ℕ → Bool) (p : ℕ) → length (filter t (below p)) ≤ p
+few-filtered t zero = omega arith
+few-filtered t (suc p) =
+    let ih = few-filtered t p in
+    elim (cases_Bool (t p)) [ inl u ↦ rw u (omega (arith, ih)) | inr u ↦ rw u (omega (arith, ih)) ]
+
+pub holders-few : (cs : List Class) (p : ℕ) → length (holders cs p) ≤ p
+holders-few cs p = few-filtered (holds cs p) p
+
+fold-snoc : (f : State → ℕ → State) (s : State) (xs : List ℕ) (x : ℕ) → fold f s (xs ++ x ∷ []) ≡ f (fold f s xs) x
+fold-snoc f s [] x = refl
+fold-snoc f s (y ∷ xs) x = fold-snoc f (f s y) xs x
+
+-- what holds inside a rising list of initiators, or the same list falling
+within-filtered : (depth : ℕ) (cs : List Class) (para : ℕ) (t : ℕ → Bool) (p : ℕ) → state_of depth cs para (filter t (positions_from 0 p)) ≡ state_within depth cs para (filter t (below p))
+within-filtered depth cs para t zero = refl
+within-filtered depth cs para t (suc p) =
+    let ih = within-filtered depth cs para t p in
+    let start : State = record { level = para; override = None; sound = true } in
+    let more : positions_from 0 (suc p) ≡ positions_from 0 p ++ p ∷ [] = positions_from-next 0 p ∙ ap (λ k. positions_from 0 p ++ k ∷ []) (zero-add p) in
+    ap (λ xs. state_of depth cs para (filter t xs)) more
+    ∙ ap (state_of depth cs para) (filter-append t (positions_from 0 p) (p ∷ []))
+    ∙ elim (cases_Bool (t p)) [
+      | inl u ↦ rw u (fold-snoc (entered depth cs) start (filter t (positions_from 0 p)) p ∙ ap (λ s. entered depth cs s p) ih)
+      | inr u ↦ rw u (ap (state_of depth cs para) (append-nil (filter t (positions_from 0 p))) ∙ ih)
+    ]
+
+pub state-of_chain : (depth : ℕ) (cs : List Class) (para p : ℕ) → state_of depth cs para (chain cs p) ≡ state_within depth cs para (holders cs p)
+unfolding chain
+state-of_chain depth cs para p = within-filtered depth cs para (holds cs p) p
+
+-- the level and the class at p by what holds inside the initiators that hold it
+pub explicit-place_in : (depth : ℕ) (cs : List Class) (para p : ℕ) → place_in (state_within depth cs para (holders cs p)) para (class_at cs p) ≡ explicit_at depth cs para p
+unfolding explicit_at
+explicit-place_in depth cs para p = ap (λ s. place_in s para (class_at cs p)) (sym (state-of_chain depth cs para p))
+
+-- what the pass keeps when it comes to p
+pub is-kept : (depth : ℕ) (para : List Unit) (base p : ℕ) (n : StatusStack) → depth ≤ 125 → base ≤ 1 → p < 2 ^ 63 → Represents depth (classes_of para) base (holders (classes_of para) p) n → IsKept n
+is-kept depth para base p n d b l r = record { depth = depth; classes = classes_of para; para_level = base; initiators = holders (classes_of para) p; represents = r; base = b; within = d; few = omega (arith, holders-few (classes_of para) p) }
+
+pub left-is : (depth : ℕ) (cs : List Class) (base p : ℕ) (class : Class) (n : StatusStack) → p < length cs → class ≡ class_at cs p → Represents depth cs base (left_open cs class (open_before cs p)) n → Represents depth cs base (holders cs p) n
+left-is depth cs base p class n l e r = let P : List ℕ → Type 0 = λ qs. Represents depth cs base qs n in subst P (ap (λ k. left_open cs k (open_before cs p)) e ∙ left_before cs p l) r
+
+-- the chain is the same list the other way round
+chain-filtered : (t : ℕ → Bool) (p : ℕ) → filter t (positions_from 0 p) ≡ reverse (filter t (below p))
+chain-filtered t zero = refl
+chain-filtered t (suc p) =
+    let more : positions_from 0 (suc p) ≡ positions_from 0 p ++ p ∷ [] = positions_from-next 0 p ∙ ap (λ k. positions_from 0 p ++ k ∷ []) (zero-add p) in
+    ap (filter t) more
+    ∙ filter-append t (positions_from 0 p) (p ∷ [])
+    ∙ elim (cases_Bool (t p)) [
+      | inl u ↦ rw u (ap (λ xs. xs ++ p ∷ []) (chain-filtered t p) ∙ sym (reverse-append (p ∷ []) (filter t (below p))))
+      | inr u ↦ rw u (append-nil (filter t (positions_from 0 p)) ∙ chain-filtered t p)
+    ]
+
+pub chain-reversed : (cs : List Class) (p : ℕ) → chain cs p ≡ reverse (holders cs p)
+unfolding chain
+chain-reversed cs p = chain-filtered (holds cs p) p
+
+-- what the pass keeps at p, after what the class there closes
+pub kept-at : (depth : ℕ) (para : List Unit) (base p : ℕ) (class : Class) (n : StatusStack) → depth ≤ 125 → base ≤ 1 → p < length para → p < 2 ^ 63 → class ≡ class_at (classes_of para) p → Represents depth (classes_of para) base (left_open (classes_of para) class (open_before (classes_of para) p)) n → IsKept n
+kept-at depth para base p class n d b l s e r = is-kept depth para base p n d b s (left-is depth (classes_of para) base p class n (omega (arith, length-map para (λ unit. unit.class))) e r)
+
+-- the places that are found, one more
+pub places-more : (depth : ℕ) (cs : List Class) (base p : ℕ) (places : List (Option (ℕ × Class))) (place : Option (ℕ × Class)) → p < length places → place ≡ explicit_at depth cs base p → ((k : ℕ) → k < p → get_or places k None ≡ explicit_at depth cs base k) → (k : ℕ) → k < p + 1 → get_or (set places p place) k None ≡ explicit_at depth cs base k
+places-more depth cs base p places place room found below k h =
+    elim (cases_eq k p) [
+      | inl here ↦ rw here (get_or-set_same places p place None room ∙ found)
+      | inr other ↦ get_or-set_other places p k place None other ∙ below k (omega arith)
+    ]
+
+-- X6: what an ordinary class leaves as it was
+pub record IsPassedOver (c : Class) : Type 0 where
+  pub pdi_is : is_pdi c ≡ false
+  pub pdf_is : is_pdf c ≡ false
+  pub initiator_is : is_initiator c ≡ false
+  pub removed_is : is_removed c ≡ false
+  pub separator_is : is_separator c ≡ false
+
+over : (c : Class) → is_pdi c ≡ false → is_pdf c ≡ false → is_initiator c ≡ false → is_removed c ≡ false → is_separator c ≡ false → IsPassedOver c
+over c a b d e f = record { pdi_is = a; pdf_is = b; initiator_is = d; removed_is = e; separator_is = f }
+
+pub ordinary_is : (c : Class) → is_ordinary c ≡ true → IsPassedOver c
+ordinary_is L h = over L refl refl refl refl refl
+ordinary_is R h = over R refl refl refl refl refl
+ordinary_is AL h = over AL refl refl refl refl refl
+ordinary_is EN h = over EN refl refl refl refl refl
+ordinary_is ES h = over ES refl refl refl refl refl
+ordinary_is ET h = over ET refl refl refl refl refl
+ordinary_is AN h = over AN refl refl refl refl refl
+ordinary_is CS h = over CS refl refl refl refl refl
+ordinary_is NSM h = over NSM refl refl refl refl refl
+ordinary_is S h = over S refl refl refl refl refl
+ordinary_is WS h = over WS refl refl refl refl refl
+ordinary_is ON h = over ON refl refl refl refl refl
+ordinary_is c h = absurd (cc)
+
+pub ordinary_left : (cs : List Class) (c : Class) (qs : List ℕ) → is_ordinary c ≡ true → left_open cs c qs ≡ qs
+ordinary_left cs c qs h = let o = ordinary_is c h in rw (o.pdi_is, o.pdf_is) refl
+
+pub ordinary_opened : (cs : List Class) (p : ℕ) (qs : List ℕ) → is_ordinary (class_at cs p) ≡ true → opened cs p qs ≡ qs
+ordinary_opened cs p qs h = let o = ordinary_is (class_at cs p) h in rw o.initiator_is refl
+
+-- X9: none stands exactly where the position is removed
+place_in-none : (s : State) (para : ℕ) (own : Class) → is_none (place_in s para own) ≡ is_removed own
+place_in-none s para own =
+    elim (cases_Bool (is_removed own)) [
+      | inl removed ↦ rw removed refl
+      | inr kept ↦ elim (cases_Bool (is_separator own)) [ inl last ↦ rw (kept, last) refl | inr other ↦ rw (kept, other) refl ]
+    ]
+
+pub explicit-none : (depth : ℕ) (cs : List Class) (para p : ℕ) → is_none (explicit_at depth cs para p) ≡ is_removed (class_at cs p)
+explicit-none depth cs para p = ap is_none (sym (explicit-place_in depth cs para p)) ∙ place_in-none (state_within depth cs para (holders cs p)) para (class_at cs p)

@@ -1,0 +1,10 @@
+pub mod Balance
+pub mod StillOpen
+pub mod Embeddings
+pub mod Filling
+pub mod Matching
+pub mod Nesting
+pub mod OpenStack
+pub mod PartnerOf
+pub mod Partners
+pub mod AtMostOne

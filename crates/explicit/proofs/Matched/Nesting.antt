@@ -1,0 +1,80 @@
+-- Isolates nest or are apart.
+use Rattle.std.proofs.Common.{◌≡◌, ℕ, ◌<◌, ◌≤◌, true, List, length, Option, Some, None, ◌⊎◌, inl, inr, refl, sym, ◌∙◌, subst, arith}
+use Rattle.std.proofs.lemmas.Bool.{cases_Bool, false≢true, and_parts, and_from, ltb-true, lt-ltb}
+use Rattle.units.specs.Positions.{is_before}
+use Rattle.units.specs.Classes.{class_at, is_isolate_initiator, is_pdi}
+use Rattle.units.specs.Isolates.{matching_pdi, isolate_holds}
+use Rattle.units.specs.declared.class.Class.{Class}
+use Rattle.explicit.specs.IsolateNesting.{IsWithin, AreApart}
+use Rattle.explicit.proofs.Matched.Balance.{match_of_bounds, match_closes, match_inner, match_once}
+use Rattle.explicit.proofs.Matched.Matching.{opens_at, closes_at, isolates_exclude, matching_pdi_of, matching_pdi_opens, matching_pdi_before}
+
+pub match_bounds : (cs : List Class) (i a : ℕ) → matching_pdi cs i ≡ Some a → (i < a) × (a < length cs)
+match_bounds cs i a e = match_of_bounds (opens_at cs) (closes_at cs) (length cs) i a (matching_pdi_before cs i a e)
+
+-- the match of an initiator is a PDI
+pub match_is_pdi : (cs : List Class) (i a : ℕ) → matching_pdi cs i ≡ Some a → is_pdi (class_at cs a) ≡ true
+match_is_pdi cs i a e = match_closes (opens_at cs) (closes_at cs) (length cs) i a (isolates_exclude cs) (matching_pdi_opens cs i a e) (matching_pdi_before cs i a e)
+
+-- the isolate of an initiator inside another one ends inside it
+pub inner_match : (cs : List Class) (i j a : ℕ) → matching_pdi cs i ≡ Some a → i < j → j < a → is_isolate_initiator (class_at cs j) ≡ true → (b : ℕ) × (matching_pdi cs j ≡ Some b) × (b < a)
+inner_match cs i j a e ij ja opener =
+    let m = match_inner (opens_at cs) (closes_at cs) (length cs) i j a (isolates_exclude cs) (matching_pdi_opens cs i a e) opener (matching_pdi_before cs i a e) ij ja in
+    (m.0, matching_pdi_of cs j opener ∙ m.1, m.2)
+
+-- no PDI matches two initiators
+pub match_injective : (cs : List Class) (i j a : ℕ) → matching_pdi cs i ≡ Some a → matching_pdi cs j ≡ Some a → i ≡ j
+match_injective cs i j a e e' =
+    match_once (opens_at cs) (closes_at cs) (length cs) i j a (isolates_exclude cs) (matching_pdi_opens cs i a e) (matching_pdi_opens cs j a e') (matching_pdi_before cs i a e) (matching_pdi_before cs j a e')
+
+-- that the isolate that begins at i holds p, in parts
+pub record IsHeld (cs : List Class) (i : ℕ) (p : ℕ) : Type 0 where
+  pub opener : is_isolate_initiator (class_at cs i) ≡ true
+  pub after : i < p
+  pub before : (a : ℕ) → matching_pdi cs i ≡ Some a → p < a
+
+pub held : (cs : List Class) (i p : ℕ) → isolate_holds cs i p ≡ true → IsHeld cs i p
+unfolding isolate_holds
+held cs i p h =
+    let parts = and_parts _ _ h in
+    let parts' = and_parts _ _ parts.1 in
+    record {
+      opener = parts.0;
+      after = ltb-true i p parts'.0;
+      before = λ a e. let t : is_before p (Some a) ≡ true = subst (λ o. is_before p o ≡ true) e parts'.1 in ltb-true p a t;
+    }
+
+pub holds_from : (cs : List Class) (i p : ℕ) → IsHeld cs i p → isolate_holds cs i p ≡ true
+unfolding isolate_holds
+holds_from cs i p h = and_from _ _ h.opener (and_from _ _ (lt-ltb i p h.after) (go (matching_pdi cs i) h.before))
+  where
+    go : (o : Option ℕ) → ((a : ℕ) → o ≡ Some a → p < a) → is_before p o ≡ true
+    go None f = refl
+    go (Some a) f = lt-ltb p a (f a refl)
+
+-- what an isolate inside holds, the outer one holds too
+pub holds_through : (cs : List Class) (i j p : ℕ) → IsHeld cs i j → IsHeld cs j p → IsHeld cs i p
+holds_through cs i j p outer inner =
+    record {
+      opener = outer.opener;
+      after = omega (arith, outer.after, inner.after);
+      before = λ a e.
+          let m = inner_match cs i j a e outer.after (outer.before a e) inner.opener in
+          omega (arith, inner.before m.0 m.1, m.2);
+    }
+
+-- what an isolate holds, it holds from its beginning on
+pub holds_down : (cs : List Class) (i p q : ℕ) → IsHeld cs i p → i < q → q ≤ p → IsHeld cs i q
+holds_down cs i p q h lt le = record { opener = h.opener; after = lt; before = λ a e. omega (arith, h.before a e) }
+
+-- of two isolates that hold a position, the outer one holds the beginning of the inner one
+pub holds_nested : (cs : List Class) (i j p : ℕ) → IsHeld cs i p → IsHeld cs j p → i < j → IsHeld cs i j
+holds_nested cs i j p hi hj lt = holds_down cs i p j hi lt (omega (arith, hj.after))
+
+-- of two isolates the one that begins later lies within the other, or they are apart
+pub nest_or_apart : (cs : List Class) (outer inner : ℕ) → outer < inner → IsWithin cs inner outer ⊎ AreApart cs inner outer
+nest_or_apart cs outer inner lt =
+    elim (cases_Bool (isolate_holds cs outer inner)) [
+      | inl t ↦ inl (λ p h. holds_from cs outer p (holds_through cs outer inner p (held cs outer inner t) (held cs inner p h)))
+      | inr f ↦ inr (λ p h h'. false≢true (sym f ∙ holds_from cs outer inner (holds_nested cs outer inner p (held cs outer p h') (held cs inner p h) lt)))
+    ]

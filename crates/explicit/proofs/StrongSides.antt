@@ -1,0 +1,4 @@
+pub mod Around
+pub mod Sides
+pub mod StrongInside
+pub mod LevelUnder

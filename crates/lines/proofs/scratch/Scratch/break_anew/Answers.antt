@@ -1,0 +1,79 @@
+use Rattle.std.proofs.Common.{rules, ap, sym, ◌∙◌, ◌≡◌, ℕ, List, Option, length, map, take}
+use Rattle.std.specs.Box.{boxed_slice_items}
+use Rattle.std.proofs.lemmas.List.{with_items_is}
+use Rattle.units.specs.Classes.{classes_of}
+use Rattle.units.specs.Isolates.{level_of_para}
+use Rattle.units.specs.Layout.{para_levels_of, text_levels}
+use Rattle.units.specs.Paragraphs.{paragraphs_of}
+use Rattle.units.specs.Reordering.{after_resets}
+use Rattle.lines.specs.Columns.{levels_filled, lines_filled, paras_filled, resolved_filled}
+use Rattle.lines.proofs.AtParas.{all_stay, text_at_paras}
+use Rattle.lines.proofs.KeptResolved.{resolved_stay}
+use Rattle.lines.proofs.TextLevels.{laid_out}
+use Rattle.lines.proofs.scratch.Scratch.break_anew.Goals as goal
+
+pub arrange-self-requires-clause-uniform : goal.arrange-self-requires-clause-uniform
+arrange-self-requires-clause-uniform g c =
+    let room = c.args.self.now in
+    let text = c.args.text.now in
+    let limits = c.requires.holds.0 in
+    let direction = c.requires.holds.1 in
+    let held = c.requires.holds.2 in
+    let resolved_are : take (length text) c.deref_mut-2.result.now ≡ text_levels limits text direction =
+    ap (λ (xs : List (Option ℕ)). take (length text) xs) c.deref_mut-2.ensures.value
+    ∙ c.restore_resolved.ensures.levels
+    ∙ ap (λ n. resolved_filled n room.used.uniform room.text) (sym held.units)
+    ∙ held.levels in
+    let paras_are : map level_of_para (take room.used.paragraphs c.deref.result.now) ≡ para_levels_of text direction =
+    ap (λ xs. map level_of_para (take room.used.paragraphs xs)) (c.deref.ensures.value ∙ ap (λ column. boxed_slice_items column) c.restore_resolved.ensures.paras)
+    ∙ held.paras in
+    λ known. rw (paras_are, resolved_are) (text_at_paras limits direction text (all_stay limits direction (paragraphs_of text) (sym held.known ∙ known)))
+
+pub arrange-self-requires-clause-ends : goal.arrange-self-requires-clause-ends
+arrange-self-requires-clause-ends g c =
+    let column = c.args.self.now.lines.bounds.items in
+    let cut = c.cut_text-lines in
+    let as_bounds : length cut.new.bounds ≡ column.len = search rules in
+    rw (with_items_is column cut.new.bounds as_bounds) cut.ensures.ends
+
+pub returns-clause-layout : goal.returns-clause-layout
+returns-clause-layout g c = λ limits direction held.
+    let room = c.args.self.now in
+    let text = c.args.text.now in
+    let n : ℕ = length text in
+    let restored = c.restore_resolved in
+    let filled = c.arrange-self in
+    let column = restored.new.self.levels.items in
+    let as_levels : length filled.new.levels ≡ column.len = search rules in
+    let levels_are = with_items_is column filled.new.levels as_levels in
+    let paras : List ℕ = map level_of_para (paras_filled room.used.paragraphs restored.new.self) in
+    let reset : take n filled.new.levels ≡ after_resets (classes_of text) c.args.breaks.now.positions paras (levels_filled n restored.new.self) =
+    rw (← c.deref_mut-2.ensures.value, ← c.deref.ensures.value) filled.ensures.levels in
+    rw levels_are
+    (laid_out limits text direction c.args.breaks.now.positions paras (levels_filled n restored.new.self) (take n filled.new.levels) (take room.used.units filled.new.levels)
+    (lines_filled filled.result filled.new.columns)
+    (ap (λ k. take k filled.new.levels) held.units)
+    (ap (λ ps. map level_of_para (take room.used.paragraphs (boxed_slice_items ps))) restored.ensures.paras ∙ held.paras)
+    (restored.ensures.levels ∙ ap (λ k. resolved_filled k room.used.uniform room.text) (sym held.units) ∙ held.levels)
+    reset filled.ensures.lines)
+
+pub returns-clause-holds : goal.returns-clause-holds
+returns-clause-holds g c = λ limits direction held.
+    let room = c.args.self.now in
+    let n : ℕ = length c.args.text.now in
+    let restored = c.restore_resolved in
+    let filled = c.arrange-self in
+    let column = restored.new.self.levels.items in
+    let as_levels : length filled.new.levels ≡ column.len = search rules in
+    let levels_are = with_items_is column filled.new.levels as_levels in
+    record {
+      units = held.units;
+      paras = ap (λ ps. map level_of_para (take room.used.paragraphs (boxed_slice_items ps))) restored.ensures.paras ∙ held.paras;
+      levels =
+          rw (held.units, levels_are)
+          (resolved_stay room.used.uniform n (boxed_slice_items restored.new.self.resolved) (boxed_slice_items restored.new.self.levels) filled.new.levels (λ known. filled.ensures.same known ∙ ap (take n) c.deref_mut-2.ensures.value)
+          ∙ restored.ensures.resolved
+          ∙ ap (λ k. resolved_filled k room.used.uniform room.text) (sym held.units)
+          ∙ held.levels);
+      known = held.known;
+    }
