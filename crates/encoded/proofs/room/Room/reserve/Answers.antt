@@ -1,0 +1,28 @@
+use Rattle.std.proofs.Common.{rules, ◌≡◌, ◌∙◌, ◌+◌, ℕ, [], ap, arith, length, subst, sym}
+use Rattle.std.specs.Box.{boxed_slice_items}
+use Rattle.units.specs.Layout.{TextLayout}
+use Rattle.units.specs.Limits.{standard}
+use Rattle.units.specs.declared.level.Direction.TheVariants.{Auto}
+use Rattle.lines.proofs.Lengths.{length-levels}
+use Rattle.lines.specs.Scratches.{layout_in, room_of}
+use Rattle.encoded.specs.Starts.{AreOffsets}
+use Rattle.encoded.proofs.room.Room.reserve.Goals as goal
+
+pub invariant_of-result : goal.invariant_of-result
+invariant_of-result c =
+    let room : room_of c.lay_out_nothing.new.scratch ≡ c.args.n = search rules in
+    let none : length (layout_in c.lay_out_nothing.new.scratch).levels ≡ 0 = ap (λ (v : TextLayout). length v.levels) c.lay_out_nothing.ensures.empty ∙ length-levels standard [] Auto [] in
+    record {
+      filled = c.lay_out_nothing.ensures.filled;
+      fits = record {
+        for_units = c.in_ok-units.ensures ∙ sym room;
+        for_starts = c.in_ok-starts.ensures.len ∙ ap (λ (n : ℕ). n + 1) (sym room);
+        for_spare = c.in_ok-spare.ensures.len ∙ ap (λ (n : ℕ). n + 1) (sym room);
+        for_indices = c.in_ok-indices.ensures ∙ sym room;
+      };
+      begun = subst (λ (k : ℕ). AreOffsets k (boxed_slice_items c.in_ok-starts.starts)) (sym none) (record {
+        inside = omega (arith, c.in_ok-starts.ensures.len);
+        first = c.in_ok-starts.ensures.zero;
+        rising = λ j k lt le. absurd (omega (arith, lt, le));
+      });
+    }

@@ -1,0 +1,15 @@
+//! Why a text in code units is not laid out.
+use lines::breaks::BreakFault;
+
+/// Why a text in code units is not laid out. Its length is looked at first, then its code units, then the breaks.
+#[derive(Clone, Copy, Debug, PartialEq, Eq)]
+pub enum EncodedFault {
+    /// The text has more code units than there is room for.
+    TooLong,
+    /// The code unit at this offset is no part of a character; all before it are well formed.
+    IllFormed(usize),
+    /// A break is out of range, or not above the one before.
+    Break(BreakFault),
+    /// The break with this index stands inside a character.
+    BreakInside(usize),
+}

@@ -1,0 +1,60 @@
+//! Offsets of code units, and the indices of the characters that they belong to.
+ghost use Rattle.std.specs.Prelude.{◌≡◌, ◌<◌, ◌≤◌, ◌-◌, ℕ, length, map, slice_index, take, MatchOption, OnOk, IfErr};
+ghost use Rattle.std.specs.List.{All, AllWithin};
+ghost use Rattle.encoded.specs.Starts.{AreOffsets, IsBetween, IsFirstBetween, Rises};
+
+/// Writes for each break, an offset of code units, the index of the character that begins there. The offsets of all
+/// characters, and of the text's end, are `starts`. Where no character begins at a break, its index among the breaks
+/// is answered.
+pub(crate) fn write_indices(
+    starts: &[u32],
+    breaks: &[usize],
+    indices: &mut [usize],
+) -> Result<(), usize>
+    requires starts { Rises starts.now }
+    requires breaks { (i : ℕ) → 0 < i → i < length breaks.now
+        → slice_index breaks.now (i - 1) < slice_index breaks.now i }
+    requires room { length breaks.now ≤ length indices.old }
+    ensures len { length indices.new ≡ length indices.old }
+    ensures found { OnOk result (map (slice_index starts.now) (take (length breaks.now) indices.new) ≡ breaks.now) }
+    ensures inside { OnOk result (All (λ k. k < length starts.now) (take (length breaks.now) indices.new)) }
+    ensures between { IfErr result (IsFirstBetween starts.now breaks.now) }
+{
+    let mut next = 0;
+    for k in 0..starts.len() {
+        if next == breaks.len() {
+            return Ok(());
+        }
+        if starts[k] as usize == breaks[next] {
+            indices[next] = k;
+            next += 1;
+        }
+    }
+    if next < breaks.len() {
+        return Err(next);
+    }
+    Ok(())
+}
+
+/// How many of the offsets are not above this one.
+fn count_up_to(starts: &[u32], at: usize) -> usize
+    requires { Rises starts.now }
+    ensures bound { result ≤ length starts.now }
+    ensures below { AllWithin (λ start. start ≤ at) starts.now 0 result }
+    ensures above { AllWithin (λ start. at < start) starts.now result (length starts.now) }
+{
+    starts.partition_point(|start| *start as usize <= at)
+}
+
+/// The index of the character that the code unit at an offset belongs to, none from the text's end on.
+pub(crate) fn index_of(starts: &[u32], at: usize) -> Option<usize>
+    requires some { 0 < length starts.now }
+    requires starts { AreOffsets (length starts.now - 1) starts.now }
+    ensures { MatchOption result (slice_index starts.now (length starts.now - 1) ≤ at) (IsBetween starts.now at) }
+{
+    let behind = count_up_to(starts, at);
+    if behind == starts.len() {
+        return None;
+    }
+    Some(behind - 1)
+}

@@ -1,0 +1,11 @@
+//! Texts in UTF-8 and UTF-16, laid out, with positions told as offsets of code units.
+#![tactic(auto)]
+
+mod breaking;
+mod decoding;
+pub mod fault;
+mod indices;
+pub mod lookups;
+pub mod room;
+mod utf16;
+mod utf8;

@@ -1,0 +1,289 @@
+//! Room for texts in code units and their layouts.
+ghost use Rattle.std.specs.Prelude.{◌≡◌, ◌<◌, ◌≤◌, ◌+◌, ◌^◌, ◌↔◌, [], Err, length, map, slice_index, take, IfErr, IfOk, OnErr, OnOk};
+ghost use Rattle.std.specs.Box.{boxed_slice_items};
+ghost use Rattle.units.specs.Layout.{layout_of, longest_text};
+ghost use Rattle.units.specs.Limits.{standard};
+ghost use Rattle.units.specs.declared.level.Direction.TheVariants.{Auto};
+ghost use Rattle.lines.specs.Scratches.{room_of, layout_in, IsFilled};
+ghost use Rattle.encoded.specs.Columns.{HaveRoom};
+ghost use Rattle.encoded.specs.Starts.{AreOffsets};
+
+use crate::breaking::{breaks_at, find_breaks};
+use crate::decoding::Faults;
+use crate::fault::EncodedFault;
+use crate::utf8::decode_utf8;
+use crate::utf16::decode_utf16;
+use lines::breaks::Breaks;
+use lines::lay_out::{lay_out_into, lay_out_into_with};
+use lines::layout::Layout;
+use lines::scratch::{MOST, RoomFault, Scratch};
+use std::alloc::{AllocError, Global};
+use std::boxed::BoxedSlice;
+use std::mem::swap;
+use ucdfiles::tables::Tables;
+use units::bracket::{Bracket, Unit};
+use units::class::Class;
+use units::level::Direction;
+use units::limits::Limits;
+
+/// Room for texts in code units and their layouts, to be used again and again: 97 bytes for each code unit of room. It
+/// holds a layout at all times, at first that of an empty text. Its columns don't grow.
+#[derive(Drop)]
+pub struct Room {
+    pub(crate) scratch: Scratch,
+    units: BoxedSlice<Unit>,
+    pub(crate) starts: BoxedSlice<u32>,
+    spare: BoxedSlice<u32>,
+    indices: BoxedSlice<usize>,
+    ghost filled: { IsFilled scratch },
+    ghost fits: { HaveRoom (room_of scratch) (length (boxed_slice_items units)) (length (boxed_slice_items starts))
+        (length (boxed_slice_items spare)) (length (boxed_slice_items indices)) },
+    ghost begun: { AreOffsets (length (layout_in scratch).levels) (boxed_slice_items starts) },
+}
+
+/// A column of units.
+fn unit_column(alloc: Global, n: usize) -> Result<BoxedSlice<Unit>, AllocError>
+    ensures { IfOk result (λ units. length (boxed_slice_items units) ≡ n) }
+{
+    let none = Unit {
+        class: Class::L,
+        bracket: Bracket::No,
+    };
+    Ok(Vec::from_elem(alloc, none, n)?.into_boxed_slice())
+}
+
+/// A column of offsets.
+fn offset_column(alloc: Global, n: usize) -> Result<BoxedSlice<u32>, AllocError>
+    ensures len { IfOk result (λ starts. length (boxed_slice_items starts) ≡ n) }
+    ensures zero { IfOk result (λ starts. slice_index (boxed_slice_items starts) 0 ≡ 0) }
+{
+    Ok(Vec::from_elem(alloc, 0, n)?.into_boxed_slice())
+}
+
+/// A column of indices.
+fn index_column(alloc: Global, n: usize) -> Result<BoxedSlice<usize>, AllocError>
+    ensures { IfOk result (λ indices. length (boxed_slice_items indices) ≡ n) }
+{
+    Ok(Vec::from_elem(alloc, 0, n)?.into_boxed_slice())
+}
+
+/// Lays out an empty text, which any scratch has room for.
+fn lay_out_nothing(scratch: &mut Scratch)
+    ensures room { room_of scratch.new ≡ room_of scratch.old }
+    ensures filled { IsFilled scratch.new }
+    ensures empty { layout_in scratch.new ≡ layout_of standard [] Auto [] }
+{
+    if let Ok(breaks) = Breaks::new(&[], 0) {
+        let _done = lay_out_into(scratch, &[], Direction::Auto, &breaks);
+    }
+}
+
+impl Room {
+    ghost use Rattle.std.specs.Prelude.{◌≡◌, ◌<◌, ◌≤◌, ◌↔◌, Err, List, [], length, slice_index, take, IfErr, IfOk, OnErr, OnOk};
+    ghost use Rattle.std.specs.Box.{boxed_slice_items};
+    ghost use Rattle.units.specs.Layout.{layout_of, longest_text};
+    ghost use Rattle.units.specs.Limits.{standard};
+    ghost use Rattle.units.specs.declared.level.Direction.TheVariants.{Auto};
+    ghost use Rattle.ucdfiles.specs.Tables.{TablesOf};
+    ghost use Rattle.lines.specs.Layouts.{view_of};
+    ghost use Rattle.lines.specs.LineBreaks.{AreBreaks};
+    ghost use Rattle.lines.specs.Scratches.{room_of, layout_in};
+    ghost use Rattle.encoded.specs.Decoded.{AreDecoded};
+    ghost use Rattle.encoded.specs.Encodings.{utf16_text, utf8_text, IsUtf16};
+    ghost use Rattle.encoded.specs.Offsets.{Spelled, AreStarts};
+    ghost use Rattle.encoded.specs.Refusals.{RefusesBreaks, RefusesUtf16, RefusesUtf16Lossy, RefusesUtf8, TakesUtf16, TakesUtf8};
+    ghost use Rattle.encoded.specs.Rooms.{Holds, HoldsLayout, Keeps, layout_held, room_for, starts_in};
+    ghost use Rattle.encoded.specs.Starts.{AreOffsets};
+    ghost use Rattle.encoded.specs.declared.decoding.Faults.TheVariants.{Refused, Replaced};
+
+    /// Room for texts of up to `n` code units, at most 16,777,216, with the layout of an empty text.
+    pub fn with_room(alloc: Global, n: usize) -> Result<Room, RoomFault>
+        ensures made { IfOk result (λ room. room_for room ≡ n) }
+        ensures empty { IfOk result (λ room. layout_held room ≡ layout_of standard [] Auto []) }
+        ensures too_big { (result ≡ Err RoomFault.TooBig) ↔ (longest_text < n) }
+    {
+        if n > MOST {
+            return Err(RoomFault::TooBig);
+        }
+        Room::reserve(alloc, n).map_err(|_| RoomFault::Memory)
+    }
+
+    /// The same for texts that are known not to be too long; what fails then is memory that is refused.
+    pub fn reserve(alloc: Global, n: usize) -> Result<Room, AllocError>
+        requires { n ≤ longest_text }
+        ensures made { IfOk result (λ room. room_for room ≡ n) }
+        ensures empty { IfOk result (λ room. layout_held room ≡ layout_of standard [] Auto []) }
+    {
+        let units = unit_column(alloc, n)?;
+        let starts = offset_column(alloc, n + 1)?;
+        let spare = offset_column(alloc, n + 1)?;
+        let indices = index_column(alloc, n)?;
+        let mut scratch = Scratch::reserve(alloc, n).map_err(|_| AllocError)?;
+        lay_out_nothing(&mut scratch);
+        Ok(Room {
+            scratch,
+            units,
+            starts,
+            spare,
+            indices,
+        })
+    }
+
+    /// The length of the longest text that there is room for, in code units.
+    pub fn room(&self) -> usize
+        ensures { result ≡ room_for self.now }
+    {
+        self.scratch.room()
+    }
+
+    /// The layout, in positions of characters: the levels of paragraphs and positions, and the lines.
+    pub fn layout(&self) -> Layout<'_>
+        ensures { view_of result ≡ layout_held self.now }
+    {
+        self.scratch.layout()
+    }
+
+    /// Lays out the first `count` of the units, at breaks that are found; their offsets stand in the spare column.
+    fn lay_out_found(&mut self, count: usize, found: usize, direction: Direction, limits: Limits)
+        requires fits { count ≤ room_for self.old }
+        requires offsets { AreOffsets count (boxed_slice_items self.old.spare) }
+        requires few { found ≤ length (boxed_slice_items self.old.indices) }
+        requires breaks { AreBreaks (take found (boxed_slice_items self.old.indices)) count }
+        ensures room { room_for self.new ≡ room_for self.old }
+        ensures starts { starts_in self.new ≡ boxed_slice_items self.old.spare }
+        ensures laid_out { layout_held self.new ≡ layout_of limits (take count (boxed_slice_items self.old.units))
+            direction (take found (boxed_slice_items self.old.indices)) }
+    {
+        let breaks = breaks_at(&self.indices[..found], count);
+        let text = &self.units[..count];
+        lay_out_into_with(&mut self.scratch, text, direction, &breaks, limits).unwrap();
+        swap(&mut self.starts, &mut self.spare);
+    }
+
+    /// Lays out a text of `count` characters, whose units and offsets stand in their columns.
+    fn lay_out_decoded(
+        &mut self,
+        count: usize,
+        direction: Direction,
+        breaks: &[usize],
+        limits: Limits,
+    ) -> Result<(), EncodedFault>
+        requires fits { count ≤ room_for self.old }
+        requires offsets { AreOffsets count (boxed_slice_items self.old.spare) }
+        requires code_units { slice_index (boxed_slice_items self.old.spare) count ≤ room_for self.old }
+        ensures room { room_for self.new ≡ room_for self.old }
+        ensures kept { OnErr result (Keeps self.old self.new) }
+        ensures refused { (text : List Spelled) → count ≡ length text → AreStarts text (boxed_slice_items self.old.spare)
+            → IfErr result (RefusesBreaks text breaks.now) }
+        ensures rising { OnOk result (AreBreaks breaks.now (slice_index (boxed_slice_items self.old.spare) count)) }
+        ensures laid_out { (tables : TablesOf) (text : List Spelled)
+            → AreDecoded tables text count (boxed_slice_items self.old.units) (boxed_slice_items self.old.spare)
+            → OnOk result (HoldsLayout limits tables text direction breaks.now self.new) }
+    {
+        find_breaks(&self.spare[..count + 1], breaks, &mut self.indices)?;
+        self.lay_out_found(count, breaks.len(), direction, limits);
+        Ok(())
+    }
+
+    /// Lays out a text in UTF-8 by the tables under a direction (P1 to L2) and these limits, broken into lines at the
+    /// breaks: rising offsets of its bytes, each the first of a character, none of them 0.
+    ///
+    /// It is refused if it has more bytes than there is room for; else if its bytes are no UTF-8, with the offset of
+    /// the first that is no part of a character; else for its breaks. The room then holds what it held.
+    pub fn lay_out_utf8(
+        &mut self,
+        tables: &Tables,
+        bytes: &[u8],
+        direction: Direction,
+        breaks: &[usize],
+        limits: Limits,
+    ) -> Result<(), EncodedFault>
+        ensures room { room_for self.new ≡ room_for self.old }
+        ensures refused { IfErr result (RefusesUtf8 (room_for self.old) bytes.now breaks.now) }
+        ensures kept { OnErr result (Keeps self.old self.new) }
+        ensures taken { OnOk result (TakesUtf8 (room_for self.old) bytes.now breaks.now) }
+        ensures laid_out { OnOk result (HoldsLayout limits tables.now (utf8_text bytes.now) direction breaks.now
+            self.new) }
+    {
+        if self.room() < bytes.len() {
+            return Err(EncodedFault::TooLong);
+        }
+        match decode_utf8(bytes, tables, &mut self.units, &mut self.spare) {
+            Ok(count) => self.lay_out_decoded(count, direction, breaks, limits),
+            Err(at) => Err(EncodedFault::IllFormed(at)),
+        }
+    }
+
+    /// Decodes a text in UTF-16 and lays it out.
+    fn lay_out_units16(
+        &mut self,
+        tables: &Tables,
+        text: &[u16],
+        faults: Faults,
+        direction: Direction,
+        breaks: &[usize],
+        limits: Limits,
+    ) -> Result<(), EncodedFault>
+        requires { length text.now ≤ room_for self.old }
+        ensures room { room_for self.new ≡ room_for self.old }
+        ensures kept { OnErr result (Keeps self.old self.new) }
+        ensures strict { faults ≡ Refused → IfErr result (RefusesUtf16 (room_for self.old) text.now breaks.now) }
+        ensures lossy { faults ≡ Replaced
+            → IfErr result (RefusesUtf16Lossy (room_for self.old) text.now breaks.now) }
+        ensures well_formed { OnOk result (faults ≡ Refused → IsUtf16 text.now) }
+        ensures taken { OnOk result (TakesUtf16 (room_for self.old) text.now breaks.now) }
+        ensures laid_out { OnOk result (HoldsLayout limits tables.now (utf16_text text.now) direction breaks.now
+            self.new) }
+    {
+        match decode_utf16(text, faults, tables, &mut self.units, &mut self.spare) {
+            Ok(count) => self.lay_out_decoded(count, direction, breaks, limits),
+            Err(at) => Err(EncodedFault::IllFormed(at)),
+        }
+    }
+
+    /// What `lay_out_utf8` does, for a text in UTF-16: the breaks are offsets of code units of 16 bits, and the fault
+    /// of a text is the first surrogate that stands alone.
+    pub fn lay_out_utf16(
+        &mut self,
+        tables: &Tables,
+        text: &[u16],
+        direction: Direction,
+        breaks: &[usize],
+        limits: Limits,
+    ) -> Result<(), EncodedFault>
+        ensures room { room_for self.new ≡ room_for self.old }
+        ensures refused { IfErr result (RefusesUtf16 (room_for self.old) text.now breaks.now) }
+        ensures kept { OnErr result (Keeps self.old self.new) }
+        ensures well_formed { OnOk result (IsUtf16 text.now) }
+        ensures taken { OnOk result (TakesUtf16 (room_for self.old) text.now breaks.now) }
+        ensures laid_out { OnOk result (HoldsLayout limits tables.now (utf16_text text.now) direction breaks.now
+            self.new) }
+    {
+        if self.room() < text.len() {
+            return Err(EncodedFault::TooLong);
+        }
+        self.lay_out_units16(tables, text, Faults::Refused, direction, breaks, limits)
+    }
+
+    /// What `lay_out_utf16` does, with U+FFFD in the place of each surrogate that stands alone.
+    pub fn lay_out_utf16_lossy(
+        &mut self,
+        tables: &Tables,
+        text: &[u16],
+        direction: Direction,
+        breaks: &[usize],
+        limits: Limits,
+    ) -> Result<(), EncodedFault>
+        ensures room { room_for self.new ≡ room_for self.old }
+        ensures refused { IfErr result (RefusesUtf16Lossy (room_for self.old) text.now breaks.now) }
+        ensures kept { OnErr result (Keeps self.old self.new) }
+        ensures taken { OnOk result (TakesUtf16 (room_for self.old) text.now breaks.now) }
+        ensures laid_out { OnOk result (HoldsLayout limits tables.now (utf16_text text.now) direction breaks.now
+            self.new) }
+    {
+        if self.room() < text.len() {
+            return Err(EncodedFault::TooLong);
+        }
+        self.lay_out_units16(tables, text, Faults::Replaced, direction, breaks, limits)
+    }
+}
