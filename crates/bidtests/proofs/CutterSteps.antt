@@ -9,7 +9,7 @@ use Rattle.std.specs.Borrow.{Bor}
 use Rattle.units.specs.LineCutting.{Cutting, StandsFor}
 use Rattle.units.specs.Limits.{LimitsOf}
 use Rattle.units.specs.Lines.{EndsByFeed, IsLine, CutsInto, IsTooLongAfter, line_number, ended_lines}
-use Rattle.units.specs.LineAnswers.{Answers, Finishes}
+use Rattle.units.specs.LineAnswers.{AnswersPiece, Finishes}
 use Rattle.units.specs.declared.line_cut.Step.{Step}
 use Rattle.units.specs.declared.line_cut.Step.TheVariants.{More, Line, TooLong}
 use Rattle.units.proofs.LineReading.{never_both}
@@ -70,7 +70,7 @@ module _ (limits : LimitsOf) (kind : Kind) (s : Carried) (lines : List (List ℕ
   }
   ends-line (Some v) new t b line stands cut e after = decided-line b line v cut e
 
-same_count : (a c : List (List ℕ)) (x : List ℕ) → a ++ x ∷ [] ≡ c ++ x ∷ [] → length a ≡ length c
+pub same_count : (a c : List (List ℕ)) (x : List ℕ) → a ++ x ∷ [] ≡ c ++ x ∷ [] → length a ≡ length c
 same_count a c x e = omega (arith, ap length e, length-append a (x ∷ []), length-append c (x ∷ []))
 
 module _ (limits : LimitsOf) (kind : Kind) (old new : Cutting) (s t : Carried) (b piece : List ℕ) (used : ℕ) (o : IsOpen limits kind old s b)
@@ -78,7 +78,7 @@ module _ (limits : LimitsOf) (kind : Kind) (old new : Cutting) (s t : Carried) (
   abbrev ended-old : ended_lines b ≡ o.lines
   ended-old = ended_lines-CutsInto b o.lines o.rest o.cut
 
-  pub judges-on : (step : Step) → Answers b piece used step → (no_by kind s step ≡ None → t ≡ after_step kind step s)
+  pub judges-on : (step : Step) → AnswersPiece b piece used step → (no_by kind s step ≡ None → t ≡ after_step kind step s)
       → JudgesBy limits kind (no_by kind s step) new t (b ++ take used piece)
   judges-on More a after =
       let all : take used piece ≡ piece = take_all used piece (omega (arith, a.1)) in
@@ -173,7 +173,7 @@ if-no-error P (Err e) none holds = absurd cc
 module _ (j : Judging) (new : Cutting) (t : Carried) (decided : Option Verdict) (rest : List ℕ) (used : ℕ) (step : Step)
     (undecided : j.decided ≡ None) (within : used ≤ length rest)
     (through : (b : List ℕ) (lines : List (List ℕ)) (r : List ℕ) → StandsFor j.cutting b → CutsInto b lines r → EndsByFeed used rest)
-    (answers : (b : List ℕ) → StandsFor j.cutting b → Answers b rest used step)
+    (answers : (b : List ℕ) → StandsFor j.cutting b → AnswersPiece b rest used step)
     (stands : (b : List ℕ) → StandsFor j.cutting b → StandsFor new (b ++ take used rest))
     (fault : decided ≡ no_by j.kind j.carried step) (after : decided ≡ None → t ≡ after_step j.kind step j.carried) where
   -- a judge that has decided nothing, after what the cutter used
@@ -188,7 +188,7 @@ module _ (j : Judging) (new : Cutting) (t : Carried) (decided : Option Verdict) 
       let R : Kind → Type 0 = λ k. JudgesBy limits k decided new t (b ++ take used rest) in
       record { of = judges.of; is = subst R judges.of by }
 
-nothing : CutsInto [] [] []
+pub nothing : CutsInto [] [] []
 nothing = record { whole = refl; each = All-nil IsLine; partial = record { feeds = All-nil (λ x. x ≢ 10); short = omega arith } }
 
 pub judges-none : (limits : LimitsOf) (kind : Kind) (c : Cutting) → StandsFor c [] → Judges limits kind (record { kind = kind; cutting = c; carried = at_start limits; decided = None }) []

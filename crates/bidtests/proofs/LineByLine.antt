@@ -61,7 +61,7 @@ said-is : (s : Carried) (lines : List (List ℕ)) (line : List ℕ) → s.levels
 said-is s lines line l o = rw (l, o) refl
 
 -- what a line of either kind of file comes to stands behind what the lines before it come to
-findings-line : (kind : Kind) (s : Carried) (lines : List (List ℕ)) (line : List ℕ) (others : List (List ℕ)) → AreInForce kind s.levels s.order lines
+pub findings-line : (kind : Kind) (s : Carried) (lines : List (List ℕ)) (line : List ℕ) (others : List (List ℕ)) → AreInForce kind s.levels s.order lines
     → (rest : List Finding) × (findings_by kind (lines ++ line ∷ others) ≡ findings_by kind lines ++ comes_to_behind kind s line ∷ rest)
 findings-line Classes s lines line others h =
     let f = classes_findings-line lines line others in
@@ -70,7 +70,7 @@ findings-line (Characters tables) s lines line others h =
     let reading = characters_line (unit_by tables.now) in
     (map reading others, map-append reading lines (line ∷ others))
 
-findings-last : (kind : Kind) (s : Carried) (lines : List (List ℕ)) (line : List ℕ) → AreInForce kind s.levels s.order lines
+pub findings-last : (kind : Kind) (s : Carried) (lines : List (List ℕ)) (line : List ℕ) → AreInForce kind s.levels s.order lines
     → findings_by kind (lines ++ line ∷ []) ≡ findings_by kind lines ++ comes_to_behind kind s line ∷ []
 findings-last Classes s lines line h = classes_findings-last lines line ∙ ap (λ x. classes_findings lines ++ x ∷ []) (said-is s lines line h.0 h.1)
 findings-last (Characters tables) s lines line h = map-append (characters_line (unit_by tables.now)) lines (line ∷ [])
@@ -94,7 +94,7 @@ order-behind (OrderIs now) says order e = refl
 order-behind (RowOf text directions) says order e = e
 order-behind (Broken cause) says order e = e
 
-in-force : (kind : Kind) (s : Carried) (lines : List (List ℕ)) (line : List ℕ) → AreInForce kind s.levels s.order lines
+pub in-force : (kind : Kind) (s : Carried) (lines : List (List ℕ)) (line : List ℕ) → AreInForce kind s.levels s.order lines
     → AreInForce kind (after_line kind line s).levels (after_line kind line s).order (lines ++ line ∷ [])
 in-force Classes s lines line h =
     let says = map classes_line lines in

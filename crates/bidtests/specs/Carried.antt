@@ -8,12 +8,10 @@ use Rattle.units.specs.declared.line_cut.Step.TheVariants.{More, Line, TooLong}
 use Rattle.ucdfiles.specs.Tables.{unit_by}
 use Rattle.bidtests.specs.declared.kind.Kind.{Kind}
 use Rattle.bidtests.specs.declared.kind.Kind.TheVariants.{Classes, Characters}
-use Rattle.bidtests.specs.declared.line_fault.LineFault.{LineFault}
 use Rattle.bidtests.specs.declared.verdict.Verdict.{Verdict}
 use Rattle.bidtests.specs.declared.verdict.Verdict.TheVariants.{Yes, Malformed}
 use Rattle.bidtests.specs.declared.verdict.Cause.TheVariants.{LineTooLong}
 use Rattle.bidtests.specs.Verdicts.{Finding, Row, first_no, no_of, rows_in, cases_in}
-use Rattle.bidtests.specs.LineFaults.{fault_of}
 use Rattle.bidtests.specs.ClassesFile.{ClassesLine, LevelsAre, OrderIs, classes_line, comes_to, levels_in_force, order_in_force}
 use Rattle.bidtests.specs.CharactersFile.{characters_line}
 use Rattle.bidtests.specs.FileKinds.{findings_by}
@@ -66,15 +64,6 @@ listed said s = record { limits = s.limits; levels = levels_behind said s.levels
 abbrev pub unlisted : Carried → Carried
 unlisted s = record { limits = s.limits; levels = None; order = None; rows = s.rows; cases = s.cases }
 
--- no list is in force
-pub record HasNoLists (s : Carried) : Type 0 where
-  pub levels : s.levels ≡ None
-  pub order : s.order ≡ None
-
--- what is carried behind a line of a classes file that says this
-abbrev pub after_said : ClassesLine → Carried → Carried
-after_said said s = counted (comes_to s.levels s.order said) (listed said s)
-
 -- what a line of such a file comes to
 abbrev pub comes_to_behind : Kind → Carried → List ℕ → Finding
 comes_to_behind Classes s line = comes_to s.levels s.order (classes_line line)
@@ -102,10 +91,6 @@ pub record IsBehind (limits : LimitsOf) (kind : Kind) (s : Carried) (lines : Lis
   pub lists : AreInForce kind s.levels s.order lines
   pub rows : s.rows ≡ rows_in (findings_by kind lines)
   pub cases : s.cases ≡ cases_in (findings_by kind lines)
-
--- what is wrong with a line of a classes file that says this
-abbrev pub fault_said : Carried → ClassesLine → Option LineFault
-fault_said s said = fault_of s.limits (comes_to s.levels s.order said)
 
 -- the no that a line of this number gives
 abbrev pub no_at : Kind → Carried → ℕ → List ℕ → Option Verdict

@@ -9,6 +9,7 @@ pub mod StandardVerdicts
 pub mod Readings
 pub mod LineFaults
 pub mod Carried
+pub mod LineReadings
 pub mod Standing
 pub mod WorkedClassesFiles
 pub mod WorkedCharactersFiles

@@ -1,6 +1,6 @@
 -- Worked character files, and what the definitions compute of them, by the tables of a few characters.
 use Rattle.std.specs.Prelude.{ℕ, ◌≡◌, ◌==◌, ◌||◌, if◌then◌else◌, [], ◌∷◌, refl, codes, ⊤}
-use Rattle.units.specs.Rows.{layouts_compute}
+use Rattle.units.specs.RowWords.{layouts_compute}
 use Rattle.units.specs.Limits.{standard}
 use Rattle.units.specs.declared.bracket.Bracket.{Bracket}
 use Rattle.units.specs.declared.bracket.Bracket.TheVariants.{No, Open, Close}

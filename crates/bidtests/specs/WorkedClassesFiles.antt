@@ -1,7 +1,7 @@
 -- Worked files, and what the definitions compute of them: each line ends at LF.
 use Rattle.std.specs.Prelude.{ℕ, ◌≡◌, List, [], ◌∷◌, refl, codes, ⊤}
 use Rattle.std.specs.List.{flat_map}
-use Rattle.units.specs.Rows.{layouts_compute}
+use Rattle.units.specs.RowWords.{layouts_compute}
 use Rattle.units.specs.Limits.{standard}
 use Rattle.units.specs.Lines.{ended}
 use Rattle.units.specs.declared.level.Direction.TheVariants.{Auto, Ltr, Rtl}

@@ -1,4 +1,4 @@
-// What a row claims.
+//! What a row claims.
 use units::bracket::Unit;
 use units::level::{Direction, Level, ParaLevel};
 

@@ -1,5 +1,5 @@
 // Rows of classes files.
-ghost use Rattle.std.specs.Prelude.{◌≡◌, ◌+◌, ◌*◌, ◌≤◌, length, vec_capacity};
+ghost use Rattle.std.specs.Prelude.{◌≡◌, ◌+◌, ◌*◌, ◌≤◌, IfOk, length, vec_capacity};
 ghost use Rattle.units.specs.Text.{fields_of};
 ghost use Rattle.bidtests.specs.ClassesFile.{classes_row};
 ghost use Rattle.bidtests.specs.Readings.{row_read};
@@ -17,6 +17,7 @@ pub fn read_classes_row(content: &[u8], text: &mut Vec<Unit>) -> Result<&'static
     ensures row { row_read result text.new.items ≡ classes_row (fields_of content.now) }
     ensures count { 2 * length text.new.items ≤ length content.now + 1 }
     ensures room { vec_capacity text.new ≡ vec_capacity text.old }
+    ensures few { IfOk result (λ directions. length directions.now ≤ 4) }
 {
     let Some((names, bits)) = two_fields(content) else {
         text.clear();

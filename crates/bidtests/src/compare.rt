@@ -1,4 +1,4 @@
-// Claims compared with layouts.
+//! Claims compared with layouts.
 ghost use Rattle.std.specs.Prelude.{◌≡◌, ◌≤◌, List, None, Some, [], ◌∷◌, length, map, nat_eq, MatchOption, IfSome};
 ghost use Rattle.std.specs.Prelude.{IsSome};
 ghost use Rattle.std.specs.Option.{option_map};
@@ -91,7 +91,8 @@ fn no_breaks(len: usize) -> Breaks<'static>
 }
 
 /// How a claim compares with the layout of its text under one direction.
-enum Comparison {
+#[derive(Clone, Copy)]
+pub enum Comparison {
     /// They differ, first at this place.
     Differs(Place),
     /// They agree, and so does the layout under the other direction, if one is named, since it is the same; one is
@@ -114,7 +115,7 @@ fn direction_by_level(paras: &[ParaLevel]) -> Option<Direction>
 }
 
 /// Compares a claim with a layout of its text, under whichever direction and by whichever limits it is.
-fn compare_with(claim: Claim<'_>, layout: &Layout<'_>) -> Comparison
+pub fn compare_with(claim: Claim<'_>, layout: &Layout<'_>) -> Comparison
     ensures { ComparesWith (view_of layout.now) result (claim_of claim.entry) }
 {
     if !agrees_with(claim.para_level, layout.para_levels()) {

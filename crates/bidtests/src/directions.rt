@@ -1,5 +1,5 @@
 // Bit sets of directions.
-ghost use Rattle.std.specs.Prelude.{◌≡◌, [], ◌∷◌};
+ghost use Rattle.std.specs.Prelude.{◌≡◌, ◌≤◌, [], ◌∷◌, IfSome, length};
 ghost use Rattle.bidtests.specs.ClassesFile.{bit_set as directions_named};
 ghost use Rattle.bidtests.specs.Readings.{MatchesNow};
 
@@ -8,7 +8,8 @@ use units::text::number::number;
 
 /// The directions that a number of 1 to 15 names, in the order auto, LTR, RTL, AutoRtl.
 pub fn directions(field: &[u8]) -> Option<&'static [Direction]>
-    ensures { MatchesNow result (directions_named field.now) }
+    ensures named { MatchesNow result (directions_named field.now) }
+    ensures few { IfSome result (λ ds. length ds.now ≤ 4) }
 {
     use Direction::{Auto, AutoRtl, Ltr, Rtl};
     match number(field, 15)? {

@@ -28,8 +28,8 @@ fn name_of_cause(cause: Cause) -> &'static str
     }
 }
 
-/// The word for a direction, as it is printed.
-fn word_of_direction(direction: Direction) -> &'static str
+/// The word for a direction, as verdicts say it.
+pub fn word_of_direction(direction: Direction) -> &'static str
     ensures { result.now ≡ direction_word direction }
 {
     match direction {

@@ -1,0 +1,75 @@
+-- What a reader of lines holds, and what it makes of a line.
+use Rattle.std.specs.Prelude.{◌≡◌, ◌≤◌, Option, Result, Ok, Err, Some, None, ℕ, Bool, List, length}
+use Rattle.std.specs.Option.{option_map}
+use Rattle.ucdfiles.specs.Tables.{unit_by}
+use Rattle.units.specs.Isolates.{level_of_para}
+use Rattle.units.specs.declared.bracket.Unit.{Unit as BidiUnit}
+use Rattle.bidtests.specs.declared.kind.Kind.{Kind}
+use Rattle.bidtests.specs.declared.kind.Kind.TheVariants.{Classes, Characters}
+use Rattle.bidtests.specs.declared.line_reader.Asked.{Asked}
+use Rattle.bidtests.specs.declared.verdict.Cause.{Cause}
+use Rattle.bidtests.specs.Verdicts.{Claim, Finding, Silent, Row, Faulty}
+use Rattle.bidtests.specs.ClassesFile.{ClassesLine, classes_line, comes_to}
+use Rattle.bidtests.specs.CharactersFile.{characters_line}
+use Rattle.bidtests.specs.Carried.{levels_behind, order_behind}
+use Rattle.bidtests.specs.Readings.{if_read}
+
+-- what a reader of lines holds: the text of the row that was read last, two lists, and whether each is in force
+pub record LineReading : Type 0 where
+  pub text : List BidiUnit
+  pub levels : List (Option ℕ)
+  pub has_levels : Bool
+  pub order : List ℕ
+  pub has_order : Bool
+
+-- the levels in force
+abbrev pub levels_in : LineReading → Option (List (Option ℕ))
+levels_in s = if_read s.has_levels s.levels
+
+-- the order in force
+abbrev pub order_in : LineReading → Option (List ℕ)
+order_in s = if_read s.has_order s.order
+
+-- no list is in force
+pub record HasNoList (s : LineReading) : Type 0 where
+  pub levels : levels_in s ≡ None
+  pub order : order_in s ≡ None
+
+-- the claim of a row that asks for this, with the text and the lists that are held
+abbrev pub claim_in : LineReading → Asked → Claim
+claim_in s asked = record {
+  text = s.text;
+  directions = asked.directions.now;
+  para_level = option_map level_of_para asked.para_level;
+  levels = s.levels;
+  order = s.order;
+}
+
+-- what a line was read as, which left this
+abbrev pub finding_read : Result (Option Asked) Cause → LineReading → Finding
+finding_read (Err cause) s = Faulty cause
+finding_read (Ok None) s = Silent
+finding_read (Ok (Some asked)) s = Row (claim_in s asked)
+
+-- what a line of a classes file comes to that says this
+abbrev pub finding_said : LineReading → ClassesLine → Finding
+finding_said s said = comes_to (levels_in s) (order_in s) said
+
+-- what a line of a file of this kind comes to behind those that were read
+abbrev pub finding_behind : Kind → LineReading → List ℕ → Finding
+finding_behind Classes s line = finding_said s (classes_line line)
+finding_behind (Characters tables) s line = characters_line (unit_by tables.now) line
+
+-- the lists in force are those behind a line of a classes file that says this
+pub record HasListed (said : ClassesLine) (before after : LineReading) : Type 0 where
+  pub levels : levels_in after ≡ levels_behind said (levels_in before)
+  pub order : order_in after ≡ order_behind said (order_in before)
+
+-- the lists in force are those behind this line; in a characters file there are none
+abbrev pub IsBehindLine : Kind → List ℕ → LineReading → LineReading → Type 0
+IsBehindLine Classes line before after = HasListed (classes_line line) before after
+IsBehindLine (Characters tables) line before after = HasNoList after
+
+-- a row names at most four directions
+abbrev pub HasFewDirections : Asked → Type 0
+HasFewDirections asked = length asked.directions.now ≤ 4

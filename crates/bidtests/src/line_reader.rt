@@ -1,0 +1,248 @@
+//! Lines of a test file read one behind the other: what each says or claims, by the grammar of its kind.
+ghost use Rattle.std.specs.Prelude.{◌≡◌, ◌≤◌, IfOk, IfSome, IsNone, IsSome, OnOk, length, vec_capacity};
+ghost use Rattle.units.specs.Text.{fields_of, longest_line};
+ghost use Rattle.bidtests.specs.ClassesFile.{classes_line, directive, levels_said, order_said, classes_row};
+ghost use Rattle.bidtests.specs.CharactersFile.{characters_line, characters_row};
+ghost use Rattle.ucdfiles.specs.Tables.{unit_by};
+ghost use Rattle.bidtests.specs.LineReadings.{HasFewDirections};
+
+use crate::characters_row::read_characters_row;
+use crate::claim::Claim;
+use crate::classes_row::read_classes_row;
+use crate::directions::alone;
+use crate::item::{LevelItems, OrderItems, read_items};
+use crate::kind::Kind;
+use crate::verdict::Cause;
+use std::alloc::Global;
+use std::marker::Model;
+use ucdfiles::tables::Tables;
+use units::bracket::Unit;
+use units::level::{Direction, Level, ParaLevel};
+use units::memory::Memory;
+use units::text::trim::content;
+
+/// The units that a text may have: as many as a line has room for, since an item takes two bytes with the blank
+/// before it.
+pub const MOST_UNITS: usize = 32_768;
+
+/// What a row says beside its text and the lists that it claims, which its reader holds.
+#[derive(Clone, Copy)]
+pub struct Asked {
+    /// The directions that the row names, each once, in the order auto, LTR, RTL, AutoRtl.
+    pub directions: &'static [Direction],
+    /// The level of the first paragraph that it claims; rows of classes claim none.
+    pub para_level: Option<ParaLevel>,
+}
+
+/// Reads lines, one behind the other: the text of the row that was read last, and the lists in force or those of
+/// that row.
+#[derive(Drop)]
+pub struct LineReader {
+    text: Vec<Unit>,
+    levels: Vec<Option<Level>>,
+    has_levels: bool,
+    order: Vec<usize>,
+    has_order: bool,
+}
+
+impl Model for LineReader {
+    ghost use Rattle.std.specs.Prelude.{◌≤◌, vec_capacity};
+    ghost use Rattle.bidtests.specs.LineReadings.{LineReading};
+    ghost use Rattle.bidtests.specs.declared.line_reader.TheConstants.{MOST_UNITS};
+
+    ghost Value = { LineReading };
+
+    ghost view = { λ s. record {
+      text = s.text.items;
+      levels = s.levels.items;
+      has_levels = s.has_levels;
+      order = s.order.items;
+      has_order = s.has_order;
+    } };
+
+    ghost invariant = { λ s. (MOST_UNITS ≤ vec_capacity s.text)
+        × (MOST_UNITS ≤ vec_capacity s.levels) × (MOST_UNITS ≤ vec_capacity s.order) };
+}
+
+// A list without items, with room for those of a row.
+fn list<T: Copy>(alloc: Global) -> Result<Vec<T>, Memory>
+    ensures { IfOk result (λ list. MOST_UNITS ≤ vec_capacity list) }
+{
+    Ok(Vec::with_capacity(alloc, MOST_UNITS)?)
+}
+
+impl LineReader {
+    ghost use Rattle.bidtests.specs.LineReadings.{LineReading, levels_in, order_in, claim_in, finding_said, finding_read};
+    ghost use Rattle.bidtests.specs.LineReadings.{finding_behind, HasListed, HasNoList, IsBehindLine};
+    ghost use Rattle.bidtests.specs.Readings.{claim_of};
+
+    /// Before the first line.
+    pub fn new(alloc: Global) -> Result<Self, Memory>
+        ensures { IfOk result HasNoList }
+    {
+        let text = list(alloc)?;
+        let levels = list(alloc)?;
+        let order = list(alloc)?;
+        Ok(LineReader {
+            text,
+            levels,
+            has_levels: false,
+            order,
+            has_order: false,
+        })
+    }
+
+    /// Puts the levels in force that `@Levels:` lists.
+    fn set_levels(&mut self, field: &[u8]) -> Result<Option<Asked>, Cause>
+        requires { length field.now ≤ longest_line }
+        ensures found { finding_read result self.new ≡ finding_said self.old (levels_said field.now) }
+        ensures lists { OnOk result (HasListed (levels_said field.now) self.old self.new) }
+        ensures silent { IfOk result IsNone }
+    {
+        self.has_levels = read_items(&LevelItems, field, &mut self.levels);
+        if self.has_levels {
+            Ok(None)
+        } else {
+            Err(Cause::LevelItem)
+        }
+    }
+
+    /// Puts the order in force that `@Reorder:` lists.
+    fn set_order(&mut self, field: &[u8]) -> Result<Option<Asked>, Cause>
+        requires { length field.now ≤ longest_line }
+        ensures found { finding_read result self.new ≡ finding_said self.old (order_said field.now) }
+        ensures lists { OnOk result (HasListed (order_said field.now) self.old self.new) }
+        ensures silent { IfOk result IsNone }
+    {
+        self.has_order = read_items(&OrderItems, field, &mut self.order);
+        if self.has_order {
+            Ok(None)
+        } else {
+            Err(Cause::OrderItem)
+        }
+    }
+
+    /// Reads a content that begins with `@`.
+    fn read_directive(&mut self, content: &[u8]) -> Result<Option<Asked>, Cause>
+        requires { length content.now ≤ longest_line }
+        ensures found { finding_read result self.new ≡ finding_said self.old (directive content.now) }
+        ensures lists { OnOk result (HasListed (directive content.now) self.old self.new) }
+        ensures silent { IfOk result IsNone }
+    {
+        if content.starts_with(b"@Type:") {
+            Ok(None)
+        } else if content.starts_with(b"@Levels:") {
+            self.set_levels(&content[8..])
+        } else if content.starts_with(b"@Reorder:") {
+            self.set_order(&content[9..])
+        } else {
+            Err(Cause::Directive)
+        }
+    }
+
+    /// Reads a row of classes, which claims the lists in force.
+    fn read_classes(&mut self, content: &[u8]) -> Result<Option<Asked>, Cause>
+        requires { length content.now ≤ longest_line }
+        ensures found { finding_read result self.new
+            ≡ finding_said self.old (classes_row (fields_of content.now)) }
+        ensures lists { OnOk result (HasListed (classes_row (fields_of content.now)) self.old self.new) }
+        ensures fits { OnOk result (length self.new.text ≤ MOST_UNITS) }
+        ensures few { IfOk result (λ row. IfSome row HasFewDirections) }
+    {
+        let directions = read_classes_row(content, &mut self.text)?;
+        if !self.has_levels || !self.has_order {
+            return Err(Cause::NoExpectation);
+        }
+        Ok(Some(Asked {
+            directions,
+            para_level: None,
+        }))
+    }
+
+    /// Reads a row of characters, which has its own lists.
+    fn read_characters(&mut self, content: &[u8], tables: &Tables) -> Result<Option<Asked>, Cause>
+        requires short { length content.now ≤ longest_line }
+        requires lists { HasNoList self.old }
+        ensures found { finding_read result self.new
+            ≡ characters_row (unit_by tables.now) (fields_of content.now) }
+        ensures lists { HasNoList self.new }
+        ensures fits { OnOk result (length self.new.text ≤ MOST_UNITS) }
+        ensures few { IfOk result (λ row. IfSome row HasFewDirections) }
+    {
+        let (direction, para_level) = read_characters_row(
+            content,
+            tables,
+            &mut self.text,
+            &mut self.levels,
+            &mut self.order,
+        )?;
+        Ok(Some(Asked {
+            directions: alone(direction),
+            para_level: Some(para_level),
+        }))
+    }
+
+    /// Reads a line of a classes file.
+    fn read_classes_line(&mut self, line: &[u8]) -> Result<Option<Asked>, Cause>
+        requires { length line.now ≤ longest_line }
+        ensures found { finding_read result self.new ≡ finding_said self.old (classes_line line.now) }
+        ensures lists { OnOk result (HasListed (classes_line line.now) self.old self.new) }
+        ensures fits { IfOk result (λ row. IsSome row → length self.new.text ≤ MOST_UNITS) }
+        ensures few { IfOk result (λ row. IfSome row HasFewDirections) }
+    {
+        let content = content(line);
+        if content.is_empty() {
+            Ok(None)
+        } else if content[0] == b'@' {
+            self.read_directive(content)
+        } else {
+            self.read_classes(content)
+        }
+    }
+
+    /// Reads a line of a characters file, in which no list is in force.
+    fn read_characters_line(&mut self, line: &[u8], tables: &Tables) -> Result<Option<Asked>, Cause>
+        requires { length line.now ≤ longest_line }
+        ensures found { finding_read result self.new ≡ characters_line (unit_by tables.now) line.now }
+        ensures lists { HasNoList self.new }
+        ensures fits { IfOk result (λ row. IsSome row → length self.new.text ≤ MOST_UNITS) }
+        ensures few { IfOk result (λ row. IfSome row HasFewDirections) }
+    {
+        self.has_levels = false;
+        self.has_order = false;
+        let content = content(line);
+        if content.is_empty() {
+            Ok(None)
+        } else {
+            self.read_characters(content, tables)
+        }
+    }
+
+    /// Reads a line of a file of this kind behind those that were read before it: nothing, or the row that it is, whose
+    /// text and lists are then held (`claim`). The error is the cause for which it is malformed.
+    pub fn read_line(&mut self, kind: Kind<'_>, line: &[u8]) -> Result<Option<Asked>, Cause>
+        requires { length line.now ≤ longest_line }
+        ensures found { finding_read result self.new ≡ finding_behind kind.entry self.old line.now }
+        ensures lists { OnOk result (IsBehindLine kind.entry line.now self.old self.new) }
+        ensures fits { IfOk result (λ row. IsSome row → length self.new.text ≤ MOST_UNITS) }
+        ensures few { IfOk result (λ row. IfSome row HasFewDirections) }
+    {
+        match kind {
+            Kind::Classes => self.read_classes_line(line),
+            Kind::Characters(tables) => self.read_characters_line(line, tables),
+        }
+    }
+
+    /// What the row claims that was read last, which asked for this.
+    pub fn claim(&self, asked: Asked) -> Claim<'_>
+        ensures { claim_of result ≡ claim_in self.now asked }
+    {
+        Claim {
+            text: &self.text,
+            directions: asked.directions,
+            para_level: asked.para_level,
+            levels: &self.levels,
+            order: &self.order,
+        }
+    }
+}

@@ -1,0 +1,70 @@
+-- The verdict that a report amounts to.
+use Rattle.std.proofs.Common.{◌≡◌, ℕ, ◌+◌, Option, None, Some, List, [], ◌∷◌, ◌++◌, refl, sym, ap, ◌∙◌}
+use Rattle.std.specs.Option.{option_or, option_map, option_to_list}
+use Rattle.units.specs.Limits.{LimitsOf}
+use Rattle.units.specs.Lines.{line_number}
+use Rattle.units.specs.declared.level.Direction.{Direction}
+use Rattle.units.specs.Layout.{TextLayout}
+use Rattle.units.proofs.Options.{option_or-assoc}
+use Rattle.bidtests.specs.declared.verdict.Cause.{Cause}
+use Rattle.bidtests.specs.declared.verdict.Place.{Place}
+use Rattle.bidtests.specs.declared.verdict.Verdict.{Verdict}
+use Rattle.bidtests.specs.declared.verdict.Verdict.TheVariants.{Malformed, Wrong}
+use Rattle.bidtests.specs.Headline.{layout_under}
+use Rattle.bidtests.specs.Verdicts.{Claim, Finding, Silent, Row, Faulty, wrong_place_under, wrong_case, with_place, wrong_at, first_no, or_yes, rows_in, cases_in, verdict_on}
+use Rattle.report.specs.declared.wrong_case.WrongCase.{WrongCase}
+use Rattle.report.specs.WrongCases.{wrong_case_at, wrong_cases_under, wrong_cases_from, sound_lines}
+use Rattle.report.proofs.LineSteps.{all-sound}
+use Rattle.report.specs.FileReports.{first_malformed, report_on, verdict_from, verdict_by}
+
+-- the no of the first of these cases
+abbrev no_of_first : List WrongCase → Option Verdict
+no_of_first [] = None
+no_of_first (w ∷ ws) = Some (Wrong w.line w.direction w.place)
+
+-- the no of a malformed line
+abbrev no_of_malformed : Option (ℕ × Cause) → Option Verdict
+no_of_malformed None = None
+no_of_malformed (Some m) = Some (Malformed m.0 m.1)
+
+no_of_first-append : (a b : List WrongCase) → no_of_first (a ++ b) ≡ option_or (no_of_first a) (no_of_first b)
+no_of_first-append [] b = refl
+no_of_first-append (w ∷ a) b = refl
+
+one-more : (n : ℕ) (claim : Claim) (d : Direction) (layout : TextLayout) (ws : List WrongCase) (o : Option Place) (rest : Option (Direction × Place))
+    → wrong_at n rest ≡ no_of_first ws → wrong_at n (option_or (with_place d o) rest) ≡ no_of_first (option_to_list (option_map (wrong_case_at n claim d layout) o) ++ ws)
+one-more n claim d layout ws None rest e = e
+one-more n claim d layout ws (Some place) rest e = refl
+
+module _ (limits : LimitsOf) where
+  -- the first wrong case of a row
+  first-under : (n : ℕ) (claim : Claim) (ds : List Direction) → wrong_at n (wrong_case limits claim ds) ≡ no_of_first (wrong_cases_under limits n claim ds)
+  first-under n claim [] = refl
+  first-under n claim (d ∷ ds) =
+      one-more n claim d (layout_under limits claim d) (wrong_cases_under limits n claim ds) (wrong_place_under limits claim d) (wrong_case limits claim ds) (first-under n claim ds)
+
+  -- the first no of these lines
+  first-from : (k : ℕ) (fs : List Finding) → first_no limits k fs ≡ option_or (no_of_first (wrong_cases_from limits k (sound_lines fs))) (no_of_malformed (first_malformed k fs))
+  first-from k [] = refl
+  first-from k (Silent ∷ fs) = first-from (k + 1) fs
+  first-from k (Faulty cause ∷ fs) = refl
+  first-from k (Row claim ∷ fs) =
+      let here = wrong_cases_under limits (line_number k) claim claim.directions in
+      let behind = wrong_cases_from limits (k + 1) (sound_lines fs) in
+      let malformed = no_of_malformed (first_malformed (k + 1) fs) in
+      ap (λ o. option_or o (first_no limits (k + 1) fs)) (first-under (line_number k) claim claim.directions)
+      ∙ ap (λ o. option_or (no_of_first here) o) (first-from (k + 1) fs)
+      ∙ option_or-assoc (no_of_first here) (no_of_first behind) malformed
+      ∙ ap (λ o. option_or o malformed) (sym (no_of_first-append here behind))
+
+  by-first : (fs : List Finding) (ws : List WrongCase) (m : Option (ℕ × Cause)) → (m ≡ None → sound_lines fs ≡ fs)
+      → or_yes fs (option_or (no_of_first ws) (no_of_malformed m)) ≡ verdict_from ws m (rows_in (sound_lines fs)) (cases_in (sound_lines fs))
+  by-first fs (w ∷ ws) m sound = refl
+  by-first fs [] (Some m) sound = refl
+  by-first fs [] None sound = rw (sound refl) refl
+
+  pub amounts : (fs : List Finding) → verdict_on limits fs ≡ verdict_by (report_on limits fs)
+  unfolding verdict_on
+  amounts fs =
+      ap (or_yes fs) (first-from 0 fs)
+      ∙ by-first fs (wrong_cases_from limits 0 (sound_lines fs)) (first_malformed 0 fs) (all-sound 0 fs)

@@ -1,0 +1,94 @@
+-- What is counted grows line by line.
+use Rattle.std.proofs.Common.{◌≡◌, ℕ, ◌+◌, min, Bool, false, Option, None, Some, List, [], ◌∷◌, ◌++◌, length, refl, sym, ap, ◌∙◌, arith, append_assoc, append-nil, count_by, sum_by, cond, length-append, is_some}
+use Rattle.std.proofs.lemmas.List.Sums.{sum_by-append}
+use Rattle.std.specs.Option.{option_or, option_map, option_to_list}
+use Rattle.units.specs.Limits.{LimitsOf}
+use Rattle.units.specs.Lines.{line_number, saturated}
+use Rattle.units.specs.Layout.{TextLayout}
+use Rattle.units.specs.declared.level.Direction.{Direction}
+use Rattle.units.specs.declared.level.Direction.TheVariants.{Auto, Ltr, Rtl, AutoRtl}
+use Rattle.bidtests.specs.declared.verdict.Place.{Place}
+use Rattle.bidtests.specs.Headline.{layout_under}
+use Rattle.bidtests.specs.Verdicts.{Claim, Finding, Silent, Row, is_row, cases_of, rows_in, cases_in, wrong_place_under, wrong_case, with_place}
+use Rattle.report.specs.declared.wrong_case.WrongCase.{WrongCase}
+use Rattle.report.specs.declared.tally.Part.TheVariants.{ParaLevel, Levels, Order}
+use Rattle.report.specs.WrongCases.{wrong_case_at, wrong_cases_in, wrong_cases_under, wrong_cases_from}
+use Rattle.report.specs.Tallies.{is_under, is_of, is_wrong_row, counted_by, tally_by_direction, tally_by_part, tally_of, more_by_direction, more_by_part, with_row}
+
+-- counting on, behind what was counted up to the greatest number
+more : (a c n : ℕ) → n ≡ a + c → saturated n ≡ saturated (saturated a + c)
+more a c n e = omega (arith, e)
+
+count-append : {A : Type 0} (p : A → Bool) (xs ys : List A) → count_by p (xs ++ ys) ≡ count_by p xs + count_by p ys
+count-append p xs ys = sum_by-append (λ x. cond (p x) 1 0) xs ys
+
+counted-append : (p : WrongCase → Bool) (ws vs : List WrongCase) → counted_by p (ws ++ vs) ≡ saturated (counted_by p ws + count_by p vs)
+counted-append p ws vs = more (count_by p ws) (count_by p vs) (count_by p (ws ++ vs)) (count-append p ws vs)
+
+by-direction-append : (ws vs : List WrongCase) → tally_by_direction (ws ++ vs) ≡ more_by_direction vs (tally_by_direction ws)
+by-direction-append ws vs = rw (counted-append (is_under Auto) ws vs, counted-append (is_under Ltr) ws vs, counted-append (is_under Rtl) ws vs, counted-append (is_under AutoRtl) ws vs) refl
+
+by-part-append : (ws vs : List WrongCase) → tally_by_part (ws ++ vs) ≡ more_by_part vs (tally_by_part ws)
+by-part-append ws vs = rw (counted-append (is_of ParaLevel) ws vs, counted-append (is_of Levels) ws vs, counted-append (is_of Order) ws vs) refl
+
+one-case : (n : ℕ) (claim : Claim) (d : Direction) (layout : TextLayout) (ws : List WrongCase) (o : Option Place) (rest : Option (Direction × Place))
+    → cond (is_some rest) 1 0 ≡ min (length ws) 1
+    → cond (is_some (option_or (with_place d o) rest)) 1 0 ≡ min (length (option_to_list (option_map (wrong_case_at n claim d layout) o) ++ ws)) 1
+one-case n claim d layout ws None rest e = e
+one-case n claim d layout ws (Some place) rest e = omega arith
+
+module _ (limits : LimitsOf) where
+  -- a row is wrong where it has a wrong case
+  some-case : (n : ℕ) (claim : Claim) (ds : List Direction) → cond (is_some (wrong_case limits claim ds)) 1 0 ≡ min (length (wrong_cases_under limits n claim ds)) 1
+  some-case n claim [] = refl
+  some-case n claim (d ∷ ds) =
+      one-case n claim d (layout_under limits claim d) (wrong_cases_under limits n claim ds) (wrong_place_under limits claim d) (wrong_case limits claim ds) (some-case n claim ds)
+
+  from-append : (k : ℕ) (a b : List Finding) → wrong_cases_from limits k (a ++ b) ≡ wrong_cases_from limits k a ++ wrong_cases_from limits (k + length a) b
+  from-append k [] b = ap (λ n. wrong_cases_from limits n b) (omega arith)
+  from-append k (f ∷ a) b =
+      let here = wrong_cases_in limits (line_number k) f in
+      ap (λ ws. here ++ ws) (from-append (k + 1) a b ∙ ap (λ n. wrong_cases_from limits (k + 1) a ++ wrong_cases_from limits n b) (omega arith))
+      ∙ sym (append_assoc here (wrong_cases_from limits (k + 1) a) (wrong_cases_from limits (k + length (f ∷ a)) b))
+
+  -- the wrong cases with those of one line more
+  pub from-push : (fs : List Finding) (f : Finding) → wrong_cases_from limits 0 (fs ++ f ∷ []) ≡ wrong_cases_from limits 0 fs ++ wrong_cases_in limits (line_number (length fs)) f
+  from-push fs f =
+      from-append 0 fs (f ∷ [])
+      ∙ ap (λ ws. wrong_cases_from limits 0 fs ++ ws) (append-nil (wrong_cases_in limits (line_number (0 + length fs)) f) ∙ ap (λ n. wrong_cases_in limits (line_number n) f) (omega arith))
+
+  pub rows-push : (fs : List Finding) (claim : Claim) → rows_in (fs ++ Row claim ∷ []) ≡ saturated (rows_in fs + 1)
+  rows-push fs claim = more (count_by is_row fs) 1 _ (count-append is_row fs (Row claim ∷ []))
+
+  pub cases-push : (fs : List Finding) (claim : Claim) → cases_in (fs ++ Row claim ∷ []) ≡ saturated (cases_in fs + length claim.directions)
+  cases-push fs claim = more (sum_by cases_of fs) (length claim.directions) _ (sum_by-append cases_of fs (Row claim ∷ []) ∙ omega arith)
+
+  wrong-rows-push : (fs : List Finding) (claim : Claim) (n : ℕ)
+      → saturated (count_by (is_wrong_row limits) (fs ++ Row claim ∷ []))
+      ≡ saturated (saturated (count_by (is_wrong_row limits) fs) + min (length (wrong_cases_under limits n claim claim.directions)) 1)
+  wrong-rows-push fs claim n =
+      more (count_by (is_wrong_row limits) fs) (min (length (wrong_cases_under limits n claim claim.directions)) 1) _
+      (count-append (is_wrong_row limits) fs (Row claim ∷ []) ∙ omega (arith, some-case n claim claim.directions))
+
+  wrong-cases-push : (ws vs : List WrongCase) → saturated (length (ws ++ vs)) ≡ saturated (saturated (length ws) + length vs)
+  wrong-cases-push ws vs = more (length ws) (length vs) _ (length-append ws vs)
+
+  -- the counts with a row more
+  pub tally-row : (fs : List Finding) (claim : Claim)
+      → tally_of limits (fs ++ Row claim ∷ []) ≡ with_row (length claim.directions) (wrong_cases_in limits (line_number (length fs)) (Row claim)) (tally_of limits fs)
+  tally-row fs claim =
+      let ws = wrong_cases_from limits 0 fs in
+      let vs = wrong_cases_in limits (line_number (length fs)) (Row claim) in
+      rw (from-push fs (Row claim), rows-push fs claim, cases-push fs claim, wrong-rows-push fs claim (line_number (length fs)), wrong-cases-push ws vs, by-direction-append ws vs, by-part-append ws vs) refl
+
+  none-more : {A : Type 0} (p : A → Bool) (xs : List A) (x : A) → p x ≡ false → count_by p (xs ++ x ∷ []) ≡ count_by p xs
+  none-more p xs x none =
+      let zero : count_by p (x ∷ []) ≡ 0 = rw none refl in
+      count-append p xs (x ∷ []) ∙ omega (arith, zero)
+
+  -- a line that says nothing counts nothing
+  pub tally-silent : (fs : List Finding) → tally_of limits (fs ++ Silent ∷ []) ≡ tally_of limits fs
+  tally-silent fs =
+      let cases : sum_by cases_of (fs ++ Silent ∷ []) ≡ sum_by cases_of fs = sum_by-append cases_of fs (Silent ∷ []) ∙ omega arith in
+      let ws : wrong_cases_from limits 0 (fs ++ Silent ∷ []) ≡ wrong_cases_from limits 0 fs = from-push fs Silent ∙ append-nil (wrong_cases_from limits 0 fs) in
+      rw (ws, none-more is_row fs Silent refl, cases, none-more (is_wrong_row limits) fs Silent refl) refl

@@ -1,0 +1,14 @@
+use Rattle.std.proofs.Common.{◌≡◌, ◌≤◌, ◌++◌, drop, length, vec_capacity}
+use Rattle.lines.specs.Scratches.{room_of}
+use Rattle.bidtests.specs.Readings.{claim_of}
+use Rattle.report.specs.WrongCases.{wrong_cases_under}
+use Rattle.report.proofs.row_cases.find_wrong_cases.Given as goal
+
+abbrev pub invariant-loop-direction : goal.invariant-loop-direction
+invariant-loop-direction l = record {
+  rest : wrong_cases_under l.limits l.line (claim_of l.claim) l.claim.directions.now
+      ≡ l.found.items ++ wrong_cases_under l.limits l.line (claim_of l.claim) (drop l.direction-index l.claim.directions.now);
+  few : length l.found.items ≤ l.direction-index;
+  capacity : vec_capacity l.found ≡ vec_capacity l.fn.found;
+  room : room_of l.scratch ≡ room_of l.fn.scratch;
+}

@@ -1,0 +1,73 @@
+-- The report on a test file: its wrong cases, their counts, and the first malformed line, at which it ends.
+use Rattle.std.specs.Prelude.{◌≡◌, ◌≤◌, ◌↔◌, Option, Some, None, ℕ, ◌+◌, List, [], ◌∷◌}
+use Rattle.std.specs.List.{Contains}
+use Rattle.units.specs.Limits.{LimitsOf}
+use Rattle.units.specs.Lines.{line_number}
+use Rattle.units.specs.Text.{lines_of}
+use Rattle.bidtests.specs.declared.kind.Kind.{Kind}
+use Rattle.bidtests.specs.declared.verdict.Cause.{Cause}
+use Rattle.bidtests.specs.declared.verdict.Verdict.{Verdict}
+use Rattle.bidtests.specs.declared.verdict.Verdict.TheVariants.{Yes, Malformed, Wrong}
+use Rattle.bidtests.specs.Verdicts.{Claim, Finding, Faulty}
+use Rattle.bidtests.specs.FileKinds.{findings_by, verdict_of}
+use Rattle.bidtests.specs.Headline.{layout_under, IsMalformed, IsRow, IsWrongAt}
+use Rattle.report.specs.declared.tally.Tally.{Tally}
+use Rattle.report.specs.declared.wrong_case.WrongCase.{WrongCase}
+use Rattle.report.specs.Tallies.{tally_of}
+use Rattle.report.specs.WrongCases.{wrong_cases_from, sound_lines, claimed_at, defined_at}
+
+-- the number and the cause of the first malformed line, where k lines stand before these
+abbrev pub first_malformed : ℕ → List Finding → Option (ℕ × Cause)
+first_malformed k [] = None
+first_malformed k (Faulty cause ∷ fs) = Some (line_number k, cause)
+first_malformed k (f ∷ fs) = first_malformed (k + 1) fs
+
+-- a report: the wrong cases, the counts, and the first malformed line
+pub record FileReport : Type 0 where
+  pub wrong : List WrongCase
+  pub tally : Tally
+  pub malformed : Option (ℕ × Cause)
+
+-- the report on a file whose lines come to these: of those before the first malformed one
+abbrev pub report_on : LimitsOf → List Finding → FileReport
+report_on limits fs = record {
+  wrong = wrong_cases_from limits 0 (sound_lines fs);
+  tally = tally_of limits (sound_lines fs);
+  malformed = first_malformed 0 fs;
+}
+
+-- the report on the bytes of a file of this kind, by these limits
+abbrev pub report_of : LimitsOf → Kind → List ℕ → FileReport
+report_of limits kind bytes = report_on limits (findings_by kind (lines_of bytes))
+
+-- the verdict by the first wrong case and the first malformed line, and by how many rows and cases there are
+abbrev pub verdict_from : List WrongCase → Option (ℕ × Cause) → ℕ → ℕ → Verdict
+verdict_from (w ∷ ws) malformed rows cases = Wrong w.line w.direction w.place
+verdict_from [] (Some m) rows cases = Malformed m.0 m.1
+verdict_from [] None rows cases = Yes rows cases
+
+-- the verdict that a report amounts to
+abbrev pub verdict_by : FileReport → Verdict
+verdict_by report = verdict_from report.wrong report.malformed report.tally.rows report.tally.cases
+
+-- line k is a row of which this is a wrong case, with what is claimed and defined at the first place that differs, and
+-- no line before it is malformed
+pub record IsWrongCase (limits : LimitsOf) (found : List Finding) (w : WrongCase) : Type 0 where
+  pub k : ℕ
+  pub numbered : w.line ≡ line_number k
+  pub well_formed : (j : ℕ) (cause : Cause) → j ≤ k → ¬ IsMalformed found j cause
+  pub claim : Claim
+  pub row : IsRow found k claim
+  pub names : Contains claim.directions w.direction
+  pub wrong : IsWrongAt limits claim w.direction w.place
+  pub claimed : w.claimed ≡ claimed_at claim w.place
+  pub defined : w.defined ≡ defined_at (layout_under limits claim w.direction) w.place
+
+-- the verdict on each file is the one that its report amounts to
+abbrev pub AmountsToVerdict : LimitsOf → Kind → List ℕ → Type 0
+AmountsToVerdict limits kind b = verdict_of limits kind b ≡ verdict_by (report_of limits kind b)
+
+-- a report holds exactly the wrong cases of the file's lines
+abbrev pub HoldsWrongCases : LimitsOf → Kind → List ℕ → Type 0
+HoldsWrongCases limits kind b = (w : WrongCase)
+    → Contains (report_of limits kind b).wrong w ↔ IsWrongCase limits (findings_by kind (lines_of b)) w

@@ -1,0 +1,5 @@
+pub mod WrongCases
+pub mod Tallies
+pub mod FileReports
+pub mod ReportText
+pub mod Reporting

@@ -1,0 +1,137 @@
+-- What a report keeps from line to line, and the bytes that it stands for.
+use Rattle.std.specs.Borrow.{Bor}
+use Rattle.std.specs.Prelude.{◌≡◌, Option, Some, None, ℕ, List, [], ◌++◌, length, ⊤}
+use Rattle.units.specs.LineCutting.{Cutting, StandsFor}
+use Rattle.units.specs.Limits.{LimitsOf}
+use Rattle.units.specs.Lines.{CutsInto}
+use Rattle.units.specs.declared.line_cut.Step.{Step}
+use Rattle.units.specs.declared.line_cut.Step.TheVariants.{More, Line, TooLong}
+use Rattle.bidtests.specs.declared.kind.Kind.{Kind}
+use Rattle.bidtests.specs.declared.verdict.Cause.{Cause}
+use Rattle.bidtests.specs.declared.verdict.Cause.TheVariants.{LineTooLong}
+use Rattle.bidtests.specs.Carried.{AreInForce}
+use Rattle.bidtests.specs.FileKinds.{findings_by}
+use Rattle.bidtests.specs.LineReadings.{LineReading, levels_in, order_in, finding_behind, HasNoList, IsBehindLine}
+use Rattle.bidtests.specs.Verdicts.{Finding, Silent, Row, Faulty}
+use Rattle.report.specs.declared.tally.Tally.{Tally}
+use Rattle.report.specs.declared.wrong_case.WrongCase.{WrongCase}
+use Rattle.report.specs.FileReports.{FileReport, report_of, first_malformed}
+use Rattle.report.specs.Tallies.{tally_of, nothing_counted, with_row}
+use Rattle.report.specs.WrongCases.{wrong_cases_in, wrong_cases_from}
+
+-- what is kept from line to line: the limits, what the reader of lines holds, the counts, and the wrong cases of the
+-- line that was read last
+pub record LineReporting : Type 0 where
+  pub limits : LimitsOf
+  pub reading : LineReading
+  pub tally : Tally
+  pub found : List WrongCase
+
+-- before the first line
+pub record IsAtStart (limits : LimitsOf) (s : LineReporting) : Type 0 where
+  pub under : s.limits ≡ limits
+  pub lists : HasNoList s.reading
+  pub tally : s.tally ≡ nothing_counted
+  pub found : s.found ≡ []
+
+-- the same with no case found
+abbrev pub forgotten : LineReporting → LineReporting
+forgotten s = record { limits = s.limits; reading = s.reading; tally = s.tally; found = [] }
+
+-- why a line is malformed that comes to this, if it is
+abbrev pub cause_of : Finding → Option Cause
+cause_of Silent = None
+cause_of (Faulty cause) = Some cause
+cause_of (Row claim) = None
+
+-- the counts behind a line that comes to this, of whose cases these are wrong
+abbrev pub tally_behind : Finding → List WrongCase → Tally → Tally
+tally_behind Silent ws t = t
+tally_behind (Faulty cause) ws t = t
+tally_behind (Row claim) ws t = with_row (length claim.directions) ws t
+
+-- what is kept behind the line of this number, which is not malformed
+pub record IsAfterLine (kind : Kind) (number : ℕ) (line : List ℕ) (before after : LineReporting) : Type 0 where
+  pub limits : after.limits ≡ before.limits
+  pub lists : IsBehindLine kind line before.reading after.reading
+  pub found : after.found ≡ wrong_cases_in before.limits number (finding_behind kind before.reading line)
+  pub tally : after.tally ≡ tally_behind (finding_behind kind before.reading line) after.found before.tally
+
+-- nothing more was found or counted
+pub record HasNothingNew (before after : LineReporting) : Type 0 where
+  pub found : after.found ≡ []
+  pub tally : after.tally ≡ before.tally
+
+-- the line of this number, with its cause, if it is malformed
+abbrev pub malformed_at : ℕ → Option Cause → Option (ℕ × Cause)
+malformed_at number None = None
+malformed_at number (Some cause) = Some (number, cause)
+
+-- the malformed line that a step of the cutter ends, if it ends one
+abbrev pub malformed_by : Kind → LineReporting → Step → Option (ℕ × Cause)
+malformed_by kind s More = None
+malformed_by kind s (Line number text) = malformed_at number (cause_of (finding_behind kind s.reading text.now))
+malformed_by kind s (TooLong number) = Some (number, LineTooLong)
+
+-- what is kept behind a step that ends no malformed line
+abbrev pub IsAfterStep : Kind → Step → LineReporting → LineReporting → Type 0
+IsAfterStep kind More before after = after ≡ before
+IsAfterStep kind (Line number text) before after = IsAfterLine kind number text.now before after
+IsAfterStep kind (TooLong number) before after = ⊤
+
+-- this is kept behind these lines, none of which is malformed, and these are all of their wrong cases
+pub record IsReportBehind (limits : LimitsOf) (kind : Kind) (s : LineReporting) (told : List WrongCase) (lines : List (List ℕ)) : Type 0 where
+  pub under : s.limits ≡ limits
+  pub sound : first_malformed 0 (findings_by kind lines) ≡ None
+  pub lists : AreInForce kind (levels_in s.reading) (order_in s.reading) lines
+  pub tally : s.tally ≡ tally_of limits (findings_by kind lines)
+  pub cases : told ≡ wrong_cases_from limits 0 (findings_by kind lines)
+
+-- what a report keeps: the kind of its file, where its cutter stands in a line, what is kept between lines, and the
+-- malformed line at which it has ended
+pub record Reporting : Type 0 where
+  pub kind : Kind
+  pub cutting : Cutting
+  pub lines : LineReporting
+  pub malformed : Option (ℕ × Cause)
+
+-- no line that has ended is malformed
+pub record GoesOn (limits : LimitsOf) (kind : Kind) (cutting : Cutting) (s : LineReporting) (told : List WrongCase) (bytes : List ℕ) : Type 0 where
+  pub cutter : StandsFor cutting bytes
+  pub lines : List (List ℕ)
+  pub rest : List ℕ
+  pub cut : CutsInto bytes lines rest
+  pub behind : IsReportBehind limits kind s told lines
+
+-- what holds of the bytes that were handed over and of the wrong cases that were told: with no malformed line those are
+-- of the lines so far, else each file that begins so has this report
+abbrev pub ReportsBy : LimitsOf → Kind → Option (ℕ × Cause) → Cutting → LineReporting → List WrongCase → List ℕ → Type 0
+ReportsBy limits kind None cutting s told bytes = GoesOn limits kind cutting s told bytes
+ReportsBy limits kind (Some malformed) cutting s told bytes =
+    (more : List ℕ) → report_of limits kind (bytes ++ more) ≡ record { wrong = told; tally = s.tally; malformed = Some malformed }
+
+-- the report is on a file of this kind by these limits, was handed these bytes, in any pieces, and told these wrong cases
+pub record Reports (limits : LimitsOf) (kind : Kind) (report : Reporting) (told : List WrongCase) (bytes : List ℕ) : Type 0 where
+  pub of : report.kind ≡ kind
+  pub is : ReportsBy limits kind report.malformed report.cutting report.lines told bytes
+
+-- the malformed line that the end of a file ends, if one has begun
+abbrev pub malformed_last : Kind → LineReporting → Option (ℕ × Bor (List ℕ)) → Option (ℕ × Cause)
+malformed_last kind s None = None
+malformed_last kind s (Some last) = malformed_at last.0 (cause_of (finding_behind kind s.reading last.1.now))
+
+-- what is kept behind the end of a file, if that ends no malformed line
+abbrev pub IsAfterLast : Kind → Option (ℕ × Bor (List ℕ)) → LineReporting → LineReporting → Type 0
+IsAfterLast kind None before after = after ≡ before
+IsAfterLast kind (Some last) before after = IsAfterLine kind last.0 last.1.now before after
+
+-- what a report has come to at the end of its file: the wrong cases of a last line without line feed, the counts, and
+-- the first malformed line
+pub record EndedReport : Type 0 where
+  pub found : List WrongCase
+  pub tally : Tally
+  pub malformed : Option (ℕ × Cause)
+
+-- the report on the whole file, of which these wrong cases were told before its end
+abbrev pub report_at_end : List WrongCase → EndedReport → FileReport
+report_at_end told e = record { wrong = told ++ e.found; tally = e.tally; malformed = e.malformed }

@@ -1,0 +1,79 @@
+-- The wrong cases of a test file, each with what it claims and what is defined.
+use Rattle.std.specs.Prelude.{Option, Some, None, ℕ, ◌+◌, List, [], ◌∷◌, ◌++◌}
+use Rattle.std.specs.List.{slice_get, flat_map}
+use Rattle.std.specs.Option.{option_map, option_to_list}
+use Rattle.units.specs.Layout.{TextLayout, all_orders}
+use Rattle.units.specs.Limits.{LimitsOf}
+use Rattle.units.specs.Lines.{line_number}
+use Rattle.units.specs.declared.level.Direction.{Direction}
+use Rattle.bidtests.specs.declared.verdict.Place.{Place}
+use Rattle.bidtests.specs.declared.verdict.Place.TheVariants.{ParaLevel, Levels, Order}
+use Rattle.bidtests.specs.Verdicts.{Claim, Finding, Silent, Row, Faulty, wrong_place_under}
+use Rattle.bidtests.specs.Headline.{layout_under}
+use Rattle.report.specs.declared.wrong_case.Item.{Item}
+use Rattle.report.specs.declared.wrong_case.Item.TheVariants.{Ended, Removed, Level, Position}
+use Rattle.report.specs.declared.wrong_case.WrongCase.{WrongCase}
+
+-- what stands at an index of a list of levels
+abbrev pub level_item : Option (Option ℕ) → Item
+level_item None = Ended
+level_item (Some None) = Removed
+level_item (Some (Some level)) = Level level
+
+-- what stands at an index of an order
+abbrev pub position_item : Option ℕ → Item
+position_item None = Ended
+position_item (Some position) = Position position
+
+-- the level of a first paragraph
+abbrev pub para_item : Option ℕ → Item
+para_item None = Ended
+para_item (Some level) = Level level
+
+-- what is claimed at a place
+abbrev pub claimed_at : Claim → Place → Item
+claimed_at claim ParaLevel = para_item claim.para_level
+claimed_at claim (Levels i) = level_item (slice_get claim.levels i)
+claimed_at claim (Order i) = position_item (slice_get claim.order i)
+
+-- what a layout has at a place
+abbrev pub defined_at : TextLayout → Place → Item
+defined_at layout ParaLevel = para_item (slice_get layout.paras 0)
+defined_at layout (Levels i) = level_item (slice_get layout.levels i)
+defined_at layout (Order i) = position_item (slice_get (all_orders layout) i)
+
+-- a claim of the line of this number that differs at this place from the layout under the direction
+abbrev pub wrong_case_at : ℕ → Claim → Direction → TextLayout → Place → WrongCase
+wrong_case_at number claim d layout place = record {
+  line = number;
+  direction = d;
+  place = place;
+  claimed = claimed_at claim place;
+  defined = defined_at layout place;
+}
+
+-- the case of a row under the direction, if it is wrong
+abbrev pub wrong_case_under : LimitsOf → ℕ → Claim → Direction → Option WrongCase
+wrong_case_under limits number claim d =
+    option_map (wrong_case_at number claim d (layout_under limits claim d)) (wrong_place_under limits claim d)
+
+-- the wrong cases of a row under these directions
+abbrev pub wrong_cases_under : LimitsOf → ℕ → Claim → List Direction → List WrongCase
+wrong_cases_under limits number claim ds = flat_map (λ d. option_to_list (wrong_case_under limits number claim d)) ds
+
+-- the wrong cases of the line of this number
+abbrev pub wrong_cases_in : LimitsOf → ℕ → Finding → List WrongCase
+wrong_cases_in limits number Silent = []
+wrong_cases_in limits number (Faulty cause) = []
+wrong_cases_in limits number (Row claim) = wrong_cases_under limits number claim claim.directions
+
+-- the wrong cases of these lines, where k lines stand before them
+abbrev pub wrong_cases_from : LimitsOf → ℕ → List Finding → List WrongCase
+wrong_cases_from limits k [] = []
+wrong_cases_from limits k (f ∷ fs) = wrong_cases_in limits (line_number k) f ++ wrong_cases_from limits (k + 1) fs
+
+-- the lines before the first one that is malformed: what stands behind it may rest on what it was to say
+abbrev pub sound_lines : List Finding → List Finding
+sound_lines [] = []
+sound_lines (Faulty cause ∷ fs) = []
+sound_lines (f ∷ fs) = f ∷ sound_lines fs

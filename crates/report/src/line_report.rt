@@ -1,0 +1,132 @@
+// Lines reported on, one behind the other.
+ghost use Rattle.std.specs.Prelude.{◌≡◌, ◌≤◌, [], IfOk, OnErr, OnOk, length, vec_capacity};
+ghost use Rattle.std.specs.Result.{result_err};
+ghost use Rattle.units.specs.Text.{longest_line};
+ghost use Rattle.lines.specs.Scratches.{room_of};
+ghost use Rattle.bidtests.specs.declared.line_reader.TheConstants.{MOST_UNITS};
+
+use crate::row_cases::find_wrong_cases;
+use crate::tally::Tally;
+use crate::wrong_case::WrongCase;
+use bidtests::kind::Kind;
+use bidtests::line_reader::{LineReader, MOST_UNITS};
+use bidtests::verdict::Cause;
+use lines::scratch::Scratch;
+use std::alloc::Global;
+use std::marker::Model;
+use units::limits::Limits;
+use units::memory::Memory;
+
+/// The wrong cases that a row can have: one for each direction.
+const MOST_FOUND: usize = 4;
+
+/// Reports on lines, one behind the other: the limits and the room for layouts, what reads the lines, the counts, and
+/// the wrong cases of the line that was read last.
+#[derive(Drop)]
+pub struct LineReport {
+    limits: Limits,
+    scratch: Scratch,
+    reader: LineReader,
+    tally: Tally,
+    found: Vec<WrongCase>,
+}
+
+impl Model for LineReport {
+    ghost use Rattle.std.specs.Prelude.{◌≡◌, ◌≤◌, vec_capacity};
+    ghost use Rattle.lines.specs.Scratches.{room_of};
+    ghost use Rattle.bidtests.specs.declared.line_reader.TheConstants.{MOST_UNITS};
+    ghost use Rattle.report.specs.Reporting.{LineReporting};
+    ghost use Rattle.report.specs.declared.line_report.TheConstants.{MOST_FOUND};
+
+    ghost Value = { LineReporting };
+
+    ghost view = { λ s. record {
+      limits = s.limits;
+      reading = s.reader;
+      tally = s.tally;
+      found = s.found.items;
+    } };
+
+    ghost invariant = { λ s. (room_of s.scratch ≡ MOST_UNITS) × (MOST_FOUND ≤ vec_capacity s.found) };
+}
+
+// Room for the text of a row.
+fn scratch(alloc: Global) -> Result<Scratch, Memory>
+    ensures { IfOk result (λ scratch. room_of scratch ≡ MOST_UNITS) }
+{
+    Scratch::with_room(alloc, MOST_UNITS).map_err(|_| Memory)
+}
+
+// A list without cases, with room for those of a row.
+fn list(alloc: Global) -> Result<Vec<WrongCase>, Memory>
+    ensures none { IfOk result (λ list. list.items ≡ []) }
+    ensures room { IfOk result (λ list. MOST_FOUND ≤ vec_capacity list) }
+{
+    Ok(Vec::with_capacity(alloc, MOST_FOUND)?)
+}
+
+impl LineReport {
+    ghost use Rattle.bidtests.specs.LineReadings.{finding_behind};
+    ghost use Rattle.report.specs.Reporting.{IsAtStart, IsAfterLine, HasNothingNew, cause_of, forgotten};
+
+    /// Before the first line.
+    pub fn new(alloc: Global, limits: Limits) -> Result<Self, Memory>
+        ensures { IfOk result (IsAtStart limits) }
+    {
+        let reader = LineReader::new(alloc)?;
+        let found = list(alloc)?;
+        let scratch = scratch(alloc)?;
+        Ok(LineReport {
+            limits,
+            scratch,
+            reader,
+            tally: Tally::new(),
+            found,
+        })
+    }
+
+    /// The wrong cases of the line that was read last.
+    pub fn found(&self) -> &[WrongCase]
+        ensures { result.now ≡ self.now.found }
+    {
+        &self.found
+    }
+
+    /// The counts.
+    pub fn tally(&self) -> Tally
+        ensures { result ≡ self.now.tally }
+    {
+        self.tally
+    }
+
+    /// Forgets the wrong cases of the line that was read last.
+    pub fn forget(&mut self)
+        ensures { self.new ≡ forgotten self.old }
+    {
+        self.found.clear();
+    }
+
+    /// Reports on the line of this number of a file of this kind, by what the lines before it said: finds its wrong
+    /// cases, and counts. The error is the cause for which it is malformed.
+    pub fn report_line(&mut self, kind: Kind<'_>, number: u64, line: &[u8]) -> Result<(), Cause>
+        requires short { length line.now ≤ longest_line }
+        requires none { self.old.found ≡ [] }
+        ensures cause { result_err result ≡ cause_of (finding_behind kind.entry self.old.reading line.now) }
+        ensures after { OnOk result (IsAfterLine kind.entry number line.now self.old self.new) }
+        ensures ended { OnErr result (HasNothingNew self.old self.new) }
+    {
+        let Some(asked) = self.reader.read_line(kind, line)? else {
+            return Ok(());
+        };
+        let claim = self.reader.claim(asked);
+        find_wrong_cases(
+            &mut self.scratch,
+            number,
+            claim,
+            self.limits,
+            &mut self.found,
+        );
+        self.tally = self.tally.with_row(asked.directions.len(), &self.found);
+        Ok(())
+    }
+}

@@ -1,0 +1,126 @@
+//! The lines that a report prints.
+ghost use Rattle.std.specs.Prelude.{◌≡◌, OnOk, Some};
+ghost use Rattle.std.specs.Io.KnownBytes.{Appends};
+ghost use Rattle.report.specs.ReportText.{directions_text, foot_text, item_text, malformed_text, parts_text};
+ghost use Rattle.report.specs.ReportText.{place_words, totals_text, wrong_case_text};
+
+use crate::tally::Tally;
+use crate::wrong_case::{Item, WrongCase};
+use bidtests::verdict::{Cause, Place, Verdict};
+use bidtests::verdict_line::{print_verdict, word_of_direction};
+use std::io::Write;
+use std::{fmt, io};
+
+impl fmt::Display for Item {
+    ghost output = { λ item. Some (item_text item) };
+
+    fn fmt<W: fmt::Write>(&self, f: &mut fmt::Formatter<W>) -> fmt::Result {
+        match self {
+            Item::Ended => f.write_str("nothing"),
+            Item::Removed => f.write_str("x"),
+            Item::Level(level) => write!(f, "{}", level.get()),
+            Item::Position(position) => write!(f, "{position}"),
+        }
+    }
+}
+
+/// A place in words.
+#[derive(Clone, Copy)]
+struct PlaceWords(Place);
+
+impl fmt::Display for PlaceWords {
+    ghost output = { λ words. Some (place_words words.0) };
+
+    fn fmt<W: fmt::Write>(&self, f: &mut fmt::Formatter<W>) -> fmt::Result {
+        match self.0 {
+            Place::ParaLevel => f.write_str("paragraph level"),
+            Place::Levels(index) => write!(f, "levels at {index}"),
+            Place::Order(index) => write!(f, "order at {index}"),
+        }
+    }
+}
+
+/// Writes the line of a wrong case, with its LF. The error is the writer's; how much it took before is not known then.
+pub fn print_wrong_case<W: Write>(w: &mut W, case: &WrongCase) -> io::Result<()>
+    ensures { OnOk result (Appends (W.contents w.old) (W.contents w.new) (wrong_case_text case.now)) }
+{
+    let WrongCase {
+        line,
+        direction,
+        place,
+        claimed,
+        defined,
+    } = *case;
+    let word = word_of_direction(direction);
+    let place = PlaceWords(place);
+    writeln!(
+        w,
+        "line {line}: {word}: {place}: claimed {claimed}, defined {defined}"
+    )
+}
+
+/// Writes how many rows and cases there are, and how many of them are wrong.
+fn print_totals<W: Write>(w: &mut W, tally: &Tally) -> io::Result<()>
+    ensures { OnOk result (Appends (W.contents w.old) (W.contents w.new) (totals_text tally.now)) }
+{
+    let Tally {
+        rows,
+        cases,
+        wrong_rows,
+        wrong_cases,
+        ..
+    } = *tally;
+    writeln!(
+        w,
+        "{rows} rows, {wrong_rows} wrong; {cases} cases, {wrong_cases} wrong"
+    )
+}
+
+/// Writes how many wrong cases there are under each direction.
+fn print_directions<W: Write>(w: &mut W, tally: &Tally) -> io::Result<()>
+    ensures { OnOk result (Appends (W.contents w.old) (W.contents w.new) (directions_text tally.now)) }
+{
+    let by = tally.by_direction;
+    writeln!(
+        w,
+        "wrong by direction: auto {}, ltr {}, rtl {}, auto-rtl {}",
+        by.auto, by.ltr, by.rtl, by.auto_rtl
+    )
+}
+
+/// Writes how many wrong cases there are by what differs first.
+fn print_parts<W: Write>(w: &mut W, tally: &Tally) -> io::Result<()>
+    ensures { OnOk result (Appends (W.contents w.old) (W.contents w.new) (parts_text tally.now)) }
+{
+    let by = tally.by_part;
+    writeln!(
+        w,
+        "wrong by place: paragraph level {}, levels {}, order {}",
+        by.para_level, by.levels, by.order
+    )
+}
+
+/// Writes the verdict that a malformed line gives, if there is one.
+fn print_malformed<W: Write>(w: &mut W, malformed: Option<(u64, Cause)>) -> io::Result<()>
+    ensures { OnOk result (Appends (W.contents w.old) (W.contents w.new) (malformed_text malformed)) }
+{
+    match malformed {
+        None => Ok(()),
+        Some((line, cause)) => print_verdict(w, &Verdict::Malformed { line, cause }),
+    }
+}
+
+/// Writes what stands behind the wrong cases: the first malformed line, if there is one, and the counts. The error is
+/// the writer's; how much it took before is not known then.
+pub fn print_foot<W: Write>(
+    w: &mut W,
+    malformed: Option<(u64, Cause)>,
+    tally: &Tally,
+) -> io::Result<()>
+    ensures { OnOk result (Appends (W.contents w.old) (W.contents w.new) (foot_text malformed tally.now)) }
+{
+    print_malformed(w, malformed)?;
+    print_totals(w, tally)?;
+    print_directions(w, tally)?;
+    print_parts(w, tally)
+}

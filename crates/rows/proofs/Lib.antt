@@ -1,0 +1,13 @@
+pub mod Items
+pub mod Contents
+pub mod ReadNumbers
+pub mod FileOfLines
+pub mod LevelBounds
+pub mod OrderBounds
+pub mod ItemTexts
+pub mod LineTexts
+pub mod RowLines
+pub mod Judged
+pub mod JoinedTexts
+pub mod FilledText
+pub mod RowTextsOf

@@ -1,0 +1,3 @@
+pub mod RowTexts
+pub mod Exhaustive
+pub mod Judged

@@ -1,0 +1,96 @@
+//! All texts of some lengths over an alphabet.
+ghost use Rattle.std.specs.Prelude.{◌≡◌, IfOk};
+ghost use Rattle.std.specs.Result.{result_err};
+
+use std::marker::Model;
+use units::class::Class;
+
+/// The longest text of a row, in units: with it no line is longer than a judge takes.
+pub const LONGEST_ROW: usize = 4096;
+
+/// Why texts can't be enumerated.
+#[derive(Clone, Copy, Debug, PartialEq, Eq)]
+pub enum ExhaustiveFault {
+    /// The alphabet has no class.
+    NoClass,
+    /// The least length is 0, and a row has a class.
+    NoLength,
+    /// The greatest length is above `LONGEST_ROW`.
+    TooLong,
+    /// There are 2^64 texts of the greatest length, or more.
+    TooMany,
+}
+
+/// All texts over an alphabet from a least length up to a greatest, in units, the shorter ones first; those of one
+/// length in the order of the alphabet, the last place fastest. There are none where the least is above the greatest.
+#[derive(Drop)]
+pub struct Exhaustive<'a> {
+    alphabet: &'a [Class],
+    least: usize,
+    greatest: usize,
+}
+
+impl<'a> Model for Exhaustive<'a> {
+    ghost use Rattle.rows.specs.Exhaustive.{ExhaustiveOf, CanBeCounted};
+
+    ghost Value = { ExhaustiveOf };
+
+    ghost view = { λ e. record { alphabet = e.alphabet.now; least = e.least; greatest = e.greatest } };
+
+    ghost invariant = { λ e. CanBeCounted (record { alphabet = e.alphabet.now; least = e.least; greatest = e.greatest }) };
+}
+
+impl<'a> Exhaustive<'a> {
+    ghost use Rattle.rows.specs.Exhaustive.{CanBeCounted, ExhaustiveOf, refusal_of};
+
+    /// The texts of these lengths over this alphabet; a class that stands there twice is taken twice. Of the faults
+    /// that hold the first is named, in the order in which they are listed.
+    pub fn new(
+        alphabet: &'a [Class],
+        least: usize,
+        greatest: usize,
+    ) -> Result<Exhaustive<'a>, ExhaustiveFault>
+        ensures made { IfOk result (λ e. e ≡ record { alphabet = alphabet.now; least = least; greatest = greatest }) }
+        ensures refused { result_err result ≡ refusal_of (record { alphabet = alphabet.now; least = least; greatest = greatest }) }
+    {
+        if alphabet.is_empty() {
+            return Err(ExhaustiveFault::NoClass);
+        }
+        if least == 0 {
+            return Err(ExhaustiveFault::NoLength);
+        }
+        if greatest > LONGEST_ROW {
+            return Err(ExhaustiveFault::TooLong);
+        }
+        match alphabet.len().checked_pow(greatest as u32) {
+            Some(_) => Ok(Exhaustive {
+                alphabet,
+                least,
+                greatest,
+            }),
+            None => Err(ExhaustiveFault::TooMany),
+        }
+    }
+
+    /// The alphabet.
+    pub fn alphabet(&self) -> &[Class]
+        ensures { result.now ≡ self.now.alphabet }
+    {
+        self.alphabet
+    }
+
+    /// The least length, in units.
+    pub fn least(&self) -> usize
+        ensures { result ≡ self.now.least }
+    {
+        self.least
+    }
+
+    /// The greatest length, in units.
+    pub fn greatest(&self) -> usize
+        ensures value { result ≡ self.now.greatest }
+        ensures counted { CanBeCounted self.now }
+    {
+        self.greatest
+    }
+}
