@@ -7,11 +7,12 @@
  *  - A handle (bidi_tables, bidi_room, bidi_judge) is BIDI_NONE before its first call, and only these calls change it.
  *    Else: a call follows a pointer that is none.
  *  - A handle that holds something is not copied; pass its address. Else: what it holds is used after it was freed.
- *  - A handle that holds something is freed by its call, or given to a call that says that it takes it over.
- *    Else: its memory is lost, and nothing worse.
- *  - One call at a time uses a handle, a look-up too. Else: a call finds it empty, or half changed.
+ *    (bidi_tables_share makes another handle on the same tables.)
+ *  - A handle that holds something is freed by its call. Else: its memory is lost, and nothing worse.
+ *  - One call at a time uses a handle, a look-up too. Else: a call reads what another one writes. Threads that use the
+ *    same tables at once have a handle each on them, which bidi_tables_share makes.
  *  - Between calls a handle may move to another thread (that it may is proved, as `Send`), where what the first one
- *    did is known to it, as behind a lock, a start or a join. Else: as above.
+ *    did is known to it, as behind a lock, a start, a join or a sequentially consistent atomic. Else: as above.
  *  - Each pointer stands for as many items as its length says, also where that is 0: it is not null, and aligned for
  *    its type. Else: memory that is not the caller's is read or written. (A one-item array serves for length 0.)
  *  - What a call writes is used by no other argument of it. What it only reads may overlap. Else: what is written is
@@ -24,6 +25,8 @@
  */
 #ifndef BIDI_H
 #define BIDI_H
+/* The version of the product that this header belongs to. */
+#define BIDI_VERSION "1.0.0"
 #include <stdbool.h>
 #include <stddef.h>
 #include <stdint.h>
@@ -93,11 +96,18 @@ enum {
  * freed once they are made. */
 uint32_t bidi_tables_new(const uint8_t *classes, size_t classes_len, const uint8_t *brackets, size_t brackets_len,
                          const uint8_t *mirrors, size_t mirrors_len, bidi_tables *tables, bidi_fault *fault);
+/* Tables of the edition of Unicode that is built in. How many bytes its number has, as 15.0.0, which are written to
+ * `text` if they have place there, with no zero behind them. */
+uint32_t bidi_tables_standard(bidi_tables *tables);
+size_t bidi_edition(uint8_t *text, size_t place);
+/* `shared` holds the same tables as `tables` from now on, for another thread or for longer; what it held before is
+ * freed. The tables are freed with the last of the handles and judges that hold them. */
+uint32_t bidi_tables_share(bidi_tables *tables, bidi_tables *shared);
 void bidi_tables_free(bidi_tables *tables);
 /* The mirror image of a code point (L4), or itself where it has none. */
 uint32_t bidi_mirror(bidi_tables *tables, uint32_t code);
 
-/* Room for texts of up to n code points, 79 bytes for each. What `room` held before is freed once it is made. */
+/* Room for texts of up to n code points, 81 bytes for each. What `room` held before is freed once it is made. */
 uint32_t bidi_room_new(size_t n, bidi_room *room);
 void bidi_room_free(bidi_room *room);
 /* The n that the room was made for, 0 without a room. */
@@ -118,6 +128,10 @@ uint32_t bidi_lay_out_classes(bidi_room *room, const uint8_t *classes, size_t n,
                               const size_t *breaks, size_t break_count, uint64_t *place);
 uint32_t bidi_lay_out_classes_with(bidi_room *room, const uint8_t *classes, size_t n, uint32_t direction,
                                    const size_t *breaks, size_t break_count, bidi_limits limits, uint64_t *place);
+
+/* Breaks the text that was laid out last into lines anew (L1, L2): its levels before L1, its direction and its limits
+ * stay. For those who shape a text and know only then where its lines end. */
+uint32_t bidi_set_lines(bidi_room *room, const size_t *breaks, size_t break_count, uint64_t *place);
 
 /* Look-ups of what was laid out last. Each answers how many items there are, 0 where there is nothing of what is asked
  * for, and writes them only if all have place. */
@@ -147,7 +161,7 @@ size_t bidi_shown(bidi_room *room, bidi_tables *tables, const uint32_t *codes, s
 /* A judge of a BidiTest.txt. What `judge` held before is freed once it is made. */
 uint32_t bidi_judge_new_classes(bidi_judge *judge);
 uint32_t bidi_judge_new_classes_with(bidi_judge *judge, bidi_limits limits);
-/* A judge of a BidiCharacterTest.txt by tables, which it takes over: `tables` is BIDI_NONE then. */
+/* A judge of a BidiCharacterTest.txt by tables, which it shares: `tables` keeps them, and may be freed before it. */
 uint32_t bidi_judge_new_characters(bidi_tables *tables, bidi_judge *judge);
 uint32_t bidi_judge_new_characters_with(bidi_tables *tables, bidi_judge *judge, bidi_limits limits);
 void bidi_judge_free(bidi_judge *judge);
@@ -171,7 +185,7 @@ enum {
   BIDI_CAUSE_CLASS_ITEM = 5, BIDI_CAUSE_BIT_SET = 6, BIDI_CAUSE_NO_EXPECTATION = 7, BIDI_CAUSE_FIELD_COUNT = 8,
   BIDI_CAUSE_CODE_POINT = 9, BIDI_CAUSE_DIRECTION_FIELD = 10, BIDI_CAUSE_PARA_FIELD = 11, BIDI_CAUSE_EMPTY_ROW = 12
 };
-/* The judge and its tables are freed. */
+/* The judge is freed. */
 uint32_t bidi_judge_finish(bidi_judge *judge, bidi_verdict *verdict);
 
 /* The line that says a verdict, as the command prints it, with its LF and no zero behind it. It is written to `text` if

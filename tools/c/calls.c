@@ -134,6 +134,27 @@ static void lay_out_texts(bidi_room *room, bidi_tables *tables) {
          bidi_shown(room, tables, mixed, 11, 0, &one, 1));
 }
 
+static void set_lines(bidi_room *room, bidi_tables *tables, const size_t *breaks, size_t count) {
+  static const uint32_t text[] = { 0x5D0, ' ', 0x5D1, ' ', 'a' };
+  uint64_t place = 0;
+  uint32_t status = bidi_set_lines(room, breaks, count, &place);
+  printf("lines %u at %llu: ", status, (unsigned long long)place);
+  print_layout(room, tables, text, 5);
+}
+
+/* A text on one line, broken in two, refused breaks, and one line again. */
+static void break_anew(bidi_room *room, bidi_tables *tables) {
+  static const uint32_t text[] = { 0x5D0, ' ', 0x5D1, ' ', 'a' };
+  const size_t one[] = { 2 }, two[] = { 2, 4 }, out[] = { 2, 5 }, falling[] = { 3, 3 };
+  lay_out(room, tables, text, 5, BIDI_LTR, one, 0);
+  set_lines(room, tables, one, 1);
+  set_lines(room, tables, two, 2);
+  set_lines(room, tables, out, 2);
+  set_lines(room, tables, falling, 2);
+  lay_out(room, tables, (const uint32_t[]){ 'a', 0xD800 }, 2, BIDI_LTR, one, 0);
+  set_lines(room, tables, one, 0);
+}
+
 static void lay_out_classes(bidi_room *room, bidi_tables *tables) {
   const uint8_t classes[] = { 1, 14, 0, 18, 2, 3 }, faulty[] = { 0, 22, 23 };
   const size_t none[1] = { 0 };
@@ -203,7 +224,36 @@ static void judge_files(bidi_judge *held, bidi_tables *tables) {
   printf("of characters %u, tables %d, ", status, tables->made);
   judge(held, "0061 05D0;2;0;0 1;0 1\n05D0;0;0;1;1\n");
   status = bidi_judge_new_characters(tables, held);
+  bidi_tables_free(tables);
+  printf("tables freed %d, ", tables->made);
+  judge(held, "0061 05D0;2;0;0 1;0 1\n05D0;0;0;1;1\n");
+  status = bidi_judge_new_characters(tables, held);
   printf("without tables %u, held %d\n", status, held->made);
+}
+
+static void share_tables(bidi_tables *tables, bidi_room *room) {
+  bidi_tables shared = BIDI_NONE, none = BIDI_NONE;
+  uint32_t status = bidi_tables_share(tables, &shared);
+  bidi_tables_free(tables);
+  printf("shared %u, held %d %d, mirror %c of %c\n", status, tables->made, shared.made, bidi_mirror(tables, '('),
+         bidi_mirror(&shared, '('));
+  status = bidi_tables_share(&shared, tables);
+  uint32_t without = bidi_tables_share(&none, &shared), of_a_room = bidi_tables_share((bidi_tables *)room, &shared);
+  printf("shared back %u, without tables %u, of a room %u, mirror %c of %c\n", status, without, of_a_room,
+         bidi_mirror(tables, '('), bidi_mirror(&shared, '('));
+  bidi_tables_free(&shared);
+}
+
+static void use_standard_tables(bidi_room *room) {
+  const uint32_t text[] = { 'a', ' ', 0x5D0, '(', 0x661, ')', '!' };
+  const size_t none[1] = { 0 };
+  bidi_tables tables = BIDI_NONE;
+  uint8_t edition[16] = { 0 };
+  uint32_t status = bidi_tables_standard(&tables);
+  size_t n = bidi_edition(edition, sizeof edition);
+  printf("tables of Unicode %s: %u, bytes %zu, with no place %zu: ", (char *)edition, status, n, bidi_edition(edition, 0));
+  lay_out(room, &tables, text, 7, BIDI_AUTO, none, 0);
+  bidi_tables_free(&tables);
 }
 
 int main(int argc, char **argv) {
@@ -214,6 +264,7 @@ int main(int argc, char **argv) {
   const uint32_t text[1] = { 'a' };
   const size_t none[1] = { 0 };
   lay_out(&room, &tables, text, 1, BIDI_AUTO, none, 0);
+  set_lines(&room, &tables, none, 0);
   print_room(&room, 64);
   lay_out(&room, &tables, text, 1, BIDI_AUTO, none, 0);
   refuse_files(&tables);
@@ -222,12 +273,15 @@ int main(int argc, char **argv) {
   printf("mirrors %c %c %c, of no character %X\n", bidi_mirror(&tables, '('), bidi_mirror(&tables, '['),
          bidi_mirror(&tables, 'a'), bidi_mirror(&tables, 0xD800));
   lay_out_texts(&room, &tables);
+  break_anew(&room, &tables);
   lay_out_classes(&room, &tables);
   lay_out_by_limits(&room, &tables);
   judge_files(&held, &tables);
   status = read_tables(argc > 1 ? argv[1] : "ucd", &tables, &fault);
   print_fault("tables", status, &fault, &tables);
   judge_by_limits(&held, &tables);
+  share_tables(&tables, &room);
+  use_standard_tables(&room);
   print_texts();
   print_room(&room, 1000);
   print_room(&room, 16777217);

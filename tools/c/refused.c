@@ -44,6 +44,10 @@ int main(int argc, char **argv) {
   printf("judge: %ld refused\n", IN_TURN(bidi_judge_new_classes(&judge), !judge.made));
   printf("judge by tables: %ld refused\n",
          IN_TURN(bidi_judge_new_characters(&tables, &judge), judge.made && tables.made));
+  bidi_tables shared = BIDI_NONE, standard = BIDI_NONE;
+  printf("shared: %ld refused\n", IN_TURN(bidi_tables_share(&tables, &shared), tables.made && !shared.made));
+  printf("standard: %ld refused\n", IN_TURN(bidi_tables_standard(&standard), !standard.made));
+  bidi_tables_free(&shared); bidi_tables_free(&standard);
   asked = 0; refused_at = 1;
   bidi_verdict verdict;
   status = bidi_judge_feed(&judge, (const uint8_t *)"0061;2;0;0;0\n", 13);

@@ -1,10 +1,10 @@
 #!/bin/bash
-# Builds the library that C links and the programs of this folder, and runs them: the demo, every call and each refused
-# allocation against their stored output, a C++ program, and a program built as tools/c/install.sh installs the library;
-# then again under -fsanitize=address,undefined and under valgrind. Where the package unicode-data is installed it lays
-# out and judges the official files too. Where the command is built (`rt run -- --help` in crates/bidi), the lines that
-# say verdicts are compared with what it prints. It says what it leaves out because something isn't installed or built,
-# without gcc all.
+# Builds the library that C links and the programs of this folder, and runs them: the demo, every call, each refused
+# allocation and threads that share tables against their stored output, a C++ program, and a program built as
+# tools/c/install.sh installs the library; then again under -fsanitize=address,undefined and under valgrind, and the
+# threads under -fsanitize=thread. Where the package unicode-data is installed it lays out and judges the official files
+# too. Where the command is built (`rt run -- --help` in crates/bidi), the lines that say verdicts are compared with what
+# it prints. It says what it leaves out because something isn't installed or built, without gcc all.
 #
 # usage: tools/c/run.sh [FOLDER]      (FOLDER, with the files of the Unicode database: /usr/share/unicode)
 #
@@ -67,12 +67,14 @@ all() {
     expect "$label demo" "$here/demo.out" "$@" "$work/demo" "$here/ucd" 20 < "$here/demo.txt"
     expect "$label calls" "$here/calls.out" "$@" "$work/calls" "$here/ucd"
     expect "$label refused" "$here/refused.out" "$@" "$work/refused" "$here/ucd"
+    expect "$label threads" "$here/threads.out" "$@" "$work/threads" "$here/ucd"
 }
 
 build_all() {
     build demo "$@"
     build calls "$@"
     build refused -Wl,--wrap=malloc,--wrap=realloc "$@"
+    build threads -pthread "$@"
 }
 
 # same_line KIND FILE: of this test file the library and the command say the same verdict.
@@ -115,7 +117,8 @@ if command -v pkg-config > /dev/null; then
     gcc -O2 -o "$work/installed_demo" "$here/demo.c" \
         $(PKG_CONFIG_PATH=$work/installed/lib/pkgconfig pkg-config --cflags --libs bidi_c) 2> "$work/errors" ||
         fails "gcc installed"
-    expect "installed demo" "$here/demo.out" "$work/installed_demo" "$here/ucd" 20 < "$here/demo.txt"
+    LD_LIBRARY_PATH=$work/installed/lib expect "installed demo" "$here/demo.out" "$work/installed_demo" "$here/ucd" 20 \
+        < "$here/demo.txt"
 else
     echo "no pkg-config: no program is built over the installed library"
 fi
@@ -131,6 +134,12 @@ if echo 'int main(void) { return 0; }' | gcc -fsanitize=address,undefined -x c -
     all sanitized
 else
     echo "no sanitizers: nothing is run under them"
+fi
+if echo 'int main(void) { return 0; }' | gcc -fsanitize=thread -x c -o "$work/sanitized" - 2> /dev/null; then
+    build threads -pthread -g -fsanitize=thread
+    expect "threads, sanitized" "$here/threads.out" "$work/threads" "$here/ucd"
+else
+    echo "no sanitizer of threads: the program with threads is not run under it"
 fi
 mkdir "$work/published"
 for name in DerivedBidiClass BidiBrackets BidiMirroring BidiTest BidiCharacterTest; do

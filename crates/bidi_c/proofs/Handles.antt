@@ -6,12 +6,15 @@ use mir.Raw.{raw as bare}
 use mir.Syntax.{Dict, impl, tnil, tcons, dnil}
 use mir.Val.{Val, vptr, vnull, vstruct, vcons, vnil, of_list, has_ty}
 use base.Logic.{never, fst∗}
+use base.Fml.{Lft, GName, Share, fsep, flft, fobs, fauth, fbor, fobor}
+use base.Fraction.{full_share}
 use types.Logic.{Logic, sem}
-use types.Kit.{Item, Goal, Seq, Step, step, ‵, ◌$◌, move, drop, fsplit, fjoin, fpick, fpack, rewrite, feq_i, feq_l}
+use types.SemTy.{Body as Borrowed}
+use types.Kit.{Item, Goal, Soaks, Seq, Step, step, ‵, ◌$◌, move, drop, fsplit, fjoin, fpick, fpack, rewrite, feq_i, feq_l}
 use denote.RattleType.{RattleType, Valss}
-use denote.Memory.{lone}
+use denote.Memory.{lone, mem, cell_at, part_at}
 use denote.RawPtr.{Ptr, block_ptr, null_ptr, ptr_val, in_a_block}
-use denote.Steps.{nothing}
+use denote.Steps.{nothing, opens}
 use denote.Exit.{no}
 use denote.Param.{layout, arg}
 use denote.Param.Laws.{Laws, arg_laws}
@@ -100,3 +103,13 @@ module _ {M : Type 1} {𝓤 : Ura M} {𝓛 : Logic 𝓤} {K : Type 0} {Γ : List
   handle_none t h a = step (λ s. let v : Val = both vnull h in
       nothing t $ nothing t $ move t (2 ∷ 0 ∷ []) $ fjoin t $ feq_i t (List Val) (vnull ∷ []) (vnull ∷ []) refl $ fjoin t $ feq_i t (List Val) (v ∷ []) (v ∷ []) refl $ fjoin t $
       fpack t (Valss (fields outer.the_type)) (within (shape outer.the_type) (to outer.the_type (record { at = null_ptr; alloc = a; value = None })) (v ∷ [])) (vnull ∷ [], (h ∷ [], tt)) $ fjoin t $ s)
+
+module _ {M : Type 1} {𝓤 : Ura M} {𝓛 : Logic 𝓤} {K : Type 0} {Γ : List (Item 𝓤)} {G : Goal 𝓤 𝓛.H} where
+  -- what is held; the token with the allocator; the handle's words; the open borrow; what is seen of it, twice
+  pub handle_opens : K → Soaks G → {κ : Lft} {q : Share} {γ : GName} (d : Hd.Denot) (x : R.Denot) → d.value ≡ Some x → (rb ro : ℕ)
+      → ((b o : ℕ) (h : Val) → d.at ≡ block_ptr b o → Seq K 𝓛 (‵ (part_at R full_share x b o) ∷ ‵ (fsep (ghosts.dealloc_token d.alloc (bare (lone R.mir)) (block_ptr b o)) (Z.own_val d.alloc (h ∷ [])))
+      ∷ ‵ (cell_at full_share Hd.mir (both (vptr b o) h ∷ []) rb ro) ∷ ‵ (fobor κ q (Borrowed (mem Hd) rb ro γ)) ∷ ‵ (fobs γ (Hd.coded.code d)) ∷ ‵ (fauth γ (Hd.coded.code d)) ∷ Γ) G)
+      → Seq K 𝓛 (‵ (fobs γ (Hd.coded.code d)) ∷ ‵ (fbor κ (Borrowed (mem Hd) rb ro γ)) ∷ ‵ (flft κ q) ∷ Γ) G
+  handle_opens t z d x is rb ro k =
+      opens t z Hd {h = d} rb ro (λ vs. move t (1 ∷ []) $ handle_out t d x is vs (λ b o h at_b ws fits. fsplit t $ move t (1 ∷ 2 ∷ []) $ fjoin t $ move t (1 ∷ []) $
+      rewrite t 2 (λ (us : List Val). ‵ (cell_at full_share Hd.mir us rb ro)) ws refl $ k b o h at_b))

@@ -1,3 +1,4 @@
--- What handles own and hold.
+-- What handles own, lend and hold.
 pub mod Kept
+pub mod Lent
 pub mod HeldAt

@@ -1,10 +1,13 @@
 // A handle as C keeps it.
-ghost use Rattle.std.specs.Prelude.{◌≡◌, ◌≢◌, ◌↔◌, IsSome, Some, None, true, MatchOption};
+ghost use Rattle.std.specs.Prelude.{◌≡◌, ◌↔◌, IsSome, Some, None, true, MatchOption};
+ghost use Rattle.std.specs.Borrow.{sem};
+ghost use Rattle.bidi_held.specs.Statuses.{Puts};
+ghost use Rattle.bidi_held.specs.declared.refusal.Refusal.TheVariants.{Memory};
 
 use crate::handle::Handle;
 use bidi_held::held::Held;
+use bidi_held::refusal::Refusal;
 use std::alloc::Global;
-use std::mem::replace;
 
 /// What C keeps: all zero, or what a call has put into it.
 #[repr(C)]
@@ -15,6 +18,8 @@ pub struct BidiHandle {
 }
 
 impl BidiHandle {
+    ghost use Rattle.bidi_c.specs.Lent.{LendsHeldIf};
+
     fn none(alloc: Global) -> BidiHandle
         ensures { result.handle.value ≡ None }
     {
@@ -33,50 +38,48 @@ impl BidiHandle {
         }
     }
 
-    /// What it holds, taken out of it.
-    pub(crate) fn take(&mut self, alloc: Global) -> Option<Box<Held>>
-        ensures held { MatchOption result (self.old.handle.value ≡ None)
-            (λ held. self.old.handle.value ≡ Some held.value) }
-        ensures empty { self.new.handle.value ≡ None }
+    /// What it holds, if it holds something.
+    pub(crate) fn held(&mut self) -> Option<&mut Held>
+        ensures* writes_back { sem 𝓛 (LendsHeldIf self.entry result) }
+        ensures value { MatchOption result (self.old.handle.value ≡ None)
+            (λ held. self.old.handle.value ≡ Some held.now) }
     {
-        if !self.made {
-            return None;
+        if self.made {
+            Some(self.handle.held())
+        } else {
+            None
         }
-        let BidiHandle { handle, made: _ } = replace(self, BidiHandle::none(alloc));
-        Some(handle.into_box())
-    }
-
-    /// Puts something into an empty handle.
-    pub(crate) fn put(&mut self, held: Box<Held>)
-        requires { self.old.handle.value ≡ None }
-        ensures { self.new.handle.value ≡ Some held.value }
-    {
-        let BidiHandle { handle, made: _ } = replace(self, BidiHandle::of(held));
-        handle.end();
     }
 
     /// Frees what it holds.
     pub(crate) fn empty(&mut self, alloc: Global)
         ensures { self.new.handle.value ≡ None }
     {
-        if let Some(held) = self.take(alloc) {
-            drop(held);
-        }
+        *self = BidiHandle::none(alloc);
     }
 
-    /// Holds this from now on; what it held before is freed. It answers whether there was memory for it; where there
-    /// was none, it holds what it held.
-    pub(crate) fn hold(&mut self, alloc: Global, held: Held) -> bool
-        ensures held { result ≡ true → self.new.handle.value ≡ Some held }
-        ensures kept { result ≢ true → self.new.handle.value ≡ self.old.handle.value }
+    /// Holds this from now on; what it held before is freed. Where there is no memory for it, it holds what it held.
+    pub(crate) fn hold(&mut self, alloc: Global, held: Held) -> Result<(), Refusal>
+        ensures { Puts (λ new. new ≡ Some held) (λ refusal. refusal ≡ Memory) self.old.handle.value
+            self.new.handle.value result }
     {
         match Box::new(alloc, held) {
             Ok(held) => {
-                self.empty(alloc);
-                self.put(held);
-                true
+                *self = BidiHandle::of(held);
+                Ok(())
             }
-            Err(_) => false,
+            Err(_) => Err(Refusal::Memory),
+        }
+    }
+}
+
+impl Drop for BidiHandle {
+    fn drop(self) {
+        let BidiHandle { handle, made } = self;
+        if made {
+            drop(handle.into_box());
+        } else {
+            handle.end();
         }
     }
 }

@@ -1,5 +1,6 @@
 // What a handle holds as its pointer, in a form that C can keep.
 ghost use Rattle.std.specs.Prelude.{◌≡◌, Option, IsSome, Some, None};
+ghost use Rattle.std.specs.Borrow.{sem};
 ghost use Rattle.bidi_held.specs.declared.held.Held.{Held as HeldOf};
 
 use bidi_held::held::Held;
@@ -23,6 +24,8 @@ impl Model for Handle {
 }
 
 impl Handle {
+    ghost use Rattle.bidi_c.specs.Lent.{LendsHeld};
+
     pub(crate) fn empty(alloc: Global) -> Handle
         ensures { result.value ≡ None }
     {
@@ -56,6 +59,15 @@ impl Handle {
         requires { self.value ≡ None }
     {
         let Handle { at: _, alloc: _ } = self;
+    }
+
+    /// What the handle owns.
+    pub(crate) fn held(&mut self) -> &mut Held
+        requires { IsSome self.old.value }
+        ensures* writes_back { sem 𝓛 (LendsHeld self.entry result) }
+        ensures value { self.old.value ≡ Some result.now }
+    {
+        unsafe { &mut *(self.at as *mut Held) }
     }
 }
 

@@ -1,14 +1,13 @@
 // Test files judged.
 ghost use Rattle.std.specs.Prelude.{◌≡◌, None, IsSome};
 ghost use Rattle.units.specs.Limits.{standard};
-ghost use Rattle.bidi_held.specs.JudgeCalls.{judge_in, IsFedOn, MakesJudge, MakesTableJudge, OfItsVerdict, verdict_told};
+ghost use Rattle.bidi_held.specs.JudgeCalls.{judge_in, HandleTakesPiece, MakesJudge, MakesTableJudge, OfItsVerdict, verdict_told};
 ghost use Rattle.bidi_held.specs.LimitsGiven.{ByLimits};
 ghost use Rattle.bidi_held.specs.Statuses.{Answers};
 ghost use Rattle.bidi_c.specs.HeldAt.{held_at};
 
 use crate::bidi_handle::BidiHandle;
-use bidi_held::held::Held;
-use bidi_held::judging::{feed_held, finish_held, make_into_judge, new_judge};
+use bidi_held::judging::{class_judge, feed_held, finish_held, table_judge};
 use bidi_held::limits::BidiLimits;
 use bidi_held::refusal::{DONE, Refusal, status};
 use bidi_held::told_verdict::{BidiVerdict, told};
@@ -18,12 +17,8 @@ use units::limits::Limits;
 fn make_classes_judge(alloc: Global, judge: &mut BidiHandle, limits: Limits) -> Result<(), Refusal>
     ensures { MakesJudge limits (held_at judge.old) (held_at judge.new) result }
 {
-    let made = new_judge(alloc, limits)?;
-    if judge.hold(alloc, Held::Judge(made)) {
-        Ok(())
-    } else {
-        Err(Refusal::Memory)
-    }
+    let made = class_judge(alloc, limits)?;
+    judge.hold(alloc, made)
 }
 
 /// Makes a judge of a BidiTest.txt by the standard limits, before its first byte. What the handle held before is freed
@@ -67,36 +62,29 @@ fn make_characters_judge(
     judge: &mut BidiHandle,
     limits: Limits,
 ) -> Result<(), Refusal>
-    ensures { MakesTableJudge limits (held_at tables.old) (held_at tables.new) (held_at judge.old)
+    ensures tables { held_at tables.new ≡ held_at tables.old }
+    ensures judge { MakesTableJudge limits (held_at tables.old) (held_at judge.old)
         (held_at judge.new) result }
 {
-    let Some(mut held) = tables.take(alloc) else {
+    let Some(by) = tables.held() else {
         return Err(Refusal::NoTables);
     };
-    let Ok(made) = new_judge(alloc, limits) else {
-        tables.put(held);
-        return Err(Refusal::Memory);
-    };
-    if !make_into_judge(&mut held, made) {
-        tables.put(held);
-        return Err(Refusal::NoTables);
-    }
-    judge.empty(alloc);
-    judge.put(held);
-    Ok(())
+    let made = table_judge(alloc, by, limits)?;
+    judge.hold(alloc, made)
 }
 
-/// Makes a judge of a BidiCharacterTest.txt by the standard limits, before its first byte, that takes over the tables:
-/// their handle is all zero then. What the judge's handle held before is freed once the judge is made; where it is
-/// refused, both handles hold what they held.
+/// Makes a judge of a BidiCharacterTest.txt by the standard limits, before its first byte, that shares the tables:
+/// their handle keeps them, and may be freed before the judge. What the judge's handle held before is freed once the
+/// judge is made; where it is refused, that handle holds what it held.
 #[unsafe(no_mangle)]
 pub extern "C" fn bidi_judge_new_characters(
     alloc: Global,
     tables: &mut BidiHandle,
     judge: &mut BidiHandle,
 ) -> u32
-    ensures { Answers (MakesTableJudge standard (held_at tables.old) (held_at tables.new)
-        (held_at judge.old) (held_at judge.new)) result }
+    ensures tables { held_at tables.new ≡ held_at tables.old }
+    ensures judge { Answers (MakesTableJudge standard (held_at tables.old) (held_at judge.old)
+        (held_at judge.new)) result }
 {
     status(make_characters_judge(alloc, tables, judge, Limits::standard()))
 }
@@ -107,10 +95,9 @@ fn make_characters_judge_with(
     judge: &mut BidiHandle,
     limits: BidiLimits,
 ) -> Result<(), Refusal>
-    ensures { ByLimits limits
-        ((held_at tables.new ≡ held_at tables.old) × (held_at judge.new ≡ held_at judge.old))
-        (λ limits. MakesTableJudge limits (held_at tables.old) (held_at tables.new)
-        (held_at judge.old) (held_at judge.new)) result }
+    ensures tables { held_at tables.new ≡ held_at tables.old }
+    ensures judge { ByLimits limits (held_at judge.new ≡ held_at judge.old) (λ limits.
+        MakesTableJudge limits (held_at tables.old) (held_at judge.old) (held_at judge.new)) result }
 {
     let allowed = limits.allowed()?;
     make_characters_judge(alloc, tables, judge, allowed)
@@ -125,15 +112,14 @@ pub extern "C" fn bidi_judge_new_characters_with(
     judge: &mut BidiHandle,
     limits: BidiLimits,
 ) -> u32
-    ensures { Answers (ByLimits limits
-        ((held_at tables.new ≡ held_at tables.old) × (held_at judge.new ≡ held_at judge.old))
-        (λ limits. MakesTableJudge limits (held_at tables.old) (held_at tables.new)
-        (held_at judge.old) (held_at judge.new))) result }
+    ensures tables { held_at tables.new ≡ held_at tables.old }
+    ensures judge { Answers (ByLimits limits (held_at judge.new ≡ held_at judge.old) (λ limits.
+        MakesTableJudge limits (held_at tables.old) (held_at judge.old) (held_at judge.new))) result }
 {
     status(make_characters_judge_with(alloc, tables, judge, limits))
 }
 
-/// Frees a judge and its tables. The handle is all zero then, as it may be before.
+/// Frees a judge, and its tables where nothing else holds them. The handle is all zero then, as it may be before.
 #[unsafe(no_mangle)]
 pub extern "C" fn bidi_judge_free(alloc: Global, judge: &mut BidiHandle)
     ensures { held_at judge.new ≡ None }
@@ -143,21 +129,20 @@ pub extern "C" fn bidi_judge_free(alloc: Global, judge: &mut BidiHandle)
 
 /// Hands over the next bytes of the file, as many or as few as there are. It takes no memory.
 #[unsafe(no_mangle)]
-pub extern "C" fn bidi_judge_feed(alloc: Global, judge: &mut BidiHandle, piece: &[u8]) -> u32
-    ensures fed { IsFedOn (held_at judge.old) (held_at judge.new) piece.now }
+pub extern "C" fn bidi_judge_feed(judge: &mut BidiHandle, piece: &[u8]) -> u32
+    ensures fed { HandleTakesPiece (held_at judge.old) (held_at judge.new) piece.now }
     ensures done { IsSome (judge_in (held_at judge.old)) → result ≡ 0 }
     ensures refused { judge_in (held_at judge.old) ≡ None
         → (result ≡ 16) × (held_at judge.new ≡ held_at judge.old) }
 {
-    let Some(mut held) = judge.take(alloc) else {
-        return Refusal::NoJudge.code();
-    };
-    let done = feed_held(&mut held, piece);
-    judge.put(held);
-    done
+    match judge.held() {
+        Some(held) => feed_held(held, piece),
+        None => Refusal::NoJudge.code(),
+    }
 }
 
-/// The verdict on all bytes that were handed over, as the whole file. The judge and its tables are freed.
+/// The verdict on all bytes that were handed over, as the whole file. The judge is freed, and its tables where nothing
+/// else holds them.
 #[unsafe(no_mangle)]
 pub extern "C" fn bidi_judge_finish(
     alloc: Global,
@@ -169,17 +154,13 @@ pub extern "C" fn bidi_judge_finish(
     ensures refused { judge_in (held_at judge.old) ≡ None
         → (result ≡ 16) × (verdict.new ≡ verdict.old) × (held_at judge.new ≡ held_at judge.old) }
 {
-    let Some(mut held) = judge.take(alloc) else {
+    let Some(held) = judge.held() else {
         return Refusal::NoJudge.code();
     };
-    match finish_held(&mut held) {
-        Some(found) => {
-            *verdict = told(found);
-            DONE
-        }
-        None => {
-            judge.put(held);
-            Refusal::NoJudge.code()
-        }
-    }
+    let Some(found) = finish_held(held) else {
+        return Refusal::NoJudge.code();
+    };
+    *verdict = told(found);
+    judge.empty(alloc);
+    DONE
 }

@@ -1,20 +1,18 @@
 // Texts laid out.
 ghost use Rattle.std.specs.Prelude.{◌≡◌};
 ghost use Rattle.units.specs.Limits.{standard};
-ghost use Rattle.bidi_held.specs.LaidOut.{LaysOutClasses, LaysOutCodes};
+ghost use Rattle.bidi_held.specs.LaidOut.{LaysOutClasses, LaysOutCodes, SetsLines};
 ghost use Rattle.bidi_held.specs.LimitsGiven.{ByLimits};
 ghost use Rattle.bidi_held.specs.Statuses.{AnswersNaming, place_named};
 ghost use Rattle.bidi_c.specs.HeldAt.{held_at};
 
 use crate::bidi_handle::BidiHandle;
-use bidi_held::layouts::{lay_out_classes_held, lay_out_held};
+use bidi_held::layouts::{lay_out_classes_held, lay_out_held, set_lines_held};
 use bidi_held::limits::BidiLimits;
 use bidi_held::refusal::{Refusal, answer};
-use std::alloc::Global;
 use units::limits::Limits;
 
 fn lay_out(
-    alloc: Global,
     room: &mut BidiHandle,
     tables: &mut BidiHandle,
     codes: &[u32],
@@ -26,17 +24,13 @@ fn lay_out(
     ensures room { LaysOutCodes limits (held_at tables.old) codes.now direction breaks.now
         (held_at room.old) (held_at room.new) result }
 {
-    let Some(mut held) = room.take(alloc) else {
+    let Some(held) = room.held() else {
         return Err(Refusal::NoRoom);
     };
-    let Some(by) = tables.take(alloc) else {
-        room.put(held);
+    let Some(by) = tables.held() else {
         return Err(Refusal::NoTables);
     };
-    let done = lay_out_held(&mut held, &by, codes, direction, breaks, limits);
-    tables.put(by);
-    room.put(held);
-    done
+    lay_out_held(held, by, codes, direction, breaks, limits)
 }
 
 /// Lays out a text of code points in the room, by the tables and the standard limits, under the direction with this
@@ -44,7 +38,6 @@ fn lay_out(
 /// held, and `place` names the place.
 #[unsafe(no_mangle)]
 pub extern "C" fn bidi_lay_out(
-    alloc: Global,
     room: &mut BidiHandle,
     tables: &mut BidiHandle,
     codes: &[u32],
@@ -57,12 +50,11 @@ pub extern "C" fn bidi_lay_out(
         direction breaks.now (held_at room.old) (held_at room.new)) result place.old place.new }
 {
     let limits = Limits::standard();
-    let done = lay_out(alloc, room, tables, codes, direction, breaks, limits);
+    let done = lay_out(room, tables, codes, direction, breaks, limits);
     answer(done, place)
 }
 
 fn lay_out_with(
-    alloc: Global,
     room: &mut BidiHandle,
     tables: &mut BidiHandle,
     codes: &[u32],
@@ -76,14 +68,13 @@ fn lay_out_with(
         (held_at room.old) (held_at room.new)) result }
 {
     let allowed = limits.allowed()?;
-    lay_out(alloc, room, tables, codes, direction, breaks, allowed)
+    lay_out(room, tables, codes, direction, breaks, allowed)
 }
 
 /// Lays out a text of code points as `bidi_lay_out` does, by these limits in place of the standard ones: how deep
 /// explicit levels go (BD2), and how many brackets can be open at once (BD16).
 #[unsafe(no_mangle)]
 pub extern "C" fn bidi_lay_out_with(
-    alloc: Global,
     room: &mut BidiHandle,
     tables: &mut BidiHandle,
     codes: &[u32],
@@ -97,12 +88,11 @@ pub extern "C" fn bidi_lay_out_with(
         (λ limits. LaysOutCodes limits (held_at tables.old) codes.now direction breaks.now
         (held_at room.old) (held_at room.new))) result place.old place.new }
 {
-    let done = lay_out_with(alloc, room, tables, codes, direction, breaks, limits);
+    let done = lay_out_with(room, tables, codes, direction, breaks, limits);
     answer(done, place)
 }
 
 fn lay_out_classes(
-    alloc: Global,
     room: &mut BidiHandle,
     numbers: &[u8],
     direction: u32,
@@ -112,19 +102,16 @@ fn lay_out_classes(
     ensures { LaysOutClasses limits numbers.now direction breaks.now (held_at room.old)
         (held_at room.new) result }
 {
-    let Some(mut held) = room.take(alloc) else {
-        return Err(Refusal::NoRoom);
-    };
-    let done = lay_out_classes_held(&mut held, numbers, direction, breaks, limits);
-    room.put(held);
-    done
+    match room.held() {
+        Some(held) => lay_out_classes_held(held, numbers, direction, breaks, limits),
+        None => Err(Refusal::NoRoom),
+    }
 }
 
 /// Lays out a text of classes, by their numbers, in the room, as `bidi_lay_out` does one of code points. It has no
 /// brackets.
 #[unsafe(no_mangle)]
 pub extern "C" fn bidi_lay_out_classes(
-    alloc: Global,
     room: &mut BidiHandle,
     numbers: &[u8],
     direction: u32,
@@ -135,12 +122,11 @@ pub extern "C" fn bidi_lay_out_classes(
         (held_at room.old) (held_at room.new)) result place.old place.new }
 {
     let limits = Limits::standard();
-    let done = lay_out_classes(alloc, room, numbers, direction, breaks, limits);
+    let done = lay_out_classes(room, numbers, direction, breaks, limits);
     answer(done, place)
 }
 
 fn lay_out_classes_with(
-    alloc: Global,
     room: &mut BidiHandle,
     numbers: &[u8],
     direction: u32,
@@ -151,13 +137,12 @@ fn lay_out_classes_with(
         limits numbers.now direction breaks.now (held_at room.old) (held_at room.new)) result }
 {
     let allowed = limits.allowed()?;
-    lay_out_classes(alloc, room, numbers, direction, breaks, allowed)
+    lay_out_classes(room, numbers, direction, breaks, allowed)
 }
 
 /// Lays out a text of classes as `bidi_lay_out_classes` does, by these limits in place of the standard ones.
 #[unsafe(no_mangle)]
 pub extern "C" fn bidi_lay_out_classes_with(
-    alloc: Global,
     room: &mut BidiHandle,
     numbers: &[u8],
     direction: u32,
@@ -169,6 +154,25 @@ pub extern "C" fn bidi_lay_out_classes_with(
         (λ limits. LaysOutClasses limits numbers.now direction breaks.now
         (held_at room.old) (held_at room.new))) result place.old place.new }
 {
-    let done = lay_out_classes_with(alloc, room, numbers, direction, breaks, limits);
+    let done = lay_out_classes_with(room, numbers, direction, breaks, limits);
     answer(done, place)
+}
+
+fn set_lines(room: &mut BidiHandle, breaks: &[usize]) -> Result<(), Refusal>
+    ensures { SetsLines breaks.now (held_at room.old) (held_at room.new) result }
+{
+    match room.held() {
+        Some(held) => set_lines_held(held, breaks),
+        None => Err(Refusal::NoRoom),
+    }
+}
+
+/// Breaks the text that the room holds into lines anew (L1, L2): its levels before L1, its direction and its limits
+/// stay. Where the breaks are refused, the room is what it was, and `place` names the break.
+#[unsafe(no_mangle)]
+pub extern "C" fn bidi_set_lines(room: &mut BidiHandle, breaks: &[usize], place: &mut u64) -> u32
+    ensures { AnswersNaming place_named (SetsLines breaks.now (held_at room.old) (held_at room.new))
+        result place.old place.new }
+{
+    answer(set_lines(room, breaks), place)
 }

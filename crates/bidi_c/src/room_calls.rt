@@ -15,11 +15,7 @@ fn make_room(alloc: Global, n: usize, room: &mut BidiHandle) -> Result<(), Refus
     ensures { Puts (IsNewRoom n) (RefusesRoom n) (held_at room.old) (held_at room.new) result }
 {
     let made = Room::with_room(alloc, n).map_err(of_room)?;
-    if room.hold(alloc, Held::Room(made)) {
-        Ok(())
-    } else {
-        Err(Refusal::Memory)
-    }
+    room.hold(alloc, Held::Room(made))
 }
 
 /// Makes room for texts of up to `n` code points, at most 16,777,216, with the layout of an empty text. What the handle
@@ -42,14 +38,12 @@ pub extern "C" fn bidi_room_free(alloc: Global, room: &mut BidiHandle)
 
 /// The length of the longest text that there is room for, 0 without a room.
 #[unsafe(no_mangle)]
-pub extern "C" fn bidi_room_size(alloc: Global, room: &mut BidiHandle) -> usize
+pub extern "C" fn bidi_room_size(room: &mut BidiHandle) -> usize
     ensures room { held_at room.new ≡ held_at room.old }
     ensures size { result ≡ unwrap_or (capacity_at room.old) 0 }
 {
-    let Some(held) = room.take(alloc) else {
+    let Some(held) = room.held() else {
         return 0;
     };
-    let size = held.capacity().unwrap_or(0);
-    room.put(held);
-    size
+    held.capacity().unwrap_or(0)
 }

@@ -1,6 +1,6 @@
 // The lines that say verdicts.
 ghost use Rattle.bidi_held.specs.Statuses.{Answers};
-ghost use Rattle.bidi_held.specs.VerdictLines.{SaysVerdict};
+ghost use Rattle.bidi_held.specs.VerdictLines.{PutsVerdictLine};
 
 use bidi_held::refusal::status;
 use bidi_held::told_verdict::BidiVerdict;
@@ -16,7 +16,7 @@ pub extern "C" fn bidi_verdict_text(
     text: &mut [u8],
     line_length: &mut usize,
 ) -> u32
-    ensures { Answers (SaysVerdict verdict.now text.old text.new line_length.old line_length.new)
+    ensures { Answers (PutsVerdictLine verdict.now text.old text.new line_length.old line_length.new)
         result }
 {
     status(write_verdict_line(alloc, verdict, text, line_length))

@@ -1,75 +1,54 @@
 // A line from left to right, copied out.
 ghost use Rattle.std.specs.Prelude.{◌≡◌, IfOk, IfErr};
 ghost use Rattle.bidi_held.specs.Statuses.{Answers, Puts};
-ghost use Rattle.bidi_held.specs.Visual.{IsRun, RefusesRun, WritesPlaces, WritesShown, shown_held};
+ghost use Rattle.bidi_held.specs.Visual.{IsVisualRun, RefusesRun, WritesPlaces, WritesShown, shown_held};
 ghost use Rattle.bidi_c.specs.HeldAt.{held_at, layout_at, line_of_room};
 
 use crate::bidi_handle::BidiHandle;
 use bidi_held::refusal::{Refusal, status};
 use bidi_held::visual_lines::{BidiRun, run_of, show, write_places_of};
-use std::alloc::Global;
 
 /// How many positions the line with the number `k` has, 0 where there is no such line. The place of each in the order
 /// of the line is written to `places`, if all fit there: `SIZE_MAX` where a position was removed (X9). The
 /// first stands for the position at which the line begins.
 #[unsafe(no_mangle)]
-pub extern "C" fn bidi_places(
-    alloc: Global,
-    room: &mut BidiHandle,
-    k: usize,
-    places: &mut [usize],
-) -> usize
+pub extern "C" fn bidi_places(room: &mut BidiHandle, k: usize, places: &mut [usize]) -> usize
     ensures room { held_at room.new ≡ held_at room.old }
     ensures places { WritesPlaces (line_of_room room.old k) result places.old places.new }
 {
-    let Some(held) = room.take(alloc) else {
+    let Some(held) = room.held() else {
         return 0;
     };
-    let count = match held.layout() {
+    match held.layout() {
         Some(layout) => write_places_of(&layout, k, places),
         None => 0,
-    };
-    room.put(held);
-    count
+    }
 }
 
-fn look_up_run(
-    alloc: Global,
-    room: &mut BidiHandle,
-    k: usize,
-    from: usize,
-) -> Result<BidiRun, Refusal>
+fn look_up_run(room: &mut BidiHandle, k: usize, from: usize) -> Result<BidiRun, Refusal>
     ensures room { held_at room.new ≡ held_at room.old }
-    ensures run { IfOk result (IsRun (layout_at room.old).levels (line_of_room room.old k).order from) }
+    ensures run { IfOk result (IsVisualRun (layout_at room.old).levels (line_of_room room.old k).order from) }
     ensures refused { IfErr result (RefusesRun (held_at room.old) k from) }
 {
-    let Some(held) = room.take(alloc) else {
+    let Some(held) = room.held() else {
         return Err(Refusal::NoRoom);
     };
-    let found = match held.layout() {
+    match held.layout() {
         Some(layout) => run_of(&layout, k, from),
         None => Err(Refusal::NoRoom),
-    };
-    room.put(held);
-    found
+    }
 }
 
 /// The run of the line with the number `k` that begins at the place `from`: all places from there on up to the next
 /// whose position has another level. The runs of a line are those from 0, and from behind each one.
 #[unsafe(no_mangle)]
-pub extern "C" fn bidi_run(
-    alloc: Global,
-    room: &mut BidiHandle,
-    k: usize,
-    from: usize,
-    run: &mut BidiRun,
-) -> u32
+pub extern "C" fn bidi_run(room: &mut BidiHandle, k: usize, from: usize, run: &mut BidiRun) -> u32
     ensures room { held_at room.new ≡ held_at room.old }
     ensures run { Answers (Puts
-        (IsRun (layout_at room.old).levels (line_of_room room.old k).order from)
+        (IsVisualRun (layout_at room.old).levels (line_of_room room.old k).order from)
         (RefusesRun (held_at room.old) k from) run.old run.new) result }
 {
-    match look_up_run(alloc, room, k, from) {
+    match look_up_run(room, k, from) {
         Ok(found) => {
             *run = found;
             status(Ok(()))
@@ -84,7 +63,6 @@ pub extern "C" fn bidi_run(
 /// and where the text that was laid out has another length.
 #[unsafe(no_mangle)]
 pub extern "C" fn bidi_shown(
-    alloc: Global,
     room: &mut BidiHandle,
     tables: &mut BidiHandle,
     codes: &[u32],
@@ -96,15 +74,11 @@ pub extern "C" fn bidi_shown(
     ensures shown { WritesShown codes.now
         (shown_held (held_at room.old) (held_at tables.old) codes.now k) result shown.old shown.new }
 {
-    let Some(held) = room.take(alloc) else {
+    let Some(held) = room.held() else {
         return 0;
     };
-    let Some(by) = tables.take(alloc) else {
-        room.put(held);
+    let Some(by) = tables.held() else {
         return 0;
     };
-    let count = show(&held, &by, codes, k, shown);
-    tables.put(by);
-    room.put(held);
-    count
+    show(held, by, codes, k, shown)
 }

@@ -5,7 +5,7 @@ use Rattle.bidtests.specs.FileKinds.{verdict_of}
 use Rattle.bidtests.specs.Standing.{tables_of}
 use Rattle.bidtests.specs.declared.kind.Kind.{Kind}
 use Rattle.bidtests.specs.declared.kind.Kind.TheVariants.{Classes, Characters}
-use Rattle.bidi_held.specs.Judged.{verdict_by}
+use Rattle.bidi_held.specs.TableJudges.{verdict_by}
 
 -- the verdict on a file of a kind depends on its tables alone
 pub verdict-by : (limits : LimitsOf) (kind : Kind) (b : List ℕ) → verdict_of limits kind b ≡ verdict_by limits (tables_of kind) b

@@ -1,6 +1,7 @@
 -- What a handle holds.
-use Rattle.std.specs.Prelude.{ℕ, ◌≡◌, ◌<◌, ◌≤◌, ◌⊎◌, Option, Some, None, [], slice_index_or}
+use Rattle.std.specs.Prelude.{ℕ, ◌≡◌, ◌<◌, ◌≤◌, ◌⊎◌, Option, Some, None, IsSome, [], slice_index_or}
 use Rattle.std.specs.Option.{option_map}
+use Rattle.std.specs.Arc.{arc_value}
 use Rattle.units.specs.Layout.{TextLayout, LineLayout, layout_of, longest_text}
 use Rattle.units.specs.Limits.{standard}
 use Rattle.units.specs.declared.level.Direction.TheVariants.{Auto}
@@ -10,12 +11,13 @@ use Rattle.lines.specs.Scratches.{layout_in, room_of}
 use Rattle.bidi_held.specs.declared.held.Held.{Held}
 use Rattle.bidi_held.specs.declared.held.Held.TheVariants.{Tables, Room}
 use Rattle.bidi_held.specs.declared.room.Room.{Room as RoomOf}
+use Rattle.bidi_held.specs.Statuses.{Outcome, Puts}
 use Rattle.bidi_held.specs.declared.refusal.Refusal.{Refusal}
-use Rattle.bidi_held.specs.declared.refusal.Refusal.TheVariants.{Memory, TooBig}
+use Rattle.bidi_held.specs.declared.refusal.Refusal.TheVariants.{Memory, TooBig, NoTables}
 
 -- the tables that it holds, if it holds tables
 abbrev pub tables_in : Option Held → Option TablesOf
-tables_in (Some (Tables tables)) = Some tables
+tables_in (Some (Tables tables)) = Some (arc_value tables)
 tables_in _ = None
 
 -- the room that it holds, if it holds a room
@@ -43,6 +45,14 @@ layout_held handle = layout_of_room (room_in handle)
 -- the line with the number k of a layout
 abbrev pub line_numbered : TextLayout → ℕ → LineLayout
 line_numbered layout k = slice_index_or layout.lines k no_line
+
+-- the tables that a handle holds are not shared for this reason: memory was refused, or there are none
+abbrev pub RefusesSharing : Option Held → Refusal → Type 0
+RefusesSharing handle refusal = (refusal ≡ Memory) ⊎ ((refusal ≡ NoTables) × (tables_in handle ≡ None))
+
+-- what a call leaves in a handle that is to hold the tables that another one holds
+abbrev pub SharesTables : Option Held → Option Held → Option Held → Outcome → Type 0
+SharesTables tables old new outcome = Puts (λ held. IsSome (tables_in tables) × (tables_in held ≡ tables_in tables)) (RefusesSharing tables) old new outcome
 
 -- there is room for n code points, with the layout of an empty text
 pub record IsNewRoom (n : ℕ) (handle : Option Held) : Type 0 where

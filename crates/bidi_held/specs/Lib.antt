@@ -4,11 +4,12 @@ pub mod Texts
 pub mod Holdings
 pub mod LimitsGiven
 pub mod Refusals
+pub mod RoomTexts
 pub mod MadeTables
 pub mod LaidOut
 pub mod Written
 pub mod LinesOut
 pub mod Visual
-pub mod Judged
+pub mod TableJudges
 pub mod JudgeCalls
 pub mod VerdictLines

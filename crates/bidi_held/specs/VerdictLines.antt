@@ -46,7 +46,7 @@ RefusesVerdictText numbers most refusal =
 -- what a call leaves that is to write the line of these numbers: where it is done the line stands whole in front of what
 -- was there, else what was there stays, for a reason; where the numbers tell a verdict and there was memory the length
 -- that is named is the line's, 72 at most, else it stays
-pub record SaysVerdict (numbers : BidiVerdict) (old new : List ℕ) (before after : ℕ) (outcome : Outcome) : Type 0 where
+pub record PutsVerdictLine (numbers : BidiVerdict) (old new : List ℕ) (before after : ℕ) (outcome : Outcome) : Type 0 where
   pub fits : OnOk outcome ((line : List ℕ) × IsVerdictLine numbers line × (length line ≤ length old))
   pub written : OnOk outcome ((line : List ℕ) → IsVerdictLine numbers line → new ≡ line ++ drop (length line) old)
   pub kept : OnErr outcome (new ≡ old)

@@ -41,7 +41,7 @@ abbrev pub byte_at : List (Option ℕ) → List ℕ → ℕ → ℕ
 byte_at levels order place = level_byte (slice_index_or levels (slice_index order place) None)
 
 -- the run of one level from this place on, as far as it goes: the places that it takes, and the positions that it spans
-pub record IsRun (levels : List (Option ℕ)) (order : List ℕ) (from : ℕ) (run : BidiRun) : Type 0 where
+pub record IsVisualRun (levels : List (Option ℕ)) (order : List ℕ) (from : ℕ) (run : BidiRun) : Type 0 where
   pub some : 0 < run.shown
   pub inside : from + run.shown ≤ length order
   pub level : (i : ℕ) → from ≤ i → i < from + run.shown → byte_at levels order i ≡ run.level

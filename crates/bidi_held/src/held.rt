@@ -1,18 +1,22 @@
 // What a handle may hold.
-ghost use Rattle.std.specs.Prelude.{◌≡◌, Some, None, MatchOption};
+ghost use Rattle.std.specs.Prelude.{◌≡◌, Some, None, MatchOption, IfErr, IfOk};
+ghost use Rattle.std.specs.Arc.{arc_value};
 ghost use Rattle.lines.specs.Layouts.{view_of};
-ghost use Rattle.bidi_held.specs.Holdings.{capacity_in, tables_in, room_in, layout_held};
+ghost use Rattle.bidi_held.specs.Holdings.{capacity_in, tables_in, room_in, layout_held, RefusesSharing};
 
 use crate::judge::TableJudge;
+use crate::refusal::Refusal;
 use crate::room::Room;
 use lines::layout::Layout;
+use std::alloc::Global;
+use std::sync::Arc;
 use ucdfiles::tables::Tables;
 
 /// What a handle may hold.
 #[derive(Drop)]
 pub enum Held {
-    /// The tables of the three property files.
-    Tables(Tables),
+    /// The tables of the three property files. Other handles and judges may hold the same ones.
+    Tables(Arc<Tables, Global>),
     /// Room for texts, with the layout of the last one.
     Room(Room),
     /// A judge of a test file, with its tables. It is boxed because it has room for a line within it.
@@ -47,8 +51,19 @@ impl Held {
             (λ tables. tables_in (Some self.now) ≡ Some tables.now) }
     {
         match self {
-            Held::Tables(tables) => Some(tables),
+            Held::Tables(tables) => Some(&**tables),
             _ => None,
+        }
+    }
+
+    /// The same tables once more, if these are tables. They are freed with the last of those that hold them.
+    pub fn shared_tables(&self) -> Result<Arc<Tables, Global>, Refusal>
+        ensures shared { IfOk result (λ shared. tables_in (Some self.now) ≡ Some (arc_value shared)) }
+        ensures refused { IfErr result (RefusesSharing (Some self.now)) }
+    {
+        match self {
+            Held::Tables(tables) => Arc::try_clone(tables).map_err(|_| Refusal::Memory),
+            _ => Err(Refusal::NoTables),
         }
     }
 }

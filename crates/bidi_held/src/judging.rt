@@ -1,8 +1,9 @@
 // Judges made, fed and finished.
-ghost use Rattle.std.specs.Prelude.{◌≡◌, ◌≢◌, true, [], None, Some, IsSome, MatchOption, IfOk, IfErr};
-ghost use Rattle.units.specs.Limits.{LimitsOf};
-ghost use Rattle.bidi_held.specs.Holdings.{tables_in};
-ghost use Rattle.bidi_held.specs.JudgeCalls.{judge_in, IsFresh, IsFedOn, OfItsVerdict, HandleWasFed, RefusesJudge};
+ghost use Rattle.std.specs.Prelude.{◌≡◌, [], None, Some, IsSome, IfOk, IfErr};
+ghost use Rattle.std.specs.Option.{option_map};
+ghost use Rattle.std.specs.Arc.{arc_value};
+ghost use Rattle.bidi_held.specs.Holdings.{tables_in, RefusesSharing};
+ghost use Rattle.bidi_held.specs.JudgeCalls.{judge_in, HandleTakesPiece, OfItsVerdict, HandleWasHanded, RefusesJudge};
 
 use crate::held::Held;
 use crate::judge::TableJudge;
@@ -10,57 +11,51 @@ use crate::refusal::{DONE, Refusal};
 use bidtests::state::JudgeState;
 use bidtests::verdict::Verdict;
 use std::alloc::Global;
-use std::mem::replace;
+use std::sync::Arc;
 use ucdfiles::tables::Tables;
 use units::limits::Limits;
 
-/// A judge of a BidiTest.txt, before its first byte, by these limits.
-pub fn new_judge(alloc: Global, limits: Limits) -> Result<Box<TableJudge>, Refusal>
-    ensures made { IfOk result (λ judge. IsFresh limits judge.value) }
+/// A judge before its first byte, by these limits: of a BidiCharacterTest.txt by tables, and without tables of a
+/// BidiTest.txt.
+fn judge_by(
+    alloc: Global,
+    tables: Option<Arc<Tables, Global>>,
+    limits: Limits,
+) -> Result<Held, Refusal>
+    ensures made { IfOk result (λ judge. HandleWasHanded limits (Some judge) (option_map arc_value tables) []) }
     ensures refused { IfErr result RefusesJudge }
 {
     let Ok(state) = JudgeState::new(alloc, limits) else {
         return Err(Refusal::Memory);
     };
-    let judge = TableJudge {
-        tables: None,
-        state,
-    };
-    Box::new(alloc, judge).map_err(|_| Refusal::Memory)
-}
-
-/// Hands the tables to the judge that is held, if one is.
-fn give_tables(held: &mut Held, tables: Tables)
-    ensures { (limits : LimitsOf) → MatchOption (judge_in (Some held.old)) ⊥ (IsFresh limits)
-        → HandleWasFed limits (Some held.new) (Some tables) [] }
-{
-    if let Held::Judge(judge) = held {
-        judge.tables = Some(tables);
+    match Box::new(alloc, TableJudge { tables, state }) {
+        Ok(judge) => Ok(Held::Judge(judge)),
+        Err(_) => Err(Refusal::Memory),
     }
 }
 
-/// Puts the judge into the place of the tables, which it takes over; it answers whether these are tables.
-pub fn make_into_judge(held: &mut Held, judge: Box<TableJudge>) -> bool
-    ensures made { (limits : LimitsOf) → IsFresh limits judge.value → result ≡ true
-        → HandleWasFed limits (Some held.new) (tables_in (Some held.old)) [] }
-    ensures tables { result ≡ true → IsSome (tables_in (Some held.old)) }
-    ensures kept { result ≢ true → (held.new ≡ held.old) × (tables_in (Some held.old) ≡ None) }
+/// A judge of a BidiTest.txt before its first byte, by these limits.
+pub fn class_judge(alloc: Global, limits: Limits) -> Result<Held, Refusal>
+    ensures made { IfOk result (λ judge. HandleWasHanded limits (Some judge) None []) }
+    ensures refused { IfErr result RefusesJudge }
 {
-    match replace(held, Held::Judge(judge)) {
-        Held::Tables(tables) => {
-            give_tables(held, tables);
-            true
-        }
-        other => {
-            *held = other;
-            false
-        }
-    }
+    judge_by(alloc, None, limits)
+}
+
+/// A judge of a BidiCharacterTest.txt before its first byte, by these limits and the tables that are held, which it
+/// shares.
+pub fn table_judge(alloc: Global, tables: &Held, limits: Limits) -> Result<Held, Refusal>
+    ensures made { IfOk result (λ judge. HandleWasHanded limits (Some judge) (tables_in (Some tables.now)) []) }
+    ensures tables { IfOk result (λ _. IsSome (tables_in (Some tables.now))) }
+    ensures refused { IfErr result (RefusesSharing (Some tables.now)) }
+{
+    let shared = tables.shared_tables()?;
+    judge_by(alloc, Some(shared), limits)
 }
 
 /// Hands over the next bytes of the file, if this is a judge.
 pub fn feed_held(held: &mut Held, piece: &[u8]) -> u32
-    ensures fed { IsFedOn (Some held.old) (Some held.new) piece.now }
+    ensures fed { HandleTakesPiece (Some held.old) (Some held.new) piece.now }
     ensures done { IsSome (judge_in (Some held.old)) → result ≡ 0 }
     ensures refused { judge_in (Some held.old) ≡ None → (result ≡ 16) × (held.new ≡ held.old) }
 {

@@ -1,7 +1,7 @@
 // Texts laid out in what is held.
 ghost use Rattle.std.specs.Prelude.{◌≡◌, Some};
 ghost use Rattle.bidi_held.specs.Texts.{direction_numbered};
-ghost use Rattle.bidi_held.specs.LaidOut.{LaysOutClasses, LaysOutCodes};
+ghost use Rattle.bidi_held.specs.LaidOut.{LaysOutClasses, LaysOutCodes, SetsLines};
 
 use crate::held::Held;
 use crate::refusal::Refusal;
@@ -36,7 +36,7 @@ pub fn lay_out_held(
     let Held::Room(room) = room else {
         return Err(Refusal::NoRoom);
     };
-    let Held::Tables(tables) = tables else {
+    let Some(tables) = tables.tables() else {
         return Err(Refusal::NoTables);
     };
     match direction_numbered(direction) {
@@ -62,5 +62,15 @@ pub fn lay_out_classes_held(
     match direction_numbered(direction) {
         Some(direction) => room.lay_out_classes(numbers, direction, breaks, limits),
         None => Err(Refusal::NoDirection),
+    }
+}
+
+/// Breaks the text that is held into lines anew, if this is a room.
+pub fn set_lines_held(room: &mut Held, breaks: &[usize]) -> Result<(), Refusal>
+    ensures { SetsLines breaks.now (Some room.old) (Some room.new) result }
+{
+    match room {
+        Held::Room(room) => room.set_lines(breaks),
+        _ => Err(Refusal::NoRoom),
     }
 }

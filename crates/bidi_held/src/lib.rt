@@ -11,6 +11,7 @@ pub mod lines_out;
 pub mod read_tables;
 pub mod refusal;
 pub mod room;
+pub mod standard_tables;
 pub mod told_verdict;
 pub mod verdict_text;
 pub mod visual_lines;

@@ -54,7 +54,7 @@ pub fn kind_in(refusal: Refusal) -> u32
 
 /// The refusal that says what is wrong with the first faulty file. A fault of no line is that memory was refused, since
 /// bytes are read without failing.
-fn of_files(fault: FileFault) -> Refusal
+pub(crate) fn of_files(fault: FileFault) -> Refusal
     ensures { (result ≡ Refusal.Memory) ⊎ ((result ≡ refusal_of_file fault) × IsOfLine fault) }
 {
     match fault {

@@ -1,19 +1,19 @@
 // A room: the units of a text, and its layout.
-ghost use Rattle.std.specs.Prelude.{ℕ, ◌≡◌, ◌≤◌, ◌<◌, ◌↔◌, [], MatchOption, Err, length, slice_index, take, IfOk, OnOk, IfErr, OnErr, IsOk};
+ghost use Rattle.std.specs.Prelude.{ℕ, ◌≡◌, ◌≤◌, ◌<◌, [], MatchOption, length, slice_index, take, IfOk, OnOk, IfErr, OnErr};
 ghost use Rattle.std.specs.Box.{boxed_slice_items};
 ghost use Rattle.std.specs.Char.{IsScalar};
-ghost use Rattle.units.specs.Layout.{layout_of, longest_text};
+ghost use Rattle.units.specs.Layout.{layout_of};
 ghost use Rattle.units.specs.Limits.{standard};
 ghost use Rattle.units.specs.declared.level.Direction.TheVariants.{Auto};
 ghost use Rattle.lines.specs.LineBreaks.{AreBreaksOf};
-ghost use Rattle.lines.specs.Scratches.{room_of, layout_in, IsFilled};
+ghost use Rattle.lines.specs.Scratches.{room_of, text_len_of, layout_in, HoldsText, IsFilled};
 ghost use Rattle.bidi_held.specs.Texts.{class_numbered, unit_numbered, units_numbered};
 ghost use Rattle.ucdfiles.specs.Tables.{units_by};
-ghost use Rattle.bidi_held.specs.Refusals.{IsClassNumber, Refuses, RefusesBreaks, RefusesCodes, RefusesNumbered, Takes};
+ghost use Rattle.bidi_held.specs.Refusals.{IsClassNumber, RefusesBreaks, RefusesCodes, RefusesNumbered};
 
 use crate::refusal::Refusal;
 use lines::breaks::{BreakFault, Breaks};
-use lines::lay_out::{lay_out_into, lay_out_into_with};
+use lines::lay_out::{break_anew_into, lay_out_into_with};
 use lines::scratch::{MOST, RoomFault, Scratch};
 use std::alloc::Global;
 use std::boxed::BoxedSlice;
@@ -23,33 +23,47 @@ use units::class::Class;
 use units::level::Direction;
 use units::limits::Limits;
 
-/// Room for a text's units and its layout. It holds a layout at all times, at first that of an empty text.
+/// Room for a text's units and its layout. It holds a text and its layout at all times, at first those of an empty
+/// text.
 #[derive(Drop)]
 pub struct Room {
     pub(crate) scratch: Scratch,
     units: BoxedSlice<Unit>,
+    direction: Direction,
+    limits: Limits,
     ghost fits: { length (boxed_slice_items units) ≡ room_of scratch },
     ghost filled: { IsFilled scratch },
+    ghost holds: { HoldsText limits (take (text_len_of scratch) (boxed_slice_items units)) direction scratch },
 }
 
-/// Writes the units of code points to the front of the column, up to the first that is no scalar value.
-fn fill_units(units: &mut [Unit], tables: &Tables, codes: &[u32]) -> Result<(), Refusal>
-    requires { length codes.now ≤ length units.old }
-    ensures len { length units.new ≡ length units.old }
+/// Refuses code points by the first that is no scalar value. This is looked at before anything is written, so that a
+/// room that refuses a text still holds the former one.
+fn check_codes(codes: &[u32]) -> Result<(), Refusal>
     ensures refused { IfErr result (RefusesCodes codes.now) }
     ensures scalars { OnOk result ((k : ℕ) → k < length codes.now
         → IsScalar (slice_index codes.now k)) }
-    ensures units { OnOk result (take (length codes.now) units.new
-        ≡ units_by tables.now codes.now) }
+{
+    for i in 0..codes.len() {
+        if char::from_u32(codes[i]).is_none() {
+            return Err(Refusal::NoCharacter(i));
+        }
+    }
+    Ok(())
+}
+
+/// Writes the units of code points, all of them scalar values, to the front of the column.
+fn fill_units(units: &mut [Unit], tables: &Tables, codes: &[u32])
+    requires room { length codes.now ≤ length units.old }
+    requires scalars { (k : ℕ) → k < length codes.now → IsScalar (slice_index codes.now k) }
+    ensures len { length units.new ≡ length units.old }
+    ensures units { take (length codes.now) units.new ≡ units_by tables.now codes.now }
 {
     let lent = tables.units();
     for i in 0..codes.len() {
-        let Some(c) = char::from_u32(codes[i]) else {
-            return Err(Refusal::NoCharacter(i));
-        };
-        units[i] = lent.unit(c);
+        if let Some(c) = char::from_u32(codes[i]) {
+            units[i] = lent.unit(c);
+        }
     }
-    Ok(())
 }
 
 /// The class with this number, if there is one.
@@ -96,22 +110,32 @@ fn unit_of(number: u8) -> Option<Unit>
     })
 }
 
-/// Writes the units of classes, by their numbers, to the front of the column, up to the first number of no class.
-fn fill_classes(units: &mut [Unit], numbers: &[u8]) -> Result<(), Refusal>
-    requires { length numbers.now ≤ length units.old }
-    ensures len { length units.new ≡ length units.old }
+/// Refuses numbers of classes by the first that is none, before anything is written.
+fn check_classes(numbers: &[u8]) -> Result<(), Refusal>
     ensures refused { IfErr result (RefusesNumbered numbers.now) }
     ensures classes { OnOk result ((k : ℕ) → k < length numbers.now
         → IsClassNumber (slice_index numbers.now k)) }
-    ensures units { OnOk result (take (length numbers.now) units.new ≡ units_numbered numbers.now) }
 {
     for i in 0..numbers.len() {
-        let Some(unit) = unit_of(numbers[i]) else {
+        if unit_of(numbers[i]).is_none() {
             return Err(Refusal::NoClass(i));
-        };
-        units[i] = unit;
+        }
     }
     Ok(())
+}
+
+/// Writes the units of classes, by their numbers, to the front of the column.
+fn fill_classes(units: &mut [Unit], numbers: &[u8])
+    requires room { length numbers.now ≤ length units.old }
+    requires classes { (k : ℕ) → k < length numbers.now → IsClassNumber (slice_index numbers.now k) }
+    ensures len { length units.new ≡ length units.old }
+    ensures units { take (length numbers.now) units.new ≡ units_numbered numbers.now }
+{
+    for i in 0..numbers.len() {
+        if let Some(unit) = unit_of(numbers[i]) {
+            units[i] = unit;
+        }
+    }
 }
 
 /// The breaks of a text of `n` units.
@@ -141,22 +165,54 @@ fn unit_column(alloc: Global, n: usize) -> Result<BoxedSlice<Unit>, RoomFault>
     }
 }
 
+/// Lays out a text that the scratch has room for, by these limits.
+fn lay_out_units(
+    scratch: &mut Scratch,
+    text: &[Unit],
+    direction: Direction,
+    breaks: &Breaks,
+    limits: Limits,
+)
+    requires len { breaks.now.len ≡ length text.now }
+    requires fits { length text.now ≤ room_of scratch.old }
+    ensures room { room_of scratch.new ≡ room_of scratch.old }
+    ensures filled { IsFilled scratch.new }
+    ensures laid_out { layout_in scratch.new ≡ layout_of limits text.now direction breaks.now.positions }
+    ensures holds { HoldsText limits text.now direction scratch.new }
+{
+    let _done = lay_out_into_with(scratch, text, direction, breaks, limits);
+}
+
 /// Lays out an empty text, which any scratch has room for.
 fn lay_out_nothing(scratch: &mut Scratch)
     ensures room { room_of scratch.new ≡ room_of scratch.old }
     ensures filled { IsFilled scratch.new }
     ensures empty { layout_in scratch.new ≡ layout_of standard [] Auto [] }
+    ensures holds { HoldsText standard [] Auto scratch.new }
 {
     if let Ok(breaks) = Breaks::new(&[], 0) {
-        let _done = lay_out_into(scratch, &[], Direction::Auto, &breaks);
+        lay_out_units(scratch, &[], Direction::Auto, &breaks, Limits::standard());
     }
 }
 
 impl Room {
+    ghost use Rattle.std.specs.Prelude.{◌≡◌, ◌<◌, ◌↔◌, [], Err, length, IfErr, IfOk, OnErr, OnOk};
+    ghost use Rattle.std.specs.Char.{IsScalar};
+    ghost use Rattle.units.specs.Layout.{layout_of, longest_text};
+    ghost use Rattle.units.specs.Limits.{standard};
+    ghost use Rattle.units.specs.declared.level.Direction.TheVariants.{Auto};
+    ghost use Rattle.ucdfiles.specs.Tables.{units_by};
+    ghost use Rattle.lines.specs.LineBreaks.{AreBreaks};
+    ghost use Rattle.lines.specs.Scratches.{room_of, text_len_of, layout_in};
+    ghost use Rattle.bidi_held.specs.Refusals.{IsClassNumber, Refuses, RefusesBreaks, RefusesCodes, RefusesNumbered, Takes};
+    ghost use Rattle.bidi_held.specs.RoomTexts.{layout_with, text_held};
+    ghost use Rattle.bidi_held.specs.Texts.{units_numbered};
+
     /// Room for texts of up to `n` units, at most 16,777,216, with the layout of an empty text.
     pub fn with_room(alloc: Global, n: usize) -> Result<Room, RoomFault>
         ensures made { IfOk result (λ room. room_of room.scratch ≡ n) }
         ensures empty { IfOk result (λ room. layout_in room.scratch ≡ layout_of standard [] Auto []) }
+        ensures holds { IfOk result (λ room. text_held room ≡ record { units = []; direction = Auto; limits = standard }) }
         ensures too_big { (result ≡ Err RoomFault.TooBig) ↔ (longest_text < n) }
     {
         if n > MOST {
@@ -165,31 +221,16 @@ impl Room {
         let units = unit_column(alloc, n)?;
         let mut scratch = Scratch::with_room(alloc, n)?;
         lay_out_nothing(&mut scratch);
-        Ok(Room { scratch, units })
-    }
-
-    /// Lays out the units that stand at the front of the column, so many as the breaks are made for, by these limits.
-    fn lay_out_units(
-        &mut self,
-        direction: Direction,
-        breaks: &Breaks,
-        limits: Limits,
-    ) -> Result<(), Refusal>
-        requires { breaks.now.len ≤ room_of self.old.scratch }
-        ensures room { room_of self.new.scratch ≡ room_of self.old.scratch }
-        ensures done { IsOk result }
-        ensures laid_out { layout_in self.new.scratch ≡ layout_of limits
-            (take breaks.now.len (boxed_slice_items self.old.units)) direction breaks.now.positions }
-    {
-        let text = &self.units[..breaks.text_len()];
-        match lay_out_into_with(&mut self.scratch, text, direction, breaks, limits) {
-            Ok(()) => Ok(()),
-            Err(_) => Err(Refusal::TooLong),
-        }
+        Ok(Room {
+            scratch,
+            units,
+            direction: Direction::Auto,
+            limits: Limits::standard(),
+        })
     }
 
     /// Lays out the text of these code points by these limits. Its length is looked at first, then the breaks, then
-    /// the code points.
+    /// the code points. A room that refuses a text still holds the former one.
     pub fn lay_out(
         &mut self,
         tables: &Tables,
@@ -201,17 +242,24 @@ impl Room {
         ensures room { room_of self.new.scratch ≡ room_of self.old.scratch }
         ensures refused { IfErr result (Refuses (room_of self.old.scratch) (length codes.now) at.now
             (RefusesCodes codes.now)) }
-        ensures kept { OnErr result (self.new.scratch ≡ self.old.scratch) }
+        ensures kept { OnErr result (self.new ≡ self.old) }
         ensures taken { OnOk result (Takes IsScalar (room_of self.old.scratch) codes.now at.now) }
         ensures laid_out { OnOk result (layout_in self.new.scratch ≡ layout_of limits
             (units_by tables.now codes.now) direction at.now) }
+        ensures holds { OnOk result (text_held self.new
+            ≡ record { units = units_by tables.now codes.now; direction = direction; limits = limits }) }
     {
         if self.scratch.room() < codes.len() {
             return Err(Refusal::TooLong);
         }
         let breaks = breaks_of(at, codes.len())?;
-        fill_units(&mut self.units, tables, codes)?;
-        self.lay_out_units(direction, &breaks, limits)
+        check_codes(codes)?;
+        fill_units(&mut self.units, tables, codes);
+        let text = &self.units[..codes.len()];
+        lay_out_units(&mut self.scratch, text, direction, &breaks, limits);
+        self.direction = direction;
+        self.limits = limits;
+        Ok(())
     }
 
     /// Lays out a text of these classes, by their numbers, by these limits, and looks at it in the same order.
@@ -225,17 +273,40 @@ impl Room {
         ensures room { room_of self.new.scratch ≡ room_of self.old.scratch }
         ensures refused { IfErr result (Refuses (room_of self.old.scratch) (length numbers.now)
             at.now (RefusesNumbered numbers.now)) }
-        ensures kept { OnErr result (self.new.scratch ≡ self.old.scratch) }
+        ensures kept { OnErr result (self.new ≡ self.old) }
         ensures taken { OnOk result (Takes IsClassNumber (room_of self.old.scratch) numbers.now
             at.now) }
         ensures laid_out { OnOk result (layout_in self.new.scratch ≡ layout_of limits
             (units_numbered numbers.now) direction at.now) }
+        ensures holds { OnOk result (text_held self.new
+            ≡ record { units = units_numbered numbers.now; direction = direction; limits = limits }) }
     {
         if self.scratch.room() < numbers.len() {
             return Err(Refusal::TooLong);
         }
         let breaks = breaks_of(at, numbers.len())?;
-        fill_classes(&mut self.units, numbers)?;
-        self.lay_out_units(direction, &breaks, limits)
+        check_classes(numbers)?;
+        fill_classes(&mut self.units, numbers);
+        let text = &self.units[..numbers.len()];
+        lay_out_units(&mut self.scratch, text, direction, &breaks, limits);
+        self.direction = direction;
+        self.limits = limits;
+        Ok(())
+    }
+
+    /// Breaks the text that it holds into lines anew (L1, L2), at these breaks; the text's direction and limits stay.
+    /// The breaks are refused as those of a text that is laid out, and the room then is what it was.
+    pub fn set_lines(&mut self, at: &[usize]) -> Result<(), Refusal>
+        ensures room { room_of self.new.scratch ≡ room_of self.old.scratch }
+        ensures refused { IfErr result (RefusesBreaks at.now (text_len_of self.old.scratch)) }
+        ensures kept { OnErr result (self.new ≡ self.old) }
+        ensures taken { OnOk result (AreBreaks at.now (text_len_of self.old.scratch)) }
+        ensures laid_out { OnOk result (layout_in self.new.scratch ≡ layout_with at.now (text_held self.old)) }
+        ensures holds { text_held self.new ≡ text_held self.old }
+    {
+        let len = self.scratch.text_len();
+        let breaks = breaks_of(at, len)?;
+        break_anew_into(&mut self.scratch, &self.units[..len], &breaks);
+        Ok(())
     }
 }

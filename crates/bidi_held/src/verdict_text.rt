@@ -1,6 +1,6 @@
 // The line that says a verdict, of its numbers.
 ghost use Rattle.std.specs.Prelude.{◌≤◌, length, IfOk, IfErr};
-ghost use Rattle.bidi_held.specs.VerdictLines.{IsVerdictLine, RefusesNumbers, SaysVerdict};
+ghost use Rattle.bidi_held.specs.VerdictLines.{IsVerdictLine, RefusesNumbers, PutsVerdictLine};
 
 use crate::refusal::Refusal;
 use crate::told_verdict::BidiVerdict;
@@ -31,7 +31,7 @@ pub fn write_verdict_line(
     out: &mut [u8],
     line_length: &mut usize,
 ) -> Result<(), Refusal>
-    ensures { SaysVerdict numbers.now out.old out.new line_length.old line_length.new result }
+    ensures { PutsVerdictLine numbers.now out.old out.new line_length.old line_length.new result }
 {
     let line = verdict_line(alloc, numbers)?;
     *line_length = line.len();

@@ -7,7 +7,7 @@ ghost use Rattle.units.specs.Reordering.{is_odd_level, shown_of};
 ghost use Rattle.ucdfiles.specs.Tables.{glyph_by};
 ghost use Rattle.lines.specs.Layouts.{view_of};
 ghost use Rattle.bidi_held.specs.Holdings.{line_numbered};
-ghost use Rattle.bidi_held.specs.Visual.{IsPlace, WritesPlaces, IsRun, LineRefusesRun, WritesShown, shown_held, shown_line, byte_at};
+ghost use Rattle.bidi_held.specs.Visual.{IsPlace, WritesPlaces, IsVisualRun, LineRefusesRun, WritesShown, shown_held, shown_line, byte_at};
 
 use crate::held::Held;
 use crate::lines_out::byte_of;
@@ -69,7 +69,7 @@ fn run_end(levels: &[Option<Level>], order: &[usize], from: usize) -> usize
 fn run_from(levels: &[Option<Level>], order: &[usize], from: usize) -> BidiRun
     requires inside { All (λ p. p < length levels.now) order.now }
     requires some { from < length order.now }
-    ensures { IsRun levels.now order.now from result }
+    ensures { IsVisualRun levels.now order.now from result }
 {
     let end = run_end(levels, order, from);
     let first = order[from];
@@ -134,7 +134,7 @@ pub fn write_places_of(layout: &Layout<'_>, k: usize, out: &mut [usize]) -> usiz
 
 /// The run of the line with the number `k` that begins at a place, if there are such a line and place.
 pub fn run_of(layout: &Layout<'_>, k: usize, from: usize) -> Result<BidiRun, Refusal>
-    ensures run { IfOk result (IsRun (view_of layout.now).levels
+    ensures run { IfOk result (IsVisualRun (view_of layout.now).levels
         (line_numbered (view_of layout.now) k).order from) }
     ensures refused { IfErr result (LineRefusesRun (view_of layout.now) k from) }
 {

@@ -1,8 +1,7 @@
-use Rattle.std.proofs.Common.{◌≡◌, ◌<◌, ℕ, map, take, slice_index}
-use Rattle.bidi_held.specs.Refusals.{IsClassNumber}
+use Rattle.std.proofs.Common.{◌≡◌, map, take}
 use Rattle.bidi_held.specs.Texts.{unit_numbered}
 use Rattle.bidi_held.proofs.room.fill_classes.Given as goal
 
--- the units of the numbers before i stand there, and each of these is a class
+-- the units of the numbers before i stand there
 abbrev pub invariant-loop-i : goal.invariant-loop-i
-invariant-loop-i l = (take l.i l.units ≡ map unit_numbered (take l.i l.numbers)) × ((k : ℕ) → k < l.i → IsClassNumber (slice_index l.numbers k))
+invariant-loop-i l = take l.i l.units ≡ map unit_numbered (take l.i l.numbers)

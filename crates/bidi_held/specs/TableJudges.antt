@@ -1,0 +1,28 @@
+-- What a judge that shares its tables stands for.
+use Rattle.std.specs.Prelude.{ℕ, ◌≡◌, ◌++◌, Option, Some, None, List}
+use Rattle.std.specs.Option.{option_map}
+use Rattle.std.specs.Arc.{arc_value}
+use Rattle.units.specs.Limits.{LimitsOf}
+use Rattle.ucdfiles.specs.Tables.{TablesOf, unit_by}
+use Rattle.bidtests.specs.ClassesFile.{classes_verdict}
+use Rattle.bidtests.specs.CharactersFile.{characters_verdict}
+use Rattle.bidtests.specs.Standing.{HoldsFor}
+use Rattle.bidtests.specs.declared.verdict.Verdict.{Verdict}
+use Rattle.bidi_held.specs.declared.judge.TableJudge.{TableJudge}
+
+-- the judge was handed these bytes, in any pieces, and judges by these limits and tables: a file of characters, or
+-- without tables one of classes
+pub record WasHanded (limits : LimitsOf) (judge : TableJudge) (tables : Option TablesOf) (bytes : List ℕ) : Type 0 where
+  pub by : option_map arc_value judge.tables ≡ tables
+  pub so_far : HoldsFor limits tables judge.state bytes
+
+-- what the judge was handed before, by whatever limits and tables it judges, it was handed with this piece behind it
+abbrev pub TakesPiece : TableJudge → TableJudge → List ℕ → Type 0
+TakesPiece old new piece =
+    (limits : LimitsOf) (tables : Option TablesOf) (bytes : List ℕ)
+    → WasHanded limits old tables bytes → WasHanded limits new tables (bytes ++ piece)
+
+-- by these limits the verdict on a file of characters by tables, or without tables on one of classes
+abbrev pub verdict_by : LimitsOf → Option TablesOf → List ℕ → Verdict
+verdict_by limits None bytes = classes_verdict limits bytes
+verdict_by limits (Some tables) bytes = characters_verdict limits (unit_by tables) bytes

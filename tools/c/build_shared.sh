@@ -1,0 +1,32 @@
+#!/bin/bash
+# Links the shared object crates/bidi_c/out/libbidi_c.so.VERSION, by gcc, of the archive beside it and of the kit's part
+# that allocates. Its soname is libbidi_c.so with the first number of the version, and of its symbols it shows the calls
+# of bidi.h alone. It ends with 2 where a file is missing, and with 1 where a call of the header is none of the archive.
+#
+# usage: tools/c/build_shared.sh
+#
+# Build the archive first, by `rt lib` in crates/bidi_c. RATTLE_C names the kit's folder c where rt isn't on PATH.
+set -u
+here=$(cd "$(dirname "$0")" && pwd)
+version=$(cat "$here/../../VERSION")
+library=$here/../../crates/bidi_c/out/libbidi_c.a
+heap=${RATTLE_C:-$(dirname "$(readlink -f "$(command -v rt)")")/../c}/liblibc_c.a
+shared=$here/../../crates/bidi_c/out/libbidi_c.so.$version
+for file in "$library" "$heap"; do
+    [ -e "$file" ] || { echo "no $file" >&2; exit 2; }
+done
+calls=$(grep -o '\bbidi_[a-z0-9_]*(' "$here/bidi.h" | tr -d '(' | sort -u)
+work=$(mktemp -d) || exit 2
+trap 'rm -r "$work"' EXIT
+# shellcheck disable=SC2086
+printf '{ global:\n%s\nlocal: *; };\n' "$(printf '  %s;\n' $calls)" > "$work/calls.map"
+gcc -shared -o "$work/shared" -Wl,-soname,"libbidi_c.so.${version%%.*}" -Wl,--version-script="$work/calls.map" \
+    -Wl,-Bsymbolic,-z,defs,-z,relro,-z,now,-z,noexecstack,--gc-sections \
+    -Wl,--whole-archive "$library" -Wl,--no-whole-archive "$heap" || exit 1
+shows=$(nm -D --defined-only "$work/shared" | awk '{ print $3 }' | sort)
+if [ "$shows" != "$calls" ]; then
+    echo "the shared object does not show the calls of bidi.h:" >&2
+    diff <(echo "$calls") <(echo "$shows") >&2
+    exit 1
+fi
+mv "$work/shared" "$shared" && chmod 755 "$shared"
