@@ -24,6 +24,8 @@ use Rattle.requests.specs.declared.request.FileKind.{FileKind}
 use Rattle.requests.specs.declared.request.FileKind.TheVariants.{Classes, Characters}
 use Rattle.requests.specs.declared.request.Print.{Print}
 use Rattle.requests.specs.declared.request.Print.TheVariants.{Levels, Reorder, Explained}
+use Rattle.requests.specs.declared.request.TableSource.{TableSource}
+use Rattle.requests.specs.declared.request.TableSource.TheVariants.{Folder, BuiltIn}
 use Rattle.requests.specs.declared.request.Request.{Request}
 use Rattle.requests.specs.declared.request.Request.TheVariants as requested
 
@@ -42,9 +44,9 @@ option_rule name = record (new_rule name) { long = Some name; value_names = 1 }
 abbrev pub file_rule : Rule
 file_rule = record (new_rule (codes "file")) { value_names = 1; required = true }
 
--- --tables DIR
+-- --tables DIR, which is not empty
 abbrev pub tables_rule : Rule
-tables_rule = option_rule (codes "tables")
+tables_rule = record (option_rule (codes "tables")) { parser = Some parser.NonEmptyString }
 
 -- --direction, which is `auto` where it is not given
 abbrev pub direction_rule : Choice → Rule
@@ -65,18 +67,15 @@ classes_rule = option_rule (codes "classes")
 abbrev pub kind_rule : Choice → Rule
 kind_rule choice = record (option_rule (codes "kind")) { required = true; parser = Some (parser.Names choice) }
 
-abbrev pub needed : Rule → Rule
-needed rule = record rule { required = true }
-
 abbrev pub not_required : Rule → Rule
 not_required rule = record rule { required = false }
 
 abbrev pub levels_app : Choice → App
-levels_app directions = with_rule (with_rule (with_rule (new_app (codes "levels")) (needed tables_rule)) (direction_rule directions)) file_rule
+levels_app directions = with_rule (with_rule (with_rule (new_app (codes "levels")) tables_rule) (direction_rule directions)) file_rule
 
 abbrev pub reorder_app : Choice → App
 reorder_app directions =
-    with_rule (with_rule (with_rule (with_rule (new_app (codes "reorder")) (needed tables_rule)) (direction_rule directions)) columns_rule) file_rule
+    with_rule (with_rule (with_rule (with_rule (new_app (codes "reorder")) tables_rule) (direction_rule directions)) columns_rule) file_rule
 
 abbrev pub explain_app : Choice → App
 explain_app directions =
@@ -140,6 +139,11 @@ abbrev pub ColumnsAre : Option Text → Option NonZeroU16 → Type 0
 ColumnsAre None columns = columns ≡ None
 ColumnsAre (Some text) columns = ReadsOne ReadsColumns text columns
 
+-- the folder that tables come from, if they come from one
+abbrev pub folder_of : TableSource → Option Text
+folder_of (Folder folder) = Some folder.now
+folder_of BuiltIn = None
+
 -- the subcommand of this name prints this of a text, by these values
 abbrev pub AsksToPrint : Text → List Row → Print → Type 0
 AsksToPrint name rows Levels = name ≡ codes "levels"
@@ -149,7 +153,7 @@ AsksToPrint name rows Explained = (name ≡ codes "explain") × (first_of (codes
 -- the values of the subcommand of this name make this request
 abbrev pub AsksFor : Text → List Row → Request → Type 0
 AsksFor name rows (requested.Text tables direction file print) = AsksToPrint name rows print
-    × (first_of (codes "tables") rows ≡ Some tables.now) × (direction ≡ direction_named (first_of (codes "direction") rows))
+    × (first_of (codes "tables") rows ≡ folder_of tables) × (direction ≡ direction_named (first_of (codes "direction") rows))
     × (first_of (codes "file") rows ≡ Some file.now)
 AsksFor name rows (requested.ExplainClasses classes direction) = (name ≡ codes "explain")
     × (first_of (codes "tables") rows ≡ None) × (first_of (codes "classes") rows ≡ Some classes.now)

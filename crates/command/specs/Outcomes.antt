@@ -25,19 +25,19 @@ EndsWithout before after error status =
     ⊎ ((status ≡ 2) × RefusesWords error × (after ≡ before))))
 
 -- words that were read so came to what that asks for, and the run ended with this status
-abbrev pub HasComeTo : FileFacts → Option (List ℕ) → Option (List ℕ) → Result Request Error → ℕ → Type 0
-HasComeTo files before after (Ok request) status = HasEnded files before after request status
-HasComeTo files before after (Err error) status = EndsWithout before after error status
+abbrev pub EndsAsRead : FileFacts → Option (List ℕ) → Option (List ℕ) → Result Request Error → ℕ → Type 0
+EndsAsRead files before after (Ok request) status = HasEnded files before after request status
+EndsAsRead files before after (Err error) status = EndsWithout before after error status
 
 -- the words were read, and the run came to what that asks for
 pub record HasRun (files : FileFacts) (before after : Option (List ℕ)) (words : List (List ℕ)) (status : ℕ) : Type 0 where
   pub read : Result Request Error
   pub is : IsReadAs words read
-  pub ended : HasComeTo files before after read status
+  pub ended : EndsAsRead files before after read status
 
 -- what the words were read as is a request, which came to a no
-abbrev pub CameToNo : FileFacts → Option (List ℕ) → Option (List ℕ) → Result Request Error → Type 0
-CameToNo files before after read =
+abbrev pub RequestSaidNo : FileFacts → Option (List ℕ) → Option (List ℕ) → Result Request Error → Type 0
+RequestSaidNo files before after read =
     (request : Request) × (read ≡ Ok request) × IsDone files before after request (Judged 1)
 
 -- the words are read as a request, which came to a no

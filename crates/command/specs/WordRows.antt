@@ -4,7 +4,7 @@ use Rattle.clap.proofs.OnLiterals.{clap_on_literals}
 use Rattle.clap.specs.Faults.{fault_of}
 use Rattle.clap.specs.Simple.{subcommand_of}
 use Rattle.clap.specs.Walk.{Row, Text, first_of, one_of}
-use Rattle.clap.specs.declared.error.kind.ErrorKind.TheVariants.{ArgumentConflict, DisplayVersion, MissingRequiredArgument}
+use Rattle.clap.specs.declared.error.kind.ErrorKind.TheVariants.{ArgumentConflict, DisplayVersion, InvalidValue, MissingRequiredArgument}
 use Rattle.units.specs.declared.level.Direction.{Direction}
 use Rattle.units.specs.declared.level.Direction.TheVariants.{Auto, Rtl}
 use Rattle.command.specs.CommandLine.{Choice, bidi_app, direction_named, kind_named}
@@ -46,6 +46,26 @@ pub levels_words : (a b c kinds : Choice) → option_map met (subcommand_of (bid
     })
 unfolding clap_on_literals
 levels_words a b c kinds = refl
+
+-- without a folder
+pub standard_words : (a b c kinds : Choice) → option_map met (subcommand_of (bidi_app a b c kinds)
+    (codes "bidi" ∷ codes "levels" ∷ codes "FILE" ∷ [])) ≡ Some (record {
+      name = codes "levels";
+      tables = None;
+      classes = None;
+      direction = Auto;
+      columns = None;
+      kind = None;
+      file = Some (codes "FILE");
+    })
+unfolding clap_on_literals
+standard_words a b c kinds = refl
+
+-- a folder without a name
+pub no_folder_words : (a b c kinds : Choice) → fault_of (bidi_app a b c kinds)
+    (codes "bidi" ∷ codes "levels" ∷ codes "--tables" ∷ codes "" ∷ codes "FILE" ∷ []) ≡ InvalidValue ∷ []
+unfolding clap_on_literals
+no_folder_words a b c kinds = refl
 
 -- standard input
 pub input_words : (a b c kinds : Choice) → option_map met (subcommand_of (bidi_app a b c kinds)
@@ -94,7 +114,7 @@ pub judge_words : (a b c kinds : Choice) → option_map met (subcommand_of (bidi
 unfolding clap_on_literals
 judge_words a b c kinds = refl
 
--- what is explained of a text by tables
+-- what is explained of a text by tables of a folder
 pub explain_words : (a b c kinds : Choice) → option_map met (subcommand_of (bidi_app a b c kinds)
     (codes "bidi" ∷ codes "explain" ∷ codes "--tables" ∷ codes "t" ∷ codes "FILE" ∷ [])) ≡ Some (record {
       name = codes "explain";
@@ -107,6 +127,20 @@ pub explain_words : (a b c kinds : Choice) → option_map met (subcommand_of (bi
     })
 unfolding clap_on_literals
 explain_words a b c kinds = refl
+
+-- by those that are built in
+pub explain_standard_words : (a b c kinds : Choice) → option_map met (subcommand_of (bidi_app a b c kinds)
+    (codes "bidi" ∷ codes "explain" ∷ codes "FILE" ∷ [])) ≡ Some (record {
+      name = codes "explain";
+      tables = None;
+      classes = None;
+      direction = Auto;
+      columns = None;
+      kind = None;
+      file = Some (codes "FILE");
+    })
+unfolding clap_on_literals
+explain_standard_words a b c kinds = refl
 
 -- and of classes, whose blanks stand within one word
 pub explain_classes_words : (a b c kinds : Choice) → option_map met (subcommand_of (bidi_app a b c kinds)

@@ -5,6 +5,7 @@ ghost use Rattle.command.specs.CommandLine.{Choice, classes_rule, columns_rule, 
 ghost use Rattle.command.specs.CommandLine.{file_rule, kind_rule, kind_words, tables_rule, words_of};
 
 use clap::Arg;
+use clap::builder::ValueParser;
 use std::alloc::Global;
 
 const DIRECTIONS: [&str; 4] = ["auto", "ltr", "rtl", "auto-rtl"];
@@ -22,15 +23,16 @@ pub fn file_argument<'a>(alloc: Global) -> Arg<'a>
         .help("The file to read, or `-` for standard input")
 }
 
-/// `--tables DIR`, which may be left out.
-pub fn tables_argument<'a>(alloc: Global) -> Arg<'a>
+/// `--tables DIR`, which may be left out and is not empty, with this help.
+pub fn tables_argument<'a>(alloc: Global, help: &'a str) -> Arg<'a>
     ensures rule { rule_of result ≡ tables_rule }
     ensures local { result.global ≡ false }
 {
     Arg::new(alloc, "tables")
         .long("tables")
         .value_name("DIR")
-        .help("The folder of DerivedBidiClass.txt, BidiBrackets.txt and BidiMirroring.txt")
+        .value_parser(ValueParser::NonEmptyString)
+        .help(help)
 }
 
 /// `--direction`, which is `auto` where it is left out.

@@ -23,7 +23,7 @@ fn levels_command<'a>(alloc: Global) -> Result<Command<'a>, AllocError>
         .about("Prints the levels of a text")
         .long_about(help::LEVELS_LONG_ABOUT)
         .after_help(help::LEVELS_EXAMPLE)
-        .arg(tables_argument(alloc).required(true))?
+        .arg(tables_argument(alloc, help::TABLES_HELP))?
         .arg(direction_argument(alloc))?
         .arg(file_argument(alloc))
 }
@@ -37,7 +37,7 @@ fn reorder_command<'a>(alloc: Global) -> Result<Command<'a>, AllocError>
         .about("Prints the lines of a text as they are shown")
         .long_about(help::REORDER_LONG_ABOUT)
         .after_help(help::REORDER_EXAMPLE)
-        .arg(tables_argument(alloc).required(true))?
+        .arg(tables_argument(alloc, help::TABLES_HELP))?
         .arg(direction_argument(alloc))?
         .arg(columns_argument(alloc))?
         .arg(file_argument(alloc))
@@ -55,7 +55,7 @@ pub fn explain_command<'a>(alloc: Global) -> Result<Command<'a>, AllocError>
         .long_about(help::EXPLAIN_LONG_ABOUT)
         .after_help(help::EXPLAIN_EXAMPLE)
         .override_usage(help::EXPLAIN_USAGE)
-        .arg(tables_argument(alloc))?
+        .arg(tables_argument(alloc, help::TABLES_HELP))?
         .arg(classes_argument(alloc))?
         .arg(direction_argument(alloc))?
         .arg(file_argument(alloc).required(false))
@@ -71,7 +71,7 @@ fn judge_command<'a>(alloc: Global) -> Result<Command<'a>, AllocError>
         .long_about(help::JUDGE_LONG_ABOUT)
         .after_help(help::JUDGE_EXAMPLE)
         .arg(kind_argument(alloc))?
-        .arg(tables_argument(alloc))?
+        .arg(tables_argument(alloc, help::JUDGE_TABLES_HELP))?
         .arg(file_argument(alloc))
 }
 

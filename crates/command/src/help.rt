@@ -14,13 +14,23 @@ Ends with status 0 where it is done or the verdict is yes, 1 where the verdict i
 2 where the command line is refused, and 3 where a file can't be read, a line of a
 table is faulty, a text is not UTF-8, a write fails or memory is refused.";
 
-/// What stands behind the name in the line of the version: the rules that are followed, and the kit that they are
-/// proved with.
-pub const BIDI_VERSION: &str =
-    "(rules P1 to L2 and L4 of UAX #9, Unicode 15.0)\nproved with rattle-kit-13b logic dac8208d650f15bf";
+/// What stands behind the name in the text of the version: the rules that are followed, the edition whose tables are
+/// built in, and the kit that all is proved with.
+pub const BIDI_VERSION: &str = "(rules P1 to L2 and L4 of UAX #9, Unicode 15.0)
+tables of Unicode 15.0.0 built in
+proved with rattle-kit-13b logic dac8208d650f15bf";
 
 /// What stands at the end of the help of `bidi`.
-pub const BIDI_EXAMPLE: &str = "Example:\n  bidi levels --tables ucd text.txt";
+pub const BIDI_EXAMPLE: &str = "Example:\n  bidi levels text.txt";
+
+/// What `--tables` names, where the tables that are built in serve without it.
+pub const TABLES_HELP: &str =
+    "The folder of DerivedBidiClass.txt, BidiBrackets.txt and BidiMirroring.txt; without it the tables of Unicode \
+     15.0 that are built in are used";
+
+/// What `--tables` names, where it is needed for files of characters.
+pub const JUDGE_TABLES_HELP: &str =
+    "The folder of DerivedBidiClass.txt, BidiBrackets.txt and BidiMirroring.txt, of the edition of the test file";
 
 /// What `levels` prints, and with which status it ends.
 pub const LEVELS_LONG_ABOUT: &str = "Prints the levels of a text, in UTF-8.
@@ -35,7 +45,8 @@ read, a line of a table is faulty, the text is not UTF-8, a write fails or memor
 refused.";
 
 /// What stands at the end of the help of `levels`.
-pub const LEVELS_EXAMPLE: &str = "Example:\n  bidi levels --tables ucd --direction rtl text.txt";
+pub const LEVELS_EXAMPLE: &str =
+    "Examples:\n  bidi levels --direction rtl text.txt\n  bidi levels --tables ucd text.txt";
 
 /// What `reorder` prints, and with which status it ends.
 pub const REORDER_LONG_ABOUT: &str = "Prints the lines of a text, in UTF-8, as they are shown.
@@ -49,7 +60,8 @@ read, a line of a table is faulty, the text is not UTF-8, a write fails or memor
 refused.";
 
 /// What stands at the end of the help of `reorder`.
-pub const REORDER_EXAMPLE: &str = "Example:\n  bidi reorder --tables ucd --columns 80 text.txt";
+pub const REORDER_EXAMPLE: &str =
+    "Examples:\n  bidi reorder --columns 80 text.txt\n  bidi reorder --tables ucd text.txt";
 
 /// What `explain` prints, and with which status it ends.
 pub const EXPLAIN_LONG_ABOUT: &str =
@@ -69,21 +81,20 @@ class, and 3 where a file can't be read, a line of a table is faulty, the text i
 UTF-8, a write fails or memory is refused.";
 
 /// How `explain` is called.
-pub const EXPLAIN_USAGE: &str = "bidi explain [OPTIONS] --tables <DIR> <FILE>
+pub const EXPLAIN_USAGE: &str = "bidi explain [OPTIONS] <FILE>
        bidi explain [OPTIONS] --classes <CLASSES>";
 
 /// What stands at the end of the help of `explain`.
 pub const EXPLAIN_EXAMPLE: &str = "Examples:
-  bidi explain --tables ucd text.txt
+  bidi explain text.txt
   bidi explain --classes 'R ON LRE L'";
 
 /// Why `explain` is refused with classes and a text.
 pub const EXPLAIN_BOTH: &str =
     "the argument '--classes <CLASSES>' cannot be used with '--tables <DIR>' or '<FILE>'";
 
-/// Why `explain` is refused without classes and without a text by tables.
-pub const EXPLAIN_NEITHER: &str =
-    "'--tables <DIR>' and '<FILE>' are required, or '--classes <CLASSES>'";
+/// Why `explain` is refused without classes and without a text.
+pub const EXPLAIN_NEITHER: &str = "'<FILE>' is required, or '--classes <CLASSES>'";
 
 /// What `judge` prints, and with which status it ends.
 pub const JUDGE_LONG_ABOUT: &str = "Judges a conformance file.

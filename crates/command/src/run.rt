@@ -1,7 +1,7 @@
 // A run of the command.
 ghost use Rattle.std.specs.Prelude.{◌≡◌, ◌≢◌, ◌≤◌, ◌⊎◌};
 ghost use Rattle.clap.specs.Walk.{texts};
-ghost use Rattle.command.specs.Outcomes.{CameToNo, EndsWithout, HasComeTo, HasRun, HasSaidNo};
+ghost use Rattle.command.specs.Outcomes.{RequestSaidNo, EndsWithout, EndsAsRead, HasRun, HasSaidNo};
 
 use crate::words::request_of;
 use clap::Error;
@@ -66,10 +66,10 @@ fn run_as_read<F: Files, W: Write, E: Write>(
     err: &mut E,
 ) -> u8
     ensures status { result ≤ 3 }
-    ensures ended { HasComeTo (F.facts files.now)
+    ensures ended { EndsAsRead (F.facts files.now)
         (W.contents out.old) (W.contents out.new) read.entry result }
     ensures no { result ≡ 1
-        → CameToNo (F.facts files.now) (W.contents out.old) (W.contents out.new) read.entry }
+        → RequestSaidNo (F.facts files.now) (W.contents out.old) (W.contents out.new) read.entry }
     ensures silent { result ≤ 1 → E.contents err.new ≡ E.contents err.old }
 {
     match read {

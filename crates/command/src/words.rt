@@ -5,7 +5,7 @@ ghost use Rattle.clap.specs.Simple.{subcommand_rows_of};
 ghost use Rattle.clap.specs.Walk.{first_of, one_of, rows_of, texts};
 ghost use Rattle.clap.specs.Values.{kind_of};
 ghost use Rattle.command.specs.CommandLine.{AsksFor, ColumnsAre, HasMet, IsAskedBy, IsReadAs, MakesNone};
-ghost use Rattle.command.specs.CommandLine.{direction_named, kind_named};
+ghost use Rattle.command.specs.CommandLine.{direction_named, folder_of, kind_named};
 ghost use Rattle.command.specs.Refusals.{has_classes_and_text, kind_in_subcommand, kind_without_request};
 ghost use Rattle.requests.specs.declared.request.Request.{Request as RequestOf};
 
@@ -13,7 +13,7 @@ use crate::command_line::{bidi_command, explain_command};
 use crate::help;
 use clap::error::ErrorKind;
 use clap::{ArgMatches, Command, Error};
-use requests::request::{FileKind, Print, Request};
+use requests::request::{FileKind, Print, Request, TableSource};
 use std::alloc::{AllocError, Global};
 use std::num::NonZeroU16;
 use units::level::Direction;
@@ -30,6 +30,16 @@ fn has_value(matches: &ArgMatches<'_>, id: &str) -> bool
     ensures { result ≡ is_some (first_of id.now (rows_of (found_of matches.now))) }
 {
     text_of(matches, id).is_some()
+}
+
+/// Where the tables of a text come from: the folder that is named, or the facts that are built in.
+fn tables_in<'a>(matches: &ArgMatches<'a>) -> TableSource<'a>
+    ensures { folder_of result ≡ first_of (codes "tables") (rows_of (found_of matches.now)) }
+{
+    match text_of(matches, "tables") {
+        Some(folder) => TableSource::Folder(folder),
+        None => TableSource::BuiltIn,
+    }
 }
 
 fn direction_in(matches: &ArgMatches<'_>) -> Direction
@@ -66,7 +76,7 @@ fn levels_in<'a>(matches: &ArgMatches<'a>) -> Option<Request<'a>>
         → ¬ (AsksFor (codes "levels") (rows_of (found_of matches.now)) request)) }
 {
     Some(Request::Text {
-        tables: text_of(matches, "tables")?,
+        tables: tables_in(matches),
         direction: direction_in(matches),
         file: text_of(matches, "file")?,
         print: Print::Levels,
@@ -81,14 +91,14 @@ fn reorder_in<'a>(matches: &ArgMatches<'a>) -> Option<Request<'a>>
 {
     let columns = columns_in(matches);
     Some(Request::Text {
-        tables: text_of(matches, "tables")?,
+        tables: tables_in(matches),
         direction: direction_in(matches),
         file: text_of(matches, "file")?,
         print: Print::Reorder { columns },
     })
 }
 
-/// What `explain` asks for, by its arguments: a text by tables, or classes.
+/// What `explain` asks for, by its arguments: a text, by tables that may be named, or classes.
 fn explain_in<'a>(matches: &ArgMatches<'a>) -> Option<Request<'a>>
     ensures some { IfSome result (AsksFor (codes "explain") (rows_of (found_of matches.now))) }
     ensures none { IfNone result ((request : RequestOf)
@@ -100,8 +110,8 @@ fn explain_in<'a>(matches: &ArgMatches<'a>) -> Option<Request<'a>>
         text_of(matches, "classes"),
         text_of(matches, "file"),
     ) {
-        (Some(tables), None, Some(file)) => Some(Request::Text {
-            tables,
+        (_, None, Some(file)) => Some(Request::Text {
+            tables: tables_in(matches),
             direction,
             file,
             print: Print::Explained,

@@ -5,9 +5,9 @@ use Rattle.std.specs.Char.{encode_utf8}
 use Rattle.std.specs.Fmt.{digits}
 use Rattle.std.specs.Io.KnownBytes.{Appends}
 use Rattle.std.specs.Str.{chars}
-use Rattle.std.proofs.Common.{ap, ap₂, lit≤, subst, sym, ◌∙◌}
+use Rattle.std.proofs.Common.{ap, ap₂, inl, inr, lit≤, subst, sym, ◌∙◌}
 use Rattle.units.specs.Layout.{layout_of}
-use Rattle.units.specs.Rows.{layouts_compute}
+use Rattle.units.specs.RowWords.{layouts_compute}
 use Rattle.units.specs.Limits.{standard}
 use Rattle.units.specs.Text.{lines_of}
 use Rattle.units.specs.declared.class.Class.{Class}
@@ -26,12 +26,12 @@ use Rattle.bidtests.specs.Verdicts.{Claim, Row, verdict_on}
 use Rattle.bidtests.specs.declared.verdict.Verdict.TheVariants.{Yes}
 use Rattle.requests.specs.ClassWords.{classes_named}
 use Rattle.command_tests.specs.KnownRuns.{alef_line, neutral_explained}
-use Rattle.requests.specs.Judged.{HasJudged, IsClassesVerdict, IsCharactersVerdict}
+use Rattle.requests.specs.JudgedFiles.{HasJudged, IsClassesVerdict, IsCharactersVerdict}
 use Rattle.printing.specs.LevelsText.{code_text, levels_text}
-use Rattle.command_tests.specs.MemoryFiles.{Stored, StoredFile, memory_facts}
+use Rattle.command_tests.specs.MemoryFiles.{IsWhole, Stored, StoredFile, memory_facts, stored_at}
 use Rattle.requests.specs.Printed.{HasExplained, HasPrinted}
 use Rattle.printing.specs.PrintedTexts.{printed_levels, printed_reorder}
-use Rattle.requests.specs.ReadFiles.{AreTables}
+use Rattle.requests.specs.ReadFiles.{AreTables, FileNamed, IsClassPath, class_name, in_folder, most_file_bytes}
 use Rattle.printing.specs.ReorderText.{reorder_text}
 use Rattle.bidtests.specs.VerdictText.{verdict_text}
 use Rattle.explain.specs.Explained.{explained_classes}
@@ -39,6 +39,7 @@ use Rattle.explain.specs.ExplainedRows.{no_strong}
 use Rattle.requests.specs.Outcomes.{IsDone}
 use Rattle.requests.specs.declared.request.FileKind.TheVariants.{Classes, Characters}
 use Rattle.requests.specs.declared.request.Print.TheVariants.{Levels, Reorder}
+use Rattle.requests.specs.declared.request.TableSource.TheVariants.{Folder}
 use Rattle.requests.specs.declared.request.Request.TheVariants.{Text, ExplainClasses, Judge}
 use Rattle.requests.specs.declared.fault.Fault.{Fault}
 use Rattle.requests.specs.declared.outcome.Outcome.{Outcome}
@@ -83,10 +84,18 @@ chars_row : chars (215 ∷ 144 ∷ []) ≡ 1488 ∷ []
 unfolding chars
 chars_row = refl
 
+-- the classes stand in the folder itself
+class_path_is : (bytes path : List ℕ) → IsClassPath (memory_facts (files_with bytes)) (codes "t") path → path ≡ in_folder (codes "t") class_name
+class_path_is bytes path (inl e) = e
+class_path_is bytes path (inr h) = let refused = h.0 in cc
+
 alef_is : (bytes : List ℕ) (tables : TablesOf) → AreTables (memory_facts (files_with bytes)) (codes "t") tables → unit_by tables 1488 ≡ alef_unit
 alef_is bytes tables h =
+    let class_file : IsWhole (stored_at (files_with bytes) (FileNamed (in_folder (codes "t") class_name))) most_file_bytes h.class_bytes =
+    subst (λ (path : List ℕ). IsWhole (stored_at (files_with bytes) (FileNamed path)) most_file_bytes h.class_bytes)
+    (class_path_is bytes h.class_path h.class_found) h.class_file in
     let class : class_by tables.classes 1488 ≡ R =
-    h.classes.stated 1488 (lit≤ tt) ∙ ap (λ bytes. class_of bytes 1488) h.class_file.0 ∙ class_row in
+    h.classes.stated 1488 (lit≤ tt) ∙ ap (λ bytes. class_of bytes 1488) class_file.0 ∙ class_row in
     let bracket : bracket_by tables.brackets 1488 ≡ No =
     h.brackets.stated 1488 (lit≤ tt) ∙ ap (λ bytes. bracket_stated h.brackets.key (bracket_of bytes 1488)) h.bracket_file.0 ∙ bracket_row h.brackets.key in
     ap₂ (λ (c : Class) (b : Bracket). let unit : BidiUnit = record { class = c; bracket = b } in unit) class bracket
@@ -98,31 +107,33 @@ levels_row : levels_text (1488 ∷ []) alef (layout_of standard alef Auto []) �
 unfolding layouts_compute code_text digits
 levels_row = refl
 
-pub levels_of_alef : (before after : Option (List ℕ))
-    → HasPrinted (memory_facts alef_files) (λ tables text. printed_levels tables text Auto) (codes "t") (codes "FILE") before after
+pub levels_of_alef : (folder : Bor (List ℕ)) (before after : Option (List ℕ)) → folder.now ≡ codes "t"
+    → HasPrinted (memory_facts alef_files) (λ tables text. printed_levels tables text Auto) (Folder folder) (codes "FILE") before after
     → Appends before after (codes "paragraph 0 level 1\n0 05D0 R 1\n")
-levels_of_alef before after h =
+levels_of_alef folder before after f h =
+    let stated = subst (λ (name : List ℕ). AreTables (memory_facts alef_files) name h.tables) f h.stated in
     let text : chars h.bytes ≡ 1488 ∷ [] = ap chars h.read.0 ∙ chars_row in
     let printed : printed_levels h.tables (chars h.bytes) Auto ≡ codes "paragraph 0 level 1\n0 05D0 R 1\n" =
     ap (λ (cs : List ℕ). printed_levels h.tables cs Auto) text
-    ∙ ap (λ (units : List BidiUnit). levels_text (1488 ∷ []) units (layout_of standard units Auto [])) (alef_units h.tables h.stated) ∙ levels_row in
+    ∙ ap (λ (units : List BidiUnit). levels_text (1488 ∷ []) units (layout_of standard units Auto [])) (alef_units h.tables stated) ∙ levels_row in
     subst (λ (bytes : List ℕ). Appends before after bytes) printed h.said
 
 line_row : (images : ℕ → Option ℕ) → images 1488 ≡ None → reorder_text images (1488 ∷ []) alef (layout_of standard alef Auto []) ≡ alef_line
 unfolding layouts_compute encode_utf8
 line_row images none = rw none refl
 
-pub line_of_alef : (before after : Option (List ℕ))
-    → HasPrinted (memory_facts alef_files) (λ tables text. printed_reorder tables text Auto None) (codes "t") (codes "FILE") before after
+pub line_of_alef : (folder : Bor (List ℕ)) (before after : Option (List ℕ)) → folder.now ≡ codes "t"
+    → HasPrinted (memory_facts alef_files) (λ tables text. printed_reorder tables text Auto None) (Folder folder) (codes "FILE") before after
     → Appends before after alef_line
-line_of_alef before after h =
+line_of_alef folder before after f h =
+    let stated = subst (λ (name : List ℕ). AreTables (memory_facts alef_files) name h.tables) f h.stated in
     let text : chars h.bytes ≡ 1488 ∷ [] = ap chars h.read.0 ∙ chars_row in
     let image : glyph_by h.tables.mirrors 1488 ≡ None =
-    h.stated.mirrors.stated 1488 (lit≤ tt) ∙ ap (λ bytes. mirror_of bytes 1488) h.stated.mirror_file.0 ∙ mirror_row in
+    stated.mirrors.stated 1488 (lit≤ tt) ∙ ap (λ bytes. mirror_of bytes 1488) stated.mirror_file.0 ∙ mirror_row in
     let printed : printed_reorder h.tables (chars h.bytes) Auto None ≡ alef_line =
     ap (λ (cs : List ℕ). printed_reorder h.tables cs Auto None) text
     ∙ ap (λ (units : List BidiUnit). reorder_text (glyph_by h.tables.mirrors) (1488 ∷ []) units (layout_of standard units Auto []))
-    (alef_units h.tables h.stated) ∙ line_row (glyph_by h.tables.mirrors) image in
+    (alef_units h.tables stated) ∙ line_row (glyph_by h.tables.mirrors) image in
     subst (λ (bytes : List ℕ). Appends before after bytes) printed h.said
 
 -- the class of a word that names ON
@@ -192,18 +203,18 @@ line_of_characters_verdict before after status h =
 
 -- what was done over these files, as a request asks
 pub levels_done : (files : Stored) (folder file : Bor (List ℕ)) (before after : Option (List ℕ)) (outcome : Outcome) → files ≡ alef_files
-    → folder.now ≡ codes "t" → file.now ≡ codes "FILE" → IsDone (memory_facts files) before after (Text folder Auto file Levels) outcome
+    → folder.now ≡ codes "t" → file.now ≡ codes "FILE" → IsDone (memory_facts files) before after (Text (Folder folder) Auto file Levels) outcome
     → Appends before after (codes "paragraph 0 level 1\n0 05D0 R 1\n")
 levels_done files folder file before after (Judged status) e f g h = absurd h
 levels_done files folder file before after Printed e f g h =
-    levels_of_alef before after (rw (e, f, g) at h)
+    levels_of_alef folder before after f (rw (e, g) at h)
 
 pub line_done : (files : Stored) (folder file : Bor (List ℕ)) (before after : Option (List ℕ)) (outcome : Outcome) → files ≡ alef_files
-    → folder.now ≡ codes "t" → file.now ≡ codes "FILE" → IsDone (memory_facts files) before after (Text folder Auto file (Reorder None)) outcome
+    → folder.now ≡ codes "t" → file.now ≡ codes "FILE" → IsDone (memory_facts files) before after (Text (Folder folder) Auto file (Reorder None)) outcome
     → Appends before after alef_line
 line_done files folder file before after (Judged status) e f g h = absurd h
 line_done files folder file before after Printed e f g h =
-    line_of_alef before after (rw (e, f, g) at h)
+    line_of_alef folder before after f (rw (e, g) at h)
 
 pub explanation_done : (files : Stored) (word : Bor (List ℕ)) (before after : Option (List ℕ)) (outcome : Outcome)
     → word.now ≡ codes "ON" → IsDone (memory_facts files) before after (ExplainClasses word Auto) outcome

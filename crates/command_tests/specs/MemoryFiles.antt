@@ -1,10 +1,10 @@
 -- Files and standard input in memory: which of them an origin names, and what a source over it hands out.
-use Rattle.std.specs.Prelude.{◌≡◌, ◌≤◌, ℕ, min, List, [], ◌++◌, Option, None, Some, length, find}
+use Rattle.std.specs.Prelude.{◌≡◌, ◌≤◌, ℕ, min, List, ◌++◌, Option, None, Some, length, find}
 use Rattle.std.specs.Borrow.{Bor}
 use Rattle.std.specs.Io.KnownBytes.{Consumes, IsAtEnd}
 use Rattle.std.specs.Str.{bytes_eq}
 use Rattle.std.proofs.Common.{append-nil, arith, sym, ap, subst, ◌∙◌}
-use Rattle.units.specs.HandsOut.{Reading, HasEnded, failures_of}
+use Rattle.units.specs.HandsOut.{Reading, ReaderHasEnded, failures_of}
 use Rattle.units.specs.declared.reader_source.State.TheVariants.{Open}
 use Rattle.requests.specs.ReadFiles.{FileFacts, FileNamed, Gives, Origin, StandardInput}
 
@@ -37,17 +37,13 @@ abbrev pub IsWhole : Option StoredFile → ℕ → List ℕ → Type 0
 IsWhole None most bytes = ⊥
 IsWhole (Some file) most bytes = (bytes ≡ file.bytes) × (length bytes ≤ min most file.readable)
 
--- there is no such file, or it begins with these bytes
-abbrev pub StopsBehind : Option StoredFile → List ℕ → Type 0
-StopsBehind None bytes = bytes ≡ []
-StopsBehind (Some file) bytes = FileBeginsWith (Some file) bytes
-
 -- what is said of files and standard input in memory
 abbrev pub memory_facts : Stored → FileFacts
 memory_facts stored = record {
+  Refuses = λ origin most. stored_at stored origin ≡ None;
   Begins = λ origin most bytes. FileBeginsWith (stored_at stored origin) bytes;
   Holds = λ origin most bytes. IsWhole (stored_at stored origin) most bytes;
-  Fails = λ origin most bytes. StopsBehind (stored_at stored origin) bytes;
+  Fails = λ origin most bytes. FileBeginsWith (stored_at stored origin) bytes;
 }
 
 -- a source stands over the file, with its limit, and was not read yet
@@ -65,11 +61,6 @@ pub begins-gave : (file : Option StoredFile) (most : ℕ) (opened now : Reading)
 begins-gave None most opened now bytes stands given = absurd stands
 begins-gave (Some file) most opened now bytes stands given = first_rest opened.remaining file.bytes bytes given.first.0 stands.0 given.first.1
 
-pub stops-gave : (file : Option StoredFile) (most : ℕ) (opened now : Reading) (bytes : List ℕ)
-    → StandsOver file most opened → Gives opened bytes now → StopsBehind file bytes
-stops-gave None most opened now bytes stands given = absurd stands
-stops-gave (Some file) most opened now bytes stands given = begins-gave (Some file) most opened now bytes stands given
-
 all_of : (known after : Option (List ℕ)) (xs bytes : List ℕ) → known ≡ Some xs → Consumes known after bytes → IsAtEnd after → bytes ≡ xs
 all_of known None xs bytes e h at_end = absurd (subst (λ k. Consumes k None bytes) e h)
 all_of known (Some ys) xs bytes e h at_end =
@@ -77,7 +68,7 @@ all_of known (Some ys) xs bytes e h at_end =
     sym (append-nil bytes) ∙ ap (λ zs. bytes ++ zs) (sym at_end) ∙ sym taken
 
 pub whole-gave : (file : Option StoredFile) (most : ℕ) (opened now : Reading) (bytes : List ℕ)
-    → StandsOver file most opened → Gives opened bytes now → HasEnded now → IsWhole file most bytes
+    → StandsOver file most opened → Gives opened bytes now → ReaderHasEnded now → IsWhole file most bytes
 whole-gave None most opened now bytes stands given ended = absurd stands
 whole-gave (Some file) most opened now bytes stands given ended = (
   all_of opened.remaining now.remaining file.bytes bytes stands.0 (given.consumed (ap failures_of ended.state_is)) ended.no_more,

@@ -4,7 +4,7 @@ ghost use Rattle.command_tests.specs.KnownRuns.{alef_line, neutral_explained};
 
 use crate::memory_files::{MemoryFiles, whole};
 use requests::performing::perform;
-use requests::request::{FileKind, Print, Request};
+use requests::request::{FileKind, Print, Request, TableSource};
 use std::alloc::Global;
 use units::level::Direction;
 
@@ -21,7 +21,7 @@ fn print_levels_of_alef(alloc: Global, tables: &str, file: &str, out: &mut Vec<u
         whole("FILE", b"\xd7\x90"),
     ];
     let request = Request::Text {
-        tables,
+        tables: TableSource::Folder(tables),
         direction: Direction::Auto,
         file,
         print: Print::Levels,
@@ -42,7 +42,7 @@ fn print_lines_of_alef(alloc: Global, tables: &str, file: &str, out: &mut Vec<u8
         whole("FILE", b"\xd7\x90"),
     ];
     let request = Request::Text {
-        tables,
+        tables: TableSource::Folder(tables),
         direction: Direction::Auto,
         file,
         print: Print::Reorder { columns: None },

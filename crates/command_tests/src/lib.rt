@@ -3,9 +3,13 @@
 #![tactic(auto)]
 
 #[cfg(test)]
+mod built_in;
+#[cfg(test)]
 mod command_lines;
 #[cfg(test)]
 mod explaining;
+#[cfg(test)]
+mod extracted;
 #[cfg(test)]
 mod failing_files;
 #[cfg(test)]

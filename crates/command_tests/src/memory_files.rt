@@ -1,6 +1,6 @@
 //! Files and standard input in memory, of which a read may fail behind some of the bytes.
 ghost use Rattle.std.specs.Prelude.{◌≡◌};
-ghost use Rattle.command_tests.specs.MemoryFiles.{StandsOver, begins-gave, memory_facts, stops-gave, stored_at, whole-gave};
+ghost use Rattle.command_tests.specs.MemoryFiles.{StandsOver, begins-gave, memory_facts, stored_at, whole-gave};
 
 use requests::files::{Files, OpenFault};
 use std::alloc::Global;
@@ -93,7 +93,7 @@ impl<'a> Files for MemoryFiles<'a> {
     ghost gave_all = { λ files origin most opened now bytes. whole-gave (stored_at files origin) most opened now bytes };
 
     ghost gave_up = { λ files origin most opened now bytes stands given _.
-        stops-gave (stored_at files origin) most opened now bytes stands given };
+        begins-gave (stored_at files origin) most opened now bytes stands given };
 
     fn file(&self, _alloc: Global, name: &str, most: u64) -> Result<Self::Source, OpenFault> {
         match self.files.iter().find(|file| file.name == name) {

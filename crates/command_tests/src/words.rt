@@ -1,12 +1,14 @@
 //! Words that are refused, help and the version.
 use crate::runs::{Ending, Text, assert_run};
 
-const REFUSED_LINES: [&'static [&'static str]; 27] = [
+const REFUSED_LINES: [&'static [&'static str]; 30] = [
     &[],
     &["bidi"],
     &["bidi", "other"],
-    &["bidi", "levels", "FILE"],
+    &["bidi", "levels"],
     &["bidi", "levels", "--tables", "t"],
+    &["bidi", "levels", "--tables", "", "FILE"],
+    &["bidi", "levels", "--tables=", "FILE"],
     &[
         "bidi",
         "levels",
@@ -17,7 +19,7 @@ const REFUSED_LINES: [&'static [&'static str]; 27] = [
         "FILE",
     ],
     &["bidi", "levels", "--tables", "t", "--columns", "2", "FILE"],
-    &["bidi", "reorder", "FILE"],
+    &["bidi", "reorder", "--tables", "", "FILE"],
     &["bidi", "reorder", "--tables", "t", "--columns", "0", "FILE"],
     &[
         "bidi",
@@ -30,7 +32,7 @@ const REFUSED_LINES: [&'static [&'static str]; 27] = [
     ],
     &["bidi", "reorder", "--tables", "t", "--columns", "x", "FILE"],
     &["bidi", "explain"],
-    &["bidi", "explain", "FILE"],
+    &["bidi", "explain", "--tables", "", "FILE"],
     &["bidi", "explain", "--tables", "t"],
     &["bidi", "explain", "--classes"],
     &["bidi", "explain", "--classes", "R", "FILE"],
@@ -42,6 +44,7 @@ const REFUSED_LINES: [&'static [&'static str]; 27] = [
     &["bidi", "judge", "--kind", "Classes", "FILE"],
     &["bidi", "judge", "--kind", "other", "FILE"],
     &["bidi", "judge", "--kind", "characters", "--tables", "FILE"],
+    &["bidi", "judge", "--kind", "classes", "--tables", "", "FILE"],
     &[
         "bidi",
         "judge",
@@ -71,18 +74,22 @@ fn refuses_command_lines(rt: HostRuntime) {
 
 #[test]
 fn says_what_is_refused(rt: HostRuntime) {
-    let rows: [(&[&str], &[u8]); 4] = [
+    let rows: [(&[&str], &[u8]); 5] = [
         (
-            &["bidi", "explain", "FILE"],
-            b"error: '--tables <DIR>' and '<FILE>' are required, or '--classes <CLASSES>'\n\nUsage: bidi explain [OPTIONS] --tables <DIR> <FILE>\n       bidi explain [OPTIONS] --classes <CLASSES>\n\nFor more information, try '--help'.\n",
+            &["bidi", "explain", "--tables", "t"],
+            b"error: '<FILE>' is required, or '--classes <CLASSES>'\n\nUsage: bidi explain [OPTIONS] <FILE>\n       bidi explain [OPTIONS] --classes <CLASSES>\n\nFor more information, try '--help'.\n",
         ),
         (
             &["bidi", "explain", "--classes", "R", "FILE"],
-            b"error: the argument '--classes <CLASSES>' cannot be used with '--tables <DIR>' or '<FILE>'\n\nUsage: bidi explain [OPTIONS] --tables <DIR> <FILE>\n       bidi explain [OPTIONS] --classes <CLASSES>\n\nFor more information, try '--help'.\n",
+            b"error: the argument '--classes <CLASSES>' cannot be used with '--tables <DIR>' or '<FILE>'\n\nUsage: bidi explain [OPTIONS] <FILE>\n       bidi explain [OPTIONS] --classes <CLASSES>\n\nFor more information, try '--help'.\n",
         ),
         (
             &["bidi", "judge", "--kind", "other", "FILE"],
             b"error: invalid value 'other' for '--kind <KIND>'\n  [possible values: classes, characters]\n\nFor more information, try '--help'.\n",
+        ),
+        (
+            &["bidi", "levels", "--tables", "", "FILE"],
+            b"error: a value is required for '--tables <DIR>' but none was supplied\n\nFor more information, try '--help'.\n",
         ),
         (
             &["bidi", "reorder", "--tables", "t", "--columns", "0", "FILE"],
@@ -118,7 +125,7 @@ fn prints_help(rt: HostRuntime) {
 #[test]
 fn prints_the_version(rt: HostRuntime) {
     let version =
-        b"bidi (rules P1 to L2 and L4 of UAX #9, Unicode 15.0)\nproved with rattle-kit-13b logic dac8208d650f15bf\n";
+        b"bidi (rules P1 to L2 and L4 of UAX #9, Unicode 15.0)\ntables of Unicode 15.0.0 built in\nproved with rattle-kit-13b logic dac8208d650f15bf\n";
     for word in ["--version", "-V"] {
         assert_run(
             &rt,

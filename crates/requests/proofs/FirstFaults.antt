@@ -8,14 +8,18 @@ use Rattle.ucdfiles.specs.Faults.{first_fault}
 use Rattle.ucdfiles.specs.PairFiles.{bracket_fault, bracket_file_fault, mirror_fault, mirror_file_fault}
 use Rattle.ucdfiles.specs.Tables.{TablesOf}
 use Rattle.requests.specs.ReadFiles.{AreTables, FileFacts, most_file_bytes, origin_of}
-use Rattle.requests.specs.FaultText.{print_fault}
+use Rattle.requests.specs.TableSources.{AreTablesBy}
+use Rattle.requests.specs.FaultText.{EndsOpening, print_fault}
 use Rattle.requests.specs.Outcomes.{IsDone}
 use Rattle.requests.specs.Printed.{HasPrinted, most_text_bytes}
-use Rattle.requests.specs.Steps.{AreDone, EndsWriting, FailsIn, IsFirstFault, RequestStep, file_step, printing_steps, steps_of, table_steps, text_steps}
+use Rattle.requests.specs.Steps.{AreDone, EndsFile, EndsWriting, FailsIn, IsFirstFault, RequestStep, file_step, printing_steps, source_steps, steps_of, table_steps, text_steps}
 use Rattle.requests.specs.declared.request.FileKind.TheVariants.{Classes, Characters}
+use Rattle.requests.specs.declared.request.TableSource.{TableSource}
+use Rattle.requests.specs.declared.request.TableSource.TheVariants.{Folder, BuiltIn}
 use Rattle.requests.specs.declared.request.Request.{Request}
 use Rattle.requests.specs.declared.request.Request.TheVariants.{Text, ExplainClasses, Judge}
 use Rattle.requests.specs.declared.fault.Fault.{Fault}
+use Rattle.requests.specs.declared.fault.Fault.TheVariants.{WordNotUtf8, TablesNeeded, ClassesTooLong, NoClass, CannotRead, FaultyLine, NotUtf8, CannotWrite, OutOfMemory}
 use Rattle.printing.specs.declared.fault.PrintFault.{PrintFault}
 use Rattle.printing.specs.declared.fault.PrintFault.TheVariants.{Write, Memory}
 use Rattle.requests.specs.declared.outcome.Outcome.{Outcome}
@@ -40,6 +44,19 @@ pub FailsIn-behind : (xs ys : List RequestStep) (before after : Option (List ℕ
 FailsIn-behind xs ys before after fault done (inl h) = inl (first_behind xs ys fault done h.0, h.1)
 FailsIn-behind xs ys before after fault done (inr h) = inr (all_done xs ys done h.0, h.1)
 
+-- what ends the opening of what FILE names ends its reading
+pub opening_ends : (files : FileFacts) (most : ℕ) (file : List ℕ) (fault : Fault) → EndsOpening (files.Refuses (origin_of file) most) file fault
+    → EndsFile files most file fault
+opening_ends files most file (CannotRead unread) h = (h.0, inl h.1)
+opening_ends files most file OutOfMemory h = tt
+opening_ends files most file WordNotUtf8 h = absurd h
+opening_ends files most file TablesNeeded h = absurd h
+opening_ends files most file ClassesTooLong h = absurd h
+opening_ends files most file (NoClass name) h = absurd h
+opening_ends files most file (FaultyLine name line e) h = absurd h
+opening_ends files most file (NotUtf8 name) h = absurd h
+opening_ends files most file CannotWrite h = absurd h
+
 -- the tables that were read state no fault
 pub class_faultless : (bytes : List ℕ) → class_file_fault bytes ≡ None → first_fault class_fault [] (lines_of bytes) ≡ None
 unfolding class_file_fault
@@ -55,19 +72,23 @@ mirror_faultless bytes h = h
 
 pub tables_done : (files : FileFacts) (folder : List ℕ) (tables : TablesOf) → AreTables files folder tables → AreDone (table_steps files folder)
 tables_done files folder tables h = (
-  (h.class_bytes, h.class_file, class_faultless h.class_bytes h.classes.faultless),
+  (h.class_path, h.class_found, (h.class_bytes, h.class_file, class_faultless h.class_bytes h.classes.faultless)),
   (
     (h.bracket_bytes, h.bracket_file, bracket_faultless h.bracket_bytes h.brackets.faultless),
     ((h.mirror_bytes, h.mirror_file, mirror_faultless h.mirror_bytes h.mirrors.faultless), tt),
   ),
 )
 
+pub source_done : (files : FileFacts) (source : TableSource) (tables : TablesOf) → AreTablesBy files source tables → AreDone (source_steps files source)
+source_done files (Folder folder) tables h = tables_done files folder.now tables h
+source_done files BuiltIn tables h = ((tables, h), tt)
+
 -- and so are all steps of the printing of a text
-pub text_done : (files : FileFacts) (folder file : List ℕ) (tables : TablesOf) → AreTables files folder tables
-    → (bytes : List ℕ) → files.Holds (origin_of file) most_text_bytes bytes → IsUtf8 bytes → AreDone (printing_steps files folder file)
+pub text_done : (files : FileFacts) (source : TableSource) (file : List ℕ) (tables : TablesOf) → AreTablesBy files source tables
+    → (bytes : List ℕ) → files.Holds (origin_of file) most_text_bytes bytes → IsUtf8 bytes → AreDone (printing_steps files source file)
 unfolding printing_steps
-text_done files folder file tables h bytes whole utf8 =
-    all_done (table_steps files folder) (text_steps files file) (tables_done files folder tables h) ((bytes, whole), ((bytes, whole, utf8), tt))
+text_done files source file tables h bytes whole utf8 =
+    all_done (source_steps files source) (text_steps files file) (source_done files source tables h) ((bytes, whole), ((bytes, whole, utf8), tt))
 
 writing_ends : (f : PrintFault) → EndsWriting (print_fault f)
 writing_ends Write = tt
@@ -80,11 +101,11 @@ printing_fails steps before after (Ok x) f done h = tt
 printing_fails steps before after (Err fault) f done h = inr (done, subst EndsWriting (sym h) (writing_ends f))
 
 -- what was printed by the tables and of the text that were read is what FILE holds
-pub has_printed : (files : FileFacts) (printed : TablesOf → List ℕ → List ℕ) (folder file : List ℕ) (tables : TablesOf) (text : List ℕ)
-    (before after : Option (List ℕ)) → AreTables files folder tables
+pub has_printed : (files : FileFacts) (printed : TablesOf → List ℕ → List ℕ) (source : TableSource) (file : List ℕ) (tables : TablesOf) (text : List ℕ)
+    (before after : Option (List ℕ)) → AreTablesBy files source tables
     → ((bytes : List ℕ) × files.Holds (origin_of file) most_text_bytes bytes × IsUtf8 bytes × (text ≡ chars bytes))
-    → Appends before after (printed tables text) → HasPrinted files printed folder file before after
-has_printed files printed folder file tables text before after stated read said = record {
+    → Appends before after (printed tables text) → HasPrinted files printed source file before after
+has_printed files printed source file tables text before after stated read said = record {
   tables = tables;
   stated = stated;
   bytes = read.0;
@@ -96,14 +117,14 @@ has_printed files printed folder file tables text before after stated read said 
 -- what was done was read before
 pub request_done : (files : FileFacts) (before after : Option (List ℕ)) (request : Request) (outcome : Outcome)
     → IsDone files before after request outcome → AreDone (steps_of files request)
-request_done files before after (Text folder direction file print) Printed h =
-    text_done files folder.now file.now h.tables h.stated h.bytes h.read h.utf8
+request_done files before after (Text source direction file print) Printed h =
+    text_done files source file.now h.tables h.stated h.bytes h.read h.utf8
 request_done files before after (ExplainClasses word direction) Printed h = (h.short, ((h.classes, h.named), tt))
 request_done files before after (Judge Classes tables file) (Judged status) h = ((h.bytes, h.read), tt)
 request_done files before after (Judge Characters (Some folder) file) (Judged status) h =
     all_done (table_steps files folder.now) (file_step files most_file_bytes file.now ∷ [])
     (tables_done files folder.now h.is.0 h.is.1) ((h.bytes, h.read), tt)
-request_done files before after (Text folder direction file print) (Judged status) h = absurd h
+request_done files before after (Text source direction file print) (Judged status) h = absurd h
 request_done files before after (ExplainClasses word direction) (Judged status) h = absurd h
 request_done files before after (Judge Classes tables file) Printed h = absurd h
 request_done files before after (Judge Characters (Some folder) file) Printed h = absurd h

@@ -1,9 +1,10 @@
 pub mod ClassWords
 pub mod FaultText
-pub mod Judged
+pub mod JudgedFiles
 pub mod Outcomes
 pub mod Printed
 pub mod ReadFiles
 pub mod Steps
 pub mod SystemFiles
 pub mod TableFaults
+pub mod TableSources

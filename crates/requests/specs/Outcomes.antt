@@ -7,7 +7,7 @@ use Rattle.requests.specs.declared.fault.Fault.{Fault}
 use Rattle.requests.specs.declared.outcome.Outcome.{Outcome}
 use Rattle.requests.specs.declared.outcome.Outcome.TheVariants.{Judged, Printed}
 use Rattle.requests.specs.FaultText.{fault_status}
-use Rattle.requests.specs.Judged.{HasJudged, HasJudgedBy, IsClassesVerdict}
+use Rattle.requests.specs.JudgedFiles.{HasJudged, HasJudgedBy, IsClassesVerdict}
 use Rattle.requests.specs.Printed.{HasExplained, HasPrinted, printed_text}
 use Rattle.requests.specs.ReadFiles.{FileFacts}
 use Rattle.requests.specs.Steps.{FailsIn, steps_of}
@@ -19,10 +19,10 @@ outcome_status (Ok Printed) = 0
 outcome_status (Err fault) = fault_status fault
 
 -- what was asked for is done: what is to be printed of the text or of classes is printed, or the file is judged, by
--- the tables of the folder that is named
+-- the tables that are asked for
 abbrev pub IsDone : FileFacts → Option (List ℕ) → Option (List ℕ) → Request → Outcome → Type 0
-IsDone files before after (Text folder direction file print) Printed =
-    HasPrinted files (printed_text print direction) folder.now file.now before after
+IsDone files before after (Text source direction file print) Printed =
+    HasPrinted files (printed_text print direction) source file.now before after
 IsDone files before after (ExplainClasses word direction) Printed = HasExplained word.now direction before after
 IsDone files before after (Judge Classes tables file) (Judged status) =
     HasJudged files IsClassesVerdict file.now before after status

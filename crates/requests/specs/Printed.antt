@@ -10,7 +10,9 @@ use Rattle.printing.specs.PrintedTexts.{printed_levels, printed_reorder}
 use Rattle.requests.specs.ClassWords.{classes_named}
 use Rattle.requests.specs.declared.request.Print.{Print}
 use Rattle.requests.specs.declared.request.Print.TheVariants.{Levels, Reorder, Explained}
-use Rattle.requests.specs.ReadFiles.{FileFacts, AreTables, origin_of}
+use Rattle.requests.specs.declared.request.TableSource.{TableSource}
+use Rattle.requests.specs.ReadFiles.{FileFacts, origin_of}
+use Rattle.requests.specs.TableSources.{AreTablesBy}
 
 -- what is printed of a text, by tables
 abbrev pub printed_text : Print → Direction → TablesOf → List ℕ → List ℕ
@@ -28,10 +30,10 @@ HoldsText files file text =
     (bytes : List ℕ) × files.Holds (origin_of file) most_text_bytes bytes × IsUtf8 bytes × (text ≡ chars bytes)
 
 -- what FILE names was read whole and is UTF-8, and what known bytes grew by is what is printed of its characters
--- by the tables of the folder
-pub record HasPrinted (files : FileFacts) (printed : TablesOf → List ℕ → List ℕ) (folder file : List ℕ) (before after : Option (List ℕ)) : Type 0 where
+-- by the tables of this source
+pub record HasPrinted (files : FileFacts) (printed : TablesOf → List ℕ → List ℕ) (source : TableSource) (file : List ℕ) (before after : Option (List ℕ)) : Type 0 where
   pub tables : TablesOf
-  pub stated : AreTables files folder tables
+  pub stated : AreTablesBy files source tables
   pub bytes : List ℕ
   pub read : files.Holds (origin_of file) most_text_bytes bytes
   pub utf8 : IsUtf8 bytes

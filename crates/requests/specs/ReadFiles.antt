@@ -1,5 +1,5 @@
 -- What was read, from standard input or from files by their names, and the tables that three files state.
-use Rattle.std.specs.Prelude.{ℕ, ◌^◌, List, [], ◌∷◌, codes, if◌then◌else◌}
+use Rattle.std.specs.Prelude.{◌≡◌, ◌⊎◌, ℕ, ◌^◌, List, [], ◌∷◌, codes, if◌then◌else◌}
 use Rattle.std.specs.List.{concat}
 use Rattle.std.specs.Str.{bytes_eq}
 use Rattle.units.specs.HandsOut.{Reading, HandsOut}
@@ -24,9 +24,10 @@ origin_of word = if bytes_eq word (codes "-") then StandardInput else FileNamed 
 abbrev pub OfOrigin : Type 1
 OfOrigin = Origin → ℕ → List ℕ → Type 0
 
--- what is said of origins: that one begins with these bytes; that it holds them and no more; that it can't be opened,
--- or a read behind them fails
+-- what is said of origins: that one can't be opened with a limit; that it begins with these bytes; that it holds them
+-- and no more; that a read behind them fails
 pub record FileFacts : Type 1 where
+  pub Refuses : Origin → ℕ → Type 0
   pub Begins : OfOrigin
   pub Holds : OfOrigin
   pub Fails : OfOrigin
@@ -35,9 +36,13 @@ pub record FileFacts : Type 1 where
 abbrev pub most_file_bytes : ℕ
 most_file_bytes = 2 ^ 40
 
--- the names of the tables' files
+-- the names of the tables' files in their folder
 abbrev pub class_name : List ℕ
 class_name = codes "DerivedBidiClass.txt"
+
+-- another of the classes, where Unicode publishes it
+abbrev pub extracted_name : List ℕ
+extracted_name = codes "extracted/DerivedBidiClass.txt"
 
 abbrev pub bracket_name : List ℕ
 bracket_name = codes "BidiBrackets.txt"
@@ -49,6 +54,21 @@ mirror_name = codes "BidiMirroring.txt"
 abbrev pub in_folder : List ℕ → List ℕ → List ℕ
 in_folder folder name = concat (folder ∷ codes "/" ∷ name ∷ [])
 
+-- the file of this name in the folder can't be opened
+abbrev pub CannotOpen : FileFacts → List ℕ → List ℕ → Type 0
+CannotOpen files folder name = files.Refuses (FileNamed (in_folder folder name)) most_file_bytes
+
+-- this is the path of the classes' file: of the one in the folder, or where that can't be opened of the one in its folder
+-- `extracted`
+abbrev pub IsClassPath : FileFacts → List ℕ → List ℕ → Type 0
+IsClassPath files folder path =
+    (path ≡ in_folder folder class_name) ⊎ (CannotOpen files folder class_name × (path ≡ in_folder folder extracted_name))
+
+-- the file of the classes was read whole, and its bytes state this
+abbrev pub HoldsClasses : FileFacts → List ℕ → (List ℕ → Type 0) → Type 0
+HoldsClasses files folder States = (path : List ℕ) × (bytes : List ℕ)
+    × IsClassPath files folder path × files.Holds (FileNamed path) most_file_bytes bytes × States bytes
+
 -- the file of this name in the folder was read whole, and its bytes state this
 abbrev pub HoldsTable : FileFacts → List ℕ → List ℕ → (List ℕ → Type 0) → Type 0
 HoldsTable files folder name States =
@@ -56,8 +76,10 @@ HoldsTable files folder name States =
 
 -- the tables are those that the bytes of the folder's three files state, each read whole
 pub record AreTables (files : FileFacts) (folder : List ℕ) (tables : TablesOf) : Type 0 where
+  pub class_path : List ℕ
   pub class_bytes : List ℕ
-  pub class_file : files.Holds (FileNamed (in_folder folder class_name)) most_file_bytes class_bytes
+  pub class_found : IsClassPath files folder class_path
+  pub class_file : files.Holds (FileNamed class_path) most_file_bytes class_bytes
   pub classes : StatesClasses class_bytes (class_by tables.classes)
   pub bracket_bytes : List ℕ
   pub bracket_file : files.Holds (FileNamed (in_folder folder bracket_name)) most_file_bytes bracket_bytes

@@ -4,16 +4,20 @@ use Rattle.std.specs.Str.{IsUtf8}
 use Rattle.ucdfiles.specs.ClassFile.{class_fault}
 use Rattle.ucdfiles.specs.PairFiles.{bracket_fault, mirror_fault}
 use Rattle.ucdfiles.specs.declared.fault.Fault.{Fault as LineFault}
+use Rattle.ucdfiles.specs.Tables.{TablesOf}
 use Rattle.units.specs.declared.class.Class.{Class}
 use Rattle.requests.specs.ClassWords.{EndsNames, classes_named}
 use Rattle.requests.specs.declared.request.FileKind.TheVariants.{Classes, Characters}
+use Rattle.requests.specs.declared.request.TableSource.{TableSource}
+use Rattle.requests.specs.declared.request.TableSource.TheVariants.{Folder, BuiltIn}
 use Rattle.requests.specs.declared.request.Request.{Request}
 use Rattle.requests.specs.declared.request.Request.TheVariants.{Text, ExplainClasses, Judge}
 use Rattle.requests.specs.declared.fault.Fault.{Fault}
 use Rattle.requests.specs.declared.fault.Fault.TheVariants.{TablesNeeded, ClassesTooLong, CannotRead, NotUtf8, CannotWrite, OutOfMemory}
 use Rattle.requests.specs.Printed.{most_text_bytes}
-use Rattle.requests.specs.ReadFiles.{FileFacts, class_name, bracket_name, mirror_name, in_folder, most_file_bytes, origin_of}
-use Rattle.requests.specs.TableFaults.{EndsTable, IsFaultless}
+use Rattle.requests.specs.ReadFiles.{FileFacts, IsClassPath, bracket_name, mirror_name, in_folder, most_file_bytes, origin_of}
+use Rattle.requests.specs.TableFaults.{EndsClasses, EndsTable, IsFaultless}
+use Rattle.requests.specs.TableSources.{AreBuiltIn, EndsBuiltIn}
 
 -- a step: that it is done, and the faults that end it
 pub record RequestStep : Type 1 where
@@ -36,7 +40,8 @@ EndsUnnamed fault = fault ≡ TablesNeeded
 
 -- when a fault ends the reading of what FILE names: it can't be opened, a read of it fails, or memory was refused
 abbrev pub EndsFile : FileFacts → ℕ → List ℕ → Fault → Type 0
-EndsFile files most file (CannotRead unread) = (unread.now ≡ file) × (bytes : List ℕ) × files.Fails (origin_of file) most bytes
+EndsFile files most file (CannotRead unread) =
+    (unread.now ≡ file) × (files.Refuses (origin_of file) most ⊎ ((bytes : List ℕ) × files.Fails (origin_of file) most bytes))
 EndsFile files most file OutOfMemory = Unit {0}
 EndsFile files most file _ = ⊥
 
@@ -64,6 +69,13 @@ names_step word = record {
 abbrev pub classes_steps : List ℕ → List RequestStep
 classes_steps word = length_step word ∷ names_step word ∷ []
 
+-- the making of the tables that are built in
+abbrev pub built_in_step : RequestStep
+built_in_step = record {
+  Done = (tables : TablesOf) × AreBuiltIn tables;
+  EndsBy = EndsBuiltIn;
+}
+
 -- when a fault ends the writing: a write failed, or memory was refused
 abbrev pub EndsWriting : Fault → Type 0
 EndsWriting CannotWrite = Unit {0}
@@ -80,13 +92,25 @@ module _ (files : FileFacts) where
   abbrev pub table_step : (List (List ℕ) → List ℕ → Option LineFault) → List ℕ → List ℕ → RequestStep
   table_step fault folder name = record {
     Done = IsFaultless files fault (in_folder folder name);
-    EndsBy = EndsTable files fault (in_folder folder name) name;
+    EndsBy = EndsTable files fault folder name;
+  }
+
+  -- the reading of its classes
+  abbrev pub class_step : List ℕ → RequestStep
+  class_step folder = record {
+    Done = (path : List ℕ) × IsClassPath files folder path × IsFaultless files class_fault path;
+    EndsBy = EndsClasses files folder;
   }
 
   -- the classes, the brackets, the mirror images
   abbrev pub table_steps : List ℕ → List RequestStep
   table_steps folder =
-      table_step class_fault folder class_name ∷ table_step bracket_fault folder bracket_name ∷ table_step mirror_fault folder mirror_name ∷ []
+      class_step folder ∷ table_step bracket_fault folder bracket_name ∷ table_step mirror_fault folder mirror_name ∷ []
+
+  -- what is read for the tables of this source
+  abbrev pub source_steps : TableSource → List RequestStep
+  source_steps (Folder folder) = table_steps folder.now
+  source_steps BuiltIn = built_in_step ∷ []
 
   -- the reading of what FILE names to its end
   abbrev pub file_step : ℕ → List ℕ → RequestStep
@@ -106,8 +130,8 @@ module _ (files : FileFacts) where
   text_steps file = file_step most_text_bytes file ∷ characters_step file ∷ []
 
   -- what is read to print a text
-  unfoldable pub printing_steps : List ℕ → List ℕ → List RequestStep
-  printing_steps folder file = table_steps folder ++ text_steps file
+  unfoldable pub printing_steps : TableSource → List ℕ → List RequestStep
+  printing_steps source file = source_steps source ++ text_steps file
 
   -- what is read to judge a file of characters
   abbrev pub characters_steps : List ℕ → List ℕ → List RequestStep
@@ -115,7 +139,7 @@ module _ (files : FileFacts) where
 
   -- what is read for a request, in this order
   abbrev pub steps_of : Request → List RequestStep
-  steps_of (Text folder direction file print) = printing_steps folder.now file.now
+  steps_of (Text source direction file print) = printing_steps source file.now
   steps_of (ExplainClasses word direction) = classes_steps word.now
   steps_of (Judge Classes tables file) = file_step most_file_bytes file.now ∷ []
   steps_of (Judge Characters (Some folder) file) = characters_steps folder.now file.now

@@ -1,7 +1,7 @@
 -- What reading a file of the system or its standard input came to, by the limit that it was opened with; of its name
 -- nothing is known.
-use Rattle.std.specs.Prelude.{◌≡◌, ◌⊎◌, ℕ, List, []}
-use Rattle.units.specs.HandsOut.{Reading, HasEnded, failures_of}
+use Rattle.std.specs.Prelude.{◌≡◌, ℕ, List}
+use Rattle.units.specs.HandsOut.{Reading, ReaderHasEnded, failures_of}
 use Rattle.units.specs.declared.reader_source.State.TheVariants.{Open}
 use Rattle.requests.specs.ReadFiles.{FileFacts, Gives}
 
@@ -23,7 +23,7 @@ pub record WasReadWhole (most : ℕ) (bytes : List ℕ) : Type 0 where
   pub now : Reading
   pub as_named : IsOpened most opened
   pub given : Gives opened bytes now
-  pub whole : HasEnded now
+  pub whole : ReaderHasEnded now
 
 -- or failed
 pub record GaveUp (most : ℕ) (bytes : List ℕ) : Type 0 where
@@ -33,14 +33,11 @@ pub record GaveUp (most : ℕ) (bytes : List ℕ) : Type 0 where
   pub given : Gives opened bytes now
   pub failed : failures_of now.state ≡ 1
 
--- no source was opened, or one failed
-abbrev pub HasFailed : ℕ → List ℕ → Type 0
-HasFailed most bytes = (bytes ≡ []) ⊎ GaveUp most bytes
-
--- what is said of files of the system and its standard input
+-- what is said of files of the system and its standard input: nothing of whether one can be opened
 abbrev pub system_facts : FileFacts
 system_facts = record {
+  Refuses = λ _ _. Unit {0};
   Begins = λ _ most bytes. HasBegun most bytes;
   Holds = λ _ most bytes. WasReadWhole most bytes;
-  Fails = λ _ most bytes. HasFailed most bytes;
+  Fails = λ _ most bytes. GaveUp most bytes;
 }

@@ -2,13 +2,15 @@
 use Rattle.std.specs.Prelude.{◌≡◌, ◌⊎◌, ℕ, List, [], Option, Some, None}
 use Rattle.std.specs.Borrow.{Bor}
 use Rattle.units.specs.Text.{lines_of, settled_lines}
+use Rattle.ucdfiles.specs.ClassFile.{class_fault}
 use Rattle.ucdfiles.specs.Faults.{first_fault, line_of_fault}
 use Rattle.ucdfiles.specs.declared.fault.Fault.{Fault as LineFault}
 use Rattle.ucdfiles.specs.declared.fault.TableFault.{TableFault}
 use Rattle.ucdfiles.specs.declared.fault.TableFault.TheVariants as table
 use Rattle.requests.specs.declared.fault.Fault.{Fault}
 use Rattle.requests.specs.declared.fault.Fault.TheVariants.{CannotRead, FaultyLine, OutOfMemory}
-use Rattle.requests.specs.ReadFiles.{FileFacts, FileNamed, most_file_bytes}
+use Rattle.requests.specs.FaultText.{EndsOpening}
+use Rattle.requests.specs.ReadFiles.{CannotOpen, FileFacts, FileNamed, IsClassPath, class_name, extracted_name, in_folder, most_file_bytes}
 
 -- the fault of a table's file of this name: that of the line that it has, else memory or a read
 abbrev pub said_as : Bor (List ℕ) → TableFault → Option ℕ → Fault
@@ -27,19 +29,31 @@ HasFault files fault path e = (bytes : List ℕ)
     × ((files.Begins (FileNamed path) most_file_bytes bytes × (first_fault fault [] (settled_lines bytes) ≡ Some e))
     ⊎ (files.Holds (FileNamed path) most_file_bytes bytes × (first_fault fault [] (lines_of bytes) ≡ Some e)))
 
--- the file can't be opened, or a read fails behind bytes without a faulty line
-abbrev pub CannotBeRead : FileFacts → (List (List ℕ) → List ℕ → Option LineFault) → List ℕ → Type 0
-CannotBeRead files fault path = (bytes : List ℕ) × files.Fails (FileNamed path) most_file_bytes bytes × (first_fault fault [] (settled_lines bytes) ≡ None)
+-- a read fails behind bytes without a faulty line
+abbrev pub FailsFaultless : FileFacts → (List (List ℕ) → List ℕ → Option LineFault) → List ℕ → Type 0
+FailsFaultless files fault path = (bytes : List ℕ) × files.Fails (FileNamed path) most_file_bytes bytes × (first_fault fault [] (settled_lines bytes) ≡ None)
 
 -- the file was read whole, and no line is faulty
 abbrev pub IsFaultless : FileFacts → (List (List ℕ) → List ℕ → Option LineFault) → List ℕ → Type 0
 IsFaultless files fault path = (bytes : List ℕ) × files.Holds (FileNamed path) most_file_bytes bytes × (first_fault fault [] (lines_of bytes) ≡ None)
 
--- when a fault, said by this name, ends the reading of a table: the file can't be read, its first faulty line is said,
--- or memory was refused
-abbrev pub EndsTable : FileFacts → (List (List ℕ) → List ℕ → Option LineFault) → List ℕ → List ℕ → Fault → Type 0
-EndsTable files fault path name (CannotRead unread) = (unread.now ≡ name) × CannotBeRead files fault path
-EndsTable files fault path name (FaultyLine faulty line e) =
+-- when a fault, said by this name, ends the reading of a table's file that was opened: a read fails, its first faulty
+-- line is said, or memory was refused
+abbrev pub EndsReading : FileFacts → (List (List ℕ) → List ℕ → Option LineFault) → List ℕ → List ℕ → Fault → Type 0
+EndsReading files fault path name (CannotRead unread) = (unread.now ≡ name) × FailsFaultless files fault path
+EndsReading files fault path name (FaultyLine faulty line e) =
     (faulty.now ≡ name) × (line_of_fault e ≡ Some line) × HasFault files fault path e
-EndsTable files fault path name OutOfMemory = Unit {0}
-EndsTable files fault path name _ = ⊥
+EndsReading files fault path name OutOfMemory = Unit {0}
+EndsReading files fault path name _ = ⊥
+
+-- when a fault ends the reading of the folder's table of this name: its file can't be opened, or its reading ends so
+abbrev pub EndsTable : FileFacts → (List (List ℕ) → List ℕ → Option LineFault) → List ℕ → List ℕ → Fault → Type 0
+EndsTable files fault folder name said =
+    EndsOpening (CannotOpen files folder name) name said ⊎ EndsReading files fault (in_folder folder name) name said
+
+-- when a fault ends the reading of the folder's classes: neither of the two files can be opened, or the reading of the
+-- first that opens ends so; the file in the folder is named
+abbrev pub EndsClasses : FileFacts → List ℕ → Fault → Type 0
+EndsClasses files folder said =
+    EndsOpening (CannotOpen files folder class_name × CannotOpen files folder extracted_name) class_name said
+    ⊎ ((path : List ℕ) × IsClassPath files folder path × EndsReading files class_fault path class_name said)

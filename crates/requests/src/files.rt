@@ -1,11 +1,10 @@
 // Files by their names, and standard input.
-ghost use Rattle.std.specs.Prelude.{◌≡◌, ◌≤◌, ℕ, List, [], IfOk, IfErr};
-ghost use Rattle.std.proofs.Common.{inr};
+ghost use Rattle.std.specs.Prelude.{◌≡◌, ◌≤◌, ℕ, List, IfOk, IfErr};
 ghost use Rattle.requests.specs.ReadFiles.{FileFacts, FileNamed, Origin, StandardInput};
 ghost use Rattle.requests.specs.SystemFiles.{IsOpened, system_facts};
 
 use either::Either;
-use std::alloc::Global;
+use std::alloc::{AllocError, Global};
 use std::io::{self, Input};
 use units::reader_source::ReaderSource;
 use units::source::ByteSource;
@@ -19,6 +18,17 @@ pub enum OpenFault {
     Memory,
 }
 
+impl From<AllocError> for OpenFault {
+    ghost use Rattle.std.specs.Prelude.{◌≡◌};
+    ghost use Rattle.requests.specs.declared.files.OpenFault.TheVariants.{Memory};
+
+    ghost from_gives = { λ _ fault. fault ≡ Memory };
+
+    fn from(_error: AllocError) -> Self {
+        OpenFault::Memory
+    }
+}
+
 /// Files that can be read, by their names, and standard input. Of each it is said what reading it comes to, with a
 /// limit of so many bytes.
 pub trait Files {
@@ -28,7 +38,7 @@ pub trait Files {
     // The source was opened as the file of a name or as standard input, to hand out at most so many bytes.
     ghost opens: { Self → Origin → ℕ → Self.Source → Type 0 };
 
-    // What each of them begins with, what it holds, and where it fails.
+    // Which of them can't be opened, and what each begins with, what it holds, and where it fails.
     ghost facts: { Self → FileFacts };
 
     /// A source of the bytes of the file of this name, of which a read past the first `most` bytes fails. The fault is
@@ -37,7 +47,7 @@ pub trait Files {
         ensures opened { IfOk result (opens self.now (FileNamed name.now) most) }
         ensures limit { IfOk result (λ source. Self.Source.room source ≤ most) }
         ensures cannot { IfErr result (λ fault. fault ≡ OpenFault.Cannot
-            → (facts self.now).Fails (FileNamed name.now) most []) };
+            → (facts self.now).Refuses (FileNamed name.now) most) };
 
     /// A source of the bytes of standard input, of which a read past the first `most` bytes fails. The faults are the
     /// same.
@@ -45,7 +55,7 @@ pub trait Files {
         ensures opened { IfOk result (opens self.now StandardInput most) }
         ensures limit { IfOk result (λ source. Self.Source.room source ≤ most) }
         ensures cannot { IfErr result (λ fault. fault ≡ OpenFault.Cannot
-            → (facts self.now).Fails StandardInput most []) };
+            → (facts self.now).Refuses StandardInput most) };
 
     ghost gave: { (files : Self) (origin : Origin) (most : ℕ) (opened now : Self.Source) (bytes : List ℕ)
         → opens files origin most opened → Self.Source.gives opened bytes now → (facts files).Begins origin most bytes };
@@ -87,7 +97,7 @@ impl<'a, R: std::rt::Files + Input> Files for SystemFiles<'a, R> {
         record { opened = opened; now = now; as_named = as_named; given = given; whole = whole } };
 
     ghost gave_up = { λ _ _ most opened now bytes as_named given failed.
-        inr (record { opened = opened; now = now; as_named = as_named; given = given; failed = failed }) };
+        record { opened = opened; now = now; as_named = as_named; given = given; failed = failed } };
 
     fn file(&self, _alloc: Global, name: &str, most: u64) -> Result<Self::Source, OpenFault> {
         match std::fs::open(self.rt, name) {

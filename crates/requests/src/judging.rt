@@ -1,7 +1,7 @@
 // A file judged, and its verdict printed.
 ghost use Rattle.std.specs.Prelude.{◌≡◌, ◌≤◌, [], ◌∷◌, ℕ, List, IfOk, IfErr};
 ghost use Rattle.bidtests.specs.Standing.{IsVerdictBehind};
-ghost use Rattle.requests.specs.Judged.{HasJudged, HasJudgedBy, IsClassesVerdict, verdict_status};
+ghost use Rattle.requests.specs.JudgedFiles.{HasJudged, HasJudgedBy, IsClassesVerdict, verdict_status};
 ghost use Rattle.requests.specs.Outcomes.{IsDone};
 ghost use Rattle.requests.specs.ReadFiles.{most_file_bytes, origin_of};
 ghost use Rattle.requests.specs.Steps.{EndsFile, FailsIn, characters_steps, file_step, steps_of};

@@ -13,4 +13,5 @@ mod reading;
 pub mod request;
 pub mod run;
 mod table_files;
+mod table_source;
 pub mod verdict_line;

@@ -1,7 +1,7 @@
 // Files and standard input opened.
-ghost use Rattle.std.specs.Prelude.{◌≡◌, ◌≤◌, [], IfOk, IfErr};
+ghost use Rattle.std.specs.Prelude.{◌≡◌, ◌≤◌, IfOk, IfErr};
 ghost use Rattle.requests.specs.FaultText.{EndsOpening};
-ghost use Rattle.requests.specs.ReadFiles.{FileNamed, origin_of};
+ghost use Rattle.requests.specs.ReadFiles.{origin_of};
 
 use crate::fault::Fault;
 use crate::files::{Files, OpenFault};
@@ -16,26 +16,6 @@ pub const MOST_TEXT_BYTES: u64 = 16_777_216;
 /// The word for FILE that names standard input.
 const STANDARD_INPUT: &str = "-";
 
-/// Opens the file at this path, of which a read past the first `most` bytes fails. The faults are that it can't be
-/// opened, said by the name that is given, and refused memory.
-pub fn open_file<'a, F: Files>(
-    alloc: Global,
-    files: &F,
-    path: &str,
-    name: &'a str,
-    most: u64,
-) -> Result<F::Source, Fault<'a>>
-    ensures opened { IfOk result (F.opens files.now (FileNamed path.now) most) }
-    ensures limit { IfOk result (λ source. F.Source.ByteSource.room source ≤ most) }
-    ensures fault { IfErr result (EndsOpening ((F.facts files.now).Fails (FileNamed path.now) most []) name.now) }
-{
-    match files.file(alloc, path, most) {
-        Ok(source) => Ok(source),
-        Err(OpenFault::Cannot) => Err(Fault::CannotRead(name)),
-        Err(OpenFault::Memory) => Err(Fault::OutOfMemory),
-    }
-}
-
 /// A source of what FILE names.
 fn source_of<F: Files>(
     alloc: Global,
@@ -46,7 +26,7 @@ fn source_of<F: Files>(
     ensures opened { IfOk result (F.opens files.now (origin_of file.now) most) }
     ensures limit { IfOk result (λ source. F.Source.ByteSource.room source ≤ most) }
     ensures cannot { IfErr result (λ fault. fault ≡ OpenFault.Cannot
-        → (F.facts files.now).Fails (origin_of file.now) most []) }
+        → (F.facts files.now).Refuses (origin_of file.now) most) }
 {
     if file == STANDARD_INPUT {
         files.input(alloc, most)
@@ -65,7 +45,7 @@ pub fn open<'a, F: Files>(
 ) -> Result<F::Source, Fault<'a>>
     ensures opened { IfOk result (F.opens files.now (origin_of file.now) most) }
     ensures limit { IfOk result (λ source. F.Source.ByteSource.room source ≤ most) }
-    ensures fault { IfErr result (EndsOpening ((F.facts files.now).Fails (origin_of file.now) most []) file.now) }
+    ensures fault { IfErr result (EndsOpening ((F.facts files.now).Refuses (origin_of file.now) most) file.now) }
 {
     match source_of(alloc, files, file, most) {
         Ok(source) => Ok(source),

@@ -4,8 +4,8 @@ ghost use Rattle.std.specs.Io.KnownBytes.{Appends};
 ghost use Rattle.units.specs.Layout.{longest_text};
 ghost use Rattle.requests.specs.Outcomes.{IsDone};
 ghost use Rattle.requests.specs.Printed.{HasExplained, HasPrinted, HoldsText, printed_text};
-ghost use Rattle.requests.specs.ReadFiles.{AreTables};
 ghost use Rattle.requests.specs.Steps.{FailsIn, IsFirstFault, classes_steps, printing_steps, steps_of};
+ghost use Rattle.requests.specs.TableSources.{AreTablesBy};
 
 use crate::class_names::classes_in;
 use crate::fault::Fault;
@@ -13,8 +13,8 @@ use crate::files::Files;
 use crate::judging::judge_file;
 use crate::outcome::Outcome;
 use crate::reading::text_in_file;
-use crate::request::{Print, Request};
-use crate::table_files::read_tables;
+use crate::request::{Print, Request, TableSource};
+use crate::table_source::tables_by;
 use explain::print::{print_explained, print_explained_classes};
 use printing::fault::PrintFault;
 use printing::print::{print_levels, print_reorder};
@@ -23,27 +23,27 @@ use std::io::Write;
 use ucdfiles::tables::Tables;
 use units::level::Direction;
 
-/// A text, and the tables of the folder by which it is printed.
+/// A text, and the tables by which it is printed.
 #[derive(Drop)]
 struct TextWithTables {
     tables: Tables,
     text: Vec<char>,
 }
 
-/// The tables of the folder, which are read first, and the text in what FILE names.
+/// The tables of this source, which are read first, and the text in what FILE names.
 fn text_with_tables<'a, F: Files>(
     alloc: Global,
-    folder: &str,
+    source: TableSource<'_>,
     file: &'a str,
     files: &F,
 ) -> Result<TextWithTables, Fault<'a>>
-    ensures tables { IfOk result (λ read. AreTables (F.facts files.now) folder.now read.tables) }
+    ensures tables { IfOk result (λ read. AreTablesBy (F.facts files.now) source.entry read.tables) }
     ensures text { IfOk result (λ read. HoldsText (F.facts files.now) file.now read.text.items) }
     ensures bound { IfOk result (λ read. length read.text.items ≤ longest_text) }
     ensures fault { IfErr result
-        (IsFirstFault (printing_steps (F.facts files.now) folder.now file.now)) }
+        (IsFirstFault (printing_steps (F.facts files.now) source.entry file.now)) }
 {
-    let tables = read_tables(alloc, files, folder)?;
+    let tables = tables_by(alloc, files, source)?;
     let text = text_in_file(alloc, file, files)?;
     Ok(TextWithTables { tables, text })
 }
@@ -68,10 +68,10 @@ fn print_text<W: Write>(
     }
 }
 
-/// Prints this of the text in what FILE names, by the tables of the folder, which are read first.
+/// Prints this of the text in what FILE names, by the tables of this source, which are read first.
 fn print_file<'a, F: Files, W: Write>(
     alloc: Global,
-    folder: &str,
+    source: TableSource<'_>,
     direction: Direction,
     file: &'a str,
     print: Print,
@@ -79,11 +79,11 @@ fn print_file<'a, F: Files, W: Write>(
     out: &mut W,
 ) -> Result<(), Fault<'a>>
     ensures printed { OnOk result (HasPrinted (F.facts files.now) (printed_text print direction)
-        folder.now file.now (W.contents out.old) (W.contents out.new)) }
-    ensures fault { IfErr result (FailsIn (printing_steps (F.facts files.now) folder.now file.now)
+        source.entry file.now (W.contents out.old) (W.contents out.new)) }
+    ensures fault { IfErr result (FailsIn (printing_steps (F.facts files.now) source.entry file.now)
         (W.contents out.old) (W.contents out.new)) }
 {
-    let read = text_with_tables(alloc, folder, file, files)?;
+    let read = text_with_tables(alloc, source, file, files)?;
     print_text(alloc, &read, direction, print, out)?;
     Ok(())
 }

@@ -23,12 +23,21 @@ pub enum Print {
     Explained,
 }
 
+/// Where the tables come from.
+#[derive(Clone, Copy, Debug, PartialEq, Eq)]
+pub enum TableSource<'a> {
+    /// The three files of the folder of this name.
+    Folder(&'a str),
+    /// The facts of Unicode that are built in.
+    BuiltIn,
+}
+
 /// What is asked for. Files and folders are named as they were given.
 #[derive(Clone, Copy, Debug, PartialEq, Eq)]
 pub enum Request<'a> {
-    /// Print this of the file's text, by the tables of the folder.
+    /// Print this of the file's text, by these tables.
     Text {
-        tables: &'a str,
+        tables: TableSource<'a>,
         direction: Direction,
         file: &'a str,
         print: Print,

@@ -1,17 +1,17 @@
 // The tables of a folder.
-ghost use Rattle.std.specs.Prelude.{◌≡◌, [], IfOk, IfErr};
-ghost use Rattle.ucdfiles.specs.ClassFile.{class_fault, StatesClasses};
+ghost use Rattle.std.specs.Prelude.{◌≡◌, ℕ, List, IfOk, IfErr};
+ghost use Rattle.ucdfiles.specs.ClassFile.{StatesClasses};
 ghost use Rattle.ucdfiles.specs.PairFiles.{bracket_fault, mirror_fault, StatesBrackets, StatesMirrors};
 ghost use Rattle.ucdfiles.specs.Tables.{class_by, bracket_by, glyph_by};
 ghost use Rattle.requests.specs.FaultText.{EndsOpening};
-ghost use Rattle.requests.specs.ReadFiles.{AreTables, FileNamed, HoldsTable, class_name, bracket_name};
-ghost use Rattle.requests.specs.ReadFiles.{in_folder, mirror_name, most_file_bytes};
+ghost use Rattle.requests.specs.ReadFiles.{AreTables, CannotOpen, FileNamed, HoldsClasses, HoldsTable, IsClassPath};
+ghost use Rattle.requests.specs.ReadFiles.{bracket_name, class_name, extracted_name, in_folder, mirror_name, most_file_bytes};
 ghost use Rattle.requests.specs.Steps.{IsFirstFault, table_steps};
-ghost use Rattle.requests.specs.TableFaults.{EndsTable, table_fault};
+ghost use Rattle.requests.specs.TableFaults.{EndsClasses, EndsTable, table_fault};
 
 use crate::fault::Fault;
-use crate::files::Files;
-use crate::opening::{MOST_FILE_BYTES, open_file};
+use crate::files::{Files, OpenFault};
+use crate::opening::MOST_FILE_BYTES;
 use std::alloc::Global;
 use ucdfiles::bracket_table::BracketTable;
 use ucdfiles::class_table::ClassTable;
@@ -19,29 +19,71 @@ use ucdfiles::fault::TableFault;
 use ucdfiles::mirror_table::MirrorTable;
 use ucdfiles::tables::Tables;
 
-const CLASSES: &str = "DerivedBidiClass.txt";
+pub const CLASSES: &str = "DerivedBidiClass.txt";
 
-const BRACKETS: &str = "BidiBrackets.txt";
+/// The file of the classes, from the folder in which Unicode publishes the other two.
+const EXTRACTED_CLASSES: &str = "extracted/DerivedBidiClass.txt";
 
-const MIRRORS: &str = "BidiMirroring.txt";
+pub const BRACKETS: &str = "BidiBrackets.txt";
 
-/// Opens the table's file of this name in the folder.
+pub const MIRRORS: &str = "BidiMirroring.txt";
+
+/// Opens the file of this name in the folder.
+fn open_in<F: Files>(
+    alloc: Global,
+    files: &F,
+    folder: &str,
+    name: &str,
+) -> Result<F::Source, OpenFault>
+    ensures opened { IfOk result (F.opens files.now (FileNamed (in_folder folder.now name.now)) most_file_bytes) }
+    ensures cannot { IfErr result (λ fault. fault ≡ OpenFault.Cannot
+        → CannotOpen (F.facts files.now) folder.now name.now) }
+{
+    let path = format!(in alloc; "{folder}/{name}")?;
+    files.file(alloc, path.as_str(), MOST_FILE_BYTES)
+}
+
+/// Opens the table's file of this name in the folder. The faults are that it can't be opened, said by the name `said`,
+/// and refused memory.
 fn open_table<F: Files>(
     alloc: Global,
     files: &F,
     folder: &str,
-    name: &'static str,
+    name: &str,
+    said: &'static str,
 ) -> Result<F::Source, Fault<'static>>
     ensures opened { IfOk result (F.opens files.now (FileNamed (in_folder folder.now name.now)) most_file_bytes) }
-    ensures fault { IfErr result
-        (EndsOpening ((F.facts files.now).Fails (FileNamed (in_folder folder.now name.now)) most_file_bytes []) name.now) }
+    ensures fault { IfErr result (EndsOpening (CannotOpen (F.facts files.now) folder.now name.now) said.now) }
 {
-    let path = format!(in alloc; "{folder}/{name}")?;
-    open_file(alloc, files, path.as_str(), name, MOST_FILE_BYTES)
+    match open_in(alloc, files, folder, name) {
+        Ok(source) => Ok(source),
+        Err(OpenFault::Cannot) => Err(Fault::CannotRead(said)),
+        Err(OpenFault::Memory) => Err(Fault::OutOfMemory),
+    }
+}
+
+/// Opens the file of the classes: the one in the folder, or where that can't be opened the one in its folder
+/// `extracted`, where Unicode publishes it. Where neither can be opened, the fault names the first.
+fn open_classes<F: Files>(
+    alloc: Global,
+    files: &F,
+    folder: &str,
+) -> Result<F::Source, Fault<'static>>
+    ensures opened { IfOk result (λ source. (path : List ℕ) × IsClassPath (F.facts files.now) folder.now path
+        × F.opens files.now (FileNamed path) most_file_bytes source) }
+    ensures fault { IfErr result (EndsOpening
+        (CannotOpen (F.facts files.now) folder.now class_name
+        × CannotOpen (F.facts files.now) folder.now extracted_name) class_name) }
+{
+    match open_in(alloc, files, folder, CLASSES) {
+        Ok(source) => Ok(source),
+        Err(OpenFault::Cannot) => open_table(alloc, files, folder, EXTRACTED_CLASSES, CLASSES),
+        Err(OpenFault::Memory) => Err(Fault::OutOfMemory),
+    }
 }
 
 /// How the fault of the table's file of this name is said.
-fn fault_of_table(name: &'static str, fault: TableFault) -> Fault<'static>
+pub fn fault_of_table(name: &'static str, fault: TableFault) -> Fault<'static>
     ensures { result ≡ table_fault name.entry fault }
 {
     match (fault.line(), fault) {
@@ -57,13 +99,11 @@ fn read_classes<F: Files>(
     files: &F,
     folder: &str,
 ) -> Result<ClassTable, Fault<'static>>
-    ensures ok { IfOk result (λ table. HoldsTable (F.facts files.now) folder.now class_name
+    ensures ok { IfOk result (λ table. HoldsClasses (F.facts files.now) folder.now
         (λ bytes. StatesClasses bytes (class_by table))) }
-    ensures err { IfErr result (EndsTable
-        (F.facts files.now) class_fault
-        (in_folder folder.now class_name) class_name) }
+    ensures err { IfErr result (EndsClasses (F.facts files.now) folder.now) }
 {
-    let mut source = open_table(alloc, files, folder, CLASSES)?;
+    let mut source = open_classes(alloc, files, folder)?;
     match ClassTable::read(alloc, &mut source) {
         Ok(table) => Ok(table),
         Err(fault) => Err(fault_of_table(CLASSES, fault)),
@@ -78,11 +118,9 @@ fn read_brackets<F: Files>(
 ) -> Result<BracketTable, Fault<'static>>
     ensures ok { IfOk result (λ table. HoldsTable (F.facts files.now) folder.now bracket_name
         (λ bytes. StatesBrackets bytes (bracket_by table))) }
-    ensures err { IfErr result (EndsTable
-        (F.facts files.now) bracket_fault
-        (in_folder folder.now bracket_name) bracket_name) }
+    ensures err { IfErr result (EndsTable (F.facts files.now) bracket_fault folder.now bracket_name) }
 {
-    let mut source = open_table(alloc, files, folder, BRACKETS)?;
+    let mut source = open_table(alloc, files, folder, BRACKETS, BRACKETS)?;
     match BracketTable::read(alloc, &mut source) {
         Ok(table) => Ok(table),
         Err(fault) => Err(fault_of_table(BRACKETS, fault)),
@@ -97,18 +135,17 @@ fn read_mirrors<F: Files>(
 ) -> Result<MirrorTable, Fault<'static>>
     ensures ok { IfOk result (λ table. HoldsTable (F.facts files.now) folder.now mirror_name
         (λ bytes. StatesMirrors bytes (glyph_by table))) }
-    ensures err { IfErr result (EndsTable
-        (F.facts files.now) mirror_fault
-        (in_folder folder.now mirror_name) mirror_name) }
+    ensures err { IfErr result (EndsTable (F.facts files.now) mirror_fault folder.now mirror_name) }
 {
-    let mut source = open_table(alloc, files, folder, MIRRORS)?;
+    let mut source = open_table(alloc, files, folder, MIRRORS, MIRRORS)?;
     match MirrorTable::read(alloc, &mut source) {
         Ok(table) => Ok(table),
         Err(fault) => Err(fault_of_table(MIRRORS, fault)),
     }
 }
 
-/// Reads the tables of a folder: the classes, then the brackets, then the mirror images. The fault is the first one: a
+/// Reads the tables of a folder: the classes, from the folder or its folder `extracted`, then the brackets, then the
+/// mirror images. The fault is the first one: a
 /// file that can't be opened or read, its first faulty line, or refused memory.
 pub fn read_tables<F: Files>(
     alloc: Global,

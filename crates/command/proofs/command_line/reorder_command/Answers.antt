@@ -1,18 +1,14 @@
 use Rattle.std.proofs.Common.{◌≡◌, ◌||◌, false, codes, ap, ap₂, ◌∙◌}
 use Rattle.std.proofs.lemmas.Result.{IfOk-weaker}
 use Rattle.clap.specs.Simple.{app_of, app_of_fields, new_app, with_rule}
-use Rattle.clap.specs.Walk.{rule_of}
 use Rattle.clap.specs.declared.builder.command.Command.TheViews.{out-Command as fields_of}
-use Rattle.command.specs.CommandLine.{needed, tables_rule}
 use Rattle.command.proofs.command_line.reorder_command.Goals as goal
 
 pub returns-clause-app : goal.returns-clause-app
 returns-clause-app c =
     let plain : app_of c.after_help.result ≡ new_app (codes "reorder") =
     ap app_of_fields c.after_help.ensures ∙ ap app_of_fields c.long_about.ensures ∙ ap app_of_fields c.about.ensures ∙ c.new.ensures.app in
-    let tables : rule_of c.required.result ≡ needed tables_rule = ap rule_of c.required.ensures ∙ ap needed c.tables_argument.ensures.rule in
-    let local : c.required.result.global ≡ false = ap (λ a. a.global) c.required.ensures ∙ c.tables_argument.ensures.local in
-    let with_tables = c.in_ok-arg.ensures.shape local ∙ ap₂ with_rule plain tables in
+    let with_tables = c.in_ok-arg.ensures.shape c.tables_argument.ensures.local ∙ ap₂ with_rule plain c.tables_argument.ensures.rule in
     let direction = c.direction_argument.ensures.rule in
     let with_direction = c.in_ok-arg-2.ensures.shape c.direction_argument.ensures.local ∙ ap₂ with_rule with_tables direction.2 in
     let with_columns = c.in_ok-arg-3.ensures.shape c.columns_argument.ensures.local ∙ ap₂ with_rule with_direction c.columns_argument.ensures.rule in
@@ -26,8 +22,7 @@ pub returns-clause-local : goal.returns-clause-local
 returns-clause-local c =
     let plain : (fields_of c.after_help.result).has_globals ≡ false =
     ap (λ f. f.has_globals) c.after_help.ensures ∙ ap (λ f. f.has_globals) c.long_about.ensures ∙ ap (λ f. f.has_globals) c.about.ensures ∙ c.new.ensures.local in
-    let local : c.required.result.global ≡ false = ap (λ a. a.global) c.required.ensures ∙ c.tables_argument.ensures.local in
-    let with_tables = c.in_ok-arg.ensures.globals ∙ ap₂ ◌||◌ plain local in
+    let with_tables = c.in_ok-arg.ensures.globals ∙ ap₂ ◌||◌ plain c.tables_argument.ensures.local in
     let with_direction = c.in_ok-arg-2.ensures.globals ∙ ap₂ ◌||◌ with_tables c.direction_argument.ensures.local in
     let with_columns = c.in_ok-arg-3.ensures.globals ∙ ap₂ ◌||◌ with_direction c.columns_argument.ensures.local in
     IfOk-weaker c.arg-4.result _ _ (λ command h. h.globals ∙ ap₂ ◌||◌ with_columns c.file_argument.ensures.local) c.arg-4.ensures

@@ -1,4 +1,4 @@
-use Rattle.std.proofs.Common.{rules, ◌≡◌, refl}
+use Rattle.std.proofs.Common.{rules, ◌≡◌, inr, refl}
 use Rattle.requests.proofs.judging.verdict_on.Goals as goal
 
 pub returns-in-Ok-clause-verdict : goal.returns-in-Ok-clause-verdict
@@ -10,4 +10,4 @@ pub returns-clause-fault : goal.returns-clause-fault
 returns-clause-fault g c =
     let given = c.in-Err.ensures.given in
     let failed : g.F.Source.ByteSource.failures c.judge_reader.new.source ≡ 1 = search rules in
-    (refl, given.0, g.met.F.Files.gave_up _ _ _ _ _ _ c.in_ok-source.ensures.opened given.1 failed)
+    (refl, inr (given.0, g.met.F.Files.gave_up _ _ _ _ _ _ c.in_ok-source.ensures.opened given.1 failed))

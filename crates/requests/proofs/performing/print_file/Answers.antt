@@ -9,8 +9,8 @@ pub returns-in_err-print_text-clause-fault : goal.returns-in_err-print_text-clau
 returns-in_err-print_text-clause-fault g c =
     let files = g.F.Files.facts c.args.files.now in
     let text = c.in_ok-read.ensures.text in
-    let done = text_done files c.args.folder.now c.args.file.now _ c.in_ok-read.ensures.tables text.0 text.1 text.2 in
-    printing_fails (printing_steps files c.args.folder.now c.args.file.now) _ _ _ _ done c.from_residual-in_err-print_text.ensures.1
+    let done = text_done files c.args.source c.args.file.now _ c.in_ok-read.ensures.tables text.0 text.1 text.2 in
+    printing_fails (printing_steps files c.args.source c.args.file.now) _ _ _ _ done c.from_residual-in_err-print_text.ensures.1
 
 pub returns-clause-printed : goal.returns-clause-printed
 returns-clause-printed g c =

@@ -1,4 +1,4 @@
-use Rattle.std.proofs.Common.{rules, ◌≡◌, ℕ, List, ◌++◌, take, ap, ◌∙◌, append-nil, refl, subst}
+use Rattle.std.proofs.Common.{rules, ◌≡◌, ℕ, List, ◌++◌, take, ap, ◌∙◌, append-nil, inr, refl, subst}
 use Rattle.requests.proofs.reading.bytes_in_file.Goals as goal
 
 pub returns-in-Err-clause-fault : goal.returns-in-Err-clause-fault
@@ -6,7 +6,7 @@ returns-in-Err-clause-fault g c =
     let opened = c.loop-bytes.invariant.is in
     let given = g.met.F.Source.ByteSource.gives_joined _ _ _ _ _ c.loop-bytes.invariant.given c.in-Err.ensures.none_given in
     let failed : g.F.Source.ByteSource.failures c.read.new.self ≡ 1 = search rules in
-    (refl, _, g.met.F.Files.gave_up _ _ _ _ _ _ opened given failed)
+    (refl, inr (_, g.met.F.Files.gave_up _ _ _ _ _ _ opened given failed))
 
 pub returns-in-Ok-eq0-clause-bytes : goal.returns-in-Ok-eq0-clause-bytes
 returns-in-Ok-eq0-clause-bytes g c =

@@ -1,4 +1,4 @@
-use Rattle.std.proofs.Common.{ap, Err}
+use Rattle.std.proofs.Common.{Err, ap, inr}
 use Rattle.ucdfiles.specs.PairFiles.{bracket_fault}
 use Rattle.requests.proofs.TableEnds.{table_ends}
 use Rattle.requests.proofs.table_files.read_brackets.Goals as goal
@@ -16,4 +16,4 @@ returns-clause-err g c =
     (g.met.F.Files.gave _ _ _ _ _ _ opened read.1)
     (λ whole. g.met.F.Files.gave_all _ _ _ _ _ _ opened read.1 whole) _ c.in-Err.fault
     (λ e. g.met.F.Files.gave_up _ _ _ _ _ _ opened read.1 (c.in-Err.ensures.read.0 (ap Err e))) read.2 in
-    rw c.fault_of_table.ensures ends
+    rw c.fault_of_table.ensures (inr ends)

@@ -5,11 +5,11 @@ use Rattle.requests.proofs.table_files.read_tables.Goals as goal
 pub returns-in_err-brackets-clause-fault : goal.returns-in_err-brackets-clause-fault
 returns-in_err-brackets-clause-fault g c =
     let classes = c.in_ok-classes.ensures.ok in
-    let faultless = class_faultless classes.0 classes.2.faultless in search rules
+    let faultless = class_faultless classes.1 classes.4.faultless in search rules
 
 pub returns-in_err-mirrors-clause-fault : goal.returns-in_err-mirrors-clause-fault
 returns-in_err-mirrors-clause-fault g c =
     let classes = c.in_ok-classes.ensures.ok in
-    let class_free = class_faultless classes.0 classes.2.faultless in
+    let class_free = class_faultless classes.1 classes.4.faultless in
     let brackets = c.in_ok-brackets.ensures.ok in
     let bracket_free = bracket_faultless brackets.0 brackets.2.faultless in search rules

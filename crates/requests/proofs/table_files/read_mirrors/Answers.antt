@@ -1,0 +1,19 @@
+use Rattle.std.proofs.Common.{Err, ap, inr}
+use Rattle.ucdfiles.specs.PairFiles.{mirror_fault}
+use Rattle.requests.proofs.TableEnds.{table_ends}
+use Rattle.requests.proofs.table_files.read_mirrors.Goals as goal
+
+pub returns-in-Ok-clause-ok : goal.returns-in-Ok-clause-ok
+returns-in-Ok-clause-ok g c =
+    let read = c.in-Ok.ensures.ok in
+    (read.0, g.met.F.Files.gave_all _ _ _ _ _ _ c.in_ok-source.ensures.opened read.1 read.2, read.3)
+
+pub returns-clause-err : goal.returns-clause-err
+returns-clause-err g c =
+    let opened = c.in_ok-source.ensures.opened in
+    let read = c.in-Err.ensures.err in
+    let ends = table_ends (g.F.Files.facts c.args.files.now) mirror_fault _ _ read.0
+    (g.met.F.Files.gave _ _ _ _ _ _ opened read.1)
+    (λ whole. g.met.F.Files.gave_all _ _ _ _ _ _ opened read.1 whole) _ c.in-Err.fault
+    (λ e. g.met.F.Files.gave_up _ _ _ _ _ _ opened read.1 (c.in-Err.ensures.read.0 (ap Err e))) read.2 in
+    rw c.fault_of_table.ensures (inr ends)

@@ -1,0 +1,45 @@
+-- What a judged file leaves behind.
+use Rattle.std.specs.Prelude.{◌≡◌, ℕ, List, Option}
+use Rattle.std.specs.Io.KnownBytes.{Appends}
+use Rattle.units.specs.Limits.{standard}
+use Rattle.ucdfiles.specs.Tables.{TablesOf, unit_by}
+use Rattle.bidtests.specs.declared.verdict.Verdict.{Verdict}
+use Rattle.bidtests.specs.declared.verdict.Verdict.TheVariants.{Yes, Malformed, Wrong}
+use Rattle.bidtests.specs.VerdictText.{verdict_text}
+use Rattle.bidtests.specs.ClassesFile.{classes_verdict}
+use Rattle.bidtests.specs.CharactersFile.{characters_verdict}
+use Rattle.requests.specs.ReadFiles.{FileFacts, AreTables, most_file_bytes, origin_of}
+
+-- the exit status after a verdict was printed: 0 for a yes, 1 for a no
+abbrev pub verdict_status : Verdict → ℕ
+verdict_status (Yes rows cases) = 0
+verdict_status (Malformed line cause) = 1
+verdict_status (Wrong line direction place) = 1
+
+-- the exit status, and what a writer's known bytes grew by, say this verdict
+pub record SaysVerdict (before after : Option (List ℕ)) (verdict : Verdict) (status : ℕ) : Type 0 where
+  pub status_is : status ≡ verdict_status verdict
+  pub line : Appends before after (verdict_text verdict)
+
+-- the verdict on the bytes of a file whose rows are lists of classes, by the standard limits
+abbrev pub IsClassesVerdict : List ℕ → Verdict → Type 0
+IsClassesVerdict bytes verdict = verdict ≡ classes_verdict standard bytes
+
+-- the verdict on the bytes of a file whose rows are lists of code points, by the standard limits and the tables of a
+-- folder that were read
+abbrev pub IsCharactersVerdict : FileFacts → List ℕ → List ℕ → Verdict → Type 0
+IsCharactersVerdict files folder bytes verdict =
+    (tables : TablesOf) × AreTables files folder tables × (verdict ≡ characters_verdict standard (unit_by tables) bytes)
+
+-- what FILE names was read whole, and what was written and the exit status say the verdict on its bytes
+pub record HasJudged (files : FileFacts) (IsVerdict : List ℕ → Verdict → Type 0) (file : List ℕ) (before after : Option (List ℕ)) (status : ℕ) : Type 0 where
+  pub bytes : List ℕ
+  pub read : files.Holds (origin_of file) most_file_bytes bytes
+  pub verdict : Verdict
+  pub is : IsVerdict bytes verdict
+  pub said : SaysVerdict before after verdict status
+
+-- the same by the tables of a folder, of a file whose rows are lists of code points
+abbrev pub HasJudgedBy : FileFacts → List ℕ → List ℕ → Option (List ℕ) → Option (List ℕ) → ℕ → Type 0
+HasJudgedBy files folder file before after status =
+    HasJudged files (IsCharactersVerdict files folder) file before after status
