@@ -64,7 +64,7 @@ fn expect_yes(
 }
 
 /// Rows that are right: the lists of their levels and of their order, the row, and how many cases it has.
-const BY_RULE: [(&str, &str, &str, u64); 11] = [
+const BY_RULE: [(&str, &str, &str, u64); 12] = [
     // X9: removed positions have no level.
     ("x", "", "LRE; 7", 3),
     // BD13: no joining across an embedding, and joining across an isolate.
@@ -85,6 +85,7 @@ const BY_RULE: [(&str, &str, &str, u64); 11] = [
     ("x 1 2", "2 1", "RLE PDI L; 2", 1),
     // Bit 8: level 1 where no strong class stands outside of isolates. An FSI acts as under auto.
     ("1", "0", "ON; 8", 1),
+    ("0", "0", "L; 8", 1),
     ("0", "0", "L; 11", 3),
     ("1", "0", "R; 13", 3),
     ("1 2 1", "2 1 0", "FSI ON PDI; 8", 1),

@@ -57,6 +57,25 @@ fn overflows(rt: HostRuntime) -> Result<(), Fail> {
     Ok(())
 }
 
+/// X5a: an initiator inside an overflow of embeddings is refused, too: what it holds stays at level 124.
+#[test]
+fn isolates_inside_an_overflow(rt: HostRuntime) -> Result<(), Fail> {
+    let mut text = vec![in rt.alloc(); unit(Class::LRE); 63]?;
+    append_units(&mut text, "RLI L")?;
+    let mut expected = Vec::new(rt.alloc());
+    repeated(&mut expected, 63, 127)?;
+    repeated(&mut expected, 2, 124)?;
+    shows_in_room(
+        &rt,
+        rt.alloc(),
+        128,
+        &text,
+        Direction::Ltr,
+        &expected,
+        &[63, 64],
+    )
+}
+
 /// The characters `a(x)ya`, where x and y are Hebrew, then `n` opening brackets, x, `n` closing ones, and y.
 fn write_brackets(text: &mut String, n: usize) -> Result<(), Fail> {
     text.push_str("a(\u{5D0})\u{5D1}a")?;

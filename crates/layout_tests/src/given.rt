@@ -37,7 +37,7 @@ pub fn tables(alloc: Global) -> Result<Tables, TableFault> {
 }
 
 /// The units of a text by these tables.
-fn units_by(alloc: Global, tables: &Tables, text: &str) -> Result<Vec<Unit>, Fail> {
+pub fn units_by(alloc: Global, tables: &Tables, text: &str) -> Result<Vec<Unit>, Fail> {
     let mut units = Vec::new(alloc);
     for c in text.chars() {
         units.push(tables.unit(c))?;

@@ -5,9 +5,13 @@
 #[cfg(test)]
 mod deep;
 #[cfg(test)]
+mod encoded_rows;
+#[cfg(test)]
 mod explained_rows;
 #[cfg(test)]
 mod given;
+#[cfg(test)]
+mod hard_rows;
 #[cfg(test)]
 mod line_rows;
 #[cfg(test)]

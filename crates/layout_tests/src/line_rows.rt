@@ -4,7 +4,7 @@ ghost use Rattle.std.specs.Prelude.{OnOk};
 
 use crate::given::{levels, numbers, shows, unit, units_of};
 use lines::breaks::{BreakFault, Breaks};
-use lines::lay_out::lay_out_into;
+use lines::lay_out::{break_anew_into, lay_out_into};
 use lines::layout::Layout;
 use lines::scratch::{RoomFault, Scratch};
 use std::alloc::Global;
@@ -79,6 +79,30 @@ fn no_growth_comes_after_making(rt: HostRuntime) -> Result<(), Fail> {
             Ok(())
         }
     }
+}
+
+/// Lays out such a text on one line, breaks it before the second letter, and then puts it on one line again.
+fn breaks_anew(rt: &impl Abort, room: &mut Scratch) -> Result<(), Fail> {
+    let text = [unit(Class::R), unit(Class::WS), unit(Class::R)];
+    let whole = Breaks::new(&[], text.len())?;
+    lay_out_into(room, &text, Direction::Ltr, &whole)?;
+    let at = [2];
+    let broken = Breaks::new(&at, text.len())?;
+    break_anew_into(room, &text, &broken);
+    let layout = room.layout();
+    assert_eq!(rt; layout.line_count(), 2);
+    line_shows(rt, &layout, 0, &[Level::new(1), Level::new(0)], &[0, 1]);
+    line_shows(rt, &layout, 1, &[Level::new(1)], &[2]);
+    break_anew_into(room, &text, &whole);
+    let levels = [Level::new(1), Level::new(1), Level::new(1)];
+    line_shows(rt, &room.layout(), 0, &levels, &[2, 1, 0]);
+    Ok(())
+}
+
+#[test]
+fn breaks_a_text_anew(rt: HostRuntime) -> Result<(), Fail> {
+    let mut room = Scratch::with_room(rt.alloc(), 3)?;
+    breaks_anew(&rt, &mut room)
 }
 
 /// In a room for two units refuses a text of three, and then lays out one of two.

@@ -1,0 +1,101 @@
+//! Texts in UTF-8 and UTF-16: what offsets of code units tell, what is refused, and what a refusal leaves.
+use crate::given::tables;
+use encoded::fault::EncodedFault;
+use encoded::lookups::EncodedLine;
+use encoded::room::Room;
+use lines::breaks::BreakFault;
+use std::alloc::Global;
+use std::process::Abort;
+use std::test::Fail;
+use ucdfiles::tables::Tables;
+use units::level::{Direction, Level};
+use units::limits::Limits;
+
+/// A Hebrew letter, of two bytes, a blank and a Latin letter.
+const UTF8: &[u8] = b"\xD7\x90 a";
+
+/// Compares the levels of the code units, from the first one on.
+fn has_levels(rt: &impl Abort, room: &Room, numbers: &[u8]) {
+    for (at, number) in numbers.iter().enumerate() {
+        assert_eq!(rt; room.level_at(at), Level::new(*number), "at {at}");
+    }
+}
+
+/// Lays out a text in UTF-8 from left to right by the limits of the standard.
+fn lay_out(room: &mut Room, tables: &Tables, bytes: &[u8], at: &[usize]) -> Option<EncodedFault> {
+    let limits = Limits::standard();
+    room.lay_out_utf8(tables, bytes, Direction::Ltr, at, limits)
+        .err()
+}
+
+/// Two lines, and the offsets of their characters.
+fn tells_offsets(rt: &impl Abort, room: &Room) {
+    has_levels(rt, room, &[1, 1, 0, 0]);
+    assert_eq!(rt; room.characters(), 3);
+    assert_eq!(rt; room.index_of(1), Some(0));
+    assert_eq!(rt; room.index_of(3), Some(2));
+    assert_eq!(rt; room.index_of(4), None);
+    assert_eq!(rt; room.offset_of(1), 2);
+    assert_eq!(rt; room.offset_of(3), 4);
+    assert_eq!(rt; room.layout().line_count(), 2);
+    assert_eq!(rt; room.line(0), EncodedLine { start: 0, end: 2 });
+    assert_eq!(rt; room.line(1), EncodedLine { start: 2, end: 4 });
+}
+
+/// Texts that a room for four bytes refuses, with their breaks.
+const REFUSED: [(&[u8], &[usize], EncodedFault); 6] = [
+    (b"12345", &[9], EncodedFault::TooLong),
+    (b"a\xFFb", &[9], EncodedFault::IllFormed(1)),
+    (b"ab\xD7", &[], EncodedFault::IllFormed(2)),
+    (
+        UTF8,
+        &[1, 9],
+        EncodedFault::Break(BreakFault::OutOfRange(1)),
+    ),
+    (UTF8, &[2, 2], EncodedFault::Break(BreakFault::NotRising(1))),
+    (UTF8, &[1], EncodedFault::BreakInside(0)),
+];
+
+/// Lays out the text, and then it is refused in several ways, each of which leaves what the room holds.
+fn holds_text(rt: &impl Abort, alloc: Global, tables: &Tables) -> Result<(), Fail> {
+    let mut room = Room::with_room(alloc, 4)?;
+    assert_eq!(rt; lay_out(&mut room, tables, UTF8, &[2]), None);
+    tells_offsets(rt, &room);
+    for (bytes, at, fault) in REFUSED {
+        assert_eq!(rt; lay_out(&mut room, tables, bytes, at), Some(fault));
+        tells_offsets(rt, &room);
+    }
+    Ok(())
+}
+
+#[test]
+fn lays_out_utf8(rt: HostRuntime) -> Result<(), Fail> {
+    let tables = tables(rt.alloc())?;
+    holds_text(&rt, rt.alloc(), &tables)
+}
+
+/// A Hebrew letter, a character of two units, and half of one.
+const UTF16: [u16; 4] = [0x5D0, 0xD83D, 0xDE00, 0xD83D];
+
+/// Lays out such texts in UTF-16.
+fn lays_out_units(rt: &impl Abort, alloc: Global, tables: &Tables) -> Result<(), Fail> {
+    let limits = Limits::standard();
+    let mut room = Room::with_room(alloc, 4)?;
+    let strict = room.lay_out_utf16(tables, &UTF16, Direction::Ltr, &[1], limits);
+    assert_eq!(rt; strict.err(), Some(EncodedFault::IllFormed(3)));
+    let inside = room.lay_out_utf16(tables, &UTF16[..3], Direction::Ltr, &[1, 2], limits);
+    assert_eq!(rt; inside.err(), Some(EncodedFault::BreakInside(1)));
+    room.lay_out_utf16(tables, &UTF16[..3], Direction::Ltr, &[1], limits)?;
+    has_levels(rt, &room, &[1, 0, 0]);
+    room.lay_out_utf16_lossy(tables, &UTF16, Direction::Ltr, &[], limits)?;
+    has_levels(rt, &room, &[1, 0, 0, 0]);
+    assert_eq!(rt; room.characters(), 3);
+    assert_eq!(rt; room.index_of(2), Some(1));
+    Ok(())
+}
+
+#[test]
+fn lays_out_utf16(rt: HostRuntime) -> Result<(), Fail> {
+    let tables = tables(rt.alloc())?;
+    lays_out_units(&rt, rt.alloc(), &tables)
+}
