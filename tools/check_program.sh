@@ -1,8 +1,8 @@
 #!/bin/bash
 # Runs the built program over files of the system, and compares its statuses and what it writes: a yes, a no, a missing
-# file, texts by tables and from standard input, a full disk, a closed pipe. Where the package unicode-data is installed
-# it reads the published property files and judges the official test files too; else it says that it does not. It ends
-# with 0 where all is as it is to be, with 1 where not, and with 2 where the program is missing.
+# file, texts by tables, by those built in and from standard input, a full disk, a closed pipe. Where the package
+# unicode-data is installed it reads the published property files and judges the official test files too; else it says
+# that it does not. It ends with 0 where all is as it is to be, with 1 where not, and with 2 where the program is missing.
 #
 # usage: tools/check_program.sh [FOLDER]      (FOLDER, with the property and test files: /usr/share/unicode)
 #
@@ -63,6 +63,8 @@ ends 0 $'paragraph 0 level 0\n0 05D0 R 1\n1 0020 WS 0\n2 0028 ON 0\n3 0061 L 0' 
     levels --tables t --direction ltr text.txt
 ends 0 $'a) \xd7\x90' '' reorder --tables t text.txt
 ends 0 $' \xd7\x90\na)' '' reorder --tables t --columns 2 text.txt
+ends 0 $'\xd7\x90 \n(a' '' reorder --tables t --direction ltr --columns 2 text.txt
+ends 0 $'\xd7\x90 \n(a' '' reorder --direction=ltr --columns 2 --tables t text.txt
 explained=$'position code class level X W1 W2 W3 W4 W5 W6 W7 N0 N1 N2 I L1
 0 05D0 R 1 . . . . . . . . . . . . .
 1 0020 WS 1 . . . . . . . . . . R . .
@@ -84,6 +86,33 @@ ends 3 '' 'bidi: cannot read missing.txt' levels --tables t missing.txt
 ends 3 '' 'bidi: bytes.txt: not UTF-8' reorder --tables t bytes.txt
 ends 3 '' 'bidi: cannot read large.txt' reorder --tables t large.txt
 ends 3 '' 'bidi: cannot read DerivedBidiClass.txt' levels --tables none text.txt
+
+# The tables that are built in, where no folder is named: they mirror a guillemet. A folder without a name is refused.
+printf '\xd7\x90\xc2\xab' > guillemet.txt
+ends 0 $'paragraph 0 level 1\n0 05D0 R 1\n1 0020 WS 1\n2 0028 ON 1\n3 0061 L 2' '' levels text.txt
+ends 0 $'a) \xd7\x90' '' reorder text.txt
+ends 0 $'\xc2\xbb\xd7\x90' '' reorder guillemet.txt
+ends 0 $'\xc2\xab\xd7\x90' '' reorder --tables t guillemet.txt
+ends 0 $'paragraph 0 level 1: R at 0\n'"$explained" '' explain text.txt
+ends 3 '' 'bidi: cannot read missing.txt' levels missing.txt
+"$program" levels --tables '' text.txt > found_out 2> found_err
+is 'status of a folder without a name' 2 $?
+is 'standard output of a folder without a name' '' "$(cat found_out)"
+is 'standard error of a folder without a name' \
+    "error: a value is required for '--tables <DIR>' but none was supplied" "$(head -n 1 found_err)"
+
+# The classes in the folder `extracted`, which are read where the folder has none.
+mkdir -p e/extracted
+cp t/BidiBrackets.txt t/BidiMirroring.txt e
+printf '05D0 ; R\n05D0 ; R\n' > e/extracted/DerivedBidiClass.txt
+ends 3 '' 'bidi: DerivedBidiClass.txt: line 2: Overlap' levels --tables e text.txt
+mv t/DerivedBidiClass.txt e/extracted
+ends 0 $'a) \xd7\x90' '' reorder --tables e text.txt
+ends 3 '' 'bidi: cannot read DerivedBidiClass.txt' levels --tables t text.txt
+cp e/extracted/DerivedBidiClass.txt t
+mkdir e/DerivedBidiClass.txt
+ends 3 '' 'bidi: cannot read DerivedBidiClass.txt' levels --tables e text.txt
+
 printf '0041 ; Left_To_Right\n' > t/BidiMirroring.txt
 ends 3 '' 'bidi: BidiMirroring.txt: line 1: CodePoint' levels --tables t text.txt
 printf '0028; 0029\n0029; 0028\n' > t/BidiMirroring.txt
@@ -111,7 +140,7 @@ is 'standard output of refused words' '' "$(cat found_out)"
 is 'status of --help' 0 $?
 is 'standard error of --help' '' "$(cat found_err)"
 
-ends 0 $'bidi (rules P1 to L2 and L4 of UAX #9, Unicode 15.0)\nproved with rattle-kit-13b logic dac8208d650f15bf' '' --version
+ends 0 $'bidi (rules P1 to L2 and L4 of UAX #9, Unicode 15.0)\ntables of Unicode 15.0.0 built in\nproved with rattle-kit-13b logic dac8208d650f15bf' '' --version
 
 # A full disk, and a pipe that no one reads.
 for words in 'judge --kind classes yes.txt' 'judge --kind classes no.txt' 'levels --tables t text.txt' \
@@ -140,6 +169,9 @@ if [ -n "$found" ]; then
     done
     ends 0 $'paragraph 0 level 1\n0 05D0 R 1\n1 0020 WS 1\n2 0028 ON 1\n3 0061 L 2' '' levels --tables real text.txt
     ends 0 $'a) \xd7\x90' '' reorder --tables real text.txt
+    if [ -f "$folder/extracted/DerivedBidiClass.txt" ] && [ -f "$folder/BidiBrackets.txt" ]; then
+        ends 0 $'a) \xd7\x90' '' reorder --tables "$folder" text.txt
+    fi
 else
     echo "no official files in $folder (package unicode-data): they are not judged"
 fi

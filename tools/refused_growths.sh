@@ -8,7 +8,7 @@
 #        none all of them)
 #
 # It runs what `rt ci` leaves in crates/*/out, or `rt test` and `rt run` in a crate's folder, and takes some seconds. It
-# needs a C compiler (CC, else cc), and ends with 2 where that or a program is missing. Not part of the gate.
+# needs a C compiler (CC, else cc), and ends with 2 where that or a program is missing.
 set -u
 tools=$(cd "$(dirname "$0")" && pwd)
 crates=$tools/../crates

@@ -1,0 +1,148 @@
+"""The judge of the algorithm's two conformance files, BidiTest.txt and BidiCharacterTest.txt."""
+import ctypes
+import enum
+import threading
+import typing
+import weakref
+
+from . import library
+from .errors import refuse
+from .layout import Direction, Limits
+from .library import CALL, Handle, address, items
+
+PIECE = 65536
+LINE = 72
+
+
+class Answer(enum.IntEnum):
+    """What the judge answers."""
+
+    YES = 0
+    MALFORMED = 1
+    WRONG = 2
+
+
+class Cause(enum.IntEnum):
+    """Why a line is malformed."""
+
+    LINE_TOO_LONG = 1
+    DIRECTIVE = 2
+    LEVEL_ITEM = 3
+    ORDER_ITEM = 4
+    CLASS_ITEM = 5
+    BIT_SET = 6
+    NO_EXPECTATION = 7
+    FIELD_COUNT = 8
+    CODE_POINT = 9
+    DIRECTION_FIELD = 10
+    PARA_FIELD = 11
+    EMPTY_ROW = 12
+
+
+class Wrong(enum.IntEnum):
+    """What of a row is not what the algorithm gives."""
+
+    PARA_LEVEL = 1
+    LEVELS = 2
+    ORDER = 3
+
+
+class Verdict(typing.NamedTuple):
+    """What a judge says of a file; `str` of it is the line that the command `bidi judge` prints.
+
+    `reason` is a Cause where the file is malformed, a Wrong where a row is wrong. What a verdict doesn't name is None:
+    `line` counts from 1, `direction` and `index` (in the list of levels or of the order) are of a wrong row, `rows`
+    and `cases` say how many a right file has.
+    """
+
+    answer: Answer
+    reason: typing.Union[Cause, Wrong, None]
+    direction: typing.Optional[Direction]
+    line: typing.Optional[int]
+    index: typing.Optional[int]
+    rows: typing.Optional[int]
+    cases: typing.Optional[int]
+    words: str
+
+    def __bool__(self):
+        return self.answer == Answer.YES
+
+    def __str__(self):
+        return self.words
+
+
+class Judge:
+    """A judge of one file, which is handed over in pieces of any length."""
+
+    def __init__(self, tables=None, limits=Limits()):
+        """A judge of a BidiCharacterTest.txt by tables, or of a BidiTest.txt where none are given."""
+        self._handle = Handle()
+        self._lock = threading.Lock()
+        limits = Limits(*limits)._for_call()
+        if tables is None:
+            refuse(CALL.bidi_judge_new_classes_with(self._handle, limits))
+        else:
+            of_its_own = tables._another()
+            try:
+                refuse(CALL.bidi_judge_new_characters_with(of_its_own, self._handle, limits))
+            finally:
+                CALL.bidi_tables_free(of_its_own)
+        weakref.finalize(self, CALL.bidi_judge_free, self._handle)
+
+    def feed(self, piece):
+        """Hands over the next bytes of the file. NoJudge: the verdict was told."""
+        piece = bytes(memoryview(piece))
+        with self._lock:
+            refuse(CALL.bidi_judge_feed(self._handle, piece, len(piece)))
+
+    def finish(self):
+        """The verdict on all bytes that were handed over. NoJudge: it was told."""
+        told = library.Verdict()
+        with self._lock:
+            refuse(CALL.bidi_judge_finish(self._handle, told))
+        return _verdict_of(told)
+
+
+def _line_of(told):
+    """The line that says a verdict, without its end."""
+    text, length = items("B", LINE), ctypes.c_size_t(0)
+    refuse(CALL.bidi_verdict_text(told, address(text), LINE, length))
+    return text[: length.value].tobytes().decode("ascii").rstrip("\n")
+
+
+def _verdict_of(told):
+    answer, words = Answer(told.answer), _line_of(told)
+    if answer == Answer.YES:
+        return Verdict(answer, None, None, None, None, told.rows, told.cases, words)
+    if answer == Answer.MALFORMED:
+        return Verdict(answer, Cause(told.reason), None, told.line, None, None, None, words)
+    index = None if told.reason == Wrong.PARA_LEVEL else told.index
+    return Verdict(answer, Wrong(told.reason), Direction(told.direction), told.line, index, None, None, words)
+
+
+def _pieces(source):
+    """The pieces of bytes, of a file that is open for reading bytes, or of what yields bytes."""
+    try:
+        return [memoryview(source)]
+    except TypeError:
+        pass
+    if hasattr(source, "read"):
+        return iter(lambda: source.read(PIECE), b"")
+    return source
+
+
+def _judged(judge, source):
+    for piece in _pieces(source):
+        judge.feed(piece)
+    return judge.finish()
+
+
+def judge_classes(source, limits=Limits()):
+    """The verdict on a BidiTest.txt: bytes, a file that is open for reading bytes, or what yields bytes."""
+    return _judged(Judge(None, limits), source)
+
+
+def judge_characters(source, tables, limits=Limits()):
+    """The verdict on a BidiCharacterTest.txt by tables: bytes, a file that is open for reading bytes, or what yields
+    bytes."""
+    return _judged(Judge(tables, limits), source)

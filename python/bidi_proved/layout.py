@@ -1,0 +1,250 @@
+"""Texts laid out: levels, lines, runs, and what is shown."""
+import array
+import contextlib
+import enum
+import threading
+import typing
+import weakref
+
+from . import library
+from .errors import StaleLayout, refuse
+from .library import CALL, Handle, address, copied, items
+from .tables import Lent
+
+REMOVED = 255
+NOWHERE = 2**64 - 1
+CLASSES = "L R AL EN ES ET AN CS NSM BN B S WS ON LRE LRO RLE RLO PDF LRI RLI FSI PDI".split()
+NUMBERS = {name: number for number, name in enumerate(CLASSES)}
+
+
+class Direction(enum.IntEnum):
+    """The direction of all paragraphs; AUTO and AUTO_RTL find that of each (P2, P3), and take left-to-right and
+    right-to-left where it has no strong character."""
+
+    LTR = 0
+    RTL = 1
+    AUTO = 2
+    AUTO_RTL = 3
+
+
+class Limits(typing.NamedTuple):
+    """How deep explicit levels go (BD2), 1 to 125, and how many brackets can be open at once (BD16), 0 to 63."""
+
+    depth: int = 125
+    brackets: int = 63
+
+    def _for_call(self):
+        # A number that has no place in a byte becomes one that is refused as well.
+        return library.Limits(*(n if 0 <= n <= 255 else 255 for n in self))
+
+
+class Run(typing.NamedTuple):
+    """A visual run: positions [start, start + length) of one level, removed ones between them included, of which
+    `shown` are shown, side by side."""
+
+    start: int
+    length: int
+    shown: int
+    level: int
+
+
+def _placed(breaks):
+    """Breaks as words, and how many; one that has no place in a word becomes one that is refused as well."""
+    placed = array.array("Q", (at if 0 <= at <= NOWHERE else NOWHERE for at in breaks))
+    return placed or items("Q", 0), len(placed)
+
+
+def _number_of(item):
+    """The number of a class; what names none becomes one that is refused as well."""
+    number = NUMBERS.get(item, REMOVED) if isinstance(item, str) else item
+    return number if 0 <= number <= REMOVED else REMOVED
+
+
+class Room:
+    """Memory for texts of up to `size` characters, 81 bytes for each, and for the layout of the last one.
+
+    Whoever lays out many texts makes one for each thread. A layout of it can be asked until it lays out the next
+    text or breaks this one anew, and raises StaleLayout from then on. A call waits while another thread is in a call on the same room.
+    """
+
+    def __init__(self, size):
+        if size < 0:
+            raise ValueError(f"a room for {size} characters")
+        self.size = size
+        self._handle = Handle()
+        self._lock = threading.Lock()
+        self._laid_out, self._lent = 0, None
+        refuse(CALL.bidi_room_new(min(size, NOWHERE), self._handle))
+        weakref.finalize(self, CALL.bidi_room_free, self._handle)
+
+    def lay_out(self, text, tables, direction=Direction.AUTO, breaks=(), limits=Limits()):
+        """Lays out a str, by tables, under a direction, with lines that begin at its start, behind each paragraph
+        separator and at each of `breaks`: rising positions above 0 and below its length.
+
+        Refused with TextTooLong, BreakOutOfRange, BreakNotRising, NoCharacter, DepthRefused or BracketsRefused; the
+        room holds what it held then.
+        """
+        codes = _codes_of(text)
+
+        def call(*words):
+            if self._lent is None or self._lent.tables is not tables:
+                self._lent = Lent(tables)
+            with self._lent.guard:
+                return CALL.bidi_lay_out_with(self._handle, self._lent.handle, address(codes), len(text), *words)
+
+        return self._hold(call, text, codes, direction, breaks, limits)
+
+    def lay_out_classes(self, classes, direction=Direction.AUTO, breaks=(), limits=Limits()):
+        """The same for a text of classes, by their short names (such as "AL") or numbers; it has no brackets."""
+        numbers = bytes(_number_of(it) for it in classes)
+
+        def call(*words):
+            return CALL.bidi_lay_out_classes_with(self._handle, numbers, len(numbers), *words)
+
+        return self._hold(call, None, None, direction, breaks, limits)
+
+    def _hold(self, call, text, codes, direction, breaks, limits):
+        placed, count = _placed(breaks)
+        by, place = Limits(*limits)._for_call(), library.c_uint64(0)
+        with self._lock:
+            status = call(Direction(direction), address(placed), count, by, place)
+            refuse(status, place=place.value)
+            self._laid_out += 1
+            return Layout(self, self._laid_out, self._lent, text, codes)
+
+
+class Layout:
+    """What a room laid out: levels, paragraphs and lines. Places of lines are counted from the left."""
+
+    def __init__(self, room, number, lent, text, codes):
+        self._room, self._number, self._lent = room, number, lent
+        self._text, self._codes = text, codes
+
+    @property
+    def levels(self):
+        """The level of each position after L1, None where X9 removes it."""
+        return [None if level == REMOVED else level for level in self._asked("B", CALL.bidi_levels)]
+
+    @property
+    def paragraph_levels(self):
+        """The level of each paragraph (P2, P3)."""
+        return self._asked("B", CALL.bidi_para_levels).tolist()
+
+    def with_lines(self, breaks):
+        """The same text with lines that begin at these breaks (L1, L2): for those who shape a text and know only then
+        where its lines end. Levels are not found anew. This layout raises StaleLayout from then on.
+
+        Refused with BreakOutOfRange or BreakNotRising; the room holds what it held then. NotImplementedError: the
+        library is an older one.
+        """
+        if not library.SETS_LINES:
+            raise NotImplementedError("this library breaks no text anew")
+        placed, count = _placed(breaks)
+        place = library.c_uint64(0)
+        with self._held() as handle:
+            refuse(CALL.bidi_set_lines(handle, address(placed), count, place), place=place.value)
+            self._room._laid_out += 1
+            return Layout(self._room, self._room._laid_out, self._lent, self._text, self._codes)
+
+    @property
+    def lines(self):
+        """Its lines, in the order of the text."""
+        with self._held() as handle:
+            count = CALL.bidi_line_count(handle)
+        return [Line(self, number) for number in range(count)]
+
+    def display(self):
+        """Its lines as they are shown, each a str from left to right with mirror images (L4), without the paragraph
+        separator at its end and without what X9 removes. What shows them may not reorder them once more."""
+        return [line.display() for line in self.lines]
+
+    def _asked(self, code, call, *words):
+        """What a look-up of the library writes."""
+        with self._held() as handle:
+            return copied(code, lambda at, place: call(handle, *words, at, place))
+
+    @contextlib.contextmanager
+    def _held(self):
+        """The room's handle, while no other thread uses it and the room holds this layout."""
+        with self._room._lock:
+            if self._room._laid_out != self._number:
+                raise StaleLayout(StaleLayout.says)
+            yield self._room._handle
+
+
+class Line:
+    """A line of a layout: positions [start, end) of the text."""
+
+    def __init__(self, layout, number):
+        self._layout, self._number = layout, number
+        line = library.Line()
+        with layout._held() as handle:
+            refuse(CALL.bidi_line(handle, number, line))
+        self.start, self.end = line.start, line.end
+
+    @property
+    def order(self):
+        """Its shown positions from left to right (L2)."""
+        return self._layout._asked("Q", CALL.bidi_order, self._number).tolist()
+
+    @property
+    def places(self):
+        """The place of each of its positions, from `start` on, None where X9 removes it."""
+        found = self._layout._asked("Q", CALL.bidi_places, self._number)
+        return [None if place == NOWHERE else place for place in found]
+
+    @property
+    def runs(self):
+        """Its visual runs from left to right."""
+        found, run, at = [], library.Run(), 0
+        with self._layout._held() as handle:
+            while CALL.bidi_run(handle, self._number, at, run) == 0:
+                found.append(Run(run.start, run.length, run.shown, run.level))
+                at += run.shown
+        return found
+
+    @property
+    def shown(self):
+        """Its characters as they are shown, from left to right, with mirror images (L4); a paragraph separator is one
+        of them. ValueError: a text of classes has no characters."""
+        layout = self._layout
+        if layout._text is None:
+            raise ValueError("a text of classes has no characters")
+
+        def call(handle, *words):
+            with layout._lent.guard:
+                return CALL.bidi_shown(
+                    handle, layout._lent.handle, address(layout._codes), len(layout._text), self._number, *words
+                )
+
+        return layout._asked("I", call).tobytes().decode("utf-32-le")
+
+    def display(self):
+        """`shown` without a paragraph separator."""
+        shown, last = self.shown, self.end - 1
+        if last < self.start or not self._layout._lent.tables._separates(self._layout._text[last]):
+            return shown
+        at = self.order.index(last)
+        return shown[:at] + shown[at + 1 :]
+
+
+def _codes_of(text):
+    """The code points of a str. Half of a surrogate pair stays what it is, and the library refuses it."""
+    codes = array.array("I")
+    codes.frombytes(text.encode("utf-32-le", "surrogatepass"))
+    return codes or items("I", 0)
+
+
+def lay_out(text, tables, direction=Direction.AUTO, breaks=(), limits=Limits()):
+    """Lays out a str in a room of its own: Room.lay_out says how. The layout stays."""
+    return Room(len(text)).lay_out(text, tables, direction, breaks, limits)
+
+
+def lay_out_classes(classes, direction=Direction.AUTO, breaks=(), limits=Limits()):
+    """Lays out a list of classes in a room of its own: Room.lay_out_classes says how. The layout stays."""
+    return Room(len(classes)).lay_out_classes(classes, direction, breaks, limits)
+
+
+def display(text, tables, direction=Direction.AUTO, breaks=(), limits=Limits()):
+    """The lines of a str as they are shown: Layout.display says how."""
+    return lay_out(text, tables, direction, breaks, limits).display()

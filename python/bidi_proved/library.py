@@ -1,0 +1,144 @@
+"""The shared object libbidi_c: where it is found, and its calls as ctypes sees them. tools/c/bidi.h is its header."""
+import array
+import ctypes
+import os
+import pathlib
+from ctypes import POINTER, c_bool, c_char_p, c_size_t, c_uint8, c_uint32, c_uint64, c_void_p
+
+SONAME = "libbidi_c.so.1"
+
+
+class Handle(ctypes.Structure):
+    """A handle on tables, a room or a judge: all zero before its first call."""
+
+    _fields_ = [("at", c_void_p), ("made", c_bool)]
+
+
+class Fault(ctypes.Structure):
+    """What is wrong with a property file."""
+
+    _fields_ = [("line", c_uint64), ("kind", c_uint32)]
+
+
+class Limits(ctypes.Structure):
+    """How deep explicit levels go, and how many brackets can be open at once."""
+
+    _fields_ = [("depth", c_uint8), ("brackets", c_uint8)]
+
+
+class Line(ctypes.Structure):
+    """Where a line begins and ends, and how many of its positions are shown."""
+
+    _fields_ = [("start", c_size_t), ("end", c_size_t), ("shown", c_size_t)]
+
+
+class Run(ctypes.Structure):
+    """A visual run of a line."""
+
+    _fields_ = [("start", c_size_t), ("length", c_size_t), ("shown", c_size_t), ("level", c_uint8)]
+
+
+class Verdict(ctypes.Structure):
+    """The seven numbers of a verdict."""
+
+    _fields_ = [
+        ("answer", c_uint32), ("reason", c_uint32), ("direction", c_uint32), ("line", c_uint64),
+        ("index", c_size_t), ("rows", c_uint64), ("cases", c_uint64),
+    ]
+
+
+HANDLE = POINTER(Handle)
+TEXT = [HANDLE, HANDLE, c_void_p, c_size_t, c_uint32, c_void_p, c_size_t]
+CLASSES = [HANDLE, c_char_p, c_size_t, c_uint32, c_void_p, c_size_t]
+PLACE = POINTER(c_uint64)
+CALLS = {
+    "bidi_tables_new": (c_uint32, [c_char_p, c_size_t] * 3 + [HANDLE, POINTER(Fault)]),
+    "bidi_tables_free": (None, [HANDLE]),
+    "bidi_mirror": (c_uint32, [HANDLE, c_uint32]),
+    "bidi_room_new": (c_uint32, [c_size_t, HANDLE]),
+    "bidi_room_free": (None, [HANDLE]),
+    "bidi_lay_out_with": (c_uint32, [*TEXT, Limits, PLACE]),
+    "bidi_lay_out_classes_with": (c_uint32, [*CLASSES, Limits, PLACE]),
+    "bidi_levels": (c_size_t, [HANDLE, c_void_p, c_size_t]),
+    "bidi_para_levels": (c_size_t, [HANDLE, c_void_p, c_size_t]),
+    "bidi_line_count": (c_size_t, [HANDLE]),
+    "bidi_line": (c_uint32, [HANDLE, c_size_t, POINTER(Line)]),
+    "bidi_order": (c_size_t, [HANDLE, c_size_t, c_void_p, c_size_t]),
+    "bidi_places": (c_size_t, [HANDLE, c_size_t, c_void_p, c_size_t]),
+    "bidi_run": (c_uint32, [HANDLE, c_size_t, c_size_t, POINTER(Run)]),
+    "bidi_shown": (c_size_t, [HANDLE, HANDLE, c_void_p, c_size_t, c_size_t, c_void_p, c_size_t]),
+    "bidi_judge_new_classes_with": (c_uint32, [HANDLE, Limits]),
+    "bidi_judge_new_characters_with": (c_uint32, [HANDLE, HANDLE, Limits]),
+    "bidi_judge_free": (None, [HANDLE]),
+    "bidi_judge_feed": (c_uint32, [HANDLE, c_char_p, c_size_t]),
+    "bidi_judge_finish": (c_uint32, [HANDLE, POINTER(Verdict)]),
+    "bidi_verdict_text": (c_uint32, [POINTER(Verdict), c_void_p, c_size_t, POINTER(c_size_t)]),
+}
+# Calls that not every library has.
+NEWER_CALLS = {
+    "bidi_tables_standard": (c_uint32, [HANDLE]),
+    "bidi_tables_share": (c_uint32, [HANDLE, HANDLE]),
+    "bidi_edition": (c_size_t, [c_void_p, c_size_t]),
+    "bidi_set_lines": (c_uint32, [HANDLE, c_void_p, c_size_t, PLACE]),
+}
+
+
+def candidates():
+    """The names under which the library is looked for: what BIDI_LIBRARY says alone, or else the one that was installed
+    with this package, and then the system's."""
+    named = os.environ.get("BIDI_LIBRARY")
+    if named:
+        return [named]
+    inside = pathlib.Path(__file__).with_name(SONAME)
+    return [str(inside), SONAME] if inside.exists() else [SONAME]
+
+
+def load():
+    """Loads the library and declares its calls. While one runs, other threads of Python do too."""
+    reasons = []
+    for name in candidates():
+        try:
+            found = ctypes.CDLL(name)
+        except OSError as error:
+            reasons.append(str(error))
+            continue
+        declare(found)
+        return found
+    raise ImportError("no library libbidi_c: " + "; ".join(reasons))
+
+
+def declare(found):
+    """Declares what the calls take and answer."""
+    known = {**CALLS, **{name: types for name, types in NEWER_CALLS.items() if hasattr(found, name)}}
+    for name, (result, words) in known.items():
+        call = getattr(found, name)
+        call.restype, call.argtypes = result, words
+
+
+CALL = load()
+HAS_STANDARD_TABLES = hasattr(CALL, "bidi_tables_standard") and hasattr(CALL, "bidi_edition")
+# Whether several handles can hold the same tables, so that threads use them at once.
+SHARES_TABLES = hasattr(CALL, "bidi_tables_share")
+# Whether a text that is laid out can be broken into lines anew.
+SETS_LINES = hasattr(CALL, "bidi_set_lines")
+
+
+def items(code, n):
+    """Memory for n items of a type of the module array, and for one where n is 0, so that it has an address."""
+    kept = array.array(code)
+    kept.frombytes(bytes(kept.itemsize * max(n, 1)))
+    return kept
+
+
+def address(kept):
+    """Where the items of an array stand."""
+    return kept.buffer_info()[0]
+
+
+def copied(code, ask):
+    """The items that a look-up writes: `ask(address, place)` answers how many there are."""
+    kept = items(code, 0)
+    n = ask(address(kept), 0)
+    kept = items(code, n)
+    ask(address(kept), n)
+    return kept[:n]

@@ -1,0 +1,105 @@
+"""Tables: the class, the bracket and the mirror image of each character."""
+import contextlib
+import ctypes
+import pathlib
+import threading
+import weakref
+
+from .errors import refuse
+from .library import CALL, HAS_STANDARD_TABLES, SHARES_TABLES, Fault, Handle, copied
+
+
+def _file_of(folder, name):
+    """The file of this name in the folder, or else in its folder `extracted`, as Unicode publishes it."""
+    here = folder / name
+    return here if here.exists() or not (folder / "extracted" / name).exists() else folder / "extracted" / name
+
+
+def edition():
+    """The edition of Unicode whose tables are built into the library, such as "15.0.0", or None where it has none."""
+    return copied("B", CALL.bidi_edition).tobytes().decode("ascii") if HAS_STANDARD_TABLES else None
+
+
+class Tables:
+    """The classes, brackets and mirror images of all characters, by three property files of one edition of Unicode.
+
+    Any number of threads may use one at once. A pickled one is made anew where it is loaded.
+    """
+
+    def __init__(self, classes, brackets, mirrors):
+        """Reads them from the bytes of DerivedBidiClass.txt, BidiBrackets.txt and BidiMirroring.txt.
+
+        A faulty file is refused with ClassFileFault, BracketFileFault or MirrorFileFault, which name the line.
+        """
+        self._begin((bytes(classes), bytes(brackets), bytes(mirrors)))
+
+    @classmethod
+    def read(cls, folder):
+        """Reads them from the three files in a folder; DerivedBidiClass.txt may lie in its folder `extracted`."""
+        folder = pathlib.Path(folder)
+        names = ("DerivedBidiClass.txt", "BidiBrackets.txt", "BidiMirroring.txt")
+        return cls(*(_file_of(folder, name).read_bytes() for name in names))
+
+    @classmethod
+    def standard(cls):
+        """The tables that are built into the library. NotImplementedError: this library has none."""
+        if not HAS_STANDARD_TABLES:
+            raise NotImplementedError("this libbidi_c has no tables built in: use Tables.read")
+        made = cls.__new__(cls)
+        made._begin(None)
+        return made
+
+    def mirror(self, character):
+        """The mirror image of a character (L4), or itself where it has none."""
+        with self._lock:
+            return chr(CALL.bidi_mirror(self._handle, ord(character)))
+
+    def __reduce__(self):
+        return (Tables, self._files) if self._files else (Tables.standard, ())
+
+    def _begin(self, files):
+        self._files = files
+        self._handle = self._made()
+        self._lock = threading.Lock()
+        self._separators = {}
+        weakref.finalize(self, CALL.bidi_tables_free, self._handle)
+
+    def _made(self):
+        """A handle on tables made anew; whoever asks for it frees it."""
+        handle, fault = Handle(), Fault()
+        if self._files is None:
+            refuse(CALL.bidi_tables_standard(handle))
+        else:
+            words = [word for file in self._files for word in (file, len(file))]
+            refuse(CALL.bidi_tables_new(*words, handle, ctypes.byref(fault)), fault=fault)
+        return handle
+
+    def _another(self):
+        """Another handle on these tables; whoever asks for it frees it."""
+        if not SHARES_TABLES:
+            return self._made()
+        handle = Handle()
+        with self._lock:
+            refuse(CALL.bidi_tables_share(self._handle, handle))
+        return handle
+
+    def _separates(self, character):
+        """Whether a character ends a paragraph (class B): whether one that follows it begins another."""
+        if character not in self._separators:
+            from .layout import lay_out
+
+            self._separators[character] = len(lay_out(character + "a", self).paragraph_levels) == 2
+        return self._separators[character]
+
+
+class Lent:
+    """Tables as a room uses them: by a handle of its own, or, where the library shares none, by the tables' own, for
+    one thread at a time."""
+
+    def __init__(self, tables):
+        self.tables = tables
+        if SHARES_TABLES:
+            self.handle, self.guard = tables._another(), contextlib.nullcontext()
+            weakref.finalize(self, CALL.bidi_tables_free, self.handle)
+        else:
+            self.handle, self.guard = tables._handle, tables._lock

@@ -1,0 +1,35 @@
+#!/bin/bash
+# Runs the tests of the module for Python (python/tests) over the shared object of the library for C, and installs the
+# module by pip into a folder, without a network, and runs it there. It ends with 0 where all is as it is to be, with 1
+# where not, and with 2 where the shared object can't be made. Without python3 or gcc it does nothing, and says so.
+#
+# usage: tools/check_python.sh
+#
+# Build the library first, as tools/c/run.sh does.
+set -u
+tools=$(cd "$(dirname "$0")" && pwd)
+python=$tools/../python
+for command in python3 gcc; do
+    command -v "$command" > /dev/null || { echo "no $command: the module for Python is not tested"; exit 0; }
+done
+"$tools/c/build_shared.sh" || exit 2
+shared=$(ls "$tools/../crates/bidi_c/out/libbidi_c.so.$(cat "$tools/../VERSION")") || exit 2
+work=$(mktemp -d) || exit 2
+trap 'rm -r "$work"' EXIT
+wrong=0
+(cd "$python" && BIDI_LIBRARY=$shared timeout 300 python3 -B -m unittest) || wrong=1
+if python3 -m pip --version > /dev/null 2>&1; then
+    # pip builds where the files lie: in a copy, so that it leaves nothing.
+    cp -r "$python" "$work/python"
+    BIDI_LIBRARY=$shared python3 -m pip install -q --no-index --no-deps --target "$work/site" "$work/python" \
+        > "$work/said" 2>&1 || { cat "$work/said"; wrong=1; }
+    program='import bidi_proved as b; print(b.__version__, b.lay_out_classes(["R"]).levels)'
+    said=$(cd "$work/site" && env -u BIDI_LIBRARY python3 -B -c "$program")
+    if [ "$said" != "$(cat "$tools/../VERSION") [1]" ]; then
+        echo "the installed module: $said"
+        wrong=1
+    fi
+else
+    echo "no pip: the module is not installed"
+fi
+[ "$wrong" -eq 0 ] && echo "the module for Python: as it is to be"

@@ -1,0 +1,39 @@
+#!/bin/bash
+# Looks whether all that says the version of the product says what the file VERSION does: the header, the manual page,
+# the module for Python, the file for pkg-config that is installed, and the soname's number; and, where the program is
+# built and names a version, `bidi --version`. It ends with 0 where all agree, and with 1 where not.
+#
+# usage: tools/check_version.sh
+set -u
+top=$(cd "$(dirname "$0")/.." && pwd)
+cd "$top" || exit 2
+version=$(cat VERSION) || exit 2
+wrong=0
+
+# says WHERE FOUND: compares what a place says with the version.
+says() {
+    if [ "$2" != "$version" ]; then
+        echo "$1 says '$2', and VERSION '$version'" >&2
+        wrong=$((wrong + 1))
+    fi
+}
+
+[[ $version =~ ^[0-9]+\.[0-9]+\.[0-9]+$ ]] || { echo "VERSION is no version: '$version'" >&2; wrong=1; }
+says tools/c/bidi.h "$(sed -n 's/^#define BIDI_VERSION "\(.*\)"$/\1/p' tools/c/bidi.h)"
+says docs/bidi.1 "$(sed -n 's/^\.TH BIDI 1 "[^"]*" "bidi \(.*\)" "User Commands"$/\1/p' docs/bidi.1)"
+says python/bidi_proved "$(sed -n 's/^__version__ = "\(.*\)"$/\1/p' python/bidi_proved/__init__.py)"
+for file in python/bidi_proved/library.py python/make_wheel.py; do
+    soname=$(sed -n 's/^SONAME = "\(.*\)"$/\1/p' "$file")
+    [ "$soname" = "libbidi_c.so.${version%%.*}" ] || { echo "$file names '$soname'" >&2; wrong=$((wrong + 1)); }
+done
+grep -q '^Version: @version@$' tools/c/bidi_c.pc.in || says tools/c/bidi_c.pc.in 'something else than @version@'
+program=crates/bidi/out/bidi
+if [ -x "$program" ]; then
+    said=$("$program" --version | sed -n 's/^\(bidi\|version\) \([0-9][0-9.]*\)\( .*\)\{0,1\}$/\2/p')
+    if [ -n "$said" ]; then
+        says "bidi --version" "$said"
+    else
+        echo "bidi --version names no version of the product"
+    fi
+fi
+[ "$wrong" -eq 0 ] && echo "version $version, everywhere"
