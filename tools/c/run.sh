@@ -1,7 +1,7 @@
 #!/bin/bash
-# Builds the library that C links and the programs of this folder, and runs them: the demo, every call, each refused
-# allocation and threads that share tables against their stored output, a C++ program, and a program built as
-# tools/c/install.sh installs the library; then again under -fsanitize=address,undefined and under valgrind, and the
+# Builds the library that C links and the programs of this folder, and runs them: the demo, a typesetter, every call,
+# each refused allocation and threads that share tables against their stored output, a C++ program, and a program built
+# as tools/c/install.sh installs the library; then again under -fsanitize=address,undefined and under valgrind, and the
 # threads under -fsanitize=thread. Where the package unicode-data is installed it lays out and judges the official files
 # too. Where the command is built (`rt run -- --help` in crates/bidi), the lines that say verdicts are compared with what
 # it prints. It says what it leaves out because something isn't installed or built, without gcc all.
@@ -65,6 +65,7 @@ all() {
     local label=$1
     shift
     expect "$label demo" "$here/demo.out" "$@" "$work/demo" "$here/ucd" 20 < "$here/demo.txt"
+    expect "$label typesetter" "$here/typesetter.out" "$@" "$work/typesetter" 12 20 40 < "$here/typesetter.txt"
     expect "$label calls" "$here/calls.out" "$@" "$work/calls" "$here/ucd"
     expect "$label refused" "$here/refused.out" "$@" "$work/refused" "$here/ucd"
     expect "$label threads" "$here/threads.out" "$@" "$work/threads" "$here/ucd"
@@ -72,6 +73,7 @@ all() {
 
 build_all() {
     build demo "$@"
+    build typesetter "$@"
     build calls "$@"
     build refused -Wl,--wrap=malloc,--wrap=realloc "$@"
     build threads -pthread "$@"
