@@ -65,6 +65,11 @@ ends 0 $'a) \xd7\x90' '' reorder --tables t text.txt
 ends 0 $' \xd7\x90\na)' '' reorder --tables t --columns 2 text.txt
 ends 0 $'\xd7\x90 \n(a' '' reorder --tables t --direction ltr --columns 2 text.txt
 ends 0 $'\xd7\x90 \n(a' '' reorder --direction=ltr --columns 2 --tables t text.txt
+# As many words as a run can have, and one more.
+ends 0 $'\xd7\x90 \n(a' '' reorder --tables t --direction ltr --columns 2 -- text.txt
+"$program" reorder --tables t --direction ltr --columns 2 -- text.txt more > found_out 2> found_err
+is 'status of one word more' 2 $?
+is 'standard output of one word more' '' "$(cat found_out)"
 explained=$'position code class level X W1 W2 W3 W4 W5 W6 W7 N0 N1 N2 I L1
 0 05D0 R 1 . . . . . . . . . . . . .
 1 0020 WS 1 . . . . . . . . . . R . .
@@ -131,6 +136,20 @@ ends 3 '' 'bidi: cannot read -' levels --tables t - < t
 cp text.txt ./-
 ends 0 'yes: 1 rows, 1 cases' '' judge --kind classes - < yes.txt
 ends 0 $'a) \xd7\x90' '' reorder --tables t ./- < yes.txt
+
+# Texts as long as a file can be, printed, and one of 1,048,576 characters explained.
+head -c 16777216 /dev/zero | tr '\0' a > most.txt
+"$program" reorder most.txt > found_out 2> found_err
+is 'status of reorder of the longest text' 0 $?
+{ cat most.txt; echo; } | cmp -s - found_out
+is 'comparison of what reorder prints of the longest text' 0 $?
+"$program" levels most.txt 2> found_err | tail -n 1 > found_out
+is 'status of levels of the longest text' 0 "${PIPESTATUS[0]}"
+is 'last line of levels of the longest text' '16777215 0061 L 0' "$(cat found_out)"
+head -c 1048576 most.txt > million.txt
+"$program" explain million.txt 2> found_err | tail -n 1 | tail -c 9 > found_out
+is 'status of explain of a long text' 0 "${PIPESTATUS[0]}"
+is 'end of explain of a long text' ' 1048575' "$(cat found_out)"
 
 # Words that are refused, help and the version.
 "$program" reorder --columns 0 --tables t text.txt > found_out 2> found_err
