@@ -1,5 +1,5 @@
-/* sizes UCD: the greatest sizes that calls take, where memory suffices: rooms of a million and of 16,777,216 code points
- * that are filled, and property files of more than a million bytes. Its output is stored in sizes.out. */
+/* sizes UCD: the greatest sizes that calls take, where memory suffices: rooms of a million and of 16,777,216 code
+ * points that are filled, and property files of more than a million bytes. Its output is stored in sizes.out. */
 #include "bidi.h"
 #include "read_file.h"
 #include <string.h>
