@@ -88,6 +88,7 @@ fn shown_code(tables: &Tables, level: Option<Level>, code: u32) -> u32
     ensures even { is_odd_level level ≡ false → result ≡ code }
     ensures odd { is_odd_level level ≡ true → IsScalar code
         → result ≡ unwrap_or (glyph_by tables.now.mirrors code) code }
+    ensures other { (IsScalar code → ⊥) → result ≡ code }
 {
     match level {
         Some(level) if level.get() % 2 == 1 => mirror_image(tables, code),
