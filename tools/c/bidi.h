@@ -106,6 +106,13 @@ uint32_t bidi_tables_share(bidi_tables *tables, bidi_tables *shared);
 void bidi_tables_free(bidi_tables *tables);
 /* The mirror image of a code point (L4), or itself where it has none. */
 uint32_t bidi_mirror(bidi_tables *tables, uint32_t code);
+/* The class of a code point by the tables: its number, as bidi_lay_out_classes takes it. BIDI_NO_TABLES, or else
+ * BIDI_NO_CHARACTER: `code` is no scalar value. */
+uint32_t bidi_class(bidi_tables *tables, uint32_t code, uint8_t *class_number);
+/* What a code point does as a bracket by the tables (BD14, BD15): BIDI_NO_BRACKET, BIDI_OPENING or BIDI_CLOSING. It is
+ * refused as bidi_class is. */
+enum { BIDI_NO_BRACKET = 0, BIDI_OPENING = 1, BIDI_CLOSING = 2 };
+uint32_t bidi_bracket(bidi_tables *tables, uint32_t code, uint8_t *bracket);
 
 /* Room for texts of up to n code points, 81 bytes for each. What `room` held before is freed once it is made. */
 uint32_t bidi_room_new(size_t n, bidi_room *room);

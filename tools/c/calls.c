@@ -244,6 +244,13 @@ static void share_tables(bidi_tables *tables, bidi_room *room) {
   bidi_tables_free(&shared);
 }
 
+/* The class and the bracket of a code point, and refusals, which leave both as they were. */
+static void print_properties(bidi_tables *tables, uint32_t code) {
+  uint8_t class_number = 77, bracket = 77;
+  uint32_t status = bidi_class(tables, code, &class_number), of_bracket = bidi_bracket(tables, code, &bracket);
+  printf("%04X: class %u %u, bracket %u %u\n", code, status, class_number, of_bracket, bracket);
+}
+
 static void use_standard_tables(bidi_room *room) {
   const uint32_t text[] = { 'a', ' ', 0x5D0, '(', 0x661, ')', '!' };
   const size_t none[1] = { 0 };
@@ -253,7 +260,11 @@ static void use_standard_tables(bidi_room *room) {
   size_t n = bidi_edition(edition, sizeof edition);
   printf("tables of Unicode %s: %u, bytes %zu, with no place %zu: ", (char *)edition, status, n, bidi_edition(edition, 0));
   lay_out(room, &tables, text, 7, BIDI_AUTO, none, 0);
+  const uint32_t codes[] = { 'a', 0x5D0, 0x661, '(', ']', 0x2329, 0x3009, '<', 0x2067, 0x10FFFF, 0xD800, 0x110000 };
+  for (size_t i = 0; i < 12; i++) print_properties(&tables, codes[i]);
+  print_properties((bidi_tables *)room, 'a');
   bidi_tables_free(&tables);
+  print_properties(&tables, 'a');
 }
 
 int main(int argc, char **argv) {

@@ -39,6 +39,7 @@ int main(int argc, char **argv) {
   uint32_t status = bidi_lay_out(&room, &tables, text, 3, BIDI_AUTO, none, 0, &place);
   bidi_levels(&room, levels, 3); bidi_order(&room, 0, order, 3); bidi_places(&room, 0, order, 3);
   bidi_run(&room, 0, 0, &run); bidi_shown(&room, &tables, text, 3, 0, shown, 3); bidi_mirror(&tables, '(');
+  bidi_class(&tables, '(', levels); bidi_bracket(&tables, '(', levels);
   printf("layout and look-ups: status %u, %ld asked\n", status, asked);
   refused_at = 0;
   printf("judge: %ld refused\n", IN_TURN(bidi_judge_new_classes(&judge), !judge.made));

@@ -9,6 +9,7 @@ pub mod handle;
 pub mod judge_calls;
 pub mod laying_out;
 pub mod looking_up;
+pub mod properties;
 pub mod room_calls;
 pub mod tables_calls;
 pub mod verdict_calls;

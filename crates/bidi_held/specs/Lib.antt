@@ -13,3 +13,4 @@ pub mod Visual
 pub mod TableJudges
 pub mod JudgeCalls
 pub mod VerdictLines
+pub mod Properties

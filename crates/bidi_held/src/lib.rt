@@ -8,6 +8,7 @@ pub mod judging;
 pub mod layouts;
 pub mod limits;
 pub mod lines_out;
+pub mod properties;
 pub mod read_tables;
 pub mod refusal;
 pub mod room;
