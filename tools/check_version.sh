@@ -20,6 +20,8 @@ says() {
 
 [[ $version =~ ^[0-9]+\.[0-9]+\.[0-9]+$ ]] || { echo "VERSION is no version: '$version'" >&2; wrong=1; }
 says tools/c/bidi.h "$(sed -n 's/^#define BIDI_VERSION "\(.*\)"$/\1/p' tools/c/bidi.h)"
+numbers=$(sed -n 's/^#define BIDI_VERSION_\(MAJOR\|MINOR\|PATCH\) \([0-9]*\)$/\2/p' tools/c/bidi.h)
+says "tools/c/bidi.h, by numbers," "$(tr '\n' . <<< "$numbers" | sed 's/\.$//')"
 says docs/bidi.1 "$(sed -n 's/^\.TH BIDI 1 "[^"]*" "bidi \(.*\)" "User Commands"$/\1/p' docs/bidi.1)"
 says python/bidi_proved "$(sed -n 's/^__version__ = "\(.*\)"$/\1/p' python/bidi_proved/__init__.py)"
 for file in python/bidi_proved/library.py python/make_wheel.py; do

@@ -27,6 +27,9 @@
 #define BIDI_H
 /* The version of the product that this header belongs to. */
 #define BIDI_VERSION "1.0.0"
+#define BIDI_VERSION_MAJOR 1
+#define BIDI_VERSION_MINOR 0
+#define BIDI_VERSION_PATCH 0
 #include <stdbool.h>
 #include <stddef.h>
 #include <stdint.h>
