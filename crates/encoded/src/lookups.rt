@@ -42,11 +42,12 @@ impl Room {
         index_of(&self.starts[..self.characters() + 1], at)
     }
 
-    /// The level of a code unit, which is that of its character after L1: none where that was removed. There must be
-    /// such a code unit.
+    /// The level of a code unit, which is that of its character after L1: none where that was removed, and none from
+    /// the text's end on.
     pub fn level_at(&self, at: usize) -> Option<Level>
-        ensures { (text : List Spelled) → Holds self.now text → (k : ℕ) → IsOf text at k
+        ensures character { (text : List Spelled) → Holds self.now text → (k : ℕ) → IsOf text at k
             → result ≡ slice_index_or (layout_held self.now).levels k None }
+        ensures past { (text : List Spelled) → Holds self.now text → code_units text ≤ at → result ≡ None }
     {
         let k = self.index_of(at)?;
         let layout = self.scratch.layout();

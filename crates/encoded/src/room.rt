@@ -100,6 +100,7 @@ impl Room {
     pub fn with_room(alloc: Global, n: usize) -> Result<Room, RoomFault>
         ensures made { IfOk result (λ room. room_for room ≡ n) }
         ensures empty { IfOk result (λ room. layout_held room ≡ layout_of standard [] Auto []) }
+        ensures holds { IfOk result (λ room. Holds room []) }
         ensures too_big { (result ≡ Err RoomFault.TooBig) ↔ (longest_text < n) }
     {
         if n > MOST {
@@ -113,6 +114,7 @@ impl Room {
         requires { n ≤ longest_text }
         ensures made { IfOk result (λ room. room_for room ≡ n) }
         ensures empty { IfOk result (λ room. layout_held room ≡ layout_of standard [] Auto []) }
+        ensures holds { IfOk result (λ room. Holds room []) }
     {
         let units = unit_column(alloc, n)?;
         let starts = offset_column(alloc, n + 1)?;

@@ -35,6 +35,7 @@ fn tells_offsets(rt: &impl Abort, room: &Room) {
     assert_eq!(rt; room.index_of(1), Some(0));
     assert_eq!(rt; room.index_of(3), Some(2));
     assert_eq!(rt; room.index_of(4), None);
+    assert_eq!(rt; room.level_at(4), None);
     assert_eq!(rt; room.offset_of(1), 2);
     assert_eq!(rt; room.offset_of(3), 4);
     assert_eq!(rt; room.layout().line_count(), 2);

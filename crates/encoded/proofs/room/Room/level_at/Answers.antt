@@ -1,13 +1,14 @@
-use Rattle.std.proofs.Common.{◌≡◌, ◌∙◌, ◌<◌, ℕ, List, Option, None, ap, arith, get_or, length, subst}
+use Rattle.std.proofs.Common.{◌≡◌, ◌∙◌, ◌<◌, ◌+◌, ℕ, List, Option, None, ap, arith, get_or, length, subst}
 use Rattle.std.proofs.lemmas.List.{get_or_default}
 use Rattle.units.specs.Layout.{TextLayout}
 use Rattle.encoded.specs.Rooms.{layout_held, starts_in}
 use Rattle.encoded.specs.Starts.{AreOffsets}
 use Rattle.encoded.proofs.Looking.{one_character}
+use Rattle.encoded.proofs.OffsetLemmas.{offset_le}
 use Rattle.encoded.proofs.room.Room.level_at.Goals as goal
 
-pub returns : goal.returns
-returns c text h k of =
+pub returns-clause-character : goal.returns-clause-character
+returns-clause-character c text h k of =
     let self = c.args.self.now in
     let j = c.in_ok-k.k in
     let held : List (Option ℕ) = (layout_held self).levels in
@@ -16,3 +17,8 @@ returns c text h k of =
     let inside : j < length c.levels.result.now = omega (arith, ap length levels, c.in_ok-k.ensures.inside) in
     c.index-levels-k.is ∙ get_or_default c.levels.result.now j c.index-levels-k.result None inside
     ∙ ap (λ (vs : List (Option ℕ)). get_or vs j None) levels ∙ ap (λ (i : ℕ). get_or held i None) same
+
+pub returns-clause-past : goal.returns-clause-past
+returns-clause-past c text h past =
+    let of = c.in_ok-k.ensures.of text h in
+    absurd (omega (arith, of.before, offset_le text (c.in_ok-k.k + 1), past))

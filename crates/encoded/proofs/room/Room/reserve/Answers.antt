@@ -1,10 +1,11 @@
-use Rattle.std.proofs.Common.{rules, ◌≡◌, ◌∙◌, ◌+◌, ℕ, [], ap, arith, length, subst, sym}
+use Rattle.std.proofs.Common.{rules, ◌≡◌, ◌∙◌, ◌+◌, ℕ, [], ap, arith, length, slice_index, subst, sym}
 use Rattle.std.specs.Box.{boxed_slice_items}
 use Rattle.units.specs.Layout.{TextLayout}
 use Rattle.units.specs.Limits.{standard}
 use Rattle.units.specs.declared.level.Direction.TheVariants.{Auto}
 use Rattle.lines.proofs.Lengths.{length-levels}
 use Rattle.lines.specs.Scratches.{layout_in, room_of}
+use Rattle.encoded.specs.Offsets.{offset_of}
 use Rattle.encoded.specs.Starts.{AreOffsets}
 use Rattle.encoded.proofs.room.Room.reserve.Goals as goal
 
@@ -26,3 +27,11 @@ invariant_of-result c =
         rising = λ j k lt le. absurd (omega (arith, lt, le));
       });
     }
+
+pub returns-clause-holds : goal.returns-clause-holds
+returns-clause-holds c = record {
+  characters = ap (λ (v : TextLayout). length v.levels) c.lay_out_nothing.ensures.empty ∙ length-levels standard [] Auto [];
+  starts = λ k le.
+      ap (slice_index (boxed_slice_items c.in_ok-starts.starts)) {x = k} {y = 0} (omega (arith, le))
+      ∙ c.in_ok-starts.ensures.zero ∙ ap (offset_of []) {x = 0} {y = k} (omega (arith, le));
+}
