@@ -83,7 +83,8 @@ impl<'t> Report<'t> {
     /// A report on a file of this kind, before its first byte, that lays out by these limits. All memory is taken
     /// here: `Memory` is answered where some of it was refused.
     pub fn new(alloc: Global, kind: Kind<'t>, limits: Limits) -> Result<Report<'t>, Memory>
-        ensures { IfOk result (λ report. Reports limits kind.entry report [] []) }
+        ensures stands { IfOk result (λ report. Reports limits kind.entry report [] []) }
+        ensures none { IfOk result (λ report. report.lines.found ≡ []) }
     {
         let lines = LineReport::new(alloc, limits)?;
         Ok(Report {

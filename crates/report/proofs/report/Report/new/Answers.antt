@@ -3,8 +3,8 @@ use Rattle.bidtests.proofs.CutterSteps.{nothing}
 use Rattle.report.proofs.LineSteps.{report-start}
 use Rattle.report.proofs.report.Report.new.Goals as goal
 
-pub returns : goal.returns
-returns c = record {
+pub returns-clause-stands : goal.returns-clause-stands
+returns-clause-stands c = record {
   of = refl;
   is = record {
     cutter = c.new-2.ensures;
