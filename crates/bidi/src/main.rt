@@ -2,11 +2,13 @@
 //! the bidirectional algorithm.
 #![tactic(auto)]
 
+ghost use Rattle.std.specs.Prelude.{◌≡◌, ◌≢◌};
+
 use command::run::run;
 use requests::fault::Fault;
 use requests::files::SystemFiles;
 use std::env;
-use std::io::{self, BufWriter, Write};
+use std::io::{self, BufWriter, ErrorKind, Write};
 use std::process::ExitCode;
 
 /// Runs with these words, over the files of the system, standard output (buffered) and standard error.
@@ -24,10 +26,13 @@ fn run_with_words<E: Write>(rt: &HostRuntime, err: &mut E) -> io::Result<u8> {
     run_over_system(rt, &words, err)
 }
 
-/// Why there are no words to run with.
-fn fault_of_words(kind: io::ErrorKind) -> Fault<'static> {
+/// Why there are no words to run with: memory was refused, or one of them is not UTF-8.
+fn fault_of_words(kind: ErrorKind) -> Fault<'static>
+    ensures memory { kind ≡ ErrorKind.OutOfMemory → result ≡ Fault.OutOfMemory }
+    ensures utf8 { kind ≢ ErrorKind.OutOfMemory → result ≡ Fault.WordNotUtf8 }
+{
     match kind {
-        io::ErrorKind::OutOfMemory => Fault::OutOfMemory,
+        ErrorKind::OutOfMemory => Fault::OutOfMemory,
         _ => Fault::WordNotUtf8,
     }
 }
