@@ -29,3 +29,4 @@ pub mod Joining
 pub mod RunChains
 pub mod RunLinking
 pub mod RunWriting
+pub mod LineAlone

@@ -18,7 +18,7 @@ length_if : (b : Bool) (u : BidiUnit) (piece : List BidiUnit) (pieces : List (Li
 length_if true u piece pieces = omega arith
 length_if false u piece pieces = omega arith
 
-length-begin_with : (u : BidiUnit) (pieces : List (List BidiUnit)) → 0 < length pieces → length (begin_with u pieces) ≡ cond (is_separator u.class) 1 0 + length pieces
+pub length-begin_with : (u : BidiUnit) (pieces : List (List BidiUnit)) → 0 < length pieces → length (begin_with u pieces) ≡ cond (is_separator u.class) 1 0 + length pieces
 length-begin_with u [] h = absurd (omega arith)
 length-begin_with u (piece ∷ pieces) h = length_if (is_separator u.class) u piece pieces
 

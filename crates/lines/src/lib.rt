@@ -1,6 +1,7 @@
 //! The lines of a text: where they begin, their levels, the order of their positions, and how they are shown.
 #![tactic(auto)]
 
+pub mod alone;
 mod bounds;
 pub mod breaks;
 mod columns;
