@@ -2,8 +2,9 @@
 # Lays the same texts out by the built program `bench`, by the library for programs in C, by ICU and by FriBidi, class
 # look-up included, and prints one table. Of ordinary texts it counts the instructions that a character takes, by
 # valgrind, which are the same on each run; of hostile ones it takes the time, which is not. Each text is one paragraph
-# and one line, in direction auto; what is counted is done again and again over what was made once. In the column of the
-# C library levels and order are copied out besides.
+# and one line, in direction auto. Between the two stands what it takes to break a text that is laid out into lines of
+# 80 anew, and to copy each line's order. What is counted is done again and again over what was made once. In the column
+# of the C library levels and order are copied out besides.
 #
 # usage: tools/beside_others.sh [FOLDER]      (FOLDER, with the property files: /usr/share/unicode)
 #
@@ -48,7 +49,14 @@ build() {
 build lay_out_bidi_c "$library" "$heap"
 build lay_out_icu -licuuc
 build lay_out_fribidi -lfribidi
+build break_bidi_c "$library" "$heap"
+build break_icu -licuuc
 [ -x "$program" ] || echo "no program at $program" >&2
+
+# characters_of TEXT: how many characters a file has.
+characters_of() {
+    python3 -c 'import sys; print(len(open(sys.argv[1], encoding="utf-8", newline="").read()))' "$1"
+}
 
 # instructions WORD..: how many instructions a command runs. Words for callgrind stand before the command.
 instructions() {
@@ -94,9 +102,16 @@ head='%-18s %10s %10s %10s %10s %8s %8s\n'
 printf "$head" "instructions" "ours" "from C" "ICU" "FriBidi" "to ICU" "C to ICU"
 for name in $ordinary; do
     text=$work/texts/$name.txt
-    count=$(python3 -c 'import sys; print(len(open(sys.argv[1], encoding="utf-8", newline="").read()))' "$text")
+    count=$(characters_of "$text")
     row "$name" "$(each_of_program "$text" "$count")" "$(each_of lay_out_bidi_c "$text" "$count")" \
         "$(each_of lay_out_icu "$text" "$count")" "$(each_of lay_out_fribidi "$text" "$count")"
+done
+# shellcheck disable=SC2059
+printf "$head" "lines anew" "ours" "from C" "ICU" "FriBidi" "to ICU" "C to ICU"
+for name in ${ordinary%% one_*}; do
+    text=$work/texts/$name.txt
+    count=$(characters_of "$text")
+    row "$name" - "$(each_of break_bidi_c "$text" "$count")" "$(each_of break_icu "$text" "$count")" -
 done
 # shellcheck disable=SC2059
 printf "$head" "ns" "ours" "from C" "ICU" "FriBidi" "to ICU" "C to ICU"
