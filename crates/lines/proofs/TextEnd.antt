@@ -10,7 +10,7 @@ use Rattle.units.specs.declared.class.Class.TheVariants.{L, BN, B, S, WS, LRE, L
 use Rattle.units.specs.Classes.{class_at, is_line_separator, is_separator}
 use Rattle.units.specs.Positions.{positions_from, first_from}
 use Rattle.lines.specs.LineBreaks.{AreBreaks}
-use Rattle.lines.specs.Spaces.{resets_before}
+use Rattle.lines.specs.Spaces.{SeparateNone, resets_before}
 use Rattle.units.specs.Reordering.{begins_line, is_break}
 use Rattle.units.specs.Reordering.{line_from, is_reset, para_level_at, reset_to, after_resets}
 use Rattle.units.proofs.Positions.{length-positions_from, get_or-positions_from}
@@ -259,3 +259,17 @@ resetting_on own at paras old p ahead paragraph levels breaks lt solid whole r =
     let next : Resetting own at paras old p (ahead - 0) (paragraph - 0) false levels =
     resetting_more own at paras old p ahead paragraph (para_level_at own paras p) false false false false levels levels breaks lt c.0 (λ h. cc) (λ h. absurd (whole h)) c.1 refl same r in
     subst (λ n. Resetting own at paras old p n paragraph false levels) e (subst (λ n. Resetting own at paras old p (ahead - 0) n false levels) f next)
+
+-- positions none of which separates lines, and behind none of which a line begins, are passed over
+pub resetting_over : (own : List Class) (at : List ℕ) (paras : List ℕ) (old : List (Option ℕ)) (q d ahead paragraph : ℕ) (levels : List (Option ℕ)) → AreBreaks at (length own) → q + d ≤ length own → SeparateNone own q (q + d) → (0 < ahead → slice_index at (ahead - 1) ≤ q) → Resetting own at paras old (q + d) ahead paragraph false levels → Resetting own at paras old q ahead paragraph false levels
+resetting_over own at paras old q zero ahead paragraph levels breaks within free coming r =
+    let e : q + 0 ≡ q = omega arith in
+    subst (λ n. Resetting own at paras old n ahead paragraph false levels) e r
+resetting_over own at paras old q (suc d) ahead paragraph levels breaks within free coming r =
+    let e : q + suc d ≡ q + d + 1 = omega arith in
+    let before : Resetting own at paras old (q + d + 1) ahead paragraph false levels = subst (λ n. Resetting own at paras old n ahead paragraph false levels) e r in
+    let solid : is_line_separator (class_at own (q + d)) ≡ false = free.none (q + d) (omega arith) (omega arith) in
+    let less : SeparateNone own q (q + d) = record { none = λ p low high. free.none p low (omega arith) } in
+    let whole : Comes at ahead (q + d + 1) → ⊥ = λ comes. let le : slice_index at (ahead - 1) ≤ q = coming comes.0 in omega (arith, comes.1) in
+    resetting_over own at paras old q d ahead paragraph levels breaks (omega arith) less coming
+    (resetting_on own at paras old (q + d) ahead paragraph levels breaks (omega arith) solid whole before)

@@ -1,10 +1,10 @@
 //! The levels of separators, and of white space before them and at lines' ends (L1).
-ghost use Rattle.std.specs.Prelude.{◌≡◌, ◌<◌, ◌≤◌, ◌+◌, ◌-◌, ◌↔◌, ◌||◌, IsTrue, length, slice_index, count_by};
-ghost use Rattle.units.specs.Classes.{classes_of, is_line_separator as separates_line, is_separator};
+ghost use Rattle.std.specs.Prelude.{◌≡◌, true, ◌<◌, ◌≤◌, ◌+◌, ◌-◌, ◌↔◌, ◌||◌, IsTrue, length, slice_index, count_by};
+ghost use Rattle.units.specs.Classes.{class_at, classes_of, is_line_separator as separates_line, is_separator};
 ghost use Rattle.units.specs.Isolates.{level_of_para};
 ghost use Rattle.units.specs.Paragraphs.{paragraphs_of};
 ghost use Rattle.units.specs.Reordering.{is_trailing_space, reset_to};
-ghost use Rattle.lines.specs.Spaces.{StaysAtParas, levels_reset, resets_before};
+ghost use Rattle.lines.specs.Spaces.{SeparateNone, StaysAtParas, levels_reset, resets_before};
 
 use crate::breaks::Breaks;
 use std::sync::ledger::Ledger;
@@ -60,6 +60,40 @@ fn comes_last(at: &[usize], ahead: usize, position: usize) -> bool
     ahead > 0 && at[ahead - 1] == position
 }
 
+/// The position of the last of the first `ahead` breaks, or 0 where there is none.
+fn last_coming(at: &[usize], ahead: usize) -> usize
+    requires { ahead ≤ length at.now }
+    ensures some { 0 < ahead → result ≡ slice_index at.now (ahead - 1) }
+    ensures none { ahead ≡ 0 → result ≡ 0 }
+{
+    if ahead > 0 { at[ahead - 1] } else { 0 }
+}
+
+/// The position behind the last separator of lines from `start` up to `end`, or `start` where there is none: where a
+/// walk of L1 from the end goes on, if nothing before `end` is reset but a separator, and what stands before it. It
+/// takes a step for each position that is passed over.
+fn behind_separator<L: Ledger>(
+    own: &[Unit],
+    start: usize,
+    end: usize,
+    steps: &mut Steps<L>,
+) -> usize
+    requires order { start ≤ end }
+    requires within { end ≤ length own.now }
+    ensures from_start { start ≤ result }
+    ensures to_end { result ≤ end }
+    ensures passed { SeparateNone (classes_of own.now) result end }
+    ensures behind { start < result → separates_line (class_at (classes_of own.now) (result - 1)) ≡ true }
+    ensures steps { steps.new + result ≡ steps.old + end }
+{
+    let mut position = end;
+    while position > start && !is_line_separator(own[position - 1].class) {
+        steps.tick();
+        position -= 1;
+    }
+    position
+}
+
 /// How many paragraph separators a text of so many paragraphs has: each but the last ends with one.
 fn count_separators(own: &[Unit], paragraphs: usize) -> usize
     requires { paragraphs ≡ length (paragraphs_of own.now) }
@@ -73,8 +107,8 @@ fn count_separators(own: &[Unit], paragraphs: usize) -> usize
 }
 
 /// Gives separators, and white space and isolate formatting characters before them or at a line's end, the level of
-/// their paragraph (L1), in one pass from the text's end, which passes over the positions that nothing behind them in
-/// their line resets.
+/// their paragraph (L1), in one pass from the text's end. The positions of a line that nothing behind them resets are
+/// passed over in a loop that looks for a separator alone.
 ///
 /// `own` are the units of the text with their own classes, `paras` the levels of its paragraphs in order, and
 /// `levels` the resolved levels of its positions, none where a position was removed. It takes a step for each
@@ -96,8 +130,10 @@ pub fn reset_text<L: Ledger>(
     let mut ahead = at.len();
     let mut paragraph = count_separators(own, paras.len());
     let mut resets = true;
-    for position in (0..levels.len()).rev() {
+    let mut position = levels.len();
+    while position > 0 {
         steps.tick();
+        position -= 1;
         let class = own[position].class;
         let broken = comes_last(at, ahead, position + 1);
         if resets | broken | is_line_separator(class) {
@@ -107,6 +143,8 @@ pub fn reset_text<L: Ledger>(
             resets = resets_spaces_before(class, ends | broken | resets);
             let reset = resets & may_be_reset(class);
             levels[position] = reset_level(reset, paras[paragraph], levels[position]);
+        } else {
+            position = behind_separator(own, last_coming(at, ahead), position, steps);
         }
     }
 }

@@ -1,18 +1,19 @@
-use Rattle.std.proofs.Common.{◌≡◌, ◌<◌, ◌+◌, ◌-◌, Bool, true, false, cond, length, take, count_by, get_or, set, None, arith, refl, sym, ap, ◌∙◌, subst}
-use Rattle.std.specs.Prelude.{◌||◌, ◌&&◌, slice_index_or, map}
+use Rattle.std.proofs.Common.{◌≡◌, ◌≢◌, ◌<◌, ◌≤◌, ◌+◌, ◌-◌, Bool, true, false, cond, length, take, count_by, get_or, set, None, arith, refl, inl, inr, sym, ap, ◌∙◌, subst}
+use Rattle.std.specs.Prelude.{◌||◌, ◌&&◌, slice_index, slice_index_or, map}
+use Rattle.std.proofs.lemmas.Bool.{cases_lt}
 use Rattle.std.proofs.lemmas.List.{length-map, get_or-map, get_or_default}
 use Rattle.units.specs.declared.level.ParaLevel.TheVariants.{Zero}
 use Rattle.units.specs.Classes.{is_line_separator, is_separator, class_at}
 use Rattle.lines.specs.LineBreaks.{AreBreaks}
 use Rattle.units.specs.Classes.{classes_of}
 use Rattle.units.specs.Isolates.{level_of_para}
-use Rattle.lines.specs.Spaces.{resets_before}
+use Rattle.lines.specs.Spaces.{SeparateNone, resets_before}
 use Rattle.units.specs.Reordering.{para_level_at, reset_to, after_resets}
 use Rattle.lines.proofs.Separators.{paragraph_at}
 use Rattle.explicit.proofs.Holders.Roles.{class_read}
 use Rattle.lines.proofs.BoolBytes.{bool_byte-is}
 use Rattle.lines.proofs.LineEnd.{may_reset}
-use Rattle.lines.proofs.TextEnd.{Comes, Resetting, resetting_start, resetting_more, resetting_on, resetting_end, counted_step}
+use Rattle.lines.proofs.TextEnd.{Comes, Resetting, resetting_start, resetting_more, resetting_on, resetting_over, resetting_end, counted_step}
 use Rattle.lines.proofs.resets.reset_text.Goals as goal
 
 pub loop-position-init : goal.loop-position-init
@@ -22,6 +23,7 @@ loop-position-init g c =
     let len : length own ≡ length c.args.own.now = length-map c.args.own.now (λ u. u.class) in
     let breaks : AreBreaks at (length own) = subst (AreBreaks at) (c.requires.len ∙ sym len) c.positions-at.ensures.breaks in
     record {
+      within = omega arith;
       text = resetting_start own at (map level_of_para c.args.paras.now) c.args.levels.now c.count_separators-paragraph.result (len ∙ sym c.requires.levels) breaks c.count_separators-paragraph.ensures;
       steps = omega arith;
     }
@@ -33,7 +35,7 @@ overflow_sub-paragraph g c =
     let p = l.position - 1 in
     let len : length own ≡ length c.args.own.now = length-map c.args.own.now (λ u. u.class) in
     let there : p + 1 ≡ l.position = omega arith in
-    let in_text : p < length own = omega (arith, l.invariant.text.all) in
+    let in_text : p < length own = omega (arith, l.invariant.within, l.invariant.text.all) in
     let e : c.is_separator-ends.result ≡ is_separator (class_at own p) = c.is_separator-ends.ensures ∙ ap is_separator (sym (class_read c.args.own.now p _ (omega arith))) in
     let n = counted_step own p c.is_separator-ends.result in_text e in
     let k : l.paragraph ≡ count_by is_separator (take (p + 1) own) = l.invariant.text.counted ∙ ap (λ m. count_by is_separator (take m own)) (sym there) in
@@ -47,7 +49,7 @@ bounds-paras-paragraph g c =
     let p = l.position - 1 in
     let len : length own ≡ length c.args.own.now = length-map c.args.own.now (λ u. u.class) in
     let there : p + 1 ≡ l.position = omega arith in
-    let in_text : p < length own = omega (arith, l.invariant.text.all) in
+    let in_text : p < length own = omega (arith, l.invariant.within, l.invariant.text.all) in
     let e : c.is_separator-ends.result ≡ is_separator (class_at own p) = c.is_separator-ends.ensures ∙ ap is_separator (sym (class_read c.args.own.now p _ (omega arith))) in
     let n = counted_step own p c.is_separator-ends.result in_text e in
     let k : l.paragraph ≡ count_by is_separator (take (p + 1) own) = l.invariant.text.counted ∙ ap (λ m. count_by is_separator (take m own)) (sym there) in
@@ -68,7 +70,7 @@ loop-position-preserved-then-resets-broken g c =
     let len : length own ≡ length c.args.own.now = length-map c.args.own.now (λ u. u.class) in
     let breaks : AreBreaks at (length own) = subst (AreBreaks at) (c.requires.len ∙ sym len) c.positions-at.ensures.breaks in
     let there : p + 1 ≡ l.position = omega arith in
-    let in_text : p < length own = omega (arith, l.invariant.text.all) in
+    let in_text : p < length own = omega (arith, l.invariant.within, l.invariant.text.all) in
     let class = sym (class_read c.args.own.now p _ (omega arith)) in
     let e : ends ≡ is_separator (class_at own p) = c.is_separator-ends.ensures ∙ ap is_separator class in
     let before : Resetting own at paras old (p + 1) l.ahead l.paragraph l.resets l.levels =
@@ -91,6 +93,7 @@ loop-position-preserved-then-resets-broken g c =
     (c.resets_spaces_before-resets.ensures ∙ ap (λ k. resets_before k (ends || broken || l.resets)) class)
     value written before in
     record {
+      within = omega arith;
       text =
           subst (λ a. Resetting own at paras old p (l.ahead - a) (l.paragraph - c.from-paragraph.result) resets2 (set l.levels p c.reset_level.result)) (sym (c.from-ahead.ensures ∙ bool_byte-is broken))
           (subst (λ a. Resetting own at paras old p (l.ahead - cond broken 1 0) (l.paragraph - a) resets2 (set l.levels p c.reset_level.result)) (sym (c.from-paragraph.ensures ∙ bool_byte-is ends)) more);
@@ -103,6 +106,20 @@ none_holds false false true h = cc
 none_holds false true d h = cc
 none_holds true b d h = cc
 
+pub behind_separator-position-requires-clause-order : goal.behind_separator-position-requires-clause-order
+behind_separator-position-requires-clause-order g c =
+    let l = c.loop-position in
+    let p = l.position - 1 in
+    let none = none_holds l.resets c.comes_last-broken.result c.is_line_separator.result c.if-resets-broken.false in
+    elim (cases_lt 0 l.ahead) [
+      | inl some ↦
+          let last : c.last_coming.result ≡ slice_index c.positions-at.result.now (l.ahead - 1) = c.last_coming.ensures.some some in
+          let le : slice_index c.positions-at.result.now (l.ahead - 1) ≤ l.position = l.invariant.text.coming some in
+          let ne : slice_index c.positions-at.result.now (l.ahead - 1) ≢ p + 1 = λ e. let broken : c.comes_last-broken.result ≡ true = c.comes_last-broken.ensures.1 (some, e) in let off : c.comes_last-broken.result ≡ false = none.1 in let z : false ≡ true = sym off ∙ broken in cc in
+          omega arith
+      | inr few ↦ let first : c.last_coming.result ≡ 0 = c.last_coming.ensures.none (omega arith) in omega arith
+    ]
+
 pub loop-position-preserved : goal.loop-position-preserved
 loop-position-preserved g c =
     let l = c.loop-position in
@@ -111,10 +128,12 @@ loop-position-preserved g c =
     let old = c.args.levels.now in
     let paras = map level_of_para c.args.paras.now in
     let p = l.position - 1 in
+    let q = c.behind_separator-position.result in
+    let passed = c.behind_separator-position.ensures in
     let len : length own ≡ length c.args.own.now = length-map c.args.own.now (λ u. u.class) in
     let breaks : AreBreaks at (length own) = subst (AreBreaks at) (c.requires.len ∙ sym len) c.positions-at.ensures.breaks in
     let there : p + 1 ≡ l.position = omega arith in
-    let in_text : p < length own = omega (arith, l.invariant.text.all) in
+    let in_text : p < length own = omega (arith, l.invariant.within, l.invariant.text.all) in
     let none = none_holds l.resets c.comes_last-broken.result c.is_line_separator.result c.if-resets-broken.false in
     let solid : is_line_separator (class_at own p) ≡ false =
     sym (c.is_line_separator.ensures ∙ ap is_line_separator (sym (class_read c.args.own.now p _ (omega arith)))) ∙ none.2 in
@@ -122,11 +141,18 @@ loop-position-preserved g c =
     let before : Resetting own at paras old (p + 1) l.ahead l.paragraph false l.levels =
     subst (λ n. Resetting own at paras old n l.ahead l.paragraph false l.levels) (sym there)
     (subst (λ b. Resetting own at paras old l.position l.ahead l.paragraph b l.levels) none.0 l.invariant.text) in
+    let d = p - q in
+    let back : q + d ≡ p = omega (arith, passed.to_end) in
+    let free : SeparateNone own q (q + d) = subst (SeparateNone own q) (sym back) passed.passed in
+    let coming : 0 < l.ahead → slice_index at (l.ahead - 1) ≤ q = λ some. let last : c.last_coming.result ≡ slice_index at (l.ahead - 1) = c.last_coming.ensures.some some in omega (arith, passed.from_start) in
+    let one : Resetting own at paras old (q + d) l.ahead l.paragraph false l.levels =
+    subst (λ n. Resetting own at paras old n l.ahead l.paragraph false l.levels) (sym back) (resetting_on own at paras old p l.ahead l.paragraph l.levels breaks in_text solid whole before) in
     record {
+      within = omega (arith, passed.to_end, l.invariant.within);
       text =
-          subst (λ b. Resetting own at paras old p l.ahead l.paragraph b l.levels) (sym none.0)
-          (resetting_on own at paras old p l.ahead l.paragraph l.levels breaks in_text solid whole before);
-      steps = omega (arith, c.tick.ensures, l.invariant.steps);
+          subst (λ b. Resetting own at paras old q l.ahead l.paragraph b l.levels) (sym none.0)
+          (resetting_over own at paras old q d l.ahead l.paragraph l.levels breaks (omega arith) free coming one);
+      steps = omega (arith, c.tick.ensures, passed.steps, l.invariant.steps);
     }
 
 pub returns-clause-levels : goal.returns-clause-levels
