@@ -1,9 +1,9 @@
 -- What a PDI or a PDF does to what the pass keeps.
-use Rattle.std.proofs.Common.{◌≡◌, ℕ, suc, ◌<◌, true, false, List, [], ◌∷◌, ◌++◌, length, arith, refl, subst, ◌∙◌, ◌⊎◌, inl, inr, append-nil}
+use Rattle.std.proofs.Common.{◌≡◌, ℕ, suc, ◌<◌, true, false, List, [], ◌∷◌, ◌++◌, length, arith, refl, ◌∙◌, ◌⊎◌, inl, inr, append-nil}
 use Rattle.std.proofs.lemmas.Bool.{cases_Bool, cases_lt}
 use Rattle.units.specs.declared.class.Class.{Class}
 use Rattle.explicit.specs.OpenInitiators.{is_isolate, after_pdf}
-use Rattle.explicit.specs.StatusStacks.{is_taken, entry_at, entries_of, taken_isolates, refused_isolates, refused_embeddings}
+use Rattle.explicit.specs.StatusStacks.{is_taken, entries_of, taken_isolates, refused_isolates, refused_embeddings}
 use Rattle.explicit.specs.declared.status.Status.{Status}
 use Rattle.explicit.proofs.Holders.Taken.{none_refused, some_refused, Adds, adds-taken, adds-isolate, adds-embedding_within, adds-embedding}
 
@@ -19,12 +19,7 @@ alike depth cs para xs = record { entries = refl; isolates = refl; embeddings = 
 
 -- an initiator that adds nothing
 alike-from_adds : (depth : ℕ) (cs : List Class) (para q : ℕ) (qs : List ℕ) → Adds depth cs para q qs [] 0 0 0 → IsKeptAlike depth cs para (q ∷ qs) qs
-alike-from_adds depth cs para q qs a = record {
-  entries = a.entry_is ∙ append-nil (entries_of depth cs para qs);
-  isolates = omega (arith, a.isolates_is);
-  embeddings = omega (arith, a.embeddings_is);
-  taken = omega (arith, a.taken_isolates_is);
-}
+alike-from_adds depth cs para q qs a = grind (arith, append-nil)
 
 -- within an isolate that was not taken a PDF changes nothing
 pub pdf-ignored : (depth : ℕ) (cs : List Class) (para : ℕ) (qs : List ℕ) → 0 < refused_isolates depth cs para qs → IsKeptAlike depth cs para qs (after_pdf cs qs)
@@ -91,20 +86,4 @@ after_pdf-embedding cs q qs u = rw u refl
 pub pdf-taken : (depth : ℕ) (cs : List Class) (para : ℕ) (qs : List ℕ) → refused_isolates depth cs para qs ≡ 0 → refused_embeddings depth cs para qs ≡ 0 → IsOneEntryLess depth cs para qs (after_pdf cs qs) ⊎ (IsKeptAlike depth cs para qs (after_pdf cs qs) × ((length (entries_of depth cs para qs) ≡ 1) ⊎ ends_in_isolate (entries_of depth cs para qs)))
 pdf-taken depth cs para [] z h = inr (alike depth cs para [], inl refl)
 pdf-taken depth cs para (q ∷ qs) z h =
-    let P : List ℕ → Type 0 = λ ys. IsOneEntryLess depth cs para (q ∷ qs) ys ⊎ (IsKeptAlike depth cs para (q ∷ qs) ys × ((length (entries_of depth cs para (q ∷ qs)) ≡ 1) ⊎ ends_in_isolate (entries_of depth cs para (q ∷ qs)))) in
-    elim (cases_Bool (is_taken depth cs para q qs)) [
-      | inr t ↦ absurd (let k = some_refused depth cs para (q ∷ qs) t in omega (arith, k))
-      | inl t ↦
-          let a = adds-taken depth cs para q qs t in
-          elim (cases_Bool (is_isolate cs q)) [
-            | inl u ↦ subst P (after_pdf-isolate cs q qs u) (inr (alike depth cs para (q ∷ qs), inr (entries_of depth cs para qs, entry_at depth cs para q qs, a.entry_is, u)))
-            | inr u ↦ subst P (after_pdf-embedding cs q qs u) (inl (record {
-              entry = entry_at depth cs para q qs;
-              plain = u;
-              entries = a.entry_is;
-              isolates = omega (arith, a.isolates_is);
-              embeddings = omega (arith, a.embeddings_is);
-              taken = a.taken_isolates_is ∙ rw u (omega arith);
-            }))
-          ]
-    ]
+    grind (arith, some_refused, adds-taken, after_pdf-isolate, alike, after_pdf-embedding)

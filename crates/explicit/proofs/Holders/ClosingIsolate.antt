@@ -1,10 +1,10 @@
 -- What a PDI does to what the pass keeps.
-use Rattle.std.proofs.Common.{◌≡◌, ℕ, suc, ◌<◌, Bool, true, false, ◌||◌, List, [], ◌∷◌, ◌++◌, arith, refl, sym, ap, subst, ◌∙◌, inl, inr, append-nil}
+use Rattle.std.proofs.Common.{◌≡◌, ℕ, suc, ◌<◌, Bool, true, false, ◌||◌, List, [], ◌∷◌, ◌++◌, arith, refl, subst, ◌∙◌, inl, inr, append-nil}
 use Rattle.std.specs.List.{list_any}
 use Rattle.std.proofs.lemmas.Bool.{cases_Bool, cases_lt, false≢true}
 use Rattle.units.specs.declared.class.Class.{Class}
 use Rattle.explicit.specs.OpenInitiators.{is_isolate, past_isolate, after_pdi}
-use Rattle.explicit.specs.StatusStacks.{is_taken, entry_at, entries_of, taken_isolates, refused_isolates, refused_embeddings, before_isolate}
+use Rattle.explicit.specs.StatusStacks.{is_taken, entries_of, taken_isolates, refused_isolates, refused_embeddings, before_isolate}
 use Rattle.explicit.specs.declared.status.Status.{Status}
 use Rattle.explicit.proofs.Holders.Taken.{none_refused, taken-outer, adds-taken, adds-isolate, adds-embedding_within, adds-embedding}
 
@@ -14,15 +14,11 @@ any-snoc p (x ∷ xs) e = elim (cases_Bool (p x)) [ inl u ↦ rw u refl | inr u 
 
 pub before-isolate : (xs : List Status) (e : Status) → e.is_isolate ≡ true → before_isolate (xs ++ e ∷ []) ≡ xs
 before-isolate [] e u = refl
-before-isolate (x ∷ xs) e u =
-    let a : list_any (λ e. e.is_isolate) (xs ++ e ∷ []) ≡ true = any-snoc (λ e. e.is_isolate) xs e ∙ rw u (elim (cases_Bool (list_any (λ e. e.is_isolate) xs)) [ inl v ↦ rw v refl | inr v ↦ rw v refl ]) in
-    rw (a, before-isolate xs e u) refl
+before-isolate (x ∷ xs) e u = grind (arith, any-snoc, before-isolate xs e u)
 
 pub before-other : (xs : List Status) (e : Status) → e.is_isolate ≡ false → before_isolate (xs ++ e ∷ []) ≡ before_isolate xs
 before-other [] e u = refl
-before-other (x ∷ xs) e u =
-    let a : list_any (λ e. e.is_isolate) (xs ++ e ∷ []) ≡ list_any (λ e. e.is_isolate) xs = any-snoc (λ e. e.is_isolate) xs e ∙ rw u (elim (cases_Bool (list_any (λ e. e.is_isolate) xs)) [ inl v ↦ rw v refl | inr v ↦ rw v refl ]) in
-    rw (a, before-other xs e u) refl
+before-other (x ∷ xs) e u = grind (arith, any-snoc, before-other xs e u)
 
 -- an isolate fewer that was not taken
 pub record IsOverflowLess (depth : ℕ) (cs : List Class) (para : ℕ) (xs ys : List ℕ) : Type 0 where
@@ -77,57 +73,12 @@ past-refused depth cs para (q ∷ qs) v h =
 past-taken : (depth : ℕ) (cs : List Class) (para : ℕ) (qs : List ℕ) → list_any (is_isolate cs) qs ≡ true → refused_isolates depth cs para qs ≡ 0 → IsIsolateLess depth cs para qs (past_isolate cs qs)
 past-taken depth cs para [] v h = absurd (false≢true v)
 past-taken depth cs para (q ∷ qs) v h =
-    let P : List ℕ → Type 0 = λ ys. IsIsolateLess depth cs para (q ∷ qs) ys in
-    elim (cases_Bool (is_taken depth cs para q qs)) [
-      | inl t ↦
-          let a = adds-taken depth cs para q qs t in
-          let z = none_refused depth cs para qs (taken-outer depth cs para q qs t) in
-          elim (cases_Bool (is_isolate cs q)) [
-            | inl u ↦ subst P (past-here cs q qs u) (record {
-              entries = sym (before-isolate (entries_of depth cs para qs) (entry_at depth cs para q qs) u) ∙ ap before_isolate (sym a.entry_is);
-              isolates = z.0;
-              embeddings = z.1;
-              taken = a.taken_isolates_is ∙ rw u (omega arith);
-            })
-            | inr u ↦
-                let ih = past-taken depth cs para qs (rw u at v) z.0 in
-                subst P (past-further cs q qs u) (record {
-                  entries = ih.entries ∙ sym (before-other (entries_of depth cs para qs) (entry_at depth cs para q qs) u) ∙ ap before_isolate (sym a.entry_is);
-                  isolates = ih.isolates;
-                  embeddings = ih.embeddings;
-                  taken = a.taken_isolates_is ∙ rw u (omega (arith, ih.taken));
-                })
-          ]
-      | inr t ↦ elim (cases_Bool (is_isolate cs q)) [
-        | inl u ↦ absurd (let a = adds-isolate depth cs para q qs t u in omega (arith, a.isolates_is))
-        | inr u ↦ elim (cases_lt 0 (refused_isolates depth cs para qs)) [
-          | inl k ↦ absurd (let a = adds-embedding_within depth cs para q qs t u k in omega (arith, a.isolates_is))
-          | inr k ↦
-              let a = adds-embedding depth cs para q qs t u (omega arith) in
-              let ih = past-taken depth cs para qs (rw u at v) (omega arith) in
-              subst P (past-further cs q qs u) (record {
-                entries = ih.entries ∙ ap before_isolate (sym (a.entry_is ∙ append-nil (entries_of depth cs para qs)));
-                isolates = ih.isolates;
-                embeddings = ih.embeddings;
-                taken = omega (arith, a.taken_isolates_is, ih.taken);
-              })
-        ]
-      ]
-    ]
+    grind (arith, adds-taken, none_refused, taken-outer, past-here, before-isolate, past-further, before-other, adds-isolate, adds-embedding_within, adds-embedding, append-nil, past-taken depth cs para qs)
 
 -- where no isolate is open, none was refused and none taken
 no_isolates : (depth : ℕ) (cs : List Class) (para : ℕ) (qs : List ℕ) → list_any (is_isolate cs) qs ≡ false → (refused_isolates depth cs para qs ≡ 0) × (taken_isolates depth cs para qs ≡ 0)
 no_isolates depth cs para [] v = (refl, refl)
-no_isolates depth cs para (q ∷ qs) v =
-    elim (cases_Bool (is_isolate cs q)) [
-      | inl u ↦ absurd (false≢true (sym v ∙ rw u refl))
-      | inr u ↦
-          let ih = no_isolates depth cs para qs (rw u at v) in
-          elim (cases_Bool (is_taken depth cs para q qs)) [
-            | inl t ↦ (rw (t, ih.0) refl, rw (t, u, ih.1) refl)
-            | inr t ↦ (rw (t, u, ih.0) refl, rw (t, ih.1) refl)
-          ]
-    ]
+no_isolates depth cs para (q ∷ qs) v = grind (arith, false≢true, no_isolates depth cs para qs)
 
 pub pdi-refused : (depth : ℕ) (cs : List Class) (para : ℕ) (qs : List ℕ) → 0 < refused_isolates depth cs para qs → IsOverflowLess depth cs para qs (after_pdi cs qs)
 pdi-refused depth cs para qs h =

@@ -17,11 +17,7 @@ use Rattle.explicit.proofs.Holders.OpenEmbeddings.{OpenEmbeddings, Nested, OpenE
 
 OpenEmbeddings-past : (cs : List Class) (y k : ℕ) (qs : List ℕ) → list_any (is_isolate cs) qs ≡ true → OpenEmbeddings cs y k qs → OpenEmbeddings cs y 0 (past_isolate cs qs)
 OpenEmbeddings-past cs y k [] v h = tt
-OpenEmbeddings-past cs y k (q ∷ qs) v h =
-    elim (cases_Bool (is_isolate cs q)) [
-      | inl u ↦ rw u (rw u at h.1)
-      | inr u ↦ rw u (OpenEmbeddings-past cs y (suc k) qs (rw u at v) (rw u at h.1))
-    ]
+OpenEmbeddings-past cs y k (q ∷ qs) v h = grind (arith, OpenEmbeddings-past cs y (suc k) qs)
 
 -- the facts that hold of what is open past y
 pub record IsOpen (cs : List Class) (y : ℕ) (qs : List ℕ) : Type 0 where
@@ -60,12 +56,7 @@ lies-innermost cs y k (q ∷ qs) a h =
 
 lies-closed : (cs : List Class) (y : ℕ) (qs : List ℕ) → AllBelow (suc y) qs → suc y < length cs → IsOfKinds (class_at cs (suc y)) false false true false → list_any (is_isolate cs) qs ≡ true → OpenIsolates cs y 0 qs → lies_in cs (innermost cs qs) (suc y) ≡ false
 lies-closed cs y [] a b r v h = absurd (false≢true v)
-lies-closed cs y (q ∷ qs) a b r v h =
-    let l : q < suc y = a.0 in
-    elim (cases_Bool (is_isolate cs q)) [
-      | inl u ↦ rw u (holds-closed_isolate cs y q (omega arith) b u r (h.0 u))
-      | inr u ↦ rw u (lies-closed cs y qs a.1 b r (rw u at v) (rw u at h.1))
-    ]
+lies-closed cs y (q ∷ qs) a b r v h = grind (arith, holds-closed_isolate, lies-closed cs y qs a.1 b r)
 
 -- what is open holds the position
 pub filter-open : (cs : List Class) (y k m : ℕ) (qs : List ℕ) → AllBelow y qs → Nested cs qs → OpenIsolates cs y k qs → OpenEmbeddings cs y m qs → filter (holds cs y) qs ≡ qs
@@ -83,33 +74,16 @@ filter-open cs y k m (q ∷ qs) a n i e =
 filter-closed : (cs : List Class) (y : ℕ) (qs : List ℕ) → AllBelow (suc y) qs → suc y < length cs → IsOfKinds (class_at cs (suc y)) false false true false → list_any (is_isolate cs) qs ≡ true → Nested cs qs → OpenIsolates cs y 0 qs → filter (holds cs (suc y)) qs ≡ filter (holds cs (suc y)) (past_isolate cs qs)
 filter-closed cs y [] a b r v n h = refl
 filter-closed cs y (q ∷ qs) a b r v n h =
-    let l : q < suc y = a.0 in
-    elim (cases_Bool (is_isolate cs q)) [
-      | inl u ↦ rw (u, holds-closed_isolate cs y q (omega arith) b u r (h.0 u), holds-not_embedding cs (suc y) q (isolate_not_embedding (class_at cs q) u)) refl
-      | inr u ↦
-          let x : lies_in cs (isolate_around cs q) (suc y) ≡ false = rw n.0 (lies-closed cs y qs a.1 b r (rw u at v) (rw u at h.1)) in
-          rw (u, holds-not_isolate cs (suc y) q u, holds-past_isolate cs (suc y) q x) (filter-closed cs y qs a.1 b r (rw u at v) n.2 (rw u at h.1))
-    ]
+    grind (arith, holds-closed_isolate, holds-not_embedding, isolate_not_embedding, lies-closed, holds-not_isolate, holds-past_isolate, filter-closed cs y qs a.1 b r)
 
 -- nor does the embedding that a PDF closes
 filter-after_pdf : (cs : List Class) (y : ℕ) (qs : List ℕ) → IsOpen cs y qs → suc y < length cs → IsOfKinds (class_at cs (suc y)) false false false true → isolate_around cs (suc y) ≡ innermost cs (after_pdf cs qs) → filter (holds cs (suc y)) qs ≡ filter (holds cs (suc y)) (after_pdf cs qs)
 filter-after_pdf cs y [] o b r s = refl
-filter-after_pdf cs y (q ∷ qs) o b r s =
-    let l : q < suc y = o.bound.0 in
-    elim (cases_Bool (is_isolate cs q)) [
-      | inl u ↦ rw u refl
-      | inr u ↦
-          let t : isolate_around cs (suc y) ≡ isolate_around cs q = s ∙ rw (u, o.nested.0) refl in
-          rw (u, holds-not_isolate cs (suc y) q u, holds-closed_embedding cs y q (omega arith) b r t (o.embeddings.0 u)) refl
-    ]
+filter-after_pdf cs y (q ∷ qs) o b r s = grind (arith, holds-not_isolate, holds-closed_embedding)
 
 pub filter-left : (cs : List Class) (y : ℕ) (qs : List ℕ) → Role (class_at cs (suc y)) → suc y < length cs → IsOpen cs y qs → isolate_around cs (suc y) ≡ innermost cs (Left cs y qs) → filter (holds cs (suc y)) qs ≡ filter (holds cs (suc y)) (Left cs y qs)
 filter-left cs y qs (opens_isolate r) b o s = rw (r.pdi_is, r.pdf_is) refl
 filter-left cs y qs (opens_embedding r) b o s = rw (r.pdi_is, r.pdf_is) refl
 filter-left cs y qs (plain r) b o s = rw (r.pdi_is, r.pdf_is) refl
 filter-left cs y qs (closes_embedding r) b o s = rw (r.pdi_is, r.pdf_is) (filter-after_pdf cs y qs o b r (rw (r.pdi_is, r.pdf_is) at s))
-filter-left cs y qs (closes_isolate r) b o s =
-    elim (cases_Bool (list_any (is_isolate cs) qs)) [
-      | inl v ↦ rw (r.pdi_is, v) (filter-closed cs y qs o.bound b r v o.nested o.isolates)
-      | inr v ↦ rw (r.pdi_is, v) refl
-    ]
+filter-left cs y qs (closes_isolate r) b o s = grind (arith, filter-closed)

@@ -62,12 +62,7 @@ left-next cs y l h =
     }
 
 holders-left : (cs : List Class) (y : ℕ) → suc y < length cs → IsOpen cs y (opened cs y (holders cs y)) → holders cs (suc y) ≡ Left cs y (opened cs y (holders cs y))
-holders-left cs y l h =
-    let qs : List ℕ = opened cs y (holders cs y) in
-    let k = left-next cs y l h in
-    holders-next cs y
-    ∙ (filter-left cs y qs (role (class_at cs (suc y))) l h k.around
-    ∙ filter-open cs (suc y) (bit (is_isolate cs (suc y))) (bit (is_embedding_initiator (class_at cs (suc y)))) (Left cs y qs) k.bound k.nested k.isolates k.embeddings)
+holders-left cs y l h = grind (arith, left-next, holders-next, filter-left, role, filter-open)
 
 around-first : (cs : List Class) → isolate_around cs 0 ≡ None
 unfolding isolate_around
@@ -75,9 +70,7 @@ around-first cs = refl
 
 pub holders-are_open : (cs : List Class) (y : ℕ) → y < length cs → IsOpen cs y (opened cs y (holders cs y))
 holders-are_open cs zero l = opened-is_open cs 0 [] (role (class_at cs 0)) l (record { bound = tt; isolates = tt; embeddings = tt; nested = tt; around = around-first cs })
-holders-are_open cs (suc y) l =
-    let ih = holders-are_open cs y (omega arith) in
-    rw (holders-left cs y l ih) (opened-is_open cs (suc y) (Left cs y (opened cs y (holders cs y))) (role (class_at cs (suc y))) l (left-next cs y l ih))
+holders-are_open cs (suc y) l = grind (arith, holders-left, opened-is_open, role, left-next, holders-are_open cs y)
 
 -- the initiators that hold the next position are those that its class leaves open, of those that hold this one and this
 -- one

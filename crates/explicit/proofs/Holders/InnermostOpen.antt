@@ -1,8 +1,8 @@
 -- The last of the open isolates is the innermost one around a position.
-use Rattle.std.proofs.Common.{◌≡◌, ℕ, suc, ◌+◌, ◌<◌, ◌≤◌, Bool, false, List, length, Option, Some, None, inl, inr, refl, ◌∙◌, arith}
+use Rattle.std.proofs.Common.{◌≡◌, ℕ, suc, ◌+◌, ◌<◌, ◌≤◌, Bool, false, List, length, Some, None, inl, inr, arith}
 use Rattle.std.proofs.lemmas.Bool.{cases_lt}
 use Rattle.units.specs.Classes.{class_at, is_isolate_initiator, is_pdi}
-use Rattle.units.specs.Isolates.{matching_pdi, isolate_around}
+use Rattle.units.specs.Isolates.{isolate_around}
 use Rattle.units.specs.declared.class.Class.{Class}
 use Rattle.explicit.proofs.Matched.Balance.{Exclude, match_extends, match_within, match_of_bounds, surplus_open, unmatched_before}
 use Rattle.explicit.proofs.Matched.OpenStack.{IsStack, stack_stays}
@@ -30,15 +30,7 @@ last_is_last o c k n s ex stack a h =
 module _ (cs : List Class) (k : ℕ) (inside : k < length cs) where
   -- an isolate that holds k has no match before k
   held_is_open : (j : ℕ) → IsHeld cs j k → matching_before cs k j ≡ None
-  held_is_open j h = go (matching_before cs k j) refl
-    where
-      go : (m : Option ℕ) → matching_before cs k j ≡ m → m ≡ None
-      go None e = refl
-      go (Some b) e =
-          let bounds = match_of_bounds (opens_at cs) (closes_at cs) k j b e in
-          let whole : matching_pdi cs j ≡ Some b = matching_pdi_of cs j h.opener ∙ match_extends (opens_at cs) (closes_at cs) k (length cs) j b (omega arith) e in
-          let after = h.before b whole in
-          absurd (omega (arith, after, bounds.1))
+  held_is_open j h = grind (arith, match_of_bounds, matching_pdi_of, match_extends)
 
   -- with no isolate open, k lies outside of all
   pub around_none_open : (s : ℕ → ℕ) → IsOpenStack cs k 0 s → isolate_around cs k ≡ None

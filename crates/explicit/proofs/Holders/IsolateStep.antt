@@ -1,5 +1,5 @@
 -- What the class at the next position leaves open, as to isolates.
-use Rattle.std.proofs.Common.{◌≡◌, ℕ, suc, ◌+◌, ◌<◌, false, List, [], ◌∷◌, length, refl, sym, ◌∙◌, inl, inr}
+use Rattle.std.proofs.Common.{arith, ◌≡◌, ℕ, suc, ◌+◌, ◌<◌, false, List, [], ◌∷◌, length, refl, sym, ◌∙◌, inl, inr}
 use Rattle.std.specs.Prelude.{find}
 use Rattle.std.specs.List.{list_any}
 use Rattle.std.proofs.lemmas.Bool.{cases_Bool, false≢true}
@@ -14,19 +14,11 @@ use Rattle.explicit.proofs.Holders.OpenIsolates.{AllBelow, OpenIsolates, OpenIso
 
 past_isolate-keeps : (cs : List Class) (P : List ℕ → Type 0) → ((q : ℕ) (qs : List ℕ) → P (q ∷ qs) → P qs) → (qs : List ℕ) → P qs → P (past_isolate cs qs)
 past_isolate-keeps cs P rest [] h = h
-past_isolate-keeps cs P rest (q ∷ qs) h =
-    elim (cases_Bool (is_isolate cs q)) [
-      | inl u ↦ rw u (rest q qs h)
-      | inr u ↦ rw u (past_isolate-keeps cs P rest qs (rest q qs h))
-    ]
+past_isolate-keeps cs P rest (q ∷ qs) h = grind (arith, past_isolate-keeps cs P rest qs (rest q qs h))
 
 after_pdf-keeps : (cs : List Class) (P : List ℕ → Type 0) → ((q : ℕ) (qs : List ℕ) → P (q ∷ qs) → P qs) → (qs : List ℕ) → P qs → P (after_pdf cs qs)
 after_pdf-keeps cs P rest [] h = h
-after_pdf-keeps cs P rest (q ∷ qs) h =
-    elim (cases_Bool (is_isolate cs q)) [
-      | inl u ↦ rw u h
-      | inr u ↦ rw u (rest q qs h)
-    ]
+after_pdf-keeps cs P rest (q ∷ qs) h = grind arith
 
 -- a fact about lists that holds of each list's rest holds of what is left open
 pub left_open-keeps : (cs : List Class) (P : List ℕ → Type 0) → ((q : ℕ) (qs : List ℕ) → P (q ∷ qs) → P qs) → (c : Class) (qs : List ℕ) → P qs → P (left_open cs c qs)
@@ -46,27 +38,15 @@ left_open-keeps cs P rest c qs h =
 
 OpenIsolates-none : (cs : List Class) (y k : ℕ) (qs : List ℕ) → list_any (is_isolate cs) qs ≡ false → OpenIsolates cs y k qs
 OpenIsolates-none cs y k [] e = tt
-OpenIsolates-none cs y k (q ∷ qs) e =
-    elim (cases_Bool (is_isolate cs q)) [
-      | inl u ↦ absurd (false≢true (sym e ∙ rw u refl))
-      | inr u ↦ (λ v. absurd (false≢true (sym u ∙ v)), OpenIsolates-none cs y (bit (is_isolate cs q) + k) qs (rw u at e))
-    ]
+OpenIsolates-none cs y k (q ∷ qs) e = grind (arith, false≢true, OpenIsolates-none cs y (bit (is_isolate cs q) + k) qs)
 
 OpenIsolates-after_pdf : (cs : List Class) (y : ℕ) (qs : List ℕ) → OpenIsolates cs y 0 qs → OpenIsolates cs y 0 (after_pdf cs qs)
 OpenIsolates-after_pdf cs y [] h = h
-OpenIsolates-after_pdf cs y (q ∷ qs) h =
-    elim (cases_Bool (is_isolate cs q)) [
-      | inl u ↦ rw u h
-      | inr u ↦ rw u (rw u at h.1)
-    ]
+OpenIsolates-after_pdf cs y (q ∷ qs) h = grind arith
 
 innermost-after_pdf : (cs : List Class) (qs : List ℕ) → innermost cs (after_pdf cs qs) ≡ innermost cs qs
 innermost-after_pdf cs [] = refl
-innermost-after_pdf cs (q ∷ qs) =
-    elim (cases_Bool (is_isolate cs q)) [
-      | inl u ↦ rw (u, u) refl
-      | inr u ↦ rw u refl
-    ]
+innermost-after_pdf cs (q ∷ qs) = grind arith
 
 abbrev pub Left : List Class → ℕ → List ℕ → List ℕ
 Left cs y qs = left_open cs (class_at cs (suc y)) qs
@@ -87,8 +67,4 @@ find-left cs y qs (opens_isolate r) a b h = rw (r.pdi_is, r.pdf_is) (find-open c
 find-left cs y qs (opens_embedding r) a b h = rw (r.pdi_is, r.pdf_is) (find-open cs (suc y) 0 qs a (OpenIsolates-next cs y 0 0 qs a (rw (r.isolate_is, r.pdi_is) refl) h))
 find-left cs y qs (plain r) a b h = rw (r.pdi_is, r.pdf_is) (find-open cs (suc y) 0 qs a (OpenIsolates-next cs y 0 0 qs a (rw (r.isolate_is, r.pdi_is) refl) h))
 find-left cs y qs (closes_embedding r) a b h = rw (r.pdi_is, r.pdf_is) (find-open cs (suc y) 0 qs a (OpenIsolates-next cs y 0 0 qs a (rw (r.isolate_is, r.pdi_is) refl) h) ∙ sym (innermost-after_pdf cs qs))
-find-left cs y qs (closes_isolate r) a b h =
-    elim (cases_Bool (list_any (is_isolate cs) qs)) [
-      | inl v ↦ rw (r.pdi_is, v) (find-closed cs y qs a b r h)
-      | inr v ↦ rw (r.pdi_is, v) (find-closed cs y qs a b r h ∙ rw (innermost-past_none cs qs v, innermost-none cs qs v) refl)
-    ]
+find-left cs y qs (closes_isolate r) a b h = grind (arith, find-closed, innermost-past_none, innermost-none)

@@ -2,8 +2,8 @@
 use Rattle.std.proofs.Common.{◌≡◌, ℕ, zero, suc, ◌+◌, ◌<◌, ◌≤◌, Bool, true, false, List, [], ◌∷◌, length, arith, refl, sym, ap, subst, ◌∙◌, inl, inr}
 use Rattle.std.specs.Prelude.{Option, Some, filter, ◌==◌, IfSome}
 use Rattle.std.specs.List.{list_any}
-use Rattle.std.proofs.lemmas.Bool.{cases_Bool, cases_eq, false≢true, lt-ltb, le-ltb, eq-eqb, ne_eqb, eqb-true}
-use Rattle.units.specs.Classes.{class_at, is_isolate_initiator, is_initiator, is_pdi, is_removed, is_separator}
+use Rattle.std.proofs.lemmas.Bool.{cases_Bool, false≢true, lt-ltb, le-ltb, eq-eqb, ne_eqb, eqb-true}
+use Rattle.units.specs.Classes.{class_at, is_isolate_initiator, is_pdi, is_removed, is_separator}
 use Rattle.units.specs.Isolates.{matching_pdi, isolate_holds}
 use Rattle.std.specs.Option.{option_map}
 use Rattle.units.specs.Explicit.{State, explicit_at}
@@ -16,7 +16,7 @@ use Rattle.explicit.proofs.Matched.Matching.{matching_pdi_opens}
 use Rattle.explicit.proofs.Matched.Nesting.{match_bounds, match_is_pdi}
 use Rattle.explicit.proofs.Matched.StillOpen.{bit}
 use Rattle.explicit.proofs.Holders.Roles.{IsOfKinds, Role, role, opens_isolate, opens_embedding, closes_isolate, closes_embedding, plain}
-use Rattle.explicit.proofs.Holders.Open.{below, holders, holds}
+use Rattle.explicit.proofs.Holders.Open.{below, holders}
 use Rattle.explicit.proofs.Holders.OpenIsolates.{AllBelow, OpenIsolates, OpenIsolates-next, holds-open_isolate}
 use Rattle.explicit.proofs.Holders.IsolateStep.{left_open-keeps}
 use Rattle.explicit.proofs.Holders.HoldersStep.{holders-are_open, holders-step}
@@ -28,11 +28,7 @@ Stacked cs [] = Unit {0}
 Stacked cs (q ∷ qs) = (qs ≡ holders cs q) × Stacked cs qs
 
 opened-stacked : (cs : List Class) (y : ℕ) → Stacked cs (holders cs y) → Stacked cs (opened cs y (holders cs y))
-opened-stacked cs y h =
-    elim (cases_Bool (is_initiator (class_at cs y))) [
-      | inl u ↦ rw u (refl, h)
-      | inr u ↦ rw u h
-    ]
+opened-stacked cs y h = grind arith
 
 pub holders-stacked : (cs : List Class) (y : ℕ) → y < length cs → Stacked cs (holders cs y)
 holders-stacked cs zero l = tt
@@ -43,14 +39,7 @@ is_among i qs = list_any (λ q. q == i) qs
 
 pub among-filtered : (t : ℕ → Bool) (i y : ℕ) → i < y → t i ≡ true → is_among i (filter t (below y)) ≡ true
 among-filtered t i zero l h = absurd (omega arith)
-among-filtered t i (suc y) l h =
-    elim (cases_eq i y) [
-      | inl e ↦ rw (sym (ap t e) ∙ h) (rw (eq-eqb y i (sym e)) refl)
-      | inr ne ↦ elim (cases_Bool (t y)) [
-        | inl u ↦ rw (u, ne_eqb y i (λ e. ne (sym e))) (among-filtered t i y (omega arith) h)
-        | inr u ↦ rw u (among-filtered t i y (omega arith) h)
-      ]
-    ]
+among-filtered t i (suc y) l h = grind (arith, eq-eqb, ne_eqb, among-filtered t i y)
 
 ends-there : (cs : List Class) (i j : ℕ) → matching_pdi cs i ≡ Some j → isolate_holds cs i j ≡ false
 unfolding isolate_holds
@@ -62,18 +51,7 @@ holds-before cs i j y h a b = rw (h, matching_pdi_opens cs i j h, lt-ltb i y a, 
 
 -- it is among the open ones before its PDI
 among-open : (cs : List Class) (i y : ℕ) → matching_pdi cs i ≡ Some (suc y) → is_among i (opened cs y (holders cs y)) ≡ true
-among-open cs i y h =
-    let b = match_bounds cs i (suc y) h in
-    elim (cases_eq i y) [
-      | inl e ↦ rw (rw e at (matching_pdi_opens cs i (suc y) h)) (rw (eq-eqb y i (sym e)) refl)
-      | inr ne ↦
-          let low : i < y = omega (arith, b.0) in
-          let a : is_among i (holders cs y) ≡ true = among-filtered (holds cs y) i y low (rw (holds-before cs i (suc y) y h low (omega arith)) refl) in
-          elim (cases_Bool (is_initiator (class_at cs y))) [
-            | inl u ↦ rw (u, ne_eqb y i (λ e. ne (sym e))) a
-            | inr u ↦ rw u a
-          ]
-    ]
+among-open cs i y h = grind (arith, match_bounds, matching_pdi_opens, eq-eqb, among-filtered, holds-before, ne_eqb)
 
 open-holds : (cs : List Class) (i y k : ℕ) (qs : List ℕ) → AllBelow y qs → OpenIsolates cs y k qs → is_isolate cs i ≡ true → is_among i qs ≡ true → isolate_holds cs i y ≡ true
 open-holds cs i y k [] a o u m = absurd (false≢true m)
@@ -103,11 +81,7 @@ past-matched cs i y (q ∷ qs) a l r o s u m h =
 
 isolate-among : (cs : List Class) (i : ℕ) (qs : List ℕ) → is_isolate cs i ≡ true → is_among i qs ≡ true → list_any (is_isolate cs) qs ≡ true
 isolate-among cs i [] u m = absurd (false≢true m)
-isolate-among cs i (q ∷ qs) u m =
-    elim (cases_Bool (q == i)) [
-      | inl e ↦ rw (ap (is_isolate cs) (eqb-true q i e) ∙ u) refl
-      | inr e ↦ elim (cases_Bool (is_isolate cs q)) [ inl v ↦ rw v refl | inr v ↦ rw v (isolate-among cs i qs u (rw e at m)) ]
-    ]
+isolate-among cs i (q ∷ qs) u m = grind (arith, eqb-true, isolate-among cs i qs u)
 
 -- what its PDI leaves open is what holds the initiator
 closed : (cs : List Class) (i y : ℕ) → matching_pdi cs i ≡ Some (suc y) → Role (class_at cs (suc y)) → holders cs (suc y) ≡ holders cs i
@@ -150,15 +124,10 @@ level-of_isolate depth cs para i h = let a = isolate-remains (class_at cs i) h i
 -- so their levels are equal
 pub levels-matched : (depth : ℕ) (cs : List Class) (para i j : ℕ) → matching_pdi cs i ≡ Some j → option_map (λ x. x.0) (explicit_at depth cs para i) ≡ option_map (λ x. x.0) (explicit_at depth cs para j)
 levels-matched depth cs para i j h =
-    let b = pdi-remains (class_at cs j) (match_is_pdi cs i j h) in
-    level-of_isolate depth cs para i (matching_pdi_opens cs i j h) ∙ ap (λ qs. Some (state_within depth cs para qs).level) (sym (holders-matched cs i j h)) ∙ sym (level-place_in depth cs para j b.0 b.1)
+    grind (arith, pdi-remains, match_is_pdi, level-of_isolate, matching_pdi_opens, holders-matched, level-place_in)
 
 place_in-bounded : (s : State) (para : ℕ) (own : Class) (most : ℕ) → s.level ≤ most → para ≤ most → IfSome (place_in s para own) (λ place. place.0 ≤ most)
-place_in-bounded s para own most a b =
-    elim (cases_Bool (is_removed own)) [
-      | inl u ↦ rw u tt
-      | inr u ↦ elim (cases_Bool (is_separator own)) [ inl v ↦ rw (u, v) b | inr v ↦ rw (u, v) a ]
-    ]
+place_in-bounded s para own most a b = grind arith
 
 -- no level is above what neither the depth nor the paragraph's level is above
 pub level-at_most : (depth : ℕ) (cs : List Class) (para p most : ℕ) → depth ≤ most → para ≤ most → IfSome (explicit_at depth cs para p) (λ place. place.0 ≤ most)

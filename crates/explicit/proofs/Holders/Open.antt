@@ -1,7 +1,7 @@
 -- The initiators that hold a position, the innermost first, and those that are open before the next position.
 use Rattle.std.proofs.Common.{◌≡◌, ℕ, zero, suc, ◌<◌, Bool, true, ◌&&◌, ◌||◌, List, [], ◌∷◌, arith, refl, sym, ◌∙◌, inl, inr}
 use Rattle.std.specs.Prelude.{Option, Some, None, filter, find, nat_lt}
-use Rattle.std.proofs.lemmas.Bool.{cases_Bool, lt-ltb, and_parts, or_cases, false≢true}
+use Rattle.std.proofs.lemmas.Bool.{cases_Bool, lt-ltb, and_parts, false≢true}
 use Rattle.units.specs.Positions.{is_before, last_below}
 use Rattle.units.specs.Classes.{class_at, is_initiator, is_isolate_initiator, is_embedding_initiator}
 use Rattle.units.specs.Isolates.{matching_pdi, isolate_holds, isolate_around}
@@ -29,10 +29,7 @@ innermost cs qs = find (is_isolate cs) qs
 
 isolate_holds-earlier : (cs : List Class) (q y : ℕ) → q < y → isolate_holds cs q (suc y) ≡ true → isolate_holds cs q y ≡ true
 unfolding isolate_holds
-isolate_holds-earlier cs q y l h =
-    let a = and_parts (is_isolate_initiator (class_at cs q)) (nat_lt q (suc y) && is_before (suc y) (matching_pdi cs q)) h in
-    let b = and_parts (nat_lt q (suc y)) (is_before (suc y) (matching_pdi cs q)) a.1 in
-    rw (a.0, lt-ltb q y l, is_before-earlier y (matching_pdi cs q) b.1) refl
+isolate_holds-earlier cs q y l h = grind (arith, and_parts, lt-ltb, is_before-earlier)
 
 pub isolate_around-below : (cs : List Class) (q i : ℕ) → isolate_around cs q ≡ Some i → i < q
 unfolding isolate_around
@@ -45,46 +42,20 @@ lies_in-earlier cs (Some i) y a h = isolate_holds-earlier cs i y (a i refl) h
 embedding_holds-earlier : (cs : List Class) (q y : ℕ) → q < y → embedding_holds cs q (suc y) ≡ true → embedding_holds cs q y ≡ true
 unfolding embedding_holds
 embedding_holds-earlier cs q y l h =
-    let a = and_parts (is_embedding_initiator (class_at cs q)) (nat_lt q (suc y) && (is_before (suc y) (matching_pdf cs q) && lies_in cs (isolate_around cs q) (suc y))) h in
-    let b = and_parts (nat_lt q (suc y)) (is_before (suc y) (matching_pdf cs q) && lies_in cs (isolate_around cs q) (suc y)) a.1 in
-    let d = and_parts (is_before (suc y) (matching_pdf cs q)) (lies_in cs (isolate_around cs q) (suc y)) b.1 in
-    rw (a.0, lt-ltb q y l, is_before-earlier y (matching_pdf cs q) d.0) (lies_in-earlier cs (isolate_around cs q) y (λ i e. let k : i < q = isolate_around-below cs q i e in omega arith) d.1)
+    grind (arith, and_parts, lt-ltb, is_before-earlier, lies_in-earlier, isolate_around-below)
 
 holds-earlier : (cs : List Class) (q y : ℕ) → q < y → holds cs (suc y) q ≡ true → holds cs y q ≡ true
-holds-earlier cs q y l h =
-    elim (or_cases (isolate_holds cs q (suc y)) (embedding_holds cs q (suc y)) h) [
-      | inl a ↦ rw (isolate_holds-earlier cs q y l a) refl
-      | inr b ↦ elim (cases_Bool (isolate_holds cs q y)) [
-        | inl e ↦ rw e refl
-        | inr e ↦ rw (e, embedding_holds-earlier cs q y l b) refl
-      ]
-    ]
+holds-earlier cs q y l h = grind (arith, isolate_holds-earlier, embedding_holds-earlier)
 
 -- a test that implies another on the positions below y filters what the other left
 filter-below : (p h : ℕ → Bool) (y : ℕ) → ((q : ℕ) → q < y → p q ≡ true → h q ≡ true) → filter p (below y) ≡ filter p (filter h (below y))
 filter-below p h zero sub = refl
-filter-below p h (suc y) sub =
-    let ih : filter p (below y) ≡ filter p (filter h (below y)) = filter-below p h y (λ q l e. sub q (omega arith) e) in
-    elim (cases_Bool (h y)) [
-      | inl a ↦ rw (a, ih) refl
-      | inr a ↦ elim (cases_Bool (p y)) [
-        | inl b ↦ absurd (false≢true (sym a ∙ sub y (omega arith) b))
-        | inr b ↦ rw (a, b, ih) refl
-      ]
-    ]
+filter-below p h (suc y) sub = grind (arith, false≢true, filter-below p h y)
 
 -- and finds the same first
 find-below : (p h : ℕ → Bool) (y : ℕ) → ((q : ℕ) → q < y → p q ≡ true → h q ≡ true) → find p (below y) ≡ find p (filter h (below y))
 find-below p h zero sub = refl
-find-below p h (suc y) sub =
-    let ih : find p (below y) ≡ find p (filter h (below y)) = find-below p h y (λ q l e. sub q (omega arith) e) in
-    elim (cases_Bool (h y)) [
-      | inl a ↦ rw (a, ih) refl
-      | inr a ↦ elim (cases_Bool (p y)) [
-        | inl b ↦ absurd (false≢true (sym a ∙ sub y (omega arith) b))
-        | inr b ↦ rw (a, b, ih) refl
-      ]
-    ]
+find-below p h (suc y) sub = grind (arith, false≢true, find-below p h y)
 
 last_below-find : (t : ℕ → Bool) (n : ℕ) → last_below t n ≡ find t (below n)
 last_below-find t zero = refl
@@ -99,26 +70,11 @@ unfolding embedding_holds
 embedding_holds-class cs q p h = (and_parts (is_embedding_initiator (class_at cs q)) (nat_lt q p && (is_before p (matching_pdf cs q) && lies_in cs (isolate_around cs q) p)) h).0
 
 holds-class : (cs : List Class) (q p : ℕ) → holds cs p q ≡ true → is_initiator (class_at cs q) ≡ true
-holds-class cs q p h =
-    elim (or_cases (isolate_holds cs q p) (embedding_holds cs q p) h) [
-      | inl a ↦ rw (isolate_holds-class cs q p a) refl
-      | inr b ↦ elim (cases_Bool (is_isolate_initiator (class_at cs q))) [
-        | inl e ↦ rw e refl
-        | inr e ↦ rw (e, embedding_holds-class cs q p b) refl
-      ]
-    ]
+holds-class cs q p h = grind (arith, isolate_holds-class, embedding_holds-class)
 
 -- the initiators that hold the next position are among those that are open after this one
 pub holders-next : (cs : List Class) (y : ℕ) → holders cs (suc y) ≡ filter (holds cs (suc y)) (opened cs y (holders cs y))
-holders-next cs y =
-    let e : filter (holds cs (suc y)) (below y) ≡ filter (holds cs (suc y)) (holders cs y) = filter-below (holds cs (suc y)) (holds cs y) y (λ q l h. holds-earlier cs q y l h) in
-    elim (cases_Bool (is_initiator (class_at cs y))) [
-      | inl a ↦ rw (a, e) refl
-      | inr a ↦ elim (cases_Bool (holds cs (suc y) y)) [
-        | inl b ↦ absurd (false≢true (sym a ∙ holds-class cs y (suc y) b))
-        | inr b ↦ rw (a, b, e) refl
-      ]
-    ]
+holders-next cs y = grind (arith, filter-below, holds-earlier, false≢true, holds-class)
 
 holds-from_isolate : (cs : List Class) (q p : ℕ) → isolate_holds cs q p ≡ true → holds cs p q ≡ true
 holds-from_isolate cs q p h = rw h refl

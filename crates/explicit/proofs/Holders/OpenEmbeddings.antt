@@ -32,12 +32,7 @@ Nested cs (q ∷ qs) = (isolate_around cs q ≡ innermost cs qs) × AllBelow q q
 
 innermost-differs : (cs : List Class) (i : ℕ) (qs : List ℕ) → AllBelow i qs → same_position (Some i) (innermost cs qs) ≡ false
 innermost-differs cs i [] a = refl
-innermost-differs cs i (q ∷ qs) a =
-    let l : q < i = a.0 in
-    elim (cases_Bool (is_isolate cs q)) [
-      | inl u ↦ rw u (ne_eqb i q (λ e. omega arith))
-      | inr u ↦ rw u (innermost-differs cs i qs a.1)
-    ]
+innermost-differs cs i (q ∷ qs) a = grind (arith, ne_eqb, innermost-differs cs i qs a.1)
 
 pub open_embedding-first : (cs : List Class) (y : ℕ) → IsOfKinds (class_at cs y) false true false false → IsOpenEmbedding cs y 0 y
 open_embedding-first cs y r = record {
@@ -56,11 +51,7 @@ beside-elsewhere : (cs : List Class) (kind : Class → Bool) (q p : ℕ) → sam
 beside-elsewhere cs kind q p h = and_right (kind (class_at cs p)) (same_position (isolate_around cs p) (isolate_around cs q)) h
 
 beside-here : (cs : List Class) (kind : Class → Bool) (q p : ℕ) → same_position (isolate_around cs p) (isolate_around cs q) ≡ true → beside cs kind q p ≡ kind (class_at cs p)
-beside-here cs kind q p h =
-    elim (cases_Bool (kind (class_at cs p))) [
-      | inl u ↦ rw (u, h) refl
-      | inr u ↦ rw u refl
-    ]
+beside-here cs kind q p h = grind arith
 
 -- a position within the isolate at i changes nothing around i
 pub OpenEmbeddings-around : (cs : List Class) (y i k : ℕ) (qs : List ℕ) → AllBelow (suc y) qs → Nested cs qs → AllBelow i qs → isolate_around cs (suc y) ≡ Some i → OpenEmbeddings cs y k qs → OpenEmbeddings cs (suc y) k qs
@@ -88,9 +79,7 @@ OpenEmbeddings-next cs y k m (q ∷ qs) a n s e h =
 
 pub holds-open_embedding : (cs : List Class) (y k q : ℕ) → q < y → IsOpenEmbedding cs y k q → lies_in cs (isolate_around cs q) y ≡ true → embedding_holds cs q y ≡ true
 unfolding embedding_holds
-holds-open_embedding cs y k q l h i =
-    let before = ap (is_before y) (matching_pdf_is cs q h.initiates) ∙ before_match (opens_beside cs q) (closes_beside cs q) y (length cs) q h.still.unmatched in
-    rw (h.initiates, lt-ltb q y l, before, i) refl
+holds-open_embedding cs y k q l h i = grind (arith, matching_pdf_is, before_match, lt-ltb)
 
 pub holds-not_embedding : (cs : List Class) (y q : ℕ) → is_embedding_initiator (class_at cs q) ≡ false → embedding_holds cs q y ≡ false
 unfolding embedding_holds

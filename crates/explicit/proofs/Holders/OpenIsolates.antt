@@ -1,5 +1,5 @@
 -- The open isolates and their counts: what the next position does to them.
-use Rattle.std.proofs.Common.{◌≡◌, ℕ, suc, ◌+◌, ◌<◌, ◌≤◌, true, false, List, [], ◌∷◌, length, arith, refl, sym, ap, ◌∙◌, inl, inr}
+use Rattle.std.proofs.Common.{◌≡◌, ℕ, suc, ◌+◌, ◌<◌, ◌≤◌, true, false, List, [], ◌∷◌, length, arith, refl, ap, ◌∙◌, inl, inr}
 use Rattle.std.specs.Prelude.{None, find}
 use Rattle.std.specs.List.{list_any}
 use Rattle.std.proofs.lemmas.Bool.{cases_Bool, lt-ltb, false≢true}
@@ -53,9 +53,7 @@ OpenIsolates-closed cs y (q ∷ qs) a r h =
 
 pub holds-open_isolate : (cs : List Class) (y k q : ℕ) → q < y → is_isolate cs q ≡ true → IsOpenIsolate cs y k q → isolate_holds cs q y ≡ true
 unfolding isolate_holds
-holds-open_isolate cs y k q l u h =
-    let before = ap (is_before y) (matching_pdi_of cs q u) ∙ before_match (opens_at cs) (closes_at cs) y (length cs) q h.unmatched in
-    rw (u, lt-ltb q y l, before) refl
+holds-open_isolate cs y k q l u h = grind (arith, matching_pdi_of, before_match, lt-ltb)
 
 pub holds-not_isolate : (cs : List Class) (y q : ℕ) → is_isolate cs q ≡ false → isolate_holds cs q y ≡ false
 unfolding isolate_holds
@@ -89,16 +87,8 @@ find-closed cs y (q ∷ qs) a b r h =
 
 pub innermost-none : (cs : List Class) (qs : List ℕ) → list_any (is_isolate cs) qs ≡ false → innermost cs qs ≡ None
 innermost-none cs [] e = refl
-innermost-none cs (q ∷ qs) e =
-    elim (cases_Bool (is_isolate cs q)) [
-      | inl u ↦ absurd (false≢true (sym e ∙ rw u refl))
-      | inr u ↦ rw u (innermost-none cs qs (rw u at e))
-    ]
+innermost-none cs (q ∷ qs) e = grind (arith, false≢true, innermost-none cs qs)
 
 pub innermost-past_none : (cs : List Class) (qs : List ℕ) → list_any (is_isolate cs) qs ≡ false → past_isolate cs qs ≡ []
 innermost-past_none cs [] e = refl
-innermost-past_none cs (q ∷ qs) e =
-    elim (cases_Bool (is_isolate cs q)) [
-      | inl u ↦ absurd (false≢true (sym e ∙ rw u refl))
-      | inr u ↦ rw u (innermost-past_none cs qs (rw u at e))
-    ]
+innermost-past_none cs (q ∷ qs) e = grind (arith, false≢true, innermost-past_none cs qs)

@@ -1,12 +1,14 @@
 -- What the pass keeps, step by step.
-use Rattle.std.proofs.Common.{◌≡◌, ℕ, ◌+◌, ◌-◌, ◌<◌, ◌≤◌, ◌^◌, Bool, true, false, ◌&&◌, List, [], ◌∷◌, ◌++◌, length, get_or, take, arith, refl, sym, ap, subst, ◌∙◌, cond, ◌⊎◌, inl, inr, length-append}
+use Rattle.std.proofs.lemmas.Bool.Decides.{nat_tests}
+use Rattle.std.proofs.lemmas.Grind.{common_steps}
+use Rattle.std.proofs.Common.{◌≡◌, ℕ, ◌-◌, ◌<◌, ◌≤◌, ◌^◌, Bool, true, false, ◌&&◌, List, [], ◌∷◌, ◌++◌, length, get_or, take, arith, refl, sym, ap, ◌∙◌, cond, ◌⊎◌, length-append}
 use Rattle.std.proofs.Math.Seq.{get_or-append_seam, take-append_seam}
-use Rattle.std.proofs.lemmas.Bool.{cases_Bool, cases_eq, false≢true, ne_eqb, and_left, and_right}
+use Rattle.std.proofs.lemmas.Bool.{false≢true, ne_eqb, and_left, and_right}
 use Rattle.std.specs.Prelude.{nat_le, ◌==◌, Option, Some, unwrap_or}
 use Rattle.units.specs.Explicit.{wants_odd, next_odd, next_even, override_of}
 use Rattle.units.specs.Classes.{class_at, is_isolate_initiator, is_removed, is_separator}
 use Rattle.units.specs.declared.class.Class.{Class}
-use Rattle.explicit.specs.OpenInitiators.{is_isolate, after_pdi, after_pdf}
+use Rattle.explicit.specs.OpenInitiators.{after_pdi, after_pdf}
 use Rattle.explicit.specs.StatusStacks.{state_within, is_taken, entry_of, entry_at, entries_of, refused_isolates, refused_embeddings, before_isolate, Represents, IsKept, place_in}
 use Rattle.explicit.specs.declared.status.Status.{Status}
 use Rattle.explicit.specs.declared.status.StatusStack.{StatusStack}
@@ -15,35 +17,19 @@ use Rattle.explicit.proofs.Holders.Closing.{IsKeptAlike, pdf-ignored, pdf-refuse
 use Rattle.explicit.proofs.Holders.ClosingIsolate.{pdi-refused, pdi-taken, pdi-none}
 
 represents-alike : (depth : ℕ) (cs : List Class) (para : ℕ) (xs ys : List ℕ) (n : StatusStack) → IsKeptAlike depth cs para xs ys → Represents depth cs para xs n → Represents depth cs para ys n
-represents-alike depth cs para xs ys n a r = record {
-  entries = r.entries ∙ a.entries;
-  overflow_isolates = r.overflow_isolates ∙ a.isolates;
-  overflow_embeddings = r.overflow_embeddings ∙ a.embeddings;
-  valid_isolates = r.valid_isolates ∙ a.taken;
-}
+represents-alike depth cs para xs ys n a r = grind arith
 
 pub pdf-within_overflow : (depth : ℕ) (cs : List Class) (para : ℕ) (qs : List ℕ) (n : StatusStack) → Represents depth cs para qs n → 0 < n.overflow_isolates → Represents depth cs para (after_pdf cs qs) n
 pdf-within_overflow depth cs para qs n r h = represents-alike depth cs para qs (after_pdf cs qs) n (pdf-ignored depth cs para qs (omega (arith, r.overflow_isolates))) r
 
 pub pdf-overflow : (depth : ℕ) (cs : List Class) (para : ℕ) (qs : List ℕ) (n : StatusStack) → Represents depth cs para qs n → n.overflow_isolates ≤ 0 → 0 < n.overflow_embeddings → Represents depth cs para (after_pdf cs qs) (record { entries = n.entries; overflow_isolates = n.overflow_isolates; overflow_embeddings = n.overflow_embeddings - 1; valid_isolates = n.valid_isolates })
-pdf-overflow depth cs para qs n r z h =
-    let d = pdf-refused depth cs para qs (omega (arith, r.overflow_isolates)) (omega (arith, r.overflow_embeddings)) in
-    record {
-      entries = r.entries ∙ d.entries;
-      overflow_isolates = r.overflow_isolates ∙ d.isolates;
-      overflow_embeddings = omega (arith, r.overflow_embeddings, d.embeddings);
-      valid_isolates = r.valid_isolates ∙ d.taken;
-    }
+pdf-overflow depth cs para qs n r z h = grind (arith, pdf-refused)
 
 last-of : (xs : List Status) (e d : Status) → get_or (xs ++ e ∷ []) (length (xs ++ e ∷ []) - 1) d ≡ e
-last-of xs e d =
-    let n : length (xs ++ e ∷ []) - 1 ≡ length xs = omega (arith, length-append xs (e ∷ [])) in
-    rw n (get_or-append_seam xs e [] d)
+last-of xs e d = grind (arith, nat_tests, common_steps, length-append, get_or-append_seam)
 
 front-of : (xs : List Status) (e : Status) → take (length (xs ++ e ∷ []) - 1) (xs ++ e ∷ []) ≡ xs
-front-of xs e =
-    let n : length (xs ++ e ∷ []) - 1 ≡ length xs = omega (arith, length-append xs (e ∷ [])) in
-    rw n (take-append_seam xs (e ∷ []))
+front-of xs e = grind (arith, nat_tests, common_steps, length-append, take-append_seam)
 
 -- the last of these entries, d where there is none
 abbrev pub last_of : List Status → Status → Status
@@ -57,42 +43,13 @@ entries-some depth cs para qs =
 -- nothing to pop
 pub pdf-kept : (depth : ℕ) (cs : List Class) (para : ℕ) (qs : List ℕ) (n : StatusStack) → Represents depth cs para qs n → n.overflow_isolates ≤ 0 → n.overflow_embeddings ≤ 0 → (length n.entries.items < 2) ⊎ ((d : Status) × ((last_of n.entries.items d).is_isolate ≡ true)) → Represents depth cs para (after_pdf cs qs) n
 pdf-kept depth cs para qs n r z h k =
-    elim (pdf-taken depth cs para qs (omega (arith, r.overflow_isolates)) (omega (arith, r.overflow_embeddings))) [
-      | inr a ↦ represents-alike depth cs para qs (after_pdf cs qs) n a.0 r
-      | inl a ↦ elim k [
-        | inl short ↦ absurd (
-            let few : length (entries_of depth cs para (after_pdf cs qs) ++ a.entry ∷ []) ≡ length (entries_of depth cs para (after_pdf cs qs)) + 1 = length-append (entries_of depth cs para (after_pdf cs qs)) (a.entry ∷ []) in
-            let same : length n.entries.items ≡ length (entries_of depth cs para (after_pdf cs qs) ++ a.entry ∷ []) = ap length (r.entries ∙ a.entries) in
-            let some : 0 < length (entries_of depth cs para (after_pdf cs qs)) = entries-some depth cs para (after_pdf cs qs) in
-            omega (arith, few, same, some))
-        | inr l ↦ absurd (false≢true (sym a.plain ∙ ap (λ e. e.is_isolate) (sym (last-of (entries_of depth cs para (after_pdf cs qs)) a.entry l.0)) ∙ ap (λ xs. (last_of xs l.0).is_isolate) (sym (r.entries ∙ a.entries)) ∙ l.1))
-      ]
-    ]
+    grind (arith, pdf-taken, represents-alike, length-append, entries-some, false≢true, last-of)
 
 pub pdf-popped : (depth : ℕ) (cs : List Class) (para : ℕ) (qs : List ℕ) (n m : StatusStack) (d : Status) → Represents depth cs para qs n → n.overflow_isolates ≤ 0 → n.overflow_embeddings ≤ 0 → 2 ≤ length n.entries.items → (last_of n.entries.items d).is_isolate ≡ false → m.entries.items ≡ take (length n.entries.items - 1) n.entries.items → m.overflow_isolates ≡ n.overflow_isolates → m.overflow_embeddings ≡ n.overflow_embeddings → m.valid_isolates ≡ n.valid_isolates → Represents depth cs para (after_pdf cs qs) m
-pdf-popped depth cs para qs n m d r z h two l p i e v =
-    elim (pdf-taken depth cs para qs (omega (arith, r.overflow_isolates)) (omega (arith, r.overflow_embeddings))) [
-      | inl a ↦ record {
-        entries = p ∙ ap (λ xs. take (length xs - 1) xs) (r.entries ∙ a.entries) ∙ front-of (entries_of depth cs para (after_pdf cs qs)) a.entry;
-        overflow_isolates = i ∙ r.overflow_isolates ∙ a.isolates;
-        overflow_embeddings = e ∙ r.overflow_embeddings ∙ a.embeddings;
-        valid_isolates = v ∙ r.valid_isolates ∙ a.taken;
-      }
-      | inr a ↦ elim (a.1) [
-        | inl one ↦ absurd (let same : length n.entries.items ≡ length (entries_of depth cs para qs) = ap length r.entries in omega (arith, same, one))
-        | inr last ↦ absurd (false≢true (sym l ∙ ap (λ xs. (last_of xs d).is_isolate) (r.entries ∙ last.2) ∙ ap (λ e. e.is_isolate) (last-of last.0 last.1 d) ∙ last.3))
-      ]
-    ]
+pdf-popped depth cs para qs n m d r z h two l p i e v = grind (arith, pdf-taken, front-of, false≢true, last-of)
 
 pub pdi-overflow : (depth : ℕ) (cs : List Class) (para : ℕ) (qs : List ℕ) (n : StatusStack) → Represents depth cs para qs n → 0 < n.overflow_isolates → Represents depth cs para (after_pdi cs qs) (record { entries = n.entries; overflow_isolates = n.overflow_isolates - 1; overflow_embeddings = n.overflow_embeddings; valid_isolates = n.valid_isolates })
-pdi-overflow depth cs para qs n r h =
-    let d = pdi-refused depth cs para qs (omega (arith, r.overflow_isolates)) in
-    record {
-      entries = r.entries ∙ d.entries;
-      overflow_isolates = omega (arith, r.overflow_isolates, d.isolates);
-      overflow_embeddings = r.overflow_embeddings ∙ d.embeddings;
-      valid_isolates = r.valid_isolates ∙ d.taken;
-    }
+pdi-overflow depth cs para qs n r h = grind (arith, pdi-refused)
 
 pub pdi-ended : (depth : ℕ) (cs : List Class) (para : ℕ) (qs : List ℕ) (n m : StatusStack) → Represents depth cs para qs n → n.overflow_isolates ≤ 0 → 0 < n.valid_isolates → m.entries.items ≡ before_isolate n.entries.items → m.overflow_isolates ≡ n.overflow_isolates → m.overflow_embeddings ≡ 0 → m.valid_isolates ≡ n.valid_isolates - 1 → Represents depth cs para (after_pdi cs qs) m
 pdi-ended depth cs para qs n m r z h p i e v =
@@ -105,19 +62,10 @@ pdi-ended depth cs para qs n m r z h p i e v =
     }
 
 pub pdi-unmatched : (depth : ℕ) (cs : List Class) (para : ℕ) (qs : List ℕ) (n : StatusStack) → Represents depth cs para qs n → n.overflow_isolates ≤ 0 → n.valid_isolates ≤ 0 → Represents depth cs para (after_pdi cs qs) n
-pdi-unmatched depth cs para qs n r z h =
-    let P : List ℕ → Type 0 = λ ys. Represents depth cs para ys n in
-    subst P (sym (pdi-none depth cs para qs (omega (arith, r.overflow_isolates)) (omega (arith, r.valid_isolates)))) r
+pdi-unmatched depth cs para qs n r z h = grind (arith, pdi-none)
 
 sound_is : (depth : ℕ) (cs : List Class) (para : ℕ) (qs : List ℕ) → (state_within depth cs para qs).sound ≡ (refused_isolates depth cs para qs == 0 && refused_embeddings depth cs para qs == 0)
-sound_is depth cs para qs =
-    elim (cases_Bool ((state_within depth cs para qs).sound)) [
-      | inl u ↦ let z = none_refused depth cs para qs u in rw (u, z.0, z.1) refl
-      | inr u ↦ let z = some_refused depth cs para qs u in elim (cases_eq (refused_isolates depth cs para qs) 0) [
-        | inl a ↦ rw u (sym (and_right (refused_isolates depth cs para qs == 0) (refused_embeddings depth cs para qs == 0) (ne_eqb (refused_embeddings depth cs para qs) 0 (λ e. omega (arith, z)))))
-        | inr a ↦ rw u (sym (and_left (refused_isolates depth cs para qs == 0) (refused_embeddings depth cs para qs == 0) (ne_eqb (refused_isolates depth cs para qs) 0 a)))
-      ]
-    ]
+sound_is depth cs para qs = grind (arith, none_refused, some_refused, and_right, ne_eqb, and_left)
 
 pub takes-is_taken : (depth : ℕ) (cs : List Class) (para : ℕ) (qs : List ℕ) (p : ℕ) (n : StatusStack) → Represents depth cs para qs n → is_taken depth cs para p qs ≡ ((n.overflow_isolates == 0 && n.overflow_embeddings == 0) && nat_le (asked depth cs para p qs) depth)
 takes-is_taken depth cs para qs p n r = taken_is depth cs para p qs ∙ ap (λ b. b && nat_le (asked depth cs para p qs) depth) (sound_is depth cs para qs ∙ rw (r.overflow_isolates, r.overflow_embeddings) refl)
@@ -159,11 +107,7 @@ asked-is depth cs para qs p n class odd entry level r k o e l =
     l ∙ rw (d, o, k) refl
 
 pub entry-is : (depth : ℕ) (cs : List Class) (para : ℕ) (qs : List ℕ) (p : ℕ) (class : Class) (level : ℕ) (override_class : Option Class) (isolate : Bool) → is_taken depth cs para p qs ≡ true → class ≡ class_at cs p → level ≡ asked depth cs para p qs → override_class ≡ override_of class → isolate ≡ is_isolate_initiator class → record { level = level; override_class = override_class; is_isolate = isolate } ≡ entry_at depth cs para p qs
-entry-is depth cs para qs p class level override_class isolate t k l f i =
-    let s = ap (λ x. entry_of x (is_isolate cs p)) (state-taken depth cs para p qs t) in
-    let given : Status = record { level = level; override_class = override_class; is_isolate = isolate } in
-    let e : given ≡ entry_of (record { level = asked depth cs para p qs; override = override_of (class_at cs p); sound = true }) (is_isolate cs p) = rw (l, f, i, k) refl in
-    e ∙ sym s
+entry-is depth cs para qs p class level override_class isolate t k l f i = grind (arith, state-taken)
 
 -- what `takes` answers
 pub taken-by : (depth : ℕ) (cs : List Class) (para : ℕ) (qs : List ℕ) (p : ℕ) (n : StatusStack) (level : ℕ) (answer : Bool) → Represents depth cs para qs n → level ≡ asked depth cs para p qs → answer ≡ ((n.overflow_isolates == 0 && n.overflow_embeddings == 0) && nat_le level depth) → is_taken depth cs para p qs ≡ answer

@@ -1,5 +1,5 @@
 -- What a class does to the initiators that are open.
-use Rattle.std.proofs.Common.{◌≡◌, ℕ, ◌<◌, Bool, true, false, List, length, get_or, refl, sym, ◌∙◌}
+use Rattle.std.proofs.Common.{arith, ◌≡◌, ℕ, ◌<◌, Bool, true, false, List, length, get_or, refl}
 use Rattle.std.proofs.lemmas.Bool.{false≢true}
 use Rattle.std.proofs.lemmas.List.{get_or-map}
 use Rattle.units.specs.Classes.{class_at, classes_of, is_isolate_initiator, is_embedding_initiator, is_pdi, is_pdf}
@@ -53,25 +53,11 @@ pub data Kind (c : Class) : Type 0 where
   other : is_isolate_initiator c ≡ false → is_pdi c ≡ false → Kind c
 
 pub kind_of : (c : Class) → Kind c
-kind_of c = go (role c)
-  where
-    go : Role c → Kind c
-    go (opens_isolate r) = opening r.isolate_is r.pdi_is
-    go (opens_embedding r) = other r.isolate_is r.pdi_is
-    go (closes_isolate r) = closing r.isolate_is r.pdi_is
-    go (closes_embedding r) = other r.isolate_is r.pdi_is
-    go (plain r) = other r.isolate_is r.pdi_is
+kind_of c = grind (arith, role)
 
 -- an embedding initiator is no PDF
 pub embedding_is_no_pdf : (c : Class) → is_embedding_initiator c ≡ true → is_pdf c ≡ false
-embedding_is_no_pdf c h = go (role c)
-  where
-    go : Role c → is_pdf c ≡ false
-    go (opens_isolate r) = r.pdf_is
-    go (opens_embedding r) = r.pdf_is
-    go (closes_isolate r) = r.pdf_is
-    go (closes_embedding r) = absurd (false≢true (sym r.embedding_is ∙ h))
-    go (plain r) = r.pdf_is
+embedding_is_no_pdf c h = grind (arith, role, false≢true)
 
 -- the class of a unit that is read
 pub class_read : (units : List BidiUnit) (p : ℕ) (d : BidiUnit) → p < length units → class_at (classes_of units) p ≡ (get_or units p d).class

@@ -1,6 +1,6 @@
 -- The initiators that are taken and those that are refused, and their counts.
-use Rattle.std.proofs.Common.{◌≡◌, ℕ, ◌+◌, ◌<◌, ◌≤◌, Bool, true, false, ◌||◌, ◌&&◌, List, [], ◌∷◌, ◌++◌, length, arith, refl, sym, ◌∙◌, cond, inl, inr, length-append, append-nil}
-use Rattle.std.specs.Prelude.{nat_le, nat_lt}
+use Rattle.std.proofs.Common.{◌≡◌, ℕ, ◌+◌, ◌<◌, ◌≤◌, Bool, true, false, ◌&&◌, List, [], ◌∷◌, ◌++◌, length, arith, refl, sym, ◌∙◌, cond, inl, inr, length-append, append-nil}
+use Rattle.std.specs.Prelude.{nat_le}
 use Rattle.std.proofs.lemmas.Bool.{cases_Bool, cond-true, cond-false, false≢true, and_parts, leb-true, lt-ltb}
 use Rattle.units.specs.Classes.{class_at}
 use Rattle.units.specs.Explicit.{State, entered, wanted_level, wants_odd, override_of}
@@ -36,19 +36,11 @@ taken-outer depth cs para q qs h = (and_parts (state_within depth cs para qs).so
 pub none_refused : (depth : ℕ) (cs : List Class) (para : ℕ) (qs : List ℕ) → (state_within depth cs para qs).sound ≡ true → (refused_isolates depth cs para qs ≡ 0) × (refused_embeddings depth cs para qs ≡ 0)
 none_refused depth cs para [] h = (refl, refl)
 none_refused depth cs para (q ∷ qs) h =
-    let ih = none_refused depth cs para qs (taken-outer depth cs para q qs h) in
-    (rw (h, ih.0) refl, rw (h, ih.1) refl)
+    grind (arith, taken-outer, none_refused depth cs para qs (taken-outer depth cs para q qs h))
 
 pub some_refused : (depth : ℕ) (cs : List Class) (para : ℕ) (qs : List ℕ) → (state_within depth cs para qs).sound ≡ false → 0 < refused_isolates depth cs para qs + refused_embeddings depth cs para qs
 some_refused depth cs para [] h = absurd (false≢true (sym h))
-some_refused depth cs para (q ∷ qs) h =
-    elim (cases_Bool (is_isolate cs q)) [
-      | inl u ↦ rw (h, u) (omega arith)
-      | inr u ↦ elim (cases_Bool (nat_lt 0 (refused_isolates depth cs para qs))) [
-        | inl v ↦ rw (h, u, v) (let k : 0 < refused_isolates depth cs para qs = leb-true 1 (refused_isolates depth cs para qs) v in omega arith)
-        | inr v ↦ rw (h, u, v) (omega arith)
-      ]
-    ]
+some_refused depth cs para (q ∷ qs) h = grind (arith, leb-true)
 
 pub next-above : (cs : List Class) (level q : ℕ) → level < wanted_level cs level q
 next-above cs level q = elim (cases_Bool (wants_odd cs q (class_at cs q))) [ inl u ↦ rw u (omega arith) | inr u ↦ rw u (omega arith) ]
@@ -56,23 +48,13 @@ next-above cs level q = elim (cases_Bool (wants_odd cs q (class_at cs q))) [ inl
 pub level-bound : (depth : ℕ) (cs : List Class) (para : ℕ) (qs : List ℕ) (most : ℕ) → depth ≤ most → para ≤ most → (state_within depth cs para qs).level ≤ most
 level-bound depth cs para [] most d h = h
 level-bound depth cs para (q ∷ qs) most d h =
-    elim (cases_Bool (is_taken depth cs para q qs)) [
-      | inl u ↦ rw (state-taken depth cs para q qs u) (let a : asked depth cs para q qs ≤ depth = leb-true (asked depth cs para q qs) depth (and_parts (state_within depth cs para qs).sound (nat_le (asked depth cs para q qs) depth) (sym (taken_is depth cs para q qs) ∙ u)).1 in omega arith)
-      | inr u ↦ rw (state-refused depth cs para q qs u) (level-bound depth cs para qs most d h)
-    ]
+    grind (arith, state-taken, leb-true, and_parts, taken_is, state-refused, level-bound depth cs para qs most d h)
 
 -- the levels rise, so the entries are few
 pub entries-few : (depth : ℕ) (cs : List Class) (para : ℕ) (qs : List ℕ) → length (entries_of depth cs para qs) ≤ (state_within depth cs para qs).level + 1
 entries-few depth cs para [] = omega arith
 entries-few depth cs para (q ∷ qs) =
-    let ih = entries-few depth cs para qs in
-    elim (cases_Bool (is_taken depth cs para q qs)) [
-      | inl u ↦
-          let n : length (entries_of depth cs para qs ++ entry_of (state_within depth cs para (q ∷ qs)) (is_isolate cs q) ∷ []) ≡ length (entries_of depth cs para qs) + 1 = length-append (entries_of depth cs para qs) (entry_of (state_within depth cs para (q ∷ qs)) (is_isolate cs q) ∷ []) in
-          let a : (state_within depth cs para qs).level < asked depth cs para q qs = next-above cs (state_within depth cs para qs).level q in
-          rw u (rw (n, state-taken depth cs para q qs u) (omega (arith, ih, a)))
-      | inr u ↦ rw u (rw (state-refused depth cs para q qs u) ih)
-    ]
+    grind (arith, length-append, next-above, state-taken, state-refused, entries-few depth cs para qs)
 
 -- what one more initiator adds
 pub record Adds (depth : ℕ) (cs : List Class) (para q : ℕ) (qs : List ℕ) (entry : List Status) (isolates embeddings taken : ℕ) : Type 0 where
@@ -96,30 +78,15 @@ adds-embedding depth cs para q qs t u h = record { entry_is = rw t (sym (append-
 -- as many as there are initiators, at most
 pub refused_isolates-few : (depth : ℕ) (cs : List Class) (para : ℕ) (qs : List ℕ) → refused_isolates depth cs para qs ≤ length qs
 refused_isolates-few depth cs para [] = omega arith
-refused_isolates-few depth cs para (q ∷ qs) =
-    let ih = refused_isolates-few depth cs para qs in
-    elim (cases_Bool (is_taken depth cs para q qs)) [
-      | inl t ↦ rw t (omega (arith, ih))
-      | inr t ↦ elim (cases_Bool (is_isolate cs q)) [ inl u ↦ rw (t, u) (omega (arith, ih)) | inr u ↦ rw (t, u) (omega (arith, ih)) ]
-    ]
+refused_isolates-few depth cs para (q ∷ qs) = grind (arith, refused_isolates-few depth cs para qs)
 
 pub refused_embeddings-few : (depth : ℕ) (cs : List Class) (para : ℕ) (qs : List ℕ) → refused_embeddings depth cs para qs ≤ length qs
 refused_embeddings-few depth cs para [] = omega arith
-refused_embeddings-few depth cs para (q ∷ qs) =
-    let ih = refused_embeddings-few depth cs para qs in
-    elim (cases_Bool (is_taken depth cs para q qs || (is_isolate cs q || nat_lt 0 (refused_isolates depth cs para qs)))) [
-      | inl t ↦ rw t (omega (arith, ih))
-      | inr t ↦ rw t (omega (arith, ih))
-    ]
+refused_embeddings-few depth cs para (q ∷ qs) = grind (arith, refused_embeddings-few depth cs para qs)
 
 pub taken_isolates-few : (depth : ℕ) (cs : List Class) (para : ℕ) (qs : List ℕ) → taken_isolates depth cs para qs ≤ length qs
 taken_isolates-few depth cs para [] = omega arith
-taken_isolates-few depth cs para (q ∷ qs) =
-    let ih = taken_isolates-few depth cs para qs in
-    elim (cases_Bool (is_taken depth cs para q qs)) [
-      | inl t ↦ elim (cases_Bool (is_isolate cs q)) [ inl u ↦ rw (t, u) (omega (arith, ih)) | inr u ↦ rw (t, u) (omega (arith, ih)) ]
-      | inr t ↦ rw t (omega (arith, ih))
-    ]
+taken_isolates-few depth cs para (q ∷ qs) = grind (arith, taken_isolates-few depth cs para qs)
 
 -- the last entry is that of the state within
 pub last_entry : (depth : ℕ) (cs : List Class) (para : ℕ) (qs : List ℕ) → (front : List Status) × (isolate : Bool) × (entries_of depth cs para qs ≡ front ++ entry_of (state_within depth cs para qs) isolate ∷ [])

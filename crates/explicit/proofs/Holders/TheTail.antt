@@ -1,5 +1,7 @@
 -- The initiators that were refused are a tail of the chain.
-use Rattle.std.proofs.Common.{◌≡◌, ℕ, ◌+◌, ◌<◌, Bool, true, false, not, ◌||◌, List, [], ◌∷◌, ◌++◌, length, arith, refl, sym, ap, subst, ◌∙◌, cond, inl, inr, length-append, reverse}
+use Rattle.std.proofs.lemmas.Bool.Decides.{nat_tests}
+use Rattle.std.proofs.lemmas.Grind.{common_steps}
+use Rattle.std.proofs.Common.{◌≡◌, ℕ, ◌+◌, ◌<◌, Bool, true, false, not, ◌||◌, List, [], ◌∷◌, ◌++◌, length, arith, refl, sym, ap, ◌∙◌, cond, inl, inr, length-append, reverse}
 use Rattle.std.specs.Prelude.{count_by, nat_lt, ◌==◌}
 use Rattle.std.specs.List.{suffix_len, prefix_len}
 use Rattle.std.proofs.lemmas.Bool.{cases_Bool, cases_lt, lt-ltb, le-ltb, eq-eqb, ne_eqb, or_right}
@@ -8,7 +10,7 @@ use Rattle.std.proofs.lemmas.List.Sums.{sum_by-append}
 use Rattle.std.proofs.lemmas.List.Folds.{prefix_len-append}
 use Rattle.units.specs.declared.class.Class.{Class}
 use Rattle.explicit.specs.OpenInitiators.{is_isolate}
-use Rattle.explicit.specs.StatusStacks.{state_within, is_taken, entry_at, entries_of, taken_isolates, refused_isolates, IsRefusedTail}
+use Rattle.explicit.specs.StatusStacks.{state_within, is_taken, entries_of, taken_isolates, refused_isolates, IsRefusedTail}
 use Rattle.explicit.proofs.Matched.StillOpen.{bit}
 use Rattle.explicit.proofs.Holders.Taken.{taken-outer, none_refused, adds-taken}
 
@@ -21,39 +23,16 @@ suffix-cons t q qs = ap (prefix_len t) (reverse-append (q ∷ []) qs) ∙ prefix
 -- all pass from the end back where none fails, and not all where one does
 suffix-all : (t : ℕ → Bool) (qs : List ℕ) → count_by t qs ≡ 0 → suffix_len (λ q. not (t q)) qs ≡ length qs
 suffix-all t [] h = refl
-suffix-all t (q ∷ qs) h =
-    let n = count-cons t q qs in
-    let c : count_by t qs ≡ 0 = omega (arith, n, h) in
-    let b : bit (t q) ≡ 0 = omega (arith, n, h) in
-    elim (cases_Bool (t q)) [
-      | inl u ↦ absurd (let z : bit true ≡ 0 = rw u at b in omega arith)
-      | inr u ↦ suffix-cons (λ q. not (t q)) q qs ∙ rw (suffix-all t qs c, eq-eqb (length qs) (length qs) refl, u) (omega arith)
-    ]
+suffix-all t (q ∷ qs) h = grind (arith, count-cons, suffix-cons, eq-eqb, suffix-all t qs)
 
 suffix-some : (t : ℕ → Bool) (qs : List ℕ) → 0 < count_by t qs → suffix_len (λ q. not (t q)) qs < length qs
 suffix-some t [] h = absurd (omega arith)
-suffix-some t (q ∷ qs) h =
-    let n = count-cons t q qs in
-    let P : ℕ → Type 0 = λ k. k < length (q ∷ qs) in
-    subst P (sym (suffix-cons (λ q. not (t q)) q qs)) (elim (cases_lt 0 (count_by t qs)) [
-      | inl more ↦
-          let ih : suffix_len (λ q. not (t q)) qs < length qs = suffix-some t qs more in
-          rw (ne_eqb (suffix_len (λ q. not (t q)) qs) (length qs) (λ e. omega arith)) (omega arith)
-      | inr none ↦
-          let e : suffix_len (λ q. not (t q)) qs ≡ length qs = suffix-all t qs (omega arith) in
-          elim (cases_Bool (t q)) [
-            | inl u ↦ rw (e, eq-eqb (length qs) (length qs) refl, u) (omega arith)
-            | inr u ↦ absurd (let z : bit (t q) ≡ 0 = rw u refl in omega (arith, n, z))
-          ]
-    ])
+suffix-some t (q ∷ qs) h = grind (arith, count-cons, suffix-cons, ne_eqb, suffix-all, eq-eqb, suffix-some t qs)
 
 all_taken : (depth : ℕ) (cs : List Class) (para : ℕ) (qs : List ℕ) → (state_within depth cs para qs).sound ≡ true → (length (entries_of depth cs para qs) ≡ length qs + 1) × (taken_isolates depth cs para qs ≡ count_by (is_isolate cs) qs)
 all_taken depth cs para [] s = (refl, refl)
 all_taken depth cs para (q ∷ qs) s =
-    let ih = all_taken depth cs para qs (taken-outer depth cs para q qs s) in
-    let a = adds-taken depth cs para q qs s in
-    let n : length (entries_of depth cs para qs ++ entry_at depth cs para q qs ∷ []) ≡ length (entries_of depth cs para qs) + 1 = length-append (entries_of depth cs para qs) (entry_at depth cs para q qs ∷ []) in
-    (ap length a.entry_is ∙ n ∙ omega (arith, ih.0), a.taken_isolates_is ∙ ap (λ k. bit (is_isolate cs q) + k) ih.1 ∙ sym (count-cons (is_isolate cs) q qs))
+    grind (arith, nat_tests, common_steps, taken-outer, adds-taken, length-append, count-cons, all_taken depth cs para qs (taken-outer depth cs para q qs s))
 
 cut-sound : (depth : ℕ) (cs : List Class) (para : ℕ) (qs : List ℕ) → (state_within depth cs para qs).sound ≡ true → IsRefusedTail depth cs para [] qs
 cut-sound depth cs para qs s =

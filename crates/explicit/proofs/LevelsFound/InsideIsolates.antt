@@ -13,9 +13,9 @@ use Rattle.units.specs.Runs.{leveled_of, level_of, remains, matched_pdi}
 use Rattle.explicit.specs.Leveled.{IsNested}
 use Rattle.units.specs.declared.bracket.Unit.{Unit as BidiUnit}
 use Rattle.units.specs.declared.class.Class.{Class}
-use Rattle.explicit.specs.StatusStacks.{state_within, is_taken}
+use Rattle.explicit.specs.StatusStacks.{state_within}
 use Rattle.explicit.proofs.Holders.Open.{holders, holds}
-use Rattle.explicit.proofs.Holders.Taken.{asked, next-above, state-taken, state-refused, taken-outer}
+use Rattle.explicit.proofs.Holders.Taken.{next-above, state-taken, state-refused, taken-outer}
 use Rattle.explicit.proofs.Matched.Nesting.{match_bounds, match_injective}
 use Rattle.explicit.proofs.Matched.Matching.{matching_pdi_opens}
 use Rattle.explicit.proofs.Holders.MatchedIsolates.{Stacked, holders-stacked, is_among, among-filtered, holds-before, level-place_in, level-of_isolate, levels-matched}
@@ -25,13 +25,7 @@ use Rattle.explicit.proofs.LevelsFound.Leveled.{level-read, matched-is}
 levels-rise : (depth : ℕ) (cs : List Class) (para : ℕ) (xs ys : List ℕ) → (state_within depth cs para ys).level ≤ (state_within depth cs para (xs ++ ys)).level
 levels-rise depth cs para [] ys = omega arith
 levels-rise depth cs para (q ∷ xs) ys =
-    let ih = levels-rise depth cs para xs ys in
-    elim (cases_Bool (is_taken depth cs para q (xs ++ ys))) [
-      | inl u ↦
-          let a : (state_within depth cs para (xs ++ ys)).level < asked depth cs para q (xs ++ ys) = next-above cs (state_within depth cs para (xs ++ ys)).level q in
-          rw (state-taken depth cs para q (xs ++ ys) u) (omega (arith, ih, a))
-      | inr u ↦ rw (state-refused depth cs para q (xs ++ ys) u) ih
-    ]
+    grind (arith, next-above, state-taken, state-refused, levels-rise depth cs para xs ys)
 
 -- and inside a refused one it stays
 record IsStuck (depth : ℕ) (cs : List Class) (para : ℕ) (inner outer : List ℕ) : Type 0 where
@@ -40,12 +34,7 @@ record IsStuck (depth : ℕ) (cs : List Class) (para : ℕ) (inner outer : List 
 
 stuck : (depth : ℕ) (cs : List Class) (para : ℕ) (xs ys : List ℕ) → (state_within depth cs para ys).sound ≡ false → IsStuck depth cs para (xs ++ ys) ys
 stuck depth cs para [] ys h = record { sound = h; level = refl }
-stuck depth cs para (q ∷ xs) ys h =
-    let ih = stuck depth cs para xs ys h in
-    elim (cases_Bool (is_taken depth cs para q (xs ++ ys))) [
-      | inl u ↦ absurd (false≢true (sym ih.sound ∙ taken-outer depth cs para q (xs ++ ys) u))
-      | inr u ↦ record { sound = u; level = ap (λ s. s.level) (state-refused depth cs para q (xs ++ ys) u) ∙ ih.level }
-    ]
+stuck depth cs para (q ∷ xs) ys h = grind (arith, false≢true, taken-outer, state-refused, stuck depth cs para xs ys h)
 
 -- behind an initiator among those that hold a position stand those that hold the initiator
 behind : (cs : List Class) (i : ℕ) (qs : List ℕ) → Stacked cs qs → is_among i qs ≡ true → (xs : List ℕ) × (qs ≡ xs ++ i ∷ holders cs i)
@@ -67,24 +56,12 @@ within-isolate cs i r p e low high =
 
 -- two levels inside a matched isolate, one of which is its initiator's
 same_inside : (depth : ℕ) (cs : List Class) (para i : ℕ) (xs ys : List ℕ) → (state_within depth cs para (ys ++ i ∷ holders cs i)).level ≡ (state_within depth cs para (holders cs i)).level → (state_within depth cs para (xs ++ i ∷ holders cs i)).level ≡ (state_within depth cs para (holders cs i)).level
-same_inside depth cs para i xs ys same =
-    elim (cases_Bool (is_taken depth cs para i (holders cs i))) [
-      | inl u ↦
-          let rise = levels-rise depth cs para ys (i ∷ holders cs i) in
-          let above : (state_within depth cs para (holders cs i)).level < asked depth cs para i (holders cs i) = next-above cs (state_within depth cs para (holders cs i)).level i in
-          let inner : (state_within depth cs para (i ∷ holders cs i)).level ≡ asked depth cs para i (holders cs i) = ap (λ s. s.level) (state-taken depth cs para i (holders cs i) u) in
-          absurd (omega (arith, rise, above, inner, same))
-      | inr u ↦ (stuck depth cs para xs (i ∷ holders cs i) u).level ∙ ap (λ s. s.level) (state-refused depth cs para i (holders cs i) u)
-    ]
+same_inside depth cs para i xs ys same = grind (arith, levels-rise, next-above, state-taken, stuck, state-refused)
 
 -- what remains is not removed
 remains-kept : (depth : ℕ) (cs : List Class) (para p : ℕ) → is_some (option_map (λ place. place.0) (explicit_at depth cs para p)) ≡ true → is_removed (class_at cs p) ≡ false
 unfolding explicit_at
-remains-kept depth cs para p h =
-    elim (cases_Bool (is_removed (class_at cs p))) [
-      | inl u ↦ absurd (false≢true (rw u at h))
-      | inr u ↦ u
-    ]
+remains-kept depth cs para p h = grind (arith, false≢true)
 
 -- a separator stands nowhere but in last place
 not_separator : (units : List BidiUnit) (p : ℕ) → SeparatorOnlyLast units → p + 1 < length units → is_separator (class_at (classes_of units) p) ≡ false

@@ -2,7 +2,7 @@
 use Rattle.std.proofs.Common.{◌≡◌, ℕ, ◌<◌, ◌≤◌, true, List, length, get_or, map, Option, Some, None, inl, inr, refl, sym, ap, subst, ◌∙◌, arith}
 use Rattle.std.specs.Prelude.{IfSome}
 use Rattle.std.specs.Option.{option_map}
-use Rattle.std.proofs.lemmas.Bool.{cases_Bool, cases_lt}
+use Rattle.std.proofs.lemmas.Bool.{cases_lt}
 use Rattle.std.proofs.lemmas.List.{length-map, get_or-map, get_or_past}
 use Rattle.units.specs.Positions.{positions_of}
 use Rattle.units.specs.Classes.{class_at, is_isolate_initiator}
@@ -11,7 +11,6 @@ use Rattle.units.specs.Explicit.{explicit_at, explicit_of}
 use Rattle.units.specs.Runs.{leveled_of, level_of, size_of, matched_pdi}
 use Rattle.explicit.specs.Leveled.{IsLeveled}
 use Rattle.units.specs.declared.class.Class.{Class}
-use Rattle.units.specs.declared.class.Class.TheVariants.{L}
 use Rattle.units.proofs.Positions.{length-positions_from, get_or-positions_from}
 use Rattle.explicit.proofs.Matched.Matching.{matching_pdi_none, opener_is_no_pdi}
 use Rattle.explicit.proofs.Matched.Nesting.{match_bounds}
@@ -39,19 +38,12 @@ size-is depth cs para = length-map (explicit_of depth cs para) (option_map (λ p
 
 -- past the end stands no initiator
 pub opener_within : (cs : List Class) (i : ℕ) → is_isolate_initiator (class_at cs i) ≡ true → i < length cs
-opener_within cs i h =
-    elim (cases_lt i (length cs)) [
-      | inl lt ↦ lt
-      | inr past ↦ absurd (let none : is_isolate_initiator L ≡ true = ap is_isolate_initiator (sym (get_or_past cs i L past)) ∙ h in cc)
-    ]
+opener_within cs i h = grind (arith, get_or_past)
 
 -- the matching PDI that the sequences see
 pub matched-is : (depth : ℕ) (cs : List Class) (para i : ℕ) → matched_pdi (leveled_of depth cs para) i ≡ matching_pdi cs i
 matched-is depth cs para i =
-    elim (cases_Bool (is_isolate_initiator (class_at cs i))) [
-      | inl opener ↦ rw opener (get_or-of_positions cs (partner_of cs) i None (opener_within cs i opener) ∙ partner_of_other cs i (opener_is_no_pdi (class_at cs i) opener))
-      | inr plain ↦ rw plain (sym (matching_pdi_none cs i plain))
-    ]
+    grind (arith, get_or-of_positions, opener_within, partner_of_other, opener_is_no_pdi, matching_pdi_none)
 
 if_some_level : (place : Option (ℕ × Class)) → IfSome place (λ x. x.0 ≤ 125) → IfSome (option_map (λ x. x.0) place) (λ l. l ≤ 125)
 if_some_level None h = tt

@@ -1,8 +1,7 @@
 -- A text has one cutting into paragraphs.
-use Rattle.std.proofs.Common.{Some, None, ◌≡◌, ℕ, suc, ◌+◌, ◌<◌, ◌≤◌, true, false, List, [], ◌∷◌, length, take, drop, inl, inr, refl, sym, ap, ◌∙◌, arith, ◌↔◌}
-use Rattle.std.proofs.lemmas.Bool.{cases_Bool, cases_lt, lt-ltb, le-ltb}
+use Rattle.std.proofs.Common.{Some, None, ◌≡◌, ℕ, ◌+◌, ◌<◌, ◌≤◌, true, false, List, [], ◌∷◌, length, take, drop, inl, inr, refl, ap, ◌∙◌, arith, ◌↔◌}
+use Rattle.std.proofs.lemmas.Bool.{cases_Bool, lt-ltb, le-ltb}
 use Rattle.std.proofs.lemmas.Option.{same_Some, none-some}
-use Rattle.std.specs.Prelude.{nat_lt}
 use Rattle.std.specs.List.{position_or_len, position}
 use Rattle.units.specs.Classes.{is_separator}
 use Rattle.units.specs.declared.bracket.Unit.{Unit as BidiUnit}
@@ -12,11 +11,7 @@ use Rattle.units.specs.Paragraphs.{SeparatorOnlyLast, EndsWithSeparator, IsCut, 
 -- the defined pieces, joined, are the text
 pub joined-begin_with : (unit : BidiUnit) (pieces : List (List BidiUnit)) → joined (begin_with unit pieces) ≡ unit ∷ joined pieces
 joined-begin_with unit [] = refl
-joined-begin_with unit (piece ∷ pieces) =
-    elim (cases_Bool (is_separator unit.class)) [
-      | inl separates ↦ rw separates refl
-      | inr plain ↦ rw plain refl
-    ]
+joined-begin_with unit (piece ∷ pieces) = grind arith
 
 pub joined-paragraphs_of : (text : List BidiUnit) → joined (paragraphs_of text) ≡ text
 joined-paragraphs_of [] = refl
@@ -50,15 +45,7 @@ one_cutting [] ([] ∷ pieces) h e = absurd (omega (arith, h.0))
 one_cutting [] ((unit ∷ piece) ∷ pieces) h e = absurd (cc)
 one_cutting (unit ∷ units) [] h e = absurd (cc)
 one_cutting (unit ∷ units) ([] ∷ pieces) h e = absurd (omega (arith, h.0))
-one_cutting (unit ∷ units) ((first ∷ []) ∷ pieces) h e =
-    let same : first ≡ unit = cc in
-    let rest : joined pieces ≡ units = cc in
-    let ih = one_cutting units pieces h.3 rest in
-    rw (same, ← ih) (go pieces (λ lt. rw same at (h.2 lt)))
-  where
-    go : (ps : List (List BidiUnit)) → (0 < length ps → is_separator unit.class ≡ true) → (unit ∷ []) ∷ ps ≡ begin_with unit ps
-    go [] ends = refl
-    go (p ∷ ps) ends = let separates : is_separator unit.class ≡ true = ends (omega arith) in rw separates refl
+one_cutting (unit ∷ units) ((first ∷ []) ∷ pieces) h e = grind (arith, one_cutting units pieces h.3)
 one_cutting (unit ∷ units) ((first ∷ second ∷ others) ∷ pieces) h e =
     let same : first ≡ unit = cc in
     let plain : is_separator unit.class ≡ false = rw same at h.1.0 in
@@ -81,11 +68,7 @@ pub paragraphs_of-cons : (unit : BidiUnit) (units : List BidiUnit) → paragraph
 paragraphs_of-cons unit [] =
     elim (cases_Bool (is_separator unit.class)) [ inl separates ↦ rw separates refl | inr plain ↦ rw plain refl ]
 paragraphs_of-cons unit (second ∷ others) =
-    let ih = paragraphs_of-cons second others in
-    elim (cases_Bool (is_separator unit.class)) [
-      | inl separates ↦ rw separates (begin_with_separator unit (paragraphs_of (second ∷ others)) separates)
-      | inr plain ↦ rw plain (ap (begin_with unit) ih ∙ begin_with_other unit _ _ plain)
-    ]
+    grind (arith, begin_with_separator, begin_with_other, paragraphs_of-cons second others)
 
 -- where the first separator stands
 abbrev pub separator_place : List BidiUnit → ℕ
@@ -93,56 +76,22 @@ separator_place text = position_or_len (λ u. is_separator u.class) text
 
 pub first_length_found : (text : List BidiUnit) → separator_place text < length text → first_length text ≡ separator_place text + 1
 first_length_found [] h = absurd (omega arith)
-first_length_found (unit ∷ units) h =
-    elim (cases_Bool (is_separator unit.class)) [
-      | inl separates ↦ rw separates refl
-      | inr plain ↦
-          let h' : 1 + separator_place units < suc (length units) = rw plain at h in
-          let ih = first_length_found units (omega arith) in
-          rw plain (omega (arith, ih))
-    ]
+first_length_found (unit ∷ units) h = grind (arith, first_length_found units)
 
 pub first_length_all : (text : List BidiUnit) → length text ≤ separator_place text → first_length text ≡ length text
 first_length_all [] h = refl
-first_length_all (unit ∷ units) h =
-    elim (cases_Bool (is_separator unit.class)) [
-      | inl separates ↦ let h' : suc (length units) ≤ 0 = rw separates at h in absurd (omega arith)
-      | inr plain ↦
-          let h' : suc (length units) ≤ 1 + separator_place units = rw plain at h in
-          rw plain (ap suc (first_length_all units (omega arith)))
-    ]
+first_length_all (unit ∷ units) h = grind (arith, first_length_all units)
 
 pub first_length_within : (text : List BidiUnit) → first_length text ≤ length text
 first_length_within [] = omega arith
-first_length_within (unit ∷ units) =
-    let ih = first_length_within units in
-    elim (cases_Bool (is_separator unit.class)) [ inl separates ↦ rw separates (omega arith) | inr plain ↦ rw plain (omega arith) ]
+first_length_within (unit ∷ units) = grind (arith, first_length_within units)
 
 -- what the place that `position` answers says of the first paragraph's length
 pub first_length_at : (text : List BidiUnit) (k : ℕ) → position (λ u. is_separator u.class) text ≡ Some k → first_length text ≡ k + 1
-first_length_at text k e =
-    elim (cases_lt (separator_place text) (length text)) [
-      | inl found ↦
-          let t : nat_lt (separator_place text) (length text) ≡ true = lt-ltb _ _ found in
-          let e' : Some (separator_place text) ≡ Some k = rw t at e in
-          let same : separator_place text ≡ k = same_Some _ _ e' in
-          let l = first_length_found text found in
-          omega arith
-      | inr past ↦
-          let f : nat_lt (separator_place text) (length text) ≡ false = le-ltb _ _ past in
-          let e' : None ≡ Some k = rw f at e in
-          absurd (none-some k e')
-    ]
+first_length_at text k e = grind (arith, lt-ltb, same_Some, first_length_found, le-ltb, none-some)
 
 pub first_length_nowhere : (text : List BidiUnit) → position (λ u. is_separator u.class) text ≡ None → first_length text ≡ length text
-first_length_nowhere text e =
-    elim (cases_lt (separator_place text) (length text)) [
-      | inl found ↦
-          let t : nat_lt (separator_place text) (length text) ≡ true = lt-ltb _ _ found in
-          let e' : Some (separator_place text) ≡ None = rw t at e in
-          absurd (none-some _ (sym e'))
-      | inr past ↦ first_length_all text past
-    ]
+first_length_nowhere text e = grind (arith, lt-ltb, none-some, first_length_all)
 
 pub paragraphs_of_split : (text : List BidiUnit) → 0 < length text → paragraphs_of text ≡ take (first_length text) text ∷ paragraphs_of (drop (first_length text) text)
 paragraphs_of_split [] h = absurd (omega arith)

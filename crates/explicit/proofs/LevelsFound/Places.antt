@@ -2,7 +2,7 @@
 use Rattle.std.proofs.Common.{◌≡◌, ℕ, zero, suc, ◌+◌, ◌<◌, ◌≤◌, Bool, true, false, List, [], ◌∷◌, ◌++◌, length, arith, refl, sym, ap, subst, ◌∙◌, inl, inr, zero-add, append-nil, get_or, set, Option, ◌^◌, reverse}
 use Rattle.std.proofs.lemmas.List.{length-map, reverse-append, get_or-set_same, get_or-set_other}
 use Rattle.std.specs.Prelude.{None, filter, fold, is_none}
-use Rattle.std.proofs.lemmas.Bool.{cases_Bool, cases_eq}
+use Rattle.std.proofs.lemmas.Bool.{cases_Bool}
 use Rattle.std.proofs.lemmas.List.Elements.{filter-append}
 use Rattle.units.specs.Positions.{positions_from}
 use Rattle.units.specs.Classes.{class_at, classes_of, is_initiator, is_pdi, is_pdf, is_removed, is_separator}
@@ -23,11 +23,7 @@ open_before cs zero = []
 open_before cs (suc p) = opened cs p (holders cs p)
 
 pub left_before : (cs : List Class) (p : ℕ) → p < length cs → left_open cs (class_at cs p) (open_before cs p) ≡ holders cs p
-left_before cs zero l =
-    elim (cases_Bool (is_pdi (class_at cs 0))) [
-      | inl u ↦ rw u refl
-      | inr u ↦ elim (cases_Bool (is_pdf (class_at cs 0))) [ inl v ↦ rw (u, v) refl | inr v ↦ rw (u, v) refl ]
-    ]
+left_before cs zero l = grind arith
 left_before cs (suc p) l = sym (holders-step cs p l)
 
 pub open_before-next : (cs : List Class) (p : ℕ) → opened cs p (holders cs p) ≡ open_before cs (p + 1)
@@ -35,9 +31,7 @@ open_before-next cs p = let e : p + 1 ≡ suc p = omega arith in rw e refl
 
 few-filtered : (t : ℕ → Bool) (p : ℕ) → length (filter t (below p)) ≤ p
 few-filtered t zero = omega arith
-few-filtered t (suc p) =
-    let ih = few-filtered t p in
-    elim (cases_Bool (t p)) [ inl u ↦ rw u (omega (arith, ih)) | inr u ↦ rw u (omega (arith, ih)) ]
+few-filtered t (suc p) = grind (arith, few-filtered t p)
 
 pub holders-few : (cs : List Class) (p : ℕ) → length (holders cs p) ≤ p
 holders-few cs p = few-filtered (holds cs p) p
@@ -98,11 +92,7 @@ kept-at depth para base p class n d b l s e r = is-kept depth para base p n d b 
 
 -- the places that are found, one more
 pub places-more : (depth : ℕ) (cs : List Class) (base p : ℕ) (places : List (Option (ℕ × Class))) (place : Option (ℕ × Class)) → p < length places → place ≡ explicit_at depth cs base p → ((k : ℕ) → k < p → get_or places k None ≡ explicit_at depth cs base k) → (k : ℕ) → k < p + 1 → get_or (set places p place) k None ≡ explicit_at depth cs base k
-places-more depth cs base p places place room found below k h =
-    elim (cases_eq k p) [
-      | inl here ↦ rw here (get_or-set_same places p place None room ∙ found)
-      | inr other ↦ get_or-set_other places p k place None other ∙ below k (omega arith)
-    ]
+places-more depth cs base p places place room found below k h = grind (arith, get_or-set_same, get_or-set_other)
 
 -- X6: what an ordinary class leaves as it was
 pub record IsPassedOver (c : Class) : Type 0 where
@@ -138,11 +128,7 @@ ordinary_opened cs p qs h = let o = ordinary_is (class_at cs p) h in rw o.initia
 
 -- X9: none stands exactly where the position is removed
 place_in-none : (s : State) (para : ℕ) (own : Class) → is_none (place_in s para own) ≡ is_removed own
-place_in-none s para own =
-    elim (cases_Bool (is_removed own)) [
-      | inl removed ↦ rw removed refl
-      | inr kept ↦ elim (cases_Bool (is_separator own)) [ inl last ↦ rw (kept, last) refl | inr other ↦ rw (kept, other) refl ]
-    ]
+place_in-none s para own = grind arith
 
 pub explicit-none : (depth : ℕ) (cs : List Class) (para p : ℕ) → is_none (explicit_at depth cs para p) ≡ is_removed (class_at cs p)
 explicit-none depth cs para p = ap is_none (sym (explicit-place_in depth cs para p)) ∙ place_in-none (state_within depth cs para (holders cs p)) para (class_at cs p)

@@ -1,7 +1,9 @@
 -- Matching by counting, for any two tests of positions that exclude each other: those that open and those that close.
-use Rattle.std.proofs.Common.{◌≡◌, ◌≢◌, ℕ, zero, suc, ◌+◌, ◌-◌, ◌<◌, ◌≤◌, Bool, true, false, cond, ◌∷◌, Option, Some, None, inl, inr, refl, sym, ◌∙◌, arith}
+use Rattle.std.proofs.lemmas.Bool.Decides.{nat_tests}
+use Rattle.std.proofs.lemmas.Grind.{common_steps}
+use Rattle.std.proofs.Common.{◌≡◌, ◌≢◌, ℕ, zero, suc, ◌+◌, ◌-◌, ◌<◌, ◌≤◌, Bool, true, false, cond, Option, Some, None, inl, inr, refl, sym, ◌∙◌, arith}
 use Rattle.std.specs.Prelude.{count_by}
-use Rattle.std.proofs.lemmas.Bool.{cases_Bool, cases_order, true≢false, eqb-true, eq-eqb, false_from_ne_true}
+use Rattle.std.proofs.lemmas.Bool.{cases_order, true≢false, eqb-true, eq-eqb, false_from_ne_true}
 use Rattle.std.proofs.lemmas.List.Sums.{sum_by-cons}
 use Rattle.units.specs.Positions.{positions_from, as_many, first_after}
 use Rattle.units.proofs.Positions.{or_else, first_from_more, first_from_some, first_from_is}
@@ -29,31 +31,16 @@ ups_no test p h = let e : p + 1 ≡ suc p = omega arith in rw (e, h) (omega arit
 
 pub ups_part : (test : ℕ → Bool) (i d : ℕ) → ups test i + count_by test (positions_from i d) ≡ ups test (i + d)
 ups_part test i zero = let e : i + 0 ≡ i = omega arith in rw e (omega arith)
-ups_part test i (suc d) =
-    let ih = ups_part test (i + 1) d in
-    let e : i + suc d ≡ i + 1 + d = omega arith in
-    let more : count_by test (i ∷ positions_from (i + 1) d) ≡ cond (test i) 1 0 + count_by test (positions_from (i + 1) d) = sum_by-cons (λ x. cond (test x) 1 0) i (positions_from (i + 1) d) in
-    rw (e, ← ih) (elim (cases_Bool (test i)) [
-      | inl holds ↦ let one : cond {A = ℕ} (test i) 1 0 ≡ 1 = rw holds refl in omega (arith, more, one, ups_yes test i holds)
-      | inr fails ↦ let none : cond {A = ℕ} (test i) 1 0 ≡ 0 = rw fails refl in omega (arith, more, none, ups_no test i fails)
-    ])
+ups_part test i (suc d) = grind (arith, nat_tests, common_steps, sum_by-cons, ups_yes, ups_no, ups_part test (i + 1) d)
 
 pub ups_between : (test : ℕ → Bool) (i j : ℕ) → i ≤ j + 1 → ups test i + count_by test (positions_from i (j + 1 - i)) ≡ ups test (j + 1)
 ups_between test i j h = let n : i + (j + 1 - i) ≡ j + 1 = omega arith in let part = ups_part test i (j + 1 - i) in rw n at part
 
 pub level_surplus : (o c : ℕ → Bool) (i j : ℕ) → i ≤ j + 1 → as_many o c i j ≡ true → ups o (j + 1) + ups c i ≡ ups c (j + 1) + ups o i
-level_surplus o c i j h e =
-    let a = ups_between o i j h in
-    let b = ups_between c i j h in
-    let same : count_by o (positions_from i (j + 1 - i)) ≡ count_by c (positions_from i (j + 1 - i)) = eqb-true _ _ e in
-    omega (arith, a, b, same)
+level_surplus o c i j h e = grind (arith, ups_between, eqb-true)
 
 pub surplus_level : (o c : ℕ → Bool) (i j : ℕ) → i ≤ j + 1 → ups o (j + 1) + ups c i ≡ ups c (j + 1) + ups o i → as_many o c i j ≡ true
-surplus_level o c i j h e =
-    let a = ups_between o i j h in
-    let b = ups_between c i j h in
-    let same : count_by o (positions_from i (j + 1 - i)) ≡ count_by c (positions_from i (j + 1 - i)) = omega (arith, a, b, e) in
-    eq-eqb _ _ same
+surplus_level o c i j h e = grind (arith, ups_between, eq-eqb)
 
 pub unlevel_surplus : (o c : ℕ → Bool) (i j : ℕ) → i ≤ j + 1 → as_many o c i j ≡ false → ups o (j + 1) + ups c i ≢ ups c (j + 1) + ups o i
 unlevel_surplus o c i j h e same = true≢false (sym (surplus_level o c i j h same) ∙ e)
@@ -68,11 +55,7 @@ pub data Turn (o : ℕ → Bool) (c : ℕ → Bool) (p : ℕ) : Type 0 where
   stays : o p ≡ false → c p ≡ false → Turn o c p
 
 pub turn_of : (o c : ℕ → Bool) (p : ℕ) → Exclude o c → Turn o c p
-turn_of o c p ex =
-    elim (cases_Bool (o p)) [
-      | inl a ↦ opens a (ex.apart p a)
-      | inr a ↦ elim (cases_Bool (c p)) [ inl b ↦ closes a b | inr b ↦ stays a b ]
-    ]
+turn_of o c p ex = grind arith
 
 -- the match as the end moves on
 pub match_more : (o c : ℕ → Bool) (k i : ℕ) → i < k → match_of o c (k + 1) i ≡ or_else (match_of o c k i) (cond (as_many o c i k) (Some k) None)
@@ -100,11 +83,7 @@ match_extends o c k n i j h e =
 
 -- what has no match within n positions has none within fewer
 pub unmatched_before : (o c : ℕ → Bool) (k n i : ℕ) → k ≤ n → match_of o c n i ≡ None → match_of o c k i ≡ None
-unmatched_before o c k n i le none = go (match_of o c k i) refl
-  where
-    go : (m : Option ℕ) → match_of o c k i ≡ m → m ≡ None
-    go None e = refl
-    go (Some b) e = absurd (let more : match_of o c n i ≡ Some b = match_extends o c k n i b le e in cc)
+unmatched_before o c k n i le none = grind (arith, match_extends)
 
 pub match_within : (o c : ℕ → Bool) (k n i j : ℕ) → j < k → match_of o c n i ≡ Some j → match_of o c k i ≡ Some j
 unfolding match_of
@@ -115,15 +94,11 @@ match_within o c k n i j h e =
 
 pub match_of_bounds : (o c : ℕ → Bool) (n i j : ℕ) → match_of o c n i ≡ Some j → (i < j) × (j < n)
 unfolding match_of
-match_of_bounds o c n i j e =
-    let found = first_from_some (as_many o c i) (i + 1) (n - (i + 1)) j e in
-    (omega (arith, found.from), omega (arith, found.within, found.from))
+match_of_bounds o c n i j e = grind (arith, first_from_some)
 
 pub match_of_surplus : (o c : ℕ → Bool) (n i j : ℕ) → match_of o c n i ≡ Some j → ups o (j + 1) + ups c i ≡ ups c (j + 1) + ups o i
 unfolding match_of
-match_of_surplus o c n i j e =
-    let found = first_from_some (as_many o c i) (i + 1) (n - (i + 1)) j e in
-    level_surplus o c i j (omega (arith, found.from)) found.passes
+match_of_surplus o c n i j e = grind (arith, first_from_some, level_surplus)
 
 pub gets_closed : (o c : ℕ → Bool) (k i : ℕ) → i < k → match_of o c k i ≡ None → as_many o c i k ≡ true → match_of o c (k + 1) i ≡ Some k
 gets_closed o c k i h e t = rw (match_more o c k i h, e, t) refl
@@ -158,16 +133,7 @@ surplus_open o c i k ex h opener none =
     rw e at s
 
 pub open_until : (o c : ℕ → Bool) (n i a k : ℕ) → match_of o c n i ≡ Some a → k ≤ a → match_of o c k i ≡ None
-open_until o c n i a k e h = go (match_of o c k i) refl
-  where
-    go : (m : Option ℕ) → match_of o c k i ≡ m → m ≡ None
-    go None e' = refl
-    go (Some b) e' =
-        let bounds = match_of_bounds o c k i b e' in
-        let a_in = match_of_bounds o c n i a e in
-        let also : match_of o c n i ≡ Some b = match_extends o c k n i b (omega (arith, a_in.1)) e' in
-        let same : a ≡ b = grind arith in
-        absurd (omega (arith, bounds.1))
+open_until o c n i a k e h = grind (arith, match_of_bounds, match_extends)
 
 -- the match of a position that opens is one that closes
 pub match_closes : (o c : ℕ → Bool) (n i a : ℕ) → Exclude o c → o i ≡ true → match_of o c n i ≡ Some a → c a ≡ true

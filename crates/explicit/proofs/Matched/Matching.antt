@@ -1,10 +1,10 @@
 -- Isolates are matched by counting, and that is matching by a stack.
-use Rattle.std.proofs.Common.{◌≡◌, ℕ, Bool, true, false, List, length, Option, Some, None, inl, inr, refl, sym, ◌∙◌}
-use Rattle.std.proofs.lemmas.Bool.{cases_Bool, true≢false}
+use Rattle.std.proofs.Common.{arith, ◌≡◌, ℕ, Bool, true, false, List, length, Option, Some, None, refl, sym, ◌∙◌}
+use Rattle.std.proofs.lemmas.Bool.{true≢false}
 use Rattle.units.specs.Classes.{class_at, is_isolate_initiator, is_pdi}
 use Rattle.units.specs.Isolates.{matching_pdi}
 use Rattle.units.specs.declared.class.Class.{Class}
-use Rattle.explicit.proofs.Holders.Roles.{Kind, opening, closing, other, kind_of}
+use Rattle.explicit.proofs.Holders.Roles.{opening, closing, other, kind_of}
 use Rattle.explicit.proofs.Matched.Balance.{Exclude, match_of}
 use Rattle.explicit.proofs.Matched.OpenStack.{IsStack}
 
@@ -16,12 +16,7 @@ abbrev pub closes_at : List Class → ℕ → Bool
 closes_at cs p = is_pdi (class_at cs p)
 
 pub opener_is_no_pdi : (c : Class) → is_isolate_initiator c ≡ true → is_pdi c ≡ false
-opener_is_no_pdi c h = go (kind_of c)
-  where
-    go : Kind c → is_pdi c ≡ false
-    go (opening a b) = b
-    go (closing a b) = absurd (true≢false (sym h ∙ a))
-    go (other a b) = b
+opener_is_no_pdi c h = grind (arith, kind_of, opening, closing, true≢false, other)
 
 pub isolates_exclude : (cs : List Class) → Exclude (opens_at cs) (closes_at cs)
 isolates_exclude cs = record { apart = λ p h. opener_is_no_pdi (class_at cs p) h }
@@ -44,11 +39,7 @@ unfolding matching_pdi
 matching_pdi_none cs i h = rw h refl
 
 pub matching_pdi_opens : (cs : List Class) (i j : ℕ) → matching_pdi cs i ≡ Some j → is_isolate_initiator (class_at cs i) ≡ true
-matching_pdi_opens cs i j e =
-    elim (cases_Bool (is_isolate_initiator (class_at cs i))) [
-      | inl holds ↦ holds
-      | inr fails ↦ absurd (let none = matching_pdi_none cs i fails in cc)
-    ]
+matching_pdi_opens cs i j e = grind (arith, matching_pdi_none)
 
 pub matching_pdi_before : (cs : List Class) (i j : ℕ) → matching_pdi cs i ≡ Some j → matching_before cs (length cs) i ≡ Some j
 matching_pdi_before cs i j e = sym (matching_pdi_of cs i (matching_pdi_opens cs i j e)) ∙ e

@@ -1,7 +1,6 @@
 -- Isolates nest or are apart.
-use Rattle.std.proofs.Common.{◌≡◌, ℕ, ◌<◌, ◌≤◌, true, List, length, Option, Some, None, ◌⊎◌, inl, inr, refl, sym, ◌∙◌, subst, arith}
+use Rattle.std.proofs.Common.{◌≡◌, ℕ, ◌<◌, ◌≤◌, true, List, length, Some, ◌⊎◌, inl, inr, sym, ◌∙◌, arith}
 use Rattle.std.proofs.lemmas.Bool.{cases_Bool, false≢true, and_parts, and_from, ltb-true, lt-ltb}
-use Rattle.units.specs.Positions.{is_before}
 use Rattle.units.specs.Classes.{class_at, is_isolate_initiator, is_pdi}
 use Rattle.units.specs.Isolates.{matching_pdi, isolate_holds}
 use Rattle.units.specs.declared.class.Class.{Class}
@@ -35,33 +34,15 @@ pub record IsHeld (cs : List Class) (i : ℕ) (p : ℕ) : Type 0 where
 
 pub held : (cs : List Class) (i p : ℕ) → isolate_holds cs i p ≡ true → IsHeld cs i p
 unfolding isolate_holds
-held cs i p h =
-    let parts = and_parts _ _ h in
-    let parts' = and_parts _ _ parts.1 in
-    record {
-      opener = parts.0;
-      after = ltb-true i p parts'.0;
-      before = λ a e. let t : is_before p (Some a) ≡ true = subst (λ o. is_before p o ≡ true) e parts'.1 in ltb-true p a t;
-    }
+held cs i p h = grind (arith, and_parts, ltb-true)
 
 pub holds_from : (cs : List Class) (i p : ℕ) → IsHeld cs i p → isolate_holds cs i p ≡ true
 unfolding isolate_holds
-holds_from cs i p h = and_from _ _ h.opener (and_from _ _ (lt-ltb i p h.after) (go (matching_pdi cs i) h.before))
-  where
-    go : (o : Option ℕ) → ((a : ℕ) → o ≡ Some a → p < a) → is_before p o ≡ true
-    go None f = refl
-    go (Some a) f = lt-ltb p a (f a refl)
+holds_from cs i p h = grind (arith, and_from, lt-ltb)
 
 -- what an isolate inside holds, the outer one holds too
 pub holds_through : (cs : List Class) (i j p : ℕ) → IsHeld cs i j → IsHeld cs j p → IsHeld cs i p
-holds_through cs i j p outer inner =
-    record {
-      opener = outer.opener;
-      after = omega (arith, outer.after, inner.after);
-      before = λ a e.
-          let m = inner_match cs i j a e outer.after (outer.before a e) inner.opener in
-          omega (arith, inner.before m.0 m.1, m.2);
-    }
+holds_through cs i j p outer inner = grind (arith, inner_match)
 
 -- what an isolate holds, it holds from its beginning on
 pub holds_down : (cs : List Class) (i p q : ℕ) → IsHeld cs i p → i < q → q ≤ p → IsHeld cs i q

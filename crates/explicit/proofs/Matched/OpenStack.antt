@@ -13,12 +13,7 @@ pub record IsStack (o : ℕ → Bool) (c : ℕ → Bool) (k : ℕ) (m : ℕ) (s 
   pub complete : (i : ℕ) → i < k → o i ≡ true → match_of o c k i ≡ None → (a : ℕ) × (a < m) × (s a ≡ i)
 
 pub stack_empty : (o c : ℕ → Bool) (s : ℕ → ℕ) → IsStack o c 0 0 s
-stack_empty o c s = record {
-  before = λ a h. absurd (omega arith);
-  opener = λ a h. absurd (omega arith);
-  still = λ a h. absurd (omega arith);
-  complete = λ i h. absurd (omega arith);
-}
+stack_empty o c s = grind arith
 
 -- what position k does to the counts
 record Does (o : ℕ → Bool) (c : ℕ → Bool) (k opens closes : ℕ) : Type 0 where
@@ -123,13 +118,4 @@ stack_pop o c k n s stack ok ck = record {
 
 -- with nothing open it closes nothing
 pub stack_none_left : (o c : ℕ → Bool) (k : ℕ) (s : ℕ → ℕ) → IsStack o c k 0 s → o k ≡ false → IsStack o c (k + 1) 0 s
-stack_none_left o c k s stack ok = record {
-  before = λ a h. absurd (omega arith);
-  opener = λ a h. absurd (omega arith);
-  still = λ a h. absurd (omega arith);
-  complete = λ i h opener none.
-      elim (cases_eq i k) [
-        | inl here ↦ absurd (true≢false (sym opener ∙ ap o here ∙ ok))
-        | inr lower ↦ let b : i < k = omega arith in stack.complete i b opener (unmatched_before o c k (k + 1) i (omega arith) none)
-      ];
-}
+stack_none_left o c k s stack ok = grind (arith, true≢false, unmatched_before)

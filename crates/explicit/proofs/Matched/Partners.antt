@@ -1,10 +1,10 @@
 -- One pass with a stack of open initiators writes the partner of every position.
-use Rattle.std.proofs.Common.{◌≡◌, ◌≢◌, ℕ, suc, ◌+◌, ◌<◌, true, false, cond, List, length, Option, Some, None, inl, inr, refl, sym, ap, ◌∙◌, subst, arith}
+use Rattle.std.proofs.Common.{◌≡◌, ◌≢◌, ℕ, suc, ◌+◌, ◌<◌, true, false, List, length, Option, Some, None, inl, inr, sym, ap, ◌∙◌, subst, arith}
 use Rattle.std.proofs.lemmas.Bool.{cases_eq, true≢false, false_from_ne_true}
 use Rattle.units.specs.Classes.{class_at, is_isolate_initiator, is_pdi}
 use Rattle.units.specs.Isolates.{matching_pdi, matching_initiator, partner_of}
 use Rattle.units.specs.declared.class.Class.{Class}
-use Rattle.explicit.proofs.Holders.Roles.{Kind, opening, closing, other, kind_of}
+use Rattle.explicit.proofs.Holders.Roles.{opening, closing, other, kind_of}
 use Rattle.units.specs.Positions.{as_many}
 use Rattle.explicit.proofs.Matched.Balance.{match_new, match_stays, match_extends, match_within, match_of_bounds, stays_unclosed}
 use Rattle.explicit.proofs.Matched.OpenStack.{unlevel_at_other, unlevel_at_opening, unlevel_at_closing, stack_empty, stack_stays, stack_push, top_is_closed, stack_pop, stack_none_left}
@@ -13,11 +13,7 @@ use Rattle.units.proofs.Positions.{last_below_is, last_below_nowhere, same_posit
 
 -- what an initiator has after one more position
 pub matching_kept : (cs : List Class) (k i : ℕ) → i < k → (matching_before cs k i ≡ None → as_many (opens_at cs) (closes_at cs) i k ≡ false) → matching_before cs (k + 1) i ≡ matching_before cs k i
-matching_kept cs k i h u = go (matching_before cs k i) refl
-  where
-    go : (o : Option ℕ) → matching_before cs k i ≡ o → matching_before cs (k + 1) i ≡ o
-    go None e = stays_unclosed (opens_at cs) (closes_at cs) k i h e (u e)
-    go (Some j) e = match_stays (opens_at cs) (closes_at cs) k i j h e
+matching_kept cs k i h u = grind (arith, stays_unclosed, match_stays)
 
 pub kept_at_opening : (cs : List Class) (k m i : ℕ) (s : ℕ → ℕ) → IsOpenStack cs k m s → is_isolate_initiator (class_at cs k) ≡ true → is_pdi (class_at cs k) ≡ false → i < k → is_isolate_initiator (class_at cs i) ≡ true → matching_before cs (k + 1) i ≡ matching_before cs k i
 kept_at_opening cs k m i s stack o c h opener =
@@ -28,11 +24,7 @@ kept_at_other cs k m i s stack o c h opener =
     matching_kept cs k i h (λ none. let at = stack.complete i h opener none in rw (← at.2) (unlevel_at_other (opens_at cs) (closes_at cs) k m s stack o c at.0 at.1))
 
 pub kept_at_closing : (cs : List Class) (k n i : ℕ) (s : ℕ → ℕ) → IsOpenStack cs k (suc n) s → is_isolate_initiator (class_at cs k) ≡ false → is_pdi (class_at cs k) ≡ true → i < k → is_isolate_initiator (class_at cs i) ≡ true → i ≢ s n → matching_before cs (k + 1) i ≡ matching_before cs k i
-kept_at_closing cs k n i s stack o c h opener ne =
-    matching_kept cs k i h (λ none.
-    let at = stack.complete i h opener none in
-    let below : at.0 < n = elim (cases_eq at.0 n) [ inl top ↦ absurd (ne (sym at.2 ∙ ap s top)) | inr deeper ↦ omega (arith, at.1) ] in
-    rw (← at.2) (unlevel_at_closing (opens_at cs) (closes_at cs) k n s stack o c at.0 below))
+kept_at_closing cs k n i s stack o c h opener ne = grind (arith, matching_kept, unlevel_at_closing)
 
 pub kept_at_closing_none : (cs : List Class) (k i : ℕ) (s : ℕ → ℕ) → IsOpenStack cs k 0 s → i < k → is_isolate_initiator (class_at cs i) ≡ true → matching_before cs (k + 1) i ≡ matching_before cs k i
 kept_at_closing_none cs k i s stack h opener =
@@ -40,27 +32,14 @@ kept_at_closing_none cs k i s stack h opener =
 
 -- whom the PDI at k matches
 pub new_match_is_open : (cs : List Class) (k i : ℕ) → i < k → matching_before cs (k + 1) i ≡ Some k → matching_before cs k i ≡ None
-new_match_is_open cs k i h e = go (matching_before cs k i) refl
-  where
-    go : (o : Option ℕ) → matching_before cs k i ≡ o → o ≡ None
-    go None e' = refl
-    go (Some j) e' =
-        let e'' = match_stays (opens_at cs) (closes_at cs) k i j h e' in
-        let b = match_of_bounds (opens_at cs) (closes_at cs) k i j e' in
-        let same : k ≡ j = grind arith in
-        absurd (omega (arith, b.1))
+new_match_is_open cs k i h e = grind (arith, match_stays, match_of_bounds)
 
 -- an initiator that the PDI at k matches is open there, and its matching PDI is the first within k + 1 positions
 pub matched_at : (cs : List Class) (k i : ℕ) → matching_pdi cs i ≡ Some k → (i < k) × (is_isolate_initiator (class_at cs i) ≡ true) × (matching_before cs (k + 1) i ≡ Some k)
-matched_at cs k i e =
-    let whole = matching_pdi_before cs i k e in
-    let b = match_of_bounds (opens_at cs) (closes_at cs) (length cs) i k whole in
-    (b.0, matching_pdi_opens cs i k e, match_within (opens_at cs) (closes_at cs) (k + 1) (length cs) i k (omega arith) whole)
+matched_at cs k i e = grind (arith, matching_pdi_before, match_of_bounds, matching_pdi_opens, match_within)
 
 pub matched_to : (cs : List Class) (k i : ℕ) → k < length cs → is_isolate_initiator (class_at cs i) ≡ true → matching_before cs (k + 1) i ≡ Some k → matching_pdi cs i ≡ Some k
-matched_to cs k i h opener e =
-    let whole = match_extends (opens_at cs) (closes_at cs) (k + 1) (length cs) i k (omega arith) e in
-    matching_pdi_of cs i opener ∙ whole
+matched_to cs k i h opener e = grind (arith, match_extends, matching_pdi_of)
 
 pub initiator_none : (cs : List Class) (k : ℕ) (s : ℕ → ℕ) → IsOpenStack cs k 0 s → matching_initiator cs k ≡ None
 unfolding matching_initiator
@@ -91,73 +70,25 @@ pub record IsPass (cs : List Class) (k : ℕ) (m : ℕ) (s : ℕ → ℕ) (t : �
   pub others : (p : ℕ) → p < k → is_isolate_initiator (class_at cs p) ≡ false → is_pdi (class_at cs p) ≡ false → t p ≡ None
 
 pub pass_none : (cs : List Class) (s : ℕ → ℕ) (t : ℕ → Option ℕ) → IsPass cs 0 0 s t
-pass_none cs s t = record {
-  stack = stack_empty (opens_at cs) (closes_at cs) s;
-  initiators = λ p h. absurd (omega arith);
-  pdis = λ p h. absurd (omega arith);
-  others = λ p h. absurd (omega arith);
-}
+pass_none cs s t = grind (arith, stack_empty)
 
 -- a position is below k, or k
 pub at_or_below : (P : ℕ → Type 0) (k : ℕ) → P k → ((p : ℕ) → p < k → P p) → (p : ℕ) → p < k + 1 → P p
 at_or_below P k here below p h = elim (cases_eq p k) [ inl e ↦ subst P (sym e) here | inr ne ↦ below p (omega arith) ]
 
 pub pass_opening : (cs : List Class) (k m : ℕ) (s s' : ℕ → ℕ) (t t' : ℕ → Option ℕ) → IsPass cs k m s t → is_isolate_initiator (class_at cs k) ≡ true → ((a : ℕ) → a < m → s' a ≡ s a) → s' m ≡ k → ((p : ℕ) → p < k → t' p ≡ t p) → t' k ≡ None → IsPass cs (k + 1) (m + 1) s' t'
-pass_opening cs k m s s' t t' pass o agree top kept here = go (kind_of (class_at cs k))
-  where
-    go : Kind (class_at cs k) → IsPass cs (k + 1) (m + 1) s' t'
-    go (closing o' c) = absurd (true≢false (sym o ∙ o'))
-    go (other o' c) = absurd (true≢false (sym o ∙ o'))
-    go (opening o' c) = record {
-      stack = stack_push (opens_at cs) (closes_at cs) k m s s' pass.stack o c agree top;
-      initiators = at_or_below (λ p. is_isolate_initiator (class_at cs p) ≡ true → t' p ≡ matching_before cs (k + 1) p) k
-          (λ _. here ∙ sym (match_new (opens_at cs) (closes_at cs) k))
-          (λ p h opener. kept p h ∙ pass.initiators p h opener ∙ sym (kept_at_opening cs k m p s pass.stack o c h opener));
-      pdis = at_or_below (λ p. is_pdi (class_at cs p) ≡ true → t' p ≡ matching_initiator cs p) k
-          (λ closer. absurd (true≢false (sym closer ∙ c)))
-          (λ p h closer. kept p h ∙ pass.pdis p h closer);
-      others = at_or_below (λ p. is_isolate_initiator (class_at cs p) ≡ false → is_pdi (class_at cs p) ≡ false → t' p ≡ None) k
-          (λ _ _. here)
-          (λ p h a b. kept p h ∙ pass.others p h a b);
-    }
+pass_opening cs k m s s' t t' pass o agree top kept here =
+    grind (arith, kind_of, closing, true≢false, other, opening, stack_push, at_or_below, match_new, kept_at_opening)
 
 pub pass_other : (cs : List Class) (k m : ℕ) (s : ℕ → ℕ) (t t' : ℕ → Option ℕ) → IsPass cs k m s t → is_isolate_initiator (class_at cs k) ≡ false → is_pdi (class_at cs k) ≡ false → ((p : ℕ) → p < k → t' p ≡ t p) → t' k ≡ None → IsPass cs (k + 1) m s t'
-pass_other cs k m s t t' pass o c kept here = record {
-  stack = stack_stays (opens_at cs) (closes_at cs) k m s pass.stack o c;
-  initiators = at_or_below (λ p. is_isolate_initiator (class_at cs p) ≡ true → t' p ≡ matching_before cs (k + 1) p) k
-      (λ opener. absurd (true≢false (sym opener ∙ o)))
-      (λ p h opener. kept p h ∙ pass.initiators p h opener ∙ sym (kept_at_other cs k m p s pass.stack o c h opener));
-  pdis = at_or_below (λ p. is_pdi (class_at cs p) ≡ true → t' p ≡ matching_initiator cs p) k
-      (λ closer. absurd (true≢false (sym closer ∙ c)))
-      (λ p h closer. kept p h ∙ pass.pdis p h closer);
-  others = at_or_below (λ p. is_isolate_initiator (class_at cs p) ≡ false → is_pdi (class_at cs p) ≡ false → t' p ≡ None) k
-      (λ _ _. here)
-      (λ p h a b. kept p h ∙ pass.others p h a b);
-}
+pass_other cs k m s t t' pass o c kept here = grind (arith, stack_stays, at_or_below, true≢false, kept_at_other)
 
 pub closing_opens_nothing : (c : Class) → is_pdi c ≡ true → is_isolate_initiator c ≡ false
-closing_opens_nothing c h = go (kind_of c)
-  where
-    go : Kind c → is_isolate_initiator c ≡ false
-    go (opening o c') = absurd (true≢false (sym h ∙ c'))
-    go (closing o c') = o
-    go (other o c') = o
+closing_opens_nothing c h = grind (arith, kind_of, opening, true≢false, closing, other)
 
 pub pass_unmatched : (cs : List Class) (k : ℕ) (s : ℕ → ℕ) (t t' : ℕ → Option ℕ) → IsPass cs k 0 s t → is_pdi (class_at cs k) ≡ true → ((p : ℕ) → p < k → t' p ≡ t p) → t' k ≡ None → IsPass cs (k + 1) 0 s t'
 pass_unmatched cs k s t t' pass c kept here =
-    let o = closing_opens_nothing (class_at cs k) c in
-    record {
-      stack = stack_none_left (opens_at cs) (closes_at cs) k s pass.stack o;
-      initiators = at_or_below (λ p. is_isolate_initiator (class_at cs p) ≡ true → t' p ≡ matching_before cs (k + 1) p) k
-          (λ opener. absurd (true≢false (sym opener ∙ o)))
-          (λ p h opener. kept p h ∙ pass.initiators p h opener ∙ sym (kept_at_closing_none cs k p s pass.stack h opener));
-      pdis = at_or_below (λ p. is_pdi (class_at cs p) ≡ true → t' p ≡ matching_initiator cs p) k
-          (λ _. here ∙ sym (initiator_none cs k s pass.stack))
-          (λ p h closer. kept p h ∙ pass.pdis p h closer);
-      others = at_or_below (λ p. is_isolate_initiator (class_at cs p) ≡ false → is_pdi (class_at cs p) ≡ false → t' p ≡ None) k
-          (λ _ _. here)
-          (λ p h a b. kept p h ∙ pass.others p h a b);
-    }
+    grind (arith, closing_opens_nothing, stack_none_left, at_or_below, true≢false, kept_at_closing_none, initiator_none)
 
 pub pass_matched : (cs : List Class) (k n : ℕ) (s : ℕ → ℕ) (t t' : ℕ → Option ℕ) → k < length cs → IsPass cs k (suc n) s t → is_pdi (class_at cs k) ≡ true → ((p : ℕ) → p < k → p ≢ s n → t' p ≡ t p) → t' (s n) ≡ Some k → t' k ≡ Some (s n) → IsPass cs (k + 1) n s t'
 pass_matched cs k n s t t' inside pass c kept there here =
@@ -184,9 +115,4 @@ pass_matched cs k n s t t' inside pass c kept there here =
 -- after the whole pass every position has its partner
 pub pass_all : (cs : List Class) (m : ℕ) (s : ℕ → ℕ) (t : ℕ → Option ℕ) → IsPass cs (length cs) m s t → (p : ℕ) → p < length cs → t p ≡ partner_of cs p
 unfolding partner_of
-pass_all cs m s t pass p h = go (kind_of (class_at cs p))
-  where
-    go : Kind (class_at cs p) → t p ≡ cond (is_pdi (class_at cs p)) (matching_initiator cs p) (matching_pdi cs p)
-    go (opening o c) = rw (c, matching_pdi_of cs p o) (pass.initiators p h o)
-    go (closing o c) = rw c (pass.pdis p h c)
-    go (other o c) = rw (c, matching_pdi_none cs p o) (pass.others p h o c)
+pass_all cs m s t pass p h = grind (arith, kind_of, opening, matching_pdi_of, closing, other, matching_pdi_none)

@@ -1,6 +1,6 @@
 -- A position that opened and has no match yet, from one place to the next, for any two tests of positions.
-use Rattle.std.proofs.Common.{◌≡◌, ℕ, suc, ◌+◌, ◌<◌, Bool, true, false, cond, Option, Some, None, inl, inr, refl, arith}
-use Rattle.std.proofs.lemmas.Bool.{cases_lt, lt-ltb, le-ltb}
+use Rattle.std.proofs.Common.{◌≡◌, ℕ, suc, ◌+◌, ◌<◌, Bool, true, false, cond, Some, None, refl, arith}
+use Rattle.std.proofs.lemmas.Bool.{lt-ltb, le-ltb}
 use Rattle.units.specs.Positions.{as_many, is_before}
 use Rattle.explicit.proofs.Matched.Balance.{ups, surplus_level, surplus_unlevel, match_of, match_new, match_within, match_extends, gets_closed, stays_unclosed}
 
@@ -55,15 +55,7 @@ open_closed o c k m q lt h e =
 
 -- up to there its match does not come
 pub before_match : (o c : ℕ → Bool) (y n q : ℕ) → match_of o c (suc y) q ≡ None → is_before y (match_of o c n q) ≡ true
-before_match o c y n q e = go (match_of o c n q) refl
-  where
-    go : (m : Option ℕ) → match_of o c n q ≡ m → is_before y m ≡ true
-    go None f = refl
-    go (Some a) f =
-        elim (cases_lt y a) [
-          | inl lt ↦ lt-ltb y a lt
-          | inr le ↦ absurd (let at = match_within o c (suc y) n q a (omega arith) f in cc)
-        ]
+before_match o c y n q e = grind (arith, lt-ltb, match_within)
 
 pub at_match : (o c : ℕ → Bool) (k n q : ℕ) → k < n → match_of o c (suc k) q ≡ Some k → is_before k (match_of o c n q) ≡ false
 at_match o c k n q lt e = rw (match_extends o c (suc k) n q k (omega arith) e) (le-ltb k k (omega arith))

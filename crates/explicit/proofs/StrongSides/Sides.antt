@@ -1,4 +1,5 @@
 -- The first strong classes of the isolates, noted from the paragraph's start on.
+use Rattle.std.proofs.lemmas.Bool.Decides.{nat_tests}
 use Rattle.std.proofs.Common.{◌≡◌, ℕ, zero, suc, ◌+◌, ◌<◌, ◌≤◌, true, false, cond, List, length, get_or, set, Option, Some, None, inl, inr, refl, sym, ap, ◌∙◌, arith}
 use Rattle.std.proofs.lemmas.Bool.{cases_eq, cases_Bool, true≢false, and_from, and_left, false_from_ne_true}
 use Rattle.std.proofs.lemmas.List.{get_or-set_same, get_or-set_other, length-set}
@@ -40,12 +41,7 @@ or_here cs k None = refl
 or_here cs k (Some p) = sym (noted_once (class_at cs p) (class_at cs k))
 
 one_more : (cs : List Class) (isolate : Option ℕ) (k : ℕ) → first_from (is_strong_in cs isolate) 0 (k + 1) ≡ or_else (first_from (is_strong_in cs isolate) 0 k) (cond (is_strong_in cs isolate k) (Some k) None)
-one_more cs isolate k =
-    let next : k + 1 ≡ suc k = omega arith in
-    let here : 0 + k ≡ k = omega arith in
-    let more = first_from_more (is_strong_in cs isolate) 0 k in
-    let more' = rw here at more in
-    rw next more'
+one_more cs isolate k = grind (arith, first_from_more)
 
 -- one position more, where it isn't looked for, and where it is
 side_kept : (cs : List Class) (isolate : Option ℕ) (k : ℕ) → is_strong_in cs isolate k ≡ false → side_before cs (k + 1) isolate ≡ side_before cs k isolate
@@ -100,33 +96,16 @@ module _ {cs : List Class} {k : ℕ} {sides : List Side} {outside : Side} (now :
   strong_here isolate strong here = and_from _ _ strong (rw here (same_position_refl isolate))
 
   not_opener : (i : ℕ) → is_strong (class_at cs k) ≡ true → is_isolate_initiator (class_at cs i) ≡ true → i < k + 1 → i < k
-  not_opener i strong opener h =
-      elim (cases_eq i k) [
-        | inl same ↦ absurd (true≢false (sym opener ∙ ap (λ q. is_isolate_initiator (class_at cs q)) same ∙ (strong_is_other (class_at cs k) strong).0))
-        | inr other ↦ omega arith
-      ]
+  not_opener i strong opener h = grind (arith, true≢false, strong_is_other)
 
   -- a strong class outside of all isolates
   pub noted_outside : is_strong (class_at cs k) ≡ true → isolate_around cs k ≡ None → AreNoted cs (k + 1) sides (noted outside (class_at cs k))
-  noted_outside strong here = record {
-    inside_is = λ i h opener. now.inside_is i (not_opener i strong opener h) opener ∙ sym (strong_kept (Some i) (λ e. let no : None ≡ Some i = sym here ∙ e in absurd (cc)));
-    outside_is = ap (λ s. noted s (class_at cs k)) now.outside_is ∙ sym (side_noted cs None k (strong_here None strong here));
-  }
+  noted_outside strong here = grind (arith, not_opener, strong_kept, side_noted, strong_here)
 
   -- a strong class in the isolate that begins at q
   pub noted_inside : (q : ℕ) → q < k → q < length sides → is_isolate_initiator (class_at cs q) ≡ true → is_strong (class_at cs k) ≡ true → isolate_around cs k ≡ Some q → AreNoted cs (k + 1) (noted_at sides q (class_at cs k)) outside
   noted_inside q below room begins strong here =
-      let new : Side = noted (get_or sides q Unknown) (class_at cs k) in
-      record {
-        inside_is = λ i h opener. elim (cases_eq i q) [
-          | inl same ↦ rw same (get_or-set_same sides q new Unknown room ∙ ap (λ s. noted s (class_at cs k)) (now.inside_is q below begins) ∙ sym (side_noted cs (Some q) k (strong_here (Some q) strong here)))
-          | inr other ↦
-              get_or-set_other sides q i new Unknown other
-              ∙ now.inside_is i (not_opener i strong opener h) opener
-              ∙ sym (strong_kept (Some i) (λ e. let both : Some q ≡ Some i = sym here ∙ e in absurd (let same : q ≡ i = (cc) in other (sym same))))
-        ];
-        outside_is = now.outside_is ∙ sym (strong_kept None (λ e. let no : Some q ≡ None = sym here ∙ e in absurd (cc)));
-      }
+      grind (arith, nat_tests, get_or-set_same, side_noted, strong_here, get_or-set_other, not_opener, strong_kept)
 
 -- a strong class, in the last of the open isolates, or outside of all where none is open
 pub noted_strong : (cs : List Class) (k depth : ℕ) (s : ℕ → ℕ) (class : Class) (sides new : List Side) (outside found : Side) → AreNoted cs k sides outside → k < length cs → k ≤ length sides → IsOpenStack cs k depth s → class_at cs k ≡ class → is_strong (class_at cs k) ≡ true →
