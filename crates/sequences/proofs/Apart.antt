@@ -1,4 +1,6 @@
 -- No position stands in two sequences, and each that remains stands in one.
+use Rattle.std.proofs.lemmas.Bool.Decides.{nat_tests}
+use Rattle.std.proofs.lemmas.Grind.{common_steps}
 use Rattle.std.specs.Prelude.{Some, ℕ, zero, suc, ◌<◌, ◌≤◌, ◌≡◌, List, [], ◌∷◌, Contains, slice_get, refl}
 use Rattle.std.specs.List.{flat_map}
 use Rattle.std.proofs.Common.{arith, ap, inl, inr}
@@ -20,9 +22,7 @@ times-contains (q ∷ ps) p (suc k, l, e) = omega (arith, times-cons q ps p, tim
 
 times-held : (all : List SequenceView) (k p : ℕ) (s : SequenceView) → slice_get all k ≡ Some s → times s.positions p ≤ times (flat_of all) p
 times-held [] k p s e = absurd cc
-times-held (x ∷ all) zero p s e =
-    let same : x ≡ s = cc in
-    omega (arith, times-append x.positions (flat_of all) p, ap (λ (y : SequenceView). times y.positions p) same)
+times-held (x ∷ all) zero p s e = grind (arith, nat_tests, common_steps, times-append)
 times-held (x ∷ all) (suc k) p s e = omega (arith, times-append x.positions (flat_of all) p, times-held all k p s e)
 
 apart_in : (all : List SequenceView) (j k p : ℕ) (s other : SequenceView) → times (flat_of all) p ≤ 1 → slice_get all j ≡ Some s → slice_get all k ≡ Some other → j < k →

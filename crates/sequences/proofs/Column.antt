@@ -8,10 +8,10 @@ use Rattle.std.proofs.lemmas.List.{append-nil, length-append, take_at, take-appe
 use Rattle.std.proofs.lemmas.List.Elements.{filter-append, All-nil, All-cons}
 use Rattle.std.proofs.lemmas.List.Concat.{flat_map-append}
 use Rattle.units.specs.Positions.{positions_from}
-use Rattle.units.specs.Runs.{SequenceView, LeveledView, size_of, level_of, successor, begins_sequence, sequence_from, sequence_at, sequences_of}
+use Rattle.units.specs.Runs.{SequenceView, LeveledView, size_of, successor, begins_sequence, sequence_from, sequence_at, sequences_of}
 use Rattle.explicit.specs.Leveled.{IsLeveled}
 use Rattle.sequences.specs.declared.heads.Head.{Head}
-use Rattle.sequences.specs.Links.{link_at, ArePositions, IsChain}
+use Rattle.sequences.specs.Links.{link_at}
 use Rattle.sequences.specs.Heads.{head_at, heads_from, heads_of, firsts_before, column_before, column_of, sequence_of_head, IsHead}
 use Rattle.explicit.specs.Leveled.{IsNested}
 use Rattle.sequences.proofs.Forward.{successor_later}
@@ -29,15 +29,10 @@ firsts_push t k b =
     firsts_more t k ∙ ap (λ (ps : List ℕ). firsts_before t k ++ ps) (cond-true (begins_sequence t k) (k ∷ []) [] b)
 
 pub firsts_same : (t : LeveledView) (k : ℕ) → begins_sequence t k ≡ false → firsts_before t (k + 1) ≡ firsts_before t k
-firsts_same t k b =
-    firsts_more t k ∙ ap (λ (ps : List ℕ). firsts_before t k ++ ps) (cond-false (begins_sequence t k) (k ∷ []) [] b)
-    ∙ append-nil (firsts_before t k)
+firsts_same t k b = grind (arith, firsts_more, cond-false, append-nil)
 
 pub column_push : (t : LeveledView) (k : ℕ) → begins_sequence t k ≡ true → column_before t (k + 1) ≡ column_before t k ++ sequence_from t k
-column_push t k b =
-    ap (flat_map (sequence_from t)) (firsts_push t k b)
-    ∙ flat_map-append (sequence_from t) (firsts_before t k) (k ∷ [])
-    ∙ ap (λ (ps : List ℕ). column_before t k ++ ps) (append-nil (sequence_from t k))
+column_push t k b = grind (arith, firsts_push, flat_map-append, append-nil)
 
 pub column_same : (t : LeveledView) (k : ℕ) → begins_sequence t k ≡ false → column_before t (k + 1) ≡ column_before t k
 column_same t k b = ap (flat_map (sequence_from t)) (firsts_same t k b)
@@ -53,9 +48,7 @@ heads_from-push t start (q ∷ ps) p =
 
 pub heads_push : (t : LeveledView) (k : ℕ) → begins_sequence t k ≡ true →
     heads_from t 0 (firsts_before t (k + 1)) ≡ heads_from t 0 (firsts_before t k) ++ head_at t k (length (column_before t k)) ∷ []
-heads_push t k b =
-    let e : 0 + length (column_before t k) ≡ length (column_before t k) = omega arith in
-    ap (heads_from t 0) (firsts_push t k b) ∙ heads_from-push t 0 (firsts_before t k) k ∙ ap (λ s. heads_from t 0 (firsts_before t k) ++ head_at t k s ∷ []) e
+heads_push t k b = grind (arith, firsts_push, heads_from-push)
 
 pub heads_same : (t : LeveledView) (k : ℕ) → begins_sequence t k ≡ false → heads_from t 0 (firsts_before t (k + 1)) ≡ heads_from t 0 (firsts_before t k)
 heads_same t k b = ap (heads_from t 0) (firsts_same t k b)
@@ -99,10 +92,7 @@ column_room t h n k l b =
     )
 
 slice_here : (before here after : List ℕ) → slice_range (before ++ (here ++ after)) (length before) (length before + length here) ≡ here
-slice_here before here after =
-    let n : length before + length here - length before ≡ length here = omega arith in
-    ap (take (length before + length here - length before)) (drop-append_seam before (here ++ after))
-    ∙ take_at here after (length before + length here - length before) (sym n)
+slice_here before here after = grind (arith, drop-append_seam, take_at)
 
 -- the column from here on, with what lies behind the part that is in use
 abbrev rest_of : LeveledView → List ℕ → List ℕ → List ℕ
@@ -111,9 +101,7 @@ rest_of t spare (p ∷ ps) = sequence_from t p ++ rest_of t spare ps
 
 rest_is : (t : LeveledView) (spare ps : List ℕ) → rest_of t spare ps ≡ flat_map (sequence_from t) ps ++ spare
 rest_is t spare [] = refl
-rest_is t spare (p ∷ ps) =
-    ap (λ (qs : List ℕ). sequence_from t p ++ qs) (rest_is t spare ps)
-    ∙ sym (append_assoc (sequence_from t p) (flat_map (sequence_from t) ps) spare)
+rest_is t spare (p ∷ ps) = grind (arith, append_assoc, rest_is t spare ps)
 
 views_are : (t : LeveledView) (spare before : List ℕ) (start : ℕ) → start ≡ length before → (ps : List ℕ) →
     map (sequence_of_head (before ++ rest_of t spare ps) (size_of t)) (heads_from t start ps) ≡ map (sequence_at t) ps
@@ -137,9 +125,7 @@ IsInFront t column = take (length (column_of t)) column ≡ column_of t
 
 column_is : (t : LeveledView) (column : List ℕ) → IsInFront t column →
     rest_of t (drop (length (column_of t)) column) (firsts_before t (size_of t)) ≡ column
-column_is t column front =
-    let spare : List ℕ = drop (length (column_of t)) column in
-    rest_is t spare (firsts_before t (size_of t)) ∙ ap (λ (ps : List ℕ). ps ++ spare) (sym front) ∙ take-append-drop (length (column_of t)) column
+column_is t column front = grind (arith, rest_is, take-append-drop)
 
 -- the heads over the column are the sequences
 pub views_of_heads : (t : LeveledView) (column : List ℕ) → IsInFront t column → map (sequence_of_head column (size_of t)) (heads_of t) ≡ sequences_of t
@@ -156,18 +142,7 @@ module _ (t : LeveledView) (h : IsLeveled t) (links : List (Option ℕ)) (fit : 
   stands : (column : List ℕ) (p start : ℕ) → p < size_of t → start + length (sequence_from t p) ≤ length column →
       slice_range column start (start + length (sequence_from t p)) ≡ sequence_from t p → IsHead column links (head_at t p start)
   stands column p start l room e =
-      let P : List ℕ → Type 0 = λ qs. ArePositions qs (length links) in
-      let Q : List ℕ → Type 0 = λ qs. IsChain qs links in
-      let rise : ArePositions (sequence_from t p) (size_of t) = rising_positions (size_of t) (sequence_from t p) (followed_rises (successor t) (size_of t) (successor_later t h) p l) in
-      let R : ℕ → Type 0 = λ n. ArePositions (sequence_from t p) n in
-      let chain : IsChain (sequence_from t p) links = (λ k w. are _ ∙ followed_chain (successor t) (size_of t) (successor_later t h) p l k w) in
-      record {
-        ordered = omega arith;
-        within = room;
-        level_within = level_within (level_of t p) t.base (h.levels_within p) h.base_within;
-        positions = subst P (sym e) (subst R (sym fit) rise);
-        chain = subst Q (sym e) chain;
-      }
+      grind (arith, rising_positions, followed_rises, successor_later, followed_chain, level_within)
 
   headed : (spare : List ℕ) (a n : ℕ) → a + n ≤ size_of t → (before : List ℕ) (start : ℕ) → start ≡ length before →
       All (IsHead (before ++ rest_of t spare (filter (begins_sequence t) (positions_from a n))) links) (heads_from t start (filter (begins_sequence t) (positions_from a n)))

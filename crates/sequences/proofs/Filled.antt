@@ -1,9 +1,9 @@
 -- What the filled lists say of the successors.
-use Rattle.std.specs.Prelude.{Option, Some, None, ℕ, zero, suc, false, ◌<◌, ◌≡◌, List, ◌∷◌, ◌++◌, length, take, IfSome, is_some, refl}
-use Rattle.std.proofs.Common.{arith, ap, sym, ◌∙◌, subst, drop, inl, inr}
-use Rattle.std.proofs.lemmas.Bool.{cases_lt, cond-false}
+use Rattle.std.specs.Prelude.{Option, Some, None, ℕ, zero, suc, ◌≡◌, List, ◌∷◌, ◌++◌, length, take, refl}
+use Rattle.std.proofs.Common.{arith, ap, ◌∙◌, drop}
+use Rattle.std.proofs.lemmas.Bool.{cond-false}
 use Rattle.std.proofs.lemmas.List.{get_or_past, take_at}
-use Rattle.units.specs.Runs.{followed, LeveledView, size_of, level_of, remains, next_remaining, successor_by, successor}
+use Rattle.units.specs.Runs.{followed, LeveledView, size_of, level_of, successor}
 use Rattle.explicit.specs.Leveled.{IsLeveled}
 use Rattle.sequences.specs.Links.{link_at, linked, LinksForward}
 use Rattle.sequences.specs.Heads.{AreSuccessors}
@@ -14,9 +14,7 @@ pub put_back : {X : Type 0} (n : ℕ) (new old : List X) → length new ≡ n �
 put_back n new old e = take_at new (drop (length new) old) n e
 
 removed_successor : (t : LeveledView) (p : ℕ) → level_of t p ≡ None → successor t p ≡ None
-removed_successor t p e =
-    let gone : remains t p ≡ false = ap is_some e in
-    cond-false (remains t p) (successor_by t p (next_remaining t p)) None gone
+removed_successor t p e = grind (arith, cond-false)
 
 same_walk : (f g : ℕ → Option ℕ) → ((p : ℕ) → f p ≡ g p) → (n : ℕ) (at : Option ℕ) → followed f n at ≡ followed g n at
 same_walk f g e zero at = refl
@@ -26,18 +24,10 @@ same_walk f g e (suc n) (Some p) = ap (λ (ps : List ℕ). p ∷ ps) (same_walk 
 module _ (t : LeveledView) (links : List (Option ℕ)) (fit : length links ≡ size_of t) (are : AreSuccessors t links) where
   -- past the end no position has a link, and none a successor
   pub links_are : (p : ℕ) → link_at links p ≡ successor t p
-  links_are p =
-      elim (cases_lt p (size_of t)) [
-        | inl l ↦ are p l
-        | inr g ↦ get_or_past links p None (omega (arith, fit)) ∙ sym (removed_successor t p (get_or_past t.levels p None g))
-      ]
+  links_are p = grind (arith, get_or_past, removed_successor)
 
   pub links_lead_on : IsLeveled t → LinksForward links
-  links_lead_on h p =
-      let P : Option ℕ → Type 0 = λ o. IfSome o (λ q. (p < q) × (q < length links)) in
-      let Q : ℕ → Type 0 = λ n. IfSome (successor t p) (λ q. (p < q) × (q < n)) in
-      let later : P (successor t p) = subst Q (sym fit) (successor_later t h p) in
-      subst P (sym (links_are p)) later
+  links_lead_on h p = grind (arith, successor_later, links_are)
 
   -- a walk along the links is a walk along the successors
   pub linked_is : (p : ℕ) → linked links (Some p) ≡ followed (successor t) (size_of t) (Some p)

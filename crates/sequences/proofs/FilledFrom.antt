@@ -1,5 +1,5 @@
 -- What the isolates and the explicit levels of a paragraph say of it, position by position.
-use Rattle.std.specs.Prelude.{Option, None, ℕ, true, false, [], ◌∷◌, ◌<◌, ◌≤◌, ◌≡◌, List, length, map, take, IfSome, slice_index_or}
+use Rattle.std.specs.Prelude.{Option, None, ℕ, true, false, [], ◌∷◌, ◌<◌, ◌≤◌, ◌≡◌, List, length, take, IfSome, slice_index_or}
 use Rattle.std.specs.List.{list_any}
 use Rattle.std.specs.Option.{option_map}
 use Rattle.std.proofs.Common.{arith, ap, sym, ◌∙◌, subst}
@@ -9,7 +9,6 @@ use Rattle.units.specs.Classes.{class_at, classes_of, is_isolate_initiator, is_s
 use Rattle.units.specs.Explicit.{explicit_at, explicit_of}
 use Rattle.units.specs.Isolates.{partner_of, level_of_para}
 use Rattle.units.specs.Paragraphs.{SeparatorOnlyLast}
-use Rattle.units.specs.Positions.{positions_of}
 use Rattle.units.specs.Runs.{LeveledView, leveled_of, size_of, level_of, matched_pdi}
 use Rattle.explicit.specs.ExplicitLevels.{HoldsLevels}
 use Rattle.explicit.specs.Leveled.{IsLeveled, IsNested}
@@ -32,9 +31,7 @@ level_of_para-low One = omega arith
 pub no_separator : (us : List BidiUnit) → list_any (λ (unit : BidiUnit). is_separator unit.class) us ≡ false → SeparatorOnlyLast us
 no_separator [] e = tt
 no_separator (u ∷ []) e = tt
-no_separator (u ∷ v ∷ us) e =
-    let parts = or_parts (is_separator u.class) (list_any (λ (unit : BidiUnit). is_separator unit.class) (v ∷ us)) e in
-    (parts.0, no_separator (v ∷ us) parts.1)
+no_separator (u ∷ v ∷ us) e = grind (arith, or_parts, no_separator (v ∷ us))
 
 -- the front of what was found is what the rules give
 pub found_front : (depth : ℕ) (places : List (Option (ℕ × Class))) (cs : List Class) (para : ℕ) → HoldsLevels places depth cs para → take (length cs) places ≡ explicit_of depth cs para
@@ -46,14 +43,7 @@ found_front depth places cs para holds =
 
 -- with what X1 to X9 give up to a depth, the paragraph is that of this depth
 pub leveled_by-is : (depth : ℕ) (places : List (Option (ℕ × Class))) (cs : List Class) (para : ℕ) → HoldsLevels places depth cs para → leveled_by places cs para ≡ leveled_of depth cs para
-leveled_by-is depth places cs para holds =
-    let with_places : List (Option (ℕ × Class)) → LeveledView = λ found. record {
-      classes = cs;
-      levels = map (option_map (λ (place : ℕ × Class). place.0)) found;
-      partners = map (partner_of cs) (positions_of cs);
-      base = para;
-    } in
-    ap with_places (found_front depth places cs para holds)
+leveled_by-is depth places cs para holds = grind (arith, found_front)
 
 -- the paragraph has as many positions as units
 pub size-of_paragraph : (places : List (Option (ℕ × Class))) (units : List BidiUnit) (para : ℕ) → AreExplicitLevels places (classes_of units) para → size_of (leveled_by places (classes_of units) para) ≡ length units
@@ -85,18 +75,11 @@ module _ {units : List BidiUnit} {isolates : Isolates} {places : List (Option (�
 
   -- a position's level is that of its place
   pub level-place : level_of t p ≡ option_map (λ place. place.0) (slice_index_or places p None)
-  level-place =
-      let n : length (take (length (classes_of units)) places) ≡ length (classes_of units) = length-take-le (length (classes_of units)) places a.enough in
-      ap (λ (v : LeveledView). level_of v p) (sym e)
-      ∙ get_or-map (option_map (λ (place : ℕ × Class). place.0)) (take (length (classes_of units)) places) p None None (omega (arith, within_classes))
-      ∙ ap (option_map (λ place. place.0)) (get_or-take (length (classes_of units)) places p None within_classes)
+  level-place = grind (arith, length-take-le, get_or-map, get_or-take)
 
   -- the matching PDI of an initiator is its partner
   pub matched-partner : is_isolate_initiator (class_at t.classes p) ≡ true → matched_pdi t p ≡ partner_of (classes_of units) p
-  matched-partner i =
-      cond-true _ _ _ i
-      ∙ ap (λ (v : LeveledView). slice_index_or v.partners p None) (sym e)
-      ∙ get_or-of_positions (classes_of units) (partner_of (classes_of units)) p None within_classes
+  matched-partner i = grind (arith, cond-true, get_or-of_positions)
 
   pub level-within : IfSome (level_of t p) (λ l. l ≤ 125)
   level-within = let P : LeveledView → Type 0 = λ v. IfSome (level_of v p) (λ l. l ≤ 125) in subst P e (a.leveled.levels_within p)

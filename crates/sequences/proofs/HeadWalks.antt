@@ -2,7 +2,6 @@
 use Rattle.std.specs.Prelude.{Option, Some, ℕ, suc, true, false, ◌+◌, ◌<◌, ◌≤◌, ◌≡◌, List, [], ◌∷◌, ◌++◌, length, IfSome, if◌then◌else◌}
 use Rattle.std.proofs.Common.{arith, ap, sym, take, ◌∙◌}
 use Rattle.std.proofs.lemmas.Bool.{cond-true, cond-false}
-use Rattle.std.proofs.lemmas.Option.{IfSome_then}
 use Rattle.std.proofs.lemmas.List.{length_push, length-take-le}
 use Rattle.units.specs.Runs.{LeveledView, size_of, remains, last_remaining, begins_sequence, sequence_from}
 use Rattle.explicit.specs.Leveled.{IsLeveled}
@@ -29,23 +28,10 @@ module _ {t : LeveledView} {k : ℕ} {heads : List Head} {column : List ℕ} (w 
 
   pub stored_push : (new : List Head) (h : Head) (more : List ℕ) (start : ℕ) → begins_sequence t k ≡ true → h ≡ head_at t k start → start ≡ length column →
       new ≡ heads ++ h ∷ [] → more ≡ column ++ sequence_from t k → Stored t (k + 1) new more
-  stored_push new h more start b e s n m =
-      record {
-        heads_are = n
-            ∙ ap (λ (x : Head). heads ++ x ∷ []) (e ∙ ap (head_at t k) (s ∙ ap length w.column_is))
-            ∙ ap (λ (hs : List Head). hs ++ head_at t k (length (column_before t k)) ∷ []) w.heads_are
-            ∙ sym (heads_push t k b);
-        few = omega (arith, ap length n, length_push heads h, w.few);
-        column_is = m ∙ ap (λ (ps : List ℕ). ps ++ sequence_from t k) w.column_is ∙ sym (column_push t k b);
-      }
+  stored_push new h more start b e s n m = grind (arith, heads_push, length_push, column_push)
 
   pub stored_same : (new : List Head) (more : List ℕ) → begins_sequence t k ≡ false → new ≡ heads → more ≡ column → Stored t (k + 1) new more
-  stored_same new more b n m =
-      record {
-        heads_are = n ∙ w.heads_are ∙ sym (heads_same t k b);
-        few = omega (arith, ap length n, w.few);
-        column_is = m ∙ w.column_is ∙ sym (column_same t k b);
-      }
+  stored_same new more b n m = grind (arith, heads_same, column_same)
 
 -- what is stored at the fronts of two columns
 module _ (t : LeveledView) (k count end : ℕ) (heads : List Head) (column : List ℕ) (w : Stored t k (take count heads) (take end column)) (c : count ≤ length heads) (e : end ≤ length column) where
@@ -64,17 +50,7 @@ module _ {t : LeveledView} {k : ℕ} {heads : List Head} {column : List ℕ} {la
   last_more = let one : k + 1 ≡ suc k = omega arith in ap (last_remaining t) one
 
   pub head_walk_here : remains t k ≡ true → HeadWalk t (k + 1) new more (Some k)
-  head_walk_here r =
-      record {
-        stored = d;
-        last_is = sym (last_more ∙ cond-true (remains t k) (Some k) (last_remaining t k) r);
-        last_within = omega arith;
-      }
+  head_walk_here r = grind (arith, cond-true)
 
   pub head_walk_same : remains t k ≡ false → HeadWalk t (k + 1) new more last
-  head_walk_same r =
-      record {
-        stored = d;
-        last_is = w.last_is ∙ sym (last_more ∙ cond-false (remains t k) (Some k) (last_remaining t k) r);
-        last_within = IfSome_then last w.last_within (λ q l. omega arith);
-      }
+  head_walk_same r = grind (arith, cond-false)

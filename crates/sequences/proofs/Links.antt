@@ -13,9 +13,7 @@ IsRising low high (p ∷ ps) = (low ≤ p) × (p < high) × IsRising (p + 1) hig
 rising_within : (low high : ℕ) (ps : List ℕ) → IsRising low high ps → (k : ℕ) → k < length ps → (low ≤ slice_index ps k) × (slice_index ps k < high)
 rising_within low high [] r k l = absurd (omega arith)
 rising_within low high (p ∷ ps) r zero l = (r.0, r.1)
-rising_within low high (p ∷ ps) r (suc k) l =
-    let w = rising_within (p + 1) high ps r.2 k (omega arith) in
-    (omega (arith, w.0, r.0), w.1)
+rising_within low high (p ∷ ps) r (suc k) l = grind (arith, rising_within (p + 1) high ps r.2 k)
 
 rising_order : (low high : ℕ) (ps : List ℕ) → IsRising low high ps → (j k : ℕ) → j < k → k < length ps → slice_index ps j < slice_index ps k
 rising_order low high [] r j k h l = absurd (omega arith)
@@ -88,9 +86,7 @@ module _ (next : ℕ → Option ℕ) (end : ℕ) (h : IsForward next end) where
   -- each position of a walk leads to the next one of it
   pub followed_chain : (p : ℕ) → p < end → (k : ℕ) → k < length (followed next end (Some p)) →
       next (slice_index (followed next end (Some p)) k) ≡ slice_get (followed next end (Some p)) (k + 1)
-  followed_chain p w k l =
-      let one : suc k ≡ k + 1 = omega arith in
-      chained end (Some p) (w, omega arith) k l ∙ ap (slice_get (followed next end (Some p))) one
+  followed_chain p w k l = grind (arith, chained)
 
 -- a walk along links
 pub linked-some : (links : List (Option ℕ)) (p : ℕ) → LinksForward links → p < length links →
@@ -110,8 +106,4 @@ module _ {links : List (Option ℕ)} {whole pushed : List ℕ} {at : Option ℕ}
   pushed_step p e = ap (linked links) e ∙ linked-some links p h (pushed_within p e)
 
   pub pushed_more : (p : ℕ) → at ≡ Some p → (more : List ℕ) → more ≡ pushed ++ p ∷ [] → (next : Option ℕ) → next ≡ link_at links p → IsPushed links whole more next
-  pushed_more p e more m next n =
-      rw (m, n) (record {
-        within = IfSome_then (link_at links p) (h p) (λ q v. v.1);
-        all = append_assoc pushed (p ∷ []) (linked links (link_at links p)) ∙ ap (λ (ps : List ℕ). pushed ++ ps) (sym (pushed_step p e)) ∙ w.all;
-      })
+  pushed_more p e more m next n = grind (arith, append_assoc, pushed_step)

@@ -1,4 +1,6 @@
 -- Each remaining position stands once in all sequences together.
+use Rattle.std.proofs.lemmas.Bool.Decides.{nat_tests}
+use Rattle.std.proofs.lemmas.Grind.{common_steps}
 use Rattle.std.specs.Prelude.{Option, Some, None, ℕ, zero, suc, Bool, true, false, not, ◌==◌, ◌+◌, ◌<◌, ◌≤◌, ◌≡◌, List, [], ◌∷◌, ◌++◌, cond, map, filter, IfSome, is_some, refl}
 use Rattle.std.specs.List.{flat_map, list_any}
 use Rattle.std.proofs.Common.{arith, ap, sym, ◌∙◌, subst, inl, inr}
@@ -70,9 +72,7 @@ abbrev held : LeveledView → ℕ → List ℕ → ℕ
 held t p xs = times (flat_map (sequence_from t) (filter (begins_sequence t) xs)) p
 
 held-begins : (t : LeveledView) (p x : ℕ) (xs : List ℕ) → begins_sequence t x ≡ true → held t p (x ∷ xs) ≡ times (sequence_from t x) p + held t p xs
-held-begins t p x xs b =
-    ap (λ (ys : List ℕ). times (flat_map (sequence_from t) ys) p) (cond-true (begins_sequence t x) (x ∷ filter (begins_sequence t) xs) (filter (begins_sequence t) xs) b)
-    ∙ times-append (sequence_from t x) (flat_map (sequence_from t) (filter (begins_sequence t) xs)) p
+held-begins t p x xs b = grind (arith, nat_tests, common_steps, cond-true, times-append)
 
 held-other : (t : LeveledView) (p x : ℕ) (xs : List ℕ) → begins_sequence t x ≡ false → held t p (x ∷ xs) ≡ held t p xs
 held-other t p x xs b =
@@ -91,12 +91,7 @@ module _ (t : LeveledView) (h : IsLeveled t) (n : IsNested t) where
       false≢true (sym (any_none (λ q. same_position (successor t q) (Some p)) 0 (size_of t) none q (omega arith) (omega arith)) ∙ same_to (successor t q) p e)
 
   leads_to_remaining : (x : ℕ) → IfSome (successor t x) (λ y. remains t y ≡ true)
-  leads_to_remaining x =
-      if_some (λ y. remains t y ≡ true) (successor t x) (λ y e.
-      elim (successor_cases t x y e) [
-        | inl a ↦ a.next.remains_there
-        | inr m ↦ ap is_some (sym (n.same_level x y m.matches)) ∙ successor_remains t x y e
-      ])
+  leads_to_remaining x = grind (arith, if_some, successor_cases, successor_remains)
 
   -- a removed position stands in no walk
   walk_removed : (p : ℕ) → remains t p ≡ false → (steps : ℕ) (from : Option ℕ) → IfSome from (λ x. remains t x ≡ true) →
@@ -104,12 +99,7 @@ module _ (t : LeveledView) (h : IsLeveled t) (n : IsNested t) where
   walk_removed p r zero from s = refl
   walk_removed p r (suc steps) None s = refl
   walk_removed p r (suc steps) (Some x) s =
-      omega (
-        arith,
-        times-cons x (followed (successor t) steps (successor t x)) p,
-        one_if-other x p (λ e. false≢true (sym r ∙ ap (remains t) (sym e) ∙ s)),
-        walk_removed p r steps (successor t x) (leads_to_remaining x),
-      )
+      grind (arith, times-cons, one_if-other, false≢true, leads_to_remaining, walk_removed p r steps)
 
   -- a position to which nothing leads stands in a walk only as its first
   walk_past : (p : ℕ) → ((q : ℕ) → successor t q ≡ Some p → ⊥) → (steps : ℕ) (from : Option ℕ) → (from ≡ Some p → ⊥) →
@@ -136,15 +126,7 @@ module _ (t : LeveledView) (h : IsLeveled t) (n : IsNested t) where
         one_if-other x q (λ same.
             let no : ◌≡◌ {A = Option ℕ} None (Some p) = sym s ∙ ap (successor t) same ∙ e in cc),
       )
-  walk_step p q e steps x (Some y) s ih =
-      let rest = ih y refl in
-      elim (cases_eq x q) [
-        | inl same ↦
-            let yp : y ≡ p = (let eq : ◌≡◌ {A = Option ℕ} (Some y) (Some p) = sym s ∙ ap (successor t) same ∙ e in cc) in
-            omega (arith, rest, one_if-same x q same, one_if-same y p yp)
-        | inr other ↦
-            omega (arith, rest, one_if-other x q other, one_if-other y p (λ yp. other (successor_once t h n x q p (s ∙ ap Some yp) e)))
-      ]
+  walk_step p q e steps x (Some y) s ih = grind (arith, one_if-same, one_if-other, successor_once)
 
   walk_led : (p q : ℕ) → successor t q ≡ Some p → (steps x : ℕ) → x < size_of t → size_of t ≤ x + steps →
       times (followed (successor t) steps (Some x)) p ≡ one_if x p + times (followed (successor t) steps (Some x)) q
