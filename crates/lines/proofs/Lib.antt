@@ -30,3 +30,6 @@ pub mod RunChains
 pub mod RunLinking
 pub mod RunWriting
 pub mod LineAlone
+pub mod ParagraphFound
+pub mod OrderAlone
+pub mod LineHeld

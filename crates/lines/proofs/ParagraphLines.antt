@@ -73,7 +73,7 @@ paragraph_from us start n below is some within =
     }
 
 -- no position of a line but its last separates
-joined_line : (own : List Class) (at : List ℕ) (start end p : ℕ) → EndsLineAt (begins_line own at) start end (length own) → start < p → p < end → is_separator (class_at own (p - 1)) ≡ false
+pub joined_line : (own : List Class) (at : List ℕ) (start end p : ℕ) → EndsLineAt (begins_line own at) start end (length own) → start < p → p < end → is_separator (class_at own (p - 1)) ≡ false
 joined_line own at start end p e low high =
     let off : (is_separator (class_at own (p - 1)) || is_break at p) ≡ false = sym (begins_later own at p (omega arith)) ∙ e.none p low high in
     let parts = or_parts (is_separator (class_at own (p - 1))) (is_break at p) off in

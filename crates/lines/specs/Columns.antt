@@ -18,10 +18,17 @@ paras_filled paragraphs columns = take paragraphs (boxed_slice_items columns.par
 abbrev pub levels_filled : ℕ → TextColumns → List (Option ℕ)
 levels_filled units columns = take units (boxed_slice_items columns.levels)
 
--- P1 to I2: the resolved levels of the first so many positions, before L1, which leaves those of a uniform text
+-- P1: the ends of the first so many paragraphs
+abbrev pub para_ends_filled : ℕ → TextColumns → List ℕ
+para_ends_filled paragraphs columns = take paragraphs (boxed_slice_items columns.para_ends)
+
+-- P1 to I2: the column with the resolved levels, before L1, which leaves those of a uniform text
+abbrev pub resolved_column : Bool → TextColumns → List (Option ℕ)
+resolved_column uniform columns = if uniform then boxed_slice_items columns.levels else boxed_slice_items columns.resolved
+
+-- those of the first so many positions
 abbrev pub resolved_filled : ℕ → Bool → TextColumns → List (Option ℕ)
-resolved_filled units uniform columns =
-    take units (if uniform then boxed_slice_items columns.levels else boxed_slice_items columns.resolved)
+resolved_filled units uniform columns = take units (resolved_column uniform columns)
 
 -- the bounds of lines, of this layout and of earlier ones
 abbrev pub bounds_in : LineColumns → List Bound
@@ -42,6 +49,7 @@ lines_filled filled columns = lines_in (orders_filled filled columns) (bounds_fi
 -- these are columns for a text of so many units: each has a place for each unit
 pub record IsTextRoom (columns : TextColumns) (units : ℕ) : Type 0 where
   pub paras : places_in columns.paras ≡ units
+  pub para_ends : places_in columns.para_ends ≡ units
   pub levels : places_in columns.levels ≡ units
   pub resolved : places_in columns.resolved ≡ units
 
@@ -54,6 +62,7 @@ pub record IsLineRoom (columns : LineColumns) (units : ℕ) : Type 0 where
 -- there is room for a text of so many units
 pub record HasTextRoom (columns : TextColumns) (units : ℕ) : Type 0 where
   pub paras : units ≤ places_in columns.paras
+  pub para_ends : units ≤ places_in columns.para_ends
   pub levels : units ≤ places_in columns.levels
   pub resolved : units ≤ places_in columns.resolved
 
@@ -66,6 +75,7 @@ pub record HasLineRoom (columns : LineColumns) (units : ℕ) : Type 0 where
 -- columns don't grow
 pub record KeepsTextRoom (old new : TextColumns) : Type 0 where
   pub paras : places_in new.paras ≡ places_in old.paras
+  pub para_ends : places_in new.para_ends ≡ places_in old.para_ends
   pub levels : places_in new.levels ≡ places_in old.levels
   pub resolved : places_in new.resolved ≡ places_in old.resolved
 

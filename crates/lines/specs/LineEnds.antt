@@ -1,5 +1,5 @@
 -- Where lines end: at breaks, and with their paragraphs (P1).
-use Rattle.std.specs.Prelude.{ℕ, ◌+◌, ◌-◌, ◌<◌, ◌≤◌, ◌≡◌, Bool, true, false, List, length, slice_index}
+use Rattle.std.specs.Prelude.{ℕ, zero, suc, ◌+◌, ◌-◌, ◌<◌, ◌≤◌, ◌≡◌, Bool, true, false, List, length, slice_index}
 use Rattle.units.specs.Classes.{class_at, classes_of, is_separator}
 use Rattle.units.specs.Reordering.{begins_line}
 use Rattle.units.specs.declared.bracket.Unit.{Unit as BidiUnit}
@@ -13,6 +13,20 @@ pub record IsParagraphAt (own : List Class) (start end : ℕ) : Type 0 where
   pub within : end ≤ length own
   pub joined : (p : ℕ) → start < p → p < end → is_separator (class_at own (p - 1)) ≡ false
   pub closed : end < length own → is_separator (class_at own (end - 1)) ≡ true
+
+-- P1: where the paragraph with the number k begins, by where the paragraphs end
+abbrev pub paragraph_start : List ℕ → ℕ → ℕ
+paragraph_start ends zero = 0
+paragraph_start ends (suc k) = slice_index ends k
+
+-- each is above the ones before
+abbrev pub Rises : List ℕ → Type 0
+Rises ends = (j k : ℕ) → j < k → k < length ends → slice_index ends j < slice_index ends k
+
+-- P1: these are the ends of the paragraphs of the text, one after another up to the position
+pub record AreParagraphEnds (own : List Class) (ends : List ℕ) (position : ℕ) : Type 0 where
+  pub each : (k : ℕ) → k < length ends → IsParagraphAt own (paragraph_start ends k) (slice_index ends k)
+  pub last : paragraph_start ends (length ends) ≡ position
 
 -- the line from start on ends where the next one begins, or at the stop
 pub record EndsLineAt (test : ℕ → Bool) (start end stop : ℕ) : Type 0 where
@@ -32,6 +46,10 @@ pub record AreLineEnds (own : List Class) (breaks : List ℕ) (lines position : 
   pub cut : (k : ℕ) → k < lines →
       EndsLineAt (begins_line own breaks) (bound_at bounds k).position (bound_at bounds (k + 1)).position (length own)
   pub last : (bound_at bounds lines).position ≡ position
+
+-- P1: the ends of all paragraphs of the text
+abbrev pub AreAllParagraphEnds : List BidiUnit → List ℕ → Type 0
+AreAllParagraphEnds text ends = AreParagraphEnds (classes_of text) ends (length text)
 
 -- the ends of all lines of the text
 abbrev pub AreAllLineEnds : List BidiUnit → List ℕ → ℕ → List Bound → Type 0

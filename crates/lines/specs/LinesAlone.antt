@@ -1,11 +1,14 @@
 -- One line of a text alone.
-use Rattle.std.specs.Prelude.{ℕ, ◌+◌, ◌<◌, ◌≡◌, false, List, length, map}
+use Rattle.std.specs.Prelude.{ℕ, ◌+◌, ◌<◌, ◌≤◌, ◌≡◌, true, false, Option, List, [], ◌∷◌, length, map, slice_range, take, count_by}
 use Rattle.units.specs.Classes.{class_at, classes_of, is_separator}
 use Rattle.units.specs.Isolates.{level_of_para}
-use Rattle.units.specs.Reordering.{begins_line, para_level_at}
+use Rattle.units.specs.Layout.{TextLayout}
+use Rattle.units.specs.Reordering.{begins_line, line_order, para_level_at}
 use Rattle.units.specs.declared.bracket.Unit.{Unit as BidiUnit}
 use Rattle.units.specs.declared.level.ParaLevel.{ParaLevel}
 use Rattle.lines.specs.LineEnds.{EndsLineAt}
+use Rattle.lines.specs.declared.alone.SpanFault.{SpanFault}
+use Rattle.lines.specs.declared.alone.SpanFault.TheVariants.{NotForward, BeyondText, CrossesParagraph}
 
 -- broken at these positions the text has a line from start up to end
 abbrev pub IsLineIn : List BidiUnit → List ℕ → ℕ → ℕ → Type 0
@@ -19,3 +22,31 @@ IsWithinParagraph text start end =
 -- P2, P3: the paragraph in which the position lies has this level
 abbrev pub HasParaLevel : List BidiUnit → List ParaLevel → ℕ → ℕ → Type 0
 HasParaLevel text paras position level = level ≡ para_level_at (classes_of text) (map level_of_para paras) position
+
+-- a break at the start of a line, and one at its end
+abbrev pub breaks_around : ℕ → ℕ → List ℕ
+breaks_around start end = start ∷ end ∷ []
+
+-- P1: it is a line of the text, if that is broken there, and lies in the paragraph with this number
+pub record IsLineOfParagraph (text : List BidiUnit) (ends : List ℕ) (start end number : ℕ) : Type 0 where
+  pub inside : number < length ends
+  pub counted : number ≡ count_by is_separator (take start (classes_of text))
+  pub line : IsLineIn text (breaks_around start end) start end
+
+-- L1, L2: the levels and the order of the line from start up to end, in the layout of its text
+pub record IsLineLaidOut (layout : TextLayout) (start end : ℕ) (levels : List (Option ℕ)) (order : List ℕ) : Type 0 where
+  pub leveled : levels ≡ slice_range layout.levels start end
+  pub ordered : order ≡ line_order layout.levels start end
+
+-- P1: a separator stands between the two, and not in last place
+pub record SeparatesWithin (text : List BidiUnit) (start end : ℕ) : Type 0 where
+  pub at : ℕ
+  pub from : start ≤ at
+  pub before : at + 1 < end
+  pub separates : is_separator (class_at (classes_of text) at) ≡ true
+
+-- no line of the text goes from start up to end, for this reason; where there are several it is the first
+abbrev pub RefusesSpan : List BidiUnit → ℕ → ℕ → SpanFault → Type 0
+RefusesSpan text start end NotForward = end ≤ start
+RefusesSpan text start end BeyondText = (start < end) × (length text < end)
+RefusesSpan text start end CrossesParagraph = (start < end) × (end ≤ length text) × SeparatesWithin text start end

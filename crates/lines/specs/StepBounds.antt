@@ -61,3 +61,16 @@ light_breaking_steps = cutting_steps + light_line_steps
 -- L1 and L2 at least, where a text is broken anew: the ends of its paragraphs are looked for, and the order is written
 abbrev pub least_breaking_steps : ℕ
 least_breaking_steps = 1 + 1
+
+-- where one line alone is laid out: what a search through the paragraphs of its text counts as
+abbrev pub search_steps : ℕ
+search_steps = 25
+
+-- L1 and L2 of one line alone at most, besides that: its levels before L1 are copied, and its order is moved to where the
+-- line begins
+abbrev pub line_alone_steps : ℕ
+line_alone_steps = 1 + 1 + order_steps + 1
+
+-- and at least: they are copied, reset, and put in order
+abbrev pub least_line_alone_steps : ℕ
+least_line_alone_steps = 1 + 1 + 1

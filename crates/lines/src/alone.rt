@@ -1,17 +1,75 @@
 //! One line of a text alone, at the cost of that line.
-ghost use Rattle.std.specs.Prelude.{◌≡◌, ◌<◌, ◌≤◌, ◌+◌, ◌-◌, length, slice_range, List, Option, ℕ};
-ghost use Rattle.units.specs.Classes.{classes_of};
+ghost use Rattle.std.specs.Prelude.{◌≡◌, ◌<◌, ◌≤◌, ◌+◌, ◌-◌, ◌*◌, ◌^◌, MatchResult, length, map, slice_range, take, List, Option, ℕ};
+ghost use Rattle.std.specs.List.{All, AllWithin};
 ghost use Rattle.units.specs.Isolates.{level_of_para};
 ghost use Rattle.units.specs.declared.level.ParaLevel.{ParaLevel as Para};
-ghost use Rattle.lines.specs.LinesAlone.{HasParaLevel, IsLineIn, IsWithinParagraph};
+ghost use Rattle.units.specs.Reordering.{line_order};
+ghost use Rattle.lines.specs.LineEnds.{AreAllParagraphEnds, Rises};
+ghost use Rattle.lines.specs.LinesAlone.{HasParaLevel, IsLineIn, IsLineOfParagraph, IsWithinParagraph, RefusesSpan};
+ghost use Rattle.lines.specs.StepBounds.{order_steps, search_steps};
 ghost use Rattle.lines.specs.Spaces.{levels_reset};
 
 use crate::breaks::Breaks;
+use crate::order::write_order;
 use crate::resets::reset_text;
+use crate::runs::Run;
+use crate::spans::LineSpan;
 use std::sync::ledger::Ledger;
 use units::bracket::Unit;
 use units::level::{Level, ParaLevel};
 use units::steps::Steps;
+
+/// Why no line goes from one position of a text up to another; where there are several reasons it is the first.
+#[derive(Clone, Copy, Debug, PartialEq, Eq)]
+pub enum SpanFault {
+    /// It does not start below its end.
+    NotForward,
+    /// It ends behind the text.
+    BeyondText,
+    /// A paragraph ends within it, before its last position.
+    CrossesParagraph,
+}
+
+/// As how many steps a search through the paragraphs of a text counts: it takes no more where there are 2^24.
+const SEARCH_STEPS: usize = 25;
+
+/// How many of the ends of paragraphs are not above the position.
+fn count_up_to(ends: &[u32], position: usize) -> usize
+    requires { Rises ends.now }
+    ensures bound { result ≤ length ends.now }
+    ensures below { AllWithin (λ end. end ≤ position) ends.now 0 result }
+    ensures above { AllWithin (λ end. position < end) ends.now result (length ends.now) }
+{
+    ends.partition_point(|end| *end as usize <= position)
+}
+
+/// The number of the paragraph (P1) that the line from `start` up to `end` lies in; `ends` are those of the text's
+/// paragraphs.
+pub(crate) fn paragraph_of_line<L: Ledger>(
+    text: &[Unit],
+    ends: &[u32],
+    start: usize,
+    end: usize,
+    steps: &mut Steps<L>,
+) -> Result<usize, SpanFault>
+    requires { AreAllParagraphEnds text.now ends.now }
+    ensures line { MatchResult result (IsLineOfParagraph text.now ends.now start end) (RefusesSpan text.now start end) }
+    ensures at_least { steps.old ≤ steps.new }
+    ensures at_most { steps.new ≤ steps.old + search_steps }
+{
+    if start >= end {
+        return Err(SpanFault::NotForward);
+    }
+    if text.len() < end {
+        return Err(SpanFault::BeyondText);
+    }
+    steps.add(SEARCH_STEPS);
+    let paragraph = count_up_to(ends, start);
+    if (ends[paragraph] as usize) < end {
+        return Err(SpanFault::CrossesParagraph);
+    }
+    Ok(paragraph)
+}
 
 /// Gives separators, and white space and isolate formatting characters before them or at the line's end, the level of
 /// their paragraph (L1), in one line of a text alone.
@@ -41,4 +99,43 @@ pub fn reset_line<L: Ledger>(
     let line = &text[start..end];
     let breaks = Breaks::new(&[], line.len()).unwrap();
     reset_text(line, &breaks, &[level], levels, steps);
+}
+
+/// Moves positions of a line to where they stand in its text, which the line begins in at `start`, a step for each.
+fn move_to<L: Ledger>(start: usize, places: &mut [usize], steps: &mut Steps<L>)
+    requires { All (λ p. start + p < 2 ^ 64) places.old }
+    ensures moved { places.new ≡ map (λ p. start + p) places.old }
+    ensures steps { steps.new ≡ steps.old + length places.old }
+{
+    steps.add(places.len());
+    for place in places.iter_mut() {
+        *place += start;
+    }
+}
+
+/// Writes the order (L2) of a line that begins at `start` to the front of `order`, by its own levels alone. It answers
+/// how many positions it has.
+pub(crate) fn write_order_alone<L: Ledger>(
+    start: usize,
+    levels: &[Option<Level>],
+    runs: &mut [Run],
+    order: &mut [usize],
+    steps: &mut Steps<L>,
+) -> usize
+    requires small { start + length levels.now < 2 ^ 32 }
+    requires runs { length levels.now ≤ length runs.old }
+    requires room { length levels.now ≤ length order.old }
+    ensures order { take result order.new ≡ map (λ p. start + p) (line_order levels.now 0 (length levels.now)) }
+    ensures count { result ≤ length levels.now }
+    ensures at_least { steps.old + length levels.now ≤ steps.new }
+    ensures at_most { steps.new ≤ steps.old + (order_steps + 1) * length levels.now }
+{
+    let line = LineSpan {
+        levels,
+        start: 0,
+        end: levels.len(),
+    };
+    let count = write_order(line, None, runs, order, steps);
+    move_to(start, &mut order[..count], steps);
+    count
 }

@@ -32,18 +32,20 @@ fn copy_levels<L: Ledger>(
     column[..levels.len()].copy_from_slice(levels);
 }
 
-/// The columns of a text: the levels of its paragraphs, and the levels of its positions, after L1 and before it. Those
-/// before it are kept apart only where L1 may change some.
+/// The columns of a text: the levels of its paragraphs and where they end, and the levels of its positions, after L1 and
+/// before it. Those before it are kept apart only where L1 may change some.
 #[derive(Drop)]
 pub(crate) struct TextColumns {
     pub(crate) paras: BoxedSlice<ParaLevel>,
+    pub(crate) para_ends: BoxedSlice<u32>,
     pub(crate) levels: BoxedSlice<Option<Level>>,
     resolved: BoxedSlice<Option<Level>>,
 }
 
 impl TextColumns {
-    ghost use Rattle.std.specs.Prelude.{◌≡◌, ◌≤◌, ◌+◌, IfOk, IsTrue};
-    ghost use Rattle.lines.specs.Columns.{levels_filled, resolved_filled, HasTextRoom, IsTextRoom, KeepsTextRoom};
+    ghost use Rattle.std.specs.Prelude.{◌≡◌, ◌≤◌, ◌+◌, ◌-◌, IfOk, IsTrue, length, slice_range};
+    ghost use Rattle.lines.specs.Columns.{levels_filled, resolved_column, resolved_filled};
+    ghost use Rattle.lines.specs.Columns.{HasTextRoom, IsTextRoom, KeepsTextRoom};
 
     /// Columns of `n` places.
     pub(crate) fn with_room(alloc: Global, n: usize) -> Result<TextColumns, Memory>
@@ -51,6 +53,7 @@ impl TextColumns {
     {
         Ok(TextColumns {
             paras: column(alloc, ParaLevel::Zero, n)?,
+            para_ends: column(alloc, 0, n)?,
             levels: column(alloc, None, n)?,
             resolved: column(alloc, None, n)?,
         })
@@ -67,6 +70,7 @@ impl TextColumns {
         requires { HasTextRoom self.old units }
         ensures room { KeepsTextRoom self.old self.new }
         ensures paras { self.new.paras ≡ self.old.paras }
+        ensures para_ends { self.new.para_ends ≡ self.old.para_ends }
         ensures levels { self.new.levels ≡ self.old.levels }
         ensures resolved { resolved_filled units uniform self.new ≡ levels_filled units self.old }
         ensures at_least { steps.old ≤ steps.new }
@@ -89,6 +93,7 @@ impl TextColumns {
         requires { HasTextRoom self.old units }
         ensures room { KeepsTextRoom self.old self.new }
         ensures paras { self.new.paras ≡ self.old.paras }
+        ensures para_ends { self.new.para_ends ≡ self.old.para_ends }
         ensures kept { self.new.resolved ≡ self.old.resolved }
         ensures levels { levels_filled units self.new ≡ resolved_filled units uniform self.old }
         ensures resolved { resolved_filled units uniform self.new ≡ resolved_filled units uniform self.old }
@@ -100,6 +105,29 @@ impl TextColumns {
             return;
         }
         copy_levels(&self.resolved[..units], &mut self.levels, steps);
+    }
+
+    /// Copies the levels of the positions from `start` up to `end`, as they are before L1, to a line of its own, a step
+    /// for each.
+    pub(crate) fn copy_line<L: Ledger>(
+        &self,
+        start: usize,
+        end: usize,
+        uniform: bool,
+        line: &mut [Option<Level>],
+        steps: &mut Steps<L>,
+    )
+        requires room { HasTextRoom self.now end }
+        requires forward { start ≤ end }
+        requires line { length line.old ≡ end - start }
+        ensures copied { line.new ≡ slice_range (resolved_column uniform self.now) start end }
+        ensures steps { steps.new ≡ steps.old + (end - start) }
+    {
+        if uniform {
+            copy_levels(&self.levels[start..end], line, steps);
+            return;
+        }
+        copy_levels(&self.resolved[start..end], line, steps);
     }
 }
 

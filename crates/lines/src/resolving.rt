@@ -2,9 +2,9 @@
 ghost use Rattle.std.specs.Prelude.{◌≡◌, ◌<◌, ◌≤◌, ◌+◌, ◌*◌, ◌^◌, length, map, true};
 ghost use Rattle.units.specs.Isolates.{level_of_para};
 ghost use Rattle.units.specs.Layout.{para_levels_of, text_levels};
-ghost use Rattle.lines.specs.Columns.{levels_filled, paras_filled, HasTextRoom, KeepsTextRoom};
+ghost use Rattle.lines.specs.Columns.{levels_filled, para_ends_filled, paras_filled, HasTextRoom, KeepsTextRoom};
 ghost use Rattle.lines.specs.Kept.{keeps_levels};
-ghost use Rattle.lines.specs.LineEnds.{AreAllLineEnds};
+ghost use Rattle.lines.specs.LineEnds.{AreAllLineEnds, AreAllParagraphEnds};
 ghost use Rattle.lines.specs.Spaces.{StaysAtParas};
 ghost use Rattle.lines.specs.StepBounds.{light_text_steps, text_steps};
 
@@ -32,9 +32,9 @@ pub struct ResolvedText {
     pub uniform: bool,
 }
 
-/// Writes the levels of a text's paragraphs and the resolved levels of its positions to the fronts of their columns,
-/// paragraph by paragraph, by these limits; and the ends of its lines, of which one is at the end of each paragraph, to
-/// the front of `bounds`.
+/// Writes the levels of a text's paragraphs, their ends and the resolved levels of its positions to the fronts of their
+/// columns, paragraph by paragraph, by these limits; and the ends of its lines, of which one is at the end of each
+/// paragraph, to the front of `bounds`.
 pub(crate) fn resolve_text<L: Ledger>(
     text: &[Unit],
     direction: Direction,
@@ -54,6 +54,7 @@ pub(crate) fn resolve_text<L: Ledger>(
     ensures room { KeepsTextRoom columns.old columns.new }
     ensures paras { map level_of_para (paras_filled result.paragraphs columns.new)
         ≡ para_levels_of text.now direction }
+    ensures para_ends { AreAllParagraphEnds text.now (para_ends_filled result.paragraphs columns.new) }
     ensures few { result.paragraphs ≤ length text.now }
     ensures levels { levels_filled (length text.now) columns.new ≡ text_levels limits text.now direction }
     ensures ends { AreAllLineEnds text.now breaks.now.positions result.lines bounds.new }
@@ -67,6 +68,7 @@ pub(crate) fn resolve_text<L: Ledger>(
     ensures light { result.uniform ≡ true → steps.new ≤ steps.old + light_text_steps * length text.now }
 {
     let paras: &mut [ParaLevel] = &mut columns.paras;
+    let para_ends: &mut [u32] = &mut columns.para_ends;
     let levels: &mut [Option<Level>] = &mut columns.levels;
     let at = breaks.positions();
     let mut cut = start_cut(bounds);
@@ -91,6 +93,7 @@ pub(crate) fn resolve_text<L: Ledger>(
             steps,
         );
         paras[paragraphs] = resolved.level;
+        para_ends[paragraphs] = end as u32;
         uniform &= resolved.uniform;
         paragraphs += 1;
         start = end;

@@ -15,9 +15,10 @@ use Rattle.paragraph.specs.Contents.{keeps_level}
 use Rattle.lines.specs.Kept.{keeps_levels, keeps_own_level}
 use Rattle.lines.proofs.AtParas.{all_stay, text_at_paras}
 use Rattle.lines.specs.LineBreaks.{AreBreaks}
-use Rattle.lines.specs.LineEnds.{AreLineEnds, ArePassed}
+use Rattle.lines.specs.LineEnds.{AreLineEnds, AreParagraphEnds, ArePassed}
 use Rattle.lines.proofs.LineEnds.{ends_none}
 use Rattle.lines.proofs.NextLine.{passed_none}
+use Rattle.lines.proofs.ParagraphFound.{paragraph_ends_more, paragraph_ends_none}
 use Rattle.lines.proofs.ParagraphLines.{paragraph_from}
 use Rattle.lines.proofs.TextLevels.{IsWritten, written_none, separator_last, written_to, written_paras, written_levels}
 use Rattle.lines.proofs.resolving.resolve_text.Goals as goal
@@ -39,6 +40,7 @@ loop-start-init g c = record {
   ends =
       subst (λ n. AreLineEnds (classes_of c.args.text.now) c.positions-at.result.now n 0 c.start_cut-cut.new.bounds) (sym c.start_cut-cut.ensures.lines)
       (ends_none (classes_of c.args.text.now) c.positions-at.result.now c.start_cut-cut.new.bounds c.start_cut-cut.ensures.first);
+  para_ends = paragraph_ends_none (classes_of c.args.text.now);
   few_passed = omega (arith, c.start_cut-cut.ensures.passed);
   few_lines = omega (arith, c.start_cut-cut.ensures.lines);
   few = omega arith;
@@ -84,6 +86,8 @@ loop-start-preserved g c =
     let w : P (para ∷ paragraphs_of (drop end text)) = subst P split l.invariant.written in
     let room : l.paragraphs < length l.paras = omega (arith, l.auto.paras, l.invariant.few, ap length c.deref_mut-paras.ensures.value, c.requires.room.paras) in
     let keeps : List BidiUnit → Bool = keeps_own_level direction in
+    let ends_room : l.paragraphs < length l.para_ends = omega (arith, l.auto.para_ends, l.invariant.few, ap length c.deref_mut-para_ends.ensures.value, c.requires.room.para_ends) in
+    let next = paragraph_from text l.start n c.loop-start-test.true (c.of-first.ensures.first.length ∙ ap first_length (take_rest text l.start)) some within in
     record {
       written =
           rw (take_more_set l.paras l.paragraphs known.result.level room)
@@ -98,8 +102,8 @@ loop-start-preserved g c =
       passed = c.cut_paragraph-cut.ensures.passed;
       ends =
           c.cut_paragraph-cut.ensures.ends (classes_of text) (length-map text (λ u. u.class))
-          (paragraph_from text l.start n c.loop-start-test.true (c.of-first.ensures.first.length ∙ ap first_length (take_rest text l.start)) some within)
-          l.invariant.ends;
+          next l.invariant.ends;
+      para_ends = rw (take_more_set l.para_ends l.paragraphs end ends_room) (paragraph_ends_more (classes_of text) (take l.paragraphs l.para_ends) l.start end l.invariant.para_ends next);
       few_passed = c.cut_paragraph-cut.ensures.few_passed;
       few_lines = omega (arith, c.cut_paragraph-cut.ensures.few_lines);
       few = omega (arith, l.invariant.few);
@@ -135,3 +139,12 @@ returns-clause-uniform g c = λ e.
     let as_levels : length l.levels ≡ room.levels.items.len = search rules in
     rw (with_items_is room.paras.items l.paras as_paras, with_items_is room.levels.items l.levels as_levels, written_paras w, written_levels w)
     (text_at_paras c.args.limits direction text (all_stay c.args.limits direction (paragraphs_of text) (sym (known_whole text direction l.start l.uniform done l.invariant.known) ∙ e)))
+
+pub returns-clause-para_ends : goal.returns-clause-para_ends
+returns-clause-para_ends g c =
+    let l = c.loop-start in
+    let room = c.args.columns.now in
+    let done : l.start ≡ length c.args.text.now = omega arith in
+    let as_ends : length l.para_ends ≡ room.para_ends.items.len = search rules in
+    rw (with_items_is room.para_ends.items l.para_ends as_ends)
+    (subst (AreParagraphEnds (classes_of c.args.text.now) (take l.paragraphs l.para_ends)) done l.invariant.para_ends)

@@ -4,7 +4,7 @@ use Rattle.std.specs.List.{list_all}
 use Rattle.units.specs.Classes.{classes_of}
 use Rattle.units.specs.Paragraphs.{paragraphs_of}
 use Rattle.lines.specs.Kept.{keeps_levels, keeps_own_level}
-use Rattle.lines.specs.LineEnds.{AreLineEnds, ArePassed}
+use Rattle.lines.specs.LineEnds.{AreLineEnds, AreParagraphEnds, ArePassed}
 use Rattle.lines.specs.StepBounds.{light_text_steps, text_steps}
 use Rattle.lines.proofs.TextLevels.{IsWritten}
 use Rattle.lines.proofs.resolving.resolve_text.Given as goal
@@ -15,6 +15,7 @@ invariant-loop-start g l = record {
   known : (l.uniform && list_all (keeps_own_level l.direction) (paragraphs_of (drop l.start l.text))) ≡ keeps_levels l.text l.direction;
   passed : ArePassed l.at l.cut.passed l.start;
   ends : AreLineEnds (classes_of l.text) l.at l.cut.lines l.start l.bounds;
+  para_ends : AreParagraphEnds (classes_of l.text) (take l.paragraphs l.para_ends) l.start;
   few_passed : l.cut.passed ≤ l.start;
   few_lines : l.cut.lines ≤ l.start;
   few : l.paragraphs ≤ l.start;

@@ -1,4 +1,4 @@
-use Rattle.std.proofs.Common.{rules, ap, sym, ◌∙◌, ◌≡◌, ℕ, List, Option, length, map, take}
+use Rattle.std.proofs.Common.{rules, ap, subst, sym, ◌∙◌, ◌≡◌, ℕ, List, Option, length, map, take}
 use Rattle.std.specs.Box.{boxed_slice_items}
 use Rattle.std.proofs.lemmas.List.{with_items_is}
 use Rattle.units.specs.Classes.{classes_of}
@@ -7,6 +7,7 @@ use Rattle.units.specs.Layout.{para_levels_of, text_levels}
 use Rattle.units.specs.Paragraphs.{paragraphs_of}
 use Rattle.units.specs.Reordering.{after_resets}
 use Rattle.lines.specs.Columns.{levels_filled, lines_filled, paras_filled, resolved_filled}
+use Rattle.lines.specs.LineEnds.{AreAllParagraphEnds}
 use Rattle.lines.proofs.AtParas.{all_stay, text_at_paras}
 use Rattle.lines.proofs.KeptResolved.{resolved_stay}
 use Rattle.lines.proofs.TextLevels.{laid_out}
@@ -68,6 +69,7 @@ returns-clause-holds g c = λ limits direction held.
     let levels_are = with_items_is column filled.new.levels as_levels in
     record {
       units = held.units;
+      ends = subst (λ column. AreAllParagraphEnds c.args.text.now (take room.used.paragraphs (boxed_slice_items column))) (sym restored.ensures.para_ends) held.ends;
       paras = ap (λ ps. map level_of_para (take room.used.paragraphs (boxed_slice_items ps))) restored.ensures.paras ∙ held.paras;
       levels =
           rw (held.units, levels_are)

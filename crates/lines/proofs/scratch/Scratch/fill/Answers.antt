@@ -1,10 +1,11 @@
-use Rattle.std.proofs.Common.{rules, ap, refl, ◌∙◌, ◌≡◌, List, ℕ, length, map, take}
+use Rattle.std.proofs.Common.{rules, ap, refl, subst, sym, ◌∙◌, ◌≡◌, List, ℕ, length, map, take}
 use Rattle.std.specs.Box.{boxed_slice_items}
 use Rattle.std.proofs.lemmas.List.{with_items_is}
 use Rattle.units.specs.Classes.{classes_of}
 use Rattle.units.specs.Isolates.{level_of_para}
 use Rattle.units.specs.Reordering.{after_resets}
 use Rattle.lines.specs.Columns.{levels_filled, lines_filled, paras_filled}
+use Rattle.lines.specs.LineEnds.{AreAllParagraphEnds}
 use Rattle.lines.proofs.KeptResolved.{resolved_stay}
 use Rattle.lines.proofs.TextLevels.{laid_out}
 use Rattle.lines.proofs.scratch.Scratch.fill.Goals as goal
@@ -39,6 +40,7 @@ returns-clause-holds g c =
     let levels_are = with_items_is column filled.new.levels as_levels in
     record {
       units = refl;
+      ends = subst (λ column. AreAllParagraphEnds c.args.text.now (take found.result.paragraphs (boxed_slice_items column))) (sym kept.ensures.para_ends) found.ensures.para_ends;
       paras = ap (λ ps. map level_of_para (take found.result.paragraphs (boxed_slice_items ps))) kept.ensures.paras ∙ found.ensures.paras;
       levels =
           rw levels_are

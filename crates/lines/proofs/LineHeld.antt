@@ -1,0 +1,58 @@
+-- One line of a text whose resolved levels are held.
+use Rattle.std.proofs.Common.{◌≡◌, ℕ, ◌+◌, ◌-◌, ◌<◌, ◌≤◌, false, Option, List, [], length, take, drop, sym, ap, ◌∙◌, arith}
+use Rattle.std.specs.Prelude.{map, slice_range, slice_index_or, count_by}
+use Rattle.std.proofs.lemmas.List.{get_or-take, length-take-le, take-take}
+use Rattle.std.proofs.lemmas.Slice.{between_is}
+use Rattle.units.specs.Classes.{class_at, classes_of, is_separator}
+use Rattle.units.specs.Isolates.{level_of_para}
+use Rattle.units.specs.Layout.{layout_of, para_levels_of, text_levels}
+use Rattle.units.specs.Limits.{LimitsOf}
+use Rattle.units.specs.Reordering.{after_resets, line_order, para_level_at}
+use Rattle.units.specs.declared.bracket.Unit.{Unit as BidiUnit}
+use Rattle.units.specs.declared.class.Class.{Class}
+use Rattle.units.specs.declared.level.Direction.{Direction}
+use Rattle.units.specs.declared.level.ParaLevel.{ParaLevel}
+use Rattle.units.specs.declared.level.ParaLevel.TheVariants.{Zero}
+use Rattle.lines.specs.LinesAlone.{IsLineIn, IsLineLaidOut}
+use Rattle.lines.specs.Spaces.{levels_reset}
+use Rattle.lines.proofs.Lengths.{length-levels}
+use Rattle.lines.proofs.OrderAlone.{order_alone}
+use Rattle.lines.proofs.ParagraphLines.{joined_line, para_read}
+use Rattle.lines.proofs.TextEnd.{length-after_resets}
+
+-- no paragraph ends within a line
+pub plain_line : (text : List BidiUnit) (at : List ℕ) (start end p : ℕ) → IsLineIn text at start end → start < p + 1 → p + 1 < end → is_separator (class_at (classes_of text) p) ≡ false
+plain_line text at start end p line low high =
+    let e : p ≡ p + 1 - 1 = omega arith in
+    ap (λ q. is_separator (class_at (classes_of text) q)) e ∙ joined_line (classes_of text) at start end (p + 1) line low high
+
+-- the level of the paragraph with a number, among those that are in use
+pub para_held : (text : List BidiUnit) (paras : List ParaLevel) (used start number : ℕ) (level : ParaLevel) → level ≡ slice_index_or paras number Zero → number ≡ count_by is_separator (take start (classes_of text)) → number < used → used ≤ length paras → level_of_para level ≡ para_level_at (classes_of text) (map level_of_para (take used paras)) start
+para_held text paras used start number level read counted low within =
+    ap level_of_para (read ∙ sym (get_or-take used paras number Zero low))
+    ∙ para_read (classes_of text) (take used paras) start number counted (omega (arith, length-take-le used paras within))
+
+-- a stretch of what is in use is one of the whole
+pub range_held : {X : Type 0} (xs : List X) (used start end : ℕ) → end ≤ used → slice_range (take used xs) start end ≡ slice_range xs start end
+range_held xs used start end within =
+    between_is (take used xs) start end ∙ ap (drop start) (take-take end used xs within) ∙ sym (between_is xs start end)
+
+pub length-text_levels : (limits : LimitsOf) (text : List BidiUnit) (direction : Direction) → length (text_levels limits text direction) ≡ length text
+unfolding layout_of
+length-text_levels limits text direction =
+    sym (length-after_resets (classes_of text) [] (para_levels_of text direction) (text_levels limits text direction))
+    ∙ length-levels limits text direction []
+
+-- what L1 makes of the line's levels, and L2 of these, is the line in the text's layout
+pub line_laid_out : (limits : LimitsOf) (text : List BidiUnit) (direction : Direction) (breaks : List ℕ) (paras : List ParaLevel) (start end : ℕ) (levels : List (Option ℕ)) (order : List ℕ) → map level_of_para paras ≡ para_levels_of text direction → start ≤ end → end ≤ length text → levels ≡ slice_range (levels_reset text breaks paras (text_levels limits text direction)) start end → order ≡ map (λ p. start + p) (line_order levels 0 (length levels)) → IsLineLaidOut (layout_of limits text direction breaks) start end levels order
+unfolding layout_of
+line_laid_out limits text direction breaks paras start end levels order same forward within reset ordered =
+    let own : List Class = classes_of text in
+    let whole : List (Option ℕ) = after_resets own breaks (para_levels_of text direction) (text_levels limits text direction) in
+    let is : levels ≡ slice_range whole start end =
+    reset ∙ ap (λ ns. slice_range (after_resets own breaks ns (text_levels limits text direction)) start end) same in
+    let long : length whole ≡ length text = length-levels limits text direction breaks in
+    record {
+      leveled = is;
+      ordered = ordered ∙ order_alone whole levels start end is forward (omega (arith, long, within));
+    }

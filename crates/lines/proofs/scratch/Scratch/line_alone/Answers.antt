@@ -1,0 +1,60 @@
+use Rattle.std.proofs.Common.{◌≡◌, ◌<◌, ◌≤◌, ◌-◌, ◌++◌, ◌∙◌, ℕ, List, Option, ap, arith, drop, length, sym, take}
+use Rattle.std.specs.Box.{boxed_slice_items}
+use Rattle.std.specs.Prelude.{slice_index_or, slice_range}
+use Rattle.std.proofs.lemmas.List.{drop_at, get_or_read, length-map, length-take-le, take-append-le, take_all}
+use Rattle.units.specs.Layout.{text_levels}
+use Rattle.units.specs.declared.level.ParaLevel.TheVariants.{Zero}
+use Rattle.lines.specs.Columns.{resolved_column}
+use Rattle.lines.specs.LinesAlone.{breaks_around}
+use Rattle.lines.specs.Scratches.{paras_in}
+use Rattle.lines.proofs.LineHeld.{length-text_levels, line_laid_out, para_held, plain_line, range_held}
+use Rattle.lines.proofs.scratch.Scratch.line_alone.Goals as goal
+
+pub reset_line-requires-clause-paragraph : goal.reset_line-requires-clause-paragraph
+reset_line-requires-clause-paragraph g c = λ p low high.
+    plain_line c.args.text.now (breaks_around c.args.start c.args.end) c.args.start c.args.end p c.in_ok-paragraph.ensures.line.line low high
+
+pub returns-clause-line : goal.returns-clause-line
+returns-clause-line g c =
+    let room = c.args.self.now in
+    let text = c.args.text.now in
+    let start : ℕ = c.args.start in
+    let end : ℕ = c.args.end in
+    let found = c.in_ok-paragraph.ensures.line in
+    let above = found.line.above in
+    let reset = c.reset_line.new.levels in
+    let written = c.write_order_alone in
+    let n : ℕ = end - start in
+    let within : end ≤ length text = omega (arith, found.line.within, length-map text (λ u. u.class)) in
+    let long : length reset ≡ n =
+    omega (arith, c.reset_line.auto.levels, c.copy_line.auto.line, length-take-le n c.args.levels.now (c.requires.levels within)) in
+    let placed : length written.new.order ≡ n = omega (arith, written.auto.order, length-take-le n c.args.order.now (c.requires.order within)) in
+    let few : written.result ≤ length written.new.order = omega (arith, written.ensures.count, long, placed) in
+    let used : ℕ = room.used.paragraphs in
+    let paras_fit : used ≤ length (boxed_slice_items room.text.paras) = omega (arith, room.in_use.of_paras, room.fits.for_text.paras) in
+    let ends_fit : used ≤ length c.deref.result.now =
+    omega (arith, room.in_use.of_paras, room.fits.for_text.para_ends, ap length c.deref.ensures.value) in
+    let low : c.in_ok-paragraph.paragraph < used = omega (arith, found.inside, length-take-le used c.deref.result.now ends_fit) in
+    let level : c.index-level.result.now ≡ slice_index_or (boxed_slice_items room.text.paras) c.in_ok-paragraph.paragraph Zero =
+    get_or_read (boxed_slice_items room.text.paras) c.in_ok-paragraph.paragraph c.index-level.result.now (omega (arith, low, paras_fit)) c.index-level.ensures Zero in
+    let levels_are : take n (reset ++ drop n c.args.levels.now) ≡ reset =
+    take-append-le n reset (drop n c.args.levels.now) (omega (arith, long)) ∙ take_all n reset (omega (arith, long)) in
+    let order_is = take-append-le written.result written.new.order (drop n c.args.order.now) few in
+    record {
+      taken = found.line;
+      line = λ limits direction breaks held line.
+          let all = text_levels limits text direction in
+          let part : slice_range all start end ≡ c.copy_line.new.line =
+          ap (λ (xs : List (Option ℕ)). slice_range xs start end) (sym held.levels)
+          ∙ range_held (resolved_column room.used.uniform room.text) room.used.units start end (omega (arith, held.units, within))
+          ∙ sym c.copy_line.ensures.copied in
+          rw (levels_are, order_is)
+          (line_laid_out limits text direction breaks (paras_in room) start end reset (take written.result written.new.order) held.paras (omega arith) within
+          (c.reset_line.ensures.levels breaks (paras_in room) all line
+          (para_held text (boxed_slice_items room.text.paras) used start c.in_ok-paragraph.paragraph c.index-level.result.now level found.counted low paras_fit)
+          (length-text_levels limits text direction) part)
+          written.ensures.order);
+      few = omega (arith, written.ensures.count, long);
+      levels_behind = drop_at reset (drop n c.args.levels.now) n long;
+      order_behind = drop_at written.new.order (drop n c.args.order.now) n placed;
+    }
