@@ -1,7 +1,7 @@
 -- A direction that is given to a bracket and to the marks that follow it.
 use Rattle.std.proofs.Common.{◌≡◌, ◌≢◌, ℕ, zero, suc, ◌+◌, ◌-◌, ◌<◌, ◌≤◌, Bool, true, false, ◌&&◌, ◌||◌, List, [], ◌∷◌, ◌++◌, length, set, ltb, cond, refl, sym, ap, ◌∙◌, arith, inl, inr}
 use Rattle.std.specs.List.{list_all}
-use Rattle.std.proofs.lemmas.Bool.{cases_lt, cases_eq, eq-eqb, ne_eqb, lt-ltb, le-ltb, and_left, and_right}
+use Rattle.std.proofs.lemmas.Bool.{cases_lt, eq-eqb, ne_eqb, lt-ltb, le-ltb, and_left, and_right}
 use Rattle.std.proofs.lemmas.List.{get_or-set_same, get_or-set_other, length-set}
 use Rattle.std.proofs.lemmas.List.Folds.{list_all-append}
 use Rattle.units.specs.Classes.{class_at}
@@ -19,23 +19,10 @@ abbrev marks : List Class → ℕ → ℕ → Bool
 marks before b j = list_all (λ i. is_nonspacing (class_at before i)) (positions_from (b + 1) (j - b))
 
 follows_bracket-from : (before : List Class) (b j : ℕ) → b ≤ j → follows_bracket before b j ≡ marks before b j
-follows_bracket-from before b j le =
-    elim (cases_eq j b) [
-      | inl e ↦
-          (let none : j - b ≡ 0 = omega arith in
-          ap (λ t. t || (ltb b j && marks before b j)) (eq-eqb j b e)
-          ∙ sym (ap (λ n. list_all (λ i. is_nonspacing (class_at before i)) (positions_from (b + 1) n)) none))
-      | inr apart ↦
-          (let lt : b < j = omega arith in
-          ap (λ t. t || (ltb b j && marks before b j)) (ne_eqb j b apart)
-          ∙ ap (λ t. t && marks before b j) (lt-ltb b j lt))
-    ]
+follows_bracket-from before b j le = grind (arith, eq-eqb, ne_eqb, lt-ltb)
 
 pub follows_bracket-below : (before : List Class) (b j : ℕ) → j < b → follows_bracket before b j ≡ false
-follows_bracket-below before b j lt =
-    let apart : j ≢ b = omega arith in
-    ap (λ t. t || (ltb b j && marks before b j)) (ne_eqb j b apart)
-    ∙ ap (λ t. t && marks before b j) (le-ltb b j (omega arith))
+follows_bracket-below before b j lt = grind (arith, ne_eqb, le-ltb)
 
 pub follows_bracket-same : (before : List Class) (b : ℕ) → follows_bracket before b b ≡ true
 follows_bracket-same before b = ap (λ t. t || (ltb b b && marks before b b)) (eq-eqb b b refl)
@@ -56,15 +43,7 @@ follows_bracket-more before b j le =
 pub follows_bracket-past : (before : List Class) (b k : ℕ) → b < k → is_nonspacing (class_at before k) ≡ false → (j : ℕ) → k ≤ j → follows_bracket before b j ≡ false
 follows_bracket-past before b k lt ends zero le = absurd (omega arith)
 follows_bracket-past before b k lt ends (suc j) le =
-    elim (cases_lt j k) [
-      | inl below ↦
-          (let e : suc j ≡ k = omega arith in
-          follows_bracket-more before b j (omega arith)
-          ∙ and_right (follows_bracket before b j) (is_nonspacing (class_at before (suc j))) (ap (λ p. is_nonspacing (class_at before p)) e ∙ ends))
-      | inr above ↦
-          (follows_bracket-more before b j (omega arith)
-          ∙ and_left (follows_bracket before b j) (is_nonspacing (class_at before (suc j))) (follows_bracket-past before b k lt ends j above))
-    ]
+    grind (arith, follows_bracket-more, and_right, and_left, follows_bracket-past before b k lt ends j)
 
 -- the positions from b on and below k have the direction, and no other has changed
 pub record IsGiving (before : List Class) (b : ℕ) (direction : Class) (old now : List Class) (k : ℕ) : Type 0 where
@@ -76,14 +55,8 @@ pub record IsGiving (before : List Class) (b : ℕ) (direction : Class) (old now
   pub kept_above : (j : ℕ) → k ≤ j → class_at now j ≡ class_at old j
 
 pub giving_starts : (before : List Class) (b : ℕ) (direction : Class) (old : List Class) → b < length old → IsGiving before b direction old (set old b direction) (b + 1)
-giving_starts before b direction old lt = record {
-  begun = omega arith;
-  long = length-set old b direction;
-  follows = λ j ge below. (let e : j ≡ b = omega arith in ap (follows_bracket before b) e ∙ follows_bracket-same before b);
-  taken = λ j ge below. (let e : j ≡ b = omega arith in ap (class_at (set old b direction)) e ∙ get_or-set_same old b direction L lt);
-  kept_below = λ j below. get_or-set_other old b j direction L (let apart : j ≢ b = omega arith in apart);
-  kept_above = λ j above. get_or-set_other old b j direction L (let apart : j ≢ b = omega arith in apart);
-}
+giving_starts before b direction old lt =
+    grind (arith, length-set, follows_bracket-same, get_or-set_same, get_or-set_other)
 
 pub giving_goes_on : (before : List Class) (b : ℕ) (direction : Class) (old now : List Class) (k : ℕ) → IsGiving before b direction old now k → k < length old → is_nonspacing (class_at before k) ≡ true
     → IsGiving before b direction old (set now k direction) (k + 1)

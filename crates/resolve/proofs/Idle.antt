@@ -2,17 +2,15 @@
 use Rattle.std.specs.Prelude.{ℕ, true, false, ◌<◌, ◌≡◌, List, [], ◌∷◌, length, slice_index, refl}
 use Rattle.std.specs.List.{list_any}
 use Rattle.std.proofs.Common.{arith, ap, ◌∙◌, inl, inr}
-use Rattle.std.proofs.lemmas.Bool.{cases_Bool, cases_lt, or_parts}
+use Rattle.std.proofs.lemmas.Bool.{cases_Bool, or_parts}
 use Rattle.std.proofs.lemmas.List.{get_or-map, get_or_past}
 use Rattle.std.proofs.lemmas.List.Folds.{list_any_at, list_any_none}
 use Rattle.units.specs.Classes.{class_at, classes_at, classes_of}
-use Rattle.units.specs.Weak.{by_w1, by_w2, by_w3, by_w6, by_w7, is_any, after_weak}
+use Rattle.units.specs.Weak.{by_w1, by_w2, by_w3, by_w6, by_w7, after_weak}
 use Rattle.units.specs.declared.bracket.Unit.{Unit as BidiUnit}
 use Rattle.units.specs.declared.class.Class.{Class}
-use Rattle.units.specs.declared.class.Class.TheVariants.{L, R, AL, EN, ES, ET, CS, NSM, BN, ON}
-use Rattle.resolve.specs.Ahead.{first_class}
+use Rattle.units.specs.declared.class.Class.TheVariants.{L, R, AL, EN, ES, ET, CS, NSM, BN}
 use Rattle.resolve.specs.Contexts.{context_of, by_w4_w5, context_past, by_context}
-use Rattle.resolve.specs.ThroughW3.{by_w1_to_w3, preceding_past, all_by_w1_to_w3, is_no_terminator}
 use Rattle.resolve.specs.Sought.{may_weaken, is_imposed, AreOwn}
 use Rattle.resolve.specs.declared.weak.Context.{Context}
 use Rattle.resolve.proofs.Gathered.{contains_index, length-classes_at}
@@ -50,24 +48,11 @@ by_w7-idle L c h = refl
 by_w7-idle strong c h = refl
 
 by_context-idle : (x : Context) (c : Class) (cs : List Class) → may_weaken c ≡ false → by_context x c cs ≡ c
-by_context-idle x c cs h =
-    let ds : List Class = all_by_w1_to_w3 (preceding_past x.preceding c) cs in
-    let next : Class = first_class is_any ds ON in
-    let ahead : Class = first_class is_no_terminator ds ON in
-    let strong : Class = (preceding_past x.preceding c).strong in
-    let preceding : by_w1_to_w3 x.preceding c ≡ c =
-    ap (λ (d : Class). by_w3 (by_w2 x.preceding.strong d)) (by_w1-idle x.preceding.base c h) ∙ ap by_w3 (by_w2-idle x.preceding.strong c h) ∙ by_w3-idle c h in
-    ap (λ (d : Class). by_w7 strong (by_w6 (by_w4_w5 x.before x.settled d next ahead))) preceding
-    ∙ ap (λ (d : Class). by_w7 strong (by_w6 d)) (by_w4_w5-idle x.before x.settled c next ahead h)
-    ∙ ap (by_w7 strong) (by_w6-idle c h)
-    ∙ by_w7-idle strong c h
+by_context-idle x c cs h = grind (arith, by_w1-idle, by_w2-idle, by_w3-idle, by_w4_w5-idle, by_w6-idle, by_w7-idle)
 
 walked-idle : (x : Context) (cs : List Class) → list_any may_weaken cs ≡ false → walked by_context context_past x cs ≡ cs
 walked-idle x [] none = refl
-walked-idle x (c ∷ cs) none =
-    let both = or_parts (may_weaken c) (list_any may_weaken cs) none in
-    ap (λ (d : Class). d ∷ walked by_context context_past (context_past x c cs) cs) (by_context-idle x c cs both.0)
-    ∙ ap (λ (ds : List Class). c ∷ ds) (walked-idle (context_past x c cs) cs both.1)
+walked-idle x (c ∷ cs) none = grind (arith, or_parts, by_context-idle, walked-idle (context_past x c cs) cs)
 
 -- W1 to W7 over such classes
 pub after_weak-idle : (sos : Class) (cs : List Class) → list_any may_weaken cs ≡ false → after_weak sos cs ≡ cs
@@ -81,14 +66,7 @@ imposed-idle BN h = refl
 imposed-idle c h = cc
 
 own-idle : (cs : List Class) (p : ℕ) → list_any may_weaken cs ≡ false → may_weaken (class_at cs p) ≡ false
-own-idle cs p none =
-    elim (cases_lt p (length cs)) [
-      | inl within ↦ elim (cases_Bool (may_weaken (class_at cs p))) [
-        | inl here ↦ (let some : list_any may_weaken cs ≡ true = list_any_at may_weaken cs p L within here in absurd (cc))
-        | inr fails ↦ fails
-      ]
-      | inr past ↦ ap may_weaken (get_or_past cs p L past)
-    ]
+own-idle cs p none = grind (arith, list_any_at, get_or_past)
 
 -- the current classes at a sequence's positions, where no own class of the paragraph is such a one
 pub current-idle : (us : List BidiUnit) (before : List Class) (ps : List ℕ) → AreOwn ps us before → list_any may_weaken (classes_of us) ≡ false →

@@ -1,7 +1,7 @@
 -- The index at which a position of a sequence stands.
 use Rattle.std.specs.Prelude.{Option, Some, None, ℕ, zero, suc, ◌==◌, ◌+◌, ◌<◌, ◌≤◌, ◌≡◌, ◌≢◌, List, [], ◌∷◌, length, Contains, slice_index, slice_get, refl}
 use Rattle.std.proofs.Common.{arith, ap, sym, subst, ◌∙◌, inl, inr, set}
-use Rattle.std.proofs.lemmas.Bool.{cases_Bool, cases_lt, cases_order, cond-true, cond-false, eq-eqb, ne_eqb, eqb-true}
+use Rattle.std.proofs.lemmas.Bool.{cases_lt, cases_order, cond-true, cond-false, eq-eqb, ne_eqb, eqb-true}
 use Rattle.std.proofs.lemmas.List.{get_or_default}
 use Rattle.std.proofs.lemmas.Option.{slice_get_within, slice_get-get_or, get_or_from_slice_get}
 use Rattle.units.specs.Classes.{classes_at}
@@ -27,13 +27,7 @@ index_of-index ps n are k lt = first-index ps k lt (λ j below. apart ps n j k a
 -- a position that stands among them stands at its index
 pub index-index_of : (ps : List ℕ) (p : ℕ) → index_of ps p < length ps → slice_index ps (index_of ps p) ≡ p
 index-index_of [] p lt = absurd (omega arith)
-index-index_of (q ∷ ps) p lt =
-    elim (cases_Bool (q == p)) [
-      | inl same ↦ ap (slice_index (q ∷ ps)) (cond-true (q == p) 0 (index_of ps p + 1) same) ∙ eqb-true q p same
-      | inr other ↦
-          (let e : index_of (q ∷ ps) p ≡ suc (index_of ps p) = cond-false (q == p) 0 (index_of ps p + 1) other ∙ omega arith in
-          ap (slice_index (q ∷ ps)) e ∙ index-index_of ps p (omega arith))
-    ]
+index-index_of (q ∷ ps) p lt = grind (arith, cond-true, eqb-true, cond-false, index-index_of ps p)
 
 pub contains-index_of : (ps : List ℕ) (p : ℕ) → index_of ps p < length ps → Contains ps p
 contains-index_of ps p lt = (index_of ps p, lt, get_or_default ps (index_of ps p) p 0 lt ∙ index-index_of ps p lt)
@@ -88,9 +82,7 @@ next_index ps n k are le (Some p) e =
 -- the index of what comes next, where it is a position
 pub next_within : (ps : List ℕ) (next : Option ℕ) (p : ℕ) → IsNext ps next → next ≡ Some p → index_of ps p < length ps
 next_within ps None p h e = absurd (cc)
-next_within ps (Some q) p h e =
-    let same : q ≡ p = cc in
-    omega (arith, h, ap (index_of ps) same)
+next_within ps (Some q) p h e = grind arith
 
 -- what comes next after a position
 pub next_after : (ps : List ℕ) (n p : ℕ) → ArePositions ps n → index_of ps p < length ps → (next : Option ℕ) →

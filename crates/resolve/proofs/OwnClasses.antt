@@ -1,11 +1,11 @@
 -- An override imposes L or R, and what is removed is BN: any other class after X1 to X8 is the own one.
-use Rattle.std.specs.Prelude.{Option, Some, None, ℕ, Bool, true, false, ◌&&◌, nat_le, ◌≡◌, List, [], ◌∷◌, length, fold, refl, IfSome, unwrap_or, if◌then◌else◌}
+use Rattle.std.specs.Prelude.{Option, Some, None, ℕ, Bool, true, false, ◌≡◌, List, [], ◌∷◌, length, fold, refl, IfSome, unwrap_or, if◌then◌else◌}
 use Rattle.std.specs.Option.{option_map_or}
 use Rattle.std.proofs.Common.{arith, ap, sym, ◌∙◌, inl, inr}
 use Rattle.std.proofs.lemmas.Bool.{cases_lt, both_ways}
 use Rattle.std.proofs.lemmas.List.{get_or-map, get_or_past, length-map}
-use Rattle.units.specs.Classes.{class_at, is_nonspacing, is_removed, is_separator}
-use Rattle.units.specs.Explicit.{State, entered, state_of, override_of, wanted_level, chain, explicit_at, explicit_of}
+use Rattle.units.specs.Classes.{class_at, is_nonspacing}
+use Rattle.units.specs.Explicit.{State, entered, override_of, explicit_at, explicit_of}
 use Rattle.units.specs.Layout.{current_of}
 use Rattle.units.specs.Positions.{positions_of}
 use Rattle.units.specs.declared.class.Class.{Class}
@@ -28,9 +28,7 @@ either false x y hx hy = hy
 
 entered-direction : (depth : ℕ) (cs : List Class) (s : State) (q : ℕ) → IsDirection s.override → IsDirection (entered depth cs s q).override
 unfolding entered
-entered-direction depth cs s q h =
-    either (s.sound && nat_le (wanted_level cs s.level q) depth) (record { level = wanted_level cs s.level q; override = override_of (class_at cs q); sound = true })
-    (record { level = s.level; override = s.override; sound = false }) (override_of-direction (class_at cs q)) h
+entered-direction depth cs s q h = grind (arith, either, override_of-direction)
 
 fold-direction : (depth : ℕ) (cs : List Class) (s : State) (qs : List ℕ) → IsDirection s.override → IsDirection (fold (entered depth cs) s qs).override
 fold-direction depth cs s [] h = h
@@ -50,9 +48,7 @@ placed-own false false para level own (Some c) h m = absurd (both_ways (is_impos
 
 explicit-own : (depth : ℕ) (cs : List Class) (para p : ℕ) → is_imposed (placed (explicit_at depth cs para p)) ≡ false → placed (explicit_at depth cs para p) ≡ class_at cs p
 unfolding explicit_at
-explicit-own depth cs para p m =
-    placed-own (is_removed (class_at cs p)) (is_separator (class_at cs p)) para (state_of depth cs para (chain cs p)).level (class_at cs p) (state_of depth cs para (chain cs p)).override
-    (fold-direction depth cs (record { level = para; override = None; sound = true }) (chain cs p) tt) m
+explicit-own depth cs para p m = grind (arith, placed-own, fold-direction)
 
 -- the current classes of a paragraph
 pub current-own : (depth : ℕ) (cs : List Class) (para p : ℕ) → is_imposed (class_at (current_of (explicit_of depth cs para)) p) ≡ false → class_at (current_of (explicit_of depth cs para)) p ≡ class_at cs p
