@@ -1,3 +1,4 @@
 -- What the proofs share.
+mod FileRefusals
 mod VerdictsBy
 mod LineLengths

@@ -19,11 +19,16 @@ use Rattle.bidi_held.specs.declared.refusal.Refusal.TheVariants.{Memory, ClassFi
 abbrev pub HaveTables : Option Held → List ℕ → List ℕ → List ℕ → Type 0
 HaveTables handle classes brackets mirrors = MatchOption (tables_in handle) ⊥ (StateTables classes brackets mirrors)
 
+-- how a fault of a file is refused: as memory that was refused, and any other as one of this file
+abbrev pub refusal_in : (TableFault → Refusal) → TableFault → Refusal
+refusal_in file table.Memory = Memory
+refusal_in file fault = file fault
+
 -- the refusal that says what is wrong with the first faulty file
 abbrev pub refusal_of_file : FileFault → Refusal
-refusal_of_file (Classes fault) = ClassFile fault
-refusal_of_file (Brackets fault) = BracketFile fault
-refusal_of_file (Mirrors fault) = MirrorFile fault
+refusal_of_file (Classes fault) = refusal_in ClassFile fault
+refusal_of_file (Brackets fault) = refusal_in BracketFile fault
+refusal_of_file (Mirrors fault) = refusal_in MirrorFile fault
 
 -- the fault of a file is one of a line
 abbrev pub IsOfLine : FileFault → Type 0

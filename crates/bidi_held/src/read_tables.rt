@@ -1,10 +1,10 @@
 // Tables read from the bytes of their files, and asked.
-ghost use Rattle.std.specs.Prelude.{◌≡◌, ◌⊎◌, IfOk, IfErr};
+ghost use Rattle.std.specs.Prelude.{◌≡◌, IfOk, IfErr};
 ghost use Rattle.std.specs.Option.{unwrap_or};
 ghost use Rattle.std.specs.Char.{IsScalar};
 ghost use Rattle.ucdfiles.specs.Files.{StateTables};
 ghost use Rattle.ucdfiles.specs.Tables.{glyph_by};
-ghost use Rattle.bidi_held.specs.MadeTables.{RefusesTables, IsOfLine, refusal_of_file, fault_number, fault_number_in};
+ghost use Rattle.bidi_held.specs.MadeTables.{RefusesTables, refusal_of_file, fault_number, fault_number_in};
 
 use crate::refusal::Refusal;
 use std::alloc::Global;
@@ -52,16 +52,18 @@ pub fn kind_in(refusal: Refusal) -> u32
     }
 }
 
-/// The refusal that says what is wrong with the first faulty file. A fault of no line is that memory was refused, since
-/// bytes are read without failing.
+/// The refusal that says what is wrong with the first faulty file: memory that was refused by itself, and each other
+/// fault with the file that has it. A failed read never comes, since bytes are read without failing.
 pub(crate) fn of_files(fault: FileFault) -> Refusal
-    ensures { (result ≡ Refusal.Memory) ⊎ ((result ≡ refusal_of_file fault) × IsOfLine fault) }
+    ensures { result ≡ refusal_of_file fault }
 {
     match fault {
-        FileFault::Classes(fault) if fault.line().is_some() => Refusal::ClassFile(fault),
-        FileFault::Brackets(fault) if fault.line().is_some() => Refusal::BracketFile(fault),
-        FileFault::Mirrors(fault) if fault.line().is_some() => Refusal::MirrorFile(fault),
-        _ => Refusal::Memory,
+        FileFault::Classes(TableFault::Memory)
+        | FileFault::Brackets(TableFault::Memory)
+        | FileFault::Mirrors(TableFault::Memory) => Refusal::Memory,
+        FileFault::Classes(fault) => Refusal::ClassFile(fault),
+        FileFault::Brackets(fault) => Refusal::BracketFile(fault),
+        FileFault::Mirrors(fault) => Refusal::MirrorFile(fault),
     }
 }
 

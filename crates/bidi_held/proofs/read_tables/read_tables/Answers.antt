@@ -1,12 +1,8 @@
-use Rattle.std.proofs.Common.{inl, inr}
+use Rattle.bidi_held.proofs.FileRefusals.{first_refused}
 use Rattle.bidi_held.proofs.read_tables.read_tables.Goals as goal
 
 pub returns-in-Ok-clause-ok : goal.returns-in-Ok-clause-ok
 returns-in-Ok-clause-ok c = c.in-Ok.ensures.ok
 
 pub returns-in-Err-clause-err : goal.returns-in-Err-clause-err
-returns-in-Err-clause-err c =
-    elim c.of_files.ensures [
-      | inl memory ↦ inl memory
-      | inr told ↦ inr (_, told.0, told.1, c.in-Err.ensures.err)
-    ]
+returns-in-Err-clause-err c = rw c.of_files.ensures (first_refused _ _ _ _ c.in-Err.ensures.err)
