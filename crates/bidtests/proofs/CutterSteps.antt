@@ -80,22 +80,8 @@ module _ (limits : LimitsOf) (kind : Kind) (old new : Cutting) (s t : Carried) (
 
   pub judges-on : (step : Step) → AnswersPiece b piece used step → (no_by kind s step ≡ None → t ≡ after_step kind step s)
       → JudgesBy limits kind (no_by kind s step) new t (b ++ take used piece)
-  judges-on More a after =
-      let all : take used piece ≡ piece = take_all used piece (omega (arith, a.1)) in
-      let C : List ℕ → Type 0 = λ xs. CutsInto (b ++ xs) a.3.0 a.3.1 in
-      let cut = subst C (sym all) a.3.2 in
-      let same : a.3.0 ≡ o.lines = sym (ended_lines-CutsInto _ a.3.0 a.3.1 cut) ∙ a.2 ∙ ended-old in
-      let D : List (List ℕ) → Type 0 = λ ls. CutsInto (b ++ take used piece) ls a.3.1 in
-      let P : Carried → Type 0 = λ u. IsBehind limits kind u o.lines in
-      record { cutter = stands; lines = o.lines; rest = a.3.1; cut = subst D same cut; behind = subst P (sym (after refl)) o.behind }
-  judges-on (Line number text) a after =
-      let same : a.2.0 ++ text.now ∷ [] ≡ o.lines ++ text.now ∷ [] =
-      sym (ended_lines-CutsInto _ (a.2.0 ++ text.now ∷ []) [] a.2.1) ∙ a.1 ∙ ap (λ ls. ls ++ text.now ∷ []) ended-old in
-      let D : List (List ℕ) → Type 0 = λ ls. CutsInto (b ++ take used piece) ls [] in
-      let count : length a.2.0 ≡ length o.lines = same_count a.2.0 o.lines text.now same in
-      let is : number ≡ line_number (length o.lines) = a.2.2 ∙ ap (λ n. line_number n) count in
-      ends-line limits kind s o.lines o.behind (no_at kind s number text.now) new t (b ++ take used piece) text.now stands (subst D same a.2.1)
-      (ap (λ n. no_at kind s n text.now) (sym is)) after
+  judges-on More a after = grind (arith, take_all, ended_lines-CutsInto)
+  judges-on (Line number text) a after = grind (arith, ended_lines-CutsInto, same_count, ends-line)
   judges-on (TooLong number) a after = λ more.
       let same : a.0 ≡ o.lines = lines-before b piece used o.lines a.0 o.rest within through o.cut a.1 in
       let D : List (List ℕ) → Type 0 = λ ls. IsTooLongAfter (b ++ take used piece) ls in
@@ -148,17 +134,12 @@ module _ (limits : LimitsOf) (kind : Kind) (c : Cutting) (s : Carried) (b : List
 
 -- what is decided, if anything is, and the bytes, of a judge of this kind
 kind-is : (limits : LimitsOf) (kind : Kind) (j : Judging) (b : List ℕ) → Judges limits kind j b → JudgesBy limits j.kind j.decided j.cutting j.carried b
-kind-is limits kind j b judges =
-    let P : Kind → Type 0 = λ k. JudgesBy limits k j.decided j.cutting j.carried b in
-    subst P (sym judges.of) judges.is
+kind-is limits kind j b judges = grind arith
 
 -- the verdict that a judge gives at the end
 pub finishes : (j : Judging) (last : Option (ℕ × Bor (List ℕ))) → j.decided ≡ None → ((b : List ℕ) → StandsFor j.cutting b → Finishes b last)
     → (limits : LimitsOf) (kind : Kind) (b : List ℕ) → Judges limits kind j b → verdict_behind j.kind j.carried last ≡ verdict_of limits kind b
-finishes j last undecided f limits kind b judges =
-    let P : Option Verdict → Type 0 = λ d. JudgesBy limits j.kind d j.cutting j.carried b in
-    let o : IsOpen limits j.kind j.cutting j.carried b = subst P undecided (kind-is limits kind j b judges) in
-    verdict-last limits j.kind j.cutting j.carried b o last (f b o.cutter) ∙ ap (λ k. verdict_of limits k b) judges.of
+finishes j last undecided f limits kind b judges = grind (arith, kind-is, verdict-last)
 
 pub finishes-decided : (j : Judging) (v : Verdict) → j.decided ≡ Some v → (limits : LimitsOf) (kind : Kind) (b : List ℕ) → Judges limits kind j b → v ≡ verdict_of limits kind b
 finishes-decided j v e limits kind b judges =

@@ -1,11 +1,10 @@
 -- What a line of a file comes to, by its place.
-use Rattle.std.proofs.Common.{◌≡◌, ℕ, zero, suc, ◌<◌, Option, None, Some, List, [], ◌∷◌, ◌++◌, length, take, map, reverse, refl, sym, ap, subst, ◌∙◌, arith, append_assoc, append-nil}
+use Rattle.std.proofs.Common.{◌≡◌, ℕ, zero, suc, ◌<◌, Option, None, Some, List, [], ◌∷◌, ◌++◌, length, take, map, reverse, refl, sym, ap, ◌∙◌, arith, append_assoc, append-nil}
 use Rattle.std.specs.Prelude.{nat_lt, slice_index_or}
 use Rattle.std.specs.List.{slice_get}
-use Rattle.std.specs.Option.{option_map}
 use Rattle.std.proofs.lemmas.List.{reverse-append}
 use Rattle.std.proofs.lemmas.Option.{slice_get-get_or, slice_get-map, slice_get_within, same_Some}
-use Rattle.units.specs.Text.{longest_line, content_of, fields_of, items_of, each_read}
+use Rattle.units.specs.Text.{longest_line, content_of, fields_of, items_of}
 use Rattle.units.specs.declared.bracket.Unit.{Unit as BidiUnit}
 use Rattle.units.specs.declared.level.Direction.{Direction}
 use Rattle.units.specs.declared.level.ParaLevel.{ParaLevel}
@@ -13,8 +12,8 @@ use Rattle.bidtests.specs.declared.kind.Kind.{Kind}
 use Rattle.bidtests.specs.declared.kind.Kind.TheVariants.{Classes, Characters}
 use Rattle.bidtests.specs.declared.verdict.Cause.TheVariants.{LineTooLong}
 use Rattle.bidtests.specs.Verdicts.{Finding, Faulty}
-use Rattle.bidtests.specs.ClassesFile.{ClassesLine, classes_line, comes_to, findings_behind, levels_in_force, order_in_force, level_item, order_item}
-use Rattle.bidtests.specs.CharactersFile.{character_item, direction_field, para_field, characters_row_as_read, characters_row_of_items, characters_row, characters_content, characters_line}
+use Rattle.bidtests.specs.ClassesFile.{ClassesLine, classes_line, comes_to, findings_behind, levels_in_force, order_in_force}
+use Rattle.bidtests.specs.CharactersFile.{direction_field, characters_row_as_read, characters_row_of_items, characters_row, characters_content, characters_line}
 use Rattle.bidtests.specs.FileKinds.{findings_by}
 use Rattle.ucdfiles.specs.Tables.{unit_by}
 use Rattle.bidtests.specs.Headline.{line_comes_to}
@@ -35,16 +34,11 @@ found-behind : (earlier : List ClassesLine) (lines : List (List ℕ)) (k : ℕ) 
 found-behind earlier [] k lt = absurd (omega arith)
 found-behind earlier (line ∷ lines) zero lt = refl
 found-behind earlier (line ∷ lines) (suc k) lt =
-    found-behind (classes_line line ∷ earlier) lines k (omega arith)
-    ∙ ap (λ (l : List ClassesLine). Some (behind l (slice_index_or lines k []))) (earlier-lines (classes_line line) (map classes_line (take k lines)) earlier)
+    grind (arith, earlier-lines, found-behind (classes_line line ∷ earlier) lines k)
 
 pub line-found : (kind : Kind) (lines : List (List ℕ)) (k : ℕ) → k < length lines → slice_get (findings_by kind lines) k ≡ Some (line_comes_to kind lines k)
-line-found Classes lines k lt =
-    found-behind [] lines k lt
-    ∙ ap (λ (l : List ClassesLine). Some (behind l (slice_index_or lines k []))) (append-nil (reverse (map classes_line (take k lines))))
-line-found (Characters tables) lines k lt =
-    let reading = characters_line (unit_by tables.now) in
-    slice_get-map reading lines k ∙ ap (option_map reading) (slice_get-get_or lines k [] lt)
+line-found Classes lines k lt = grind (arith, found-behind, append-nil)
+line-found (Characters tables) lines k lt = grind (arith, slice_get-map, slice_get-get_or)
 
 module _ (unit_of : ℕ → BidiUnit) where
   claims-ordered : (text : Option (List BidiUnit)) (direction : Option Direction) (para_level : Option ParaLevel) (levels : Option (List (Option ℕ))) (order : Option (List ℕ))
@@ -58,9 +52,7 @@ module _ (unit_of : ℕ → BidiUnit) where
 
   items-ordered : (items : List (List ℕ)) (direction para_level levels order : List ℕ) → IsOrdered (characters_row_of_items direction_field unit_of items direction para_level levels order)
   items-ordered [] direction para_level levels order = tt
-  items-ordered (item ∷ items) direction para_level levels order =
-      claims-ordered (each_read (character_item unit_of) (item ∷ items)) (direction_field direction) (para_field para_level)
-      (each_read level_item (items_of levels)) (each_read order_item (items_of order))
+  items-ordered (item ∷ items) direction para_level levels order = grind (arith, claims-ordered)
 
   fields-ordered : (fields : List (List ℕ)) → IsOrdered (characters_row unit_of fields)
   fields-ordered [] = tt
@@ -81,13 +73,10 @@ module _ (unit_of : ℕ → BidiUnit) where
       if-either IsOrdered (nat_lt longest_line (length line)) (Faulty LineTooLong) (characters_content direction_field unit_of (content_of line)) tt (content-ordered (content_of line))
 
 line-ordered : (kind : Kind) (lines : List (List ℕ)) (k : ℕ) → IsOrdered (line_comes_to kind lines k)
-line-ordered Classes lines k =
-    let earlier = reverse (map classes_line (take k lines)) in
-    classes-ordered (levels_in_force earlier) (order_in_force earlier) (slice_index_or lines k [])
+line-ordered Classes lines k = grind (arith, classes-ordered)
 line-ordered (Characters tables) lines k = characters-ordered (unit_by tables.now) (slice_index_or lines k [])
 
 -- each row of a file names its directions in order
 pub findings-ordered : (kind : Kind) (lines : List (List ℕ)) (k : ℕ) (f : Finding) → slice_get (findings_by kind lines) k ≡ Some f → IsOrdered f
 findings-ordered kind lines k f e =
-    let within : k < length lines = omega (arith, slice_get_within (findings_by kind lines) k f e, length-findings kind lines) in
-    subst IsOrdered (same_Some _ _ (sym (line-found kind lines k within) ∙ e)) (line-ordered kind lines k)
+    grind (arith, slice_get_within, length-findings, same_Some, line-found, line-ordered)

@@ -1,5 +1,5 @@
 -- The verdict on the bytes of a file, in the words of the headline.
-use Rattle.std.proofs.Common.{◌≡◌, ◌↔◌, ℕ, List, sym, ◌∙◌}
+use Rattle.std.proofs.Common.{arith, ◌≡◌, ◌↔◌, ℕ, List, sym}
 use Rattle.units.specs.Limits.{LimitsOf}
 use Rattle.units.specs.Text.{lines_of}
 use Rattle.bidtests.specs.declared.kind.Kind.{Kind}
@@ -11,9 +11,7 @@ use Rattle.bidtests.proofs.FileLines.{findings-ordered}
 use Rattle.bidtests.proofs.VerdictsSay.{verdict-law}
 
 pub file-law : (limits : LimitsOf) (kind : Kind) (bytes : List ℕ) (v : Verdict) → (verdict_of limits kind bytes ≡ v) ↔ Says limits (findings_by kind (lines_of bytes)) v
-file-law limits kind bytes v =
-    let law = verdict-law limits (findings_by kind (lines_of bytes)) (findings-ordered kind (lines_of bytes)) v in
-    ((λ e. law.0 (sym (verdict-of limits kind bytes) ∙ e)), λ says. verdict-of limits kind bytes ∙ law.1 says)
+file-law limits kind bytes v = grind (arith, verdict-law, findings-ordered, verdict-of)
 
 pub file-says : (limits : LimitsOf) (kind : Kind) (bytes : List ℕ) (v : Verdict) → v ≡ verdict_of limits kind bytes → Says limits (findings_by kind (lines_of bytes)) v
 file-says limits kind bytes v e = (file-law limits kind bytes v).0 (sym e)

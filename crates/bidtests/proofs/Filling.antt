@@ -28,20 +28,11 @@ module _ {A : Type 0} (reading : List ℕ → Option A) where
 
   read-more : (left item rest : List ℕ) (items : List A) (v : A) → items_of left ≡ item ∷ items_of rest → Some v ≡ reading item
       → read_behind (items ++ v ∷ []) (each_read reading (items_of rest)) ≡ read_behind items (each_read reading (items_of left))
-  read-more left item rest items v e r =
-      joined-behind items v (each_read reading (items_of rest))
-      ∙ ap (λ o. read_behind items (both_read o (each_read reading (items_of rest)))) r
-      ∙ ap (λ its. read_behind items (each_read reading its)) (sym e)
+  read-more left item rest items v e r = grind (arith, joined-behind)
 
   pub Fills-more : (field left item rest : List ℕ) (items more : List A) (v : A) → Fills field left items → items_of left ≡ item ∷ items_of rest → Some v ≡ reading item
       → length rest < length left → (0 < length rest → length rest + 2 ≤ length left) → more ≡ items ++ v ∷ [] → Fills field rest more
-  Fills-more field left item rest items more v fills e r falls two is =
-      let count : length more ≡ length items + 1 = ap length is ∙ length-append items (v ∷ []) in
-      record {
-        read = ap (λ xs. read_behind xs (each_read reading (items_of rest))) is ∙ read-more left item rest items v e r ∙ fills.read;
-        room = omega (arith, fills.more (omega arith));
-        more = λ h. omega (arith, fills.more (omega arith), two h);
-      }
+  Fills-more field left item rest items more v fills e r falls two is = grind (arith, length-append, read-more)
 
   -- there is room for one more
   pub Fills-room : (field left : List ℕ) (items : List A) (room : ℕ) → Fills field left items → 0 < length left → length field ≤ 2 * room → length items < room

@@ -1,10 +1,9 @@
 -- What rows that can't ask for AutoRtl come to, they come to among rows that can.
-use Rattle.std.proofs.Common.{◌≡◌, ℕ, ◌≤◌, ◌==◌, Option, None, Some, List, [], ◌∷◌, map, length, inl, inr, refl, arith, codes}
-use Rattle.std.specs.Prelude.{◌⊎◌, ◌&&◌, nat_le, nat_lt}
-use Rattle.std.specs.Str.{bytes_eq}
-use Rattle.std.proofs.lemmas.Bool.{cases_Bool, cases_eq, and_parts, leb-true}
+use Rattle.std.proofs.Common.{◌≡◌, ℕ, ◌≤◌, Option, None, Some, List, [], ◌∷◌, map, inl, inr, refl, arith}
+use Rattle.std.specs.Prelude.{◌⊎◌}
+use Rattle.std.proofs.lemmas.Bool.{cases_eq, and_parts, leb-true}
 use Rattle.units.specs.Limits.{LimitsOf}
-use Rattle.units.specs.Text.{content_of, each_read, fields_of, items_of, lines_of, longest_line}
+use Rattle.units.specs.Text.{each_read, fields_of, items_of, lines_of}
 use Rattle.units.specs.declared.bracket.Unit.{Unit as BidiUnit}
 use Rattle.units.specs.declared.level.Direction.{Direction}
 use Rattle.units.specs.declared.level.ParaLevel.{ParaLevel}
@@ -13,8 +12,8 @@ use Rattle.bidtests.specs.declared.kind.Kind.TheVariants.{Classes, Characters}
 use Rattle.bidtests.specs.declared.verdict.Cause.TheVariants.{BitSet, DirectionField}
 use Rattle.bidtests.specs.declared.verdict.Verdict.TheVariants.{Malformed}
 use Rattle.bidtests.specs.Verdicts.{Finding, Faulty}
-use Rattle.bidtests.specs.ClassesFile.{ClassesLine, Broken, bit_set, unit_item, level_item, order_item, classes_row_as_read, classes_row_of_items, classes_row_by, classes_content, classes_line, findings_behind, classes_verdict}
-use Rattle.bidtests.specs.CharactersFile.{character_item, direction_field, para_field, characters_row_as_read, characters_row_by, characters_line, characters_verdict, characters_content, characters_row_of_items}
+use Rattle.bidtests.specs.ClassesFile.{ClassesLine, Broken, bit_set, unit_item, classes_row_as_read, classes_row_of_items, classes_row_by, classes_content, classes_line, findings_behind, classes_verdict}
+use Rattle.bidtests.specs.CharactersFile.{direction_field, characters_row_as_read, characters_row_by, characters_line, characters_verdict, characters_content, characters_row_of_items}
 use Rattle.bidtests.specs.FileKinds.{verdict_of}
 use Rattle.ucdfiles.specs.Tables.{unit_by}
 use Rattle.bidtests.specs.ThreeDirections.{one_digit, zero_to_two, three_classes_line, three_characters_line, three_verdict_of}
@@ -49,22 +48,10 @@ digit-names d low high =
 bit_sets : (bits : List ℕ) → IsSameOrNone (one_digit bits) (bit_set bits)
 bit_sets [] = inl refl
 bit_sets (d ∷ e ∷ bits) = inl refl
-bit_sets (d ∷ []) = elim (cases_Bool (nat_le 49 d && nat_le d 55)) [
-  | inl within ↦ let both = and_parts (nat_le 49 d) (nat_le d 55) within in inr (digit-names d (leb-true 49 d both.0) (leb-true d 55 both.1))
-  | inr without ↦ inl (rw without refl)
-]
+bit_sets (d ∷ []) = grind (arith, and_parts, digit-names, leb-true)
 
 direction_fields : (field : List ℕ) → IsSameOrNone (zero_to_two field) (direction_field field)
-direction_fields field = elim (cases_Bool (bytes_eq field (codes "0"))) [
-  | inl zero ↦ inr (rw zero refl)
-  | inr not_zero ↦ elim (cases_Bool (bytes_eq field (codes "1"))) [
-    | inl one ↦ inr (rw (not_zero, one) refl)
-    | inr not_one ↦ elim (cases_Bool (bytes_eq field (codes "2"))) [
-      | inl two ↦ inr (rw (not_zero, not_one, two) refl)
-      | inr not_two ↦ inl (rw (not_zero, not_one, not_two) refl)
-    ]
-  ]
-]
+direction_fields field = grind arith
 
 -- Files of classes
 
@@ -88,24 +75,15 @@ classes_row_by-alike (names ∷ bits ∷ more ∷ fields) = inr refl
 
 content-alike : (content : List ℕ) → IsLineAlike (classes_content one_digit content) (classes_content bit_set content)
 content-alike [] = inr refl
-content-alike (b ∷ bs) = elim (cases_Bool (b == 64)) [
-  | inl at ↦ inr (rw at refl)
-  | inr other ↦ rw other (classes_row_by-alike (fields_of (b ∷ bs)))
-]
+content-alike (b ∷ bs) = grind (arith, classes_row_by-alike)
 
 line-alike : (line : List ℕ) → IsLineAlike (three_classes_line line) (classes_line line)
 unfolding three_classes_line classes_line
-line-alike line = elim (cases_Bool (nat_lt longest_line (length line))) [
-  | inl long ↦ inr (rw long refl)
-  | inr fits ↦ rw fits (content-alike (content_of line))
-]
+line-alike line = grind (arith, content-alike)
 
 lines-alike : (earlier : List ClassesLine) (lines : List (List ℕ)) → AreSameUpTo BitSet (findings_behind earlier (map three_classes_line lines)) (findings_behind earlier (map classes_line lines))
 lines-alike earlier [] = tt
-lines-alike earlier (line ∷ lines) = elim (line-alike line) [
-  | inl broken ↦ inl (rw broken refl)
-  | inr same ↦ inr (rw same refl, rw (← same) (lines-alike (three_classes_line line ∷ earlier) lines))
-]
+lines-alike earlier (line ∷ lines) = grind (arith, line-alike, lines-alike (three_classes_line line ∷ earlier) lines)
 
 -- Files of characters
 
@@ -122,9 +100,7 @@ module _ (unit_of : ℕ → BidiUnit) where
   characters-alike : (items : List (List ℕ)) (direction para_level levels order : List ℕ)
       → IsRowAlike (characters_row_of_items zero_to_two unit_of items direction para_level levels order) (characters_row_of_items direction_field unit_of items direction para_level levels order)
   characters-alike [] direction para_level levels order = inr refl
-  characters-alike (item ∷ items) direction para_level levels order =
-      claims-alike (each_read (character_item unit_of) (item ∷ items)) (zero_to_two direction) (direction_field direction) (para_field para_level)
-      (each_read level_item (items_of levels)) (each_read order_item (items_of order)) (direction_fields direction)
+  characters-alike (item ∷ items) direction para_level levels order = grind (arith, claims-alike, direction_fields)
 
   fields-alike : (fields : List (List ℕ)) → IsRowAlike (characters_row_by zero_to_two unit_of fields) (characters_row_by direction_field unit_of fields)
   fields-alike [] = inr refl
@@ -141,10 +117,7 @@ module _ (unit_of : ℕ → BidiUnit) where
 
   row-alike : (line : List ℕ) → IsRowAlike (three_characters_line unit_of line) (characters_line unit_of line)
   unfolding three_characters_line characters_line
-  row-alike line = elim (cases_Bool (nat_lt longest_line (length line))) [
-    | inl long ↦ inr (rw long refl)
-    | inr fits ↦ rw fits (written-alike (content_of line))
-  ]
+  row-alike line = grind (arith, written-alike)
 
   rows-alike : (lines : List (List ℕ)) → AreSameUpTo DirectionField (map (three_characters_line unit_of) lines) (map (characters_line unit_of) lines)
   rows-alike [] = tt

@@ -30,10 +30,7 @@ length-findings_behind earlier (x ∷ a) = omega (arith, length-findings_behind 
 
 first_no-append : (limits : LimitsOf) (k : ℕ) (a b : List Finding) → first_no limits k (a ++ b) ≡ option_or (first_no limits k a) (first_no limits (k + length a) b)
 first_no-append limits k [] b = ap (λ n. first_no limits n b) (omega arith)
-first_no-append limits k (f ∷ a) b =
-    let e : first_no limits (k + 1) (a ++ b) ≡ option_or (first_no limits (k + 1) a) (first_no limits (k + length (f ∷ a)) b) =
-    first_no-append limits (k + 1) a b ∙ ap (λ n. option_or (first_no limits (k + 1) a) (first_no limits n b)) (omega arith) in
-    rw e (option_or-assoc (no_of limits (line_number k) f) (first_no limits (k + 1) a) (first_no limits (k + length (f ∷ a)) b))
+first_no-append limits k (f ∷ a) b = grind (arith, option_or-assoc, first_no-append limits (k + 1) a b)
 
 -- a line behind others, and what stands behind it
 classes_findings-line : (lines : List (List ℕ)) (line : List ℕ) (others : List (List ℕ)) → (rest : List Finding)
@@ -48,10 +45,7 @@ classes_findings-line lines line others =
 
 classes_findings-last : (lines : List (List ℕ)) (line : List ℕ)
     → classes_findings (lines ++ line ∷ []) ≡ classes_findings lines ++ comes_to (levels_in_force (reverse (map classes_line lines))) (order_in_force (reverse (map classes_line lines))) (classes_line line) ∷ []
-classes_findings-last lines line =
-    let says = map classes_line lines in
-    ap (findings_behind []) (map-append classes_line lines (line ∷ [])) ∙ findings_behind-append [] says (classes_line line ∷ [])
-    ∙ ap (λ (l : List ClassesLine). findings_behind [] says ++ findings_behind l (classes_line line ∷ [])) (append-nil (reverse says))
+classes_findings-last lines line = grind (arith, map-append, findings_behind-append, append-nil)
 
 length-classes_findings : (lines : List (List ℕ)) → length (classes_findings lines) ≡ length lines
 length-classes_findings lines = length-findings_behind [] (map classes_line lines) ∙ length-map lines classes_line
@@ -96,13 +90,7 @@ order-behind (Broken cause) says order e = e
 
 pub in-force : (kind : Kind) (s : Carried) (lines : List (List ℕ)) (line : List ℕ) → AreInForce kind s.levels s.order lines
     → AreInForce kind (after_line kind line s).levels (after_line kind line s).order (lines ++ line ∷ [])
-in-force Classes s lines line h =
-    let says = map classes_line lines in
-    let nearer : classes_line line ∷ reverse says ≡ reverse (map classes_line (lines ++ line ∷ [])) =
-    sym (ap (reverse {A = ClassesLine}) (map-append classes_line lines (line ∷ [])) ∙ reverse-append says (classes_line line ∷ [])) in (
-      levels-behind (classes_line line) (reverse says) s.levels h.0 ∙ ap levels_in_force nearer,
-      order-behind (classes_line line) (reverse says) s.order h.1 ∙ ap order_in_force nearer,
-    )
+in-force Classes s lines line h = grind (arith, map-append, reverse-append, levels-behind, order-behind)
 in-force (Characters tables) s lines line h = tt
 
 -- the counts are those before the line, with its own
@@ -149,11 +137,7 @@ module _ (limits : LimitsOf) (kind : Kind) (s : Carried) (lines : List (List ℕ
   fault-at : (rest : List Finding)
       → first_no limits 0 (findings_by kind lines ++ found ∷ rest)
       ≡ option_or (no_of s.limits (line_number (length lines)) found) (first_no limits (length lines + 1) rest)
-  fault-at rest =
-      first_no-append limits 0 (findings_by kind lines) (found ∷ rest)
-      ∙ ap (λ o. option_or o (first_no limits (0 + length (findings_by kind lines)) (found ∷ rest))) h.faultless
-      ∙ ap (λ n. first_no limits n (found ∷ rest)) (omega (arith, length-findings kind lines))
-      ∙ ap (λ l. option_or (no_of l (line_number (length lines)) found) (first_no limits (length lines + 1) rest)) (sym h.under)
+  fault-at rest = grind (arith, first_no-append, length-findings)
 
   -- the first fault decides, whatever stands behind it
   pub verdict-fault : (v : Verdict) → no_of s.limits (line_number (length lines)) (comes_to_behind kind s line) ≡ Some v

@@ -1,6 +1,5 @@
 -- What a line says or comes to, by how its content begins.
-use Rattle.std.proofs.Common.{◌≡◌, ◌≢◌, ℕ, ◌<◌, ◌≤◌, ◌==◌, Bool, true, false, List, [], ◌∷◌, length, get_or, refl, sym, ap, ◌∙◌, arith}
-use Rattle.std.specs.Prelude.{nat_lt}
+use Rattle.std.proofs.Common.{◌≡◌, ◌≢◌, ℕ, ◌<◌, ◌≤◌, ◌==◌, Bool, true, false, List, [], ◌∷◌, length, get_or, refl, ap, ◌∙◌, arith}
 use Rattle.std.proofs.lemmas.Bool.{ne_eqb, le-ltb}
 use Rattle.units.specs.Text.{longest_line, content_of, fields_of}
 use Rattle.units.specs.declared.bracket.Unit.{Unit as BidiUnit}
@@ -10,9 +9,7 @@ use Rattle.bidtests.specs.ClassesFile.{Nothing, classes_line, bit_set, classes_c
 
 by-content : (line content : List ℕ) → content ≡ content_of line → length line ≤ longest_line → classes_line line ≡ classes_content bit_set content
 unfolding classes_line
-by-content line content is le =
-    let e : nat_lt longest_line (length line) ≡ false = le-ltb longest_line (length line) le in
-    rw e (ap (classes_content bit_set) (sym is))
+by-content line content is le = grind (arith, le-ltb)
 
 content-empty : (content : List ℕ) → length content ≡ 0 → classes_content bit_set content ≡ Nothing
 content-empty [] none = refl
@@ -43,9 +40,7 @@ not_empty (x ∷ xs) b e f = omega arith
 module _ (unit_of : ℕ → BidiUnit) where
   comes-by-content : (line content : List ℕ) → content ≡ content_of line → length line ≤ longest_line → characters_line unit_of line ≡ characters_content direction_field unit_of content
   unfolding characters_line
-  comes-by-content line content is le =
-      let e : nat_lt longest_line (length line) ≡ false = le-ltb longest_line (length line) le in
-      rw e (ap (characters_content direction_field unit_of) (sym is))
+  comes-by-content line content is le = grind (arith, le-ltb)
 
   characters-empty : (content : List ℕ) → length content ≡ 0 → characters_content direction_field unit_of content ≡ Silent
   characters-empty [] none = refl

@@ -1,8 +1,8 @@
 -- Where the lists of a claim and of a layout differ, and at which place the claim is wrong.
-use Rattle.std.proofs.Common.{◌≡◌, ◌≢◌, ℕ, zero, suc, ◌+◌, ◌<◌, Bool, true, false, Option, None, Some, List, [], ◌∷◌, refl, sym, ap, subst, arith, inl, inr, eqb}
+use Rattle.std.proofs.Common.{◌≡◌, ◌≢◌, ℕ, zero, suc, ◌+◌, ◌<◌, Bool, true, false, Option, None, Some, List, [], ◌∷◌, refl, sym, ap, arith}
 use Rattle.std.specs.Prelude.{if◌then◌else◌, nat_eq, IfSome, MatchBool}
 use Rattle.std.specs.List.{slice_get}
-use Rattle.std.proofs.lemmas.Bool.{eqb-true, eqb-false, cases_order, false≢true}
+use Rattle.std.proofs.lemmas.Bool.{eqb-true, eqb-false, false≢true}
 use Rattle.std.proofs.lemmas.Option.{none-some, same_Some}
 use Rattle.units.specs.Positions.{same_position}
 use Rattle.units.proofs.Positions.{same_position_true}
@@ -47,10 +47,7 @@ compared same alike apart (x ∷ xs) (y ∷ ys) at =
     by_heads x y xs ys at (first_difference same xs ys (at + 1)) (same x y) (alike x y) (apart x y) (compared same alike apart xs ys (at + 1))
 
 difference_unique : {A : Type 0} (xs ys : List A) (i j : ℕ) → IsFirstDifference xs ys i → IsFirstDifference xs ys j → i ≡ j
-difference_unique xs ys i j d e = elim (cases_order i j) [
-  | inl same ↦ same
-  | inr other ↦ elim other [ inl less ↦ absurd (d.there (e.before i less)) | inr more ↦ absurd (e.there (d.before j more)) ]
-]
+difference_unique xs ys i j d e = grind arith
 
 no_difference : {A : Type 0} (xs ys : List A) (i : ℕ) → xs ≡ ys → IsFirstDifference xs ys i → ⊥
 no_difference xs ys i e d = d.there (ap (λ zs. slice_get zs i) e)
@@ -74,16 +71,11 @@ CaseIs limits claim d (Some place) = IsWrongAt limits claim d place
 para_level-is : (para_level first : Option ℕ) → MatchBool (agrees para_level first) (IfSome para_level (λ level. first ≡ Some level)) (¬ IfSome para_level (λ level. first ≡ Some level))
 para_level-is None first = tt
 para_level-is (Some level) None = none-some level
-para_level-is (Some level) (Some first) = by (eqb level first) refl where
-  by : (b : Bool) → eqb level first ≡ b → MatchBool b (Some first ≡ Some level) (¬ (Some first ≡ Some level))
-  by true e = ap (λ n. Some n) (sym (eqb-true level first e))
-  by false e = λ s. eqb-false level first e (sym (same_Some _ _ s))
+para_level-is (Some level) (Some first) = grind (arith, eqb-true, eqb-false, same_Some)
 
 module _ (limits : LimitsOf) (claim : Claim) (d : Direction) where
   from-start : {A : Type 0} (xs ys : List A) (i n : ℕ) → n ≡ 0 + i → IsFirstDifference xs ys i → IsFirstDifference xs ys n
-  from-start xs ys i n e w =
-      let at : i ≡ n = omega (arith, e) in
-      subst (λ m. IsFirstDifference xs ys m) at w
+  from-start xs ys i n e w = grind arith
 
   chosen : (right : Bool) (l o : Option ℕ) → MatchBool right (IsParaRight limits claim d) (¬ IsParaRight limits claim d)
       → Compared claim.levels (layout_under limits claim d).levels 0 l → Compared claim.order (all_orders (layout_under limits claim d)) 0 o
@@ -94,10 +86,7 @@ module _ (limits : LimitsOf) (claim : Claim) (d : Direction) where
   chosen true None (Some n) p c e = (p, c, from-start claim.order (all_orders (layout_under limits claim d)) e.0 n e.1 e.2)
 
   para_level-right : MatchBool (agrees claim.para_level (first_of (layout_under limits claim d).paras)) (IsParaRight limits claim d) (¬ IsParaRight limits claim d)
-  para_level-right =
-      let paras = (layout_under limits claim d).paras in
-      let P : Option ℕ → Type 0 = λ s. MatchBool (agrees claim.para_level (first_of paras)) (IfSome claim.para_level (λ level. s ≡ Some level)) (¬ IfSome claim.para_level (λ level. s ≡ Some level)) in
-      subst P (first_is paras) (para_level-is claim.para_level (first_of paras))
+  para_level-right = grind (arith, first_is, para_level-is)
 
   -- what the search says
   pub case-is : CaseIs limits claim d (wrong_place_under limits claim d)

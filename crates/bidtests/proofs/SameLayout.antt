@@ -1,5 +1,5 @@
 -- Directions under which a text has the same layout.
-use Rattle.std.proofs.Common.{◌≡◌, ℕ, ◌+◌, ◌<◌, Option, Some, None, List, [], ◌∷◌, map, flat_map, length, drop, get_or, drop-cons, add-one, refl, sym, ◌∙◌}
+use Rattle.std.proofs.Common.{arith, ◌≡◌, ℕ, ◌+◌, ◌<◌, Option, Some, None, List, [], ◌∷◌, map, flat_map, length, drop, get_or, drop-cons, add-one, refl, sym, ◌∙◌}
 use Rattle.std.specs.Prelude.{IfSome}
 use Rattle.units.specs.declared.bracket.Unit.{Unit as BidiUnit}
 use Rattle.units.specs.declared.level.Direction.{Direction}
@@ -17,18 +17,12 @@ resolved-alike : (limits : LimitsOf) (paras : List (List BidiUnit)) (d e : Direc
     → map (λ us. para_level_of (classes_of us) d) paras ≡ map (λ us. para_level_of (classes_of us) e) paras
     → flat_map (λ us. resolved_levels limits us (para_level_of (classes_of us) d)) paras ≡ flat_map (λ us. resolved_levels limits us (para_level_of (classes_of us) e)) paras
 resolved-alike limits [] d e same = refl
-resolved-alike limits (us ∷ paras) d e same =
-    let level : para_level_of (classes_of us) d ≡ para_level_of (classes_of us) e = cc in
-    let levels : map (λ us. para_level_of (classes_of us) d) paras ≡ map (λ us. para_level_of (classes_of us) e) paras = cc in
-    let rest = resolved-alike limits paras d e levels in
-    rw level (rw rest refl)
+resolved-alike limits (us ∷ paras) d e same = grind (arith, resolved-alike limits paras d e)
 
 -- a text is laid out alike under directions that give its paragraphs the same levels
 pub laid-out-alike : (limits : LimitsOf) (text : List BidiUnit) (d e : Direction) (breaks : List ℕ) → para_levels_of text d ≡ para_levels_of text e → layout_of limits text d breaks ≡ layout_of limits text e breaks
 unfolding layout_of
-laid-out-alike limits text d e breaks same =
-    let resolved = resolved-alike limits (paragraphs_of text) d e same in
-    rw (same, resolved) refl
+laid-out-alike limits text d e breaks same = grind (arith, resolved-alike)
 
 one-level : {A : Type 0} (f g : A → ℕ) (xs : List A) (level : ℕ) → map f xs ≡ level ∷ [] → ((x : A) → g x ≡ level) → map f xs ≡ map g xs
 one-level f g [] level one all = cc

@@ -1,12 +1,12 @@
 -- What a judge has come to depends on the tables of its file's kind, not on where they stand.
-use Rattle.std.proofs.Common.{◌≡◌, ℕ, Option, None, Some, List, ◌++◌, map, refl, sym, ap, subst, ◌∙◌}
+use Rattle.std.proofs.Common.{arith, ◌≡◌, ℕ, Option, None, Some, List, ◌++◌, map, refl, sym, ap, ◌∙◌}
 use Rattle.units.specs.LineCutting.{Cutting}
 use Rattle.units.specs.Limits.{LimitsOf}
 use Rattle.ucdfiles.specs.Tables.{TablesOf, unit_by}
 use Rattle.bidtests.specs.declared.kind.Kind.{Kind}
 use Rattle.bidtests.specs.declared.kind.Kind.TheVariants.{Classes, Characters}
 use Rattle.bidtests.specs.declared.verdict.Verdict.{Verdict}
-use Rattle.bidtests.specs.Verdicts.{Finding, first_no, rows_in, cases_in}
+use Rattle.bidtests.specs.Verdicts.{Finding}
 use Rattle.bidtests.specs.ClassesFile.{classes_findings, classes_verdict}
 use Rattle.bidtests.specs.CharactersFile.{characters_line, characters_verdict}
 use Rattle.bidtests.specs.FileKinds.{findings_by, verdict_of}
@@ -41,15 +41,7 @@ module _ (limits : LimitsOf) (kind other : Kind) (same : tables_of other ≡ tab
   findings-as lines = findings-with kind lines ∙ ap (λ t. findings_with t lines) (sym same) ∙ sym (findings-with other lines)
 
   behind-as : (s : Carried) (lines : List (List ℕ)) → IsBehind limits kind s lines → IsBehind limits other s lines
-  behind-as s lines h =
-      let e = findings-as lines in
-      record {
-        under = h.under;
-        faultless = ap (first_no limits 0) (sym e) ∙ h.faultless;
-        lists = in-force-as kind other same s.levels s.order lines h.lists;
-        rows = h.rows ∙ ap rows_in e;
-        cases = h.cases ∙ ap cases_in e;
-      }
+  behind-as s lines h = grind (arith, findings-as, in-force-as)
 
   judges-as : (decided : Option Verdict) (cutting : Cutting) (s : Carried) (b : List ℕ) → JudgesBy limits kind decided cutting s b → JudgesBy limits other decided cutting s b
   judges-as None cutting s b h =
@@ -64,9 +56,7 @@ holds-for limits kind state b h = λ other same. judges-as limits kind other sam
 
 -- what a judge of this kind has come to
 pub state-of : (limits : LimitsOf) (kind own : Kind) (state : StateOf) (b : List ℕ) → Judges limits kind (judging own state) b → HoldsFor limits (tables_of own) state b
-state-of limits kind own state b judges =
-    let P : Kind → Type 0 = λ k. HoldsFor limits (tables_of k) state b in
-    subst P (sym judges.of) (holds-for limits kind state b judges.is)
+state-of limits kind own state b judges = grind (arith, holds-for)
 
 -- a judge of this kind that has come so far
 pub judges-of : (limits : LimitsOf) (kind own : Kind) (state : StateOf) (b : List ℕ) → own ≡ kind → HoldsFor limits (tables_of own) state b → Judges limits kind (judging own state) b

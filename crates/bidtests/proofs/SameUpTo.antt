@@ -1,11 +1,11 @@
 -- Files whose lines come to the same, up to the first that is malformed for a certain cause.
-use Rattle.std.proofs.Common.{◌≡◌, ℕ, ◌+◌, Option, None, Some, List, [], ◌∷◌, inl, inr, refl, sym, ap, ◌∙◌}
+use Rattle.std.proofs.Common.{arith, ◌≡◌, ℕ, ◌+◌, Option, None, Some, List, [], ◌∷◌, inl, inr, refl, sym, ◌∙◌}
 use Rattle.std.specs.Prelude.{◌⊎◌, ⊤}
 use Rattle.units.specs.Limits.{LimitsOf}
 use Rattle.bidtests.specs.declared.verdict.Cause.{Cause}
 use Rattle.bidtests.specs.declared.verdict.Verdict.{Verdict}
 use Rattle.bidtests.specs.declared.verdict.Verdict.TheVariants.{Malformed}
-use Rattle.bidtests.specs.Verdicts.{Finding, Faulty, no_of, first_no, or_yes, verdict_on}
+use Rattle.bidtests.specs.Verdicts.{Finding, Faulty, no_of, first_no, verdict_on}
 use Rattle.std.specs.Option.{option_or}
 use Rattle.units.specs.Lines.{line_number}
 
@@ -34,28 +34,17 @@ faultless-same limits cause k (f ∷ fs) [] same none = absurd same
 faultless-same limits cause k (f ∷ fs) (g ∷ gs) (inl broken) none =
     let e : Some (Malformed (line_number k) cause) ≡ None = sym (broken-has-fault limits k f cause (first_no limits (k + 1) fs) broken) ∙ none in absurd cc
 faultless-same limits cause k (f ∷ fs) (g ∷ gs) (inr same) none =
-    let rest : gs ≡ fs = faultless-same limits cause (k + 1) fs gs same.1 (option_or-none (no_of limits (line_number k) f) (first_no limits (k + 1) fs) none) in
-    let head : f ≡ g = same.0 in
-    cc
+    grind (arith, option_or-none, faultless-same limits cause (k + 1) fs gs same.1 (option_or-none (no_of limits (line_number k) f) (first_no limits (k + 1) fs) none))
 
 fault-same : (limits : LimitsOf) (cause : Cause) (k : ℕ) (fs gs : List Finding) (v : Verdict) → AreSameUpTo cause fs gs → first_no limits k fs ≡ Some v → ((line : ℕ) → v ≡ Malformed line cause → ⊥) → first_no limits k gs ≡ Some v
 fault-same limits cause k [] [] v same e other = absurd cc
 fault-same limits cause k [] (g ∷ gs) v same e other = absurd same
 fault-same limits cause k (f ∷ fs) [] v same e other = absurd same
-fault-same limits cause k (f ∷ fs) (g ∷ gs) v (inl broken) e other =
-    let is : Some (Malformed (line_number k) cause) ≡ Some v = sym (broken-has-fault limits k f cause (first_no limits (k + 1) fs) broken) ∙ e in
-    absurd (other (line_number k) (cc))
+fault-same limits cause k (f ∷ fs) (g ∷ gs) v (inl broken) e other = grind (arith, broken-has-fault)
 fault-same limits cause k (f ∷ fs) (g ∷ gs) v (inr same) e other =
     rw (← same.0) (option_or-alike (no_of limits (line_number k) f) (first_no limits (k + 1) fs) (first_no limits (k + 1) gs) v e (λ h. fault-same limits cause (k + 1) fs gs v same.1 h other))
 
 -- the verdict is the same, unless that is that a line is malformed for this cause
 pub verdict-same : (limits : LimitsOf) (cause : Cause) (fs gs : List Finding) → AreSameUpTo cause fs gs → ((line : ℕ) → verdict_on limits fs ≡ Malformed line cause → ⊥) → verdict_on limits gs ≡ verdict_on limits fs
 unfolding verdict_on
-verdict-same limits cause fs gs same other = go (first_no limits 0 fs) refl
-  where
-    go : (o : Option Verdict) → first_no limits 0 fs ≡ o → or_yes gs (first_no limits 0 gs) ≡ or_yes fs (first_no limits 0 fs)
-    go None e = let all : gs ≡ fs = faultless-same limits cause 0 fs gs same e in rw all refl
-    go (Some v) e =
-        let is : or_yes fs (first_no limits 0 fs) ≡ v = ap (or_yes fs) e in
-        let there : first_no limits 0 gs ≡ Some v = fault-same limits cause 0 fs gs v same e (λ line h. other line (is ∙ h)) in
-        ap (or_yes gs) there ∙ sym is
+verdict-same limits cause fs gs same other = grind (arith, faultless-same, fault-same)

@@ -1,14 +1,13 @@
 -- The verdict by layouts that are those of the standard.
-use Rattle.std.proofs.Common.{◌≡◌, ℕ, ◌+◌, List, [], ◌∷◌, refl, ap, ◌∙◌}
+use Rattle.std.proofs.Common.{arith, ◌≡◌, ℕ, ◌+◌, List, [], ◌∷◌, refl, ap}
 use Rattle.units.specs.Layout.{layout_of}
 use Rattle.units.specs.Limits.{standard}
 use Rattle.units.specs.StandardLimits.{standard_layout}
-use Rattle.units.specs.Text.{lines_of}
 use Rattle.units.specs.declared.bracket.Unit.{Unit as BidiUnit}
 use Rattle.units.specs.declared.level.Direction.{Direction}
 use Rattle.bidtests.specs.declared.kind.Kind.{Kind}
-use Rattle.bidtests.specs.Verdicts.{Claim, Finding, Silent, Row, Faulty, wrong_case, wrong_at, no_of, first_no, or_yes, verdict_on}
-use Rattle.bidtests.specs.FileKinds.{findings_by, verdict_of}
+use Rattle.bidtests.specs.Verdicts.{Claim, Finding, Silent, Row, Faulty, wrong_case, wrong_at, no_of, first_no, verdict_on}
+use Rattle.bidtests.specs.FileKinds.{verdict_of}
 use Rattle.bidtests.specs.StandardVerdicts.{standard_wrong_case, standard_no_of, standard_first_no, standard_verdict_of}
 use Rattle.bidtests.proofs.CutterSteps.{verdict-of}
 
@@ -28,6 +27,4 @@ module _ (same : (text : List BidiUnit) (direction : Direction) (breaks : List �
 
   pub standard-verdict : (kind : Kind) (bytes : List ℕ) → verdict_of standard kind bytes ≡ standard_verdict_of kind bytes
   unfolding verdict_on
-  standard-verdict kind bytes =
-      let found = findings_by kind (lines_of bytes) in
-      verdict-of standard kind bytes ∙ ap (or_yes found) (standard-first 0 found)
+  standard-verdict kind bytes = grind (arith, verdict-of, standard-first)

@@ -153,17 +153,13 @@ module _ (limits : LimitsOf) where
 
     fault-says : (k n : ℕ) (f : Finding) → slice_get fs k ≡ Some f → AreRight limits fs k → n ≡ line_number k → (v : Verdict) → no_of limits n f ≡ Some v → Says limits fs v
     fault-says k n Silent at right number v e = absurd (none-some v e)
-    fault-says k n (Faulty cause) at right number v e =
-        let says : FirstIsMalformed limits fs n cause = record { k = k; numbered = number; earlier = right; malformed = at } in
-        subst (Says limits fs) (same_Some _ _ e) says
+    fault-says k n (Faulty cause) at right number v e = grind (arith, same_Some)
     fault-says k n (Row claim) at right number v e =
         row-says k n claim at right number (wrong_case limits claim claim.directions) (cases-are claim claim.directions) v e
 
     says-by : (o : Option Verdict) → LinesAre fs 0 o → Says limits fs (or_yes fs o)
     says-by None are = record { all = are; rows_counted = refl; cases_counted = refl }
-    says-by (Some v) are =
-        let at : line_number (0 + are.0) ≡ line_number are.0 = ap (λ n. line_number n) (omega arith) in
-        fault-says are.0 (line_number (0 + are.0)) are.1 are.2 are.3 at v are.4
+    says-by (Some v) are = grind (arith, fault-says)
 
     pub verdict-says : Says limits fs (verdict_on limits fs)
     unfolding verdict_on
@@ -174,18 +170,10 @@ module _ (limits : LimitsOf) where
 
     -- two that are malformed
     malformed-unique : (n m : ℕ) (c e : Cause) → FirstIsMalformed limits fs n c → FirstIsMalformed limits fs m e → Malformed n c ≡ Malformed m e
-    malformed-unique n m c e a b =
-        let same : a.k ≡ b.k = same-line a.k b.k (λ lt. b.earlier.well_formed a.k c lt a.malformed) (λ lt. a.earlier.well_formed b.k e lt b.malformed) in
-        let number : n ≡ m = a.numbered ∙ ap (λ k. line_number k) same ∙ sym b.numbered in
-        let faults : Faulty c ≡ Faulty e = same_Some _ _ (sym a.malformed ∙ ap (λ k. slice_get fs k) same ∙ b.malformed) in
-        cc
+    malformed-unique n m c e a b = grind (arith, same-line, same_Some)
 
     not-both : (n m : ℕ) (c : Cause) (d : Direction) (p : Place) → FirstIsMalformed limits fs n c → FirstIsWrong limits fs m d p → ⊥
-    not-both n m c d p a b =
-        let same : a.k ≡ b.k = same-line a.k b.k (λ lt. b.earlier.well_formed a.k c lt a.malformed)
-        (λ lt. right-wrong limits b.claim d p (a.earlier.right b.k b.claim d lt b.row b.names) b.wrong) in
-        let faults : Faulty c ≡ Row b.claim = same_Some _ _ (sym a.malformed ∙ ap (λ k. slice_get fs k) same ∙ b.row) in
-        absurd (cc)
+    not-both n m c d p a b = grind (arith, same-line, right-wrong, same_Some)
 
     wrong-unique : (n m : ℕ) (d e : Direction) (p q : Place) → FirstIsWrong limits fs n d p → FirstIsWrong limits fs m e q → Wrong n d p ≡ Wrong m e q
     wrong-unique n m d e p q a b =
