@@ -1,6 +1,6 @@
 -- What a line says, by its content and its comment.
-use Rattle.std.proofs.Common.{◌≡◌, ℕ, ◌+◌, ◌<◌, ◌≤◌, ◌==◌, false, List, [], ◌∷◌, length, take, refl, sym, ap, ◌∙◌, arith}
-use Rattle.std.specs.List.{before_first, after_first, position_or_len}
+use Rattle.std.proofs.Common.{◌≡◌, ℕ, ◌<◌, ◌≤◌, ◌==◌, false, List, [], ◌∷◌, length, refl, arith}
+use Rattle.std.specs.List.{before_first, after_first}
 use Rattle.std.specs.Prelude.{nat_lt}
 use Rattle.std.proofs.lemmas.Bool.{le-ltb}
 use Rattle.std.proofs.lemmas.List.{length-take}
@@ -27,22 +27,15 @@ class_content_says-none line (b ∷ bs) e = absurd (omega arith)
 pub class_line_says-data : (line before content : List ℕ) → length line ≤ longest_line → before ≡ before_first (λ b. b == 35) line → content ≡ trimmed before → 0 < length content
     → class_line_says line ≡ span_says Data (range_in class_of_short (fields_of content))
 class_line_says-data line before content le cut trim some =
-    let e : content ≡ content_of line = trim ∙ ap trimmed cut in
-    class_line_says-short line le ∙ ap (class_content_says line) (sym e) ∙ class_content_says-some line content some
+    grind (arith, class_line_says-short, class_content_says-some)
 
 pub class_line_says-comment : (line before content comment : List ℕ) → length line ≤ longest_line → before ≡ before_first (λ b. b == 35) line → content ≡ trimmed before → length content ≡ 0
     → comment ≡ after_first (λ b. b == 35) line → class_line_says line ≡ comment_says (without_blanks_before comment)
 class_line_says-comment line before content comment le cut trim none behind =
-    let e : content ≡ content_of line = trim ∙ ap trimmed cut in
-    class_line_says-short line le ∙ ap (class_content_says line) (sym e) ∙ class_content_says-none line content none ∙ ap (λ t. comment_says (without_blanks_before t)) (sym behind)
+    grind (arith, class_line_says-short, class_content_says-none)
 
 no_comment : (line : List ℕ) → before_first (λ b. b == 35) line ≡ line → [] ≡ after_first (λ b. b == 35) line
-no_comment line e =
-    let p = position_or_len (λ b. b == 35) line in
-    let le : p ≤ length line = prefix_len-le-length _ line in
-    let same : length (take p line) ≡ length line = ap length e in
-    let past : length line ≤ p + 1 = omega (arith, length-take p line, same, le) in
-    sym (drop_of_length-le line past)
+no_comment line e = grind (arith, prefix_len-le-length, length-take, drop_of_length-le)
 
 pub class_line_says-silent : (line before content : List ℕ) → length line ≤ longest_line → before ≡ before_first (λ b. b == 35) line → content ≡ trimmed before → length content ≡ 0
     → before_first (λ b. b == 35) line ≡ line → class_line_says line ≡ Silent

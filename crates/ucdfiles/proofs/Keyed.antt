@@ -1,5 +1,5 @@
 -- Brackets with keys: one more, and the table of a faultless file.
-use Rattle.std.proofs.Common.{◌≡◌, ◌≤◌, ◌↔◌, ℕ, Option, None, Some, List, [], ◌∷◌, ◌++◌, map, refl, sym, ap, subst, ◌∙◌, inl, inr}
+use Rattle.std.proofs.Common.{arith, ◌≡◌, ◌≤◌, ◌↔◌, ℕ, Option, None, Some, List, [], ◌∷◌, ◌++◌, map, refl, sym, ap, subst, ◌∙◌, inl, inr}
 use Rattle.std.proofs.lemmas.Bool.{cases_Bool}
 use Rattle.std.specs.List.{find}
 use Rattle.std.specs.Option.{option_map, unwrap_or}
@@ -66,13 +66,7 @@ find-numbered numbers c (s ∷ spans) stated are is = elim (cases_Bool (holds c 
 ]
 
 keys-equal : (numbers : List (List ℕ × ℕ)) (a b : ℕ) → IsNumbering numbers → IsNumbered numbers a → IsNumbered numbers b → (key_in numbers a ≡ key_in numbers b) ↔ IsEquivalent a b
-keys-equal numbers a b numbering ha hb = (
-  λ same.
-      let numbers_same : unwrap_or (number_in numbers (nfd (a ∷ []))) 0 ≡ unwrap_or (number_in numbers (nfd (b ∷ []))) 0 = ap (λ (k : Key). k.0) same in
-      let n_same : ha.0 ≡ hb.0 = rw (ha.1, hb.1) at numbers_same in
-      numbering.apart (nfd (a ∷ [])) (nfd (b ∷ [])) ha.0 ha.1 (hb.1 ∙ ap (λ n. Some n) (sym n_same)),
-  λ same. ap (λ d. record { 0 = unwrap_or (number_in numbers d) 0 }) same,
-)
+keys-equal numbers a b numbering ha hb = grind arith
 
 bracket_stated-keyed : (key : ℕ → Key) (o : Option (Span SidedBracket)) → unwrap_or (value_by (option_map (keyed_span key) o) None) No ≡ bracket_stated key (value_by o None)
 bracket_stated-keyed key None = refl

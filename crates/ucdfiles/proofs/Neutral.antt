@@ -1,7 +1,5 @@
 -- Brackets of class ON: no other code point is a bracket.
-use Rattle.std.proofs.Common.{◌≡◌, ◌∙◌, ◌<◌, ◌≤◌, ℕ, true, None, List, [], length, get_or, refl, inl, inr}
-use Rattle.std.proofs.lemmas.Bool.{cases_Bool}
-use Rattle.std.specs.List.{find}
+use Rattle.std.proofs.Common.{arith, ◌≡◌, ◌<◌, ◌≤◌, ℕ, true, List, [], length, get_or}
 use Rattle.std.specs.Option.{unwrap_or}
 use Rattle.units.specs.declared.bracket.Bracket.{Bracket}
 use Rattle.units.specs.declared.bracket.Bracket.TheVariants.{No}
@@ -23,9 +21,4 @@ abbrev pub HoldsNeutrals : Stages Class → List (Span Bracket) → ℕ → Type
 HoldsNeutrals classes spans n = (k : ℕ) (d : Span Bracket) → k < n → (c : ℕ) → holds c (get_or spans k d) ≡ true → class_by classes c ≡ ON
 
 pub neutrals-all : (classes : Stages Class) (spans : List (Span Bracket)) (table : Stages Bracket) → IsTableOf spans table → HoldsNeutrals classes spans (length spans) → AreNeutral classes table
-neutrals-all classes spans table is neutral c le other =
-    let none : find (holds c) spans ≡ None = find-none (holds c) spans (λ k d lt. elim (cases_Bool (holds c (get_or spans k d))) [
-      | inl held ↦ absurd (other (neutral k d lt c held))
-      | inr aside ↦ aside
-    ]) in
-    is c le ∙ rw none refl
+neutrals-all classes spans table is neutral c le other = grind (arith, find-none)

@@ -22,9 +22,7 @@ module _ {K : Type 0} (items : K → List ℕ) where
 
   pub number_in-lookup : (es : List (K × ℕ)) (a : List ℕ) → number_in (read es) a ≡ lookup (λ k. is_eq (slice_cmp nat_cmp a (items k))) es
   number_in-lookup [] a = refl
-  number_in-lookup (e ∷ es) a =
-      let same : is_eq (slice_cmp nat_cmp a (items e.0)) ≡ bytes_eq a (items e.0) = is_eq-slice_cmp a (items e.0) in
-      rw (same, number_in-lookup es a) refl
+  number_in-lookup (e ∷ es) a = grind (arith, is_eq-slice_cmp, number_in-lookup es a)
 
   module _ (e : K × ℕ) (es : List (K × ℕ)) (k : K) (n : ℕ) (a : List ℕ) where
     after : (later : number_in (read es) (items k) ≡ None → number_in (read (insert_entry compared es k n)) a ≡ cond (bytes_eq a (items k)) (Some n) (number_in (read es) a))
@@ -60,31 +58,10 @@ module _ (old new : List (List ℕ × ℕ)) (key : List ℕ) (none : number_in o
   number_in-new = looks key ∙ rw itself refl
 
   cases : (a : List ℕ) (n : ℕ) → number_in new a ≡ Some n → ((a ≡ key) × (n ≡ length old)) ⊎ (number_in old a ≡ Some n)
-  cases a n is = elim (cases_Bool (bytes_eq a key)) [
-    | inl same ↦ (let here : number_in new a ≡ Some (length old) = looks a ∙ rw same refl in inl ((bytes_eq-Decides a key).0 same, cc))
-    | inr other ↦ (let there : number_in new a ≡ number_in old a = looks a ∙ rw other refl in inr (sym there ∙ is))
-  ]
+  cases a n is = grind (arith, bytes_eq-Decides)
 
   pub keeps-new : Keeps old new
-  keeps-new a n is = elim (cases_Bool (bytes_eq a key)) [
-    | inl same ↦ (let here : number_in old a ≡ None = ap (number_in old) ((bytes_eq-Decides a key).0 same) ∙ none in cc)
-    | inr other ↦ looks a ∙ rw other is
-  ]
+  keeps-new a n is = grind (arith, bytes_eq-Decides)
 
   pub numbering-new : IsNumbering old → length new ≡ length old + 1 → IsNumbering new
-  numbering-new h counts = record {
-    apart = λ a b n ha hb. elim (cases a n ha) [
-      | inl first ↦ elim (cases b n hb) [
-        | inl second ↦ first.0 ∙ sym second.0
-        | inr second ↦ absurd (omega (arith, h.below b n second, first.1))
-      ]
-      | inr first ↦ elim (cases b n hb) [
-        | inl second ↦ absurd (omega (arith, h.below a n first, second.1))
-        | inr second ↦ h.apart a b n first second
-      ]
-    ];
-    below = λ a n is. elim (cases a n is) [
-      | inl first ↦ omega (arith, first.1, counts)
-      | inr first ↦ omega (arith, h.below a n first, counts)
-    ];
-  }
+  numbering-new h counts = grind (arith, cases)

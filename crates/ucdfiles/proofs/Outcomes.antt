@@ -1,5 +1,5 @@
 -- What a reader says at each of its ends.
-use Rattle.std.proofs.Common.{◌≡◌, ◌≢◌, ◌<◌, ◌≤◌, ℕ, ◌⊎◌, inl, inr, List, [], ◌++◌, length, length-append, take, arith, Option, None, Some, Result, Ok, Err, refl, ap, ◌∙◌}
+use Rattle.std.proofs.Common.{◌≡◌, ◌≢◌, ◌<◌, ◌≤◌, ℕ, ◌⊎◌, inl, inr, List, [], ◌++◌, length, length-append, take, arith, Option, None, Some, Result, Ok, Err}
 use Rattle.std.proofs.lemmas.List.{length-take-le}
 use Rattle.std.specs.Prelude.{IfErr, OnOk}
 use Rattle.units.specs.LineCutting.{Cutting}
@@ -13,22 +13,14 @@ use Rattle.ucdfiles.proofs.Settled.{settled-whole}
 
 module _ (before after : List (List ℕ) → Type 0) (fault : List (List ℕ) → List ℕ → Option Fault) (cutter : Cutting) (ended : Type 0) (b : List ℕ) (r : Reads before fault cutter b) where
   pub failed : IsFault fault ended b Read
-  failed = record {
-    read = λ _. ap (first_fault fault []) (settled-whole b r.lines r.rest r.whole) ∙ r.faultless;
-    memory = λ is. cc;
-    other = λ other. absurd (other refl);
-  }
+  failed = grind (arith, settled-whole)
 
   pub ends-outcome : (result : Result (Unit {0}) TableFault) → ended
       → OnOk result ((b : List ℕ) → Reads before fault cutter b → (first_fault fault [] (lines_of b) ≡ None) × after (lines_of b))
       → IfErr result (λ e. (b : List ℕ) → Reads before fault cutter b → (e ≡ Memory) ⊎ (first_fault fault [] (lines_of b) ≡ Some e))
       → IfErr result (λ e. e ≢ Read) → IsOutcome after fault ended result b
   ends-outcome (Ok done) end ok err not_read = (end, (ok b r).0, (ok b r).1)
-  ends-outcome (Err e) end ok err not_read = record {
-    read = λ is. absurd (not_read is);
-    memory = λ _. inl end;
-    other = λ _. elim (err b r) [ inl memory ↦ inl (inl memory) | inr faulty ↦ inr (end, faulty) ];
-  }
+  ends-outcome (Err e) end ok err not_read = grind arith
 
 pub refused : (fault : List (List ℕ) → List ℕ → Option Fault) (ended : Type 0) (b : List ℕ) (e : TableFault) → 0 < length b → RefusesBytes fault b e → e ≢ Read → IsFault fault ended b e
 refused fault ended b e some refuses not_read = record { read = λ is. absurd (not_read is); memory = λ _. inr some; other = λ _. inl refuses }

@@ -1,14 +1,12 @@
 -- The values that lines of pairs state: none of them is a default line.
-use Rattle.std.proofs.Common.{◌≡◌, ℕ, true, false, None, Result, Ok, Err, List, [], ◌∷◌, length, map, refl, sym, ap, ◌∙◌}
-use Rattle.std.specs.Prelude.{nat_lt, if◌then◌else◌}
+use Rattle.std.proofs.Common.{arith, ◌≡◌, ℕ, None, Result, Ok, Err, List, [], ◌∷◌, map, refl, ◌∙◌}
 use Rattle.std.specs.List.{find}
-use Rattle.units.specs.Text.{lines_of, longest_line, content_of}
+use Rattle.units.specs.Text.{lines_of}
 use Rattle.ucdfiles.specs.declared.fault.Fault.{Fault}
-use Rattle.ucdfiles.specs.declared.fault.Fault.TheVariants.{Twice, LineTooLong}
 use Rattle.ucdfiles.specs.declared.span.Span.{Span}
 use Rattle.ucdfiles.specs.declared.span.FileLine.{FileLine}
 use Rattle.ucdfiles.specs.declared.span.FileLine.TheVariants.{Silent, Data, Default, Faulty}
-use Rattle.ucdfiles.specs.Spans.{holds, value_by, value_in}
+use Rattle.ucdfiles.specs.Spans.{holds, value_by}
 use Rattle.ucdfiles.specs.Statements.{Stated, Stands, defaults_of, value_of, span_says}
 use Rattle.ucdfiles.specs.PairFiles.{pair_line_says, pair_content_says}
 use Rattle.ucdfiles.proofs.Stating.{value_in-stands}
@@ -31,10 +29,7 @@ module _ {V : Type 0} (read : List (List ℕ) → Result (Span V) Fault) where
 
   line-data : (line : List ℕ) → IsNoDefault (pair_line_says read line)
   unfolding pair_line_says
-  line-data line = elim (nat_lt longest_line (length line)) as (λ t. IsNoDefault (if t then Faulty LineTooLong else pair_content_says read (content_of line))) [
-    | true ↦ tt
-    | false ↦ content-data (content_of line)
-  ]
+  line-data line = grind (arith, content-data)
 
   defaults_of-plain : (line : FileLine V) (lines : List (FileLine V)) → IsNoDefault line → defaults_of (line ∷ lines) ≡ defaults_of lines
   defaults_of-plain Silent lines is = refl
@@ -48,6 +43,4 @@ module _ {V : Type 0} (read : List (List ℕ) → Result (Span V) Fault) where
 
   -- so the data lines alone state the values
   pub value_of-pairs : (stated : Stated V) (bytes : List ℕ) (c : ℕ) → Stands (pair_line_says read) stated (lines_of bytes) → value_of (pair_line_says read) bytes c ≡ value_by (find (holds c) stated.data_lines) None
-  value_of-pairs stated bytes c stands =
-      let none : stated.default_lines ≡ [] = stands.defaults ∙ defaults_of-pairs (lines_of bytes) in
-      sym (value_in-stands (pair_line_says read) Twice stated (lines_of bytes) c stands) ∙ ap (λ ds. value_in stated.data_lines ds c) none
+  value_of-pairs stated bytes c stands = grind (arith, defaults_of-pairs, value_in-stands)

@@ -1,9 +1,9 @@
 -- Spans in order: where one that holds a code point stands, and one more among them.
-use Rattle.std.proofs.Common.{◌≡◌, ℕ, suc, ◌+◌, ◌-◌, ◌<◌, ◌≤◌, Bool, true, false, ltb, leb, ◌||◌, None, Some, List, [], ◌∷◌, ◌++◌, length, map, get_or, take, drop, insert, refl, sym, ap, ◌∙◌, arith, inl, inr}
+use Rattle.std.proofs.Common.{◌≡◌, ℕ, suc, ◌+◌, ◌-◌, ◌<◌, ◌≤◌, Bool, true, false, ltb, leb, ◌||◌, None, List, [], ◌∷◌, ◌++◌, length, map, get_or, take, drop, insert, refl, sym, ap, ◌∙◌, arith, inl, inr}
 use Rattle.std.specs.List.{find, list_any, AllWithin}
 use Rattle.std.specs.List.Sorted.{IsPartitionedBy}
-use Rattle.std.specs.Option.{option_map, option_or}
-use Rattle.std.proofs.lemmas.Bool.{ltb-true, lt-ltb, leb-true, le-leb, lt-leb, false_from_ne_true, cases_lt, false≢true, and_parts, and_right, cases_Bool, or_parts}
+use Rattle.std.specs.Option.{option_map}
+use Rattle.std.proofs.lemmas.Bool.{ltb-true, lt-ltb, leb-true, le-leb, lt-leb, false_from_ne_true, cases_lt, false≢true, and_parts, and_right, or_parts}
 use Rattle.std.proofs.Math.Nat.{eq-or-lt_of_le}
 use Rattle.std.proofs.lemmas.List.{take-append-drop, get_or_default, get_or-take, get_or-drop, get_or-map, length-take, length-drop, length-map}
 use Rattle.std.proofs.lemmas.List.Edits.{length-insert, get_or-insert_at, get_or-insert_below, get_or-insert_above}
@@ -22,20 +22,10 @@ or_moves false false false = refl
 
 module _ {V : Type 0} where
   pub parted : (rs : List (Span V)) (code : ℕ) → IsRising rs → IsPartitionedBy (λ (r : Span V). ltb r.last code) rs
-  parted rs code rising i j d le lt low =
-      let below : (get_or rs j d).last < code = ltb-true _ _ low in
-      elim (eq-or-lt_of_le le) [
-        | inr less ↦ lt-ltb _ _ (omega (arith, rising.apart i j d less lt, rising.each j d lt, below))
-        | inl same ↦ ap (λ k. ltb (get_or rs k d).last code) same ∙ low
-      ]
+  parted rs code rising i j d le lt low = grind (arith, ltb-true, eq-or-lt_of_le, lt-ltb)
 
   pub parted_first : (rs : List (Span V)) (code : ℕ) → IsRising rs → IsPartitionedBy (λ (r : Span V). leb r.first code) rs
-  parted_first rs code rising i j d le lt low =
-      let below : (get_or rs j d).first ≤ code = leb-true _ _ low in
-      elim (eq-or-lt_of_le le) [
-        | inr less ↦ le-leb _ _ (omega (arith, rising.apart i j d less lt, rising.each i d (omega arith), below))
-        | inl same ↦ ap (λ k. leb (get_or rs k d).first code) same ∙ low
-      ]
+  parted_first rs code rising i j d le lt low = grind (arith, leb-true, eq-or-lt_of_le, le-leb)
 
   -- a list none of whose elements pass
   pub find-none : (p : Span V → Bool) (rs : List (Span V)) → ((k : ℕ) (d : Span V) → k < length rs → p (get_or rs k d) ≡ false) → find p rs ≡ None
@@ -58,19 +48,10 @@ module _ {V : Type 0} where
 
   -- the spans from a place on begin above a code point below the first of them
   all_above : (rs : List (Span V)) (n code : ℕ) → IsRising rs → (n < length rs → (d : Span V) → code < (get_or rs n d).first) → (k : ℕ) (d : Span V) → n ≤ k → k < length rs → code < (get_or rs k d).first
-  all_above rs n code rising above k d le lt =
-      elim (eq-or-lt_of_le le) [
-        | inr less ↦ let a = above (omega arith) d in omega (arith, a, rising.each n d (omega arith), rising.apart n k d less lt)
-        | inl same ↦ let a = above (omega arith) d in omega (arith, a, ap (λ j. (get_or rs j d).first) same)
-      ]
+  all_above rs n code rising above k d le lt = grind (arith, eq-or-lt_of_le)
 
   overlaps-holds : (code : ℕ) (a b : Span V) → holds code a ≡ true → holds code b ≡ true → overlaps a b ≡ true
-  overlaps-holds code a b ha hb =
-      let p = and_parts (leb a.first code) (leb code a.last) ha in
-      let q = and_parts (leb b.first code) (leb code b.last) hb in
-      let e : leb a.first b.last ≡ true = le-leb _ _ (omega (arith, leb-true a.first code p.0, leb-true code b.last q.1)) in
-      let f : leb b.first a.last ≡ true = le-leb _ _ (omega (arith, leb-true b.first code q.0, leb-true code a.last p.1)) in
-      rw (e, f) refl
+  overlaps-holds code a b ha hb = grind (arith, and_parts, le-leb, leb-true)
 
   apart-holds : (code : ℕ) (a b : Span V) → holds code a ≡ true → overlaps a b ≡ false → holds code b ≡ false
   apart-holds code a b ha apart = false_from_ne_true (holds code b) (λ hb. false≢true (sym apart ∙ overlaps-holds code a b ha hb))
@@ -78,36 +59,19 @@ module _ {V : Type 0} where
   -- where a span meets none of these, none of these holds a code point of it
   pub find-apart : (code : ℕ) (span : Span V) (rs : List (Span V)) → holds code span ≡ true → list_any (overlaps span) rs ≡ false → find (holds code) rs ≡ None
   find-apart code span [] held none = refl
-  find-apart code span (r ∷ rs) held none =
-      let parts = or_parts (overlaps span r) (list_any (overlaps span) rs) none in
-      let e : holds code r ≡ false = apart-holds code span r held parts.0 in
-      rw e (find-apart code span rs held parts.1)
+  find-apart code span (r ∷ rs) held none = grind (arith, or_parts, apart-holds, find-apart code span rs held)
 
   finds-aside : (code : ℕ) (front back : List (Span V)) (span : Span V) → holds code span ≡ false
       → find (holds code) (front ++ span ∷ back) ≡ find (holds code) ((front ++ back) ++ span ∷ [])
-  finds-aside code front back span aside =
-      let one : find (holds code) (front ++ span ∷ back) ≡ option_or (find (holds code) front) (find (holds code) back) = find-append (holds code) front (span ∷ back) ∙ rw aside refl in
-      let other : find (holds code) ((front ++ back) ++ span ∷ []) ≡ option_or (find (holds code) (front ++ back)) None = find-append (holds code) (front ++ back) (span ∷ []) ∙ rw aside refl in
-      one ∙ sym (find-append (holds code) front back) ∙ sym (option_or-none (find (holds code) (front ++ back))) ∙ sym other
+  finds-aside code front back span aside = grind (arith, find-append, option_or-none)
 
   finds-held : (code : ℕ) (front back : List (Span V)) (span : Span V) → holds code span ≡ true → list_any (overlaps span) (front ++ back) ≡ false
       → find (holds code) (front ++ span ∷ back) ≡ find (holds code) ((front ++ back) ++ span ∷ [])
-  finds-held code front back span held none =
-      let f : find (holds code) (front ++ back) ≡ None = find-apart code span (front ++ back) held none in
-      let g : find (holds code) front ≡ None = find-apart code span front held (or_parts _ _ (sym (list_any-append (overlaps span) front back) ∙ none)).0 in
-      let one : find (holds code) (front ++ span ∷ back) ≡ Some span = find-append (holds code) front (span ∷ back) ∙ rw (g, held) refl in
-      let other : find (holds code) ((front ++ back) ++ span ∷ []) ≡ Some span = find-append (holds code) (front ++ back) (span ∷ []) ∙ rw (f, held) refl in
-      one ∙ sym other
+  finds-held code front back span held none = grind (arith, find-apart, or_parts, list_any-append, find-append)
 
   pub finds-insert : (code : ℕ) (rs : List (Span V)) (at : ℕ) (span : Span V) → list_any (overlaps span) rs ≡ false
       → find (holds code) (insert rs at span) ≡ find (holds code) (rs ++ span ∷ [])
-  finds-insert code rs at span none =
-      let whole : take at rs ++ drop at rs ≡ rs = take-append-drop at rs in
-      let apart : list_any (overlaps span) (take at rs ++ drop at rs) ≡ false = ap (list_any (overlaps span)) whole ∙ none in
-      elim (cases_Bool (holds code span)) [
-        | inl held ↦ finds-held code (take at rs) (drop at rs) span held apart
-        | inr aside ↦ finds-aside code (take at rs) (drop at rs) span aside
-      ] ∙ ap (λ t. find (holds code) (t ++ span ∷ [])) whole
+  finds-insert code rs at span none = grind (arith, take-append-drop, finds-held, finds-aside)
 
   pub meets-insert : (p : Span V → Bool) (rs : List (Span V)) (at : ℕ) (span : Span V) → list_any p (insert rs at span) ≡ list_any p (rs ++ span ∷ [])
   meets-insert p rs at span =
@@ -116,11 +80,7 @@ module _ {V : Type 0} where
       ∙ sym (list_any-append p rs (span ∷ []))
 
   pub Adds-insert : (rs : List (Span V)) (at : ℕ) (span : Span V) → at ≤ length rs → list_any (overlaps span) rs ≡ false → Adds rs span (insert rs at span)
-  Adds-insert rs at span le none = record {
-    finds = λ code. finds-insert code rs at span none;
-    meets = λ other. meets-insert (overlaps other) rs at span;
-    counts = length-insert rs at span le;
-  }
+  Adds-insert rs at span le none = grind (arith, finds-insert, meets-insert, length-insert)
 
   -- none of the spans in order meets one that ends before those from a place on begin
   pub overlaps-none : (rs : List (Span V)) (n : ℕ) (span : Span V) → IsRising rs → n ≤ length rs → AllWithin (λ (r : Span V). r.last < span.first) rs 0 n → (n < length rs → (d : Span V) → span.last < (get_or rs n d).first)
@@ -193,10 +153,7 @@ module _ {V W : Type 0} (value : V → W) where
   -- hold what they held
   pub find-revalued : (c : ℕ) (spans : List (Span V)) → find (holds c) (map (revalued value) spans) ≡ option_map (revalued value) (find (holds c) spans)
   find-revalued c [] = refl
-  find-revalued c (s ∷ spans) = elim (cases_Bool (holds c s)) [
-    | inl held ↦ rw held refl
-    | inr other ↦ rw (other, find-revalued c spans) refl
-  ]
+  find-revalued c (s ∷ spans) = grind (arith, find-revalued c spans)
 
   -- and stand as they stood
   pub rising-revalued : (none : V) (spans : List (Span V)) → IsRising spans → IsRising (map (revalued value) spans)

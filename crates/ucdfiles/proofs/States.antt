@@ -1,11 +1,10 @@
 -- The tables that the lines of a faultless file state.
-use Rattle.std.proofs.Common.{◌≡◌, ◌≤◌, ℕ, Option, None, Some, List, [], map, refl, sym, ap, ◌∙◌}
+use Rattle.std.proofs.Common.{arith, ◌≡◌, ◌≤◌, ℕ, Option, None, Some, List, [], map, refl}
 use Rattle.std.specs.Option.{option_map, unwrap_or}
 use Rattle.std.specs.List.{find}
 use Rattle.units.specs.Text.{lines_of}
 use Rattle.units.specs.declared.class.Class.{Class}
 use Rattle.units.specs.declared.class.Class.TheVariants.{L}
-use Rattle.ucdfiles.specs.declared.fault.Fault.TheVariants.{Overlap}
 use Rattle.ucdfiles.specs.Faults.{first_fault}
 use Rattle.ucdfiles.specs.Spans.{holds, value_by, value_in, revalued}
 use Rattle.ucdfiles.specs.Statements.{Stated, Stands}
@@ -19,10 +18,7 @@ use Rattle.ucdfiles.proofs.Stating.{value_in-stands}
 pub states-classes : (bytes : List ℕ) (stated : Stated Class) (classes : ℕ → Class) → first_fault class_fault [] (lines_of bytes) ≡ None → Stands class_line_says stated (lines_of bytes)
     → ((c : ℕ) → c ≤ 0x10FFFF → classes c ≡ unwrap_or (value_in stated.data_lines stated.default_lines c) L) → StatesClasses bytes classes
 unfolding class_file_fault class_of
-states-classes bytes stated classes none stands looks = record {
-  faultless = none;
-  stated = λ c within. looks c within ∙ ap (λ o. unwrap_or o L) (value_in-stands class_line_says Overlap stated (lines_of bytes) c stands);
-}
+states-classes bytes stated classes none stands looks = grind (arith, value_in-stands)
 
 glyph-revalued : (o : Option (Span ℕ)) → unwrap_or (value_by (option_map (revalued (λ (c : ℕ). Some c)) o) None) None ≡ value_by o None
 glyph-revalued None = refl
@@ -32,10 +28,5 @@ pub states-mirrors : (bytes : List ℕ) (stated : Stated ℕ) (images : List (Sp
     → Stands (pair_line_says mirror_in) stated (lines_of bytes) → images ≡ map (revalued (λ (c : ℕ). Some c)) stated.data_lines
     → ((c : ℕ) → c ≤ 0x10FFFF → glyphs c ≡ unwrap_or (value_by (find (holds c) images) None) None) → StatesMirrors bytes glyphs
 unfolding mirror_file_fault mirror_of
-states-mirrors bytes stated images glyphs none stands same looks = record {
-  faultless = none;
-  stated = λ c within.
-      looks c within ∙ ap (λ ss. unwrap_or (value_by (find (holds c) ss) None) None) same
-      ∙ ap (λ o. unwrap_or (value_by o None) None) (find-revalued (λ (c : ℕ). Some c) c stated.data_lines)
-      ∙ glyph-revalued (find (holds c) stated.data_lines) ∙ sym (value_of-pairs mirror_in stated bytes c stands);
-}
+states-mirrors bytes stated images glyphs none stands same looks =
+    grind (arith, find-revalued, glyph-revalued, value_of-pairs)

@@ -1,13 +1,12 @@
 -- One more line, and what is stated with it.
-use Rattle.std.proofs.Common.{◌≡◌, ℕ, None, List, [], ◌∷◌, ◌++◌, length, map, refl, sym, ap, ◌∙◌, arith, length-append, append-nil, subst}
-use Rattle.std.specs.List.{find, list_any}
+use Rattle.std.proofs.Common.{◌≡◌, ℕ, None, List, [], ◌∷◌, ◌++◌, map, refl, sym, ap, ◌∙◌, arith, length-append, append-nil, subst}
 use Rattle.std.proofs.lemmas.List.{map-append}
 use Rattle.std.proofs.lemmas.List.Folds.{find-append, list_any-append}
 use Rattle.ucdfiles.specs.declared.fault.Fault.{Fault}
 use Rattle.ucdfiles.specs.declared.span.Span.{Span}
 use Rattle.ucdfiles.specs.declared.span.FileLine.{FileLine}
 use Rattle.ucdfiles.specs.declared.span.FileLine.TheVariants.{Silent, Data, Default, Faulty}
-use Rattle.ucdfiles.specs.Spans.{holds, overlaps, Adds, default_fault, value_in}
+use Rattle.ucdfiles.specs.Spans.{Adds, default_fault, value_in}
 use Rattle.ucdfiles.specs.Statements.{data_of, defaults_of, fault_behind, line_fault, value_stated, Stated, stated_fault, Becomes, IsStatedBy, Stands}
 
 module _ {V : Type 0} where
@@ -35,26 +34,13 @@ module _ {V : Type 0} where
   -- a line that adds no data
   same_data : (old new : Stated V) (lines : List (FileLine V)) (line : FileLine V) → IsStatedBy old lines → new.data_lines ≡ old.data_lines → data_of (line ∷ []) ≡ []
       → new.default_lines ≡ old.default_lines ++ defaults_of (line ∷ []) → IsStatedBy new (lines ++ line ∷ [])
-  same_data old new lines line h same none defaults =
-      let said : data_of (lines ++ line ∷ []) ≡ data_of lines = data_of-push lines line ∙ ap (λ ss. data_of lines ++ ss) none ∙ append-nil (data_of lines) in
-      record {
-        finds = λ c. ap (find (holds c)) same ∙ h.finds c ∙ ap (find (holds c)) (sym said);
-        meets = λ s. ap (list_any (overlaps s)) same ∙ h.meets s ∙ ap (list_any (overlaps s)) (sym said);
-        counts = ap length same ∙ h.counts ∙ ap length (sym said);
-        defaults = defaults ∙ ap (λ ds. ds ++ defaults_of (line ∷ [])) h.defaults ∙ sym (defaults_of-push lines line);
-      }
+  same_data old new lines line h same none defaults = grind (arith, data_of-push, append-nil, defaults_of-push)
 
   -- a data line
   more_data : (old new : Stated V) (lines : List (FileLine V)) (span : Span V) → IsStatedBy old lines → Adds old.data_lines span new.data_lines → new.default_lines ≡ old.default_lines
       → IsStatedBy new (lines ++ Data span ∷ [])
   more_data old new lines span h adds same =
-      let said : data_of (lines ++ Data span ∷ []) ≡ data_of lines ++ span ∷ [] = data_of-push lines (Data span) in
-      record {
-        finds = λ c. adds.finds c ∙ find-append (holds c) old.data_lines (span ∷ []) ∙ (rw (h.finds c) (sym (ap (find (holds c)) said ∙ find-append (holds c) (data_of lines) (span ∷ []))));
-        meets = λ s. adds.meets s ∙ list_any-append (overlaps s) old.data_lines (span ∷ []) ∙ (rw (h.meets s) (sym (ap (list_any (overlaps s)) said ∙ list_any-append (overlaps s) (data_of lines) (span ∷ []))));
-        counts = omega (arith, adds.counts, h.counts, ap length said, length-append (data_of lines) (span ∷ []));
-        defaults = same ∙ h.defaults ∙ sym (defaults_of-push lines (Data span) ∙ append-nil (defaults_of lines));
-      }
+      grind (arith, data_of-push, find-append, list_any-append, length-append, defaults_of-push, append-nil)
 
   becomes : (taken : Fault) (old new : Stated V) (lines : List (FileLine V)) (said : FileLine V) → IsStatedBy old lines → Becomes taken old said new
       → (fault_behind taken lines said ≡ None) × IsStatedBy new (lines ++ said ∷ [])

@@ -26,29 +26,8 @@ same_lines b t own lines rest text whole now more =
 module _ (before after : List (List ℕ) → Type 0) (fault : List (List ℕ) → List ℕ → Option Fault) (old new : Cutting) (b piece : List ℕ) (used : ℕ) where
   pub step-ok : (step : Step) → Reads before fault old b → StandsFor new (b ++ take used piece) → AnswersPiece b piece used step → IsStep before after fault step
       → Reads after fault new (b ++ take used piece)
-  step-ok More r cuts answer step =
-      let taken : take used piece ≡ piece = ap (λ n. take n piece) answer.1 ∙ take_all (length piece) piece (omega arith) in
-      let now : CutsInto (b ++ take used piece) answer.3.0 answer.3.1 = let P : List ℕ → Type 0 = λ t. CutsInto (b ++ t) answer.3.0 answer.3.1 in subst P (sym taken) answer.3.2 in
-      let same : r.lines ≡ answer.3.0 = sym (ended_lines-CutsInto b r.lines r.rest r.whole) ∙ sym answer.2 ∙ ended_lines-CutsInto (b ++ take used piece) answer.3.0 answer.3.1 now in
-      record {
-        cuts = cuts;
-        lines = r.lines;
-        rest = answer.3.1;
-        whole = let P : List (List ℕ) → Type 0 = λ ls. CutsInto (b ++ take used piece) ls answer.3.1 in subst P (sym same) now;
-        table = step r.lines r.table;
-        faultless = r.faultless;
-      }
-  step-ok (Line number text) r cuts answer step =
-      let same : answer.2.0 ≡ r.lines = same_lines b (take used piece) r.lines answer.2.0 r.rest text.now r.whole answer.2.1 answer.1 in
-      let does = step r.lines r.table in
-      record {
-        cuts = cuts;
-        lines = r.lines ++ text.now ∷ [];
-        rest = [];
-        whole = let P : List (List ℕ) → Type 0 = λ ls. CutsInto (b ++ take used piece) (ls ++ text.now ∷ []) [] in subst P same answer.2.1;
-        table = does.1;
-        faultless = first_fault-push fault r.lines text.now r.faultless does.0;
-      }
+  step-ok More r cuts answer step = grind (arith, take_all, ended_lines-CutsInto)
+  step-ok (Line number text) r cuts answer step = grind (arith, same_lines, first_fault-push)
   step-ok (TooLong number) r cuts answer step = absurd step
 
   pub step-err : (step : Step) (e : TableFault) (more : List ℕ) → ((lines : List (List ℕ)) (line : List ℕ) → longest_line < length line → fault lines line ≡ Some over_long_line)
