@@ -1,10 +1,10 @@
 -- N0 without an opening bracket.
-use Rattle.std.proofs.Common.{◌≡◌, ℕ, zero, suc, ◌<◌, false, None, List, [], ◌∷◌, ◌++◌, length, get_or, refl, ap, ◌∙◌, arith, inl, inr}
-use Rattle.std.specs.Prelude.{Option, ◌&&◌, fold, filter}
+use Rattle.std.proofs.Common.{◌≡◌, ℕ, zero, suc, ◌<◌, false, None, List, [], ◌∷◌, length, get_or, refl, ap, ◌∙◌, arith, inl, inr}
+use Rattle.std.specs.Prelude.{Option, fold, filter}
 use Rattle.std.proofs.lemmas.Bool.{and_left, cases_lt}
 use Rattle.std.proofs.lemmas.List.{get_or_past, get_or-map, length-map}
-use Rattle.units.specs.Positions.{positions_of, last_below, is_before}
-use Rattle.units.specs.Brackets.{acting_bracket, acting_brackets, is_open, closes, bracket_at, is_open_at, ended_with, pairs_before, stop_of, bracket_pairs_of, closer_of, after_pair, after_paired}
+use Rattle.units.specs.Positions.{positions_of, is_before}
+use Rattle.units.specs.Brackets.{acting_bracket, acting_brackets, is_open, bracket_at, pairs_before, stop_of, bracket_pairs_of, closer_of, after_pair, after_paired}
 use Rattle.units.specs.Runs.{SequenceView, direction_of}
 use Rattle.units.specs.Layout.{no_unit, units_at, after_brackets}
 use Rattle.units.specs.declared.class.Class.{Class}
@@ -17,13 +17,7 @@ use Rattle.units.proofs.Positions.{last_below_nowhere}
 -- where nothing opens, nothing is paired
 pub pairs_before-none : (bs : List Bracket) → ((p : ℕ) → is_open (bracket_at bs p) ≡ false) → (p : ℕ) → pairs_before bs p ≡ []
 pairs_before-none bs none zero = refl
-pairs_before-none bs none (suc p) =
-    let earlier : pairs_before bs p ≡ [] = pairs_before-none bs none p in
-    let closed : last_below (λ o. is_open_at bs [] o && closes (bracket_at bs o) (bracket_at bs p)) p ≡ None =
-    last_below_nowhere (λ o. is_open_at bs [] o && closes (bracket_at bs o) (bracket_at bs p)) p
-    (λ o lt. and_left _ _ (and_left _ _ (none o))) in
-    ap (λ ps. ps ++ ended_with p (last_below (λ o. is_open_at bs ps o && closes (bracket_at bs o) (bracket_at bs p)) p)) earlier
-    ∙ ap (ended_with p) closed
+pairs_before-none bs none (suc p) = grind (arith, last_below_nowhere, and_left, pairs_before-none bs none p)
 
 pub bracket_pairs_of-none : (most_open : ℕ) (bs : List Bracket) → ((p : ℕ) → is_open (bracket_at bs p) ≡ false) → bracket_pairs_of most_open bs ≡ []
 unfolding bracket_pairs_of
@@ -37,8 +31,7 @@ closer_of-none o = refl
 pairs_none : (embedding sos : Class) (before : List Class) (closer : ℕ → Option ℕ) → ((o : ℕ) → closer o ≡ None) → (cs : List Class) (os : List ℕ) → fold (λ now o. after_pair embedding sos before now o (closer o)) cs os ≡ cs
 pairs_none embedding sos before closer none cs [] = refl
 pairs_none embedding sos before closer none cs (o ∷ os) =
-    ap (λ c. fold (λ now o. after_pair embedding sos before now o (closer o)) (after_pair embedding sos before cs o c) os) (none o)
-    ∙ pairs_none embedding sos before closer none cs os
+    grind (arith, pairs_none embedding sos before closer none cs os)
 
 pub after_paired-none : (embedding sos : Class) (before : List Class) (closer : ℕ → Option ℕ) → ((o : ℕ) → closer o ≡ None) → (cs : List Class) → after_paired embedding sos before closer cs ≡ cs
 unfolding after_paired
