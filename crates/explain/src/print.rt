@@ -1,5 +1,5 @@
 //! What `explain` prints of a text, or of a row of classes.
-ghost use Rattle.std.specs.Prelude.{◌≡◌, ◌≤◌, ◌↔◌, length, map, IfOk, IsErr, OnOk};
+ghost use Rattle.std.specs.Prelude.{◌≡◌, ◌≤◌, length, map, Err, IfOk, IsOk, OnErr, OnOk};
 ghost use Rattle.std.specs.Io.KnownBytes.{Appends};
 ghost use Rattle.units.specs.Layout.{longest_text};
 ghost use Rattle.units.specs.Paragraphs.{SeparatorOnlyLast};
@@ -36,9 +36,10 @@ fn plain_units(alloc: Global, classes: &[Class]) -> Result<Vec<Unit>, Memory>
     Ok(units)
 }
 
-/// What a write came to, with the fault in place of its error.
+/// What a write came to, with the fault of a write in place of its error.
 fn written(outcome: io::Result<()>) -> Result<(), PrintFault>
-    ensures { IsErr result ↔ IsErr outcome }
+    ensures done { OnOk outcome (IsOk result) }
+    ensures fault { OnErr outcome (result ≡ Err PrintFault.Write) }
 {
     Ok(outcome?)
 }
