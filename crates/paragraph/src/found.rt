@@ -120,7 +120,7 @@ fn resolve_each<L: Ledger>(
     ensures levels { HasLevelsBy para.now.limits.brackets para.now.units.now para.now.before.now
         sequences.now.all levels.new }
     ensures room { length pairs.new ≡ length pairs.old }
-    ensures at_least { steps.old ≤ steps.new }
+    ensures at_least { steps.old + length sequences.now.all ≤ steps.new }
     ensures at_most { steps.new ≤ steps.old + each_steps * length para.now.units.now }
 {
     let classes = &mut classes[..para.units.len()];
