@@ -92,16 +92,11 @@ levels_are_resolved limits us para levels n has =
 -- of a paragraph whose explicit levels were found
 module _ (limits : LimitsOf) (us : List BidiUnit) (para : ℕ) (places : List (Option (ℕ × Class))) (holds : HoldsLevels places limits.depth (classes_of us) para) where
   front : current_of (take (length us) places) ≡ current_of (explicit_of limits.depth (classes_of us) para)
-  front =
-      let n : length (classes_of us) ≡ length us = length-map us (λ (u : BidiUnit). u.class) in
-      ap current_of (ap (λ (k : ℕ). take k places) (sym n) ∙ found_front limits.depth places (classes_of us) para holds)
+  front = grind (arith, length-map, found_front)
 
   pub found_own : (ps : List ℕ) → AreOwn ps us (current_of (take (length us) places))
   found_own ps = subst (AreOwn ps us) (sym front) (classes_are_kept limits.depth us para ps)
 
   pub found_levels : (all : List SequenceView) (levels : List (Option ℕ)) → all ≡ sequences_of (leveled_of limits.depth (classes_of us) para) → length levels ≡ length us →
       HasLevelsBy limits.brackets us (current_of (take (length us) places)) all levels → levels ≡ resolved_levels limits us para
-  found_levels all levels e n has =
-      let P : List Class → Type 0 = λ cs. HasLevelsBy limits.brackets us cs all levels in
-      let Q : List SequenceView → Type 0 = λ ss. HasLevelsBy limits.brackets us (current_of (explicit_of limits.depth (classes_of us) para)) ss levels in
-      levels_are_resolved limits us para levels n (subst Q e (subst P front has))
+  found_levels all levels e n has = grind (arith, levels_are_resolved, front)

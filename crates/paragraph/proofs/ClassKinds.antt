@@ -1,6 +1,6 @@
 -- The kinds of classes that a set is asked for.
-use Rattle.std.proofs.Common.{◌≡◌, Bool, true, false, List, [], ◌∷◌, refl, ap, ◌∙◌}
-use Rattle.std.specs.Prelude.{◌||◌, ◌&&◌, not}
+use Rattle.std.proofs.Common.{arith, ◌≡◌, Bool, true, false, List, [], ◌∷◌, refl, ◌∙◌}
+use Rattle.std.specs.Prelude.{◌||◌, not}
 use Rattle.std.specs.List.{list_all, list_any}
 use Rattle.units.specs.Classes.{is_initiator, is_removed}
 use Rattle.units.specs.declared.class.Class.{Class}
@@ -73,8 +73,4 @@ module _ (cs : List Class) where
 -- none passes where not any does
 pub none_where_not_any : (test : Class → Bool) (cs : List Class) → not (list_any test cs) ≡ list_all (λ c. not (test c)) cs
 none_where_not_any test [] = refl
-none_where_not_any test (c ∷ cs) = not_or (test c) (list_any test cs) ∙ ap (λ b. not (test c) && b) (none_where_not_any test cs)
-  where
-    not_or : (a b : Bool) → not (a || b) ≡ (not a && not b)
-    not_or true b = refl
-    not_or false b = refl
+none_where_not_any test (c ∷ cs) = grind (arith, none_where_not_any test cs)

@@ -1,5 +1,5 @@
 -- Whether a set of classes has one of some.
-use Rattle.std.proofs.Common.{◌≡◌, Bool, true, false, List, [], ◌∷◌, refl, ap, sym, ◌∙◌}
+use Rattle.std.proofs.Common.{arith, ◌≡◌, Bool, true, false, List, [], ◌∷◌, refl, ap, sym, ◌∙◌}
 use Rattle.std.specs.Prelude.{◌||◌}
 use Rattle.std.specs.List.{list_any}
 use Rattle.units.specs.declared.class.Class.{Class}
@@ -26,10 +26,7 @@ any_of-nil (d ∷ ds) = any_of-nil ds
 
 any_of-cons : (ds cs : List Class) (c : Class) → any_of ds (c ∷ cs) ≡ (any_of ds (c ∷ []) || any_of ds cs)
 any_of-cons [] cs c = refl
-any_of-cons (d ∷ ds) cs c =
-    ap (λ b. (is_class d c || list_any (is_class d) cs) || b) (any_of-cons ds cs c)
-    ∙ or_swap (is_class d c) (list_any (is_class d) cs) (any_of ds (c ∷ [])) (any_of ds cs)
-    ∙ ap (λ b. (b || any_of ds (c ∷ [])) || any_of (d ∷ ds) cs) (sym (or_false (is_class d c) false refl))
+any_of-cons (d ∷ ds) cs c = grind (arith, or_swap, or_false, any_of-cons ds cs c)
 
 pub found_by : (test : Class → Bool) (ds : List Class) → ((c : Class) → test c ≡ any_of ds (c ∷ [])) → (cs : List Class) → any_of ds cs ≡ list_any test cs
 found_by test ds e [] = any_of-nil ds

@@ -1,10 +1,10 @@
 -- Sequence by sequence, each position gets the level that its sequence gives it.
 use Rattle.std.specs.Prelude.{Option, Some, None, ℕ, zero, suc, ◌+◌, ◌<◌, ◌≤◌, ◌≡◌, List, [], ◌∷◌, ◌++◌, length, map, take, drop, Contains, slice_get, refl}
-use Rattle.std.specs.List.{All, flat_map}
+use Rattle.std.specs.List.{flat_map}
 use Rattle.std.proofs.Common.{arith, ap, sym, ◌∙◌, subst, inl, inr, get_or}
 use Rattle.std.proofs.lemmas.Bool.{cases_lt}
 use Rattle.std.proofs.lemmas.List.{length-append, length-map, take-append-drop, take_more, append-nil}
-use Rattle.std.proofs.lemmas.List.Elements.{All-contains, All-get_or, Contains-append_left, Contains-append_right}
+use Rattle.std.proofs.lemmas.List.Elements.{Contains-append_left, Contains-append_right}
 use Rattle.std.proofs.lemmas.List.Concat.{flat_map-append}
 use Rattle.std.proofs.lemmas.Option.{get_or_from_slice_get}
 use Rattle.units.specs.Classes.{class_at, classes_at}
@@ -88,10 +88,7 @@ module _ {extent : ℕ} {all : List SequenceView} (apart : AreDisjoint extent al
   apart_from_earlier p h l = omega (arith, times_next p, times_in-take all (k + 1) p, apart.once p h)
 
   pub within_extent : (p : ℕ) → Contains s.positions p → p < extent
-  within_extent p c =
-      All-contains (λ q. q < extent) s.positions p
-      (let P : SequenceView → Type 0 = λ x. All (λ q. q < extent) x.positions in
-      subst P (get_or_from_slice_get all k s s at) (All-get_or P all k s inside apart.within)) c
+  within_extent p c = grind (arith, get_or_from_slice_get)
 
   pub stands_in_all : (p : ℕ) → Contains s.positions p → Contains (positions_in all) p
   stands_in_all p c =

@@ -6,7 +6,7 @@ use Rattle.std.proofs.lemmas.Bool.{and_parts, cases_lt, not-true}
 use Rattle.std.proofs.lemmas.Option.{none-some, same_Some}
 use Rattle.std.proofs.lemmas.List.{length-map, get_or-map, get_or_past, ext_get_or}
 use Rattle.std.proofs.lemmas.List.Sums.{AllPass-from_list_all, count_by-le-length, length-filter}
-use Rattle.units.specs.Classes.{class_at, classes_of, is_removed}
+use Rattle.units.specs.Classes.{classes_of, is_removed}
 use Rattle.units.specs.Layout.{no_unit, value_found, levels_in, resolved_levels}
 use Rattle.units.specs.Limits.{LimitsOf}
 use Rattle.units.specs.Positions.{positions_of}
@@ -15,9 +15,9 @@ use Rattle.units.specs.declared.bracket.Unit.{Unit as BidiUnit}
 use Rattle.units.specs.declared.class.Class.{Class}
 use Rattle.units.specs.declared.class.Class.TheVariants.{L}
 use Rattle.explicit.specs.ExplicitLevels.{HoldsLevels}
-use Rattle.flat.specs.Flat.{is_flat, is_kept, IsFlat, remaining_of, flat_sequences}
+use Rattle.flat.specs.Flat.{is_flat, IsFlat, remaining_of, flat_sequences}
 use Rattle.flat.specs.IdleRules.{HasNone}
-use Rattle.flat.specs.Uniform.{kept_level, may_rise}
+use Rattle.flat.specs.Uniform.{kept_level}
 use Rattle.units.proofs.Positions.{length-positions_from, get_or-positions_from}
 use Rattle.flat.proofs.OneSequence.{sequences_of-flat}
 use Rattle.flat.proofs.Staying.{resolved_levels-uniform}
@@ -36,10 +36,7 @@ none_from test cs h = λ k d lt. not-true (test (get_or cs k d)) (AllPass-from_l
 
 -- where it keeps its level, that level at each position that remains is what the rules resolve
 pub levels_are_kept : (limits : LimitsOf) (us : List BidiUnit) (para : ℕ) → keeps_level para (classes_of us) ≡ true → map (λ (u : BidiUnit). kept_level para u.class) us ≡ resolved_levels limits us para
-levels_are_kept limits us para keeps =
-    let cs : List Class = classes_of us in
-    let both = and_parts (list_all is_flat cs) (has_none (may_rise para) cs) keeps in
-    sym (resolved_levels-uniform limits us para (flat_from cs both.0) (none_from (may_rise para) cs both.1))
+levels_are_kept limits us para keeps = grind (arith, and_parts, resolved_levels-uniform, flat_from, none_from)
 
 -- what the sequences of a flat paragraph give, by the own classes, is what the rules resolve
 pub flat_levels : (limits : LimitsOf) (us : List BidiUnit) (para : ℕ) (all : List SequenceView) (levels : List (Option ℕ)) → IsFlat (classes_of us) → all ≡ sequences_of (leveled_of limits.depth (classes_of us) para) →
@@ -79,11 +76,7 @@ unit_kept us p lt none =
 
 -- no more remain than there are
 pub remaining_few : (us : List BidiUnit) → length (remaining_of (classes_of us)) ≤ length us
-remaining_few us =
-    let cs : List Class = classes_of us in
-    let n : length cs ≡ length us = length-map us (λ (u : BidiUnit). u.class) in
-    let m : length (positions_of cs) ≡ length cs = length-positions_from 0 (length cs) in
-    omega (arith, length-filter (λ p. is_kept (class_at cs p)) (positions_of cs), count_by-le-length (λ p. is_kept (class_at cs p)) (positions_of cs))
+remaining_few us = grind (arith, length-map, length-positions_from, length-filter, count_by-le-length)
 
 -- what keeps the level stays at it
 pub kept_stays : (us : List BidiUnit) (level : ℕ) (levels : List (Option ℕ)) → levels ≡ map (λ (u : BidiUnit). kept_level level u.class) us → StaysAt level levels

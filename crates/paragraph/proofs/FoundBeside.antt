@@ -27,22 +27,16 @@ first_some f (Some x) b y e = e
 -- a list that says nothing beside a position is passed over
 pub found-append : {V : Type 0} (xs ys : List (ℕ × V)) (p : ℕ) → option_map (λ (x : ℕ × V). x.1) (find (λ (x : ℕ × V). x.0 == p) xs) ≡ None
     → option_map (λ (x : ℕ × V). x.1) (find (λ (x : ℕ × V). x.0 == p) (xs ++ ys)) ≡ option_map (λ (x : ℕ × V). x.1) (find (λ (x : ℕ × V). x.0 == p) ys)
-found-append {V} xs ys p none =
-    ap (option_map (λ (x : ℕ × V). x.1)) (find-append (λ (x : ℕ × V). x.0 == p) xs ys)
-    ∙ first_none (λ (x : ℕ × V). x.1) (find (λ (x : ℕ × V). x.0 == p) xs) (find (λ (x : ℕ × V). x.0 == p) ys) none
+found-append {V} xs ys p none = grind (arith, find-append, first_none)
 
 pub found-append_none : {V : Type 0} (xs ys : List (ℕ × V)) (p : ℕ) → option_map (λ (x : ℕ × V). x.1) (find (λ (x : ℕ × V). x.0 == p) ys) ≡ None
     → option_map (λ (x : ℕ × V). x.1) (find (λ (x : ℕ × V). x.0 == p) (xs ++ ys)) ≡ option_map (λ (x : ℕ × V). x.1) (find (λ (x : ℕ × V). x.0 == p) xs)
-found-append_none {V} xs ys p none =
-    ap (option_map (λ (x : ℕ × V). x.1)) (find-append (λ (x : ℕ × V). x.0 == p) xs ys)
-    ∙ second_none (λ (x : ℕ × V). x.1) (find (λ (x : ℕ × V). x.0 == p) xs) (find (λ (x : ℕ × V). x.0 == p) ys) none
+found-append_none {V} xs ys p none = grind (arith, find-append, second_none)
 
 -- what is found in front of more is still found
 pub found-append_some : {V : Type 0} (xs ys : List (ℕ × V)) (p : ℕ) (v : V) → option_map (λ (x : ℕ × V). x.1) (find (λ (x : ℕ × V). x.0 == p) xs) ≡ Some v
     → option_map (λ (x : ℕ × V). x.1) (find (λ (x : ℕ × V). x.0 == p) (xs ++ ys)) ≡ Some v
-found-append_some {V} xs ys p v some =
-    ap (option_map (λ (x : ℕ × V). x.1)) (find-append (λ (x : ℕ × V). x.0 == p) xs ys)
-    ∙ first_some (λ (x : ℕ × V). x.1) (find (λ (x : ℕ × V). x.0 == p) xs) (find (λ (x : ℕ × V). x.0 == p) ys) v some
+found-append_some {V} xs ys p v some = grind (arith, find-append, first_some)
 
 -- beside a position that the list does not hold stands nothing
 pub zip_none : {V : Type 0} (ps : List ℕ) (vs : List V) (p : ℕ) → times ps p ≡ 0
