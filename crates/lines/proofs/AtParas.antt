@@ -5,11 +5,11 @@ use Rattle.std.proofs.Common.{arith, ap, sym, ◌∙◌, cond, get_or, inl, inr}
 use Rattle.std.proofs.Math.Seq.{take-append-add}
 use Rattle.std.proofs.lemmas.Bool.{and_parts, cases_lt}
 use Rattle.std.proofs.lemmas.List.{get_or-append-add, get_or_append_left, get_or_past, length-map, map-append, take-append-le}
-use Rattle.std.proofs.lemmas.List.Elements.{All-cons, All-head, All-nil, All-tail}
+use Rattle.std.proofs.lemmas.List.Elements.{All-head, All-nil, All-tail}
 use Rattle.std.proofs.lemmas.List.Sums.{sum_by-append}
 use Rattle.std.proofs.lemmas.Option.{none-some}
 use Rattle.units.specs.Classes.{classes_of, is_separator}
-use Rattle.units.specs.Layout.{resolved_levels, para_levels_of, text_levels}
+use Rattle.units.specs.Layout.{para_levels_of, text_levels}
 use Rattle.units.specs.Limits.{LimitsOf}
 use Rattle.units.specs.Paragraphs.{EndsWithSeparator, IsCut, SeparatorOnlyLast, joined, paragraphs_of}
 use Rattle.units.specs.Reordering.{para_level_at}
@@ -100,7 +100,4 @@ module _ (limits : LimitsOf) (direction : Direction) where
   -- paragraphs that keep their levels stay at them
   pub all_stay : (pieces : List (List BidiUnit)) → list_all (keeps_own_level direction) pieces ≡ true → All (Stays limits direction) pieces
   all_stay [] keeps = All-nil (Stays limits direction)
-  all_stay (us ∷ pieces) keeps =
-      let level : ℕ = para_level direction us in
-      let parts = and_parts (keeps_own_level direction us) (list_all (keeps_own_level direction) pieces) keeps in
-      All-cons (Stays limits direction) us pieces (kept_stays us level (resolved_levels limits us level) (sym (levels_are_kept limits us level parts.0))) (all_stay pieces parts.1)
+  all_stay (us ∷ pieces) keeps = grind (arith, and_parts, kept_stays, levels_are_kept, all_stay pieces)

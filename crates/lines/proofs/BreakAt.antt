@@ -1,5 +1,5 @@
 -- Whether a line is broken at a position, by rising breaks.
-use Rattle.std.proofs.Common.{◌≡◌, ◌≢◌, ℕ, ◌+◌, ◌-◌, ◌<◌, ◌≤◌, true, false, List, [], ◌∷◌, length, zero, suc, refl, ap, ◌∙◌, subst, arith, eq-eqb, ne_eqb}
+use Rattle.std.proofs.Common.{◌≡◌, ◌≢◌, ℕ, ◌+◌, ◌<◌, ◌≤◌, true, false, List, [], ◌∷◌, length, zero, suc, refl, ap, ◌∙◌, subst, arith, eq-eqb, ne_eqb}
 use Rattle.std.specs.Prelude.{◌||◌, ◌==◌, slice_index}
 use Rattle.std.proofs.lemmas.Bool.{or_right}
 use Rattle.lines.specs.LineBreaks.{AreBreaks}
@@ -18,9 +18,4 @@ is_break_none (b ∷ at) p none =
 
 pub rising_le : (at : List ℕ) (len j d : ℕ) → AreBreaks at len → j + d < length at → slice_index at j ≤ slice_index at (j + d)
 rising_le at len j zero breaks h = let e : j ≡ j + 0 = omega arith in subst (λ n. slice_index at j ≤ slice_index at n) e (omega arith)
-rising_le at len j (suc d) breaks h =
-    let before : slice_index at j ≤ slice_index at (j + d) = rising_le at len j d breaks (omega arith) in
-    let r : slice_index at (j + suc d - 1) < slice_index at (j + suc d) = breaks.rising (j + suc d) h (omega arith) in
-    let e : j + suc d - 1 ≡ j + d = omega arith in
-    let s : slice_index at (j + d) < slice_index at (j + suc d) = subst (λ n. slice_index at n < slice_index at (j + suc d)) e r in
-    omega arith
+rising_le at len j (suc d) breaks h = grind (arith, rising_le at len j d breaks)

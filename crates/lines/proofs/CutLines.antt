@@ -11,10 +11,7 @@ lines_left levels test start end zero = []
 lines_left levels test start end (suc count) = lines_from levels start (filter test (positions_from (start + 1) count)) end
 
 passes_none : (test : ℕ → Bool) (start count rest : ℕ) → ((p : ℕ) → start ≤ p → p < start + count → test p ≡ false) → filter test (positions_from start (count + rest)) ≡ filter test (positions_from (start + count) rest)
-passes_none test start zero rest none =
-    let e : 0 + rest ≡ rest = omega arith in
-    let f : start ≡ start + 0 = omega arith in
-    ap (λ n. filter test (positions_from start n)) e ∙ ap (λ n. filter test (positions_from n rest)) f
+passes_none test start zero rest none = grind arith
 passes_none test start (suc count) rest none =
     let e : suc count + rest ≡ suc (count + rest) = omega arith in
     let f : start + 1 + count ≡ start + suc count = omega arith in
@@ -25,12 +22,8 @@ passes_none test start (suc count) rest none =
     ∙ ap (λ n. filter test (positions_from n rest)) f
 
 cut_rest : (levels : List (Option ℕ)) (test : ℕ → Bool) (start end stop rest : ℕ) → end + rest ≡ stop → (end < stop → test end ≡ true) → lines_from levels start (filter test (positions_from end rest)) stop ≡ line_of levels start end ∷ lines_left levels test end stop rest
-cut_rest levels test start end stop zero e here =
-    let f : stop ≡ end = omega arith in
-    ap (λ n. line_of levels start n ∷ []) f
-cut_rest levels test start end stop (suc rest) e here =
-    let next = filter test (positions_from (end + 1) rest) in
-    ap (λ b. lines_from levels start (cond b (end ∷ next) next) stop) (here (omega arith))
+cut_rest levels test start end stop zero e here = grind arith
+cut_rest levels test start end stop (suc rest) e here = grind arith
 
 -- the next line, and what is left behind it
 pub lines_left-next : (levels : List (Option ℕ)) (test : ℕ → Bool) (start end stop : ℕ) → EndsLineAt test start end stop → lines_left levels test start stop (stop - start) ≡ line_of levels start end ∷ lines_left levels test end stop (stop - end)

@@ -1,7 +1,6 @@
 -- L1 of one line alone: what stands before it and behind it in the text changes none of its levels.
-use Rattle.std.proofs.Common.{◌≡◌, ℕ, ◌+◌, ◌-◌, ◌<◌, ◌≤◌, Bool, true, false, cond, Option, None, List, [], ◌∷◌, length, take, get_or, zero, suc, refl, sym, ap, ◌∙◌, inl, inr, arith}
+use Rattle.std.proofs.Common.{◌≡◌, ℕ, ◌+◌, ◌-◌, ◌<◌, ◌≤◌, Bool, true, false, cond, Option, None, List, [], ◌∷◌, length, take, get_or, zero, suc, refl, sym, ap, ◌∙◌, arith}
 use Rattle.std.specs.Prelude.{◌||◌, ◌&&◌, count_by, slice_range}
-use Rattle.std.proofs.lemmas.Bool.{cases_lt}
 use Rattle.std.proofs.lemmas.List.Sums.{count_by_more_no}
 use Rattle.units.specs.declared.class.Class.{Class}
 use Rattle.units.specs.declared.class.Class.TheVariants.{L}
@@ -33,19 +32,9 @@ from_end own at p h =
 
 -- the line ends at the end for each position behind its start
 line_from_within : (own : List Class) (at : List ℕ) (start end d p : ℕ) → IsLineOf own at start end → start < p → p + d ≡ end → line_from own at p ≡ end
-line_from_within own at start end zero p l above there =
-    let same : p ≡ end = omega arith in
-    elim (cases_lt p (length own)) [
-      | inl low ↦
-          let begins : begins_line own at p ≡ true = ap (begins_line own at) same ∙ l.here (omega arith) in
-          line_from-step own at p low ∙ ap (λ b. cond b p (line_from own at (p + 1))) begins ∙ same
-      | inr high ↦ let w = l.within in from_end own at p high ∙ omega arith
-    ]
+line_from_within own at start end zero p l above there = grind (arith, line_from-step, from_end)
 line_from_within own at start end (suc d) p l above there =
-    let w = l.within in
-    line_from-step own at p (omega arith)
-    ∙ ap (λ b. cond b p (line_from own at (p + 1))) (l.none p above (omega arith))
-    ∙ line_from_within own at start end d (p + 1) l (omega arith) (omega arith)
+    grind (arith, line_from-step, line_from_within own at start end d (p + 1) l)
 
 -- the classes of the line are those of the text from start on
 abbrev pub AreFrom : List Class → ℕ → List Class → Type 0
@@ -178,11 +167,7 @@ one_paragraph (u ∷ v ∷ us) some plain =
 -- a line within a paragraph is one paragraph by itself
 pub line_in_paragraph : (text : List BidiUnit) (start end : ℕ) → start < end → end ≤ length text → ((p : ℕ) → start < p + 1 → p + 1 < end → is_separator (class_at (classes_of text) p) ≡ false) → 1 ≡ length (paragraphs_of (slice_range text start end))
 line_in_paragraph text start end above within plain =
-    let line : List BidiUnit = slice_range text start end in
-    let n : length (classes_of line) ≡ length line = length-map line (λ (u : BidiUnit). u.class) in
-    let m : length line ≡ end - start = length-between text start end within in
-    sym (one_paragraph line (omega arith) (λ j low.
-    ap is_separator (sym (classes_of_line text start end within j (omega arith))) ∙ plain (start + j) (omega arith) (omega arith)))
+    grind (arith, length-map, length-between, one_paragraph, classes_of_line)
 
 -- L1 of a line alone is the stretch of that of the text
 pub line_reset_alone : (text : List BidiUnit) (at paras : List ℕ) (all part : List (Option ℕ)) (start end value : ℕ) → IsLineOf (classes_of text) at start end → end ≤ length text → length all ≡ length text → slice_range all start end ≡ part → value ≡ para_level_at (classes_of text) paras start → after_resets (classes_of (slice_range text start end)) [] (value ∷ []) part ≡ slice_range (after_resets (classes_of text) at paras all) start end

@@ -1,14 +1,14 @@
 -- The lines of a text, written one after the other.
 use Rattle.std.proofs.Common.{◌≡◌, ℕ, ◌+◌, ◌-◌, ◌<◌, ◌≤◌, Bool, Option, List, [], ◌∷◌, ◌++◌, length, drop, zero, suc, refl, sym, ap, ◌∙◌, subst, inl, inr, arith, append_assoc, length-append}
-use Rattle.std.specs.Prelude.{filter, map, slice_range}
+use Rattle.std.specs.Prelude.{map, slice_range}
 use Rattle.std.specs.List.{All}
 use Rattle.std.proofs.lemmas.List.{append-nil, take_all, take-append-le, drop_at, map_push}
 use Rattle.std.proofs.Math.ListN.{get_or-append}
 use Rattle.std.proofs.Math.Seq.{get_or-append_seam}
-use Rattle.std.proofs.lemmas.List.Elements.{All-nil, All-append}
+use Rattle.std.proofs.lemmas.List.Elements.{All-append}
 use Rattle.std.proofs.lemmas.Slice.{between_is}
 use Rattle.std.proofs.lemmas.Bool.{cases_lt}
-use Rattle.units.specs.Layout.{LineLayout, line_of, lines_cut_at, lines_from}
+use Rattle.units.specs.Layout.{LineLayout, line_of, lines_cut_at}
 use Rattle.units.specs.Positions.{positions_from}
 use Rattle.units.specs.Reordering.{begins_line, cuts_of, line_order}
 use Rattle.units.specs.declared.class.Class.{Class}
@@ -37,22 +37,7 @@ one_written limit zero h = omega arith
 one_written limit (suc k) h = absurd (omega arith)
 
 pub filling_start : (levels : List (Option ℕ)) (test : ℕ → Bool) → Filling levels test 0 [] (first_bound ∷ [])
-filling_start levels test =
-    let all : length levels - 0 ≡ length levels = omega arith in
-    record {
-      inside = omega arith;
-      few = omega arith;
-      fits = omega arith;
-      bounded = record {
-        some = omega arith;
-        rising = λ k h. absurd (omega arith);
-        inside = one_inside (length levels);
-        written = one_written 0;
-        places = All-nil (λ p. p < length levels);
-      };
-      last = refl;
-      lines = ap (lines_left levels test 0 (length levels)) all;
-    }
+filling_start levels test = grind (arith, one_inside, one_written)
 
 bound_kept : (bounds : List Bound) (bound : Bound) (k : ℕ) → k < length bounds → bound_at (bounds ++ bound ∷ []) k ≡ bound_at bounds k
 bound_kept bounds bound k h = get_or-append bounds (bound ∷ []) first_bound k h
@@ -65,21 +50,14 @@ range_kept orders more a b h =
     between_is (orders ++ more) a b ∙ ap (drop a) (take-append-le b orders more h) ∙ sym (between_is orders a b)
 
 range_new : (orders more : List ℕ) → slice_range (orders ++ more) (length orders) (length orders + length more) ≡ more
-range_new orders more =
-    between_is (orders ++ more) (length orders) (length orders + length more)
-    ∙ ap (drop (length orders)) (take_all (length orders + length more) (orders ++ more) (omega (arith, length-append orders more)))
-    ∙ drop_at orders more (length orders) refl
+range_new orders more = grind (arith, between_is, take_all, length-append, drop_at)
 
 map_same : (f g : ℕ → LineLayout) (start count : ℕ) → ((k : ℕ) → start ≤ k → k < start + count → f k ≡ g k) → map f (positions_from start count) ≡ map g (positions_from start count)
 map_same f g start zero same = refl
-map_same f g start (suc count) same =
-    ap (λ l. l ∷ map f (positions_from (start + 1) count)) (same start (omega arith) (omega arith))
-    ∙ ap (λ ls. g start ∷ ls) (map_same f g (start + 1) count (λ k low high. same k (omega arith) (omega arith)))
+map_same f g start (suc count) same = grind (arith, map_same f g (start + 1) count)
 
 line_kept : (orders more : List ℕ) (from to : Bound) → to.order ≤ length orders → line_between (orders ++ more) from to ≡ line_between orders from to
-line_kept orders more from to h =
-    let line : List ℕ → LineLayout = λ order. record { start = from.position; end = to.position; order = order } in
-    ap line (range_kept orders more from.order to.order h)
+line_kept orders more from to h = grind (arith, range_kept)
 
 -- the lines with one line more
 pub lines_in-more : (levels : List (Option ℕ)) (orders more : List ℕ) (bounds : List Bound) (start end : ℕ) → AreBounds levels orders bounds → bound_at bounds (length bounds - 1) ≡ record { position = start; order = length orders } → lines_in (orders ++ more) (bounds ++ record { position = end; order = length orders + length more } ∷ []) ≡ lines_in orders bounds ++ record { start = start; end = end; order = more } ∷ []
@@ -178,15 +156,8 @@ filling_more levels test start end orders orders2 bounds bounds2 c written few b
 -- all lines of a text are left before the first
 all_left : (levels : List (Option ℕ)) (own : List Class) (breaks : List ℕ) → length own ≡ length levels → lines_left levels (begins_line own breaks) 0 (length levels) (length levels) ≡ lines_cut_at levels (cuts_of own breaks)
 all_left [] own breaks same = refl
-all_left (level ∷ levels) own breaks same =
-    let e : length levels ≡ length own - 1 = omega arith in
-    ap (λ n. lines_from (level ∷ levels) 0 (filter (begins_line own breaks) (positions_from 1 n)) (length (level ∷ levels))) e
+all_left (level ∷ levels) own breaks same = grind arith
 
 -- at the text's end all are written
 pub filling_end : (levels : List (Option ℕ)) (own : List Class) (breaks : List ℕ) (start : ℕ) (orders : List ℕ) (bounds : List Bound) → length own ≡ length levels → start ≡ length levels → Filling levels (begins_line own breaks) start orders bounds → lines_in orders bounds ≡ lines_cut_at levels (cuts_of own breaks)
-filling_end levels own breaks start orders bounds same done f =
-    let none : length levels - start ≡ 0 = omega arith in
-    sym (append-nil (lines_in orders bounds))
-    ∙ ap (λ n. lines_in orders bounds ++ lines_left levels (begins_line own breaks) start (length levels) n) (sym none)
-    ∙ f.lines
-    ∙ all_left levels own breaks same
+filling_end levels own breaks start orders bounds same done f = grind (arith, append-nil, all_left)

@@ -1,5 +1,5 @@
 -- The end of the next line, by the end of its paragraph and the breaks that were passed.
-use Rattle.std.proofs.Common.{◌≡◌, ◌≢◌, ℕ, ◌+◌, ◌-◌, ◌<◌, ◌≤◌, Bool, true, false, cond, List, length, refl, sym, ap, ◌∙◌, subst, inl, inr, arith, ne_eqb}
+use Rattle.std.proofs.Common.{◌≡◌, ℕ, ◌+◌, ◌-◌, ◌<◌, ◌≤◌, Bool, true, false, cond, List, length, refl, sym, ap, ◌∙◌, subst, inl, inr, arith, ne_eqb}
 use Rattle.std.specs.Prelude.{◌||◌, ◌==◌, slice_index}
 use Rattle.std.proofs.lemmas.Bool.{cases_lt, eqb-true, eqb-false, or_from, or_left, or_right}
 use Rattle.units.specs.declared.class.Class.{Class}
@@ -20,11 +20,7 @@ pub record IsLimit (at : List ℕ) (passed len limit : ℕ) : Type 0 where
 
 -- it stands behind the position
 pub limit_above : (at : List ℕ) (passed len start limit : ℕ) → ArePassed at passed start → start < len → IsLimit at passed len limit → start < limit
-limit_above at passed len start limit q below l =
-    elim (cases_lt passed (length at)) [
-      | inl h ↦ let a = q.ahead h in let c = l.coming h in omega arith
-      | inr h ↦ let c = l.last h in omega arith
-    ]
+limit_above at passed len start limit q below l = grind arith
 
 -- no break between the last one that was passed and the next one
 no_break : (at : List ℕ) (passed start len limit p : ℕ) → AreBreaks at len → ArePassed at passed start → IsLimit at passed len limit → start < p → p < limit → is_break at p ≡ false
@@ -69,32 +65,8 @@ ends_line own at passed first start limit stop end breaks q l paragraph from abo
     }
 
 passed_if : (at : List ℕ) (len passed start limit end : ℕ) (reached : Bool) → AreBreaks at len → ArePassed at passed start → IsLimit at passed len limit → start < end → end ≤ limit → (end == limit) ≡ reached → ArePassed at (passed + cond reached 1 0) end
-passed_if at len passed start limit end true breaks q l above within is =
-    let e : end ≡ limit = eqb-true end limit is in
-    record {
-      behind = λ k low high. elim (cases_lt k passed) [
-        | inl below ↦ let b = q.behind k below high in omega arith
-        | inr over ↦
-            let same : passed ≡ k = omega arith in
-            let c : limit ≡ slice_index at passed = l.coming (omega arith) in
-            let d : slice_index at passed ≡ slice_index at k = ap (slice_index at) same in
-            omega arith
-      ];
-      ahead = λ h.
-          let r : slice_index at (passed + 1 - 1) < slice_index at (passed + 1) = breaks.rising (passed + 1) h (omega arith) in
-          let same : passed + 1 - 1 ≡ passed = omega arith in
-          let c : limit ≡ slice_index at passed = l.coming (omega arith) in
-          let d : slice_index at (passed + 1 - 1) ≡ slice_index at passed = ap (slice_index at) same in
-          omega arith;
-    }
-passed_if at len passed start limit end false breaks q l above within is =
-    let n : end ≢ limit = eqb-false end limit is in
-    let same : passed ≡ passed + 0 = omega arith in
-    let on : ArePassed at passed end = record {
-      behind = λ k low high. let b = q.behind k low high in omega arith;
-      ahead = λ h. let c = l.coming h in omega arith;
-    } in
-    subst (λ m. ArePassed at m end) same on
+passed_if at len passed start limit end true breaks q l above within is = grind (arith, eqb-true)
+passed_if at len passed start limit end false breaks q l above within is = grind (arith, eqb-false)
 
 -- the breaks that were passed at the line's end
 pub passed_on : (at : List ℕ) (len passed passed2 start limit end : ℕ) → AreBreaks at len → ArePassed at passed start → IsLimit at passed len limit → start < end → end ≤ limit → passed2 ≡ passed + cond (end == limit) 1 0 → ArePassed at passed2 end

@@ -1,6 +1,5 @@
 -- Where the paragraph ends that begins at a position.
-use Rattle.std.proofs.Common.{◌≡◌, ℕ, ◌+◌, ◌-◌, ◌<◌, ◌≤◌, true, false, List, length, ap, ◌∙◌, inl, inr, arith}
-use Rattle.std.proofs.lemmas.Bool.{cases_lt}
+use Rattle.std.proofs.Common.{◌≡◌, ℕ, ◌+◌, ◌-◌, ◌<◌, ◌≤◌, true, false, List, length, arith}
 use Rattle.units.specs.declared.class.Class.{Class}
 use Rattle.units.specs.Classes.{class_at, is_separator}
 use Rattle.lines.specs.LineEnds.{IsParagraphAt}
@@ -13,31 +12,13 @@ pub none_yet : (own : List Class) (start : ℕ) → NoneSeparates own start star
 none_yet own start = record { none = λ p low high. absurd (omega arith) }
 
 pub none_more : (own : List Class) (start end : ℕ) → NoneSeparates own start end → is_separator (class_at own end) ≡ false → NoneSeparates own start (end + 1)
-none_more own start end n plain = record {
-  none = λ p low high. elim (cases_lt p end) [
-    | inl below ↦ n.none p low below
-    | inr at ↦ let e : p ≡ end = omega arith in ap (λ q. is_separator (class_at own q)) e ∙ plain
-  ];
-}
+none_more own start end n plain = grind arith
 
 joined_so : (own : List Class) (start end : ℕ) → NoneSeparates own start end → (p : ℕ) → start < p → p < end + 1 → is_separator (class_at own (p - 1)) ≡ false
 joined_so own start end n p low high = n.none (p - 1) (omega arith) (omega arith)
 
 pub paragraph_closed : (own : List Class) (start p : ℕ) → start ≤ p → p < length own → NoneSeparates own start p → is_separator (class_at own p) ≡ true → IsParagraphAt own start (p + 1)
-paragraph_closed own start p le lt n separates =
-    let e : p + 1 - 1 ≡ p = omega arith in
-    record {
-      above = omega arith;
-      within = omega arith;
-      joined = λ q low high. joined_so own start p n q low high;
-      closed = λ h. ap (λ q. is_separator (class_at own q)) e ∙ separates;
-    }
+paragraph_closed own start p le lt n separates = grind (arith, joined_so)
 
 pub paragraph_last : (own : List Class) (start : ℕ) → start < length own → NoneSeparates own start (length own) → IsParagraphAt own start (length own)
-paragraph_last own start lt n =
-    record {
-      above = lt;
-      within = omega arith;
-      joined = λ q low high. joined_so own start (length own) n q low (omega arith);
-      closed = λ h. absurd (omega arith);
-    }
+paragraph_last own start lt n = grind (arith, joined_so)

@@ -1,6 +1,6 @@
 -- Lines and the paragraphs that they stand in.
 use Rattle.std.proofs.Common.{◌≡◌, ℕ, ◌+◌, ◌-◌, ◌<◌, ◌≤◌, Bool, true, false, cond, Option, List, length, take, zero, suc, inl, inr, [], ◌∷◌, sym, ap, ◌∙◌, arith}
-use Rattle.std.specs.Prelude.{◌||◌, count_by, drop, map, slice_index_or}
+use Rattle.std.specs.Prelude.{count_by, drop, map, slice_index_or}
 use Rattle.std.proofs.lemmas.Bool.{cases_Bool, or_parts}
 use Rattle.std.proofs.lemmas.List.{drop-map, get_or-drop, get_or-map, length-drop, length-map}
 use Rattle.explicit.specs.FirstParagraph.{first_length}
@@ -11,7 +11,7 @@ use Rattle.units.specs.declared.level.ParaLevel.{ParaLevel}
 use Rattle.units.specs.declared.level.ParaLevel.TheVariants.{Zero}
 use Rattle.units.specs.Classes.{class_at, classes_of, is_separator}
 use Rattle.units.specs.Isolates.{level_of_para}
-use Rattle.units.specs.Reordering.{begins_line, is_break, para_level_at}
+use Rattle.units.specs.Reordering.{begins_line, para_level_at}
 use Rattle.lines.specs.LineEnds.{EndsLineAt, IsParagraphAt}
 use Rattle.lines.specs.Spaces.{AreAtParas}
 use Rattle.lines.specs.LinePositions.{IsAtOneLevel}
@@ -21,16 +21,8 @@ use Rattle.lines.proofs.TextEnd.{counted_step}
 -- P1: no position of the first paragraph of a text but its last separates
 joined_first : (us : List TextUnit) (k : ℕ) → k + 1 < first_length us → is_separator (class_at (classes_of us) k) ≡ false
 joined_first [] k h = absurd (omega arith)
-joined_first (u ∷ us) zero h =
-    elim (cases_Bool (is_separator u.class)) [
-      | inl separates ↦ let h' : 0 + 1 < 1 = rw separates at h in absurd (omega arith)
-      | inr plain ↦ plain
-    ]
-joined_first (u ∷ us) (suc k) h =
-    elim (cases_Bool (is_separator u.class)) [
-      | inl separates ↦ let h' : suc k + 1 < 1 = rw separates at h in absurd (omega arith)
-      | inr plain ↦ let h' : suc k + 1 < suc (first_length us) = rw plain at h in joined_first us k (omega arith)
-    ]
+joined_first (u ∷ us) zero h = grind arith
+joined_first (u ∷ us) (suc k) h = grind (arith, joined_first us k)
 
 first_some : (us : List TextUnit) → 0 < length us → 0 < first_length us
 first_some [] h = absurd (omega arith)
@@ -40,18 +32,8 @@ first_some (u ∷ us) h =
 -- and its last does, where another follows it
 closed_first : (us : List TextUnit) (k : ℕ) → first_length us ≡ k + 1 → k + 1 < length us → is_separator (class_at (classes_of us) k) ≡ true
 closed_first [] k e h = absurd (omega arith)
-closed_first (u ∷ us) zero e h =
-    elim (cases_Bool (is_separator u.class)) [
-      | inl separates ↦ separates
-      | inr plain ↦
-          let e' : suc (first_length us) ≡ 0 + 1 = rw plain at e in
-          absurd (let some = first_some us (omega arith) in omega arith)
-    ]
-closed_first (u ∷ us) (suc k) e h =
-    elim (cases_Bool (is_separator u.class)) [
-      | inl separates ↦ let e' : 1 ≡ suc k + 1 = rw separates at e in absurd (omega arith)
-      | inr plain ↦ let e' : suc (first_length us) ≡ suc k + 1 = rw plain at e in closed_first us k (omega arith) (omega arith)
-    ]
+closed_first (u ∷ us) zero e h = grind (arith, first_some)
+closed_first (u ∷ us) (suc k) e h = grind (arith, closed_first us k)
 
 -- P1: the first paragraph of what is left of a text
 pub paragraph_from : (us : List TextUnit) (start n : ℕ) → start < length us → n ≡ first_length (drop start us) → 0 < n → n ≤ length us - start → IsParagraphAt (classes_of us) start (start + n)
@@ -74,10 +56,7 @@ paragraph_from us start n below is some within =
 
 -- no position of a line but its last separates
 pub joined_line : (own : List Class) (at : List ℕ) (start end p : ℕ) → EndsLineAt (begins_line own at) start end (length own) → start < p → p < end → is_separator (class_at own (p - 1)) ≡ false
-joined_line own at start end p e low high =
-    let off : (is_separator (class_at own (p - 1)) || is_break at p) ≡ false = sym (begins_later own at p (omega arith)) ∙ e.none p low high in
-    let parts = or_parts (is_separator (class_at own (p - 1))) (is_break at p) off in
-    parts.0
+joined_line own at start end p e low high = grind (arith, begins_later, or_parts)
 
 -- as many separators stand before each position of a line
 counted_inside : (own : List Class) (at : List ℕ) (start end k : ℕ) → EndsLineAt (begins_line own at) start end (length own) → start + k < end → count_by is_separator (take (start + k) own) ≡ count_by is_separator (take start own)

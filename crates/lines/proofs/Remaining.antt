@@ -1,8 +1,7 @@
 -- The remaining positions of a line, rising.
-use Rattle.std.proofs.Common.{◌≡◌, ℕ, ◌+◌, ◌-◌, ◌<◌, ◌≤◌, Bool, true, false, cond, Option, None, Some, List, [], ◌∷◌, ◌++◌, length, take, set, zero, suc, refl, sym, ap, ◌∙◌, inl, inr, arith}
-use Rattle.std.specs.Prelude.{filter, reverse, slice_index_or}
+use Rattle.std.proofs.Common.{◌≡◌, ℕ, ◌+◌, ◌-◌, ◌<◌, ◌≤◌, Bool, true, false, cond, Option, None, Some, List, [], ◌∷◌, ◌++◌, length, take, set, zero, suc, refl, sym, ap, ◌∙◌, arith}
+use Rattle.std.specs.Prelude.{filter, reverse}
 use Rattle.std.specs.Option.{is_some}
-use Rattle.std.proofs.lemmas.Bool.{cases_lt}
 use Rattle.std.proofs.lemmas.List.{append-nil, reverse-append, take_more_set, take-set}
 use Rattle.std.proofs.lemmas.List.Elements.{filter-append}
 use mir.Val.{bool_byte}
@@ -14,9 +13,7 @@ use Rattle.units.proofs.Positions.{positions_from-next}
 -- a position behind the first count, which are one more where it is kept
 pub kept : (order : List ℕ) (count count2 position : ℕ) (b : Bool) → count < length order → count2 ≡ count + bool_byte b → take count2 (set order count position) ≡ take count order ++ cond b (position ∷ []) []
 kept order count count2 position true h e = ap (λ n. take n (set order count position)) e ∙ take_more_set order count position h
-kept order count count2 position false h e =
-    let same : count2 ≡ count = omega arith in
-    ap (λ n. take n (set order count position)) same ∙ take-set order count position ∙ sym (append-nil (take count order))
+kept order count count2 position false h e = grind (arith, take-set, append-nil)
 
 some_level : (o : Option ℕ) → is_some o ≡ true → (v : ℕ) × (o ≡ Some v)
 some_level None h = cc
@@ -32,43 +29,12 @@ pub record Rising (levels : List (Option ℕ)) (start end : ℕ) (xs : List ℕ)
   pub ordered : Ordered (λ a b. a < b) xs
 
 rising_more : (levels : List (Option ℕ)) (i end : ℕ) (xs : List ℕ) (b : Bool) → i < end → is_remaining levels i ≡ b → Rising levels (i + 1) end xs → Rising levels i end (cond b (i ∷ xs) xs)
-rising_more levels i end xs false lt e t =
-    record {
-      holds = record {
-        sound = λ p hp. let s = t.holds.sound p hp in (omega (arith, s.0), s.1, s.2);
-        complete = λ p v a b hv.
-            elim (cases_lt i p) [
-              | inl l ↦ t.holds.complete p v (omega arith) b hv
-              | inr l ↦ absurd (let q : i ≡ p = omega arith in no_level (slice_index_or levels i None) v e (ap (λ n. slice_index_or levels n None) q ∙ hv))
-            ];
-      };
-      ordered = t.ordered;
-    }
-rising_more levels i end xs true lt e t =
-    record {
-      holds = record {
-        sound = λ p hp. elim hp [
-          | inl q ↦ let v = some_level (slice_index_or levels i None) e in (omega (arith, q), omega (arith, q), (v.0, ap (λ n. slice_index_or levels n None) q ∙ v.1))
-          | inr r ↦ let s = t.holds.sound p r in (omega (arith, s.0), s.1, s.2)
-        ];
-        complete = λ p v a b hv.
-            elim (cases_lt i p) [
-              | inl l ↦ inr (t.holds.complete p v (omega arith) b hv)
-              | inr l ↦ let q : p ≡ i = omega arith in inl q
-            ];
-      };
-      ordered = (λ y hy. let s = t.holds.sound y hy in omega (arith, s.0), t.ordered);
-    }
+rising_more levels i end xs false lt e t = grind (arith, no_level)
+rising_more levels i end xs true lt e t = grind (arith, some_level)
 
 rising_from : (levels : List (Option ℕ)) (i count end : ℕ) → i + count ≡ end → Rising levels i end (filter (is_remaining levels) (positions_from i count))
-rising_from levels i zero end e =
-    record {
-      holds = record { sound = λ p h. absurd h; complete = λ p v a b hv. absurd (omega arith) };
-      ordered = tt;
-    }
-rising_from levels i (suc count) end e =
-    rising_more levels i end (filter (is_remaining levels) (positions_from (i + 1) count)) (is_remaining levels i) (omega arith) refl
-    (rising_from levels (i + 1) count end (omega arith))
+rising_from levels i zero end e = grind arith
+rising_from levels i (suc count) end e = grind (arith, rising_more, rising_from levels (i + 1) count end)
 
 -- the remaining positions are such
 pub remaining-rising : (levels : List (Option ℕ)) (start end : ℕ) → start ≤ end → Rising levels start end (remaining levels start end)
@@ -76,12 +42,7 @@ remaining-rising levels start end le = rising_from levels start (end - start) en
 
 -- those of one position more
 pub remaining-next : (levels : List (Option ℕ)) (start position : ℕ) → start ≤ position → remaining levels start (position + 1) ≡ remaining levels start position ++ cond (is_remaining levels position) (position ∷ []) []
-remaining-next levels start position le =
-    let e : position + 1 - start ≡ suc (position - start) = omega arith in
-    let f : start + (position - start) ≡ position = omega arith in
-    ap (λ n. filter (is_remaining levels) (positions_from start n)) e
-    ∙ ap (filter (is_remaining levels)) (positions_from-next start (position - start) ∙ ap (λ n. positions_from start (position - start) ++ n ∷ []) f)
-    ∙ filter-append (is_remaining levels) (positions_from start (position - start)) (position ∷ [])
+remaining-next levels start position le = grind (arith, positions_from-next, filter-append)
 
 reverse_if : (b : Bool) (x : ℕ) (xs : List ℕ) → reverse (cond b (x ∷ xs) xs) ≡ reverse xs ++ cond b (x ∷ []) []
 reverse_if true x xs = reverse-append (x ∷ []) xs
@@ -89,10 +50,7 @@ reverse_if false x xs = sym (append-nil (reverse xs))
 
 -- those of one position more before them, falling
 pub remaining-before : (levels : List (Option ℕ)) (position end : ℕ) → position < end → reverse (remaining levels position end) ≡ reverse (remaining levels (position + 1) end) ++ cond (is_remaining levels position) (position ∷ []) []
-remaining-before levels position end lt =
-    let e : end - position ≡ suc (end - (position + 1)) = omega arith in
-    ap (λ n. reverse (filter (is_remaining levels) (positions_from position n))) e
-    ∙ reverse_if (is_remaining levels position) position (remaining levels (position + 1) end)
+remaining-before levels position end lt = grind (arith, reverse_if)
 
 -- none remain at the end
 pub remaining-none : (levels : List (Option ℕ)) (position : ℕ) → remaining levels position position ≡ []

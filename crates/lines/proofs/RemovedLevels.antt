@@ -1,5 +1,5 @@
 -- A position of a layout has no level exactly where it is removed.
-use Rattle.std.specs.Prelude.{Option, None, Some, ℕ, ◌<◌, ◌≤◌, ◌≡◌, Bool, true, List, [], ◌∷◌, ◌++◌, length, map, is_none, slice_index_or, refl}
+use Rattle.std.specs.Prelude.{Option, None, Some, ℕ, ◌<◌, ◌≤◌, ◌≡◌, Bool, true, List, [], ◌∷◌, length, map, is_none, slice_index_or, refl}
 use Rattle.std.specs.List.{flat_map}
 use Rattle.std.proofs.Common.{arith, ap, sym, ◌∙◌, get_or}
 use Rattle.std.proofs.lemmas.List.{ext_get_or, get_or-map, length-map, map-append}
@@ -50,12 +50,7 @@ module _ (limits : LimitsOf) (allowed : AreAllowed limits) (direction : Directio
 
   none_in_pieces : (pieces : List (List BidiUnit)) → IsCut pieces → map is_none (flat_map (para_levels limits direction) pieces) ≡ map is_removed (classes_of (joined pieces))
   none_in_pieces [] cut = refl
-  none_in_pieces (us ∷ pieces) cut =
-      map-append is_none (para_levels limits direction us) (flat_map (para_levels limits direction) pieces)
-      ∙ ap (λ (xs : List Bool). xs ++ map is_none (flat_map (para_levels limits direction) pieces)) (none_in_para us cut.1)
-      ∙ ap (λ (xs : List Bool). map is_removed (classes_of us) ++ xs) (none_in_pieces pieces cut.3)
-      ∙ sym (map-append is_removed (classes_of us) (classes_of (joined pieces)))
-      ∙ sym (ap (map is_removed) (map-append (λ (u : BidiUnit). u.class) us (joined pieces)))
+  none_in_pieces (us ∷ pieces) cut = grind (arith, map-append, none_in_para, none_in_pieces pieces cut.3)
 
   none_in_text : (text : List BidiUnit) → map is_none (text_levels limits text direction) ≡ map is_removed (classes_of text)
   none_in_text text =

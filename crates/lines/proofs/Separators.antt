@@ -24,9 +24,7 @@ length-begin_with u (piece ∷ pieces) h = length_if (is_separator u.class) u pi
 
 pub length-paragraphs : (u : BidiUnit) (us : List BidiUnit) → 0 < length (paragraphs_of (u ∷ us))
 length-paragraphs u [] = omega arith
-length-paragraphs u (v ∷ us) =
-    let some = length-paragraphs v us in
-    omega (arith, length-begin_with u (paragraphs_of (v ∷ us)) some)
+length-paragraphs u (v ∷ us) = grind (arith, length-begin_with, length-paragraphs v us)
 
 pub count-cons : (c : Class) (cs : List Class) → count_by is_separator (c ∷ cs) ≡ cond (is_separator c) 1 0 + count_by is_separator cs
 count-cons c cs = sum_by-cons (λ (d : Class). cond (is_separator d) 1 0) c cs

@@ -1,5 +1,5 @@
 -- L1 over a whole text, from its end.
-use Rattle.std.proofs.Common.{◌≡◌, ◌≢◌, ℕ, ◌+◌, ◌-◌, ◌<◌, ◌≤◌, Bool, true, false, cond, Option, None, Some, List, length, get_or, take, set, zero, suc, refl, sym, ap, ◌∙◌, subst, inl, inr, arith, length-set, ne_eqb}
+use Rattle.std.proofs.Common.{◌≡◌, ℕ, ◌+◌, ◌-◌, ◌<◌, ◌≤◌, Bool, true, false, cond, Option, None, Some, List, length, get_or, take, set, zero, suc, refl, sym, ap, ◌∙◌, subst, inl, inr, arith, length-set, ne_eqb}
 use Rattle.std.specs.Prelude.{◌&&◌, ◌||◌, count_by, slice_index, slice_index_or}
 use Rattle.std.specs.Option.{unwrap_or}
 use Rattle.std.proofs.lemmas.List.{ext_get_or, get_or-map, get_or-set_same, get_or-set_other, length-map, set-get_or, take_all}
@@ -32,9 +32,7 @@ if_ge false p d o h = h
 
 first_from-ge : (test : ℕ → Bool) (p count d : ℕ) → p + count ≤ d → p ≤ unwrap_or (first_from test p count) d
 first_from-ge test p zero d h = omega arith
-first_from-ge test p (suc count) d h =
-    let next = first_from-ge test (p + 1) count d (omega arith) in
-    if_ge (test p) p d (first_from test (p + 1) count) (omega (arith, next))
+first_from-ge test p (suc count) d h = grind (arith, if_ge, first_from-ge test (p + 1) count d)
 
 pub line_from-ge : (own : List Class) (at : List ℕ) (p : ℕ) → p ≤ length own → p ≤ line_from own at p
 line_from-ge own at p h = first_from-ge (begins_line own at) p (length own - p) (length own) (omega arith)
@@ -45,10 +43,7 @@ if_begins false p d o = refl
 
 -- a line begins at p, or the next one after it
 pub line_from-step : (own : List Class) (at : List ℕ) (p : ℕ) → p < length own → line_from own at p ≡ cond (begins_line own at p) p (line_from own at (p + 1))
-line_from-step own at p h =
-    let e : length own - p ≡ suc (length own - (p + 1)) = omega arith in
-    ap (λ n. unwrap_or (first_from (begins_line own at) p n) (length own)) e
-    ∙ if_begins (begins_line own at p) p (length own) (first_from (begins_line own at) (p + 1) (length own - (p + 1)))
+line_from-step own at p h = grind (arith, if_begins)
 
 resets_if : (own : List Class) (p m : ℕ) (b : Bool) → resets_at own p (cond b p m - p) ≡ (b || resets_at own p (m - p))
 resets_if own p m true = let e : p - p ≡ 0 = omega arith in ap (resets_at own p) e
@@ -128,18 +123,7 @@ resetting_end own at paras old ahead paragraph resets levels r =
     r.done k (omega arith) l ∙ sym (get_or-after_resets own at paras old k l))
 
 pub resetting_start : (own : List Class) (at : List ℕ) (paras : List ℕ) (old : List (Option ℕ)) (separators : ℕ) → length own ≡ length old → AreBreaks at (length own) → separators ≡ count_by is_separator own → Resetting own at paras old (length old) (length at) separators true old
-resetting_start own at paras old separators all breaks count =
-    record {
-      len = refl;
-      all = all;
-      counted = count ∙ ap (count_by is_separator) (sym (take_all (length old) own (omega arith)));
-      in_breaks = omega arith;
-      passed = λ k low high. absurd (omega arith);
-      coming = λ h. let b = breaks.inside (length at - 1) (omega arith) in omega (arith, b.before_end);
-      flag = sym (resets_to-end own at (length old) (omega arith));
-      below = λ k h. refl;
-      done = λ k low high. absurd (omega arith);
-    }
+resetting_start own at paras old separators all breaks count = grind (arith, take_all, resets_to-end)
 
 pub counted_step : (own : List Class) (p : ℕ) (ends : Bool) → p < length own → ends ≡ is_separator (class_at own p) → count_by is_separator (take (p + 1) own) ≡ count_by is_separator (take p own) + cond ends 1 0
 counted_step own p true lt e = count_by_more_yes is_separator own p L lt (sym e)
@@ -155,33 +139,11 @@ abbrev pub Comes : List ℕ → ℕ → ℕ → Type 0
 Comes at ahead position = (0 < ahead) × (slice_index at (ahead - 1) ≡ position)
 
 pub breaking_step : (at : List ℕ) (len p ahead : ℕ) (broken : Bool) → AreBreaks at len → (broken ≡ true → Comes at ahead (p + 1)) → (Comes at ahead (p + 1) → broken ≡ true) → Breaking at (p + 1) ahead → Breaking at p (ahead - cond broken 1 0)
-breaking_step at len p ahead true breaks says from b =
-    let s = says refl in
-    record {
-      in_breaks = omega (arith, b.in_breaks);
-      passed = λ k low high. elim (cases_lt k ahead) [
-        | inl l ↦ let e : ahead - 1 ≡ k = omega (arith, s.0) in let g : slice_index at k ≡ p + 1 = ap (slice_index at) (sym e) ∙ s.1 in omega arith
-        | inr l ↦ let g = b.passed k l high in omega arith
-      ];
-      coming = λ h.
-          let r : slice_index at (ahead - 1 - 1) < slice_index at (ahead - 1) = breaks.rising (ahead - 1) (omega (arith, s.0, b.in_breaks)) h in
-          omega (arith, s.1);
-    }
-breaking_step at len p ahead false breaks says from b =
-    let e : ahead ≡ ahead - 0 = omega arith in
-    subst (Breaking at p) e (record {
-      in_breaks = b.in_breaks;
-      passed = λ k low high. let g = b.passed k low high in omega arith;
-      coming = λ h.
-          let c : slice_index at (ahead - 1) ≤ p + 1 = b.coming h in
-          let n : slice_index at (ahead - 1) ≢ p + 1 = (λ q. let z : false ≡ true = from (h, q) in cc) in
-          omega arith;
-    })
+breaking_step at len p ahead true breaks says from b = grind arith
+breaking_step at len p ahead false breaks says from b = grind arith
 
 pub broken-is : (at : List ℕ) (len p ahead : ℕ) (broken : Bool) → AreBreaks at len → (broken ≡ true → Comes at ahead p) → (Comes at ahead p → broken ≡ true) → Breaking at p ahead → broken ≡ is_break at p
-broken-is at len p ahead true breaks says from b =
-    let s = says refl in
-    sym (is_break_at at (ahead - 1) p (omega (arith, s.0, b.in_breaks)) s.1)
+broken-is at len p ahead true breaks says from b = grind (arith, is_break_at)
 broken-is at len p ahead false breaks says from b =
     sym (is_break_none at p (λ k h e. elim (cases_lt k ahead) [
       | inl l ↦

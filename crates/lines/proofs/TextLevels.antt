@@ -5,12 +5,11 @@ use Rattle.std.proofs.Common.{arith, ap, sym, subst, ◌∙◌}
 use Rattle.std.proofs.lemmas.List.{append_assoc, append-nil, length-append}
 use Rattle.units.specs.Classes.{classes_of}
 use Rattle.units.specs.Isolates.{level_of_para, para_level_of}
-use Rattle.units.specs.Layout.{LineLayout, TextLayout, layout_of, lines_cut_at, para_levels_of, resolved_levels, text_layout, text_levels, with_lines}
+use Rattle.units.specs.Layout.{LineLayout, TextLayout, layout_of, lines_cut_at, para_levels_of, resolved_levels, text_levels}
 use Rattle.units.specs.Limits.{LimitsOf}
 use Rattle.units.specs.Reordering.{after_resets, cuts_of}
 use Rattle.units.specs.Paragraphs.{IsCut, SeparatorOnlyLast, joined, paragraphs_of}
 use Rattle.units.specs.declared.bracket.Unit.{Unit as BidiUnit}
-use Rattle.units.specs.declared.class.Class.{Class}
 use Rattle.units.specs.declared.level.Direction.{Direction}
 use Rattle.units.specs.declared.level.ParaLevel.{ParaLevel}
 use Rattle.explicit.proofs.LevelsFound.OneCutting.{joined-paragraphs_of, IsCut-paragraphs_of}
@@ -52,19 +51,7 @@ module _ {limits : LimitsOf} {text : List BidiUnit} {direction : Direction} {sta
     pub written_next : (level : ParaLevel) (now : List (Option ℕ)) → level_of_para level ≡ para_level direction para →
         take (start + length para) now ≡ take start levels ++ para_levels limits direction para →
         IsWritten limits text direction (start + length para) (paras ++ (level ∷ [])) now rest
-    written_next level now at put = record {
-      cut = w.cut.3;
-      ahead = omega (arith, w.ahead, length-append para (joined rest));
-      few = omega (arith, w.few, w.cut.0, length-append paras (level ∷ []));
-      found_paras =
-          map-push paras level (map (para_level direction) rest)
-          ∙ ap (λ (n : ℕ). map level_of_para paras ++ (n ∷ map (para_level direction) rest)) at
-          ∙ w.found_paras;
-      found_levels =
-          ap (λ (xs : List (Option ℕ)). xs ++ flat_map (para_levels limits direction) rest) put
-          ∙ append_assoc (take start levels) (para_levels limits direction para) (flat_map (para_levels limits direction) rest)
-          ∙ w.found_levels;
-    }
+    written_next level now at put = grind (arith, length-append, map-push, append_assoc)
 
     -- the same, where it ends there
     pub written_to : (end : ℕ) (level : ParaLevel) (now : List (Option ℕ)) → end ≡ start + length para → level_of_para level ≡ para_level direction para →
@@ -90,11 +77,4 @@ pub laid_out : (limits : LimitsOf) (text : List BidiUnit) (direction : Direction
     lines ≡ lines_cut_at levels (cuts_of (classes_of text) breaks) →
     (let shown : TextLayout = record { paras = paras; levels = front; lines = lines } in shown ≡ layout_of limits text direction breaks)
 unfolding layout_of
-laid_out limits text direction breaks paras resolved levels front lines e p r l w =
-    let own : List Class = classes_of text in
-    let shown : List (Option ℕ) → TextLayout = λ xs. record { paras = paras; levels = xs; lines = lines } in
-    let lined : List LineLayout → TextLayout = λ xs. record { paras = paras; levels = levels; lines = xs } in
-    ap shown e
-    ∙ ap lined w
-    ∙ ap (λ (xs : List (Option ℕ)). with_lines paras xs (cuts_of own breaks)) (l ∙ ap (after_resets own breaks paras) r)
-    ∙ ap (λ (ns : List ℕ). text_layout own breaks ns (text_levels limits text direction)) p
+laid_out limits text direction breaks paras resolved levels front lines e p r l w = grind arith

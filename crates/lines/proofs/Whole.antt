@@ -1,5 +1,5 @@
 -- The order of a line of one level from which nothing was removed.
-use Rattle.std.proofs.Common.{◌≡◌, ℕ, ◌+◌, ◌-◌, ◌<◌, ◌≤◌, ◌%◌, ◌⊎◌, Bool, true, cond, Option, None, List, ◌∷◌, length, zero, suc, refl, sym, ap, ◌∙◌, inl, inr, arith}
+use Rattle.std.proofs.Common.{◌≡◌, ℕ, ◌+◌, ◌-◌, ◌<◌, ◌≤◌, ◌⊎◌, Bool, true, Option, None, List, length, zero, suc, refl, sym, ap, ◌∙◌, inl, inr, arith}
 use Rattle.std.specs.Prelude.{filter, reverse, slice_index_or, slice_range}
 use Rattle.std.specs.Option.{is_some}
 use Rattle.std.proofs.lemmas.List.Edits.{get_or-between, length-between}
@@ -13,10 +13,7 @@ use Rattle.lines.proofs.Uniform.{uniform-falling, uniform-rising}
 
 filter-all : (test : ℕ → Bool) (start count : ℕ) → ((p : ℕ) → start ≤ p → p < start + count → test p ≡ true) → filter test (positions_from start count) ≡ positions_from start count
 filter-all test start zero all = refl
-filter-all test start (suc count) all =
-    let rest = filter test (positions_from (start + 1) count) in
-    ap (λ b. cond b (start ∷ rest) rest) (all start (omega arith) (omega arith))
-    ∙ ap (λ xs. start ∷ xs) (filter-all test (start + 1) count (λ p low high. all p (omega arith) (omega arith)))
+filter-all test start (suc count) all = grind (arith, filter-all test (start + 1) count)
 
 -- the levels of the line are all there
 pub record AllRemain (levels : List (Option ℕ)) (start end : ℕ) : Type 0 where
@@ -44,7 +41,4 @@ zero_or_one One = inr refl
 -- all positions, rising at the level 0 and falling at 1
 pub whole-order : (levels : List (Option ℕ)) (start end : ℕ) (level : ParaLevel) (written : List ℕ) → start ≤ end → IsAtOneLevel levels start end (level_of_para level) → AllRemain levels start end → (level_of_para level ≡ 0 → written ≡ positions_from start (end - start)) → (level_of_para level ≡ 1 → written ≡ reverse (positions_from start (end - start))) → written ≡ line_order levels start end
 whole-order levels start end level written le u all even odd =
-    elim (zero_or_one level) [
-      | inl e ↦ even e ∙ sym (remaining-all levels start end le all) ∙ sym (uniform-rising levels start end (level_of_para level) le (ap (λ n. n % 2) e) u)
-      | inr e ↦ odd e ∙ ap reverse (sym (remaining-all levels start end le all)) ∙ sym (uniform-falling levels start end (level_of_para level) le (ap (λ n. n % 2) e) u)
-    ]
+    grind (arith, zero_or_one, remaining-all, uniform-rising, uniform-falling)

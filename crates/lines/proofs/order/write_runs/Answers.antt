@@ -15,47 +15,27 @@ bounds-runs-position g c =
     let n = next_run l.invariant.writes in
     omega (arith, c.link_line.auto.runs, next-within c.args.line.start c.args.line.end c.args.line.forward n)
 
-pub invariant_of-run-clause-forward : goal.invariant_of-run-clause-forward
-invariant_of-run-clause-forward g c =
-    let l = c.loop-position in
-    let n = next_run l.invariant.writes in
-    omega (arith, n.run.rises)
+pub invariant_of-run : goal.invariant_of-run
+invariant_of-run g c =
+    let n = next_run c.loop-position.invariant.writes in
+    record { forward = omega (arith, n.run.rises); within = n.run.within }
 
-pub invariant_of-run-clause-within : goal.invariant_of-run-clause-within
-invariant_of-run-clause-within g c =
+pub append_run-count-requires : goal.append_run-count-requires
+append_run-count-requires g c =
     let l = c.loop-position in
     let n = next_run l.invariant.writes in
-    n.run.within
+    record { run = n.run; room = omega (arith, n.room, l.auto.order) }
 
-pub append_run-count-requires-clause-run : goal.append_run-count-requires-clause-run
-append_run-count-requires-clause-run g c =
+pub returns-then-position-chain : goal.returns-then-position-chain
+returns-then-position-chain g c =
     let l = c.loop-position in
     let n = next_run l.invariant.writes in
-    n.run
-
-pub append_run-count-requires-clause-room : goal.append_run-count-requires-clause-room
-append_run-count-requires-clause-room g c =
-    let l = c.loop-position in
-    let n = next_run l.invariant.writes in
-    omega (arith, n.room, l.auto.order)
-
-pub returns-then-position-chain-clause-order : goal.returns-then-position-chain-clause-order
-returns-then-position-chain-clause-order g c =
-    let l = c.loop-position in
-    let n = next_run l.invariant.writes in
-    c.append_run-count.ensures.order ∙ sym (n.ends c.if-position-chain.true)
-
-pub returns-then-position-chain-clause-count : goal.returns-then-position-chain-clause-count
-returns-then-position-chain-clause-count g c =
-    let l = c.loop-position in
-    let n = next_run l.invariant.writes in
-    omega (arith, n.room, c.append_run-count.ensures.few)
-
-pub returns-then-position-chain-clause-at_most : goal.returns-then-position-chain-clause-at_most
-returns-then-position-chain-clause-at_most g c =
-    let l = c.loop-position in
-    let n = next_run l.invariant.writes in
-    omega (arith, n.budget, n.run.rises, c.in-Some.ensures.at_most, c.append_run-count.ensures.steps, c.tick.ensures)
+    record {
+      order = c.append_run-count.ensures.order ∙ sym (n.ends c.if-position-chain.true);
+      count = omega (arith, n.room, c.append_run-count.ensures.few);
+      at_least = omega (arith, l.invariant.at_least, c.append_run-count.ensures.steps, c.tick.ensures);
+      at_most = omega (arith, n.budget, n.run.rises, c.in-Some.ensures.at_most, c.append_run-count.ensures.steps, c.tick.ensures);
+    }
 
 pub loop-position-smaller : goal.loop-position-smaller
 loop-position-smaller g c =

@@ -1,17 +1,19 @@
-use Rattle.std.proofs.Common.{◌≡◌, ◌≢◌, ◌<◌, ◌≤◌, ◌+◌, ◌-◌, Bool, true, false, cond, length, take, count_by, get_or, set, None, arith, refl, inl, inr, sym, ap, ◌∙◌, subst}
+use Rattle.std.proofs.Common.{◌≡◌, ◌≢◌, ◌<◌, ◌≤◌, ◌+◌, ◌-◌, ℕ, List, Bool, true, false, cond, length, take, count_by, get_or, set, None, arith, refl, inl, inr, sym, ap, ◌∙◌, subst}
 use Rattle.std.specs.Prelude.{◌||◌, ◌&&◌, slice_index, slice_index_or, map}
 use Rattle.std.proofs.lemmas.Bool.{cases_lt}
 use Rattle.std.proofs.lemmas.List.{length-map, get_or-map, get_or_default}
 use Rattle.units.specs.declared.level.ParaLevel.TheVariants.{Zero}
-use Rattle.units.specs.Classes.{is_line_separator, is_separator, class_at}
+use Rattle.units.specs.Classes.{is_line_separator, is_separator, class_at, classes_of}
+use Rattle.units.specs.declared.bracket.Unit.{Unit as BidiUnit}
+use Rattle.units.specs.declared.class.Class.{Class}
 use Rattle.lines.specs.LineBreaks.{AreBreaks}
-use Rattle.units.specs.Classes.{classes_of}
 use Rattle.units.specs.Isolates.{level_of_para}
 use Rattle.lines.specs.Spaces.{SeparateNone, resets_before}
 use Rattle.units.specs.Reordering.{para_level_at, reset_to, after_resets}
 use Rattle.lines.proofs.Separators.{paragraph_at}
 use Rattle.explicit.proofs.Holders.Roles.{class_read}
 use Rattle.lines.proofs.BoolBytes.{bool_byte-is}
+use mir.Val.{bool_byte}
 use Rattle.lines.proofs.LineEnd.{may_reset}
 use Rattle.lines.proofs.TextEnd.{Comes, Resetting, resetting_start, resetting_more, resetting_on, resetting_over, resetting_end, counted_step}
 use Rattle.lines.proofs.resets.reset_text.Goals as goal
@@ -28,33 +30,36 @@ loop-position-init g c =
       steps = omega arith;
     }
 
+-- of the position before, the separators that stand before it are those that were counted, less one where it is one
+counted_back : (own : List Class) (position paragraph less : ℕ) (ends : Bool) → 0 < position → position ≤ length own → ends ≡ is_separator (class_at own (position - 1))
+    → paragraph ≡ count_by is_separator (take position own) → less ≡ bool_byte ends → less + count_by is_separator (take (position - 1) own) ≡ paragraph
+counted_back own position paragraph less ends some within e k b =
+    let p = position - 1 in
+    let there : p + 1 ≡ position = omega arith in
+    let n = counted_step own p ends (omega arith) e in
+    let k' : paragraph ≡ count_by is_separator (take (p + 1) own) = k ∙ ap (λ m. count_by is_separator (take m own)) (sym there) in
+    let b' : less ≡ cond ends 1 0 = b ∙ bool_byte-is ends in
+    omega arith
+
+-- where a position's class is read
+read_at : (us : List BidiUnit) (test : Class → Bool) (p : ℕ) (d : BidiUnit) (answer : Bool) → p < length us → answer ≡ test (get_or us p d).class → answer ≡ test (class_at (classes_of us) p)
+read_at us test p d answer within e = e ∙ ap test (sym (class_read us p d within))
+
 pub overflow_sub-paragraph : goal.overflow_sub-paragraph
 overflow_sub-paragraph g c =
     let l = c.loop-position in
-    let own = classes_of c.args.own.now in
-    let p = l.position - 1 in
-    let len : length own ≡ length c.args.own.now = length-map c.args.own.now (λ u. u.class) in
-    let there : p + 1 ≡ l.position = omega arith in
-    let in_text : p < length own = omega (arith, l.invariant.within, l.invariant.text.all) in
-    let e : c.is_separator-ends.result ≡ is_separator (class_at own p) = c.is_separator-ends.ensures ∙ ap is_separator (sym (class_read c.args.own.now p _ (omega arith))) in
-    let n = counted_step own p c.is_separator-ends.result in_text e in
-    let k : l.paragraph ≡ count_by is_separator (take (p + 1) own) = l.invariant.text.counted ∙ ap (λ m. count_by is_separator (take m own)) (sym there) in
-    let b : c.from-paragraph.result ≡ cond c.is_separator-ends.result 1 0 = c.from-paragraph.ensures ∙ bool_byte-is c.is_separator-ends.result in
+    let us = c.args.own.now in
+    let e = read_at us is_separator (l.position - 1) _ c.is_separator-ends.result (omega arith) c.is_separator-ends.ensures in
+    let n = counted_back (classes_of us) l.position l.paragraph _ c.is_separator-ends.result (omega arith) (omega (arith, l.invariant.within, l.invariant.text.all)) e l.invariant.text.counted c.from-paragraph.ensures in
     omega arith
 
 pub bounds-paras-paragraph : goal.bounds-paras-paragraph
 bounds-paras-paragraph g c =
     let l = c.loop-position in
-    let own = classes_of c.args.own.now in
-    let p = l.position - 1 in
-    let len : length own ≡ length c.args.own.now = length-map c.args.own.now (λ u. u.class) in
-    let there : p + 1 ≡ l.position = omega arith in
-    let in_text : p < length own = omega (arith, l.invariant.within, l.invariant.text.all) in
-    let e : c.is_separator-ends.result ≡ is_separator (class_at own p) = c.is_separator-ends.ensures ∙ ap is_separator (sym (class_read c.args.own.now p _ (omega arith))) in
-    let n = counted_step own p c.is_separator-ends.result in_text e in
-    let k : l.paragraph ≡ count_by is_separator (take (p + 1) own) = l.invariant.text.counted ∙ ap (λ m. count_by is_separator (take m own)) (sym there) in
-    let b : c.from-paragraph.result ≡ cond c.is_separator-ends.result 1 0 = c.from-paragraph.ensures ∙ bool_byte-is c.is_separator-ends.result in
-    let bound : count_by is_separator (take p own) < length c.args.paras.now = paragraph_at c.args.own.now (length c.args.paras.now) p c.requires.paras (omega arith) in
+    let us = c.args.own.now in
+    let e = read_at us is_separator (l.position - 1) _ c.is_separator-ends.result (omega arith) c.is_separator-ends.ensures in
+    let n = counted_back (classes_of us) l.position l.paragraph _ c.is_separator-ends.result (omega arith) (omega (arith, l.invariant.within, l.invariant.text.all)) e l.invariant.text.counted c.from-paragraph.ensures in
+    let bound = paragraph_at us (length c.args.paras.now) (l.position - 1) c.requires.paras (omega arith) in
     omega arith
 
 pub loop-position-preserved-then-resets-broken : goal.loop-position-preserved-then-resets-broken
@@ -75,11 +80,8 @@ loop-position-preserved-then-resets-broken g c =
     let e : ends ≡ is_separator (class_at own p) = c.is_separator-ends.ensures ∙ ap is_separator class in
     let before : Resetting own at paras old (p + 1) l.ahead l.paragraph l.resets l.levels =
     subst (λ n. Resetting own at paras old n l.ahead l.paragraph l.resets l.levels) (sym there) l.invariant.text in
-    let n = counted_step own p ends in_text e in
-    let index : l.paragraph - c.from-paragraph.result ≡ count_by is_separator (take p own) =
-    let b : c.from-paragraph.result ≡ cond ends 1 0 = c.from-paragraph.ensures ∙ bool_byte-is ends in
-    let k : l.paragraph ≡ count_by is_separator (take (p + 1) own) = before.counted in
-    omega arith in
+    let n = counted_back own l.position l.paragraph _ ends (omega arith) (omega (arith, l.invariant.text.all)) e l.invariant.text.counted c.from-paragraph.ensures in
+    let index : l.paragraph - c.from-paragraph.result ≡ count_by is_separator (take p own) = omega arith in
     let may : c.may_be_reset.result ≡ may_reset (class_at own p) = c.may_be_reset.ensures ∙ ap may_reset class in
     let level = c.index-levels-position.is ∙ get_or_default l.levels p c.index-levels-position.result None (omega (arith, before.len, before.all)) in
     let resets2 = c.resets_spaces_before-resets.result in
