@@ -1,5 +1,6 @@
--- Classes that a run repeats (W1 to W7).
-use Rattle.std.specs.Prelude.{Bool, true, false}
+-- Classes that a run repeats (W1 to W7), and what a run takes.
+use Rattle.std.specs.Prelude.{Bool, true, false, ℕ, zero, suc, ◌+◌, ◌<◌, ◌≤◌, ◌≡◌, List, length, set, slice_index}
+use Rattle.units.specs.Classes.{class_at}
 use Rattle.units.specs.declared.class.Class.{Class}
 use Rattle.units.specs.declared.class.Class.TheVariants.{L, R, AL, AN, S, WS, ON}
 
@@ -14,3 +15,14 @@ is_plain S = true
 is_plain WS = true
 is_plain ON = true
 is_plain _ = false
+
+-- the positions of the indices from start up to end have this class
+pub record IsRunOf (class : Class) (ps : List ℕ) (start end : ℕ) (cs : List Class) : Type 0 where
+  pub from_start : start ≤ end
+  pub within : end ≤ length ps
+  pub same : (k : ℕ) → start ≤ k → k < end → class_at cs (slice_index ps k) ≡ class
+
+-- a list by position, with one value at the positions of n indices, from start on
+abbrev pub with_along : {X : Type 0} → List ℕ → ℕ → ℕ → X → List X → List X
+with_along ps start zero value xs = xs
+with_along ps start (suc n) value xs = set (with_along ps start n value xs) (slice_index ps (start + n)) value

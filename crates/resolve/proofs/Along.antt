@@ -1,0 +1,90 @@
+-- A run of one class along a sequence, as a walk goes on over it.
+use Rattle.std.specs.Prelude.{Option, Some, ℕ, zero, suc, ◌+◌, ◌-◌, ◌<◌, ◌≤◌, ◌≡◌, List, ◌∷◌, length, slice_index, refl}
+use Rattle.std.proofs.Common.{arith, ap, sym, subst, ◌∙◌, drop, set}
+use Rattle.std.proofs.lemmas.List.{get_or-set_other}
+use Rattle.units.specs.Classes.{class_at, classes_at}
+use Rattle.units.specs.Implicit.{implicit_level}
+use Rattle.units.specs.declared.class.Class.{Class}
+use Rattle.units.specs.declared.class.Class.TheVariants.{L}
+use Rattle.sequences.specs.Links.{ArePositions}
+use Rattle.resolve.specs.Repeats.{with_along}
+use Rattle.resolve.proofs.Gathered.{apart}
+use Rattle.resolve.proofs.Raising.{RaisePass, raise_write}
+use Rattle.resolve.proofs.Walked.{Walk, WalkSteps, walked, walk_next, walk_value, walk_steps_next}
+
+-- what stands at a later index is as it was
+pub unwritten : (ps : List ℕ) (start n j : ℕ) (v : Class) (cs : List Class) → ArePositions ps (length cs) → start + n ≤ j → j < length ps →
+    class_at (with_along ps start n v cs) (slice_index ps j) ≡ class_at cs (slice_index ps j)
+unwritten ps start zero j v cs are low within = refl
+unwritten ps start (suc n) j v cs are low within =
+    get_or-set_other (with_along ps start n v cs) (slice_index ps (start + n)) (slice_index ps j) v L (apart ps (length cs) j (start + n) are within (omega arith) (omega arith))
+    ∙ unwritten ps start n j v cs are (omega arith) within
+
+-- one index more
+pub along_next : {X : Type 0} (ps : List ℕ) (start k : ℕ) (v : X) (xs : List X) → start ≤ k →
+    set (with_along ps start (k - start) v xs) (slice_index ps k) v ≡ with_along ps start (k + 1 - start) v xs
+along_next ps start k v xs low =
+    let n : ℕ = k - start in
+    let more : k + 1 - start ≡ suc (k - start) = omega arith in
+    let there : start + (k - start) ≡ k = omega arith in
+    ap (λ i. set (with_along ps start (k - start) v xs) (slice_index ps i) v) (sym there) ∙ ap (λ m. with_along ps start m v xs) (sym more)
+
+module _ {X : Type 0} {given : X → Class → List Class → Class} {past : X → Class → List Class → X} {begin : X} {ps : List ℕ} {start now : List Class} {x : X} {k : ℕ}
+    (w : Walk given past begin ps start now x k) (class made : Class) (gives : (cs : List Class) → given x class cs ≡ made) (stays : (cs : List Class) → past x class cs ≡ x) where
+  -- the class at the next index behind n of a run
+  run_reads : (n : ℕ) → k + n < length ps → class_at now (slice_index ps (k + n)) ≡ class → class_at (with_along ps k n made now) (slice_index ps (k + n)) ≡ class
+  run_reads n within same = unwritten ps k n (k + n) made now w.pass.positions (omega arith) within ∙ same
+
+  -- a run is given one class, and nothing else is known behind it
+  pub walk_run : (n : ℕ) → k + n ≤ length ps → ((i : ℕ) → k ≤ i → i < k + n → class_at now (slice_index ps i) ≡ class) →
+      Walk given past begin ps start (with_along ps k n made now) x (k + n)
+  walk_run zero within same = let e : k ≡ k + 0 = omega arith in subst (λ m. Walk given past begin ps start now x m) e w
+  walk_run (suc n) within same =
+      let before : Walk given past begin ps start (with_along ps k n made now) x (k + n) = walk_run n (omega arith) (λ i low high. same i low (omega arith)) in
+      let inside : k + n < length ps = omega arith in
+      let read = run_reads n inside (same (k + n) (omega arith) (omega arith)) in
+      let cs : List Class = classes_at (with_along ps k n made now) (drop (k + n + 1) ps) in
+      let e : k + n + 1 ≡ k + suc n = omega arith in
+      subst (λ m. Walk given past begin ps start (with_along ps k (suc n) made now) x m) e
+      (walk_next before inside made x (drop (k + n + 1) ps) refl
+      (sym (ap (λ (c : Class). given x c cs) read ∙ gives cs))
+      (sym (ap (λ (c : Class). past x c cs) read ∙ stays cs)))
+
+  -- what the walk makes of each class of a run
+  pub run_value : (n : ℕ) → k + n < length ps → ((i : ℕ) → k ≤ i → i ≤ k + n → class_at now (slice_index ps i) ≡ class) →
+      made ≡ class_at (walked given past begin (classes_at start ps)) (k + n)
+  run_value n inside same =
+      let before = walk_run n (omega arith) (λ i low high. same i low (omega arith)) in
+      let read = run_reads n inside (same (k + n) (omega arith) (omega arith)) in
+      let cs : List Class = classes_at (with_along ps k n made now) (drop (k + n + 1) ps) in
+      sym (ap (λ (c : Class). given x c cs) read ∙ gives cs) ∙ walk_value before inside (drop (k + n + 1) ps) refl
+
+  -- a step for each class of a run
+  pub walk_steps_run : (owed : X → List Class → ℕ) → ((cs : List Class) → owed x (class ∷ cs) ≤ owed x cs + 1) → (first last : ℕ) →
+      WalkSteps owed (classes_at start ps) x k first last →
+      (n : ℕ) → k + n ≤ length ps → ((i : ℕ) → k ≤ i → i < k + n → class_at now (slice_index ps i) ≡ class) →
+      WalkSteps owed (classes_at start ps) x (k + n) first (last + n)
+  walk_steps_run owed owes first last s zero within same =
+      let e : k ≡ k + 0 = omega arith in
+      let f : last ≡ last + 0 = omega arith in
+      subst (λ m. WalkSteps owed (classes_at start ps) x m first (last + 0)) e (subst (λ m. WalkSteps owed (classes_at start ps) x k first m) f s)
+  walk_steps_run owed owes first last s (suc n) within same =
+      let before = walk_run n (omega arith) (λ i low high. same i low (omega arith)) in
+      let inside : k + n < length ps = omega arith in
+      let read = run_reads n inside (same (k + n) (omega arith) (omega arith)) in
+      let cs : List Class = classes_at (with_along ps k n made now) (drop (k + n + 1) ps) in
+      let less = walk_steps_run owed owes first last s n (omega arith) (λ i low high. same i low (omega arith)) in
+      let most : owed x (class_at (with_along ps k n made now) (slice_index ps (k + n)) ∷ cs) ≤ owed x cs + 1 = subst (λ (c : Class). owed x (c ∷ cs) ≤ owed x cs + 1) (sym read) (owes cs) in
+      let e : k + n + 1 ≡ k + suc n = omega arith in
+      subst (λ m. WalkSteps owed (classes_at start ps) x m first (last + suc n)) e
+      (walk_steps_next before inside owed x (drop (k + n + 1) ps) refl first (last + n) (last + suc n) less (omega arith) (omega arith))
+
+-- a run is given one level
+pub raise_run : {level : ℕ} {to : List Class} {ps : List ℕ} {old now : List (Option ℕ)} {k : ℕ} → RaisePass level to ps old now k → (v : ℕ) (n : ℕ) → k + n ≤ length ps →
+    ((i : ℕ) → k ≤ i → i < k + n → v ≡ implicit_level level (class_at to i)) → RaisePass level to ps old (with_along ps k n (Some v) now) (k + n)
+raise_run {level} {to} {ps} {old} {now} {k} w v zero within is = let e : k ≡ k + 0 = omega arith in subst (λ m. RaisePass level to ps old now m) e w
+raise_run {level} {to} {ps} {old} {now} {k} w v (suc n) within is =
+    let before = raise_run w v n (omega arith) (λ i low high. is i low (omega arith)) in
+    let e : k + n + 1 ≡ k + suc n = omega arith in
+    subst (λ m. RaisePass level to ps old (with_along ps k (suc n) (Some v) now) m) e
+    (raise_write before (omega arith) v (is (k + n) (omega arith) (omega arith)))

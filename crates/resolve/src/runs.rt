@@ -1,0 +1,65 @@
+//! Runs of one class along a sequence, which take one class.
+ghost use Rattle.std.specs.Prelude.{◌≡◌, ℕ, ◌+◌, ◌-◌, ◌<◌, ◌≤◌, Some, length, slice_index};
+ghost use Rattle.sequences.specs.Links.{ArePositions};
+ghost use Rattle.units.specs.Classes.{class_at};
+ghost use Rattle.resolve.specs.Repeats.{with_along, IsRunOf};
+
+use crate::rules::is_same;
+use std::sync::ledger::Ledger;
+use units::class::Class;
+use units::level::Level;
+use units::steps::Steps;
+
+/// Gives the class `made` to the positions of a sequence from the index `start` on, as long as they have this class.
+/// It answers the index behind them, and takes a step for each.
+pub(crate) fn give_run<L: Ledger>(
+    positions: &[u32],
+    start: usize,
+    class: Class,
+    made: Class,
+    classes: &mut [Class],
+    steps: &mut Steps<L>,
+) -> usize
+    requires positions { ArePositions positions.now (length classes.old) }
+    requires start { start ≤ length positions.now }
+    ensures run { IsRunOf class positions.now start result classes.old }
+    ensures classes { classes.new ≡ with_along positions.now start (result - start) made classes.old }
+    ensures steps { steps.new + start ≡ steps.old + result }
+{
+    let mut k = start;
+    while k < positions.len() && is_same(classes[positions[k] as usize], class) {
+        steps.tick();
+        classes[positions[k] as usize] = made;
+        k += 1;
+    }
+    k
+}
+
+/// The same, and it gives these positions a level too.
+pub(crate) fn give_run_levels<L: Ledger>(
+    positions: &[u32],
+    start: usize,
+    class: Class,
+    made: Class,
+    level: Level,
+    classes: &mut [Class],
+    levels: &mut [Option<Level>],
+    steps: &mut Steps<L>,
+) -> usize
+    requires positions { ArePositions positions.now (length classes.old) }
+    requires start { start ≤ length positions.now }
+    requires levels { length levels.old ≡ length classes.old }
+    ensures run { IsRunOf class positions.now start result classes.old }
+    ensures classes { classes.new ≡ with_along positions.now start (result - start) made classes.old }
+    ensures levels { levels.new ≡ with_along positions.now start (result - start) (Some level) levels.old }
+    ensures steps { steps.new + start ≡ steps.old + result }
+{
+    let mut k = start;
+    while k < positions.len() && is_same(classes[positions[k] as usize], class) {
+        steps.tick();
+        classes[positions[k] as usize] = made;
+        levels[positions[k] as usize] = Some(level);
+        k += 1;
+    }
+    k
+}
