@@ -86,11 +86,7 @@ found_nowhere ps (x ∷ xs) within p none =
 
 module _ (us : List BidiUnit) (weak : List Class) where
   pub pairs_lie : (s : SequenceView) → All (LiesBelow (length s.positions)) (bracket_pairs_of standard.brackets (brackets_of s us (classes_at weak s.positions)))
-  pairs_lie s =
-      let bs : List Bracket = brackets_of s us (classes_at weak s.positions) in
-      let n : length bs ≡ length s.positions = length-brackets_at us weak s.positions in
-      let P : ℕ → Type 0 = λ size. All (LiesBelow size) (bracket_pairs_of standard.brackets bs) in
-      subst P n (lie_inside standard.brackets bs)
+  pairs_lie s = grind (arith, length-brackets_at, lie_inside)
 
   pairs_within : (s : SequenceView) → All (λ pair. pair.0 < length s.positions) (bracket_pairs_of standard.brackets (brackets_of s us (classes_at weak s.positions)))
   pairs_within s = All-weaker (LiesBelow (length s.positions)) (λ (pair : ℕ × ℕ). pair.0 < length s.positions) (λ pair l. l.0) _ (pairs_lie s)

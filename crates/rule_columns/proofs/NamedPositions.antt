@@ -1,5 +1,5 @@
 -- The columns of a paragraph name no positions but its own.
-use Rattle.std.specs.Prelude.{Option, Some, None, ℕ, Bool, ◌==◌, ◌-◌, ◌<◌, ◌≤◌, ◌≡◌, List, [], ◌∷◌, length, map, find, IfSome, slice_index, slice_index_or, refl}
+use Rattle.std.specs.Prelude.{Option, Some, None, ℕ, Bool, ◌==◌, ◌-◌, ◌<◌, ◌≤◌, ◌≡◌, List, [], ◌∷◌, length, map, find, IfSome, slice_index, slice_index_or}
 use Rattle.std.specs.List.{All, flat_map}
 use Rattle.std.specs.Option.{option_map}
 use Rattle.std.proofs.Common.{arith, ap, sym, ◌∙◌, subst, inl, inr}
@@ -8,13 +8,13 @@ use Rattle.std.proofs.lemmas.List.{length-map, get_or-map}
 use Rattle.std.proofs.lemmas.List.Elements.{All-append, All-filter, All-from_get_or, All-get_or, All-head, All-map, All-nil, All-tail, All-weaker}
 use Rattle.units.specs.Brackets.{closer_of}
 use Rattle.units.specs.Classes.{classes_of}
-use Rattle.units.specs.Isolates.{first_strong, para_level_of}
-use Rattle.units.specs.Layout.{layout_of, lines_cut_at, para_levels_of, text_levels, value_found}
+use Rattle.units.specs.Isolates.{first_strong}
+use Rattle.units.specs.Layout.{layout_of, lines_cut_at, value_found}
 use Rattle.units.specs.Limits.{standard}
 use Rattle.units.specs.Paragraphs.{SeparatorOnlyLast}
 use Rattle.units.specs.Positions.{first_from, positions_from, positions_of}
-use Rattle.units.specs.Reordering.{after_resets, begins_line, cuts_of}
-use Rattle.units.specs.Runs.{SequenceView, leveled_of, sequences_of}
+use Rattle.units.specs.Reordering.{begins_line, cuts_of}
+use Rattle.units.specs.Runs.{SequenceView}
 use Rattle.units.specs.declared.bracket.Unit.{Unit as BidiUnit}
 use Rattle.units.specs.declared.class.Class.{Class}
 use Rattle.units.specs.declared.level.Direction.{Direction}
@@ -68,17 +68,11 @@ closer_inside us weak all within p h =
 
 -- the first position that passes a test lies among those that were looked at
 first_inside : (test : ℕ → Bool) (n : ℕ) → IfSome (first_from test 0 n) (λ p. p < n)
-first_inside test n = go (first_from test 0 n) refl
-  where
-    go : (found : Option ℕ) → first_from test 0 n ≡ found → IfSome found (λ p. p < n)
-    go None e = tt
-    go (Some p) e = omega (arith, (first_from_some test 0 n p e).within)
+first_inside test n = grind (arith, first_from_some)
 
 strong_inside : (us : List BidiUnit) → IfSome (first_strong (classes_of us) None) (λ p. p < length us)
 unfolding first_strong
-strong_inside us =
-    let n : length (classes_of us) ≡ length us = length-map us (λ (u : BidiUnit). u.class) in
-    subst (λ size. IfSome (first_strong (classes_of us) None) (λ p. p < size)) n (first_inside _ (length (classes_of us)))
+strong_inside us = grind (arith, length-map, first_inside)
 
 -- the order of the first line
 order_inside : (levels : List (Option ℕ)) (cuts : List ℕ) → All (λ c. c ≤ length levels) cuts → All (λ p. p < length levels) (slice_index_or (lines_cut_at levels cuts) 0 no_line).order
@@ -97,22 +91,9 @@ cuts_inside own size n =
 
 line_inside : (us : List BidiUnit) (direction : Direction) → All (λ p. p < length us) (slice_index_or (layout_of standard us direction []).lines 0 no_line).order
 unfolding layout_of
-line_inside us direction =
-    let own : List Class = classes_of us in
-    let levels : List (Option ℕ) = after_resets own [] (para_levels_of us direction) (text_levels standard us direction) in
-    let n : length levels ≡ length us = length-levels standard us direction [] in
-    let m : length own ≡ length us = length-map us (λ (u : BidiUnit). u.class) in
-    subst (λ size. All (λ p. p < size) (slice_index_or (lines_cut_at levels (cuts_of own [])) 0 no_line).order) n
-    (order_inside levels (cuts_of own []) (cuts_inside own (length levels) (omega arith)))
+line_inside us direction = grind (arith, length-levels, length-map, order_inside, cuts_inside)
 
 pub columns_inside : (us : List BidiUnit) (direction : Direction) → SeparatorOnlyLast us → NamesInside (columns_of us direction) (length us)
 unfolding columns_of
 columns_inside us direction only =
-    let cs : List Class = classes_of us in
-    let level : ℕ = para_level_of cs direction in
-    let apart = sequences_are_apart standard.depth (omega arith) us level (para_level-low cs direction) only in
-    record {
-      first_strong = strong_inside us;
-      closers = closer_inside us _ (sequences_of (leveled_of standard.depth cs level)) apart.within;
-      order = line_inside us direction;
-    }
+    grind (arith, sequences_are_apart, para_level-low, strong_inside, closer_inside, line_inside)

@@ -1,15 +1,14 @@
 -- N1 and then N2 leave what the two together leave.
 use Rattle.std.specs.Prelude.{true, ℕ, ◌<◌, ◌≡◌, ◌⊎◌, List, length, refl}
 use Rattle.std.proofs.Common.{arith, ap, sym, ◌∙◌, inl, inr}
-use Rattle.std.proofs.lemmas.Bool.{cases_Bool, cond-true, cond-false}
+use Rattle.std.proofs.lemmas.Bool.{cond-true, cond-false}
 use Rattle.std.proofs.lemmas.List.{length-map, get_or-map}
 use Rattle.units.specs.Classes.{class_at, is_neutral}
 use Rattle.units.specs.Neutral.{after_neutral, by_sides, side_of}
-use Rattle.units.specs.Weak.{class_by_run, nearest_after, nearest_before}
+use Rattle.units.specs.Weak.{class_by_run}
 use Rattle.units.specs.declared.class.Class.{Class}
 use Rattle.units.specs.declared.class.Class.TheVariants.{L, R}
 use Rattle.units.proofs.Lengths.{length-at_each}
-use Rattle.resolve.specs.Neutrals.{is_no_neutral}
 use Rattle.resolve.proofs.AtEach.{class_at-at_each, same_classes}
 use Rattle.rule_columns.specs.Passes.{after_n1, after_n2, by_n2}
 
@@ -19,35 +18,11 @@ side_cases c = inr refl
 
 -- of a neutral, what its sides leave takes the embedding direction
 both_steps : (embedding c before after : Class) → is_neutral c ≡ true → by_n2 embedding (by_sides c before after) ≡ by_sides embedding before after
-both_steps embedding c before after neutral =
-    let left = cond-true (is_neutral c) embedding c neutral in
-    elim (side_cases before) [
-      | inl b ↦ elim (side_cases after) [
-        | inl a ↦ rw (b, a) refl
-        | inr a ↦ rw (b, a) left
-      ]
-      | inr b ↦ elim (side_cases after) [
-        | inl a ↦ rw (b, a) left
-        | inr a ↦ rw (b, a) refl
-      ]
-    ]
+both_steps embedding c before after neutral = grind (arith, cond-true, side_cases)
 
 at_index : (embedding sos eos : Class) (cs : List Class) (k : ℕ) →
     by_n2 embedding (class_by_run is_neutral (by_sides (class_at cs k)) sos eos cs k) ≡ class_by_run is_neutral (by_sides embedding) sos eos cs k
-at_index embedding sos eos cs k =
-    let c : Class = class_at cs k in
-    let before : Class = nearest_before cs is_no_neutral k sos in
-    let after : Class = nearest_after cs is_no_neutral k eos in
-    elim (cases_Bool (is_neutral c)) [
-      | inl t ↦
-          (ap (by_n2 embedding) (cond-true (is_neutral c) (by_sides c before after) c t)
-          ∙ both_steps embedding c before after t
-          ∙ sym (cond-true (is_neutral c) (by_sides embedding before after) c t))
-      | inr f ↦
-          (ap (by_n2 embedding) (cond-false (is_neutral c) (by_sides c before after) c f)
-          ∙ cond-false (is_neutral c) embedding c f
-          ∙ sym (cond-false (is_neutral c) (by_sides embedding before after) c f))
-    ]
+at_index embedding sos eos cs k = grind (arith, cond-true, both_steps, cond-false)
 
 pub in_two_steps : (embedding sos eos : Class) (cs : List Class) → after_n2 embedding (after_n1 sos eos cs) ≡ after_neutral embedding sos eos cs
 unfolding after_neutral

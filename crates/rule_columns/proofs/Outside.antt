@@ -1,7 +1,7 @@
 -- What lies outside of all isolates, from one position to the next.
 use Rattle.std.specs.Prelude.{Some, None, Bool, true, false, ◌&&◌, ℕ, ◌+◌, ◌<◌, ◌≤◌, ◌≡◌, ◌≢◌, List, length, refl}
-use Rattle.std.proofs.Common.{arith, ap, sym, ◌∙◌, inl, inr}
-use Rattle.std.proofs.lemmas.Bool.{cases_order, cases_Bool, and_parts, false≢true, both_ways}
+use Rattle.std.proofs.Common.{arith, sym, ◌∙◌}
+use Rattle.std.proofs.lemmas.Bool.{and_parts, false≢true, both_ways}
 use Rattle.units.specs.Classes.{class_at, is_isolate_initiator, is_strong}
 use Rattle.units.specs.Isolates.{first_strong, isolate_around, isolate_holds, matching_pdi}
 use Rattle.units.specs.Positions.{same_position}
@@ -21,30 +21,11 @@ module _ (cs : List Class) (p : ℕ) (outside : isolate_around cs p ≡ None) wh
 
   -- behind a position that begins no isolate
   pub outside_next : is_isolate_initiator (class_at cs p) ≡ false → isolate_around cs (p + 1) ≡ None
-  outside_next plain =
-      around_nowhere cs (p + 1)
-      (λ i h. elim (cases_order i p) [
-        | inl e ↦ both_ways (is_isolate_initiator (class_at cs p)) plain (ap (λ q. is_isolate_initiator (class_at cs q)) (sym e) ∙ h.opener)
-        | inr other ↦ elim other [
-          | inl before ↦ not_held i (holds_down cs i (p + 1) p h before (omega arith))
-          | inr behind ↦ let after = h.after in absurd (omega arith)
-        ]
-      ])
+  outside_next plain = grind (arith, around_nowhere, both_ways, not_held, holds_down)
 
   -- at the PDI that matches the one that begins here
   pub outside_match : (a : ℕ) → p < a → matching_pdi cs p ≡ Some a → isolate_around cs a ≡ None
-  outside_match a later match =
-      around_nowhere cs a
-      (λ i h. elim (cases_order i p) [
-        | inl e ↦ let l : a < a = h.before a (ap (matching_pdi cs) e ∙ match) in absurd (omega arith)
-        | inr other ↦ elim other [
-          | inl before ↦ not_held i (holds_down cs i a p h before (omega arith))
-          | inr behind ↦
-              let w = inner_match cs p i a match behind h.after h.opener in
-              let l : a < w.0 = h.before w.0 w.1 in
-              absurd (omega (arith, w.2))
-        ]
-      ])
+  outside_match a later match = grind (arith, around_nowhere, not_held, holds_down, inner_match)
 
   -- all up to it lies inside
   pub inside_match : is_isolate_initiator (class_at cs p) ≡ true → (a : ℕ) → matching_pdi cs p ≡ Some a → (q : ℕ) → p < q → q < a → isolate_around cs q ≢ None
@@ -67,11 +48,7 @@ pub weak_undecided : (cs : List Class) (q : ℕ) → is_strong (class_at cs q) �
 weak_undecided cs q weak = rw weak refl
 
 pub inside_undecided : (cs : List Class) (q : ℕ) → isolate_around cs q ≢ None → decides cs q ≡ false
-inside_undecided cs q inside =
-    elim (cases_Bool (decides cs q)) [
-      | inl holds ↦ absurd (inside (same_position_true (isolate_around cs q) None (and_parts (is_strong (class_at cs q)) (same_position (isolate_around cs q) None) holds).1))
-      | inr fails ↦ fails
-    ]
+inside_undecided cs q inside = grind (arith, same_position_true, and_parts)
 
 -- before p nothing decides, and p lies outside of all isolates
 pub record IsUndecided (cs : List Class) (p : ℕ) : Type 0 where
@@ -85,17 +62,7 @@ undecided_start cs = record { within = omega arith; before = λ q l. absurd (ome
 
 pub undecided_next : (cs : List Class) (p next : ℕ) → IsUndecided cs p → is_strong (class_at cs p) ≡ false → p < next → next ≤ length cs →
     (next < length cs → isolate_around cs next ≡ None) → ((q : ℕ) → p < q → q < next → isolate_around cs q ≢ None) → IsUndecided cs next
-undecided_next cs p next w weak later within outside inside = record {
-  within = within;
-  before = λ q l. elim (cases_order q p) [
-    | inl e ↦ weak_undecided cs q (ap (λ i. is_strong (class_at cs i)) e ∙ weak)
-    | inr other ↦ elim other [
-      | inl before ↦ w.before q before
-      | inr behind ↦ inside_undecided cs q (inside q behind l)
-    ]
-  ];
-  outside = outside;
-}
+undecided_next cs p next w weak later within outside inside = grind (arith, weak_undecided, inside_undecided)
 
 pub decided_at : (cs : List Class) (p : ℕ) → IsUndecided cs p → p < length cs → is_strong (class_at cs p) ≡ true → first_strong cs None ≡ Some p
 unfolding first_strong

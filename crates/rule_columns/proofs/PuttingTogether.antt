@@ -3,7 +3,7 @@ use Rattle.std.specs.Prelude.{ℕ, ◌≡◌, List, [], length, take, refl, Resu
 use Rattle.std.proofs.Common.{arith, ap, sym, ◌∙◌, subst}
 use Rattle.std.proofs.lemmas.List.{length-map, take_all}
 use Rattle.units.specs.Classes.{classes_of}
-use Rattle.units.specs.Explicit.{explicit_at, explicit_of}
+use Rattle.units.specs.Explicit.{explicit_of}
 use Rattle.units.specs.Isolates.{para_level_of}
 use Rattle.units.specs.Layout.{current_of}
 use Rattle.units.specs.Limits.{standard}
@@ -71,9 +71,7 @@ length-implicit_of all cs = length-map (positions_of cs) _ ∙ length-positions_
 
 module _ (us : List BidiUnit) (direction : Direction) where
   length-places : length (explicit_part us direction).places ≡ length us
-  length-places =
-      let cs : List Class = classes_of us in
-      length-of_positions cs (explicit_at standard.depth cs (para_level_of cs direction)) ∙ length-map us (λ (u : BidiUnit). u.class)
+  length-places = grind (arith, length-of_positions, length-map)
 
   length-current : length (current_of (explicit_part us direction).places) ≡ length us
   length-current = length-map (explicit_part us direction).places _ ∙ length-places

@@ -1,6 +1,6 @@
 -- Passes of rules that take the class alone, or the nearest earlier class too.
 use Rattle.std.specs.Prelude.{Bool, true, false, if◌then◌else◌, ℕ, ◌+◌, ◌<◌, ◌≡◌, List, length, map, slice_index, refl}
-use Rattle.std.proofs.Common.{ap, sym, ◌∙◌, set, subst, add-one}
+use Rattle.std.proofs.Common.{arith, ap, sym, ◌∙◌, set, subst, add-one}
 use Rattle.std.proofs.lemmas.List.{get_or-map, set-get_or, length-map}
 use Rattle.std.proofs.lemmas.Bool.{cond-true, cond-false}
 use Rattle.units.specs.Positions.{last_below}
@@ -91,7 +91,4 @@ each_pass_write f {ps} {start} {now} {k} w inside v is =
 
 -- one rewriting after another
 pub Rewrites-then : {f g : List Class → List Class} {ps : List ℕ} {a b c : List Class} → Rewrites f ps a b → Rewrites g ps b c → Rewrites (λ cs. g (f cs)) ps a c
-Rewrites-then {f} {g} x y = record {
-  values = y.values ∙ ap g x.values;
-  others = λ p h. y.others p h ∙ x.others p h;
-}
+Rewrites-then {f} {g} x y = grind arith

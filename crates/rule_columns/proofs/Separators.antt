@@ -1,10 +1,9 @@
 -- A pass whose rule takes the classes just before and just after.
-use Rattle.std.specs.Prelude.{ℕ, suc, ◌+◌, ◌-◌, ◌<◌, ◌≤◌, ◌≡◌, List, length, slice_index, slice_get, refl}
+use Rattle.std.specs.Prelude.{ℕ, ◌+◌, ◌<◌, ◌≤◌, ◌≡◌, List, length, slice_index, slice_get, refl}
 use Rattle.std.proofs.Common.{arith, ap, sym, ◌∙◌, set, inl, inr}
 use Rattle.std.proofs.lemmas.Bool.{cases_lt}
 use Rattle.std.proofs.lemmas.List.{get_or-drop}
 use Rattle.std.proofs.lemmas.Option.{slice_get_past, slice_get-get_or}
-use Rattle.units.specs.Positions.{first_from}
 use Rattle.units.specs.Classes.{class_at, classes_at}
 use Rattle.units.specs.Weak.{class_or, nearest_before, nearest_after, is_any, by_w4, after_w4}
 use Rattle.units.specs.declared.class.Class.{Class}
@@ -25,14 +24,10 @@ separator_start ps start p =
 
 -- the class just after an index, if one is there
 next_class : (cs : List Class) (k : ℕ) → k + 1 < length cs → nearest_after cs is_any k ON ≡ class_at cs (k + 1)
-next_class cs k h =
-    let some : length cs - (k + 1) ≡ suc (length cs - (k + 2)) = omega arith in
-    ap (λ n. class_or cs (first_from (λ j. is_any (class_at cs j)) (k + 1) n) ON) some
+next_class cs k h = grind arith
 
 no_next_class : (cs : List Class) (k : ℕ) → length cs ≤ k + 1 → nearest_after cs is_any k ON ≡ ON
-no_next_class cs k h =
-    let none : length cs - (k + 1) ≡ 0 = omega arith in
-    ap (λ n. class_or cs (first_from (λ j. is_any (class_at cs j)) (k + 1) n) ON) none
+no_next_class cs k h = grind arith
 
 pub separator_write : {ps : List ℕ} {start now : List Class} {before : Class} {k : ℕ} → SeparatorPass ps start now before k → k < length ps → (v : Class) →
     v ≡ by_w4 before (class_at now (slice_index ps k)) (class_or now (slice_get ps (k + 1)) ON) →

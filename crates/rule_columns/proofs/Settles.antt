@@ -1,6 +1,6 @@
 -- A pass that gives each class of a run what the run's two sides give it.
-use Rattle.std.specs.Prelude.{Option, Some, None, Bool, true, false, not, ℕ, ◌+◌, ◌<◌, ◌≡◌, List, length, IfSome, slice_index, refl}
-use Rattle.std.proofs.Common.{ap, sym, ◌∙◌, subst, drop, set}
+use Rattle.std.specs.Prelude.{Option, Some, None, Bool, true, false, not, ℕ, ◌+◌, ◌<◌, ◌≡◌, List, length, IfSome, slice_index}
+use Rattle.std.proofs.Common.{arith, ap, sym, ◌∙◌, subst, drop, set}
 use Rattle.std.proofs.lemmas.Bool.{cond-true, cond-false, not_from_true, not_from_false}
 use Rattle.units.specs.Classes.{class_at, classes_at}
 use Rattle.units.specs.Weak.{nearest_before, nearest_after}
@@ -23,11 +23,7 @@ pub record SettlePass (kind : Class → Bool) (rule : Class → Class → Class 
 
 pub settle_start : (kind : Class → Bool) (rule : Class → Class → Class → Class) (sos eos : Class) (ps : List ℕ) (start : List Class) →
     ArePositions ps (length start) → SettlePass kind rule sos eos ps start start sos None 0
-settle_start kind rule sos eos ps start p = record {
-  pass = pass_start ps _ start p (length-at_each _ (classes_at start ps) ∙ length-classes_at start ps);
-  before_is = refl;
-  ahead_is = tt;
-}
+settle_start kind rule sos eos ps start p = grind (arith, pass_start, length-at_each, length-classes_at)
 
 module _ {kind : Class → Bool} {rule : Class → Class → Class → Class} {sos eos : Class} {ps : List ℕ} {start now : List Class} {before : Class} {ahead : Option Class} {k : ℕ}
     (w : SettlePass kind rule sos eos ps start now before ahead k) (inside : k < length ps) where

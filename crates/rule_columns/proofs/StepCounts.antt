@@ -1,7 +1,7 @@
 -- How many steps a pass with a look ahead takes.
 use Rattle.std.specs.Prelude.{Option, Some, None, Bool, true, false, ℕ, ◌+◌, ◌*◌, ◌<◌, ◌≤◌, ◌≡◌, List, ◌∷◌, length, refl}
 use Rattle.std.specs.List.{prefix_len}
-use Rattle.std.proofs.Common.{arith, ap, sym, ◌∙◌, drop}
+use Rattle.std.proofs.Common.{arith, ap, ◌∙◌, drop}
 use Rattle.std.proofs.lemmas.Bool.{cond-true, cond-false}
 use Rattle.std.proofs.lemmas.List.{drop_all}
 use Rattle.units.specs.Classes.{class_at}
@@ -43,10 +43,7 @@ module _ {kind : Class → Bool} {from : List Class} {k : ℕ} {ahead : Option C
   -- a run that begins here pays for its whole length
   pub count_new : (n : ℕ) → n ≡ prefix_len kind (drop (k + 1) from) → ahead ≡ None → (later : ℕ) → now + 1 ≤ later → later ≤ now + 1 + n + 1 →
       (v : Class) → (j : ℕ) → j ≡ k + 1 → StepCount kind from j (Some v) start later
-  count_new n e none later a b v j i =
-      let free : owed kind from k ahead ≡ 0 = ap (owed kind from k) none in
-      let due : prefix_len kind (drop j from) ≡ n = ap (λ i. prefix_len kind (drop i from)) i ∙ sym e in
-      record { at_least = omega (arith, w.at_least); at_most = omega (arith, w.at_most, free, due) }
+  count_new n e none later a b v j i = grind arith
 
   -- a run that goes on has been paid for
   pub count_same : (c : Class) → ahead ≡ Some c → k < length from → kind (class_at from k) ≡ true → (later : ℕ) → later ≡ now + 1 →

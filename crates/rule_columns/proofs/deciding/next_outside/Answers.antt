@@ -18,8 +18,8 @@ returns-then-not-is_isolate_initiator-clause-outside c =
     ap is_isolate_initiator (class_read c.args.para.now c.args.p no_unit c.requires.inside) ∙ sym c.is_isolate_initiator.ensures ∙ c.if-not-is_isolate_initiator.true in
     λ l. outside_next cs c.args.p c.requires.outside plain
 
-pub returns-in-Some-clause-later : goal.returns-in-Some-clause-later
-returns-in-Some-clause-later c =
+pub returns-in-Some : goal.returns-in-Some
+returns-in-Some c =
     let cs = classes_of c.args.para.now in
     let n : length (classes_of c.args.para.now) ≡ length c.args.para.now = length-map c.args.para.now (λ (u : BidiUnit). u.class) in
     let opener : is_isolate_initiator (class_at cs c.args.p) ≡ true =
@@ -27,40 +27,12 @@ returns-in-Some-clause-later c =
     let found : partner_of cs c.args.p ≡ matching_pdi cs c.args.p = partner_of_other cs c.args.p (opener_is_no_pdi (class_at cs c.args.p) opener) in
     let match : matching_pdi cs c.args.p ≡ Some c.in-Some.pdi = sym found ∙ sym (c.partner.ensures.matched cs c.requires.isolates (omega arith)) ∙ c.in-Some.is in
     let bounds = match_bounds cs c.args.p c.in-Some.pdi match in
-    bounds.0
-
-pub returns-in-Some-clause-within : goal.returns-in-Some-clause-within
-returns-in-Some-clause-within c =
-    let cs = classes_of c.args.para.now in
-    let n : length (classes_of c.args.para.now) ≡ length c.args.para.now = length-map c.args.para.now (λ (u : BidiUnit). u.class) in
-    let opener : is_isolate_initiator (class_at cs c.args.p) ≡ true =
-    ap is_isolate_initiator (class_read c.args.para.now c.args.p no_unit c.requires.inside) ∙ sym c.is_isolate_initiator.ensures ∙ c.if-not-is_isolate_initiator.false in
-    let found : partner_of cs c.args.p ≡ matching_pdi cs c.args.p = partner_of_other cs c.args.p (opener_is_no_pdi (class_at cs c.args.p) opener) in
-    let match : matching_pdi cs c.args.p ≡ Some c.in-Some.pdi = sym found ∙ sym (c.partner.ensures.matched cs c.requires.isolates (omega arith)) ∙ c.in-Some.is in
-    let bounds = match_bounds cs c.args.p c.in-Some.pdi match in
-    omega (arith, bounds.1)
-
-pub returns-in-Some-clause-outside : goal.returns-in-Some-clause-outside
-returns-in-Some-clause-outside c =
-    let cs = classes_of c.args.para.now in
-    let n : length (classes_of c.args.para.now) ≡ length c.args.para.now = length-map c.args.para.now (λ (u : BidiUnit). u.class) in
-    let opener : is_isolate_initiator (class_at cs c.args.p) ≡ true =
-    ap is_isolate_initiator (class_read c.args.para.now c.args.p no_unit c.requires.inside) ∙ sym c.is_isolate_initiator.ensures ∙ c.if-not-is_isolate_initiator.false in
-    let found : partner_of cs c.args.p ≡ matching_pdi cs c.args.p = partner_of_other cs c.args.p (opener_is_no_pdi (class_at cs c.args.p) opener) in
-    let match : matching_pdi cs c.args.p ≡ Some c.in-Some.pdi = sym found ∙ sym (c.partner.ensures.matched cs c.requires.isolates (omega arith)) ∙ c.in-Some.is in
-    let bounds = match_bounds cs c.args.p c.in-Some.pdi match in
-    λ l. outside_match cs c.args.p c.requires.outside c.in-Some.pdi bounds.0 match
-
-pub returns-in-Some-clause-next : goal.returns-in-Some-clause-next
-returns-in-Some-clause-next c =
-    let cs = classes_of c.args.para.now in
-    let n : length (classes_of c.args.para.now) ≡ length c.args.para.now = length-map c.args.para.now (λ (u : BidiUnit). u.class) in
-    let opener : is_isolate_initiator (class_at cs c.args.p) ≡ true =
-    ap is_isolate_initiator (class_read c.args.para.now c.args.p no_unit c.requires.inside) ∙ sym c.is_isolate_initiator.ensures ∙ c.if-not-is_isolate_initiator.false in
-    let found : partner_of cs c.args.p ≡ matching_pdi cs c.args.p = partner_of_other cs c.args.p (opener_is_no_pdi (class_at cs c.args.p) opener) in
-    let match : matching_pdi cs c.args.p ≡ Some c.in-Some.pdi = sym found ∙ sym (c.partner.ensures.matched cs c.requires.isolates (omega arith)) ∙ c.in-Some.is in
-    let bounds = match_bounds cs c.args.p c.in-Some.pdi match in
-    inside_match cs c.args.p c.requires.outside opener c.in-Some.pdi match
+    record {
+      later = bounds.0;
+      within = omega (arith, bounds.1);
+      outside = λ l. outside_match cs c.args.p c.requires.outside c.in-Some.pdi bounds.0 match;
+      next = inside_match cs c.args.p c.requires.outside opener c.in-Some.pdi match;
+    }
 
 pub returns-in-None-clause-next : goal.returns-in-None-clause-next
 returns-in-None-clause-next c =
