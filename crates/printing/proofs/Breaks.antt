@@ -1,5 +1,5 @@
 -- The breaks up to a position, and that they rise inside the text.
-use Rattle.std.proofs.Common.{rules, ◌≡◌, ℕ, zero, suc, ◌+◌, ◌-◌, ◌<◌, ◌≤◌, Bool, true, false, List, [], ◌∷◌, ◌++◌, Result, Ok, Err, IsOk, MatchResult, inl, inr, length, refl, sym, ap, subst, ◌∙◌, arith, cond, slice_index}
+use Rattle.std.proofs.Common.{rules, ◌≡◌, ℕ, zero, suc, ◌+◌, ◌-◌, ◌<◌, ◌≤◌, Bool, true, false, List, [], ◌∷◌, ◌++◌, Result, Ok, Err, IsOk, MatchResult, length, refl, sym, ap, subst, ◌∙◌, arith, slice_index}
 use Rattle.std.specs.Prelude.{filter}
 use Rattle.std.proofs.lemmas.List.Elements.{filter-append}
 use Rattle.units.specs.Positions.{positions_from}
@@ -51,9 +51,7 @@ below-more x xs e h later (suc i) k = later i (omega arith)
 above-more : (x : ℕ) (xs : List ℕ) → ((i : ℕ) → i < length xs → x + 1 ≤ slice_index xs i) → ((i : ℕ) → i + 1 < length xs → slice_index xs i < slice_index xs (i + 1))
     → (i : ℕ) → i + 1 < length (x ∷ xs) → slice_index (x ∷ xs) i < slice_index (x ∷ xs) (i + 1)
 above-more x xs from above zero k = let l : x + 1 ≤ slice_index xs 0 = from 0 (omega arith) in omega arith
-above-more x xs from above (suc i) k =
-    let next : suc (i + 1) ≡ suc i + 1 = omega arith in
-    subst (λ j. slice_index xs i < slice_index (x ∷ xs) j) next (above i (omega arith))
+above-more x xs from above (suc i) k = grind (arith, slice_index)
 
 rises-more : (s e : ℕ) (xs : List ℕ) → s < e → RisesIn xs (s + 1) e → RisesIn (s ∷ xs) s e
 rises-more s e xs h r =
@@ -64,11 +62,7 @@ rises-later s e xs r = record { from = λ i h. (let l : s + 1 ≤ slice_index xs
 
 filter-rises : (test : ℕ → Bool) (s n e : ℕ) → s + n ≤ e → RisesIn (filter test (positions_from s n)) s e
 filter-rises test s zero e h = rises-none s e
-filter-rises test s (suc n) e h =
-    elim (test s) as (λ v. RisesIn (cond v (s ∷ filter test (positions_from (s + 1) n)) (filter test (positions_from (s + 1) n))) s e) [
-      | true ↦ rises-more s e _ (omega arith) (filter-rises test (s + 1) n e (omega arith))
-      | false ↦ rises-later s e _ (filter-rises test (s + 1) n e (omega arith))
-    ]
+filter-rises test s (suc n) e h = grind (arith, rises-more, rises-later, filter-rises test (s + 1) n e)
 
 -- where the first position does not pass, those that do lie from 1 on
 passing-rises : (test : ℕ → Bool) (n : ℕ) → test 0 ≡ false → RisesIn (passing test n) 1 n
@@ -77,16 +71,10 @@ passing-rises test (suc n) h = rw h (filter-rises test 1 n (suc n) (omega arith)
 
 above-before : (xs : List ℕ) → ((i : ℕ) → i + 1 < length xs → slice_index xs i < slice_index xs (i + 1)) → (i : ℕ) → i < length xs → Rises xs i
 above-before xs above zero h positive = absurd (omega arith)
-above-before xs above (suc i) h positive =
-    let next : i + 1 ≡ suc i = omega arith in
-    let before : i ≡ suc i - 1 = omega arith in
-    subst (λ j. slice_index xs j < slice_index xs (suc i)) before (subst (λ j. slice_index xs i < slice_index xs j) next (above i (omega arith)))
+above-before xs above (suc i) h positive = grind (arith, slice_index)
 
 are-breaks : (xs : List ℕ) (n : ℕ) → RisesIn xs 1 n → AreBreaks xs n
-are-breaks xs n r = record {
-  inside = λ i h. record { after_start = r.from i h; before_end = r.below i h };
-  rising = above-before xs r.above;
-}
+are-breaks xs n r = grind (arith, above-before)
 
 pub no_break_at_first : (text : List BidiUnit) (columns : ℕ) → is_column_break text columns 0 ≡ false
 no_break_at_first text columns = search rules
@@ -96,12 +84,7 @@ pub breaks-of-columns : (text : List BidiUnit) (columns n : ℕ) → AreBreaks (
 breaks-of-columns text columns n = are-breaks _ n (passing-rises (is_column_break text columns) n (no_break_at_first text columns))
 
 no_fault : (at : List ℕ) (len : ℕ) (fault : BreakFault) → AreBreaks at len → IsFirstBreakFault at len fault → ⊥
-no_fault at len (OutOfRange i) breaks h =
-    let inside = breaks.inside i h.0 in
-    elim h.2 [
-      | inl first ↦ let after : 0 < slice_index at i = inside.after_start in omega arith
-      | inr past ↦ let before : slice_index at i < len = inside.before_end in omega arith
-    ]
+no_fault at len (OutOfRange i) breaks h = grind (arith, slice_index)
 no_fault at len (NotRising i) breaks h = let above : slice_index at (i - 1) < slice_index at i = breaks.rising i h.0 h.3 in let below = h.4 in omega arith
 
 -- breaks are never refused

@@ -1,5 +1,5 @@
 -- What a loop over a list has printed, and what is left.
-use Rattle.std.proofs.Common.{◌≡◌, ℕ, List, [], ◌∷◌, ◌++◌, Option, refl, sym, ap, ◌∙◌, append_assoc}
+use Rattle.std.proofs.Common.{arith, ◌≡◌, ℕ, List, [], ◌∷◌, ◌++◌, Option, refl, sym, ap, ◌∙◌, append_assoc}
 use Rattle.std.specs.List.{flat_map}
 use Rattle.std.specs.Io.KnownBytes.{Appends}
 use Rattle.std.proofs.lemmas.List.{append-nil, flat_map_more}
@@ -24,6 +24,4 @@ module _ {A : Type 0} (text : A → List ℕ) where
   }
 
   pub all_passed : (a b : Option (List ℕ)) (whole rest : List A) → rest ≡ [] → HasPassed a b text whole rest → Appends a b (flat_map text whole)
-  all_passed a b whole rest e h =
-      let all : h.passed ≡ whole = sym (append-nil h.passed) ∙ ap (λ v. h.passed ++ v) (sym e) ∙ h.joined in
-      Appends-to a b _ _ (ap (flat_map text) all) h.grown
+  all_passed a b whole rest e h = grind (arith, append-nil)

@@ -1,5 +1,5 @@
 -- A loop over the positions of a line and the characters that they are shown by, side by side.
-use Rattle.std.proofs.Common.{◌≡◌, ◌<◌, ℕ, List, [], ◌∷◌, Option, length, map, refl, sym, ap, ◌∙◌, ◌⊎◌, inl, inr}
+use Rattle.std.proofs.Common.{arith, ◌≡◌, ◌<◌, ℕ, List, [], ◌∷◌, Option, length, map, refl, sym, ap, ◌∙◌, ◌⊎◌, inl, inr}
 use Rattle.std.specs.Prelude.{slice_index_or}
 use Rattle.std.specs.List.{All, flat_map}
 use Rattle.std.specs.Io.KnownBytes.{Appends}
@@ -25,11 +25,7 @@ nil_from_map f (x ∷ xs) e = cc
 module _ (images : ℕ → Option ℕ) (levels : List (Option ℕ)) (chars : List ℕ) (text : List BidiUnit) where
   pub nothing_shown : (a : Option (List ℕ)) (order rest shown : List ℕ) → order ≡ rest → shown ≡ shown_of images levels chars order
       → All (λ p. p < length levels) rest → HasShown images levels chars text a a order rest shown
-  nothing_shown a order rest shown e beside places = record {
-    written = rw e (nothing_passed _ a rest);
-    beside = beside ∙ ap (shown_of images levels chars) e;
-    places = places;
-  }
+  nothing_shown a order rest shown e beside places = grind (arith, nothing_passed)
 
   pub one_more_shown : (a b c : Option (List ℕ)) (order rest others shown left : List ℕ) (p character : ℕ) → rest ≡ p ∷ others → shown ≡ character ∷ left
       → HasShown images levels chars text a b order rest shown → Appends b c (text_unless (is_separator (slice_index_or text p no_unit).class) character)
