@@ -1,5 +1,5 @@
 -- What a search for a separator says of the pieces round it.
-use Rattle.std.proofs.Common.{◌≡◌, ℕ, suc, ◌+◌, ◌-◌, ◌<◌, ◌≤◌, ◌==◌, Bool, List, [], ◌∷◌, length, get_or, take, drop, refl, sym, ap, ◌∙◌, arith, None, Some}
+use Rattle.std.proofs.Common.{◌≡◌, ℕ, suc, ◌+◌, ◌-◌, ◌≤◌, ◌==◌, Bool, List, [], ◌∷◌, length, get_or, take, drop, refl, sym, ap, ◌∙◌, arith, None, Some}
 use Rattle.std.specs.List.{position_or_len, before_first, after_first, slice_split}
 use Rattle.std.proofs.lemmas.Bool.{false_from_ne_true}
 use Rattle.std.proofs.lemmas.List.{take_rest, take_all, get_or_default}
@@ -28,9 +28,7 @@ pub pieces-none : (p : ℕ → Bool) (xs : List ℕ) → IsFirstByte p xs None �
 pieces-none p xs none = slice_split_none p xs (λ k d lt. ap p (get_or_default xs k d 0 lt) ∙ false_from_ne_true (p (get_or xs k 0)) (none k (omega arith) lt))
 
 pub pieces-some : (p : ℕ → Bool) (xs : List ℕ) (k : ℕ) → IsFirstByte p xs (Some k) → slice_split p xs ≡ take k xs ∷ slice_split p (take (length xs - (k + 1)) (drop (k + 1) xs))
-pieces-some p xs k some =
-    let lt : position_or_len p xs < length xs = omega (arith, position-some p xs k some, some.0.high) in
-    rw (before_first-some p xs k some, after_first-some p xs k some) (slice_split_first p xs 0 lt)
+pieces-some p xs k some = grind (arith, position-some, before_first-some, after_first-some, slice_split_first)
 
 length-each_trimmed : (xs : List (List ℕ)) → length (each_trimmed xs) ≡ length xs
 length-each_trimmed [] = refl

@@ -1,8 +1,8 @@
 -- The first item of a list.
-use Rattle.std.proofs.Common.{◌≡◌, ℕ, ◌+◌, ◌-◌, ◌<◌, Bool, true, false, List, [], ◌∷◌, length, get_or, take, drop, filter, refl, sym, ap, ◌∙◌, arith, None, Some, cond, one-add, inl, inr}
+use Rattle.std.proofs.Common.{◌≡◌, ℕ, ◌+◌, ◌-◌, ◌<◌, true, false, List, [], ◌∷◌, length, get_or, take, drop, filter, refl, sym, ap, ◌∙◌, arith, None, Some, cond, one-add}
 use Rattle.std.specs.List.{prefix_len}
 use Rattle.std.proofs.lemmas.List.{length-take, nil_from_length}
-use Rattle.std.proofs.lemmas.Bool.{cases_lt, false≢true}
+use Rattle.std.proofs.lemmas.Bool.{false≢true}
 use Rattle.std.proofs.lemmas.List.Splits.{slice_split-cons_yes}
 use Rattle.memchr.specs.Find.{IsFirstByte}
 use Rattle.units.specs.Text.{is_blank, has_bytes, items_of, without_blanks_before}
@@ -17,22 +17,12 @@ trimmed-no x xs e = ap (λ b. drop (cond b (1 + prefix_len is_blank xs) 0) (x �
 -- blanks before the items change nothing
 pub items-trimmed : (xs : List ℕ) → items_of (without_blanks_before xs) ≡ items_of xs
 items-trimmed [] = refl
-items-trimmed (x ∷ xs) =
-    let go : (b : Bool) → is_blank x ≡ b → items_of (without_blanks_before (x ∷ xs)) ≡ items_of (x ∷ xs) = λ b. elim b as (λ v. is_blank x ≡ v → items_of (without_blanks_before (x ∷ xs)) ≡ items_of (x ∷ xs)) [
-      | true ↦ λ e. ap items_of (trimmed-yes x xs e) ∙ items-trimmed xs ∙ sym (ap (filter has_bytes) (slice_split-cons_yes is_blank x xs e))
-      | false ↦ λ e. ap items_of (trimmed-no x xs e)
-    ] in
-    go (is_blank x) refl
+items-trimmed (x ∷ xs) = grind (arith, trimmed-yes, slice_split-cons_yes, trimmed-no, items-trimmed xs)
 
 -- what is trimmed begins with no blank
 pub trimmed-begins : (xs : List ℕ) → 0 < length (without_blanks_before xs) → is_blank (get_or (without_blanks_before xs) 0 0) ≡ false
 trimmed-begins [] some = absurd (omega arith)
-trimmed-begins (x ∷ xs) some =
-    let go : (b : Bool) → is_blank x ≡ b → is_blank (get_or (without_blanks_before (x ∷ xs)) 0 0) ≡ false = λ b. elim b as (λ v. is_blank x ≡ v → is_blank (get_or (without_blanks_before (x ∷ xs)) 0 0) ≡ false) [
-      | true ↦ λ e. ap (λ (l : List ℕ). is_blank (get_or l 0 0)) (trimmed-yes x xs e) ∙ trimmed-begins xs (omega (arith, some, ap length (trimmed-yes x xs e)))
-      | false ↦ λ e. ap (λ (l : List ℕ). is_blank (get_or l 0 0)) (trimmed-no x xs e) ∙ e
-    ] in
-    go (is_blank x) refl
+trimmed-begins (x ∷ xs) some = grind (arith, trimmed-yes, trimmed-no, trimmed-begins xs)
 
 -- what is not empty has bytes
 pub some_bytes : (xs : List ℕ) → 0 < length xs → has_bytes xs ≡ true
@@ -45,21 +35,12 @@ items-one field xs is some none =
     sym (items-trimmed field) ∙ ap items_of (sym is) ∙ ap (filter has_bytes) (pieces-none is_blank xs none) ∙ rw (some_bytes xs some) refl
 
 begins-late : (xs : List ℕ) (k : ℕ) → is_blank (get_or xs 0 0) ≡ false → is_blank (get_or xs k 0) ≡ true → 0 < k
-begins-late xs k other blank = elim (cases_lt 0 k) [
-  | inl lt ↦ lt
-  | inr ge ↦ (
-      let zero : k ≡ 0 = omega arith in
-      let both : is_blank (get_or xs 0 0) ≡ true = ap (λ i. is_blank (get_or xs i 0)) (sym zero) ∙ blank in
-      absurd (false≢true (sym other ∙ both)))
-]
+begins-late xs k other blank = grind (arith, false≢true)
 
 pub items-first : (field xs : List ℕ) (k : ℕ) → xs ≡ without_blanks_before field → 0 < length xs → IsFirstByte is_blank xs (Some k)
     → items_of field ≡ take k xs ∷ items_of (take (length xs - (k + 1)) (drop (k + 1) xs))
 items-first field xs k is some first =
-    let begins : is_blank (get_or xs 0 0) ≡ false = ap (λ (l : List ℕ). is_blank (get_or l 0 0)) is ∙ trimmed-begins field (omega (arith, some, ap length is)) in
-    let late : 0 < k = begins-late xs k begins first.1 in
-    let bytes : has_bytes (take k xs) ≡ true = some_bytes (take k xs) (omega (arith, length-take k xs, first.0.high)) in
-    sym (items-trimmed field) ∙ ap items_of (sym is) ∙ ap (filter has_bytes) (pieces-some is_blank xs k first) ∙ rw bytes refl
+    grind (arith, trimmed-begins, begins-late, some_bytes, length-take, items-trimmed, pieces-some)
 
 pub items-none : (field xs : List ℕ) → xs ≡ without_blanks_before field → length xs ≡ 0 → items_of field ≡ []
 items-none field xs is none = sym (items-trimmed field) ∙ ap items_of (sym is ∙ nil_from_length xs none)

@@ -12,14 +12,7 @@ from-open state is failed = let open' : failures_of state ≡ 0 = ap failures_of
 -- a source that had not failed took these bytes from its reader
 pub HandsOut-taken : (before after : Option (List ℕ)) (left left' : ℕ) (state state' : State) (bytes : List ℕ)
     → state ≡ Open → Consumes before after bytes → left' + length bytes ≡ left → HandsOut before after left left' state state' bytes
-HandsOut-taken before after left left' state state' bytes is taken falls = record {
-  first = (after, taken);
-  consumed = λ _. taken;
-  falls = falls;
-  keeps_failing = λ h. absurd (from-open state is h);
-  asks_no_more = λ h. absurd (from-open state is h);
-  gives_no_more = λ h. absurd (from-open state is h);
-}
+HandsOut-taken before after left left' state state' bytes is taken falls = grind (arith, from-open)
 
 -- a source that had not failed fails
 pub HandsOut-failed : (before after : Option (List ℕ)) (left : ℕ) (state : State) → state ≡ Open → HandsOut before after left left state Failed []

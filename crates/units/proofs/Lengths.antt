@@ -1,16 +1,15 @@
 -- Each rule over a sequence gives as many classes as there were (W1 to I2), and all of them a level or none for each
 -- unit.
 use Rattle.std.specs.Prelude.{Option, ℕ, Some, None, ◌≡◌, List, [], ◌∷◌, length, fold, refl}
-use Rattle.std.proofs.Common.{◌∙◌}
+use Rattle.std.proofs.Common.{arith, ◌∙◌}
 use Rattle.std.proofs.lemmas.List.{length-map}
 use Rattle.units.specs.Positions.{positions_of}
-use Rattle.units.specs.Runs.{SequenceView, direction_of}
-use Rattle.units.specs.Weak.{at_each, by_w3, by_w6, after_w1, after_w2, after_w3, after_w4, after_w5, after_w6, after_w7, after_weak}
-use Rattle.units.specs.Brackets.{acting_brackets, bracket_pairs_of, closer_of, given_to, with_direction, after_pair, after_paired}
-use Rattle.units.specs.Implicit.{implicit_level}
+use Rattle.units.specs.Runs.{SequenceView}
+use Rattle.units.specs.Weak.{at_each, after_w1, after_w2, after_w4, after_w5, after_w7, after_weak}
+use Rattle.units.specs.Brackets.{given_to, with_direction, after_pair, after_paired}
 use Rattle.units.specs.Neutral.{after_neutral}
 use Rattle.units.specs.Classes.{classes_of}
-use Rattle.units.specs.Layout.{units_at, after_brackets, after_rules, levels_of_sequence, resolved_levels}
+use Rattle.units.specs.Layout.{levels_of_sequence, resolved_levels}
 use Rattle.units.specs.Limits.{LimitsOf}
 use Rattle.units.specs.declared.bracket.Unit.{Unit as BidiUnit}
 use Rattle.units.specs.declared.class.Class.{Class}
@@ -37,13 +36,7 @@ length-after_w7 sos cs = length-at_each _ cs
 pub length-after_weak : (sos : Class) (cs : List Class) → length (after_weak sos cs) ≡ length cs
 unfolding after_weak
 length-after_weak sos cs =
-    let a : List Class = after_w1 sos cs in
-    let b : List Class = after_w2 sos a in
-    let c : List Class = after_w3 b in
-    let d : List Class = after_w4 c in
-    let e : List Class = after_w5 d in
-    let f : List Class = after_w6 e in
-    length-after_w7 sos f ∙ length-map e by_w6 ∙ length-after_w5 d ∙ length-after_w4 c ∙ length-map b by_w3 ∙ length-after_w2 sos a ∙ length-after_w1 sos cs
+    grind (arith, length-after_w7, length-map, length-after_w5, length-after_w4, length-after_w2, length-after_w1)
 
 length-with_direction : (before cs : List Class) (o c : ℕ) (direction : Option Class) → length (with_direction before cs o c direction) ≡ length cs
 length-with_direction before cs o c None = refl
@@ -68,12 +61,7 @@ length-after_neutral embedding sos eos cs = length-at_each _ cs
 
 pub length-levels_of_sequence : (room : ℕ) (s : SequenceView) (us : List BidiUnit) (before : List Class) → length (levels_of_sequence room s us before) ≡ length before
 length-levels_of_sequence room s us before =
-    let weak : List Class = after_weak s.sos before in
-    let paired : List Class = after_brackets room s us before weak in
-    length-map (after_rules room s us before) (implicit_level s.level)
-    ∙ length-after_neutral (direction_of s.level) s.sos s.eos paired
-    ∙ length-after_paired (direction_of s.level) s.sos before (closer_of (bracket_pairs_of room (acting_brackets (units_at us s.positions) weak))) weak
-    ∙ length-after_weak s.sos before
+    grind (arith, length-map, length-after_neutral, length-after_paired, length-after_weak)
 
 pub length-classes_of : (us : List BidiUnit) → length (classes_of us) ≡ length us
 length-classes_of us = length-map us (λ (u : BidiUnit). u.class)

@@ -22,10 +22,7 @@ same_before [] (o ∷ os) y ys first tail each short long e = absurd (not_later 
 same_before (l ∷ ls) [] y ys first tail each short long e =
     let same : l ≡ first = cc in absurd (omega (arith, (All-head IsLine l ls each).short, ap length same, long))
 same_before (l ∷ ls) (o ∷ os) y ys first tail each short long e =
-    let head : l ≡ o = cc in
-    let more : ls ++ y ∷ ys ≡ os ++ first ∷ tail = cc in
-    let again : os ≡ ls = same_before ls os y ys first tail (All-tail IsLine l ls each) short long more in
-    cc
+    grind (arith, same_before ls os y ys first tail (All-tail IsLine l ls each) short long)
 
 -- what follows a line that goes on by at most one line feed, at its end
 goes_on : (rest free : List ℕ) (x : ℕ) → HasNoFeed (rest ++ free) → (y : List ℕ) × (ys : List (List ℕ)) × (cut_lines (rest ++ (free ++ x ∷ [])) ≡ y ∷ ys) × All IsLine ys

@@ -6,7 +6,7 @@ use Rattle.memchr.specs.Find.{IsFirstByte, is_byte}
 use Rattle.std.proofs.lemmas.List.Elements.{All-append, All-push, All-from_get_or}
 use Rattle.std.proofs.lemmas.Grind.{flat_map-append}
 use Rattle.units.specs.Text.{longest_line}
-use Rattle.units.specs.Lines.{HasNoFeed, EndsAtFeed, ended, IsLine, CutsInto, IsTooLongAfter, saturated, ended_lines}
+use Rattle.units.specs.Lines.{HasNoFeed, EndsAtFeed, ended, IsLine, CutsInto, IsTooLongAfter, saturated}
 use Rattle.units.specs.LineCutting.{Cutting, HoldsAfter, StandsFor, Reaches}
 use Rattle.units.specs.LineAnswers.{AnswersPiece}
 use Rattle.units.proofs.LineReading.{empty_line, never_both}
@@ -49,21 +49,11 @@ cuts_over b lines rest text free over cut = record {
 }
 
 over_more : (b xs : List ℕ) (lines : List (List ℕ)) → IsTooLongAfter b lines → IsTooLongAfter (b ++ xs) lines
-over_more b xs lines over = record {
-  long = over.long;
-  more = over.more ++ xs;
-  whole = ap (λ v. v ++ xs) over.whole ∙ append_assoc (flat_map ended lines ++ over.long) over.more xs;
-  each = over.each;
-  feeds = over.feeds;
-  above = over.above;
-}
+over_more b xs lines over = grind (arith, append_assoc, flat_map)
 
 pub holds_over : (c : Cutting) (b text held : List ℕ) → c.phase ≡ Within → HasNoFeed text → longest_line < length c.held + length text
     → StandsFor c b → StandsFor (at Failed c.done held) (b ++ text)
-holds_over c b text held e free over s =
-    let P : Phase → Type 0 = λ p. HoldsAfter p c.done c.held b s.lines in
-    let h = subst P e s.holds in
-    record { lines = s.lines; holds = (cuts_over b s.lines c.held text free over h.0, h.1) }
+holds_over c b text held e free over s = grind (arith, cuts_over)
 
 pub ends : (c : Cutting) (b : List ℕ) → c.phase ≡ Within → StandsFor c b → StandsFor (at Ended (saturated (c.done + 1)) c.held) (b ++ 10 ∷ [])
 ends c b e s =
@@ -127,26 +117,10 @@ reaches_feed Failed used piece f e = tt
 
 module _ (v : Cutting) (b piece : List ℕ) (used : ℕ) (s : StandsFor v (b ++ take used piece)) (r : Reaches v.phase used piece) where
   pub answers_more : v.phase ≡ Within → AnswersPiece b piece used More
-  answers_more e =
-      let P : Phase → Type 0 = λ p. HoldsAfter p v.done v.held (b ++ take used piece) s.lines in
-      let R : Phase → Type 0 = λ p. Reaches p used piece in
-      let h = subst P e s.holds in
-      let reached = subst R e r in
-      let C : List ℕ → Type 0 = λ xs. CutsInto (b ++ xs) s.lines v.held in
-      let all : take used piece ≡ piece = take_all used piece (omega (arith, reached.1)) in
-      (reached.0, reached.1, (ap (λ t. ended_lines (b ++ t)) all ∙ ended_lines-free b piece reached.0), (s.lines, v.held, subst C (take_all used piece (omega (arith, reached.1))) h.0))
+  answers_more e = grind (arith, take_all, ended_lines-free)
 
   pub answers_line : (number : ℕ) (text : Bor (List ℕ)) → v.phase ≡ Ended → number ≡ v.done → text.now ≡ v.held → AnswersPiece b piece used (Line number text)
-  answers_line number text e n t =
-      let P : Phase → Type 0 = λ p. HoldsAfter p v.done v.held (b ++ take used piece) s.lines in
-      let R : Phase → Type 0 = λ p. Reaches p used piece in
-      let h = subst P e s.holds in
-      let C : List ℕ → Type 0 = λ xs. CutsInto (b ++ take used piece) (s.lines ++ xs ∷ []) [] in
-      let cut = subst C (sym t) h.0 in
-      (subst R e r, ended_lines-line b piece used s.lines text.now (subst R e r) cut, (s.lines, cut, n ∙ h.1))
+  answers_line number text e n t = grind (arith, ended_lines-line)
 
   pub answers_long : (number : ℕ) → v.phase ≡ Failed → number ≡ saturated (v.done + 1) → AnswersPiece b piece used (TooLong number)
-  answers_long number e n =
-      let P : Phase → Type 0 = λ p. HoldsAfter p v.done v.held (b ++ take used piece) s.lines in
-      let h = subst P e s.holds in
-      (s.lines, h.0, n ∙ saturated-suc v.done (length s.lines) h.1)
+  answers_long number e n = grind (arith, saturated-suc)

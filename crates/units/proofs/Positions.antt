@@ -1,6 +1,6 @@
 -- What the searches for a position answer.
-use Rattle.std.proofs.Common.{◌≡◌, ℕ, zero, suc, ◌+◌, ◌<◌, ◌≤◌, Bool, true, false, cond, [], ◌∷◌, ◌++◌, length, get_or, Option, Some, None, inl, inr, refl, ap, ◌∙◌, subst, arith}
-use Rattle.std.proofs.lemmas.Bool.{cases_Bool, cases_eq, ltb-true, lt-ltb}
+use Rattle.std.proofs.Common.{◌≡◌, ℕ, zero, suc, ◌+◌, ◌<◌, ◌≤◌, Bool, true, false, cond, [], ◌∷◌, ◌++◌, length, get_or, Option, Some, None, refl, ap, ◌∙◌, arith}
+use Rattle.std.proofs.lemmas.Bool.{ltb-true, lt-ltb}
 use Rattle.units.specs.Positions.{positions_from, first_from, last_below, is_before, same_position}
 
 -- the first answer, or the second where it is none
@@ -11,11 +11,7 @@ or_else (Some a) b = Some a
 -- one place more
 pub first_from_more : (test : ℕ → Bool) (start count : ℕ) → first_from test start (suc count) ≡ or_else (first_from test start count) (cond (test (start + count)) (Some (start + count)) None)
 first_from_more test start zero = let e : start + 0 ≡ start = omega arith in rw e refl
-first_from_more test start (suc count) =
-    elim (cases_Bool (test start)) [
-      | inl holds ↦ rw holds refl
-      | inr fails ↦ let e : start + suc count ≡ start + 1 + count = omega arith in rw (fails, e) (first_from_more test (start + 1) count)
-    ]
+first_from_more test start (suc count) = grind (arith, first_from_more test (start + 1) count)
 
 -- the answer passes, lies in the stretch, and none before it passes
 pub record IsFirst (test : ℕ → Bool) (start : ℕ) (count : ℕ) (at : ℕ) : Type 0 where
@@ -26,48 +22,20 @@ pub record IsFirst (test : ℕ → Bool) (start : ℕ) (count : ℕ) (at : ℕ) 
 
 pub first_from_some : (test : ℕ → Bool) (start count at : ℕ) → first_from test start count ≡ Some at → IsFirst test start count at
 first_from_some test start zero at e = absurd (cc)
-first_from_some test start (suc count) at e =
-    elim (cases_Bool (test start)) [
-      | inl holds ↦
-          let same : start ≡ at = grind arith in
-          record { from = omega arith; within = omega arith; passes = subst (λ q. test q ≡ true) same holds; fails_before = λ q a b. absurd (omega arith) }
-      | inr fails ↦
-          let rest : first_from test (start + 1) count ≡ Some at = rw fails at e in
-          let found = first_from_some test (start + 1) count at rest in
-          record {
-            from = omega arith;
-            within = omega arith;
-            passes = found.passes;
-            fails_before = λ q a b. elim (cases_eq q start) [ inl here ↦ rw here fails | inr other ↦ found.fails_before q (omega arith) b ];
-          }
-    ]
+first_from_some test start (suc count) at e = grind (arith, first_from_some test (start + 1) count at)
 
 pub first_from_none : (test : ℕ → Bool) (start count : ℕ) → first_from test start count ≡ None → (q : ℕ) → start ≤ q → q < start + count → test q ≡ false
 first_from_none test start zero e q a b = absurd (omega arith)
-first_from_none test start (suc count) e q a b =
-    elim (cases_Bool (test start)) [
-      | inl holds ↦ absurd (cc)
-      | inr fails ↦
-          let rest : first_from test (start + 1) count ≡ None = rw fails at e in
-          elim (cases_eq q start) [ inl here ↦ rw here fails | inr other ↦ first_from_none test (start + 1) count rest q (omega arith) (omega arith) ]
-    ]
+first_from_none test start (suc count) e q a b = grind (arith, first_from_none test (start + 1) count)
 
 -- and these facts fix the answer
 pub first_from_is : (test : ℕ → Bool) (start count at : ℕ) → start ≤ at → at < start + count → test at ≡ true → ((q : ℕ) → start ≤ q → q < at → test q ≡ false) → first_from test start count ≡ Some at
 first_from_is test start zero at a b holds before = absurd (omega arith)
-first_from_is test start (suc count) at a b holds before =
-    elim (cases_eq at start) [
-      | inl here ↦ let now : test start ≡ true = rw (← here) holds in rw (now, here) refl
-      | inr later ↦
-          let fails : test start ≡ false = before start (omega arith) (omega arith) in
-          rw fails (first_from_is test (start + 1) count at (omega arith) (omega arith) holds (λ q c d. before q (omega arith) d))
-    ]
+first_from_is test start (suc count) at a b holds before = grind (arith, first_from_is test (start + 1) count at)
 
 pub first_from_nowhere : (test : ℕ → Bool) (start count : ℕ) → ((q : ℕ) → start ≤ q → q < start + count → test q ≡ false) → first_from test start count ≡ None
 first_from_nowhere test start zero h = refl
-first_from_nowhere test start (suc count) h =
-    let fails : test start ≡ false = h start (omega arith) (omega arith) in
-    rw fails (first_from_nowhere test (start + 1) count (λ q a b. h q (omega arith) (omega arith)))
+first_from_nowhere test start (suc count) h = grind (arith, first_from_nowhere test (start + 1) count)
 
 -- the greatest below an end
 pub record IsLast (test : ℕ → Bool) (end : ℕ) (at : ℕ) : Type 0 where
@@ -77,46 +45,19 @@ pub record IsLast (test : ℕ → Bool) (end : ℕ) (at : ℕ) : Type 0 where
 
 pub last_below_some : (test : ℕ → Bool) (end at : ℕ) → last_below test end ≡ Some at → IsLast test end at
 last_below_some test zero at e = absurd (cc)
-last_below_some test (suc end) at e =
-    elim (cases_Bool (test end)) [
-      | inl holds ↦
-          let same : end ≡ at = grind arith in
-          record { within = omega arith; passes = subst (λ q. test q ≡ true) same holds; fails_after = λ q a b. absurd (omega arith) }
-      | inr fails ↦
-          let rest : last_below test end ≡ Some at = rw fails at e in
-          let found = last_below_some test end at rest in
-          record {
-            within = omega arith;
-            passes = found.passes;
-            fails_after = λ q a b. elim (cases_eq q end) [ inl here ↦ rw here fails | inr other ↦ found.fails_after q a (omega arith) ];
-          }
-    ]
+last_below_some test (suc end) at e = grind (arith, last_below_some test end at)
 
 pub last_below_none : (test : ℕ → Bool) (end : ℕ) → last_below test end ≡ None → (q : ℕ) → q < end → test q ≡ false
 last_below_none test zero e q b = absurd (omega arith)
-last_below_none test (suc end) e q b =
-    elim (cases_Bool (test end)) [
-      | inl holds ↦ absurd (cc)
-      | inr fails ↦
-          let rest : last_below test end ≡ None = rw fails at e in
-          elim (cases_eq q end) [ inl here ↦ rw here fails | inr other ↦ last_below_none test end rest q (omega arith) ]
-    ]
+last_below_none test (suc end) e q b = grind (arith, last_below_none test end)
 
 pub last_below_is : (test : ℕ → Bool) (end at : ℕ) → at < end → test at ≡ true → ((q : ℕ) → at < q → q < end → test q ≡ false) → last_below test end ≡ Some at
 last_below_is test zero at b holds after = absurd (omega arith)
-last_below_is test (suc end) at b holds after =
-    elim (cases_eq at end) [
-      | inl here ↦ let now : test end ≡ true = rw (← here) holds in rw (now, here) refl
-      | inr earlier ↦
-          let fails : test end ≡ false = after end (omega arith) (omega arith) in
-          rw fails (last_below_is test end at (omega arith) holds (λ q c d. after q c (omega arith)))
-    ]
+last_below_is test (suc end) at b holds after = grind (arith, last_below_is test end at)
 
 pub last_below_nowhere : (test : ℕ → Bool) (end : ℕ) → ((q : ℕ) → q < end → test q ≡ false) → last_below test end ≡ None
 last_below_nowhere test zero h = refl
-last_below_nowhere test (suc end) h =
-    let fails : test end ≡ false = h end (omega arith) in
-    rw fails (last_below_nowhere test end (λ q b. h q (omega arith)))
+last_below_nowhere test (suc end) h = grind (arith, last_below_nowhere test end)
 
 pub same_position_true : (a b : Option ℕ) → same_position a b ≡ true → a ≡ b
 same_position_true None None e = refl
