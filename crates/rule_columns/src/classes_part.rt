@@ -2,9 +2,7 @@
 ghost use Rattle.std.specs.Prelude.{◌≡◌, length, IfOk};
 ghost use Rattle.paragraph.specs.Covering.{AreDisjoint, positions_in};
 ghost use Rattle.resolve.specs.Sought.{AreOwn};
-ghost use Rattle.rule_columns.specs.Columns.{bracket_part, classes_part};
-ghost use Rattle.rule_columns.specs.Passes.{by_pass, implicit_of, rewritten};
-ghost use Rattle.rule_columns.specs.declared.pass.Pass.TheVariants as pass;
+ghost use Rattle.rule_columns.specs.Columns.{classes_part};
 
 use crate::class_parts::{BracketPart, ResolvedPart, WeakPart};
 use sequences::sequences::Sequences;
@@ -33,34 +31,6 @@ impl Model for ClassesPart {
     ghost view = { λ part. record { current = part.current.items; weak = part.weak; brackets = part.brackets; neutral = record { n0 = part.brackets.n0; n1 = part.resolved.n1.items; n2 = part.resolved.n2.items }; implicit = part.resolved.implicit.items } };
 }
 
-/// What N0, and what N1 to I2 leave of a paragraph, by its sequences, its classes before W1 and those after W7.
-fn neutral_parts<L: Ledger>(
-    alloc: Global,
-    sequences: &Sequences,
-    para: &[Unit],
-    current: &[Class],
-    weak: &[Class],
-    steps: &mut Steps<L>,
-) -> Result<(BracketPart, ResolvedPart), Memory>
-    requires apart { AreDisjoint sequences.now.extent sequences.now.all }
-    requires para { length para.now ≡ sequences.now.extent }
-    requires current { length current.now ≡ sequences.now.extent }
-    requires weak { length weak.now ≡ sequences.now.extent }
-    requires own { AreOwn (positions_in sequences.now.all) para.now current.now }
-    ensures brackets { IfOk result (λ parts. parts.0
-        ≡ bracket_part sequences.now.all para.now current.now weak.now) }
-    ensures n1 { IfOk result (λ parts. parts.1.n1.items
-        ≡ rewritten (by_pass pass.N1) sequences.now.all parts.0.n0) }
-    ensures n2 { IfOk result (λ parts. parts.1.n2.items
-        ≡ rewritten (by_pass pass.N2) sequences.now.all parts.1.n1.items) }
-    ensures implicit { IfOk result (λ parts. parts.1.implicit.items
-        ≡ implicit_of sequences.now.all parts.1.n2.items) }
-{
-    let brackets = BracketPart::of(alloc, sequences, para, current, weak, steps)?;
-    let resolved = ResolvedPart::of(alloc, sequences, &brackets.n0, steps)?;
-    Ok((brackets, resolved))
-}
-
 impl ClassesPart {
     /// Of a paragraph, by its sequences and its classes after X1 to X9. The error is refused memory.
     pub fn of<L: Ledger>(
@@ -78,7 +48,8 @@ impl ClassesPart {
     {
         let weak = WeakPart::of(alloc, sequences, &current, steps)?;
         let w7 = &weak.last.w7;
-        let (brackets, resolved) = neutral_parts(alloc, sequences, para, &current, w7, steps)?;
+        let brackets = BracketPart::of(alloc, sequences, para, &current, w7, steps)?;
+        let resolved = ResolvedPart::of(alloc, sequences, &brackets.n0, steps)?;
         Ok(ClassesPart {
             current,
             weak,

@@ -1,10 +1,8 @@
 //! What the rules leave of one paragraph, rule by rule.
-ghost use Rattle.std.specs.Prelude.{◌≡◌, ◌<◌, ◌≤◌, length, take, IfOk};
-ghost use Rattle.units.specs.Layout.{current_of, longest_text};
+ghost use Rattle.std.specs.Prelude.{◌≡◌, ◌<◌, ◌≤◌, length, IfOk};
+ghost use Rattle.units.specs.Layout.{longest_text};
 ghost use Rattle.units.specs.Paragraphs.{SeparatorOnlyLast};
-ghost use Rattle.paragraph.specs.Covering.{AreDisjoint, positions_in};
-ghost use Rattle.resolve.specs.Sought.{AreOwn};
-ghost use Rattle.rule_columns.specs.Columns.{HaveLength, classes_part, columns_of};
+ghost use Rattle.rule_columns.specs.Columns.{HaveLength, columns_of};
 ghost use Rattle.rule_columns.specs.Inside.{NamesInside};
 
 use crate::classes_part::ClassesPart;
@@ -123,25 +121,6 @@ impl Columns {
     }
 }
 
-/// What X1 to I2 leave of the classes of a paragraph, by its sequences and its places.
-fn classes_by<L: Ledger>(
-    alloc: Global,
-    explicit: &ExplicitPart,
-    para: &[Unit],
-    steps: &mut Steps<L>,
-) -> Result<ClassesPart, Memory>
-    requires extent { explicit.now.sequences.extent ≡ length para.now }
-    requires apart { AreDisjoint (length para.now) explicit.now.sequences.all }
-    requires length { length explicit.now.places ≡ length para.now }
-    requires own { AreOwn (positions_in explicit.now.sequences.all) para.now
-        (current_of (take (length para.now) explicit.now.places)) }
-    ensures { IfOk result (λ part. part ≡ classes_part explicit.now.sequences.all para.now
-        (current_of (take (length para.now) explicit.now.places))) }
-{
-    let current = current_classes(alloc, &explicit.places, para.len())?;
-    ClassesPart::of(alloc, &explicit.sequences, para, current, steps)
-}
-
 /// What `columns_of` does, and counts its steps.
 fn counted_columns<L: Ledger>(
     alloc: Global,
@@ -155,7 +134,8 @@ fn counted_columns<L: Ledger>(
 {
     let shown = ShownPart::of(alloc, para, direction, steps)?;
     let explicit = ExplicitPart::of(alloc, para, direction, steps)?;
-    let classes = classes_by(alloc, &explicit, para, steps)?;
+    let current = current_classes(alloc, &explicit.places, para.len())?;
+    let classes = ClassesPart::of(alloc, &explicit.sequences, para, current, steps)?;
     Ok(Columns {
         explicit,
         classes,
