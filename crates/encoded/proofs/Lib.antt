@@ -1,6 +1,8 @@
 pub mod OffsetLemmas
 pub mod Writing
 pub mod Utf8Texts
+pub mod LossyChunks
+pub mod LossyReading
 pub mod Indexing
 pub mod Utf16Texts
 pub mod FoundBreaks

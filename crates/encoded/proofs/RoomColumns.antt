@@ -12,8 +12,9 @@ use Rattle.std.proofs.lemmas.List.Elements.{All-map}
 use Rattle.std.proofs.lemmas.List.Sums.{sum_by-cons, sum_by_more}
 use Rattle.std.proofs.lemmas.Str.{len_utf8_bounds, length-encode}
 use Rattle.encoded.specs.Encodings.{in_utf16, in_utf8, utf16_text, utf8_text, IsUtf16}
+use Rattle.encoded.specs.LossyTexts.{utf8_lossy_text}
 use Rattle.encoded.specs.Offsets.{Spelled, AreStarts, IsSpelledOut, code_units, offset_of}
-use Rattle.encoded.specs.Refusals.{RefusesBreaks, RefusesUtf16, RefusesUtf16Lossy, RefusesUtf8}
+use Rattle.encoded.specs.Refusals.{RefusesBreaks, RefusesUtf16, RefusesUtf16Lossy, RefusesUtf8, RefusesUtf8Lossy}
 use Rattle.encoded.specs.Starts.{AreFound, AreOffsets}
 use Rattle.encoded.specs.declared.fault.EncodedFault.{EncodedFault}
 use Rattle.encoded.proofs.Utf16Texts.{one_unit, two_units}
@@ -77,6 +78,14 @@ refuses_utf8 room bytes breaks (Err TooLong) fits is h = absurd h
 refuses_utf8 room bytes breaks (Err (IllFormed at)) fits is h = absurd h
 refuses_utf8 room bytes breaks (Err (Break fault)) fits is h = (fits, is, h)
 refuses_utf8 room bytes breaks (Err (BreakInside index)) fits is h = (fits, is, h)
+
+-- the same of any bytes
+pub refuses_utf8_lossy : {T : Type 0} (room : ℕ) (bytes breaks : List ℕ) (r : Result T EncodedFault) → length bytes ≤ room → IfErr r (RefusesBreaks (utf8_lossy_text bytes) breaks) → IfErr r (RefusesUtf8Lossy room bytes breaks)
+refuses_utf8_lossy room bytes breaks (Ok x) fits h = h
+refuses_utf8_lossy room bytes breaks (Err TooLong) fits h = absurd h
+refuses_utf8_lossy room bytes breaks (Err (IllFormed at)) fits h = absurd h
+refuses_utf8_lossy room bytes breaks (Err (Break fault)) fits h = (fits, h)
+refuses_utf8_lossy room bytes breaks (Err (BreakInside index)) fits h = (fits, h)
 
 -- each character takes one code unit or two
 pub utf16_spelled : (units : List ℕ) → IsSpelledOut (utf16_text units)

@@ -1,5 +1,7 @@
 pub mod Offsets
 pub mod Encodings
+pub mod LossyTexts
+pub mod LossyRows
 pub mod Decoded
 pub mod Starts
 pub mod Rooms

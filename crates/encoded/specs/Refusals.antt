@@ -4,6 +4,7 @@ use Rattle.std.specs.Str.{IsUtf8}
 use Rattle.std.specs.Str.Lossy.{utf8_valid_len}
 use Rattle.lines.specs.LineBreaks.{AreBreaks, IsFirstBreakFault}
 use Rattle.encoded.specs.Encodings.{utf16_text, utf8_text, IsFirstLone, IsUtf16}
+use Rattle.encoded.specs.LossyTexts.{utf8_lossy_text}
 use Rattle.encoded.specs.Offsets.{Spelled, code_units, offset_of}
 use Rattle.encoded.specs.declared.fault.EncodedFault.{EncodedFault}
 use Rattle.encoded.specs.declared.fault.EncodedFault.TheVariants.{TooLong, IllFormed, Break, BreakInside}
@@ -39,6 +40,17 @@ pub record TakesUtf8 (room : ℕ) (bytes breaks : List ℕ) : Type 0 where
   pub fits : length bytes ≤ room
   pub well_formed : IsUtf8 bytes
   pub inside : AreBreaks breaks (length bytes)
+
+-- bytes that are laid out, well formed or not: there is room for them, and the breaks rise within them
+pub record TakesUtf8Lossy (room : ℕ) (bytes breaks : List ℕ) : Type 0 where
+  pub fits : length bytes ≤ room
+  pub inside : AreBreaks breaks (length bytes)
+
+-- bytes are refused for this reason where each maximal subpart of what is ill-formed is read as U+FFFD
+abbrev pub RefusesUtf8Lossy : ℕ → List ℕ → List ℕ → EncodedFault → Type 0
+RefusesUtf8Lossy room bytes breaks TooLong = room < length bytes
+RefusesUtf8Lossy room bytes breaks (IllFormed at) = ⊥
+RefusesUtf8Lossy room bytes breaks fault = (length bytes ≤ room) × RefusesBreaks (utf8_lossy_text bytes) breaks fault
 
 -- code units of 16 bits are refused for this reason: their number; where there is room for them the first surrogate
 -- that stands alone; where none does the breaks

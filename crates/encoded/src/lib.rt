@@ -6,6 +6,7 @@ mod decoding;
 pub mod fault;
 mod indices;
 pub mod lookups;
+mod lossy;
 pub mod room;
 mod utf16;
 mod utf8;

@@ -11,6 +11,7 @@ ghost use Rattle.encoded.specs.Starts.{AreOffsets};
 use crate::breaking::{breaks_at, find_breaks};
 use crate::decoding::Faults;
 use crate::fault::EncodedFault;
+use crate::lossy::decode_utf8_lossy;
 use crate::utf8::decode_utf8;
 use crate::utf16::decode_utf16;
 use lines::breaks::Breaks;
@@ -90,8 +91,10 @@ impl Room {
     ghost use Rattle.lines.specs.Scratches.{room_of, layout_in};
     ghost use Rattle.encoded.specs.Decoded.{AreDecoded};
     ghost use Rattle.encoded.specs.Encodings.{utf16_text, utf8_text, IsUtf16};
+    ghost use Rattle.encoded.specs.LossyTexts.{utf8_lossy_text};
     ghost use Rattle.encoded.specs.Offsets.{Spelled, AreStarts};
-    ghost use Rattle.encoded.specs.Refusals.{RefusesBreaks, RefusesUtf16, RefusesUtf16Lossy, RefusesUtf8, TakesUtf16, TakesUtf8};
+    ghost use Rattle.encoded.specs.Refusals.{RefusesBreaks, RefusesUtf16, RefusesUtf16Lossy, RefusesUtf8, RefusesUtf8Lossy};
+    ghost use Rattle.encoded.specs.Refusals.{TakesUtf16, TakesUtf8, TakesUtf8Lossy};
     ghost use Rattle.encoded.specs.Rooms.{Holds, HoldsLayout, Keeps, layout_held, room_for, starts_in};
     ghost use Rattle.encoded.specs.Starts.{AreOffsets};
     ghost use Rattle.encoded.specs.declared.decoding.Faults.TheVariants.{Refused, Replaced};
@@ -214,6 +217,31 @@ impl Room {
             Ok(count) => self.lay_out_decoded(count, direction, breaks, limits),
             Err(at) => Err(EncodedFault::IllFormed(at)),
         }
+    }
+
+    /// What `lay_out_utf8` does, with U+FFFD in the place of each maximal subpart of what is no UTF-8, as
+    /// `String::from_utf8_lossy` has it: of the bytes there, all that could begin a character, or else one. No break
+    /// stands inside such a part.
+    pub fn lay_out_utf8_lossy(
+        &mut self,
+        tables: &Tables,
+        bytes: &[u8],
+        direction: Direction,
+        breaks: &[usize],
+        limits: Limits,
+    ) -> Result<(), EncodedFault>
+        ensures room { room_for self.new ≡ room_for self.old }
+        ensures refused { IfErr result (RefusesUtf8Lossy (room_for self.old) bytes.now breaks.now) }
+        ensures kept { OnErr result (Keeps self.old self.new) }
+        ensures taken { OnOk result (TakesUtf8Lossy (room_for self.old) bytes.now breaks.now) }
+        ensures laid_out { OnOk result (HoldsLayout limits tables.now (utf8_lossy_text bytes.now) direction breaks.now
+            self.new) }
+    {
+        if self.room() < bytes.len() {
+            return Err(EncodedFault::TooLong);
+        }
+        let count = decode_utf8_lossy(bytes, tables, &mut self.units, &mut self.spare);
+        self.lay_out_decoded(count, direction, breaks, limits)
     }
 
     /// Decodes a text in UTF-16 and lays it out.

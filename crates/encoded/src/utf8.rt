@@ -12,7 +12,7 @@ use ucdfiles::tables::Tables;
 use units::bracket::Unit;
 
 /// Writes the unit and the offset of each character of a text behind those of what was decoded before it.
-fn fill_str(
+pub(crate) fn fill_str(
     text: &str,
     tables: &Tables,
     before: Reached,

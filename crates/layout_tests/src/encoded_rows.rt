@@ -75,6 +75,34 @@ fn lays_out_utf8(rt: HostRuntime) -> Result<(), Fail> {
     holds_text(&rt, rt.alloc(), &tables)
 }
 
+/// Sequences that are cut short, the first row of the standard's table on U+FFFD (chapter 3), and where the characters
+/// begin that are read of it.
+const CUT_SHORT: &[u8] = b"\x61\xF1\x80\x80\xE1\x80\xC2\x62\x80\x63\x80\xBF\x64";
+
+const CUT_SHORT_STARTS: [usize; 11] = [0, 1, 4, 6, 7, 8, 9, 10, 11, 12, 13];
+
+/// Lays out bytes that are no UTF-8, with U+FFFD for what is not.
+fn lays_out_replaced(rt: &impl Abort, alloc: Global, tables: &Tables) -> Result<(), Fail> {
+    let limits = Limits::standard();
+    let mut room = Room::with_room(alloc, 13)?;
+    room.lay_out_utf8_lossy(tables, CUT_SHORT, Direction::Rtl, &[4, 7], limits)?;
+    assert_eq!(rt; room.characters(), 10);
+    for (k, start) in CUT_SHORT_STARTS.iter().enumerate() {
+        assert_eq!(rt; room.offset_of(k), *start);
+    }
+    assert_eq!(rt; room.line(1), EncodedLine { start: 4, end: 7 });
+    let inside = room.lay_out_utf8_lossy(tables, CUT_SHORT, Direction::Ltr, &[2], limits);
+    assert_eq!(rt; inside.err(), Some(EncodedFault::BreakInside(0)));
+    assert_eq!(rt; room.line(1), EncodedLine { start: 4, end: 7 });
+    Ok(())
+}
+
+#[test]
+fn lays_out_utf8_lossy(rt: HostRuntime) -> Result<(), Fail> {
+    let tables = tables(rt.alloc())?;
+    lays_out_replaced(&rt, rt.alloc(), &tables)
+}
+
 /// A Hebrew letter, a character of two units, and half of one.
 const UTF16: [u16; 4] = [0x5D0, 0xD83D, 0xDE00, 0xD83D];
 
