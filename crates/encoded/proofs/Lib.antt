@@ -8,3 +8,5 @@ pub mod Utf16Texts
 pub mod FoundBreaks
 pub mod RoomColumns
 pub mod Looking
+pub mod HeldLines
+pub mod EncodedRunLists

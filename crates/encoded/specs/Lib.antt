@@ -4,6 +4,8 @@ pub mod LossyTexts
 pub mod LossyRows
 pub mod Decoded
 pub mod Starts
+pub mod OrderedLines
 pub mod Rooms
 pub mod Refusals
 pub mod Columns
+pub mod EncodedRuns

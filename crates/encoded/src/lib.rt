@@ -8,5 +8,6 @@ mod indices;
 pub mod lookups;
 mod lossy;
 pub mod room;
+pub mod runs;
 mod utf16;
 mod utf8;

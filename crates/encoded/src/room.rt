@@ -6,6 +6,7 @@ ghost use Rattle.units.specs.Limits.{standard};
 ghost use Rattle.units.specs.declared.level.Direction.TheVariants.{Auto};
 ghost use Rattle.lines.specs.Scratches.{room_of, layout_in, IsFilled};
 ghost use Rattle.encoded.specs.Columns.{HaveRoom};
+ghost use Rattle.encoded.specs.OrderedLines.{LinesHaveOrder};
 ghost use Rattle.encoded.specs.Starts.{AreOffsets};
 
 use crate::breaking::{breaks_at, find_breaks};
@@ -40,6 +41,7 @@ pub struct Room {
     ghost fits: { HaveRoom (room_of scratch) (length (boxed_slice_items units)) (length (boxed_slice_items starts))
         (length (boxed_slice_items spare)) (length (boxed_slice_items indices)) },
     ghost begun: { AreOffsets (length (layout_in scratch).levels) (boxed_slice_items starts) },
+    ghost in_order: { LinesHaveOrder (layout_in scratch) },
 }
 
 /// A column of units.

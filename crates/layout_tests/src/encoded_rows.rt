@@ -3,12 +3,13 @@ use crate::given::tables;
 use encoded::fault::EncodedFault;
 use encoded::lookups::EncodedLine;
 use encoded::room::Room;
+use encoded::runs::EncodedRun;
 use lines::breaks::BreakFault;
 use std::alloc::Global;
 use std::process::Abort;
 use std::test::Fail;
 use ucdfiles::tables::Tables;
-use units::level::{Direction, Level};
+use units::level::{Direction, Level, ParaLevel};
 use units::limits::Limits;
 
 /// A Hebrew letter, of two bytes, a blank and a Latin letter.
@@ -43,6 +44,28 @@ fn tells_offsets(rt: &impl Abort, room: &Room) {
     assert_eq!(rt; room.line(1), EncodedLine { start: 2, end: 4 });
 }
 
+/// The runs of its lines, of one level each.
+fn tells_runs(rt: &impl Abort, room: &Room) -> Option<()> {
+    let letter = EncodedRun {
+        start: 0,
+        end: 2,
+        level: Level::new(1)?,
+        shown: 1,
+    };
+    let others = EncodedRun {
+        start: 2,
+        end: 4,
+        level: Level::new(0)?,
+        shown: 2,
+    };
+    let mut out = [others];
+    assert_eq!(rt; room.write_runs(0, ParaLevel::Zero, &mut out), 1);
+    assert_eq!(rt; out[0], letter);
+    assert_eq!(rt; room.write_runs(1, ParaLevel::Zero, &mut out), 1);
+    assert_eq!(rt; out[0], others);
+    Some(())
+}
+
 /// Texts that a room for four bytes refuses, with their breaks.
 const REFUSED: [(&[u8], &[usize], EncodedFault); 6] = [
     (b"12345", &[9], EncodedFault::TooLong),
@@ -62,6 +85,7 @@ fn holds_text(rt: &impl Abort, alloc: Global, tables: &Tables) -> Result<(), Fai
     let mut room = Room::with_room(alloc, 4)?;
     assert_eq!(rt; lay_out(&mut room, tables, UTF8, &[2]), None);
     tells_offsets(rt, &room);
+    assert_eq!(rt; tells_runs(rt, &room), Some(()));
     for (bytes, at, fault) in REFUSED {
         assert_eq!(rt; lay_out(&mut room, tables, bytes, at), Some(fault));
         tells_offsets(rt, &room);

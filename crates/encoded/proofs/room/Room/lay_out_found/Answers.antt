@@ -4,7 +4,9 @@ use Rattle.std.proofs.lemmas.List.{length-take-le}
 use Rattle.units.specs.Layout.{TextLayout}
 use Rattle.lines.proofs.Lengths.{length-levels}
 use Rattle.lines.specs.Scratches.{layout_in}
+use Rattle.encoded.specs.OrderedLines.{LinesHaveOrder}
 use Rattle.encoded.specs.Starts.{AreOffsets}
+use Rattle.encoded.proofs.HeldLines.{layout_ordered}
 use Rattle.encoded.proofs.room.Room.lay_out_found.Goals as goal
 
 pub invariant_of-self : goal.invariant_of-self
@@ -27,4 +29,5 @@ invariant_of-self c =
         for_indices = self.fits.for_indices ∙ sym room;
       };
       begun = subst (λ (n : ℕ). AreOffsets n (boxed_slice_items c.swap.new.x)) (sym count) (subst (AreOffsets c.args.count) (sym here) c.requires.offsets);
+      in_order = subst LinesHaveOrder (sym laid) (layout_ordered c.args.limits _ c.args.direction _);
     }

@@ -6,7 +6,9 @@ use Rattle.units.specs.declared.level.Direction.TheVariants.{Auto}
 use Rattle.lines.proofs.Lengths.{length-levels}
 use Rattle.lines.specs.Scratches.{layout_in, room_of}
 use Rattle.encoded.specs.Offsets.{offset_of}
+use Rattle.encoded.specs.OrderedLines.{LinesHaveOrder}
 use Rattle.encoded.specs.Starts.{AreOffsets}
+use Rattle.encoded.proofs.HeldLines.{layout_ordered}
 use Rattle.encoded.proofs.room.Room.reserve.Goals as goal
 
 pub invariant_of-result : goal.invariant_of-result
@@ -26,6 +28,7 @@ invariant_of-result c =
         first = c.in_ok-starts.ensures.zero;
         rising = λ j k lt le. absurd (omega (arith, lt, le));
       });
+      in_order = subst LinesHaveOrder (sym c.lay_out_nothing.ensures.empty) (layout_ordered standard [] Auto []);
     }
 
 pub returns-clause-holds : goal.returns-clause-holds

@@ -1,0 +1,13 @@
+-- The lines of a layout are in order.
+use Rattle.std.specs.Prelude.{ℕ, ◌≡◌, ◌<◌, Option, List, length}
+use Rattle.units.specs.Layout.{LineLayout, TextLayout}
+use Rattle.units.specs.Reordering.{line_order}
+use Rattle.lines.specs.Layouts.{line_at}
+
+-- L2: the line has the order of its levels
+abbrev pub HasOrder : List (Option ℕ) → LineLayout → Type 0
+HasOrder levels line = line.order ≡ line_order levels line.start line.end
+
+-- L2: each line of the layout has
+abbrev pub LinesHaveOrder : TextLayout → Type 0
+LinesHaveOrder layout = (k : ℕ) → k < length layout.lines → HasOrder layout.levels (line_at layout k)
