@@ -1,7 +1,7 @@
 -- Lines as C is told of them.
 use Rattle.std.specs.Prelude.{ℕ, ◌≡◌, ◌≤◌, ◌<◌, ◌⊎◌, Option, None, length}
 use Rattle.units.specs.Layout.{LineLayout, TextLayout}
-use Rattle.bidi_held.specs.Holdings.{room_in, layout_held, line_numbered}
+use Rattle.bidi_held.specs.Holdings.{layout_if_held, layout_held, line_numbered}
 use Rattle.bidi_held.specs.declared.held.Held.{Held}
 use Rattle.bidi_held.specs.declared.refusal.Refusal.{Refusal}
 use Rattle.bidi_held.specs.declared.refusal.Refusal.TheVariants.{NoRoom, NoLine}
@@ -23,4 +23,4 @@ LayoutRefusesLine layout k refusal = (refusal ≡ NoLine) × (length layout.line
 
 -- the line with the number k is refused for this reason: there is no room, or no such line
 abbrev pub RefusesLine : Option Held → ℕ → Refusal → Type 0
-RefusesLine room k refusal = ((refusal ≡ NoRoom) × (room_in room ≡ None)) ⊎ LayoutRefusesLine (layout_held room) k refusal
+RefusesLine room k refusal = ((refusal ≡ NoRoom) × (layout_if_held room ≡ None)) ⊎ LayoutRefusesLine (layout_held room) k refusal

@@ -3,7 +3,7 @@ use Rattle.std.specs.Prelude.{ℕ, ◌≡◌, Result, Ok, Err, IfErr, OnErr, OnO
 use Rattle.std.specs.Option.{unwrap_or}
 use Rattle.ucdfiles.specs.Faults.{line_of_fault}
 use Rattle.bidi_held.specs.declared.refusal.Refusal.{Refusal}
-use Rattle.bidi_held.specs.declared.refusal.Refusal.TheVariants.{Memory, TooBig, TooLong, NoCharacter, NoClass, BreakOutOfRange, BreakNotRising, NoDirection, NoRoom, NoTables, NoLine, NoPlace, NoJudge, Depth, Brackets, ClassFile, BracketFile, MirrorFile, NoVerdict, TooSmall}
+use Rattle.bidi_held.specs.declared.refusal.Refusal.TheVariants.{Memory, TooBig, TooLong, NoCharacter, NoClass, BreakOutOfRange, BreakNotRising, NoDirection, NoRoom, NoTables, NoLine, NoPlace, NoJudge, Depth, Brackets, ClassFile, BracketFile, MirrorFile, NoVerdict, TooSmall, IllFormed, BreakInside}
 
 -- the number that a call answers; 0 is that it is done
 abbrev pub code_of : Refusal → ℕ
@@ -27,13 +27,17 @@ code_of Depth = 17
 code_of Brackets = 18
 code_of NoVerdict = 19
 code_of TooSmall = 20
+code_of (IllFormed offset) = 24
+code_of (BreakInside index) = 25
 
--- the index that it names, or the line, from 1; 0 where it names none
+-- the index or offset that it names, or the line, from 1; 0 where it names none
 abbrev pub place_of : Refusal → ℕ
 place_of (NoCharacter index) = index
 place_of (NoClass index) = index
 place_of (BreakOutOfRange index) = index
 place_of (BreakNotRising index) = index
+place_of (IllFormed offset) = offset
+place_of (BreakInside index) = index
 place_of (ClassFile fault) = unwrap_or (line_of_fault fault) 0
 place_of (BracketFile fault) = unwrap_or (line_of_fault fault) 0
 place_of (MirrorFile fault) = unwrap_or (line_of_fault fault) 0

@@ -6,7 +6,7 @@ use Rattle.units.specs.Reordering.{shown_of}
 use Rattle.units.specs.Layout.{TextLayout, LineLayout}
 use Rattle.ucdfiles.specs.Tables.{TablesOf, glyph_by}
 use Rattle.bidi_held.specs.Texts.{level_byte}
-use Rattle.bidi_held.specs.Holdings.{room_in, tables_in, layout_held, line_numbered}
+use Rattle.bidi_held.specs.Holdings.{layout_if_held, tables_in, layout_held, line_numbered}
 use Rattle.bidi_held.specs.Written.{Writes}
 use Rattle.bidi_held.specs.declared.held.Held.{Held}
 use Rattle.bidi_held.specs.declared.refusal.Refusal.{Refusal}
@@ -59,7 +59,7 @@ LineRefusesRun layout k from _ = ⊥
 -- the run is refused for this reason: there is no room, or its layout refuses it
 abbrev pub RefusesRun : Option Held → ℕ → ℕ → Refusal → Type 0
 RefusesRun room k from refusal =
-    ((refusal ≡ NoRoom) × (room_in room ≡ None)) ⊎ LineRefusesRun (layout_held room) k from refusal
+    ((refusal ≡ NoRoom) × (layout_if_held room ≡ None)) ⊎ LineRefusesRun (layout_held room) k from refusal
 
 -- L4: the line as it is shown by the tables, if there are tables
 abbrev pub shown_by : Option TablesOf → List (Option ℕ) → List ℕ → List ℕ → List ℕ

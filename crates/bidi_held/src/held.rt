@@ -2,11 +2,12 @@
 ghost use Rattle.std.specs.Prelude.{◌≡◌, Some, None, MatchOption, IfErr, IfOk};
 ghost use Rattle.std.specs.Arc.{arc_value};
 ghost use Rattle.lines.specs.Layouts.{view_of};
-ghost use Rattle.bidi_held.specs.Holdings.{capacity_in, tables_in, room_in, layout_held, RefusesSharing};
+ghost use Rattle.bidi_held.specs.Holdings.{capacity_in, encoded_in, tables_in, layout_if_held, layout_held, RefusesSharing};
 
 use crate::judge::TableJudge;
 use crate::refusal::Refusal;
 use crate::room::Room;
+use encoded::room::Room as EncodedRoom;
 use lines::layout::Layout;
 use std::alloc::Global;
 use std::sync::Arc;
@@ -17,30 +18,45 @@ use ucdfiles::tables::Tables;
 pub enum Held {
     /// The tables of the three property files. Other handles and judges may hold the same ones.
     Tables(Arc<Tables, Global>),
-    /// Room for texts, with the layout of the last one.
+    /// Room for texts of code points or classes, with the layout of the last one.
     Room(Room),
+    /// Room for texts in code units, with the layout of the last one.
+    Encoded(EncodedRoom),
     /// A judge of a test file, with its tables. It is boxed because it has room for a line within it.
     Judge(Box<TableJudge>),
 }
 
 impl Held {
-    /// The length of the longest text that there is room for, if this is a room.
+    /// The length of the longest text that there is room for, if this is a room of either kind.
     pub fn capacity(&self) -> Option<usize>
         ensures { result ≡ capacity_in (Some self.now) }
     {
         match self {
             Held::Room(room) => Some(room.scratch.room()),
+            Held::Encoded(room) => Some(room.room()),
             _ => None,
         }
     }
 
-    /// The layout that is held, if this is a room.
+    /// The layout that is held, if this is a room of either kind.
     pub fn layout(&self) -> Option<Layout<'_>>
-        ensures { MatchOption result (room_in (Some self.now) ≡ None)
+        ensures { MatchOption result (layout_if_held (Some self.now) ≡ None)
             (λ layout. view_of layout ≡ layout_held (Some self.now)) }
     {
         match self {
             Held::Room(room) => Some(room.scratch.layout()),
+            Held::Encoded(room) => Some(room.layout()),
+            _ => None,
+        }
+    }
+
+    /// The room for texts in code units, if this is one.
+    pub fn encoded(&self) -> Option<&EncodedRoom>
+        ensures { MatchOption result (encoded_in (Some self.now) ≡ None)
+            (λ room. encoded_in (Some self.now) ≡ Some room.now) }
+    {
+        match self {
+            Held::Encoded(room) => Some(room),
             _ => None,
         }
     }

@@ -9,7 +9,7 @@ use units::level::Direction;
 use units::limits::Limits;
 
 /// The direction with this number, if there is one.
-pub(crate) fn direction_numbered(number: u32) -> Option<Direction>
+pub fn direction_numbered(number: u32) -> Option<Direction>
     ensures { result ≡ direction_numbered number }
 {
     match number {

@@ -25,7 +25,7 @@ pub struct BidiLine {
 }
 
 /// A level as a byte, 255 where there is none.
-pub(crate) fn byte_of(level: Option<Level>) -> u8
+pub fn byte_of(level: Option<Level>) -> u8
     ensures { result ≡ level_byte level }
 {
     match level {

@@ -48,6 +48,10 @@ pub enum Refusal {
     NoVerdict,
     /// The line has more bytes than fit.
     TooSmall,
+    /// The code unit at this offset is no part of a character; all before it are well formed.
+    IllFormed(usize),
+    /// The break with this index stands inside a character.
+    BreakInside(usize),
 }
 
 /// What a call answers that has done what it was asked for.
@@ -80,10 +84,12 @@ impl Refusal {
             Refusal::Brackets => 18,
             Refusal::NoVerdict => 19,
             Refusal::TooSmall => 20,
+            Refusal::IllFormed(_) => 24,
+            Refusal::BreakInside(_) => 25,
         }
     }
 
-    /// The place that it names: an index, or the number of a line; 0 where it names none.
+    /// The place that it names: an index, an offset, or the number of a line; 0 where it names none.
     pub fn place(self) -> u64
         ensures { result ≡ place_of self }
     {
@@ -91,7 +97,9 @@ impl Refusal {
             Refusal::NoCharacter(index)
             | Refusal::NoClass(index)
             | Refusal::BreakOutOfRange(index)
-            | Refusal::BreakNotRising(index) => index as u64,
+            | Refusal::BreakNotRising(index)
+            | Refusal::IllFormed(index)
+            | Refusal::BreakInside(index) => index as u64,
             Refusal::ClassFile(fault) | Refusal::BracketFile(fault) | Refusal::MirrorFile(fault) =>
                 fault.line().unwrap_or(0),
             _ => 0,

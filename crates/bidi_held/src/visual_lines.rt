@@ -69,7 +69,8 @@ fn run_end(levels: &[Option<Level>], order: &[usize], from: usize) -> usize
 fn run_from(levels: &[Option<Level>], order: &[usize], from: usize) -> BidiRun
     requires inside { All (λ p. p < length levels.now) order.now }
     requires some { from < length order.now }
-    ensures { IsVisualRun levels.now order.now from result }
+    ensures run { IsVisualRun levels.now order.now from result }
+    ensures inside { result.start + result.length ≤ length levels.now }
 {
     let end = run_end(levels, order, from);
     let first = order[from];
@@ -137,6 +138,7 @@ pub fn write_places_of(layout: &Layout<'_>, k: usize, out: &mut [usize]) -> usiz
 pub fn run_of(layout: &Layout<'_>, k: usize, from: usize) -> Result<BidiRun, Refusal>
     ensures run { IfOk result (IsVisualRun (view_of layout.now).levels
         (line_numbered (view_of layout.now) k).order from) }
+    ensures inside { IfOk result (λ run. run.start + run.length ≤ length (view_of layout.now).levels) }
     ensures refused { IfErr result (LineRefusesRun (view_of layout.now) k from) }
 {
     if layout.line_count() <= k {
