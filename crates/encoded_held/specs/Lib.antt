@@ -1,0 +1,3 @@
+-- What calls from C say of texts in code units.
+pub mod EncodedTexts
+pub mod InCodeUnits
