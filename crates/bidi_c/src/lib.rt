@@ -5,6 +5,7 @@
 #![tactic(auto)]
 
 pub mod bidi_handle;
+pub mod encoded_calls;
 pub mod handle;
 pub mod judge_calls;
 pub mod laying_out;

@@ -1,0 +1,271 @@
+// Texts in code units: room for them, laid out, and told of in offsets.
+ghost use Rattle.std.specs.Prelude.{ℕ, ◌≡◌, ◌≤◌, None, IfErr, IfOk};
+ghost use Rattle.units.specs.Limits.{standard};
+ghost use Rattle.encoded.specs.Offsets.{IsOf, code_units, offset_of};
+ghost use Rattle.bidi_held.specs.Holdings.{encoded_in, RefusesRoom};
+ghost use Rattle.bidi_held.specs.Statuses.{Answers, AnswersNaming, Puts, place_named};
+ghost use Rattle.encoded_held.specs.EncodedTexts.{IsNewEncodedRoom, LaysOutUtf8, LaysOutUtf16, LaysOutUtf16Lossy};
+ghost use Rattle.encoded_held.specs.InCodeUnits.{byte_of_character, IsEncodedRun, IsIndexAt, OfItsText, RefusesEncodedLine, RefusesEncodedRun, TellsEncodedLine, WritesEncodedLevels};
+ghost use Rattle.bidi_c.specs.HeldAt.{held_at};
+
+use crate::bidi_handle::BidiHandle;
+use bidi_held::held::Held;
+use bidi_held::lines_out::BidiLine;
+use bidi_held::refusal::{Refusal, answer, of_room, status};
+use bidi_held::visual_lines::BidiRun;
+use encoded::room::Room;
+use encoded_held::encoded_levels::write_encoded_levels;
+use encoded_held::laying_out::{lay_out_utf8_held, lay_out_utf16_held, lay_out_utf16_lossy_held};
+use encoded_held::lookups::{index_held, level_held, offset_held, tell_encoded_line};
+use encoded_held::runs::encoded_run_of;
+use std::alloc::Global;
+use units::limits::Limits;
+
+fn make_encoded_room(alloc: Global, n: usize, room: &mut BidiHandle) -> Result<(), Refusal>
+    ensures { Puts (IsNewEncodedRoom n) (RefusesRoom n) (held_at room.old) (held_at room.new) result }
+{
+    let made = Room::with_room(alloc, n).map_err(of_room)?;
+    room.hold(alloc, Held::Encoded(made))
+}
+
+/// Makes room for texts of up to `n` code units of UTF-8 or UTF-16, at most 16,777,216, with the layout of an empty
+/// text. What the handle held before is freed once the room is made; where it is refused, the handle holds that still.
+#[unsafe(no_mangle)]
+pub extern "C" fn bidi_room_new_encoded(alloc: Global, n: usize, room: &mut BidiHandle) -> u32
+    ensures { Answers (Puts (IsNewEncodedRoom n) (RefusesRoom n) (held_at room.old) (held_at room.new))
+        result }
+{
+    status(make_encoded_room(alloc, n, room))
+}
+
+fn lay_out_utf8(
+    room: &mut BidiHandle,
+    tables: &mut BidiHandle,
+    text: &[u8],
+    direction: u32,
+    breaks: &[usize],
+) -> Result<(), Refusal>
+    ensures tables { held_at tables.new ≡ held_at tables.old }
+    ensures room { LaysOutUtf8 standard (held_at tables.old) text.now direction breaks.now
+        (held_at room.old) (held_at room.new) result }
+{
+    let Some(held) = room.held() else {
+        return Err(Refusal::NoRoom);
+    };
+    let Some(by) = tables.held() else {
+        return Err(Refusal::NoTables);
+    };
+    lay_out_utf8_held(held, by, text, direction, breaks, Limits::standard())
+}
+
+/// Lays out a text in UTF-8 in the room, by the tables and the standard limits, under the direction with this number,
+/// broken into lines at offsets of its bytes (P1 to L2). No memory is taken. Where it is refused, the room holds the
+/// layout that it held, and `place` names the place: the offset of the first byte that is no part of a character, or
+/// the index of a break.
+#[unsafe(no_mangle)]
+pub extern "C" fn bidi_lay_out_utf8(
+    room: &mut BidiHandle,
+    tables: &mut BidiHandle,
+    text: &[u8],
+    direction: u32,
+    breaks: &[usize],
+    place: &mut u64,
+) -> u32
+    ensures tables { held_at tables.new ≡ held_at tables.old }
+    ensures room { AnswersNaming place_named (LaysOutUtf8 standard (held_at tables.old) text.now
+        direction breaks.now (held_at room.old) (held_at room.new)) result place.old place.new }
+{
+    answer(lay_out_utf8(room, tables, text, direction, breaks), place)
+}
+
+fn lay_out_utf16(
+    room: &mut BidiHandle,
+    tables: &mut BidiHandle,
+    text: &[u16],
+    direction: u32,
+    breaks: &[usize],
+) -> Result<(), Refusal>
+    ensures tables { held_at tables.new ≡ held_at tables.old }
+    ensures room { LaysOutUtf16 standard (held_at tables.old) text.now direction breaks.now
+        (held_at room.old) (held_at room.new) result }
+{
+    let Some(held) = room.held() else {
+        return Err(Refusal::NoRoom);
+    };
+    let Some(by) = tables.held() else {
+        return Err(Refusal::NoTables);
+    };
+    lay_out_utf16_held(held, by, text, direction, breaks, Limits::standard())
+}
+
+/// Lays out a text in UTF-16 as `bidi_lay_out_utf8` does one in UTF-8: offsets are those of its code units of 16 bits,
+/// and its first fault is the first surrogate that stands alone.
+#[unsafe(no_mangle)]
+pub extern "C" fn bidi_lay_out_utf16(
+    room: &mut BidiHandle,
+    tables: &mut BidiHandle,
+    text: &[u16],
+    direction: u32,
+    breaks: &[usize],
+    place: &mut u64,
+) -> u32
+    ensures tables { held_at tables.new ≡ held_at tables.old }
+    ensures room { AnswersNaming place_named (LaysOutUtf16 standard (held_at tables.old) text.now
+        direction breaks.now (held_at room.old) (held_at room.new)) result place.old place.new }
+{
+    answer(lay_out_utf16(room, tables, text, direction, breaks), place)
+}
+
+fn lay_out_utf16_lossy(
+    room: &mut BidiHandle,
+    tables: &mut BidiHandle,
+    text: &[u16],
+    direction: u32,
+    breaks: &[usize],
+) -> Result<(), Refusal>
+    ensures tables { held_at tables.new ≡ held_at tables.old }
+    ensures room { LaysOutUtf16Lossy standard (held_at tables.old) text.now direction breaks.now
+        (held_at room.old) (held_at room.new) result }
+{
+    let Some(held) = room.held() else {
+        return Err(Refusal::NoRoom);
+    };
+    let Some(by) = tables.held() else {
+        return Err(Refusal::NoTables);
+    };
+    lay_out_utf16_lossy_held(held, by, text, direction, breaks, Limits::standard())
+}
+
+/// Lays out a text in UTF-16 as `bidi_lay_out_utf16` does, with U+FFFD in the place of each surrogate that stands
+/// alone.
+#[unsafe(no_mangle)]
+pub extern "C" fn bidi_lay_out_utf16_lossy(
+    room: &mut BidiHandle,
+    tables: &mut BidiHandle,
+    text: &[u16],
+    direction: u32,
+    breaks: &[usize],
+    place: &mut u64,
+) -> u32
+    ensures tables { held_at tables.new ≡ held_at tables.old }
+    ensures room { AnswersNaming place_named (LaysOutUtf16Lossy standard (held_at tables.old) text.now
+        direction breaks.now (held_at room.old) (held_at room.new)) result place.old place.new }
+{
+    answer(
+        lay_out_utf16_lossy(room, tables, text, direction, breaks),
+        place,
+    )
+}
+
+/// The index of the character that the code unit at an offset belongs to, from the text's end on how many characters
+/// the text has; 0 without a room for code units.
+#[unsafe(no_mangle)]
+pub extern "C" fn bidi_index_of(room: &mut BidiHandle, at: usize) -> usize
+    ensures room { held_at room.new ≡ held_at room.old }
+    ensures none { encoded_in (held_at room.old) ≡ None → result ≡ 0 }
+    ensures index { OfItsText (held_at room.old) (λ text. IsIndexAt text at result) }
+{
+    match room.held() {
+        Some(held) => index_held(held, at),
+        None => 0,
+    }
+}
+
+/// The offset at which the character with this index begins, from their number on that of the text's end; 0 without a
+/// room for code units.
+#[unsafe(no_mangle)]
+pub extern "C" fn bidi_offset_of(room: &mut BidiHandle, index: usize) -> usize
+    ensures room { held_at room.new ≡ held_at room.old }
+    ensures none { encoded_in (held_at room.old) ≡ None → result ≡ 0 }
+    ensures offset { OfItsText (held_at room.old) (λ text. result ≡ offset_of text index) }
+{
+    match room.held() {
+        Some(held) => offset_held(held, index),
+        None => 0,
+    }
+}
+
+/// The level of the code unit at an offset after L1, that of its character: 255 where the character was removed (X9),
+/// from the text's end on, and without a room for code units.
+#[unsafe(no_mangle)]
+pub extern "C" fn bidi_level_at(room: &mut BidiHandle, at: usize) -> u8
+    ensures room { held_at room.new ≡ held_at room.old }
+    ensures none { encoded_in (held_at room.old) ≡ None → result ≡ 255 }
+    ensures level { OfItsText (held_at room.old) (λ text. (k : ℕ) → IsOf text at k
+        → result ≡ byte_of_character (held_at room.old) k) }
+    ensures past { OfItsText (held_at room.old) (λ text. code_units text ≤ at → result ≡ 255) }
+{
+    match room.held() {
+        Some(held) => level_held(held, at),
+        None => 255,
+    }
+}
+
+fn look_up_encoded_line(room: &mut BidiHandle, k: usize, line: &mut BidiLine) -> Result<(), Refusal>
+    ensures room { held_at room.new ≡ held_at room.old }
+    ensures line { Puts (TellsEncodedLine (held_at room.old) k) (RefusesEncodedLine (held_at room.old) k)
+        line.old line.new result }
+{
+    match room.held() {
+        Some(held) => tell_encoded_line(held, k, line),
+        None => Err(Refusal::NoRoom),
+    }
+}
+
+/// The line with the number `k`, counted from 0: the offsets at which it begins and ends, and how many of its
+/// characters are shown; where there is none, `line` stays as it was.
+#[unsafe(no_mangle)]
+pub extern "C" fn bidi_encoded_line(room: &mut BidiHandle, k: usize, line: &mut BidiLine) -> u32
+    ensures room { held_at room.new ≡ held_at room.old }
+    ensures line { Answers (Puts (TellsEncodedLine (held_at room.old) k)
+        (RefusesEncodedLine (held_at room.old) k) line.old line.new) result }
+{
+    status(look_up_encoded_line(room, k, line))
+}
+
+/// How many code units the text has, 0 without a room for them. Their levels after L1, each that of its character, are
+/// written to `levels`, if all fit there: 255 where the character was removed (X9).
+#[unsafe(no_mangle)]
+pub extern "C" fn bidi_encoded_levels(room: &mut BidiHandle, levels: &mut [u8]) -> usize
+    ensures room { held_at room.new ≡ held_at room.old }
+    ensures none { encoded_in (held_at room.old) ≡ None → (result ≡ 0) × (levels.new ≡ levels.old) }
+    ensures levels { WritesEncodedLevels (held_at room.old) result levels.old levels.new }
+{
+    match room.held() {
+        Some(held) => write_encoded_levels(held, levels),
+        None => 0,
+    }
+}
+
+fn look_up_encoded_run(room: &mut BidiHandle, k: usize, from: usize) -> Result<BidiRun, Refusal>
+    ensures room { held_at room.new ≡ held_at room.old }
+    ensures run { IfOk result (IsEncodedRun (held_at room.old) k from) }
+    ensures refused { IfErr result (RefusesEncodedRun (held_at room.old) k from) }
+{
+    match room.held() {
+        Some(held) => encoded_run_of(held, k, from),
+        None => Err(Refusal::NoRoom),
+    }
+}
+
+/// The run of the line with the number `k` that begins at the place `from`, as `bidi_run` tells of it, but with where it
+/// begins and how long it is in code units.
+#[unsafe(no_mangle)]
+pub extern "C" fn bidi_encoded_run(
+    room: &mut BidiHandle,
+    k: usize,
+    from: usize,
+    run: &mut BidiRun,
+) -> u32
+    ensures room { held_at room.new ≡ held_at room.old }
+    ensures run { Answers (Puts (IsEncodedRun (held_at room.old) k from)
+        (RefusesEncodedRun (held_at room.old) k from) run.old run.new) result }
+{
+    match look_up_encoded_run(room, k, from) {
+        Ok(found) => {
+            *run = found;
+            status(Ok(()))
+        }
+        Err(refusal) => status(Err(refusal)),
+    }
+}
