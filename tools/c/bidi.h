@@ -48,14 +48,14 @@ typedef struct { void *at; bool made; } bidi_judge;
 enum {
   BIDI_DONE = 0,
   BIDI_MEMORY = 1,             /* memory was refused */
-  BIDI_TOO_BIG = 2,            /* more room than for 16,777,216 code points */
+  BIDI_TOO_BIG = 2,            /* more room than for 16,777,216 code points or code units */
   BIDI_TOO_LONG = 3,           /* the text is longer than the room */
   BIDI_NO_CHARACTER = 4,       /* place: index of the first code point that is no scalar value */
   BIDI_NO_CLASS = 5,           /* place: index of the first number that is no class */
   BIDI_BREAK_OUT_OF_RANGE = 6, /* place: index of the first faulty break, which is 0 or not below the length */
   BIDI_BREAK_NOT_RISING = 7,   /* place: index of the first faulty break, which is not above the one before */
   BIDI_NO_DIRECTION = 8,       /* the number is no direction */
-  BIDI_NO_ROOM = 9,            /* the handle holds no room */
+  BIDI_NO_ROOM = 9,            /* the handle holds no room, or none of the kind that the call takes */
   BIDI_NO_TABLES = 10,         /* the handle holds no tables */
   BIDI_NO_LINE = 11,           /* no line has the number */
   BIDI_CLASS_FILE = 12,        /* fault: of DerivedBidiClass.txt */
@@ -66,7 +66,9 @@ enum {
   BIDI_DEPTH = 17,             /* the depth that is handed in is 0 or above 125 */
   BIDI_BRACKETS = 18,          /* the depth is allowed, and the number of brackets is above 63 */
   BIDI_NO_VERDICT = 19,        /* the numbers tell no verdict */
-  BIDI_TOO_SMALL = 20          /* the line has more bytes than there is place for; length: how many it has */
+  BIDI_TOO_SMALL = 20,         /* the line has more bytes than there is place for; length: how many it has */
+  BIDI_ILL_FORMED = 24,        /* place: offset of the first code unit that is no part of a character */
+  BIDI_BREAK_INSIDE = 25       /* place: index of the first break that stands inside a character */
 };
 
 /* Directions: that of all paragraphs, or of each by its first strong character (P2, P3); where it has none, BIDI_AUTO
@@ -167,6 +169,38 @@ uint32_t bidi_run(bidi_room *room, size_t k, size_t from, bidi_run_t *run);
  * text that was laid out; for one of another length the answer is 0. */
 size_t bidi_shown(bidi_room *room, bidi_tables *tables, const uint32_t *codes, size_t n, size_t k, uint32_t *shown,
                   size_t place);
+
+/* Texts in UTF-8 and UTF-16, told of in offsets: how many code units (bytes, or 16 bits) stand before something. */
+
+/* Room for such texts of up to n code units, 97 bytes for each. It takes texts in code units alone, as the rooms above
+ * take none; bidi_set_lines takes no such room, all look-ups above do, and count in characters. */
+uint32_t bidi_room_new_encoded(size_t n, bidi_room *room);
+
+/* Lays out a text in UTF-8 or UTF-16 as bidi_lay_out does one of code points. `breaks` are offsets, at each of which a
+ * character begins: rising, none 0, all below n. Of what is wrong the first is named: BIDI_TOO_LONG; BIDI_ILL_FORMED;
+ * a break out of range or not rising; BIDI_BREAK_INSIDE. The lossy call reads U+FFFD for each surrogate that stands
+ * alone. */
+uint32_t bidi_lay_out_utf8(bidi_room *room, bidi_tables *tables, const uint8_t *text, size_t n, uint32_t direction,
+                           const size_t *breaks, size_t break_count, uint64_t *place);
+uint32_t bidi_lay_out_utf16(bidi_room *room, bidi_tables *tables, const uint16_t *text, size_t n, uint32_t direction,
+                            const size_t *breaks, size_t break_count, uint64_t *place);
+uint32_t bidi_lay_out_utf16_lossy(bidi_room *room, bidi_tables *tables, const uint16_t *text, size_t n,
+                                  uint32_t direction, const size_t *breaks, size_t break_count, uint64_t *place);
+
+/* From an offset to the index of the character that the code unit there belongs to, from the text's end on how many
+ * characters it has; and from a character to the offset at which it begins, behind the last one that of the text's end.
+ * Without such room both are 0. */
+size_t bidi_index_of(bidi_room *room, size_t offset);
+size_t bidi_offset_of(bidi_room *room, size_t index);
+/* The level of the code unit at an offset, that of its character: BIDI_REMOVED where X9 removes it, and where there is
+ * no such code unit; and the levels of all of them, copied as bidi_levels does those of characters. */
+uint8_t bidi_level_at(bidi_room *room, size_t offset);
+size_t bidi_encoded_levels(bidi_room *room, uint8_t *levels, size_t place);
+/* Line k as bidi_line tells of it, but with `start` and `end` in offsets. */
+uint32_t bidi_encoded_line(bidi_room *room, size_t k, bidi_line_t *line);
+/* The visual run of line k that begins at the place `from`, as bidi_run tells of it, but with `start` and `length` in
+ * code units. */
+uint32_t bidi_encoded_run(bidi_room *room, size_t k, size_t from, bidi_run_t *run);
 
 /* A judge of a BidiTest.txt. What `judge` held before is freed once it is made. */
 uint32_t bidi_judge_new_classes(bidi_judge *judge);

@@ -267,6 +267,91 @@ static void use_standard_tables(bidi_room *room) {
   print_properties(&tables, 'a');
 }
 
+/* A line of a text in code units: its bounds and its runs in offsets. */
+static void print_encoded_line(bidi_room *room, size_t k) {
+  bidi_line_t line = { 77, 77, 77 };
+  bidi_run_t run;
+  uint32_t status = bidi_encoded_line(room, k, &line);
+  if (status) { printf(" no line %zu: %u", k, status); return; }
+  printf(" | [%zu,%zu) shown %zu runs", line.start, line.end, line.shown);
+  for (size_t at = 0; bidi_encoded_run(room, k, at, &run) == BIDI_DONE; at += run.shown)
+    printf(" %zu+%zu(%zu)@%u", run.start, run.length, run.shown, run.level);
+}
+
+/* A text in code units: their levels, the characters that they belong to, and where these begin. */
+static void print_encoded(bidi_room *room) {
+  uint8_t levels[64];
+  size_t n = bidi_encoded_levels(room, levels, 64), lines = bidi_line_count(room);
+  printf("levels");
+  for (size_t i = 0; i < n; i++) {
+    if (levels[i] == BIDI_REMOVED) printf(" x"); else printf(" %u", levels[i]);
+    if (bidi_level_at(room, i) != levels[i]) printf("??");
+  }
+  printf(" past %u characters", bidi_level_at(room, n));
+  for (size_t i = 0; i <= n; i++) printf(" %zu", bidi_index_of(room, i));
+  size_t count = bidi_levels(room, levels, 0);
+  printf(" begin");
+  for (size_t k = 0; k <= count + 1; k++) printf(" %zu", bidi_offset_of(room, k));
+  for (size_t k = 0; k <= lines; k++) print_encoded_line(room, k);
+  printf("\n");
+}
+
+static void lay_out_utf8(bidi_room *room, bidi_tables *tables, const char *text, uint32_t direction,
+                         const size_t *breaks, size_t count) {
+  uint64_t place = 0;
+  uint32_t status = bidi_lay_out_utf8(room, tables, (const uint8_t *)text, strlen(text), direction, breaks, count,
+                                      &place);
+  printf("utf8 %u at %llu: ", status, (unsigned long long)place);
+  print_encoded(room);
+}
+
+static void lay_out_utf16(bidi_room *room, bidi_tables *tables, const uint16_t *text, size_t n, const size_t *breaks,
+                          size_t count) {
+  uint64_t place = 0;
+  uint32_t status = bidi_lay_out_utf16(room, tables, text, n, BIDI_AUTO, breaks, count, &place);
+  printf("utf16 %u at %llu: ", status, (unsigned long long)place);
+  print_encoded(room);
+  status = bidi_lay_out_utf16_lossy(room, tables, text, n, BIDI_AUTO, breaks, count, &place);
+  printf("lossy %u at %llu: ", status, (unsigned long long)place);
+  print_encoded(room);
+}
+
+static void lay_out_encoded(bidi_tables *tables) {
+  bidi_room room = BIDI_NONE, codes = BIDI_NONE;
+  bidi_tables no_tables = BIDI_NONE;
+  const uint16_t paired[] = { 0x5D0, 0xD83D, 0xDE00, ' ', 'a' }, lone[] = { 'a', 0xDE00, 0x5D0, 0xD83D };
+  const size_t one[] = { 3 }, two[] = { 2, 6 }, inside[] = { 2, 4 }, falling[] = { 6, 2 }, outside[] = { 2, 15 };
+  const char *text = "ab \xD7\x90(\xD7\x91) 1";
+  const uint32_t letters[] = { 'a', 'b' };
+  lay_out_utf8(&room, tables, text, BIDI_AUTO, one, 0);
+  uint32_t status = bidi_room_new_encoded(16777217, &room), made = bidi_room_new_encoded(16, &room);
+  printf("encoded room: %u, %u, size %zu: ", status, made, bidi_room_size(&room));
+  print_encoded(&room);
+  lay_out_utf8(&room, tables, text, BIDI_AUTO, one, 1);
+  print_layout(&room, tables, NULL, 0);
+  lay_out_utf8(&room, tables, text, BIDI_RTL, two, 2);
+  lay_out_utf8(&room, tables, "a\xE2\x80\xAB" "b\n\xF0\x9F\x98\x80", BIDI_AUTO, two, 0);
+  printf("refused:\n");
+  lay_out_utf8(&room, tables, "12345678901234567", BIDI_AUTO, falling, 2);
+  lay_out_utf8(&room, tables, "ab\xD7(", BIDI_AUTO, falling, 2);
+  lay_out_utf8(&room, tables, text, BIDI_AUTO, falling, 2);
+  lay_out_utf8(&room, tables, text, BIDI_AUTO, outside, 2);
+  lay_out_utf8(&room, tables, text, BIDI_AUTO, inside, 2);
+  lay_out_utf8(&room, tables, text, 4, one, 0);
+  lay_out_utf8(&room, &no_tables, text, BIDI_AUTO, one, 0);
+  uint64_t place = 0;
+  status = bidi_lay_out(&room, tables, letters, 2, BIDI_AUTO, one, 0, &place);
+  printf("code points in it %u, lines %u, ", status, bidi_set_lines(&room, one, 0, &place));
+  bidi_room_new(16, &codes);
+  lay_out_utf8(&codes, tables, text, BIDI_AUTO, one, 0);
+  lay_out_utf16(&room, tables, paired, 5, one, 1);
+  lay_out_utf16(&room, tables, paired, 5, two, 1);
+  lay_out_utf16(&room, tables, lone, 4, one, 1);
+  lay_out_utf16(&codes, tables, lone, 4, one, 1);
+  bidi_room_free(&codes);
+  bidi_room_free(&room);
+}
+
 int main(int argc, char **argv) {
   bidi_tables tables = BIDI_NONE;
   bidi_room room = BIDI_NONE;
@@ -293,6 +378,7 @@ int main(int argc, char **argv) {
   judge_by_limits(&held, &tables);
   share_tables(&tables, &room);
   use_standard_tables(&room);
+  lay_out_encoded(&tables);
   print_texts();
   print_room(&room, 1000);
   print_room(&room, 16777217);

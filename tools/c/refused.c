@@ -31,6 +31,8 @@ int main(int argc, char **argv) {
   uint64_t place = 0;
   printf("room: %ld refused\n", IN_TURN(bidi_room_new(500, &room), !room.made));
   printf("room again: %ld refused\n", IN_TURN(bidi_room_new(600, &room), bidi_room_size(&room) == 500));
+  bidi_room encoded = BIDI_NONE;
+  printf("encoded room: %ld refused\n", IN_TURN(bidi_room_new_encoded(500, &encoded), !encoded.made));
   printf("tables: %ld refused\n",
          IN_TURN(bidi_tables_new(classes, a, brackets, b, mirrors, c, &tables, &fault), !tables.made));
   const uint32_t text[] = { 'a', 0x5D0, '1' }; const size_t none[1] = { 0 };
@@ -40,6 +42,13 @@ int main(int argc, char **argv) {
   bidi_levels(&room, levels, 3); bidi_order(&room, 0, order, 3); bidi_places(&room, 0, order, 3);
   bidi_run(&room, 0, 0, &run); bidi_shown(&room, &tables, text, 3, 0, shown, 3); bidi_mirror(&tables, '(');
   bidi_class(&tables, '(', levels); bidi_bracket(&tables, '(', levels);
+  const uint8_t bytes[] = { 'a', 0xD7, 0x90 }; const uint16_t units[] = { 'a', 0x5D0 }; bidi_line_t line_of;
+  status += bidi_lay_out_utf8(&encoded, &tables, bytes, 3, BIDI_AUTO, none, 0, &place);
+  status += bidi_lay_out_utf16(&encoded, &tables, units, 2, BIDI_AUTO, none, 0, &place);
+  status += bidi_lay_out_utf16_lossy(&encoded, &tables, units, 2, BIDI_AUTO, none, 0, &place);
+  bidi_index_of(&encoded, 1); bidi_offset_of(&encoded, 1); bidi_level_at(&encoded, 1);
+  bidi_encoded_levels(&encoded, levels, 3); bidi_encoded_line(&encoded, 0, &line_of);
+  bidi_encoded_run(&encoded, 0, 0, &run);
   printf("layout and look-ups: status %u, %ld asked\n", status, asked);
   refused_at = 0;
   printf("judge: %ld refused\n", IN_TURN(bidi_judge_new_classes(&judge), !judge.made));
@@ -58,7 +67,7 @@ int main(int argc, char **argv) {
   uint8_t line[BIDI_VERDICT_LINE];
   size_t length = 0;
   printf("text: %ld refused\n", IN_TURN(bidi_verdict_text(&verdict, line, sizeof line, &length), length == 0));
-  bidi_room_free(&room); bidi_tables_free(&tables); bidi_judge_free(&judge);
+  bidi_room_free(&room); bidi_room_free(&encoded); bidi_tables_free(&tables); bidi_judge_free(&judge);
   free(classes); free(brackets); free(mirrors);
   printf("wrong: %ld\n", wrong);
   return wrong != 0;
