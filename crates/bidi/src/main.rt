@@ -2,17 +2,23 @@
 //! the bidirectional algorithm.
 #![tactic(auto)]
 
-ghost use Rattle.std.specs.Prelude.{◌≡◌, ◌≢◌};
+ghost use Rattle.std.specs.Prelude.{◌≡◌, ◌≢◌, ◌≤◌, IfOk, OnErr};
 
 use command::run::run;
 use requests::fault::Fault;
 use requests::files::SystemFiles;
+use requests::outcome::Ended;
 use std::env;
 use std::io::{self, BufWriter, ErrorKind, Write};
 use std::process::ExitCode;
 
-/// Runs with these words, over the files of the system, standard output (buffered) and standard error.
-fn run_over_system<E: Write>(rt: &HostRuntime, words: &[&str], err: &mut E) -> io::Result<u8> {
+/// Runs with these words, over the files of the system, standard output (buffered) and standard error. Up to status 1
+/// nothing is written to standard error.
+fn run_over_system<E: Write>(rt: &HostRuntime, words: &[&str], err: &mut E) -> io::Result<Ended>
+    ensures status { IfOk result (λ ended. ended.status ≤ 3) }
+    ensures silent { IfOk result (λ ended. ended.status ≤ 1 → E.contents err.new ≡ E.contents err.old) }
+    ensures unsaid { OnErr result (E.contents err.new ≡ E.contents err.old) }
+{
     let alloc = rt.alloc();
     let mut out = BufWriter::new(alloc, rt.stdout())?;
     Ok(run(alloc, words, &SystemFiles::new(rt), &mut out, err))
@@ -20,7 +26,11 @@ fn run_over_system<E: Write>(rt: &HostRuntime, words: &[&str], err: &mut E) -> i
 
 /// Runs with the words of the command line, over the files of the system, standard output (buffered) and standard
 /// error.
-fn run_with_words<E: Write>(rt: &HostRuntime, err: &mut E) -> io::Result<u8> {
+fn run_with_words<E: Write>(rt: &HostRuntime, err: &mut E) -> io::Result<Ended>
+    ensures status { IfOk result (λ ended. ended.status ≤ 3) }
+    ensures silent { IfOk result (λ ended. ended.status ≤ 1 → E.contents err.new ≡ E.contents err.old) }
+    ensures unsaid { OnErr result (E.contents err.new ≡ E.contents err.old) }
+{
     let owned: Vec<String> = env::args(rt)?.collect(rt.alloc())?;
     let words: Vec<&str> = owned.iter().map(|word| word.as_str()).collect(rt.alloc())?;
     run_over_system(rt, &words, err)
@@ -37,11 +47,19 @@ fn fault_of_words(kind: ErrorKind) -> Fault<'static>
     }
 }
 
+/// Runs, or says why there are no words to run with.
+fn run_or_say<E: Write>(rt: &HostRuntime, err: &mut E) -> Ended
+    ensures status { result.status ≤ 3 }
+    ensures silent { result.status ≤ 1 → E.contents err.new ≡ E.contents err.old }
+{
+    match run_with_words(rt, err) {
+        Ok(ended) => ended,
+        Err(error) => fault_of_words(error.kind()).report(err),
+    }
+}
+
 fn main(rt: HostRuntime) -> ExitCode {
     let mut err = rt.stderr();
-    let status = match run_with_words(&rt, &mut err) {
-        Ok(status) => status,
-        Err(error) => fault_of_words(error.kind()).report(&mut err),
-    };
-    ExitCode::from(status)
+    let ended = run_or_say(&rt, &mut err);
+    ExitCode::from(ended.status)
 }

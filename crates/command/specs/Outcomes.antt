@@ -1,10 +1,17 @@
 -- What a run comes to, by how its words were read.
-use Rattle.std.specs.Prelude.{◌≡◌, ◌≢◌, ◌⊎◌, ℕ, List, Option, Result, Ok, Err}
+use Rattle.std.specs.Prelude.{◌≡◌, ◌≢◌, ◌⊎◌, ℕ, List, [], ◌∷◌, Option, Result, Ok, Err, codes}
+use Rattle.std.specs.List.{concat}
+use Rattle.std.specs.Io.KnownBytes.{Appends}
 use Rattle.clap.specs.Values.{kind_of}
 use Rattle.clap.specs.declared.error.Error.{Error}
+use Rattle.clap.specs.declared.error.kind.ErrorKind.{ErrorKind}
 use Rattle.clap.specs.declared.error.kind.ErrorKind.TheVariants as kind
-use Rattle.requests.specs.Outcomes.{HasEnded, IsDone}
+use Rattle.command.specs.declared.help.TheConstants.{BIDI_VERSION}
+use Rattle.requests.specs.FaultText.{EndsBy}
+use Rattle.requests.specs.Outcomes.{EndsWell, HasEnded, IsDone}
 use Rattle.requests.specs.ReadFiles.{FileFacts}
+use Rattle.requests.specs.declared.fault.Fault.TheVariants.{CannotWrite, OutOfMemory}
+use Rattle.requests.specs.declared.outcome.Ended.{Ended}
 use Rattle.requests.specs.declared.outcome.Outcome.TheVariants.{Judged}
 use Rattle.requests.specs.declared.request.Request.{Request}
 use Rattle.command.specs.CommandLine.{IsRead, IsReadAs}
@@ -17,23 +24,35 @@ AsksForHelp error = (kind_of error ≡ kind.DisplayHelp) ⊎ (kind_of error ≡ 
 abbrev pub RefusesWords : Error → Type 0
 RefusesWords error = (kind_of error ≢ kind.OutOfMemory) × (kind_of error ≢ kind.DisplayHelp) × (kind_of error ≢ kind.DisplayVersion)
 
--- words that are no request end with this status: help or the version was asked for, and is printed or a write failed;
--- or memory was refused; or the words are refused and nothing is written
-abbrev pub EndsWithout : Option (List ℕ) → Option (List ℕ) → Error → ℕ → Type 0
-EndsWithout before after error status =
-    ((status ≡ 0) × AsksForHelp error) ⊎ (((status ≡ 3) × AsksForHelp error) ⊎ (((status ≡ 3) × (kind_of error ≡ kind.OutOfMemory))
-    ⊎ ((status ≡ 2) × RefusesWords error × (after ≡ before))))
+-- the text of the version: the product's name, and what stands behind it
+abbrev pub version_text : List ℕ
+version_text = concat (codes "bidi " ∷ BIDI_VERSION.now ∷ codes "\n" ∷ [])
 
--- words that were read so came to what that asks for, and the run ended with this status
-abbrev pub EndsAsRead : FileFacts → Option (List ℕ) → Option (List ℕ) → Result Request Error → ℕ → Type 0
-EndsAsRead files before after (Ok request) status = HasEnded files before after request status
-EndsAsRead files before after (Err error) status = EndsWithout before after error status
+-- what was asked for is printed: known bytes grew by the text of the version; of help it is not said by what
+abbrev pub IsPrinted : Option (List ℕ) → Option (List ℕ) → ErrorKind → Type 0
+IsPrinted before after kind.DisplayVersion = Appends before after version_text
+IsPrinted before after _ = Unit {0}
+
+-- words that are no request end so: help or the version was asked for, and is printed, or a write of it failed; or memory
+-- was refused; or the words are refused, and nothing is printed
+abbrev pub EndsWithout : Option (List ℕ) → Option (List ℕ) → Option (List ℕ) → Option (List ℕ) → Error → Ended → Type 0
+EndsWithout before after err_before err_after error ended =
+    (AsksForHelp error × IsPrinted before after (kind_of error) × EndsWell 0 err_before err_after ended)
+    ⊎ ((AsksForHelp error × EndsBy CannotWrite err_before err_after ended)
+    ⊎ (((kind_of error ≡ kind.OutOfMemory) × (after ≡ before) × EndsBy OutOfMemory err_before err_after ended)
+    ⊎ (RefusesWords error × (after ≡ before) × (ended.status ≡ 2))))
+
+-- words that were read so came to what that asks for, and the run ended so: of the first two what is printed tells, of
+-- the next two what is said
+abbrev pub EndsAsRead : FileFacts → Option (List ℕ) → Option (List ℕ) → Option (List ℕ) → Option (List ℕ) → Result Request Error → Ended → Type 0
+EndsAsRead files before after err_before err_after (Ok request) ended = HasEnded files before after err_before err_after request ended
+EndsAsRead files before after err_before err_after (Err error) ended = EndsWithout before after err_before err_after error ended
 
 -- the words were read, and the run came to what that asks for
-pub record HasRun (files : FileFacts) (before after : Option (List ℕ)) (words : List (List ℕ)) (status : ℕ) : Type 0 where
+pub record HasRun (files : FileFacts) (before after err_before err_after : Option (List ℕ)) (words : List (List ℕ)) (ended : Ended) : Type 0 where
   pub read : Result Request Error
   pub is : IsReadAs words read
-  pub ended : EndsAsRead files before after read status
+  pub ends : EndsAsRead files before after err_before err_after read ended
 
 -- what the words were read as is a request, which came to a no
 abbrev pub RequestSaidNo : FileFacts → Option (List ℕ) → Option (List ℕ) → Result Request Error → Type 0

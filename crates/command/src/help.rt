@@ -14,9 +14,9 @@ Ends with status 0 where it is done or the verdict is yes, 1 where the verdict i
 2 where the command line is refused, and 3 where a file can't be read, a line of a
 table is faulty, a text is not UTF-8, a write fails or memory is refused.";
 
-/// What stands behind the name in the text of the version: the rules that are followed, the edition whose tables are
-/// built in, and the kit that all is proved with.
-pub const BIDI_VERSION: &str = "(rules P1 to L2 and L4 of UAX #9, Unicode 15.0)
+/// What stands behind the name in the text of the version: the version, the rules that are followed, the edition whose
+/// tables are built in, and the kit that all is proved with.
+pub const BIDI_VERSION: &str = "1.0.0 (rules P1 to L2 and L4 of UAX #9, Unicode 15.0)
 tables of Unicode 15.0.0 built in
 proved with rattle-kit-13b logic dac8208d650f15bf";
 

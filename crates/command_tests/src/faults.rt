@@ -9,6 +9,7 @@ use crate::runs::{
 };
 use crate::writers::{FixedWriter, ShortWriter};
 use command::run::run;
+use requests::outcome::Ended;
 use std::alloc::Global;
 
 const WRONG_UNDER_RTL: &[u8] = b"@Levels: 0\n@Reorder: 0\nL; 7\n";
@@ -47,8 +48,8 @@ fn says_that_a_write_failed(rt: HostRuntime) {
     }
 }
 
-/// The status of a run whose standard error takes five bytes.
-fn status_without_a_line(alloc: Global, words: &[&str]) -> u8 {
+/// How a run ends whose standard error takes five bytes.
+fn end_without_a_line(alloc: Global, words: &[&str]) -> Ended {
     let mut out = FixedWriter::new();
     let mut err = ShortWriter {
         left: 5,
@@ -67,11 +68,11 @@ fn keeps_the_status_where_the_fault_line_is_not_taken(rt: HostRuntime) {
         (&["bidi", "other"], 2),
     ];
     for (words, status) in rows {
-        assert_eq!(rt;
-            status_without_a_line(rt.alloc(), words),
+        let unsaid = Ended {
             status,
-            "{words:?}"
-        );
+            is_said: false,
+        };
+        assert_eq!(rt; end_without_a_line(rt.alloc(), words), unsaid, "{words:?}");
     }
 }
 
@@ -83,12 +84,12 @@ fn says_that_a_file_found_no_memory(rt: HostRuntime) {
 
 /// Whether a run said that memory was refused.
 fn found_no_memory(outcome: &Outcome) -> bool {
-    outcome.status == 3 && outcome.err.written() == b"bidi: out of memory\n".as_slice()
+    outcome.ended.status == 3 && outcome.err.written() == b"bidi: out of memory\n".as_slice()
 }
 
 /// Whether a run ended with this status, and its two texts begin so.
 fn begins_so(outcome: &Outcome, status: u8, out: &[u8], err: &[u8]) -> bool {
-    outcome.status == status
+    outcome.ended.status == status
         && outcome.out.written().starts_with(out)
         && outcome.err.written().starts_with(err)
 }

@@ -26,7 +26,7 @@ fn says_that_a_file_was_not_read(rt: HostRuntime) {
 /// Checks that a run over files of which so many bytes can be read says that, and nothing else.
 fn assert_failed_read(rt: &impl Abort, alloc: Global, files: FailingFiles<'_>, readable: usize) {
     let outcome = outcome_over(alloc, &JUDGE_CLASSES, files);
-    assert_eq!(rt; outcome.status, 3, "{readable}");
+    assert_eq!(rt; outcome.ended.status, 3, "{readable}");
     assert!(rt; outcome.out.written().is_empty(), "{readable}");
     assert_eq!(rt;
         outcome.err.written(),

@@ -27,8 +27,8 @@ fn assert_reorder(
 ) {
     let mut err = FixedWriter::new();
     let files = tables_and(text);
-    let answer = run(alloc, &REORDER, &MemoryFiles::new(&files), out, &mut err);
-    assert_eq!(rt; answer, status);
+    let ended = run(alloc, &REORDER, &MemoryFiles::new(&files), out, &mut err);
+    assert_eq!(rt; ended.status, status);
     assert_eq!(rt; err.written(), line);
 }
 

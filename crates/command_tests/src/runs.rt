@@ -3,13 +3,14 @@ use crate::memory_files::{MemoryFile, MemoryFiles};
 use crate::writers::{FixedWriter, ShortWriter};
 use command::run::run;
 use requests::files::Files;
+use requests::outcome::Ended;
 use std::alloc::Global;
 use std::process::Abort;
 
 /// What a run answered and wrote.
 #[derive(Drop)]
 pub struct Outcome {
-    pub status: u8,
+    pub ended: Ended,
     pub out: FixedWriter,
     pub err: FixedWriter,
 }
@@ -18,8 +19,8 @@ pub struct Outcome {
 pub fn outcome_over<F: Files + Drop>(alloc: Global, words: &[&str], files: F) -> Outcome {
     let mut out = FixedWriter::new();
     let mut err = FixedWriter::new();
-    let status = run(alloc, words, &files, &mut out, &mut err);
-    Outcome { status, out, err }
+    let ended = run(alloc, words, &files, &mut out, &mut err);
+    Outcome { ended, out, err }
 }
 
 /// A run over these files.
@@ -74,7 +75,8 @@ fn assert_written(rt: &impl Abort, words: &[&str], written: &[u8], text: Text<'_
 
 /// Compares what a run with these words answered and wrote.
 fn assert_ends(rt: &impl Abort, words: &[&str], outcome: &Outcome, ending: Ending<'_>) {
-    assert_eq!(rt; outcome.status, ending.status, "{words:?}");
+    assert_eq!(rt; outcome.ended.status, ending.status, "{words:?}");
+    assert!(rt; outcome.ended.is_said, "{words:?}");
     assert_written(rt, words, outcome.out.written(), ending.out);
     assert_written(rt, words, outcome.err.written(), ending.err);
 }
@@ -111,7 +113,8 @@ pub fn assert_fault_over_writer(
     line: &[u8],
 ) {
     let mut err = FixedWriter::new();
-    let status = run(alloc, words, &MemoryFiles::new(files), &mut out, &mut err);
-    assert_eq!(rt; status, 3, "{words:?}");
+    let ended = run(alloc, words, &MemoryFiles::new(files), &mut out, &mut err);
+    assert_eq!(rt; ended.status, 3, "{words:?}");
+    assert!(rt; ended.is_said, "{words:?}");
     assert_eq!(rt; err.written(), line, "{words:?}");
 }

@@ -1,5 +1,5 @@
 -- How a fault is said: its line on standard error, and the exit status that goes with it.
-use Rattle.std.specs.Prelude.{◌≡◌, ℕ, List, [], ◌∷◌, Option, codes}
+use Rattle.std.specs.Prelude.{◌≡◌, ℕ, List, [], ◌∷◌, Option, codes, true}
 use Rattle.std.specs.List.{concat}
 use Rattle.std.specs.Fmt.{decimal}
 use Rattle.std.specs.Io.KnownBytes.{Appends}
@@ -8,6 +8,7 @@ use Rattle.ucdfiles.specs.Faults.{name_of}
 use Rattle.printing.specs.declared.fault.PrintFault.{PrintFault}
 use Rattle.printing.specs.declared.fault.PrintFault.TheVariants.{Write, Memory}
 use Rattle.requests.specs.declared.fault.Fault.{Fault}
+use Rattle.requests.specs.declared.outcome.Ended.{Ended}
 use Rattle.requests.specs.declared.fault.Fault.TheVariants.{WordNotUtf8, TablesNeeded, ClassesTooLong, NoClass, CannotRead, FaultyLine, NotUtf8, CannotWrite, OutOfMemory}
 use Rattle.printing.specs.LevelsText.{line_feed}
 
@@ -49,6 +50,11 @@ fault_status (FaultyLine name line fault) = 3
 fault_status (NotUtf8 name) = 3
 fault_status CannotWrite = 3
 fault_status OutOfMemory = 3
+
+-- a run ends by this fault: with its status, and where that is said, what known bytes grew by says it
+pub record EndsBy (fault : Fault) (before after : Option (List ℕ)) (ended : Ended) : Type 0 where
+  pub status_is : ended.status ≡ fault_status fault
+  pub says : ended.is_said ≡ true → SaysFault before after fault
 
 -- when a fault, said by this name, ends the opening of a file: it can't be opened, or memory was refused
 abbrev pub EndsOpening : Type 0 → List ℕ → Fault → Type 0

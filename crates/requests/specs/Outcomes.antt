@@ -1,22 +1,22 @@
 -- What a request comes to.
-use Rattle.std.specs.Prelude.{◌≡◌, ℕ, List, Option, Some, Result, Ok, Err}
+use Rattle.std.specs.Prelude.{◌≡◌, ℕ, List, Option, Some, Result, Ok, Err, true}
 use Rattle.requests.specs.declared.request.FileKind.TheVariants.{Classes, Characters}
 use Rattle.requests.specs.declared.request.Request.{Request}
 use Rattle.requests.specs.declared.request.Request.TheVariants.{Text, ExplainClasses, Judge}
 use Rattle.requests.specs.declared.fault.Fault.{Fault}
+use Rattle.requests.specs.declared.outcome.Ended.{Ended}
 use Rattle.requests.specs.declared.outcome.Outcome.{Outcome}
 use Rattle.requests.specs.declared.outcome.Outcome.TheVariants.{Judged, Printed}
-use Rattle.requests.specs.FaultText.{fault_status}
+use Rattle.requests.specs.FaultText.{EndsBy}
 use Rattle.requests.specs.JudgedFiles.{HasJudged, HasJudgedBy, IsClassesVerdict}
 use Rattle.requests.specs.Printed.{HasExplained, HasPrinted, printed_text}
 use Rattle.requests.specs.ReadFiles.{FileFacts}
 use Rattle.requests.specs.Steps.{FailsIn, steps_of}
 
--- the exit status: that of the verdict, 0 after a text, and that of the fault
-abbrev pub outcome_status : Result Outcome Fault → ℕ
-outcome_status (Ok (Judged status)) = status
-outcome_status (Ok Printed) = 0
-outcome_status (Err fault) = fault_status fault
+-- the exit status: that of the verdict, and 0 after a text
+abbrev pub outcome_status : Outcome → ℕ
+outcome_status (Judged status) = status
+outcome_status Printed = 0
 
 -- what was asked for is done: what is to be printed of the text or of classes is printed, or the file is judged, by
 -- the tables that are asked for
@@ -35,8 +35,20 @@ abbrev pub ComesTo : FileFacts → Option (List ℕ) → Option (List ℕ) → R
 ComesTo files before after request (Ok outcome) = IsDone files before after request outcome
 ComesTo files before after request (Err fault) = FailsIn (steps_of files request) before after fault
 
--- a request came to this, and the run ended with its status
-pub record HasEnded (files : FileFacts) (before after : Option (List ℕ)) (request : Request) (status : ℕ) : Type 0 where
+-- a run ends without a fault: with this status, and known bytes are what they were
+pub record EndsWell (status : ℕ) (before after : Option (List ℕ)) (ended : Ended) : Type 0 where
+  pub status_is : ended.status ≡ status
+  pub said : ended.is_said ≡ true
+  pub silent : after ≡ before
+
+-- a run ends as what its request came to says: with that status, and what known bytes grew by is the fault's line, if
+-- there is a fault and that is said
+abbrev pub EndsAs : Result Outcome Fault → Option (List ℕ) → Option (List ℕ) → Ended → Type 0
+EndsAs (Ok outcome) before after ended = EndsWell (outcome_status outcome) before after ended
+EndsAs (Err fault) before after ended = EndsBy fault before after ended
+
+-- a request came to this, of which what was written to `out` tells, and the run ended so, of which `err` tells
+pub record HasEnded (files : FileFacts) (before after : Option (List ℕ)) (err_before err_after : Option (List ℕ)) (request : Request) (ended : Ended) : Type 0 where
   pub outcome : Result Outcome Fault
   pub comes : ComesTo files before after request outcome
-  pub status_is : status ≡ outcome_status outcome
+  pub ends : EndsAs outcome err_before err_after ended

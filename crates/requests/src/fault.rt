@@ -3,8 +3,9 @@ ghost use Rattle.std.specs.Prelude.{◌≡◌, [], ◌∷◌, codes, OnOk};
 ghost use Rattle.std.specs.List.{concat};
 ghost use Rattle.std.specs.Io.KnownBytes.{Appends};
 ghost use Rattle.printing.specs.LevelsText.{line_feed};
-ghost use Rattle.requests.specs.FaultText.{SaysFault, fault_status, faulty_line_text, no_class_text, not_utf8_text};
+ghost use Rattle.requests.specs.FaultText.{EndsBy, SaysFault, fault_status, faulty_line_text, no_class_text, not_utf8_text};
 
+use crate::outcome::Ended;
 use printing::fault::PrintFault;
 use std::alloc::{AllocError, AllocFailed};
 use std::io;
@@ -159,12 +160,16 @@ impl Fault<'_> {
         }
     }
 
-    /// Says the fault, and answers the exit status, which stays where the line can't be written.
-    pub fn report<E: Write>(&self, err: &mut E) -> u8
-        ensures { result ≡ fault_status self.now }
+    /// Says the fault, and answers how the run ends: with the fault's exit status, which stays where the line can't be
+    /// written.
+    pub fn report<E: Write>(&self, err: &mut E) -> Ended
+        ensures { EndsBy self.now (E.contents err.old) (E.contents err.new) result }
     {
-        let _ = self.print(err);
-        let _ = err.flush();
-        self.status()
+        let written = self.print(err);
+        let flushed = err.flush();
+        Ended {
+            status: self.status(),
+            is_said: written.is_ok() && flushed.is_ok(),
+        }
     }
 }

@@ -1,5 +1,5 @@
 // What a request came to.
-ghost use Rattle.std.specs.Prelude.{◌≡◌, Ok};
+ghost use Rattle.std.specs.Prelude.{◌≡◌};
 ghost use Rattle.requests.specs.Outcomes.{outcome_status};
 
 /// What a request that is done came to.
@@ -11,10 +11,19 @@ pub enum Outcome {
     Printed,
 }
 
+/// How a run ended.
+#[derive(Clone, Copy, Debug, PartialEq, Eq)]
+pub struct Ended {
+    /// The exit status.
+    pub status: u8,
+    /// Whether the line of what went wrong, if something did, was written whole.
+    pub is_said: bool,
+}
+
 impl Outcome {
     /// The exit status: that of the verdict, and 0 after a text.
     pub fn status(self) -> u8
-        ensures { result ≡ outcome_status (Ok self) }
+        ensures { result ≡ outcome_status self }
     {
         match self {
             Outcome::Judged(status) => status,

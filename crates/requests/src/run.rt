@@ -1,15 +1,27 @@
 // A request done to its end.
 ghost use Rattle.std.specs.Prelude.{◌≡◌, ◌≤◌, IfOk, IfErr};
+ghost use Rattle.std.specs.Io.KnownBytes.{Keeps};
 ghost use Rattle.requests.specs.Outcomes.{HasEnded, IsDone};
 ghost use Rattle.requests.specs.Steps.{FailsIn, steps_of};
 
 use crate::fault::Fault;
 use crate::files::Files;
-use crate::outcome::Outcome;
+use crate::outcome::{Ended, Outcome};
 use crate::performing::perform;
 use crate::request::Request;
 use std::alloc::Global;
 use std::io::Write;
+
+/// Hands on all that was written. The fault is that of a write.
+fn flush<W: Write>(out: &mut W) -> Result<(), Fault<'static>>
+    ensures bytes { Keeps (W.contents out.old) (W.contents out.new) }
+    ensures fault { IfErr result (λ fault. fault ≡ Fault.CannotWrite) }
+{
+    match out.flush() {
+        Ok(()) => Ok(()),
+        Err(_) => Err(Fault::CannotWrite),
+    }
+}
 
 /// Does what is asked for, with all that was written handed on.
 fn perform_and_flush<'a, F: Files, W: Write>(
@@ -24,36 +36,37 @@ fn perform_and_flush<'a, F: Files, W: Write>(
         (W.contents out.old) (W.contents out.new)) }
 {
     let outcome = perform(alloc, request, files, out)?;
-    if out.flush().is_err() {
-        return Err(Fault::CannotWrite);
-    }
+    flush(out)?;
     Ok(outcome)
 }
 
-/// Does what is asked for, and answers the exit status: 0 where a text was printed or explained and after a yes, 1 after
+/// Does what is asked for, and answers the exit status with which the run ends: 0 where a text was printed or explained and after a yes, 1 after
 /// a no, 2 where no tables are named though they are needed, or the classes are none or too many, 3 where a file or
-/// standard input can't be read, a table or the text is faulty, a write fails or memory is refused. After 2 and 3 `err`
-/// has a line that says so, if it took it.
+/// standard input can't be read, a table or the text is faulty, a write fails or memory is refused. After 2 and 3 a line
+/// that says so is written to `err`, and whether it took that is answered too; after 0 and 1 nothing is written to it.
 pub fn run_request<'a, F: Files, W: Write, E: Write>(
     alloc: Global,
     request: Request<'a>,
     files: &F,
     out: &mut W,
     err: &mut E,
-) -> u8
-    ensures status { result ≤ 3 }
+) -> Ended
+    ensures status { result.status ≤ 3 }
 
-    // The status is that of what was done, or of the fault of the first step that failed.
-    ensures ended { HasEnded (F.facts files.now)
-        (W.contents out.old) (W.contents out.new) request.entry result }
+    // The status is that of what was done, or of the fault of the first step that failed, whose line is written.
+    ensures ended { HasEnded (F.facts files.now) (W.contents out.old) (W.contents out.new)
+        (E.contents err.old) (E.contents err.new) request.entry result }
 
     // A no is answered only where the request came to it.
-    ensures no { result ≡ 1 → IsDone (F.facts files.now)
+    ensures no { result.status ≡ 1 → IsDone (F.facts files.now)
         (W.contents out.old) (W.contents out.new) request.entry (Outcome.Judged 1) }
-    ensures silent { result ≤ 1 → E.contents err.new ≡ E.contents err.old }
+    ensures silent { result.status ≤ 1 → E.contents err.new ≡ E.contents err.old }
 {
     match perform_and_flush(alloc, request, files, out) {
-        Ok(outcome) => outcome.status(),
+        Ok(outcome) => Ended {
+            status: outcome.status(),
+            is_said: true,
+        },
         Err(fault) => fault.report(err),
     }
 }

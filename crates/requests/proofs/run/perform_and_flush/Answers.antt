@@ -1,6 +1,19 @@
-use Rattle.std.proofs.Common.{inr}
-use Rattle.requests.proofs.FirstFaults.{request_done}
+use Rattle.std.proofs.Common.{◌≡◌, Result, Ok, Err, IsErrAnd, ◌∙◌}
+use Rattle.printing.specs.declared.fault.PrintFault.TheVariants.{Write}
+use Rattle.requests.specs.FaultText.{print_fault}
+use Rattle.requests.specs.declared.fault.Fault.{Fault}
+use Rattle.requests.specs.declared.fault.Fault.TheVariants.{CannotWrite}
+use Rattle.requests.specs.declared.outcome.Outcome.{Outcome}
+use Rattle.requests.proofs.FirstFaults.{printing_fails, request_done}
 use Rattle.requests.proofs.run.perform_and_flush.Goals as goal
 
-pub returns-then-is_err-clause-fault : goal.returns-then-is_err-clause-fault
-returns-then-is_err-clause-fault g c = inr (request_done _ _ _ _ _ c.in_ok-outcome.ensures.done, tt)
+handed_on : (r : Result Outcome Fault) (e : Fault) → IsErrAnd r (λ given. given ≡ e) → e ≡ CannotWrite
+    → IsErrAnd r (λ given. given ≡ print_fault Write)
+handed_on (Ok outcome) e same is = absurd same
+handed_on (Err given) e same is = same ∙ is
+
+-- all was read and printed before what was printed is handed on
+pub returns-in_err-flush-clause-fault : goal.returns-in_err-flush-clause-fault
+returns-in_err-flush-clause-fault g c =
+    printing_fails _ _ _ _ Write (request_done _ _ _ _ _ c.in_ok-outcome.ensures.done)
+    (handed_on _ _ c.from_residual-in_err-flush.ensures.1 c.in_err-flush.ensures.fault)
