@@ -7,6 +7,7 @@ pub mod Refusals
 pub mod RoomTexts
 pub mod MadeTables
 pub mod LaidOut
+pub mod LineAlone
 pub mod Written
 pub mod LinesOut
 pub mod Visual

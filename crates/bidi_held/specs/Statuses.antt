@@ -3,7 +3,7 @@ use Rattle.std.specs.Prelude.{ℕ, ◌≡◌, Result, Ok, Err, IfErr, OnErr, OnO
 use Rattle.std.specs.Option.{unwrap_or}
 use Rattle.ucdfiles.specs.Faults.{line_of_fault}
 use Rattle.bidi_held.specs.declared.refusal.Refusal.{Refusal}
-use Rattle.bidi_held.specs.declared.refusal.Refusal.TheVariants.{Memory, TooBig, TooLong, NoCharacter, NoClass, BreakOutOfRange, BreakNotRising, NoDirection, NoRoom, NoTables, NoLine, NoPlace, NoJudge, Depth, Brackets, ClassFile, BracketFile, MirrorFile, NoVerdict, TooSmall, IllFormed, BreakInside}
+use Rattle.bidi_held.specs.declared.refusal.Refusal.TheVariants.{Memory, TooBig, TooLong, NoCharacter, NoClass, BreakOutOfRange, BreakNotRising, NoDirection, NoRoom, NoTables, NoLine, NoPlace, NoJudge, Depth, Brackets, ClassFile, BracketFile, MirrorFile, NoVerdict, TooSmall, LineNotForward, LineBeyondText, LineCrossesParagraph, IllFormed, BreakInside}
 
 -- the number that a call answers; 0 is that it is done
 abbrev pub code_of : Refusal → ℕ
@@ -27,6 +27,9 @@ code_of Depth = 17
 code_of Brackets = 18
 code_of NoVerdict = 19
 code_of TooSmall = 20
+code_of LineNotForward = 21
+code_of LineBeyondText = 22
+code_of LineCrossesParagraph = 23
 code_of (IllFormed offset) = 24
 code_of (BreakInside index) = 25
 

@@ -2,6 +2,7 @@
 ghost use Rattle.std.specs.Prelude.{◌≡◌, Some};
 ghost use Rattle.bidi_held.specs.Texts.{direction_numbered};
 ghost use Rattle.bidi_held.specs.LaidOut.{LaysOutClasses, LaysOutCodes, SetsLines};
+ghost use Rattle.bidi_held.specs.LineAlone.{LaysOutLine};
 
 use crate::held::Held;
 use crate::refusal::Refusal;
@@ -73,4 +74,24 @@ pub fn set_lines_held(room: &mut Held, breaks: &[usize]) -> Result<(), Refusal>
         Held::Room(room) => room.set_lines(breaks),
         _ => Err(Refusal::NoRoom),
     }
+}
+
+/// Lays out one line alone of the text that is held, if this is a room, and writes its levels and its order to the
+/// fronts of two lists, and how many positions the order has to `shown`.
+pub fn line_alone_held(
+    room: &mut Held,
+    start: usize,
+    end: usize,
+    levels: &mut [u8],
+    order: &mut [usize],
+    shown: &mut usize,
+) -> Result<(), Refusal>
+    ensures { LaysOutLine start end (Some room.old) (Some room.new) levels.old levels.new
+        order.old order.new shown.old shown.new result }
+{
+    let Held::Room(room) = room else {
+        return Err(Refusal::NoRoom);
+    };
+    *shown = room.line_alone(start, end, levels, order)?;
+    Ok(())
 }

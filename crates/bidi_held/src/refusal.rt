@@ -1,7 +1,9 @@
 // Why a call is refused, and the numbers that say so.
 ghost use Rattle.std.specs.Prelude.{◌≡◌, ◌<◌, ◌↔◌};
+ghost use Rattle.bidi_held.specs.LineAlone.{refusal_of_span};
 ghost use Rattle.bidi_held.specs.Statuses.{code_of, place_of, place_named, status_of};
 
+use lines::alone::SpanFault;
 use lines::scratch::RoomFault;
 use ucdfiles::fault::TableFault;
 
@@ -46,8 +48,14 @@ pub enum Refusal {
     MirrorFile(TableFault),
     /// The numbers tell no verdict.
     NoVerdict,
-    /// The line has more bytes than fit.
+    /// What is to be written has more items than fit.
     TooSmall,
+    /// The line does not start below its end.
+    LineNotForward,
+    /// The line starts below its end, which is behind the text.
+    LineBeyondText,
+    /// The line is within the text, and a paragraph ends within it, before its last position.
+    LineCrossesParagraph,
     /// The code unit at this offset is no part of a character; all before it are well formed.
     IllFormed(usize),
     /// The break with this index stands inside a character.
@@ -84,6 +92,9 @@ impl Refusal {
             Refusal::Brackets => 18,
             Refusal::NoVerdict => 19,
             Refusal::TooSmall => 20,
+            Refusal::LineNotForward => 21,
+            Refusal::LineBeyondText => 22,
+            Refusal::LineCrossesParagraph => 23,
             Refusal::IllFormed(_) => 24,
             Refusal::BreakInside(_) => 25,
         }
@@ -115,6 +126,17 @@ pub fn of_room(fault: RoomFault) -> Refusal
     match fault {
         RoomFault::TooBig => Refusal::TooBig,
         RoomFault::Memory => Refusal::Memory,
+    }
+}
+
+/// How a line is refused that is none of the text.
+pub(crate) fn of_span(fault: SpanFault) -> Refusal
+    ensures { result ≡ refusal_of_span fault }
+{
+    match fault {
+        SpanFault::NotForward => Refusal::LineNotForward,
+        SpanFault::BeyondText => Refusal::LineBeyondText,
+        SpanFault::CrossesParagraph => Refusal::LineCrossesParagraph,
     }
 }
 

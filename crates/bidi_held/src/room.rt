@@ -11,27 +11,30 @@ ghost use Rattle.bidi_held.specs.Texts.{class_numbered, unit_numbered, units_num
 ghost use Rattle.ucdfiles.specs.Tables.{units_by};
 ghost use Rattle.bidi_held.specs.Refusals.{IsClassNumber, RefusesBreaks, RefusesCodes, RefusesNumbered};
 
-use crate::refusal::Refusal;
+use crate::lines_out::write_levels;
+use crate::refusal::{Refusal, of_span};
 use lines::breaks::{BreakFault, Breaks};
-use lines::lay_out::{break_anew_into, lay_out_into_with};
+use lines::lay_out::{break_anew_into, lay_out_into_with, line_alone_into};
 use lines::scratch::{MOST, RoomFault, Scratch};
 use std::alloc::Global;
 use std::boxed::BoxedSlice;
 use ucdfiles::tables::Tables;
 use units::bracket::{Bracket, Unit};
 use units::class::Class;
-use units::level::Direction;
+use units::level::{Direction, Level};
 use units::limits::Limits;
 
-/// Room for a text's units and its layout. It holds a text and its layout at all times, at first those of an empty
-/// text.
+/// Room for a text's units and its layout, and for the levels of one line alone. It holds a text and its layout at all
+/// times, at first those of an empty text.
 #[derive(Drop)]
 pub struct Room {
     pub(crate) scratch: Scratch,
     units: BoxedSlice<Unit>,
+    line: BoxedSlice<Option<Level>>,
     direction: Direction,
     limits: Limits,
     ghost fits: { length (boxed_slice_items units) ≡ room_of scratch },
+    ghost line_fits: { length (boxed_slice_items line) ≡ room_of scratch },
     ghost filled: { IsFilled scratch },
     ghost holds: { HoldsText limits (take (text_len_of scratch) (boxed_slice_items units)) direction scratch },
 }
@@ -150,17 +153,13 @@ fn breaks_of(at: &[usize], n: usize) -> Result<Breaks<'_>, Refusal>
     }
 }
 
-/// A column of `n` units.
-fn unit_column(alloc: Global, n: usize) -> Result<BoxedSlice<Unit>, RoomFault>
-    ensures made { IfOk result (λ units. length (boxed_slice_items units) ≡ n) }
+/// A column of `n` places, all with this value.
+fn column<T: Copy>(alloc: Global, value: T, n: usize) -> Result<BoxedSlice<T>, RoomFault>
+    ensures made { IfOk result (λ column. length (boxed_slice_items column) ≡ n) }
     ensures refused { IfErr result (λ fault. fault ≡ RoomFault.Memory) }
 {
-    let none = Unit {
-        class: Class::L,
-        bracket: Bracket::No,
-    };
-    match Vec::from_elem(alloc, none, n) {
-        Ok(units) => Ok(units.into_boxed_slice()),
+    match vec![in alloc; value; n] {
+        Ok(items) => Ok(items.into_boxed_slice()),
         Err(_) => Err(RoomFault::Memory),
     }
 }
@@ -196,7 +195,7 @@ fn lay_out_nothing(scratch: &mut Scratch)
 }
 
 impl Room {
-    ghost use Rattle.std.specs.Prelude.{◌≡◌, ◌<◌, ◌↔◌, [], Err, length, IfErr, IfOk, OnErr, OnOk};
+    ghost use Rattle.std.specs.Prelude.{◌≡◌, ◌<◌, ◌↔◌, [], Err, length, min, IfErr, IfOk, MatchResult, OnErr, OnOk};
     ghost use Rattle.std.specs.Char.{IsScalar};
     ghost use Rattle.units.specs.Layout.{layout_of, longest_text};
     ghost use Rattle.units.specs.Limits.{standard};
@@ -204,6 +203,7 @@ impl Room {
     ghost use Rattle.ucdfiles.specs.Tables.{units_by};
     ghost use Rattle.lines.specs.LineBreaks.{AreBreaks};
     ghost use Rattle.lines.specs.Scratches.{room_of, text_len_of, layout_in};
+    ghost use Rattle.bidi_held.specs.LineAlone.{RefusesLineAlone, WritesLineAlone};
     ghost use Rattle.bidi_held.specs.Refusals.{IsClassNumber, Refuses, RefusesBreaks, RefusesCodes, RefusesNumbered, Takes};
     ghost use Rattle.bidi_held.specs.RoomTexts.{layout_with, text_held};
     ghost use Rattle.bidi_held.specs.Texts.{units_numbered};
@@ -218,12 +218,18 @@ impl Room {
         if n > MOST {
             return Err(RoomFault::TooBig);
         }
-        let units = unit_column(alloc, n)?;
+        let none = Unit {
+            class: Class::L,
+            bracket: Bracket::No,
+        };
+        let units = column(alloc, none, n)?;
+        let line = column(alloc, None, n)?;
         let mut scratch = Scratch::with_room(alloc, n)?;
         lay_out_nothing(&mut scratch);
         Ok(Room {
             scratch,
             units,
+            line,
             direction: Direction::Auto,
             limits: Limits::standard(),
         })
@@ -308,5 +314,42 @@ impl Room {
         let breaks = breaks_of(at, len)?;
         break_anew_into(&mut self.scratch, &self.units[..len], &breaks);
         Ok(())
+    }
+
+    /// Lays out one line alone of the text that it holds, from `start` up to `end` (L1, L2), at the cost of that line,
+    /// and writes its levels and its order to the fronts of two lists; what the room holds stays. It answers how many
+    /// positions the order has. A place for each position of the line is looked for first in both lists, and then
+    /// whether it is a line of the text; where the line is refused nothing is written.
+    pub fn line_alone(
+        &mut self,
+        start: usize,
+        end: usize,
+        levels: &mut [u8],
+        order: &mut [usize],
+    ) -> Result<usize, Refusal>
+        ensures room { room_of self.new.scratch ≡ room_of self.old.scratch }
+        ensures layout { layout_in self.new.scratch ≡ layout_in self.old.scratch }
+        ensures holds { text_held self.new ≡ text_held self.old }
+        ensures line { MatchResult result
+            (WritesLineAlone (text_held self.old) start end levels.old levels.new order.old order.new)
+            (RefusesLineAlone (text_held self.old).units start end (min (length levels.old) (length order.old))) }
+        ensures levels { OnErr result (levels.new ≡ levels.old) }
+        ensures order { OnErr result (order.new ≡ order.old) }
+    {
+        let count = end.saturating_sub(start);
+        if levels.len().min(order.len()) < count {
+            return Err(Refusal::TooSmall);
+        }
+        let text = &self.units[..self.scratch.text_len()];
+        let shown = line_alone_into(
+            &mut self.scratch,
+            text,
+            start,
+            end,
+            &mut self.line,
+            order,
+        ).map_err(of_span)?;
+        write_levels(&self.line[..count], levels);
+        Ok(shown)
     }
 }
