@@ -66,7 +66,10 @@ enum {
   BIDI_DEPTH = 17,             /* the depth that is handed in is 0 or above 125 */
   BIDI_BRACKETS = 18,          /* the depth is allowed, and the number of brackets is above 63 */
   BIDI_NO_VERDICT = 19,        /* the numbers tell no verdict */
-  BIDI_TOO_SMALL = 20,         /* the line has more bytes than there is place for; length: how many it has */
+  BIDI_TOO_SMALL = 20,         /* what is to be written has more items than there is place for */
+  BIDI_LINE_NOT_FORWARD = 21,  /* the line does not start below its end */
+  BIDI_LINE_BEYOND_TEXT = 22,  /* it starts below its end, which is behind the text */
+  BIDI_LINE_CROSSES = 23,      /* it is within the text, and goes on behind the end of a paragraph */
   BIDI_ILL_FORMED = 24,        /* place: offset of the first code unit that is no part of a character */
   BIDI_BREAK_INSIDE = 25       /* place: index of the first break that stands inside a character */
 };
@@ -119,7 +122,7 @@ uint32_t bidi_class(bidi_tables *tables, uint32_t code, uint8_t *class_number);
 enum { BIDI_NO_BRACKET = 0, BIDI_OPENING = 1, BIDI_CLOSING = 2 };
 uint32_t bidi_bracket(bidi_tables *tables, uint32_t code, uint8_t *bracket);
 
-/* Room for texts of up to n code points, 81 bytes for each. What `room` held before is freed once it is made. */
+/* Room for texts of up to n code points, 87 bytes for each. What `room` held before is freed once it is made. */
 uint32_t bidi_room_new(size_t n, bidi_room *room);
 void bidi_room_free(bidi_room *room);
 /* The n that the room was made for, 0 without a room. */
@@ -144,6 +147,13 @@ uint32_t bidi_lay_out_classes_with(bidi_room *room, const uint8_t *classes, size
 /* Breaks the text that was laid out last into lines anew (L1, L2): its levels before L1, its direction and its limits
  * stay. For those who shape a text and know only then where its lines end. */
 uint32_t bidi_set_lines(bidi_room *room, const size_t *breaks, size_t break_count, uint64_t *place);
+
+/* One line alone of that text, [start, end) (L1, L2), at the cost of that line, wherever its other lines end: the level
+ * of each of its positions, its shown positions from left to right, those of the whole text, and how many these are.
+ * Both arrays need place for end - start items. What the room holds stays, also its lines. BIDI_NO_ROOM,
+ * BIDI_TOO_SMALL, or else one of BIDI_LINE_..; nothing is written then. */
+uint32_t bidi_line_of(bidi_room *room, size_t start, size_t end, uint8_t *levels, size_t level_place, size_t *order,
+                      size_t order_place, size_t *shown);
 
 /* Look-ups of what was laid out last. Each answers how many items there are, 0 where there is nothing of what is asked
  * for, and writes them only if all have place. */

@@ -155,6 +155,33 @@ static void break_anew(bidi_room *room, bidi_tables *tables) {
   set_lines(room, tables, one, 0);
 }
 
+static void print_line_alone(bidi_room *room, size_t start, size_t end, size_t place) {
+  uint8_t levels[16] = { 77 };
+  size_t order[16] = { 77 }, shown = 99;
+  uint32_t status = bidi_line_of(room, start, end, levels, place, order, 16, &shown);
+  printf("line [%zu,%zu) %u", start, end, status);
+  if (status) printf(" leaves %u %zu %zu\n", levels[0], order[0], shown);
+  if (status) return;
+  printf(" levels");
+  for (size_t i = 0; i < end - start; i++) if (levels[i] == BIDI_REMOVED) printf(" x"); else printf(" %u", levels[i]);
+  printf(" order");
+  for (size_t i = 0; i < shown; i++) printf(" %zu", order[i]);
+  printf("\n");
+}
+
+/* One line alone, of two paragraphs, each with white space at its end; refused ones; and what is held stays. */
+static void lay_out_lines_alone(bidi_room *room, bidi_tables *tables) {
+  static const uint32_t text[] = { 'a', ' ', 'b', '\n', 'c', ' ', 0x5D0, 0x202C, ' ', '1' };
+  const size_t breaks[] = { 1 };
+  const size_t lines[][2] = { { 0, 2 }, { 0, 3 }, { 0, 4 }, { 1, 3 }, { 3, 4 }, { 4, 9 }, { 4, 10 }, { 7, 8 },
+                              { 4, 4 }, { 5, 4 }, { 5, 11 }, { 2, 5 }, { 0, 10 } };
+  print_line_alone(&(bidi_room)BIDI_NONE, 0, 1, 16);
+  lay_out(room, tables, text, 10, BIDI_RTL, breaks, 1);
+  for (size_t i = 0; i < sizeof lines / sizeof lines[0]; i++) print_line_alone(room, lines[i][0], lines[i][1], 16);
+  print_line_alone(room, 0, 2, 1);
+  print_layout(room, tables, text, 10);
+}
+
 static void lay_out_classes(bidi_room *room, bidi_tables *tables) {
   const uint8_t classes[] = { 1, 14, 0, 18, 2, 3 }, faulty[] = { 0, 22, 23 };
   const size_t none[1] = { 0 };
@@ -370,6 +397,7 @@ int main(int argc, char **argv) {
          bidi_mirror(&tables, 'a'), bidi_mirror(&tables, 0xD800));
   lay_out_texts(&room, &tables);
   break_anew(&room, &tables);
+  lay_out_lines_alone(&room, &tables);
   lay_out_classes(&room, &tables);
   lay_out_by_limits(&room, &tables);
   judge_files(&held, &tables);

@@ -36,10 +36,11 @@ int main(int argc, char **argv) {
   printf("tables: %ld refused\n",
          IN_TURN(bidi_tables_new(classes, a, brackets, b, mirrors, c, &tables, &fault), !tables.made));
   const uint32_t text[] = { 'a', 0x5D0, '1' }; const size_t none[1] = { 0 };
-  uint8_t levels[3]; size_t order[3]; uint32_t shown[3]; bidi_run_t run;
+  uint8_t levels[3]; size_t order[3], n; uint32_t shown[3]; bidi_run_t run;
   asked = 0; refused_at = 1;
   uint32_t status = bidi_lay_out(&room, &tables, text, 3, BIDI_AUTO, none, 0, &place);
   bidi_levels(&room, levels, 3); bidi_order(&room, 0, order, 3); bidi_places(&room, 0, order, 3);
+  bidi_line_of(&room, 0, 2, levels, 3, order, 3, &n);
   bidi_run(&room, 0, 0, &run); bidi_shown(&room, &tables, text, 3, 0, shown, 3); bidi_mirror(&tables, '(');
   bidi_class(&tables, '(', levels); bidi_bracket(&tables, '(', levels);
   const uint8_t bytes[] = { 'a', 0xD7, 0x90 }; const uint16_t units[] = { 'a', 0x5D0 }; bidi_line_t line_of;

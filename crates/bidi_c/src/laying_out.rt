@@ -2,14 +2,15 @@
 ghost use Rattle.std.specs.Prelude.{◌≡◌};
 ghost use Rattle.units.specs.Limits.{standard};
 ghost use Rattle.bidi_held.specs.LaidOut.{LaysOutClasses, LaysOutCodes, SetsLines};
+ghost use Rattle.bidi_held.specs.LineAlone.{LaysOutLine};
 ghost use Rattle.bidi_held.specs.LimitsGiven.{ByLimits};
-ghost use Rattle.bidi_held.specs.Statuses.{AnswersNaming, place_named};
+ghost use Rattle.bidi_held.specs.Statuses.{Answers, AnswersNaming, place_named};
 ghost use Rattle.bidi_c.specs.HeldAt.{held_at};
 
 use crate::bidi_handle::BidiHandle;
-use bidi_held::layouts::{lay_out_classes_held, lay_out_held, set_lines_held};
+use bidi_held::layouts::{lay_out_classes_held, lay_out_held, line_alone_held, set_lines_held};
 use bidi_held::limits::BidiLimits;
-use bidi_held::refusal::{Refusal, answer};
+use bidi_held::refusal::{Refusal, answer, status};
 use units::limits::Limits;
 
 fn lay_out(
@@ -175,4 +176,39 @@ pub extern "C" fn bidi_set_lines(room: &mut BidiHandle, breaks: &[usize], place:
         result place.old place.new }
 {
     answer(set_lines(room, breaks), place)
+}
+
+fn line_of(
+    room: &mut BidiHandle,
+    start: usize,
+    end: usize,
+    levels: &mut [u8],
+    order: &mut [usize],
+    shown: &mut usize,
+) -> Result<(), Refusal>
+    ensures { LaysOutLine start end (held_at room.old) (held_at room.new) levels.old levels.new
+        order.old order.new shown.old shown.new result }
+{
+    match room.held() {
+        Some(held) => line_alone_held(held, start, end, levels, order, shown),
+        None => Err(Refusal::NoRoom),
+    }
+}
+
+/// Lays out one line alone of the text that the room holds, from `start` up to `end` (L1, L2), at the cost of that
+/// line, and writes its levels and its order to the fronts of the arrays, and to `shown` how many positions the order
+/// has. What the room holds stays. Where the line is refused, nothing is written.
+#[unsafe(no_mangle)]
+pub extern "C" fn bidi_line_of(
+    room: &mut BidiHandle,
+    start: usize,
+    end: usize,
+    levels: &mut [u8],
+    order: &mut [usize],
+    shown: &mut usize,
+) -> u32
+    ensures { Answers (LaysOutLine start end (held_at room.old) (held_at room.new) levels.old levels.new
+        order.old order.new shown.old shown.new) result }
+{
+    status(line_of(room, start, end, levels, order, shown))
 }

@@ -28,7 +28,7 @@ use units::class::Class;
 use units::level::Direction;
 use units::limits::Limits;
 
-/// Room for texts in code units and their layouts, to be used again and again: 97 bytes for each code unit of room. It
+/// Room for texts in code units and their layouts, to be used again and again: 101 bytes for each code unit of room. It
 /// holds a layout at all times, at first that of an empty text. Its columns don't grow.
 #[derive(Drop)]
 pub struct Room {
