@@ -58,6 +58,9 @@ ends 0 'yes: 1 rows, 1 cases' '' judge --kind characters --tables t characters.t
 ends 3 '' 'bidi: cannot read missing.txt' judge --kind classes missing.txt
 ends 3 '' 'bidi: cannot read t' judge --kind classes t
 ends 2 '' 'bidi: --tables is needed' judge --kind characters characters.txt
+ends 0 $'@Levels: 1\n@Reorder: 0\nR; 1\n@Levels: 1\n@Reorder: 0\nR; 2\n@Levels: 1\n@Reorder: 0\nR; 4' '' \
+    rows --form exhaustive --alphabet R --length 1
+ends 2 '' 'bidi: 1-2 is no range of lengths' rows --form exhaustive --alphabet R --length 1-2
 ends 0 $'paragraph 0 level 1\n0 05D0 R 1\n1 0020 WS 1\n2 0028 ON 1\n3 0061 L 2' '' levels --tables t text.txt
 ends 0 $'paragraph 0 level 0\n0 05D0 R 1\n1 0020 WS 0\n2 0028 ON 0\n3 0061 L 0' '' \
     levels --tables t --direction ltr text.txt
@@ -163,7 +166,8 @@ ends 0 $'bidi 1.0.0 (rules P1 to L2 and L4 of UAX #9, Unicode 15.0)\ntables of U
 
 # A full disk, and a pipe that no one reads.
 for words in 'judge --kind classes yes.txt' 'judge --kind classes no.txt' 'levels --tables t text.txt' \
-    'reorder --tables t text.txt' 'explain --tables t text.txt' 'explain --classes R' '--help'; do
+    'reorder --tables t text.txt' 'explain --tables t text.txt' 'explain --classes R' \
+    'rows --form exhaustive --alphabet R --length 1' '--help'; do
     # shellcheck disable=SC2086
     "$program" $words > /dev/full 2> found_err
     is "status of $words to a full disk" 3 $?

@@ -67,6 +67,18 @@ classes_rule = option_rule (codes "classes")
 abbrev pub kind_rule : Choice → Rule
 kind_rule choice = record (option_rule (codes "kind")) { required = true; parser = Some (parser.Names choice) }
 
+-- --form
+abbrev pub form_rule : Choice → Rule
+form_rule choice = record (option_rule (codes "form")) { required = true; parser = Some (parser.Names choice) }
+
+-- --alphabet
+abbrev pub alphabet_rule : Rule
+alphabet_rule = record (option_rule (codes "alphabet")) { required = true }
+
+-- --length
+abbrev pub length_rule : Rule
+length_rule = record (option_rule (codes "length")) { required = true }
+
 abbrev pub not_required : Rule → Rule
 not_required rule = record rule { required = false }
 
@@ -84,33 +96,53 @@ explain_app directions =
 abbrev pub judge_app : Choice → App
 judge_app kinds = with_rule (with_rule (with_rule (new_app (codes "judge")) (kind_rule kinds)) tables_rule) file_rule
 
--- the words that name directions and kinds
+abbrev pub rows_app : Choice → App
+rows_app forms = with_rule (with_rule (with_rule (new_app (codes "rows")) (form_rule forms)) alphabet_rule) length_rule
+
+-- the words that name directions, kinds and forms
 abbrev pub direction_words : List Text
 direction_words = codes "auto" ∷ codes "ltr" ∷ codes "rtl" ∷ codes "auto-rtl" ∷ []
 
 abbrev pub kind_words : List Text
 kind_words = codes "classes" ∷ codes "characters" ∷ []
 
+abbrev pub form_words : List Text
+form_words = codes "exhaustive" ∷ []
+
 -- the command without its subcommands: one is needed, but for help and the version
 abbrev pub bidi_top : App
 bidi_top = on_top (λ s. record s { has_version = true; subcommand_required = true }) (new_app (codes "bidi"))
 
--- the command, whose four subcommands have these choices
-abbrev pub bidi_app : Choice → Choice → Choice → Choice → App
-bidi_app of_levels of_reorder of_explain kinds =
-    with_subcommand (with_subcommand (with_subcommand (with_subcommand bidi_top (levels_app of_levels).top) (reorder_app of_reorder).top) (explain_app of_explain).top) (judge_app kinds).top
-
--- the command line of `bidi`
-pub record IsBidi (app : App) : Type 0 where
+-- the choices of the five subcommands: of directions, of kinds, of forms
+pub record Choices : Type 0 where
   pub of_levels : Choice
   pub of_reorder : Choice
   pub of_explain : Choice
-  pub kinds : Choice
-  pub levels_words : words_of of_levels ≡ direction_words
-  pub reorder_words : words_of of_reorder ≡ direction_words
-  pub explain_words : words_of of_explain ≡ direction_words
-  pub kinds_words : words_of kinds ≡ kind_words
-  pub is : app ≡ bidi_app of_levels of_reorder of_explain kinds
+  pub of_judge : Choice
+  pub of_rows : Choice
+
+-- with the subcommands that print of a text
+abbrev pub with_texts : Choices → App → App
+with_texts c top =
+    with_subcommand (with_subcommand (with_subcommand top (levels_app c.of_levels).top) (reorder_app c.of_reorder).top) (explain_app c.of_explain).top
+
+-- with those of conformance files
+abbrev pub with_files : Choices → App → App
+with_files c top = with_subcommand (with_subcommand top (judge_app c.of_judge).top) (rows_app c.of_rows).top
+
+-- the command, whose five subcommands have these choices
+abbrev pub bidi_app : Choices → App
+bidi_app c = with_files c (with_texts c bidi_top)
+
+-- the command line of `bidi`
+pub record IsBidi (app : App) : Type 0 where
+  pub choices : Choices
+  pub levels_words : words_of choices.of_levels ≡ direction_words
+  pub reorder_words : words_of choices.of_reorder ≡ direction_words
+  pub explain_words : words_of choices.of_explain ≡ direction_words
+  pub judge_words : words_of choices.of_judge ≡ kind_words
+  pub rows_words : words_of choices.of_rows ≡ form_words
+  pub is : app ≡ bidi_app choices
 
 -- the word for a kind of file
 abbrev pub kind_word : FileKind → Text
@@ -161,6 +193,8 @@ AsksFor name rows (requested.ExplainClasses classes direction) = (name ≡ codes
 AsksFor name rows (requested.Judge kind tables file) = (name ≡ codes "judge")
     × (kind_named (first_of (codes "kind") rows) ≡ Some kind) × (first_of (codes "tables") rows ≡ option_map (λ folder. folder.now) tables)
     × (first_of (codes "file") rows ≡ Some file.now)
+AsksFor name rows (requested.Rows alphabet lengths) = (name ≡ codes "rows") × (first_of (codes "form") rows ≡ Some (codes "exhaustive"))
+    × (first_of (codes "alphabet") rows ≡ Some alphabet.now) × (first_of (codes "length") rows ≡ Some lengths.now)
 
 -- the subcommand that was met makes this request
 abbrev pub IsAskedBy : Option (Text × List Row) → Request → Type 0

@@ -7,7 +7,7 @@ use Rattle.clap.specs.Walk.{Row, Text, first_of, one_of}
 use Rattle.clap.specs.declared.error.kind.ErrorKind.TheVariants.{ArgumentConflict, DisplayVersion, InvalidValue, MissingRequiredArgument}
 use Rattle.units.specs.declared.level.Direction.{Direction}
 use Rattle.units.specs.declared.level.Direction.TheVariants.{Auto, Rtl}
-use Rattle.command.specs.CommandLine.{Choice, bidi_app, direction_named, kind_named}
+use Rattle.command.specs.CommandLine.{Choices, bidi_app, direction_named, kind_named}
 use Rattle.command.specs.Refusals.{kind_without_request}
 use Rattle.requests.specs.declared.request.FileKind.{FileKind}
 use Rattle.requests.specs.declared.request.FileKind.TheVariants.{Characters}
@@ -34,7 +34,7 @@ met p = record {
 }
 
 -- the direction is auto where none is given
-pub levels_words : (a b c kinds : Choice) → option_map met (subcommand_of (bidi_app a b c kinds)
+pub levels_words : (c : Choices) → option_map met (subcommand_of (bidi_app c)
     (codes "bidi" ∷ codes "levels" ∷ codes "--tables" ∷ codes "t" ∷ codes "FILE" ∷ [])) ≡ Some (record {
       name = codes "levels";
       tables = Some (codes "t");
@@ -45,10 +45,10 @@ pub levels_words : (a b c kinds : Choice) → option_map met (subcommand_of (bid
       file = Some (codes "FILE");
     })
 unfolding clap_on_literals
-levels_words a b c kinds = refl
+levels_words c = refl
 
 -- without a folder
-pub standard_words : (a b c kinds : Choice) → option_map met (subcommand_of (bidi_app a b c kinds)
+pub standard_words : (c : Choices) → option_map met (subcommand_of (bidi_app c)
     (codes "bidi" ∷ codes "levels" ∷ codes "FILE" ∷ [])) ≡ Some (record {
       name = codes "levels";
       tables = None;
@@ -59,16 +59,16 @@ pub standard_words : (a b c kinds : Choice) → option_map met (subcommand_of (b
       file = Some (codes "FILE");
     })
 unfolding clap_on_literals
-standard_words a b c kinds = refl
+standard_words c = refl
 
 -- a folder without a name
-pub no_folder_words : (a b c kinds : Choice) → fault_of (bidi_app a b c kinds)
+pub no_folder_words : (c : Choices) → fault_of (bidi_app c)
     (codes "bidi" ∷ codes "levels" ∷ codes "--tables" ∷ codes "" ∷ codes "FILE" ∷ []) ≡ InvalidValue ∷ []
 unfolding clap_on_literals
-no_folder_words a b c kinds = refl
+no_folder_words c = refl
 
 -- standard input
-pub input_words : (a b c kinds : Choice) → option_map met (subcommand_of (bidi_app a b c kinds)
+pub input_words : (c : Choices) → option_map met (subcommand_of (bidi_app c)
     (codes "bidi" ∷ codes "levels" ∷ codes "--tables" ∷ codes "t" ∷ codes "-" ∷ [])) ≡ Some (record {
       name = codes "levels";
       tables = Some (codes "t");
@@ -79,15 +79,15 @@ pub input_words : (a b c kinds : Choice) → option_map met (subcommand_of (bidi
       file = Some (codes "-");
     })
 unfolding clap_on_literals
-input_words a b c kinds = refl
+input_words c = refl
 
 -- the version is asked for
-pub version_words : (a b c kinds : Choice) → fault_of (bidi_app a b c kinds) (codes "bidi" ∷ codes "--version" ∷ []) ≡ DisplayVersion ∷ []
+pub version_words : (c : Choices) → fault_of (bidi_app c) (codes "bidi" ∷ codes "--version" ∷ []) ≡ DisplayVersion ∷ []
 unfolding clap_on_literals
-version_words a b c kinds = refl
+version_words c = refl
 
 -- options in any order, with values behind `=` too
-pub reorder_words : (a b c kinds : Choice) → option_map met (subcommand_of (bidi_app a b c kinds)
+pub reorder_words : (c : Choices) → option_map met (subcommand_of (bidi_app c)
     (codes "bidi" ∷ codes "reorder" ∷ codes "--columns=2" ∷ codes "FILE" ∷ codes "--direction" ∷ codes "rtl" ∷ codes "--tables=t" ∷ [])) ≡ Some (record {
       name = codes "reorder";
       tables = Some (codes "t");
@@ -98,10 +98,10 @@ pub reorder_words : (a b c kinds : Choice) → option_map met (subcommand_of (bi
       file = Some (codes "FILE");
     })
 unfolding clap_on_literals
-reorder_words a b c kinds = refl
+reorder_words c = refl
 
 -- of a kind, with tables
-pub judge_words : (a b c kinds : Choice) → option_map met (subcommand_of (bidi_app a b c kinds)
+pub judge_words : (c : Choices) → option_map met (subcommand_of (bidi_app c)
     (codes "bidi" ∷ codes "judge" ∷ codes "--kind" ∷ codes "characters" ∷ codes "--tables" ∷ codes "t" ∷ codes "FILE" ∷ [])) ≡ Some (record {
       name = codes "judge";
       tables = Some (codes "t");
@@ -112,10 +112,10 @@ pub judge_words : (a b c kinds : Choice) → option_map met (subcommand_of (bidi
       file = Some (codes "FILE");
     })
 unfolding clap_on_literals
-judge_words a b c kinds = refl
+judge_words c = refl
 
 -- what is explained of a text by tables of a folder
-pub explain_words : (a b c kinds : Choice) → option_map met (subcommand_of (bidi_app a b c kinds)
+pub explain_words : (c : Choices) → option_map met (subcommand_of (bidi_app c)
     (codes "bidi" ∷ codes "explain" ∷ codes "--tables" ∷ codes "t" ∷ codes "FILE" ∷ [])) ≡ Some (record {
       name = codes "explain";
       tables = Some (codes "t");
@@ -126,10 +126,10 @@ pub explain_words : (a b c kinds : Choice) → option_map met (subcommand_of (bi
       file = Some (codes "FILE");
     })
 unfolding clap_on_literals
-explain_words a b c kinds = refl
+explain_words c = refl
 
 -- by those that are built in
-pub explain_standard_words : (a b c kinds : Choice) → option_map met (subcommand_of (bidi_app a b c kinds)
+pub explain_standard_words : (c : Choices) → option_map met (subcommand_of (bidi_app c)
     (codes "bidi" ∷ codes "explain" ∷ codes "FILE" ∷ [])) ≡ Some (record {
       name = codes "explain";
       tables = None;
@@ -140,10 +140,10 @@ pub explain_standard_words : (a b c kinds : Choice) → option_map met (subcomma
       file = Some (codes "FILE");
     })
 unfolding clap_on_literals
-explain_standard_words a b c kinds = refl
+explain_standard_words c = refl
 
 -- and of classes, whose blanks stand within one word
-pub explain_classes_words : (a b c kinds : Choice) → option_map met (subcommand_of (bidi_app a b c kinds)
+pub explain_classes_words : (c : Choices) → option_map met (subcommand_of (bidi_app c)
     (codes "bidi" ∷ codes "explain" ∷ codes "--direction" ∷ codes "rtl" ∷ codes "--classes" ∷ codes "R ON L" ∷ [])) ≡ Some (record {
       name = codes "explain";
       tables = None;
@@ -154,15 +154,25 @@ pub explain_classes_words : (a b c kinds : Choice) → option_map met (subcomman
       file = None;
     })
 unfolding clap_on_literals
-explain_classes_words a b c kinds = refl
+explain_classes_words c = refl
 
 -- neither, and both: no request, and the kind of error for that
-pub explain_nothing_words : (a b c kinds : Choice)
-    → kind_without_request (subcommand_of (bidi_app a b c kinds) (codes "bidi" ∷ codes "explain" ∷ [])) ≡ MissingRequiredArgument
+pub explain_nothing_words : (c : Choices)
+    → kind_without_request (subcommand_of (bidi_app c) (codes "bidi" ∷ codes "explain" ∷ [])) ≡ MissingRequiredArgument
 unfolding clap_on_literals
-explain_nothing_words a b c kinds = refl
+explain_nothing_words c = refl
 
-pub explain_both_words : (a b c kinds : Choice) → kind_without_request (subcommand_of (bidi_app a b c kinds)
+pub explain_both_words : (c : Choices) → kind_without_request (subcommand_of (bidi_app c)
     (codes "bidi" ∷ codes "explain" ∷ codes "--classes" ∷ codes "R" ∷ codes "FILE" ∷ [])) ≡ ArgumentConflict
 unfolding clap_on_literals
-explain_both_words a b c kinds = refl
+explain_both_words c = refl
+
+-- rows: their form, alphabet and lengths
+abbrev rows_met : Text × List Row → Text × Option Text × Option Text × Option Text
+rows_met p = (p.0, first_of (codes "form") p.1, first_of (codes "alphabet") p.1, first_of (codes "length") p.1)
+
+pub rows_words : (c : Choices) → option_map rows_met (subcommand_of (bidi_app c)
+    (codes "bidi" ∷ codes "rows" ∷ codes "--form" ∷ codes "exhaustive" ∷ codes "--alphabet" ∷ codes "R ON L" ∷ codes "--length=1..3" ∷ []))
+    ≡ Some (codes "rows", Some (codes "exhaustive"), Some (codes "R ON L"), Some (codes "1..3"))
+unfolding clap_on_literals
+rows_words c = refl

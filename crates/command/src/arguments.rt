@@ -1,8 +1,9 @@
 // The arguments of the subcommands.
 ghost use Rattle.std.specs.Prelude.{◌≡◌, false};
 ghost use Rattle.clap.specs.Walk.{rule_of};
-ghost use Rattle.command.specs.CommandLine.{Choice, classes_rule, columns_rule, direction_rule, direction_words};
-ghost use Rattle.command.specs.CommandLine.{file_rule, kind_rule, kind_words, tables_rule, words_of};
+ghost use Rattle.command.specs.CommandLine.{Choice, alphabet_rule, classes_rule, columns_rule, direction_rule};
+ghost use Rattle.command.specs.CommandLine.{direction_words, file_rule, form_rule, form_words, kind_rule, kind_words};
+ghost use Rattle.command.specs.CommandLine.{length_rule, tables_rule, words_of};
 
 use clap::Arg;
 use clap::builder::ValueParser;
@@ -11,6 +12,8 @@ use std::alloc::Global;
 const DIRECTIONS: [&str; 4] = ["auto", "ltr", "rtl", "auto-rtl"];
 
 const KINDS: [&str; 2] = ["classes", "characters"];
+
+const FORMS: [&str; 1] = ["exhaustive"];
 
 /// FILE, which is required.
 pub fn file_argument<'a>(alloc: Global) -> Arg<'a>
@@ -73,6 +76,44 @@ pub fn classes_argument<'a>(alloc: Global) -> Arg<'a>
         .long("classes")
         .value_name("CLASSES")
         .help("Short names of classes, with blanks between them, in the place of a text")
+}
+
+/// `--form`, which is required.
+pub fn form_argument<'a>(alloc: Global) -> Arg<'a>
+    ensures rule { (choice : Choice) × (words_of choice ≡ form_words)
+        × (rule_of result ≡ form_rule choice) }
+    ensures local { result.global ≡ false }
+{
+    Arg::new(alloc, "form")
+        .long("form")
+        .value_name("FORM")
+        .required(true)
+        .value_parser(FORMS.as_slice())
+        .help("Which texts the rows have: with `exhaustive` all of these lengths over the alphabet")
+}
+
+/// `--alphabet CLASSES`, which is required.
+pub fn alphabet_argument<'a>(alloc: Global) -> Arg<'a>
+    ensures rule { rule_of result ≡ alphabet_rule }
+    ensures local { result.global ≡ false }
+{
+    Arg::new(alloc, "alphabet")
+        .long("alphabet")
+        .value_name("CLASSES")
+        .required(true)
+        .help("Short names of classes, with blanks between them")
+}
+
+/// `--length LENGTHS`, which is required.
+pub fn length_argument<'a>(alloc: Global) -> Arg<'a>
+    ensures rule { rule_of result ≡ length_rule }
+    ensures local { result.global ≡ false }
+{
+    Arg::new(alloc, "length")
+        .long("length")
+        .value_name("LENGTHS")
+        .required(true)
+        .help("The lengths of the texts, 1 to 4096: `N`, or `A..B` for all from A up to B")
 }
 
 /// `--kind`, which is required.

@@ -3,12 +3,12 @@ ghost use Rattle.std.specs.Prelude.{◌≡◌, false, IfOk, IsOkAnd};
 ghost use Rattle.clap.specs.Built.{AddsSubcommand};
 ghost use Rattle.clap.specs.Simple.{app_of};
 ghost use Rattle.clap.specs.declared.builder.command.Command.TheViews.{out-Command as fields_of};
-ghost use Rattle.command.specs.CommandLine.{Choice, IsBidi, bidi_top, direction_words, explain_app, judge_app, kind_words};
-ghost use Rattle.command.specs.CommandLine.{levels_app, reorder_app, words_of};
+ghost use Rattle.command.specs.CommandLine.{Choice, IsBidi, bidi_top, direction_words, explain_app, judge_app};
+ghost use Rattle.command.specs.CommandLine.{form_words, kind_words, levels_app, reorder_app, rows_app, words_of};
 
 use crate::arguments::{
-    classes_argument, columns_argument, direction_argument, file_argument, kind_argument,
-    tables_argument,
+    alphabet_argument, classes_argument, columns_argument, direction_argument, file_argument,
+    form_argument, kind_argument, length_argument, tables_argument,
 };
 use crate::help;
 use clap::Command;
@@ -75,6 +75,20 @@ fn judge_command<'a>(alloc: Global) -> Result<Command<'a>, AllocError>
         .arg(file_argument(alloc))
 }
 
+fn rows_command<'a>(alloc: Global) -> Result<Command<'a>, AllocError>
+    ensures app { IfOk result (λ command. (choice : Choice) × (words_of choice ≡ form_words)
+        × (app_of command ≡ rows_app choice)) }
+    ensures local { IfOk result (λ command. (fields_of command).has_globals ≡ false) }
+{
+    Command::new(alloc, "rows")
+        .about("Prints a conformance file of all texts over an alphabet")
+        .long_about(help::ROWS_LONG_ABOUT)
+        .after_help(help::ROWS_EXAMPLE)
+        .arg(form_argument(alloc))?
+        .arg(alphabet_argument(alloc))?
+        .arg(length_argument(alloc))
+}
+
 /// The command `bidi` without its subcommands, of which one is needed.
 fn bidi_alone<'a>(alloc: Global) -> Command<'a>
     ensures app { app_of result ≡ bidi_top }
@@ -107,5 +121,6 @@ pub fn bidi_command<'a>(alloc: Global) -> Result<Command<'a>, AllocError>
     let with_levels = with_made(bidi_alone(alloc), levels_command(alloc))?;
     let with_reorder = with_made(with_levels, reorder_command(alloc))?;
     let with_explain = with_made(with_reorder, explain_command(alloc))?;
-    with_made(with_explain, judge_command(alloc))
+    let with_judge = with_made(with_explain, judge_command(alloc))?;
+    with_made(with_judge, rows_command(alloc))
 }

@@ -3,12 +3,13 @@
 /// What `bidi` does, in a sentence.
 pub const BIDI_ABOUT: &str =
     "Lays out texts by the Unicode Bidirectional Algorithm (UAX #9), shows what each of its rules
-does to a text, and judges the conformance files";
+does to a text, judges the conformance files, and prints such files";
 
 /// What `bidi` does, and with which status it ends.
 pub const BIDI_LONG_ABOUT: &str =
     "Lays out texts by the Unicode Bidirectional Algorithm (UAX #9), shows what each of
-its rules does to a text, and judges the conformance files.
+its rules does to a text, judges the conformance files, and prints such files of all
+texts over an alphabet.
 
 Ends with status 0 where it is done or the verdict is yes, 1 where the verdict is no,
 2 where the command line is refused, and 3 where a file can't be read, a line of a
@@ -111,3 +112,19 @@ faulty, a write fails or memory is refused.";
 /// What stands at the end of the help of `judge`.
 pub const JUDGE_EXAMPLE: &str =
     "Example:\n  bidi judge --kind characters --tables ucd BidiCharacterTest.txt";
+
+/// What `rows` prints, and with which status it ends.
+pub const ROWS_LONG_ABOUT: &str =
+    "Prints a conformance file, in the form of BidiTest.txt, with right answers.
+
+Its texts are all of the lengths that are given over an alphabet of classes, the shorter
+ones first, each under the directions auto, ltr and rtl. A text under a direction is three
+lines: its levels, its order, and a row that names this direction.
+
+Ends with status 0, 2 where the command line is refused, --alphabet has a name of no class
+or none, --length is no range of lengths or there are 2^64 texts of a length or more, and 3
+where a write fails or memory is refused.";
+
+/// What stands at the end of the help of `rows`.
+pub const ROWS_EXAMPLE: &str =
+    "Example:\n  bidi rows --form exhaustive --alphabet 'LRO RLE L PDF PDI RLO' --length 1..4";

@@ -134,6 +134,21 @@ fn judge_in<'a>(matches: &ArgMatches<'a>) -> Option<Request<'a>>
     })
 }
 
+/// What `rows` asks for, by its arguments.
+fn rows_in<'a>(matches: &ArgMatches<'a>) -> Option<Request<'a>>
+    ensures some { IfSome result (AsksFor (codes "rows") (rows_of (found_of matches.now))) }
+    ensures none { IfNone result ((request : RequestOf)
+        → ¬ (AsksFor (codes "rows") (rows_of (found_of matches.now)) request)) }
+{
+    match text_of(matches, "form") {
+        Some("exhaustive") => Some(Request::Rows {
+            alphabet: text_of(matches, "alphabet")?,
+            lengths: text_of(matches, "length")?,
+        }),
+        _ => None,
+    }
+}
+
 /// What a subcommand of this name asks for, by its arguments.
 fn request_in<'a>(name: &str, matches: &ArgMatches<'a>) -> Option<Request<'a>>
     ensures some { IfSome result (AsksFor name.now (rows_of (found_of matches.now))) }
@@ -145,6 +160,7 @@ fn request_in<'a>(name: &str, matches: &ArgMatches<'a>) -> Option<Request<'a>>
         "reorder" => reorder_in(matches),
         "explain" => explain_in(matches),
         "judge" => judge_in(matches),
+        "rows" => rows_in(matches),
         _ => None,
     }
 }

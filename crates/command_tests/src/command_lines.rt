@@ -9,6 +9,17 @@ pub const EXPLAIN_CLASSES: [&str; 4] = ["bidi", "explain", "--classes", "R ON LR
 
 pub const JUDGE_CLASSES: [&str; 5] = ["bidi", "judge", "--kind", "classes", "FILE"];
 
+pub const ROWS: [&str; 8] = [
+    "bidi",
+    "rows",
+    "--form",
+    "exhaustive",
+    "--alphabet",
+    "R L",
+    "--length",
+    "1",
+];
+
 pub const JUDGE_CHARACTERS: [&str; 7] = [
     "bidi",
     "judge",

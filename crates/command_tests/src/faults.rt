@@ -1,6 +1,6 @@
 //! Faults of words, of writing and of memory.
 use crate::command_lines::{
-    EXPLAIN, EXPLAIN_CLASSES, JUDGE_CHARACTERS, JUDGE_CLASSES, LEVELS, REORDER,
+    EXPLAIN, EXPLAIN_CLASSES, JUDGE_CHARACTERS, JUDGE_CLASSES, LEVELS, REORDER, ROWS,
 };
 use crate::failing_files::NoMemory;
 use crate::memory_files::{MemoryFiles, tables_and};
@@ -26,7 +26,7 @@ fn needs_tables_for_characters_before_it_opens_a_file(rt: HostRuntime) {
 fn says_that_a_write_failed(rt: HostRuntime) {
     let alloc = rt.alloc();
     let help: [&str; 2] = ["bidi", "--help"];
-    let rows: [(&[&str], usize, bool); 13] = [
+    let rows: [(&[&str], usize, bool); 15] = [
         (&JUDGE_CLASSES, 5, true),
         (&JUDGE_CLASSES, 100, false),
         (&JUDGE_CHARACTERS, 5, true),
@@ -39,6 +39,8 @@ fn says_that_a_write_failed(rt: HostRuntime) {
         (&EXPLAIN, 1000, false),
         (&EXPLAIN_CLASSES, 5, true),
         (&EXPLAIN_CLASSES, 1000, false),
+        (&ROWS, 5, true),
+        (&ROWS, 1000, false),
         (&help, 5, true),
     ];
     let files = tables_and(b"#1");
@@ -60,8 +62,21 @@ fn end_without_a_line(alloc: Global, words: &[&str]) -> Ended {
 
 #[test]
 fn keeps_the_status_where_the_fault_line_is_not_taken(rt: HostRuntime) {
-    let rows: [(&[&str], u8); 5] = [
+    let rows: [(&[&str], u8); 6] = [
         (&JUDGE_CLASSES, 3),
+        (
+            &[
+                "bidi",
+                "rows",
+                "--form",
+                "exhaustive",
+                "--alphabet",
+                "L",
+                "--length",
+                "x",
+            ],
+            2,
+        ),
         (&JUDGE_CHARACTERS, 3),
         (&["bidi", "judge", "--kind", "characters", "FILE"], 2),
         (&["bidi", "explain", "--classes", "R x"], 2),
@@ -97,7 +112,7 @@ fn begins_so(outcome: &Outcome, status: u8, out: &[u8], err: &[u8]) -> bool {
 // To be run with each allocation failing in turn.
 #[test]
 fn answers_as_ever_or_says_that_memory_was_refused(rt: HostRuntime) {
-    let rows: [(&[&str], u8, &[u8], &[u8]); 8] = [
+    let rows: [(&[&str], u8, &[u8], &[u8]); 9] = [
         (&LEVELS, 0, b"paragraph 0 level 0\n0 0040 L 0\n", b""),
         (&REORDER, 0, b"@Levels: 0\n@Reorder: 0\nL; 7\n", b""),
         (&EXPLAIN, 0, b"paragraph 0 level 0", b""),
@@ -109,6 +124,7 @@ fn answers_as_ever_or_says_that_memory_was_refused(rt: HostRuntime) {
             b"no: line 1: malformed: FieldCount\n",
             b"",
         ),
+        (&ROWS, 0, b"@Levels: 1\n", b""),
         (&["bidi", "judge", "--help"], 0, b"Judges ", b""),
         (&["bidi", "other"], 2, b"", b"error: "),
     ];

@@ -7,6 +7,8 @@ mod built_in;
 #[cfg(test)]
 mod command_lines;
 #[cfg(test)]
+mod enumerating;
+#[cfg(test)]
 mod explaining;
 #[cfg(test)]
 mod extracted;

@@ -1,7 +1,7 @@
 //! Words that are refused, help and the version.
 use crate::runs::{Ending, Text, assert_run};
 
-const REFUSED_LINES: [&'static [&'static str]; 30] = [
+const REFUSED_LINES: [&'static [&'static str]; 33] = [
     &[],
     &["bidi"],
     &["bidi", "other"],
@@ -58,6 +58,18 @@ const REFUSED_LINES: [&'static [&'static str]; 30] = [
         "bidi", "judge", "--kind", "classes", "--kind", "classes", "FILE",
     ],
     &["bidi", "judge", "--kind", "classes", "FILE", "FILE"],
+    &["bidi", "rows", "--form", "exhaustive", "--length", "1"],
+    &["bidi", "rows", "--alphabet", "L", "--length", "1"],
+    &[
+        "bidi",
+        "rows",
+        "--form",
+        "random",
+        "--alphabet",
+        "L",
+        "--length",
+        "1",
+    ],
 ];
 
 #[test]
@@ -103,7 +115,7 @@ fn says_what_is_refused(rt: HostRuntime) {
 
 #[test]
 fn prints_help(rt: HostRuntime) {
-    let rows: [(&[&str], &[u8]); 7] = [
+    let rows: [(&[&str], &[u8]); 8] = [
         (&["bidi", "--help"], b"Lays out texts "),
         (&["bidi", "levels", "--help"], b"Prints the levels "),
         (&["bidi", "reorder", "--help"], b"Prints the lines "),
@@ -111,6 +123,7 @@ fn prints_help(rt: HostRuntime) {
         (&["bidi", "explain", "--help"], b"Prints what each rule "),
         (&["bidi", "judge", "-h"], b"Judges "),
         (&["bidi", "judge", "--help"], b"Judges "),
+        (&["bidi", "rows", "--help"], b"Prints a conformance file"),
     ];
     for (words, text) in rows {
         let ending = Ending {

@@ -12,14 +12,15 @@ use Rattle.requests.specs.TableSources.{AreTablesBy}
 use Rattle.requests.specs.FaultText.{EndsOpening, print_fault}
 use Rattle.requests.specs.Outcomes.{IsDone}
 use Rattle.requests.specs.Printed.{HasPrinted, most_text_bytes}
-use Rattle.requests.specs.Steps.{AreDone, EndsFile, EndsWriting, FailsIn, IsFirstFault, RequestStep, file_step, printing_steps, source_steps, steps_of, table_steps, text_steps}
+use Rattle.requests.specs.Steps.{AreDone, EndsFile, EndsWriting, FailsIn, IsFirstFault, RequestStep, file_step, printing_steps, rows_steps, source_steps, steps_of, table_steps, text_steps}
+use Rattle.requests.specs.PrintedRows.{HasPrintedRows}
 use Rattle.requests.specs.declared.request.FileKind.TheVariants.{Classes, Characters}
 use Rattle.requests.specs.declared.request.TableSource.{TableSource}
 use Rattle.requests.specs.declared.request.TableSource.TheVariants.{Folder, BuiltIn}
 use Rattle.requests.specs.declared.request.Request.{Request}
-use Rattle.requests.specs.declared.request.Request.TheVariants.{Text, ExplainClasses, Judge}
+use Rattle.requests.specs.declared.request.Request.TheVariants.{Text, ExplainClasses, Judge, Rows}
 use Rattle.requests.specs.declared.fault.Fault.{Fault}
-use Rattle.requests.specs.declared.fault.Fault.TheVariants.{WordNotUtf8, TablesNeeded, ClassesTooLong, NoClass, CannotRead, FaultyLine, NotUtf8, CannotWrite, OutOfMemory}
+use Rattle.requests.specs.declared.fault.Fault.TheVariants.{WordNotUtf8, TablesNeeded, ClassesTooLong, NoClass, NoLengths, NoRows, CannotRead, FaultyLine, NotUtf8, CannotWrite, OutOfMemory}
 use Rattle.printing.specs.declared.fault.PrintFault.{PrintFault}
 use Rattle.printing.specs.declared.fault.PrintFault.TheVariants.{Write, Memory}
 use Rattle.requests.specs.declared.outcome.Outcome.{Outcome}
@@ -53,6 +54,8 @@ opening_ends files most file WordNotUtf8 h = absurd h
 opening_ends files most file TablesNeeded h = absurd h
 opening_ends files most file ClassesTooLong h = absurd h
 opening_ends files most file (NoClass name) h = absurd h
+opening_ends files most file (NoLengths word) h = absurd h
+opening_ends files most file (NoRows refusal) h = absurd h
 opening_ends files most file (FaultyLine name line e) h = absurd h
 opening_ends files most file (NotUtf8 name) h = absurd h
 opening_ends files most file CannotWrite h = absurd h
@@ -114,6 +117,13 @@ has_printed files printed source file tables text before after stated read said 
   said = subst (λ (xs : List ℕ). Appends before after (printed tables xs)) read.3 said;
 }
 
+-- the words of rows that were printed say them
+rows_done : (alphabet lengths : List ℕ) (before after : Option (List ℕ)) → HasPrintedRows alphabet lengths before after → AreDone (rows_steps alphabet lengths)
+rows_done alphabet lengths before after h = (
+  (h.texts.alphabet, h.are.classes),
+  (((h.texts.least, h.texts.greatest), h.are.ends), ((h.texts, h.are, h.counted), tt)),
+)
+
 -- what was done was read before
 pub request_done : (files : FileFacts) (before after : Option (List ℕ)) (request : Request) (outcome : Outcome)
     → IsDone files before after request outcome → AreDone (steps_of files request)
@@ -124,9 +134,11 @@ request_done files before after (Judge Classes tables file) (Judged status) h = 
 request_done files before after (Judge Characters (Some folder) file) (Judged status) h =
     all_done (table_steps files folder.now) (file_step files most_file_bytes file.now ∷ [])
     (tables_done files folder.now h.is.0 h.is.1) ((h.bytes, h.read), tt)
+request_done files before after (Rows alphabet lengths) Printed h = rows_done alphabet.now lengths.now before after h
 request_done files before after (Text source direction file print) (Judged status) h = absurd h
 request_done files before after (ExplainClasses word direction) (Judged status) h = absurd h
 request_done files before after (Judge Classes tables file) Printed h = absurd h
 request_done files before after (Judge Characters (Some folder) file) Printed h = absurd h
 request_done files before after (Judge Characters None file) (Judged status) h = absurd h
 request_done files before after (Judge Characters None file) Printed h = absurd h
+request_done files before after (Rows alphabet lengths) (Judged status) h = absurd h

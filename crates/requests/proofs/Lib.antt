@@ -1,3 +1,4 @@
 pub mod ClassNames
 pub mod FirstFaults
+pub mod LengthPieces
 pub mod TableEnds

@@ -9,8 +9,10 @@ use Rattle.printing.specs.declared.fault.PrintFault.{PrintFault}
 use Rattle.printing.specs.declared.fault.PrintFault.TheVariants.{Write, Memory}
 use Rattle.requests.specs.declared.fault.Fault.{Fault}
 use Rattle.requests.specs.declared.outcome.Ended.{Ended}
-use Rattle.requests.specs.declared.fault.Fault.TheVariants.{WordNotUtf8, TablesNeeded, ClassesTooLong, NoClass, CannotRead, FaultyLine, NotUtf8, CannotWrite, OutOfMemory}
+use Rattle.requests.specs.declared.fault.Fault.TheVariants.{WordNotUtf8, TablesNeeded, ClassesTooLong, NoClass, NoLengths, NoRows, CannotRead, FaultyLine, NotUtf8, CannotWrite, OutOfMemory}
 use Rattle.printing.specs.LevelsText.{line_feed}
+use Rattle.rows.specs.declared.exhaustive.ExhaustiveFault.{ExhaustiveFault}
+use Rattle.rows.specs.declared.exhaustive.ExhaustiveFault.TheVariants as refused
 
 -- the line that says what is wrong with a line of a table's file: the file's name, the line's number from 1, and the
 -- fault's name
@@ -22,6 +24,17 @@ faulty_line_text name line fault =
 abbrev pub no_class_text : List ℕ → List ℕ
 no_class_text name = concat (codes "bidi: " ∷ name ∷ codes " is no class" ∷ line_feed ∷ [])
 
+-- why texts can't be enumerated
+abbrev pub rows_refusal : ExhaustiveFault → List ℕ
+rows_refusal refused.NoClass = codes "--alphabet has no class"
+rows_refusal refused.NoLength = codes "--length begins at 0"
+rows_refusal refused.TooLong = codes "--length ends above 4096"
+rows_refusal refused.TooMany = codes "there are too many texts"
+
+-- the line that says it
+abbrev pub no_rows_text : ExhaustiveFault → List ℕ
+no_rows_text fault = concat (codes "bidi: " ∷ rows_refusal fault ∷ line_feed ∷ [])
+
 -- the line that says that the text in the file of this name is not UTF-8
 abbrev pub not_utf8_text : List ℕ → List ℕ
 not_utf8_text name = concat (codes "bidi: " ∷ name ∷ codes ": not UTF-8" ∷ line_feed ∷ [])
@@ -32,6 +45,9 @@ SaysFault before after WordNotUtf8 = Appends before after (concat (codes "bidi: 
 SaysFault before after TablesNeeded = Appends before after (concat (codes "bidi: --tables is needed" ∷ line_feed ∷ []))
 SaysFault before after ClassesTooLong = Appends before after (concat (codes "bidi: --classes is too long" ∷ line_feed ∷ []))
 SaysFault before after (NoClass name) = Appends before after (no_class_text name.now)
+SaysFault before after (NoLengths word) =
+    Appends before after (concat (codes "bidi: " ∷ word.now ∷ codes " is no range of lengths" ∷ line_feed ∷ []))
+SaysFault before after (NoRows fault) = Appends before after (no_rows_text fault)
 SaysFault before after (CannotRead name) =
     Appends before after (concat (codes "bidi: cannot read " ∷ name.now ∷ line_feed ∷ []))
 SaysFault before after (FaultyLine name line fault) = Appends before after (faulty_line_text name.now line fault)
@@ -39,12 +55,14 @@ SaysFault before after (NotUtf8 name) = Appends before after (not_utf8_text name
 SaysFault before after CannotWrite = Appends before after (concat (codes "bidi: cannot write" ∷ line_feed ∷ []))
 SaysFault before after OutOfMemory = Appends before after (concat (codes "bidi: out of memory" ∷ line_feed ∷ []))
 
--- 2 where the words of the command line are no text, name no tables or no classes, 3 where the run failed
+-- 2 where the words of the command line are no text, name no tables, no classes or no rows, 3 where the run failed
 abbrev pub fault_status : Fault → ℕ
 fault_status WordNotUtf8 = 2
 fault_status TablesNeeded = 2
 fault_status ClassesTooLong = 2
 fault_status (NoClass name) = 2
+fault_status (NoLengths word) = 2
+fault_status (NoRows fault) = 2
 fault_status (CannotRead name) = 3
 fault_status (FaultyLine name line fault) = 3
 fault_status (NotUtf8 name) = 3

@@ -3,7 +3,9 @@ pub mod FaultText
 pub mod JudgedFiles
 pub mod Outcomes
 pub mod Printed
+pub mod PrintedRows
 pub mod ReadFiles
+pub mod RowWords
 pub mod Steps
 pub mod SystemFiles
 pub mod TableFaults

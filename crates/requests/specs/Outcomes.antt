@@ -2,7 +2,7 @@
 use Rattle.std.specs.Prelude.{◌≡◌, ℕ, List, Option, Some, Result, Ok, Err, true}
 use Rattle.requests.specs.declared.request.FileKind.TheVariants.{Classes, Characters}
 use Rattle.requests.specs.declared.request.Request.{Request}
-use Rattle.requests.specs.declared.request.Request.TheVariants.{Text, ExplainClasses, Judge}
+use Rattle.requests.specs.declared.request.Request.TheVariants.{Text, ExplainClasses, Judge, Rows}
 use Rattle.requests.specs.declared.fault.Fault.{Fault}
 use Rattle.requests.specs.declared.outcome.Ended.{Ended}
 use Rattle.requests.specs.declared.outcome.Outcome.{Outcome}
@@ -10,16 +10,17 @@ use Rattle.requests.specs.declared.outcome.Outcome.TheVariants.{Judged, Printed}
 use Rattle.requests.specs.FaultText.{EndsBy}
 use Rattle.requests.specs.JudgedFiles.{HasJudged, HasJudgedBy, IsClassesVerdict}
 use Rattle.requests.specs.Printed.{HasExplained, HasPrinted, printed_text}
+use Rattle.requests.specs.PrintedRows.{HasPrintedRows}
 use Rattle.requests.specs.ReadFiles.{FileFacts}
 use Rattle.requests.specs.Steps.{FailsIn, steps_of}
 
--- the exit status: that of the verdict, and 0 after a text
+-- the exit status: that of the verdict, and 0 after a text or rows
 abbrev pub outcome_status : Outcome → ℕ
 outcome_status (Judged status) = status
 outcome_status Printed = 0
 
--- what was asked for is done: what is to be printed of the text or of classes is printed, or the file is judged, by
--- the tables that are asked for
+-- what was asked for is done: what is to be printed of the text or of classes is printed, or the rows are, or the file
+-- is judged, by the tables that are asked for
 abbrev pub IsDone : FileFacts → Option (List ℕ) → Option (List ℕ) → Request → Outcome → Type 0
 IsDone files before after (Text source direction file print) Printed =
     HasPrinted files (printed_text print direction) source file.now before after
@@ -28,6 +29,7 @@ IsDone files before after (Judge Classes tables file) (Judged status) =
     HasJudged files IsClassesVerdict file.now before after status
 IsDone files before after (Judge Characters (Some folder) file) (Judged status) =
     HasJudgedBy files folder.now file.now before after status
+IsDone files before after (Rows alphabet lengths) Printed = HasPrintedRows alphabet.now lengths.now before after
 IsDone files before after _ _ = ⊥
 
 -- a request comes to what it asks for, or fails in a step

@@ -11,10 +11,12 @@ use Rattle.requests.specs.declared.request.FileKind.TheVariants.{Classes, Charac
 use Rattle.requests.specs.declared.request.TableSource.{TableSource}
 use Rattle.requests.specs.declared.request.TableSource.TheVariants.{Folder, BuiltIn}
 use Rattle.requests.specs.declared.request.Request.{Request}
-use Rattle.requests.specs.declared.request.Request.TheVariants.{Text, ExplainClasses, Judge}
+use Rattle.requests.specs.declared.request.Request.TheVariants.{Text, ExplainClasses, Judge, Rows}
 use Rattle.requests.specs.declared.fault.Fault.{Fault}
 use Rattle.requests.specs.declared.fault.Fault.TheVariants.{TablesNeeded, ClassesTooLong, CannotRead, NotUtf8, CannotWrite, OutOfMemory}
 use Rattle.requests.specs.Printed.{most_text_bytes}
+use Rattle.requests.specs.PrintedRows.{AreEnumerated, EndsTexts}
+use Rattle.requests.specs.RowWords.{EndsLengths, lengths_named}
 use Rattle.requests.specs.ReadFiles.{FileFacts, IsClassPath, bracket_name, mirror_name, in_folder, most_file_bytes, origin_of}
 use Rattle.requests.specs.TableFaults.{EndsClasses, EndsTable, IsFaultless}
 use Rattle.requests.specs.TableSources.{AreBuiltIn, EndsBuiltIn}
@@ -68,6 +70,24 @@ names_step word = record {
 -- what is read of a word for classes
 abbrev pub classes_steps : List ℕ → List RequestStep
 classes_steps word = length_step word ∷ names_step word ∷ []
+
+-- the reading of a word for lengths
+abbrev pub lengths_step : List ℕ → RequestStep
+lengths_step word = record {
+  Done = (ends : ℕ × ℕ) × (lengths_named word ≡ Some ends);
+  EndsBy = EndsLengths word;
+}
+
+-- that the texts which two words say can be enumerated
+abbrev pub texts_step : List ℕ → List ℕ → RequestStep
+texts_step alphabet lengths = record {
+  Done = AreEnumerated alphabet lengths;
+  EndsBy = EndsTexts alphabet lengths;
+}
+
+-- what is read of the words for rows
+abbrev pub rows_steps : List ℕ → List ℕ → List RequestStep
+rows_steps alphabet lengths = names_step alphabet ∷ lengths_step lengths ∷ texts_step alphabet lengths ∷ []
 
 -- the making of the tables that are built in
 abbrev pub built_in_step : RequestStep
@@ -144,3 +164,4 @@ module _ (files : FileFacts) where
   steps_of (Judge Classes tables file) = file_step most_file_bytes file.now ∷ []
   steps_of (Judge Characters (Some folder) file) = characters_steps folder.now file.now
   steps_of (Judge Characters None file) = record { Done = ⊥; EndsBy = EndsUnnamed } ∷ []
+  steps_of (Rows alphabet lengths) = rows_steps alphabet.now lengths.now

@@ -12,7 +12,7 @@ use units::class::Class;
 use units::text::items::next_item;
 
 /// The classes of these names. The faults are the first name of no class, and refused memory.
-fn classes_of_names<'a>(alloc: Global, names: &'a [u8]) -> Result<Vec<Class>, Fault<'a>>
+pub fn classes_of_names<'a>(alloc: Global, names: &'a [u8]) -> Result<Vec<Class>, Fault<'a>>
     ensures classes { IfOk result (λ classes. classes_named names.now ≡ Some classes.items) }
     ensures count { IfOk result (λ classes. length classes.items ≤ length names.now) }
     ensures fault { IfErr result (EndsNames names.now) }

@@ -3,10 +3,12 @@ ghost use Rattle.std.specs.Prelude.{◌≡◌, [], ◌∷◌, codes, OnOk};
 ghost use Rattle.std.specs.List.{concat};
 ghost use Rattle.std.specs.Io.KnownBytes.{Appends};
 ghost use Rattle.printing.specs.LevelsText.{line_feed};
-ghost use Rattle.requests.specs.FaultText.{EndsBy, SaysFault, fault_status, faulty_line_text, no_class_text, not_utf8_text};
+ghost use Rattle.requests.specs.FaultText.{EndsBy, SaysFault, fault_status, faulty_line_text, no_class_text};
+ghost use Rattle.requests.specs.FaultText.{no_rows_text, not_utf8_text, rows_refusal};
 
 use crate::outcome::Ended;
 use printing::fault::PrintFault;
+use rows::exhaustive::ExhaustiveFault;
 use std::alloc::{AllocError, AllocFailed};
 use std::io;
 use std::io::Write;
@@ -24,6 +26,10 @@ pub enum Fault<'a> {
     ClassesTooLong,
     /// This name in the word for the classes is that of no class.
     NoClass(&'a [u8]),
+    /// The word for the lengths says none.
+    NoLengths(&'a str),
+    /// The texts over the alphabet, of the lengths, can't be enumerated.
+    NoRows(ExhaustiveFault),
     /// The file of this name can't be opened, a read of it failed, or it has more bytes than are allowed.
     CannotRead(&'a str),
     /// A line of the table's file of this name is faulty.
@@ -131,14 +137,43 @@ fn print_no_class<E: Write>(err: &mut E, name: &[u8]) -> io::Result<()>
     err.write_all(b" is no class\n")
 }
 
+/// Writes the line that says that a word is no range of lengths.
+fn print_no_lengths<E: Write>(err: &mut E, word: &str) -> io::Result<()>
+    ensures { OnOk result (Appends (E.contents err.old) (E.contents err.new)
+        (concat (codes "bidi: " ∷ word.now ∷ codes " is no range of lengths" ∷ line_feed ∷ []))) }
+{
+    writeln!(err, "bidi: {word} is no range of lengths")
+}
+
+/// Why texts can't be enumerated, in words.
+fn refusal_in_words(fault: ExhaustiveFault) -> &'static str
+    ensures { result.now ≡ rows_refusal fault }
+{
+    match fault {
+        ExhaustiveFault::NoClass => "--alphabet has no class",
+        ExhaustiveFault::NoLength => "--length begins at 0",
+        ExhaustiveFault::TooLong => "--length ends above 4096",
+        ExhaustiveFault::TooMany => "there are too many texts",
+    }
+}
+
+/// Writes the line that says why texts can't be enumerated.
+fn print_no_rows<E: Write>(err: &mut E, fault: ExhaustiveFault) -> io::Result<()>
+    ensures { OnOk result (Appends (E.contents err.old) (E.contents err.new) (no_rows_text fault)) }
+{
+    let refusal = refusal_in_words(fault);
+    writeln!(err, "bidi: {refusal}")
+}
+
 impl Fault<'_> {
-    /// The exit status: 2 where the words of the command line are no text, name no tables or no classes, else 3.
+    /// The exit status: 2 where the words of the command line are no text, name no tables, no classes or no rows, else
+    /// 3.
     fn status(&self) -> u8
         ensures { result ≡ fault_status self.now }
     {
         match self {
-            Fault::WordNotUtf8 | Fault::TablesNeeded | Fault::ClassesTooLong | Fault::NoClass(_) =>
-                2,
+            Fault::WordNotUtf8 | Fault::TablesNeeded | Fault::ClassesTooLong => 2,
+            Fault::NoClass(_) | Fault::NoLengths(_) | Fault::NoRows(_) => 2,
             _ => 3,
         }
     }
@@ -152,6 +187,8 @@ impl Fault<'_> {
             Fault::TablesNeeded => print_line(err, "bidi: --tables is needed"),
             Fault::ClassesTooLong => print_line(err, "bidi: --classes is too long"),
             Fault::NoClass(name) => print_no_class(err, name),
+            Fault::NoLengths(word) => print_no_lengths(err, word),
+            Fault::NoRows(fault) => print_no_rows(err, *fault),
             Fault::CannotRead(name) => print_unread(err, name),
             Fault::FaultyLine { name, line, fault } => print_faulty_line(err, name, *line, *fault),
             Fault::NotUtf8(name) => print_not_utf8(err, name),

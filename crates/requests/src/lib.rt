@@ -1,11 +1,14 @@
 //! What is asked of the command `bidi`, done over the files and writers that its caller hands it: bidirectional text is
-//! laid out, what each rule does to it is shown, and conformance files of the bidirectional algorithm are judged.
+//! laid out, what each rule does to it is shown, and conformance files of the bidirectional algorithm are judged and
+//! written.
 #![tactic(auto)]
 
 mod class_names;
+mod enumerating;
 pub mod fault;
 pub mod files;
 mod judging;
+mod lengths;
 mod opening;
 pub mod outcome;
 pub mod performing;

@@ -7,7 +7,7 @@ ghost use Rattle.requests.specs.Outcomes.{outcome_status};
 pub enum Outcome {
     /// A file was judged and its verdict printed: the verdict's exit status.
     Judged(u8),
-    /// A text was printed, by its levels or as it is shown, or what each rule does to a text or to classes.
+    /// A text was printed, by its levels or as it is shown, or what each rule does to a text or to classes, or rows.
     Printed,
 }
 
@@ -21,7 +21,7 @@ pub struct Ended {
 }
 
 impl Outcome {
-    /// The exit status: that of the verdict, and 0 after a text.
+    /// The exit status: that of the verdict, and 0 after a text or rows.
     pub fn status(self) -> u8
         ensures { result ≡ outcome_status self }
     {

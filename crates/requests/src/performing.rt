@@ -8,6 +8,7 @@ ghost use Rattle.requests.specs.Steps.{FailsIn, IsFirstFault, classes_steps, pri
 ghost use Rattle.requests.specs.TableSources.{AreTablesBy};
 
 use crate::class_names::classes_in;
+use crate::enumerating::print_rows;
 use crate::fault::Fault;
 use crate::files::Files;
 use crate::judging::judge_file;
@@ -129,6 +130,7 @@ pub fn perform<'a, F: Files, W: Write>(
         Request::Judge { kind, tables, file } => {
             return judge_file(alloc, kind, tables, file, files, out);
         }
+        Request::Rows { alphabet, lengths } => print_rows(alloc, alphabet, lengths, out)?,
     }
     Ok(Outcome::Printed)
 }

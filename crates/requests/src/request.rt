@@ -53,4 +53,10 @@ pub enum Request<'a> {
         tables: Option<&'a str>,
         file: &'a str,
     },
+    /// Print all texts of these lengths over the alphabet of classes whose names stand in the word, as a conformance
+    /// file of which a judge says yes.
+    Rows {
+        alphabet: &'a str,
+        lengths: &'a str,
+    },
 }

@@ -6,14 +6,14 @@ use Rattle.clap.specs.Simple.{App, HasMatchesOf, app_of, is_simple, subcommand_r
 use Rattle.clap.specs.Walk.{Text, texts}
 use Rattle.clap.specs.declared.error.Error.{Error}
 use Rattle.clap.specs.declared.parser.matches.ArgMatches.{ArgMatches}
-use Rattle.command.specs.CommandLine.{Choice, HasMet, IsBidi, IsReadAs, bidi_app}
+use Rattle.command.specs.CommandLine.{Choices, HasMet, IsBidi, IsReadAs, bidi_app}
 use Rattle.command.proofs.words.matches_of.Goals as goal
 
-bidi_is_simple : (of_levels of_reorder of_explain kinds : Choice) → is_simple (bidi_app of_levels of_reorder of_explain kinds) ≡ true
-bidi_is_simple of_levels of_reorder of_explain kinds = refl
+bidi_is_simple : (c : Choices) → is_simple (bidi_app c) ≡ true
+bidi_is_simple c = refl
 
-bidi_is_free : (of_levels of_reorder of_explain kinds : Choice) → is_simple_and_free (bidi_app of_levels of_reorder of_explain kinds) ≡ true
-bidi_is_free of_levels of_reorder of_explain kinds = refl
+bidi_is_free : (c : Choices) → is_simple_and_free (bidi_app c) ≡ true
+bidi_is_free c = refl
 
 simple : (app : App) → IsBidi app → is_simple app ≡ true
 simple app h = ap is_simple h.is
