@@ -4,8 +4,8 @@
 # refused, and no other. The program must end as ever, or say `bidi: out of memory` and end with 3. It prints, for each
 # crate that takes memory, how many growths were refused, and ends with 0 where all passed.
 #
-# usage: tools/refused_growths.sh [CRATE ..]    (of file_tests, engine_tests, layout_tests, command_tests, bidi; with
-#        none all of them)
+# usage: tools/refused_growths.sh [CRATE ..]    (of table_tests, file_tests, engine_tests, layout_tests, command_tests,
+#        bidi; with none all of them)
 #
 # It runs what `rt ci` leaves in crates/*/out, or `rt test` and `rt run` in a crate's folder, and takes some seconds. It
 # needs a C compiler (CC, else cc), and ends with 2 where that or a program is missing.
@@ -104,11 +104,12 @@ program_of_bidi() {
     echo "bidi: $growths growths refused, each in turn: the program, over files of the system"
 }
 
-for crate in ${*:-file_tests engine_tests layout_tests command_tests bidi}; do
+for crate in ${*:-table_tests file_tests engine_tests layout_tests command_tests bidi}; do
     case $crate in
+        table_tests)
+            tests_of table_tests 'the three readers of tables, and a source that had failed' \
+                table_faults::says_that_memory_was_refused table_faults::a_source_that_had_failed ;;
         file_tests)
-            tests_of file_tests 'the three readers of tables, and a source that had failed' \
-                table_faults::says_that_memory_was_refused table_faults::a_source_that_had_failed
             tests_of file_tests 'both kinds of judge, and files judged after it' \
                 judging::no_growth_comes_after_making characters_rows::no_growth_comes_after_making ;;
         engine_tests)

@@ -14,59 +14,12 @@ use units::memory::Memory;
 use units::slice_source::SliceSource;
 use units::source::ByteSource;
 
-/// The table that this file of classes states.
-pub fn classes(alloc: Global, file: &[u8]) -> Result<ClassTable, TableFault> {
-    ClassTable::read(alloc, &mut SliceSource::new(file))
-}
-
-/// The table that this file of brackets states.
-pub fn brackets(alloc: Global, file: &[u8]) -> Result<BracketTable, TableFault> {
-    BracketTable::read(alloc, &mut SliceSource::new(file))
-}
-
-/// The table that this file of mirror images states.
-pub fn mirrors(alloc: Global, file: &[u8]) -> Result<MirrorTable, TableFault> {
-    MirrorTable::read(alloc, &mut SliceSource::new(file))
-}
-
-/// The kinds of files of tables.
-#[derive(Clone, Copy)]
-pub enum TableKind {
-    Classes,
-    Brackets,
-    Mirrors,
-}
-
-pub const TABLE_KINDS: [TableKind; 3] = [
-    TableKind::Classes,
-    TableKind::Brackets,
-    TableKind::Mirrors,
-];
-
-/// The fault of what the source hands out as a file of this kind.
-pub fn fault_of(
-    kind: TableKind,
-    alloc: Global,
-    source: &mut impl ByteSource,
-) -> Option<TableFault> {
-    match kind {
-        TableKind::Classes => ClassTable::read(alloc, source).err(),
-        TableKind::Brackets => BracketTable::read(alloc, source).err(),
-        TableKind::Mirrors => MirrorTable::read(alloc, source).err(),
-    }
-}
-
-/// The fault of these bytes as a file of this kind.
-pub fn fault_in(kind: TableKind, alloc: Global, file: &[u8]) -> Option<TableFault> {
-    fault_of(kind, alloc, &mut SliceSource::new(file))
-}
-
-/// The tables that the three files state.
+/// The tables of the small files.
 pub fn tables(alloc: Global) -> Result<Tables, TableFault> {
     Ok(Tables::new(
-        classes(alloc, CLASSES)?,
-        brackets(alloc, BRACKETS)?,
-        mirrors(alloc, MIRRORS)?,
+        ClassTable::read(alloc, &mut SliceSource::new(CLASSES))?,
+        BracketTable::read(alloc, &mut SliceSource::new(BRACKETS))?,
+        MirrorTable::read(alloc, &mut SliceSource::new(MIRRORS))?,
     ))
 }
 
