@@ -182,7 +182,7 @@ size_t bidi_shown(bidi_room *room, bidi_tables *tables, const uint32_t *codes, s
 
 /* Texts in UTF-8 and UTF-16, told of in offsets: how many code units (bytes, or 16 bits) stand before something. */
 
-/* Room for such texts of up to n code units, 97 bytes for each. It takes texts in code units alone, as the rooms above
+/* Room for such texts of up to n code units, 113 bytes for each. It takes texts in code units alone, as the rooms above
  * take none; bidi_set_lines takes no such room, all look-ups above do, and count in characters. */
 uint32_t bidi_room_new_encoded(size_t n, bidi_room *room);
 

@@ -4,7 +4,7 @@ ghost use Rattle.std.specs.Box.{boxed_slice_items};
 ghost use Rattle.units.specs.Layout.{layout_of, longest_text};
 ghost use Rattle.units.specs.Limits.{standard};
 ghost use Rattle.units.specs.declared.level.Direction.TheVariants.{Auto};
-ghost use Rattle.lines.specs.Scratches.{room_of, layout_in, IsFilled};
+ghost use Rattle.lines.specs.Scratches.{room_of, layout_in, HoldsText, IsFilled};
 ghost use Rattle.encoded.specs.Columns.{HaveRoom};
 ghost use Rattle.encoded.specs.OrderedLines.{LinesHaveOrder};
 ghost use Rattle.encoded.specs.Starts.{AreOffsets};
@@ -16,7 +16,7 @@ use crate::lossy::decode_utf8_lossy;
 use crate::utf8::decode_utf8;
 use crate::utf16::decode_utf16;
 use lines::breaks::Breaks;
-use lines::lay_out::{lay_out_into, lay_out_into_with};
+use lines::lay_out::{break_anew_into, lay_out_into, lay_out_into_with};
 use lines::layout::Layout;
 use lines::scratch::{MOST, RoomFault, Scratch};
 use std::alloc::{AllocError, Global};
@@ -28,20 +28,26 @@ use units::class::Class;
 use units::level::Direction;
 use units::limits::Limits;
 
-/// Room for texts in code units and their layouts, to be used again and again: 101 bytes for each code unit of room. It
-/// holds a layout at all times, at first that of an empty text. Its columns don't grow.
+/// Room for texts in code units and their layouts, to be used again and again: 113 bytes for each code unit of room.
+/// It holds a text and its layout at all times, at first those of an empty text. Its columns don't grow.
 #[derive(Drop)]
 pub struct Room {
     pub(crate) scratch: Scratch,
     units: BoxedSlice<Unit>,
+    spare_units: BoxedSlice<Unit>,
     pub(crate) starts: BoxedSlice<u32>,
     spare: BoxedSlice<u32>,
     indices: BoxedSlice<usize>,
+    direction: Direction,
+    limits: Limits,
     ghost filled: { IsFilled scratch },
-    ghost fits: { HaveRoom (room_of scratch) (length (boxed_slice_items units)) (length (boxed_slice_items starts))
-        (length (boxed_slice_items spare)) (length (boxed_slice_items indices)) },
+    ghost fits: { HaveRoom (room_of scratch) (length (boxed_slice_items units)) (length (boxed_slice_items spare_units))
+        (length (boxed_slice_items starts)) (length (boxed_slice_items spare)) (length (boxed_slice_items indices)) },
     ghost begun: { AreOffsets (length (layout_in scratch).levels) (boxed_slice_items starts) },
+    ghost ends: { slice_index (boxed_slice_items starts) (length (layout_in scratch).levels) ≤ room_of scratch },
     ghost in_order: { LinesHaveOrder (layout_in scratch) },
+    ghost held: { HoldsText limits (take (length (layout_in scratch).levels) (boxed_slice_items units)) direction
+        scratch },
 }
 
 /// A column of units.
@@ -75,6 +81,7 @@ fn lay_out_nothing(scratch: &mut Scratch)
     ensures room { room_of scratch.new ≡ room_of scratch.old }
     ensures filled { IsFilled scratch.new }
     ensures empty { layout_in scratch.new ≡ layout_of standard [] Auto [] }
+    ensures holds { HoldsText standard [] Auto scratch.new }
 {
     if let Ok(breaks) = Breaks::new(&[], 0) {
         let _done = lay_out_into(scratch, &[], Direction::Auto, &breaks);
@@ -85,7 +92,8 @@ impl Room {
     ghost use Rattle.std.specs.Prelude.{◌≡◌, ◌<◌, ◌≤◌, ◌↔◌, Err, List, [], length, slice_index, take, IfErr, IfOk, OnErr, OnOk};
     ghost use Rattle.std.specs.Box.{boxed_slice_items};
     ghost use Rattle.units.specs.Layout.{layout_of, longest_text};
-    ghost use Rattle.units.specs.Limits.{standard};
+    ghost use Rattle.units.specs.Limits.{LimitsOf, standard};
+    ghost use Rattle.units.specs.declared.level.Direction.{Direction as BidiDirection};
     ghost use Rattle.units.specs.declared.level.Direction.TheVariants.{Auto};
     ghost use Rattle.ucdfiles.specs.Tables.{TablesOf};
     ghost use Rattle.lines.specs.Layouts.{view_of};
@@ -94,10 +102,11 @@ impl Room {
     ghost use Rattle.encoded.specs.Decoded.{AreDecoded};
     ghost use Rattle.encoded.specs.Encodings.{utf16_text, utf8_text, IsUtf16};
     ghost use Rattle.encoded.specs.LossyTexts.{utf8_lossy_text};
-    ghost use Rattle.encoded.specs.Offsets.{Spelled, AreStarts};
+    ghost use Rattle.encoded.specs.Offsets.{Spelled, AreStarts, code_units};
     ghost use Rattle.encoded.specs.Refusals.{RefusesBreaks, RefusesUtf16, RefusesUtf16Lossy, RefusesUtf8, RefusesUtf8Lossy};
     ghost use Rattle.encoded.specs.Refusals.{TakesUtf16, TakesUtf8, TakesUtf8Lossy};
-    ghost use Rattle.encoded.specs.Rooms.{Holds, HoldsLayout, Keeps, layout_held, room_for, starts_in};
+    ghost use Rattle.encoded.specs.Rooms.{Holds, HoldsLayout, HoldsTextBy, Keeps, characters_in, layout_held, layout_with};
+    ghost use Rattle.encoded.specs.Rooms.{room_for, starts_in, units_held};
     ghost use Rattle.encoded.specs.Starts.{AreOffsets};
     ghost use Rattle.encoded.specs.declared.decoding.Faults.TheVariants.{Refused, Replaced};
 
@@ -122,6 +131,7 @@ impl Room {
         ensures holds { IfOk result (λ room. Holds room []) }
     {
         let units = unit_column(alloc, n)?;
+        let spare_units = unit_column(alloc, n)?;
         let starts = offset_column(alloc, n + 1)?;
         let spare = offset_column(alloc, n + 1)?;
         let indices = index_column(alloc, n)?;
@@ -130,9 +140,12 @@ impl Room {
         Ok(Room {
             scratch,
             units,
+            spare_units,
             starts,
             spare,
             indices,
+            direction: Direction::Auto,
+            limits: Limits::standard(),
         })
     }
 
@@ -150,24 +163,33 @@ impl Room {
         self.scratch.layout()
     }
 
-    /// Lays out the first `count` of the units, at breaks that are found; their offsets stand in the spare column.
+    /// Lays out the first `count` of the spare units, at breaks that are found; their offsets stand in the spare column.
     fn lay_out_found(&mut self, count: usize, found: usize, direction: Direction, limits: Limits)
         requires fits { count ≤ room_for self.old }
         requires offsets { AreOffsets count (boxed_slice_items self.old.spare) }
+        requires code_units { slice_index (boxed_slice_items self.old.spare) count ≤ room_for self.old }
         requires few { found ≤ length (boxed_slice_items self.old.indices) }
         requires breaks { AreBreaks (take found (boxed_slice_items self.old.indices)) count }
         ensures room { room_for self.new ≡ room_for self.old }
         ensures starts { starts_in self.new ≡ boxed_slice_items self.old.spare }
-        ensures laid_out { layout_held self.new ≡ layout_of limits (take count (boxed_slice_items self.old.units))
+        ensures laid_out { layout_held self.new ≡ layout_of limits (take count (boxed_slice_items self.old.spare_units))
             direction (take found (boxed_slice_items self.old.indices)) }
+        ensures held { units_held self.new ≡ record {
+          units = take count (boxed_slice_items self.old.spare_units);
+          direction = direction;
+          limits = limits;
+        } }
     {
         let breaks = breaks_at(&self.indices[..found], count);
-        let text = &self.units[..count];
+        let text = &self.spare_units[..count];
         lay_out_into_with(&mut self.scratch, text, direction, &breaks, limits).unwrap();
         swap(&mut self.starts, &mut self.spare);
+        swap(&mut self.units, &mut self.spare_units);
+        self.direction = direction;
+        self.limits = limits;
     }
 
-    /// Lays out a text of `count` characters, whose units and offsets stand in their columns.
+    /// Lays out a text of `count` characters, whose units and offsets stand in the spare columns.
     fn lay_out_decoded(
         &mut self,
         count: usize,
@@ -184,8 +206,11 @@ impl Room {
             → IfErr result (RefusesBreaks text breaks.now) }
         ensures rising { OnOk result (AreBreaks breaks.now (slice_index (boxed_slice_items self.old.spare) count)) }
         ensures laid_out { (tables : TablesOf) (text : List Spelled)
-            → AreDecoded tables text count (boxed_slice_items self.old.units) (boxed_slice_items self.old.spare)
+            → AreDecoded tables text count (boxed_slice_items self.old.spare_units) (boxed_slice_items self.old.spare)
             → OnOk result (HoldsLayout limits tables text direction breaks.now self.new) }
+        ensures held { (tables : TablesOf) (text : List Spelled)
+            → AreDecoded tables text count (boxed_slice_items self.old.spare_units) (boxed_slice_items self.old.spare)
+            → OnOk result (HoldsTextBy limits tables text direction self.new) }
     {
         find_breaks(&self.spare[..count + 1], breaks, &mut self.indices)?;
         self.lay_out_found(count, breaks.len(), direction, limits);
@@ -211,11 +236,12 @@ impl Room {
         ensures taken { OnOk result (TakesUtf8 (room_for self.old) bytes.now breaks.now) }
         ensures laid_out { OnOk result (HoldsLayout limits tables.now (utf8_text bytes.now) direction breaks.now
             self.new) }
+        ensures held { OnOk result (HoldsTextBy limits tables.now (utf8_text bytes.now) direction self.new) }
     {
         if self.room() < bytes.len() {
             return Err(EncodedFault::TooLong);
         }
-        match decode_utf8(bytes, tables, &mut self.units, &mut self.spare) {
+        match decode_utf8(bytes, tables, &mut self.spare_units, &mut self.spare) {
             Ok(count) => self.lay_out_decoded(count, direction, breaks, limits),
             Err(at) => Err(EncodedFault::IllFormed(at)),
         }
@@ -238,11 +264,12 @@ impl Room {
         ensures taken { OnOk result (TakesUtf8Lossy (room_for self.old) bytes.now breaks.now) }
         ensures laid_out { OnOk result (HoldsLayout limits tables.now (utf8_lossy_text bytes.now) direction breaks.now
             self.new) }
+        ensures held { OnOk result (HoldsTextBy limits tables.now (utf8_lossy_text bytes.now) direction self.new) }
     {
         if self.room() < bytes.len() {
             return Err(EncodedFault::TooLong);
         }
-        let count = decode_utf8_lossy(bytes, tables, &mut self.units, &mut self.spare);
+        let count = decode_utf8_lossy(bytes, tables, &mut self.spare_units, &mut self.spare);
         self.lay_out_decoded(count, direction, breaks, limits)
     }
 
@@ -266,8 +293,9 @@ impl Room {
         ensures taken { OnOk result (TakesUtf16 (room_for self.old) text.now breaks.now) }
         ensures laid_out { OnOk result (HoldsLayout limits tables.now (utf16_text text.now) direction breaks.now
             self.new) }
+        ensures held { OnOk result (HoldsTextBy limits tables.now (utf16_text text.now) direction self.new) }
     {
-        match decode_utf16(text, faults, tables, &mut self.units, &mut self.spare) {
+        match decode_utf16(text, faults, tables, &mut self.spare_units, &mut self.spare) {
             Ok(count) => self.lay_out_decoded(count, direction, breaks, limits),
             Err(at) => Err(EncodedFault::IllFormed(at)),
         }
@@ -290,6 +318,7 @@ impl Room {
         ensures taken { OnOk result (TakesUtf16 (room_for self.old) text.now breaks.now) }
         ensures laid_out { OnOk result (HoldsLayout limits tables.now (utf16_text text.now) direction breaks.now
             self.new) }
+        ensures held { OnOk result (HoldsTextBy limits tables.now (utf16_text text.now) direction self.new) }
     {
         if self.room() < text.len() {
             return Err(EncodedFault::TooLong);
@@ -312,10 +341,48 @@ impl Room {
         ensures taken { OnOk result (TakesUtf16 (room_for self.old) text.now breaks.now) }
         ensures laid_out { OnOk result (HoldsLayout limits tables.now (utf16_text text.now) direction breaks.now
             self.new) }
+        ensures held { OnOk result (HoldsTextBy limits tables.now (utf16_text text.now) direction self.new) }
     {
         if self.room() < text.len() {
             return Err(EncodedFault::TooLong);
         }
         self.lay_out_units16(tables, text, Faults::Replaced, direction, breaks, limits)
+    }
+
+    /// Breaks the text into lines anew, at breaks that are found.
+    fn break_found(&mut self, found: usize)
+        requires few { found ≤ length (boxed_slice_items self.old.indices) }
+        requires breaks { AreBreaks (take found (boxed_slice_items self.old.indices)) (characters_in self.old) }
+        ensures room { room_for self.new ≡ room_for self.old }
+        ensures starts { starts_in self.new ≡ starts_in self.old }
+        ensures held { units_held self.new ≡ units_held self.old }
+        ensures laid_out { layout_held self.new ≡ layout_with (take found (boxed_slice_items self.old.indices))
+            (units_held self.old) }
+    {
+        let count = self.characters();
+        let breaks = breaks_at(&self.indices[..found], count);
+        break_anew_into(&mut self.scratch, &self.units[..count], &breaks);
+    }
+
+    /// Breaks the text that it holds into lines anew (L1, L2), for those who lay out a text, shape its runs, and know
+    /// only then where its lines end. The breaks are rising offsets of code units, each the first of a character, none
+    /// of them 0; the text's direction and limits stay. No memory is taken.
+    ///
+    /// They are refused for their first fault, and the room then holds what it held.
+    pub fn break_anew(&mut self, breaks: &[usize]) -> Result<(), EncodedFault>
+        ensures room { room_for self.new ≡ room_for self.old }
+        ensures refused { (text : List Spelled) → Holds self.old text → IfErr result (RefusesBreaks text breaks.now) }
+        ensures kept { OnErr result (Keeps self.old self.new) }
+        ensures taken { (text : List Spelled) → Holds self.old text
+            → OnOk result (AreBreaks breaks.now (code_units text)) }
+        ensures held { units_held self.new ≡ units_held self.old }
+        ensures laid_out { (limits : LimitsOf) (tables : TablesOf) (text : List Spelled) (direction : BidiDirection)
+            → HoldsTextBy limits tables text direction self.old
+            → OnOk result (HoldsLayout limits tables text direction breaks.now self.new) }
+    {
+        let count = self.characters();
+        find_breaks(&self.starts[..count + 1], breaks, &mut self.indices)?;
+        self.break_found(breaks.len());
+        Ok(())
     }
 }

@@ -80,6 +80,19 @@ const REFUSED: [(&[u8], &[usize], EncodedFault); 6] = [
     (UTF8, &[1], EncodedFault::BreakInside(0)),
 ];
 
+/// Breaks the text anew, which is not read again, although others were decoded since.
+fn breaks_anew(rt: &impl Abort, room: &mut Room) -> Result<(), Fail> {
+    let inside = room.break_anew(&[1]);
+    assert_eq!(rt; inside.err(), Some(EncodedFault::BreakInside(0)));
+    tells_offsets(rt, room);
+    room.break_anew(&[3])?;
+    assert_eq!(rt; room.line(0), EncodedLine { start: 0, end: 3 });
+    has_levels(rt, room, &[1, 1, 0, 0]);
+    room.break_anew(&[2])?;
+    tells_offsets(rt, room);
+    Ok(())
+}
+
 /// Lays out the text, and then it is refused in several ways, each of which leaves what the room holds.
 fn holds_text(rt: &impl Abort, alloc: Global, tables: &Tables) -> Result<(), Fail> {
     let mut room = Room::with_room(alloc, 4)?;
@@ -90,7 +103,7 @@ fn holds_text(rt: &impl Abort, alloc: Global, tables: &Tables) -> Result<(), Fai
         assert_eq!(rt; lay_out(&mut room, tables, bytes, at), Some(fault));
         tells_offsets(rt, &room);
     }
-    Ok(())
+    breaks_anew(rt, &mut room)
 }
 
 #[test]

@@ -6,6 +6,7 @@ use Rattle.units.specs.declared.bracket.Unit.{Unit as BidiUnit}
 use Rattle.ucdfiles.specs.Tables.{unit_by}
 use Rattle.lines.proofs.Lengths.{length-levels}
 use Rattle.encoded.specs.Offsets.{Spelled, AreStarts, codes_of}
+use Rattle.encoded.specs.Rooms.{UnitsHeld}
 use Rattle.encoded.specs.Starts.{AreFound}
 use Rattle.encoded.proofs.RoomColumns.{begin_of_found, refilled, starts_front}
 use Rattle.encoded.proofs.room.Room.lay_out_decoded.Goals as goal
@@ -30,4 +31,17 @@ returns-clause-laid_out c tables text d =
       indices = take n written;
       begin = begin_of_found text (take (c.args.count + 1) spare) c.args.breaks.now (take n written) whole front (subst (λ (xs : List ℕ). AreFound (take (c.args.count + 1) spare) c.args.breaks.now (take n xs)) (sym same) found);
       laid_out = laid;
+    }
+
+pub returns-clause-held : goal.returns-clause-held
+returns-clause-held c tables text d =
+    let self = c.args.self.now in
+    let laid = c.lay_out_found.ensures.laid_out ∙ ap (λ (us : List BidiUnit). layout_of c.args.limits us c.args.direction (take (length c.args.breaks.now) (boxed_slice_items (boxed_slice_with_items self.indices c.find_breaks.new.indices)))) d.units in
+    let as_held : List BidiUnit → UnitsHeld = λ us. record { units = us; direction = c.args.direction; limits = c.args.limits } in
+    record {
+      holds = record {
+        characters = ap (λ (v : TextLayout). length v.levels) laid ∙ length-levels _ _ _ _ ∙ length-map (codes_of text) (unit_by tables) ∙ length-map text (λ (s : Spelled). s.code);
+        starts = subst (AreStarts text) (sym c.lay_out_found.ensures.starts) d.starts;
+      };
+      is = c.lay_out_found.ensures.held ∙ ap as_held d.units;
     }

@@ -1,10 +1,10 @@
-use Rattle.std.proofs.Common.{rules, ◌≡◌, ◌∙◌, ◌+◌, ℕ, [], ap, arith, length, slice_index, subst, sym}
+use Rattle.std.proofs.Common.{rules, ◌≡◌, ◌∙◌, ◌+◌, ℕ, [], ap, arith, length, slice_index, subst, sym, take}
 use Rattle.std.specs.Box.{boxed_slice_items}
 use Rattle.units.specs.Layout.{TextLayout}
-use Rattle.units.specs.Limits.{standard}
+use Rattle.units.specs.Limits.{LimitsOf, standard}
 use Rattle.units.specs.declared.level.Direction.TheVariants.{Auto}
 use Rattle.lines.proofs.Lengths.{length-levels}
-use Rattle.lines.specs.Scratches.{layout_in, room_of}
+use Rattle.lines.specs.Scratches.{layout_in, room_of, HoldsText}
 use Rattle.encoded.specs.Offsets.{offset_of}
 use Rattle.encoded.specs.OrderedLines.{LinesHaveOrder}
 use Rattle.encoded.specs.Starts.{AreOffsets}
@@ -19,6 +19,7 @@ invariant_of-result c =
       filled = c.lay_out_nothing.ensures.filled;
       fits = record {
         for_units = c.in_ok-units.ensures ∙ sym room;
+        for_spare_units = c.in_ok-spare_units.ensures ∙ sym room;
         for_starts = c.in_ok-starts.ensures.len ∙ ap (λ (n : ℕ). n + 1) (sym room);
         for_spare = c.in_ok-spare.ensures.len ∙ ap (λ (n : ℕ). n + 1) (sym room);
         for_indices = c.in_ok-indices.ensures ∙ sym room;
@@ -28,7 +29,10 @@ invariant_of-result c =
         first = c.in_ok-starts.ensures.zero;
         rising = λ j k lt le. absurd (omega (arith, lt, le));
       });
+      ends = omega (arith, ap (slice_index (boxed_slice_items c.in_ok-starts.starts)) none, c.in_ok-starts.ensures.zero);
       in_order = subst LinesHaveOrder (sym c.lay_out_nothing.ensures.empty) (layout_ordered standard [] Auto []);
+      held = subst (λ (l : LimitsOf). HoldsText l (take (length (layout_in c.lay_out_nothing.new.scratch).levels) (boxed_slice_items c.in_ok-units.units)) Auto c.lay_out_nothing.new.scratch) (sym c.standard.ensures)
+          (subst (λ (k : ℕ). HoldsText standard (take k (boxed_slice_items c.in_ok-units.units)) Auto c.lay_out_nothing.new.scratch) (sym none) c.lay_out_nothing.ensures.holds);
     }
 
 pub returns-clause-holds : goal.returns-clause-holds
