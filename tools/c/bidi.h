@@ -197,6 +197,17 @@ uint32_t bidi_lay_out_utf16(bidi_room *room, bidi_tables *tables, const uint16_t
 uint32_t bidi_lay_out_utf16_lossy(bidi_room *room, bidi_tables *tables, const uint16_t *text, size_t n,
                                   uint32_t direction, const size_t *breaks, size_t break_count, uint64_t *place);
 
+/* The same by these limits. */
+uint32_t bidi_lay_out_utf8_with(bidi_room *room, bidi_tables *tables, const uint8_t *text, size_t n,
+                                uint32_t direction, const size_t *breaks, size_t break_count, bidi_limits limits,
+                                uint64_t *place);
+uint32_t bidi_lay_out_utf16_with(bidi_room *room, bidi_tables *tables, const uint16_t *text, size_t n,
+                                 uint32_t direction, const size_t *breaks, size_t break_count, bidi_limits limits,
+                                 uint64_t *place);
+uint32_t bidi_lay_out_utf16_lossy_with(bidi_room *room, bidi_tables *tables, const uint16_t *text, size_t n,
+                                       uint32_t direction, const size_t *breaks, size_t break_count,
+                                       bidi_limits limits, uint64_t *place);
+
 /* From an offset to the index of the character that the code unit there belongs to, from the text's end on how many
  * characters it has; and from a character to the offset at which it begins, behind the last one that of the text's end.
  * Without such room both are 0. */

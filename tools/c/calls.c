@@ -343,6 +343,26 @@ static void lay_out_utf16(bidi_room *room, bidi_tables *tables, const uint16_t *
   print_encoded(room);
 }
 
+/* The same pair of brackets, kept and not, in each encoding, and limits that are refused before all else. */
+static void lay_out_encoded_by_limits(bidi_room *room, bidi_tables *tables) {
+  const uint16_t units[] = { 'a', '(', 'b', ')', 0x5D0 }, lone[] = { 'a', '(', 'b', ')', 0xD800 };
+  const uint8_t *bytes = (const uint8_t *)"a(b)\xD7\x90";
+  const bidi_limits by[] = { { 125, 0 }, { 125, 1 }, { 0, 1 }, { 125, 64 } };
+  const size_t none[1] = { 0 };
+  uint64_t place = 0;
+  for (size_t i = 0; i < 4; i++) {
+    uint32_t status = bidi_lay_out_utf8_with(room, tables, bytes, 6, BIDI_RTL, none, 0, by[i], &place);
+    printf("utf8, brackets %u: %u ", by[i].brackets, status);
+    print_encoded(room);
+    status = bidi_lay_out_utf16_with(room, tables, units, 5, BIDI_RTL, none, 0, by[i], &place);
+    printf("utf16, brackets %u: %u ", by[i].brackets, status);
+    print_encoded(room);
+    status = bidi_lay_out_utf16_lossy_with(room, tables, lone, 5, BIDI_RTL, none, 0, by[i], &place);
+    printf("lossy, brackets %u: %u ", by[i].brackets, status);
+    print_encoded(room);
+  }
+}
+
 static void lay_out_encoded(bidi_tables *tables) {
   bidi_room room = BIDI_NONE, codes = BIDI_NONE;
   bidi_tables no_tables = BIDI_NONE;
@@ -375,6 +395,7 @@ static void lay_out_encoded(bidi_tables *tables) {
   lay_out_utf16(&room, tables, paired, 5, two, 1);
   lay_out_utf16(&room, tables, lone, 4, one, 1);
   lay_out_utf16(&codes, tables, lone, 4, one, 1);
+  lay_out_encoded_by_limits(&room, tables);
   bidi_room_free(&codes);
   bidi_room_free(&room);
 }

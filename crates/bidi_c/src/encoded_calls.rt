@@ -1,25 +1,22 @@
-// Texts in code units: room for them, laid out, and told of in offsets.
+// Room for texts in code units, and what is told of them in offsets.
 ghost use Rattle.std.specs.Prelude.{ℕ, ◌≡◌, ◌≤◌, None, IfErr, IfOk};
-ghost use Rattle.units.specs.Limits.{standard};
 ghost use Rattle.encoded.specs.Offsets.{IsOf, code_units, offset_of};
 ghost use Rattle.bidi_held.specs.Holdings.{encoded_in, RefusesRoom};
-ghost use Rattle.bidi_held.specs.Statuses.{Answers, AnswersNaming, Puts, place_named};
-ghost use Rattle.encoded_held.specs.EncodedTexts.{IsNewEncodedRoom, LaysOutUtf8, LaysOutUtf16, LaysOutUtf16Lossy};
+ghost use Rattle.bidi_held.specs.Statuses.{Answers, Puts};
+ghost use Rattle.encoded_held.specs.EncodedTexts.{IsNewEncodedRoom};
 ghost use Rattle.encoded_held.specs.InCodeUnits.{byte_of_character, IsEncodedRun, IsIndexAt, OfItsText, RefusesEncodedLine, RefusesEncodedRun, TellsEncodedLine, WritesEncodedLevels};
 ghost use Rattle.bidi_c.specs.HeldAt.{held_at};
 
 use crate::bidi_handle::BidiHandle;
 use bidi_held::held::Held;
 use bidi_held::lines_out::BidiLine;
-use bidi_held::refusal::{Refusal, answer, of_room, status};
+use bidi_held::refusal::{Refusal, of_room, status};
 use bidi_held::visual_lines::BidiRun;
 use encoded::room::Room;
 use encoded_held::encoded_levels::write_encoded_levels;
-use encoded_held::laying_out::{lay_out_utf8_held, lay_out_utf16_held, lay_out_utf16_lossy_held};
 use encoded_held::lookups::{index_held, level_held, offset_held, tell_encoded_line};
 use encoded_held::runs::encoded_run_of;
 use std::alloc::Global;
-use units::limits::Limits;
 
 fn make_encoded_room(alloc: Global, n: usize, room: &mut BidiHandle) -> Result<(), Refusal>
     ensures { Puts (IsNewEncodedRoom n) (RefusesRoom n) (held_at room.old) (held_at room.new) result }
@@ -36,125 +33,6 @@ pub extern "C" fn bidi_room_new_encoded(alloc: Global, n: usize, room: &mut Bidi
         result }
 {
     status(make_encoded_room(alloc, n, room))
-}
-
-fn lay_out_utf8(
-    room: &mut BidiHandle,
-    tables: &mut BidiHandle,
-    text: &[u8],
-    direction: u32,
-    breaks: &[usize],
-) -> Result<(), Refusal>
-    ensures tables { held_at tables.new ≡ held_at tables.old }
-    ensures room { LaysOutUtf8 standard (held_at tables.old) text.now direction breaks.now
-        (held_at room.old) (held_at room.new) result }
-{
-    let Some(held) = room.held() else {
-        return Err(Refusal::NoRoom);
-    };
-    let Some(by) = tables.held() else {
-        return Err(Refusal::NoTables);
-    };
-    lay_out_utf8_held(held, by, text, direction, breaks, Limits::standard())
-}
-
-/// Lays out a text in UTF-8 in the room, by the tables and the standard limits, under the direction with this number,
-/// broken into lines at offsets of its bytes (P1 to L2). No memory is taken. Where it is refused, the room holds the
-/// layout that it held, and `place` names the place: the offset of the first byte that is no part of a character, or
-/// the index of a break.
-#[unsafe(no_mangle)]
-pub extern "C" fn bidi_lay_out_utf8(
-    room: &mut BidiHandle,
-    tables: &mut BidiHandle,
-    text: &[u8],
-    direction: u32,
-    breaks: &[usize],
-    place: &mut u64,
-) -> u32
-    ensures tables { held_at tables.new ≡ held_at tables.old }
-    ensures room { AnswersNaming place_named (LaysOutUtf8 standard (held_at tables.old) text.now
-        direction breaks.now (held_at room.old) (held_at room.new)) result place.old place.new }
-{
-    answer(lay_out_utf8(room, tables, text, direction, breaks), place)
-}
-
-fn lay_out_utf16(
-    room: &mut BidiHandle,
-    tables: &mut BidiHandle,
-    text: &[u16],
-    direction: u32,
-    breaks: &[usize],
-) -> Result<(), Refusal>
-    ensures tables { held_at tables.new ≡ held_at tables.old }
-    ensures room { LaysOutUtf16 standard (held_at tables.old) text.now direction breaks.now
-        (held_at room.old) (held_at room.new) result }
-{
-    let Some(held) = room.held() else {
-        return Err(Refusal::NoRoom);
-    };
-    let Some(by) = tables.held() else {
-        return Err(Refusal::NoTables);
-    };
-    lay_out_utf16_held(held, by, text, direction, breaks, Limits::standard())
-}
-
-/// Lays out a text in UTF-16 as `bidi_lay_out_utf8` does one in UTF-8: offsets are those of its code units of 16 bits,
-/// and its first fault is the first surrogate that stands alone.
-#[unsafe(no_mangle)]
-pub extern "C" fn bidi_lay_out_utf16(
-    room: &mut BidiHandle,
-    tables: &mut BidiHandle,
-    text: &[u16],
-    direction: u32,
-    breaks: &[usize],
-    place: &mut u64,
-) -> u32
-    ensures tables { held_at tables.new ≡ held_at tables.old }
-    ensures room { AnswersNaming place_named (LaysOutUtf16 standard (held_at tables.old) text.now
-        direction breaks.now (held_at room.old) (held_at room.new)) result place.old place.new }
-{
-    answer(lay_out_utf16(room, tables, text, direction, breaks), place)
-}
-
-fn lay_out_utf16_lossy(
-    room: &mut BidiHandle,
-    tables: &mut BidiHandle,
-    text: &[u16],
-    direction: u32,
-    breaks: &[usize],
-) -> Result<(), Refusal>
-    ensures tables { held_at tables.new ≡ held_at tables.old }
-    ensures room { LaysOutUtf16Lossy standard (held_at tables.old) text.now direction breaks.now
-        (held_at room.old) (held_at room.new) result }
-{
-    let Some(held) = room.held() else {
-        return Err(Refusal::NoRoom);
-    };
-    let Some(by) = tables.held() else {
-        return Err(Refusal::NoTables);
-    };
-    lay_out_utf16_lossy_held(held, by, text, direction, breaks, Limits::standard())
-}
-
-/// Lays out a text in UTF-16 as `bidi_lay_out_utf16` does, with U+FFFD in the place of each surrogate that stands
-/// alone.
-#[unsafe(no_mangle)]
-pub extern "C" fn bidi_lay_out_utf16_lossy(
-    room: &mut BidiHandle,
-    tables: &mut BidiHandle,
-    text: &[u16],
-    direction: u32,
-    breaks: &[usize],
-    place: &mut u64,
-) -> u32
-    ensures tables { held_at tables.new ≡ held_at tables.old }
-    ensures room { AnswersNaming place_named (LaysOutUtf16Lossy standard (held_at tables.old) text.now
-        direction breaks.now (held_at room.old) (held_at room.new)) result place.old place.new }
-{
-    answer(
-        lay_out_utf16_lossy(room, tables, text, direction, breaks),
-        place,
-    )
 }
 
 /// The index of the character that the code unit at an offset belongs to, from the text's end on how many characters

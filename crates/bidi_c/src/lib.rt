@@ -6,6 +6,7 @@
 
 pub mod bidi_handle;
 pub mod encoded_calls;
+pub mod encoded_layouts;
 pub mod handle;
 pub mod judge_calls;
 pub mod laying_out;

@@ -1,0 +1,249 @@
+// Texts in code units laid out.
+ghost use Rattle.std.specs.Prelude.{◌≡◌};
+ghost use Rattle.units.specs.Limits.{standard};
+ghost use Rattle.bidi_held.specs.LimitsGiven.{ByLimits};
+ghost use Rattle.bidi_held.specs.Statuses.{AnswersNaming, place_named};
+ghost use Rattle.encoded_held.specs.EncodedTexts.{LaysOutUtf8, LaysOutUtf16, LaysOutUtf16Lossy};
+ghost use Rattle.bidi_c.specs.HeldAt.{held_at};
+
+use crate::bidi_handle::BidiHandle;
+use bidi_held::limits::BidiLimits;
+use bidi_held::refusal::{Refusal, answer};
+use encoded_held::laying_out::{lay_out_utf8_held, lay_out_utf16_held, lay_out_utf16_lossy_held};
+use units::limits::Limits;
+
+fn lay_out_utf8(
+    room: &mut BidiHandle,
+    tables: &mut BidiHandle,
+    text: &[u8],
+    direction: u32,
+    breaks: &[usize],
+    limits: Limits,
+) -> Result<(), Refusal>
+    ensures tables { held_at tables.new ≡ held_at tables.old }
+    ensures room { LaysOutUtf8 limits (held_at tables.old) text.now direction breaks.now
+        (held_at room.old) (held_at room.new) result }
+{
+    let Some(held) = room.held() else {
+        return Err(Refusal::NoRoom);
+    };
+    let Some(by) = tables.held() else {
+        return Err(Refusal::NoTables);
+    };
+    lay_out_utf8_held(held, by, text, direction, breaks, limits)
+}
+
+/// Lays out a text in UTF-8 in the room, by the tables and the standard limits, under the direction with this number,
+/// broken into lines at offsets of its bytes (P1 to L2). No memory is taken. Where it is refused, the room holds the
+/// layout that it held, and `place` names the place: the offset of the first byte that is no part of a character, or
+/// the index of a break.
+#[unsafe(no_mangle)]
+pub extern "C" fn bidi_lay_out_utf8(
+    room: &mut BidiHandle,
+    tables: &mut BidiHandle,
+    text: &[u8],
+    direction: u32,
+    breaks: &[usize],
+    place: &mut u64,
+) -> u32
+    ensures tables { held_at tables.new ≡ held_at tables.old }
+    ensures room { AnswersNaming place_named (LaysOutUtf8 standard (held_at tables.old) text.now
+        direction breaks.now (held_at room.old) (held_at room.new)) result place.old place.new }
+{
+    let limits = Limits::standard();
+    let done = lay_out_utf8(room, tables, text, direction, breaks, limits);
+    answer(done, place)
+}
+
+fn lay_out_utf8_with(
+    room: &mut BidiHandle,
+    tables: &mut BidiHandle,
+    text: &[u8],
+    direction: u32,
+    breaks: &[usize],
+    limits: BidiLimits,
+) -> Result<(), Refusal>
+    ensures tables { held_at tables.new ≡ held_at tables.old }
+    ensures room { ByLimits limits (held_at room.new ≡ held_at room.old) (λ limits.
+        LaysOutUtf8 limits (held_at tables.old) text.now direction breaks.now
+        (held_at room.old) (held_at room.new)) result }
+{
+    let allowed = limits.allowed()?;
+    lay_out_utf8(room, tables, text, direction, breaks, allowed)
+}
+
+/// Lays out a text as `bidi_lay_out_utf8` does, by these limits in place of the standard ones.
+#[unsafe(no_mangle)]
+pub extern "C" fn bidi_lay_out_utf8_with(
+    room: &mut BidiHandle,
+    tables: &mut BidiHandle,
+    text: &[u8],
+    direction: u32,
+    breaks: &[usize],
+    limits: BidiLimits,
+    place: &mut u64,
+) -> u32
+    ensures tables { held_at tables.new ≡ held_at tables.old }
+    ensures room { AnswersNaming place_named (ByLimits limits (held_at room.new ≡ held_at room.old)
+        (λ limits. LaysOutUtf8 limits (held_at tables.old) text.now direction breaks.now
+        (held_at room.old) (held_at room.new))) result place.old place.new }
+{
+    let done = lay_out_utf8_with(room, tables, text, direction, breaks, limits);
+    answer(done, place)
+}
+
+fn lay_out_utf16(
+    room: &mut BidiHandle,
+    tables: &mut BidiHandle,
+    text: &[u16],
+    direction: u32,
+    breaks: &[usize],
+    limits: Limits,
+) -> Result<(), Refusal>
+    ensures tables { held_at tables.new ≡ held_at tables.old }
+    ensures room { LaysOutUtf16 limits (held_at tables.old) text.now direction breaks.now
+        (held_at room.old) (held_at room.new) result }
+{
+    let Some(held) = room.held() else {
+        return Err(Refusal::NoRoom);
+    };
+    let Some(by) = tables.held() else {
+        return Err(Refusal::NoTables);
+    };
+    lay_out_utf16_held(held, by, text, direction, breaks, limits)
+}
+
+/// Lays out a text in UTF-16 as `bidi_lay_out_utf8` does one in UTF-8: offsets are those of its code units of 16 bits,
+/// and its first fault is the first surrogate that stands alone.
+#[unsafe(no_mangle)]
+pub extern "C" fn bidi_lay_out_utf16(
+    room: &mut BidiHandle,
+    tables: &mut BidiHandle,
+    text: &[u16],
+    direction: u32,
+    breaks: &[usize],
+    place: &mut u64,
+) -> u32
+    ensures tables { held_at tables.new ≡ held_at tables.old }
+    ensures room { AnswersNaming place_named (LaysOutUtf16 standard (held_at tables.old) text.now
+        direction breaks.now (held_at room.old) (held_at room.new)) result place.old place.new }
+{
+    let limits = Limits::standard();
+    let done = lay_out_utf16(room, tables, text, direction, breaks, limits);
+    answer(done, place)
+}
+
+fn lay_out_utf16_with(
+    room: &mut BidiHandle,
+    tables: &mut BidiHandle,
+    text: &[u16],
+    direction: u32,
+    breaks: &[usize],
+    limits: BidiLimits,
+) -> Result<(), Refusal>
+    ensures tables { held_at tables.new ≡ held_at tables.old }
+    ensures room { ByLimits limits (held_at room.new ≡ held_at room.old) (λ limits.
+        LaysOutUtf16 limits (held_at tables.old) text.now direction breaks.now
+        (held_at room.old) (held_at room.new)) result }
+{
+    let allowed = limits.allowed()?;
+    lay_out_utf16(room, tables, text, direction, breaks, allowed)
+}
+
+/// Lays out a text as `bidi_lay_out_utf16` does, by these limits in place of the standard ones.
+#[unsafe(no_mangle)]
+pub extern "C" fn bidi_lay_out_utf16_with(
+    room: &mut BidiHandle,
+    tables: &mut BidiHandle,
+    text: &[u16],
+    direction: u32,
+    breaks: &[usize],
+    limits: BidiLimits,
+    place: &mut u64,
+) -> u32
+    ensures tables { held_at tables.new ≡ held_at tables.old }
+    ensures room { AnswersNaming place_named (ByLimits limits (held_at room.new ≡ held_at room.old)
+        (λ limits. LaysOutUtf16 limits (held_at tables.old) text.now direction breaks.now
+        (held_at room.old) (held_at room.new))) result place.old place.new }
+{
+    let done = lay_out_utf16_with(room, tables, text, direction, breaks, limits);
+    answer(done, place)
+}
+
+fn lay_out_utf16_lossy(
+    room: &mut BidiHandle,
+    tables: &mut BidiHandle,
+    text: &[u16],
+    direction: u32,
+    breaks: &[usize],
+    limits: Limits,
+) -> Result<(), Refusal>
+    ensures tables { held_at tables.new ≡ held_at tables.old }
+    ensures room { LaysOutUtf16Lossy limits (held_at tables.old) text.now direction breaks.now
+        (held_at room.old) (held_at room.new) result }
+{
+    let Some(held) = room.held() else {
+        return Err(Refusal::NoRoom);
+    };
+    let Some(by) = tables.held() else {
+        return Err(Refusal::NoTables);
+    };
+    lay_out_utf16_lossy_held(held, by, text, direction, breaks, limits)
+}
+
+/// Lays out a text in UTF-16 as `bidi_lay_out_utf16` does, with U+FFFD in the place of each surrogate that stands
+/// alone.
+#[unsafe(no_mangle)]
+pub extern "C" fn bidi_lay_out_utf16_lossy(
+    room: &mut BidiHandle,
+    tables: &mut BidiHandle,
+    text: &[u16],
+    direction: u32,
+    breaks: &[usize],
+    place: &mut u64,
+) -> u32
+    ensures tables { held_at tables.new ≡ held_at tables.old }
+    ensures room { AnswersNaming place_named (LaysOutUtf16Lossy standard (held_at tables.old) text.now
+        direction breaks.now (held_at room.old) (held_at room.new)) result place.old place.new }
+{
+    let limits = Limits::standard();
+    let done = lay_out_utf16_lossy(room, tables, text, direction, breaks, limits);
+    answer(done, place)
+}
+
+fn lay_out_utf16_lossy_with(
+    room: &mut BidiHandle,
+    tables: &mut BidiHandle,
+    text: &[u16],
+    direction: u32,
+    breaks: &[usize],
+    limits: BidiLimits,
+) -> Result<(), Refusal>
+    ensures tables { held_at tables.new ≡ held_at tables.old }
+    ensures room { ByLimits limits (held_at room.new ≡ held_at room.old) (λ limits.
+        LaysOutUtf16Lossy limits (held_at tables.old) text.now direction breaks.now
+        (held_at room.old) (held_at room.new)) result }
+{
+    let allowed = limits.allowed()?;
+    lay_out_utf16_lossy(room, tables, text, direction, breaks, allowed)
+}
+
+/// Lays out a text as `bidi_lay_out_utf16_lossy` does, by these limits in place of the standard ones.
+#[unsafe(no_mangle)]
+pub extern "C" fn bidi_lay_out_utf16_lossy_with(
+    room: &mut BidiHandle,
+    tables: &mut BidiHandle,
+    text: &[u16],
+    direction: u32,
+    breaks: &[usize],
+    limits: BidiLimits,
+    place: &mut u64,
+) -> u32
+    ensures tables { held_at tables.new ≡ held_at tables.old }
+    ensures room { AnswersNaming place_named (ByLimits limits (held_at room.new ≡ held_at room.old)
+        (λ limits. LaysOutUtf16Lossy limits (held_at tables.old) text.now direction breaks.now
+        (held_at room.old) (held_at room.new))) result place.old place.new }
+{
+    let done = lay_out_utf16_lossy_with(room, tables, text, direction, breaks, limits);
+    answer(done, place)
+}
