@@ -33,3 +33,4 @@ pub mod LineAlone
 pub mod ParagraphFound
 pub mod OrderAlone
 pub mod LineHeld
+pub mod KnownLevels

@@ -1,6 +1,7 @@
 -- One line of a text whose resolved levels are held.
-use Rattle.std.proofs.Common.{◌≡◌, ℕ, ◌+◌, ◌-◌, ◌<◌, ◌≤◌, false, Option, List, [], length, take, drop, sym, ap, ◌∙◌, arith}
-use Rattle.std.specs.Prelude.{map, slice_range, slice_index_or, count_by}
+use Rattle.std.proofs.Common.{◌≡◌, ℕ, ◌+◌, ◌-◌, ◌<◌, ◌≤◌, Bool, true, false, Option, None, List, [], length, take, drop, refl, sym, ap, ◌∙◌, subst, arith, get_or}
+use Rattle.std.specs.Prelude.{IsTrue, map, slice_range, slice_index_or, count_by}
+use Rattle.std.proofs.lemmas.List.Edits.{get_or-between}
 use Rattle.std.proofs.lemmas.List.{get_or-take, length-take-le, take-take}
 use Rattle.std.proofs.lemmas.Slice.{between_is}
 use Rattle.units.specs.Classes.{class_at, classes_of, is_separator}
@@ -13,11 +14,16 @@ use Rattle.units.specs.declared.class.Class.{Class}
 use Rattle.units.specs.declared.level.Direction.{Direction}
 use Rattle.units.specs.declared.level.ParaLevel.{ParaLevel}
 use Rattle.units.specs.declared.level.ParaLevel.TheVariants.{Zero}
+use Rattle.units.specs.Paragraphs.{paragraphs_of}
+use Rattle.lines.specs.Kept.{keeps_levels}
+use Rattle.lines.specs.LinePositions.{IsAtOneLevel}
 use Rattle.lines.specs.LinesAlone.{IsLineIn, IsLineLaidOut}
-use Rattle.lines.specs.Spaces.{levels_reset}
+use Rattle.lines.specs.Spaces.{AreAtParas, levels_reset}
+use Rattle.lines.proofs.AtParas.{all_stay, text_at_paras}
+use Rattle.lines.proofs.KeptLevels.{levels_kept}
 use Rattle.lines.proofs.Lengths.{length-levels}
 use Rattle.lines.proofs.OrderAlone.{order_alone}
-use Rattle.lines.proofs.ParagraphLines.{joined_line, para_read}
+use Rattle.lines.proofs.ParagraphLines.{joined_line, line_uniform, para_read}
 use Rattle.lines.proofs.TextEnd.{length-after_resets}
 
 -- no paragraph ends within a line
@@ -56,3 +62,28 @@ line_laid_out limits text direction breaks paras start end levels order same for
       leveled = is;
       ordered = ordered ∙ order_alone whole levels start end is forward (omega (arith, long, within));
     }
+
+module _ (limits : LimitsOf) (text : List BidiUnit) (direction : Direction) (paras : List ParaLevel) (same : map level_of_para paras ≡ para_levels_of text direction) where
+  -- where each paragraph keeps its level, each position is at it
+  stays : true ≡ keeps_levels text direction → AreAtParas (classes_of text) (map level_of_para paras) (text_levels limits text direction)
+  stays known =
+      subst (λ ns. AreAtParas (classes_of text) ns (text_levels limits text direction)) (sym same)
+      (text_at_paras limits direction text (all_stay limits direction (paragraphs_of text) (sym known)))
+
+  -- the levels of a line, reset where L1 may change one
+  pub line_reset_by : (breaks : List ℕ) (start end : ℕ) (uniform : Bool) (part levels : List (Option ℕ)) → uniform ≡ keeps_levels text direction → slice_range (text_levels limits text direction) start end ≡ part → (IsTrue uniform → levels ≡ part) → (uniform ≡ false → levels ≡ slice_range (levels_reset text breaks paras (text_levels limits text direction)) start end) → levels ≡ slice_range (levels_reset text breaks paras (text_levels limits text direction)) start end
+  line_reset_by breaks start end true part levels known is kept reset =
+      kept refl
+      ∙ sym is
+      ∙ ap (λ xs. slice_range xs start end) (sym (levels_kept (classes_of text) breaks (map level_of_para paras) (text_levels limits text direction) (stays known)))
+  line_reset_by breaks start end false part levels known is kept reset = reset refl
+
+  -- where each paragraph keeps its level, the line is at that of its own
+  pub line_at_level : (breaks : List ℕ) (start end level : ℕ) (part : List (Option ℕ)) → true ≡ keeps_levels text direction → IsLineIn text breaks start end → level ≡ para_level_at (classes_of text) (map level_of_para paras) start → slice_range (text_levels limits text direction) start end ≡ part → IsAtOneLevel part 0 (end - start) level
+  line_at_level breaks start end level part known line is_level is = record {
+    same = λ p v low high h.
+        let at_one = line_uniform (classes_of text) breaks (map level_of_para paras) (text_levels limits text direction) start end (stays known) line in
+        at_one.same (start + p) v (omega arith) (omega arith)
+        (sym (get_or-between (text_levels limits text direction) start end p None (omega arith)) ∙ ap (λ xs. get_or xs p None) is ∙ h)
+        ∙ sym is_level;
+  }

@@ -71,6 +71,10 @@ search_steps = 25
 abbrev pub line_alone_steps : ℕ
 line_alone_steps = 1 + 1 + order_steps + 1
 
--- and at least: they are copied, reset, and put in order
+-- the same, where each paragraph keeps its level
+abbrev pub light_line_alone_steps : ℕ
+light_line_alone_steps = 1 + light_order_steps + 1
+
+-- and at least: they are copied, and put in order
 abbrev pub least_line_alone_steps : ℕ
-least_line_alone_steps = 1 + 1 + 1
+least_line_alone_steps = 1 + 1

@@ -1,12 +1,13 @@
 //! One line of a text alone, at the cost of that line.
-ghost use Rattle.std.specs.Prelude.{◌≡◌, ◌<◌, ◌≤◌, ◌+◌, ◌-◌, ◌*◌, ◌^◌, MatchResult, length, map, slice_range, take, List, Option, ℕ};
+ghost use Rattle.std.specs.Prelude.{◌≡◌, ◌<◌, ◌≤◌, ◌+◌, ◌-◌, ◌*◌, ◌^◌, IfSome, IsTrue, MatchResult, false, length, map, slice_range, take, List, Option, ℕ};
 ghost use Rattle.std.specs.List.{All, AllWithin};
 ghost use Rattle.units.specs.Isolates.{level_of_para};
 ghost use Rattle.units.specs.declared.level.ParaLevel.{ParaLevel as Para};
 ghost use Rattle.units.specs.Reordering.{line_order};
 ghost use Rattle.lines.specs.LineEnds.{AreAllParagraphEnds, Rises};
 ghost use Rattle.lines.specs.LinesAlone.{HasParaLevel, IsLineIn, IsLineOfParagraph, IsWithinParagraph, RefusesSpan};
-ghost use Rattle.lines.specs.StepBounds.{order_steps, search_steps};
+ghost use Rattle.lines.specs.LinePositions.{IsAtOneLevel};
+ghost use Rattle.lines.specs.StepBounds.{light_order_steps, order_steps, search_steps};
 ghost use Rattle.lines.specs.Spaces.{levels_reset};
 
 use crate::breaks::Breaks;
@@ -101,6 +102,36 @@ pub fn reset_line<L: Ledger>(
     reset_text(line, &breaks, &[level], levels, steps);
 }
 
+/// What `reset_line` does, where it may change a level: not where each position that remains is known to have its
+/// paragraph's, as `uniform` says.
+pub(crate) fn reset_line_unless_uniform<L: Ledger>(
+    text: &[Unit],
+    start: usize,
+    end: usize,
+    level: ParaLevel,
+    uniform: bool,
+    levels: &mut [Option<Level>],
+    steps: &mut Steps<L>,
+)
+    requires forward { start < end }
+    requires within { end ≤ length text.now }
+    requires paragraph { IsWithinParagraph text.now start end }
+    requires levels { length levels.old ≡ end - start }
+    ensures levels { uniform ≡ false → (breaks : List ℕ) (paras : List Para) (all : List (Option ℕ))
+        → IsLineIn text.now breaks start end → HasParaLevel text.now paras start (level_of_para level)
+        → length all ≡ length text.now → slice_range all start end ≡ levels.old
+        → levels.new ≡ slice_range (levels_reset text.now breaks paras all) start end }
+    ensures same { IsTrue uniform → levels.new ≡ levels.old }
+    ensures at_least { steps.old ≤ steps.new }
+    ensures at_most { steps.new ≤ steps.old + (end - start) }
+    ensures light { IsTrue uniform → steps.new ≡ steps.old }
+{
+    if uniform {
+        return;
+    }
+    reset_line(text, start, end, level, levels, steps);
+}
+
 /// Moves positions of a line to where they stand in its text, which the line begins in at `start`, a step for each.
 fn move_to<L: Ledger>(start: usize, places: &mut [usize], steps: &mut Steps<L>)
     requires { All (λ p. start + p < 2 ^ 64) places.old }
@@ -114,14 +145,16 @@ fn move_to<L: Ledger>(start: usize, places: &mut [usize], steps: &mut Steps<L>)
 }
 
 /// Writes the order (L2) of a line that begins at `start` to the front of `order`, by its own levels alone. It answers
-/// how many positions it has.
+/// how many positions it has. `uniform` is the level that all of them have, where that is known.
 pub(crate) fn write_order_alone<L: Ledger>(
     start: usize,
     levels: &[Option<Level>],
+    uniform: Option<ParaLevel>,
     runs: &mut [Run],
     order: &mut [usize],
     steps: &mut Steps<L>,
 ) -> usize
+    requires uniform { IfSome uniform (λ level. IsAtOneLevel levels.now 0 (length levels.now) (level_of_para level)) }
     requires small { start + length levels.now < 2 ^ 32 }
     requires runs { length levels.now ≤ length runs.old }
     requires room { length levels.now ≤ length order.old }
@@ -129,13 +162,14 @@ pub(crate) fn write_order_alone<L: Ledger>(
     ensures count { result ≤ length levels.now }
     ensures at_least { steps.old + length levels.now ≤ steps.new }
     ensures at_most { steps.new ≤ steps.old + (order_steps + 1) * length levels.now }
+    ensures light { IfSome uniform (λ _. steps.new ≤ steps.old + (light_order_steps + 1) * length levels.now) }
 {
     let line = LineSpan {
         levels,
         start: 0,
         end: levels.len(),
     };
-    let count = write_order(line, None, runs, order, steps);
+    let count = write_order(line, uniform, runs, order, steps);
     move_to(start, &mut order[..count], steps);
     count
 }

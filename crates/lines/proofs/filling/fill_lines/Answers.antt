@@ -15,6 +15,7 @@ use Rattle.lines.proofs.BoolBytes.{bool_byte-is}
 use Rattle.explicit.proofs.Holders.Roles.{class_read}
 use Rattle.lines.proofs.LineEnds.{cut_read, end_kept}
 use Rattle.lines.proofs.LinesWritten.{Filling, filling_end, filling_more, filling_start}
+use Rattle.lines.proofs.KnownLevels.{known_level, where_known}
 use Rattle.lines.proofs.ParagraphLines.{counted_on, line_uniform, para_read}
 use Rattle.lines.proofs.Separators.{paragraph_at}
 use Rattle.lines.proofs.filling.fill_lines.Goals as goal
@@ -22,16 +23,6 @@ use Rattle.lines.proofs.filling.fill_lines.Goals as goal
 -- with a line more, that ends there and has an order up to there
 abbrev ended_at : List Bound → ℕ → ℕ → List Bound
 ended_at bounds position order = bounds ++ record { position = position; order = order } ∷ []
-
--- where the level is known, it is the line's
-known_level : (known : Bool) (levels : List (Option ℕ)) (start end level : ℕ) (para : ParaLevel) → level_of_para para ≡ level → (known ≡ true → IsAtOneLevel levels start end level) → IfSome (then_some known para) (λ p. IsAtOneLevel levels start end (level_of_para p))
-known_level true levels start end level para e u = subst (IsAtOneLevel levels start end) (sym e) (u refl)
-known_level false levels start end level para e u = tt
-
--- what is said of a known level is so where it is known
-where_known : {P : Type 0} (known : Bool) (para : ParaLevel) (level : Option ParaLevel) → level ≡ then_some known para → IfSome level (λ _. P) → known ≡ true → P
-where_known {P} true para level e said is = subst (λ o. IfSome o (λ _. P)) e said
-where_known {P} false para level e said is = cc
 
 pub loop-line-init : goal.loop-line-init
 loop-line-init g c =
