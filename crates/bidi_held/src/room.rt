@@ -1,5 +1,5 @@
 // A room: the units of a text, and its layout.
-ghost use Rattle.std.specs.Prelude.{ℕ, ◌≡◌, ◌≤◌, ◌<◌, [], MatchOption, length, slice_index, take, IfOk, OnOk, IfErr, OnErr};
+ghost use Rattle.std.specs.Prelude.{ℕ, true, ◌≡◌, ◌≤◌, ◌<◌, [], MatchOption, length, slice_index, take, IfOk, OnOk, IfErr, OnErr};
 ghost use Rattle.std.specs.Box.{boxed_slice_items};
 ghost use Rattle.std.specs.Char.{IsScalar};
 ghost use Rattle.units.specs.Layout.{layout_of};
@@ -39,6 +39,18 @@ pub struct Room {
     ghost holds: { HoldsText limits (take (text_len_of scratch) (boxed_slice_items units)) direction scratch },
 }
 
+/// Whether all these numbers are scalar values. It looks at all of them whatever it finds, so that several are looked
+/// at at once.
+fn are_scalars(codes: &[u32]) -> bool
+    ensures { result ≡ true → (k : ℕ) → k < length codes.now → IsScalar (slice_index codes.now k) }
+{
+    let mut all = true;
+    for code in codes {
+        all &= char::from_u32(*code).is_some();
+    }
+    all
+}
+
 /// Refuses code points by the first that is no scalar value. This is looked at before anything is written, so that a
 /// room that refuses a text still holds the former one.
 fn check_codes(codes: &[u32]) -> Result<(), Refusal>
@@ -46,6 +58,9 @@ fn check_codes(codes: &[u32]) -> Result<(), Refusal>
     ensures scalars { OnOk result ((k : ℕ) → k < length codes.now
         → IsScalar (slice_index codes.now k)) }
 {
+    if are_scalars(codes) {
+        return Ok(());
+    }
     for i in 0..codes.len() {
         if char::from_u32(codes[i]).is_none() {
             return Err(Refusal::NoCharacter(i));
@@ -63,9 +78,9 @@ fn fill_units(units: &mut [Unit], tables: &Tables, codes: &[u32])
 {
     let lent = tables.units();
     for i in 0..codes.len() {
-        if let Some(c) = char::from_u32(codes[i]) {
-            units[i] = lent.unit(c);
-        }
+        // SAFETY: it is a scalar value.
+        let c = unsafe { char::from_u32_unchecked(codes[i]) };
+        units[i] = lent.unit(c);
     }
 }
 
