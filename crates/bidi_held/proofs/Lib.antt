@@ -1,4 +1,5 @@
 -- What the proofs share.
+mod BaseWalk
 mod FileRefusals
 mod VerdictsBy
 mod LineLengths

@@ -1,4 +1,5 @@
 -- What handles hold, and what the calls from C say of it.
+pub mod BaseLevels
 pub mod Statuses
 pub mod Texts
 pub mod Holdings

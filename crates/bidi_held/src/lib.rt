@@ -2,6 +2,7 @@
 //! out, test files judged, and the lines that say verdicts. No pointer stands here.
 #![tactic(auto)]
 
+pub mod base;
 pub mod held;
 pub mod judge;
 pub mod judging;
@@ -13,6 +14,8 @@ pub mod read_tables;
 pub mod refusal;
 pub mod room;
 pub mod standard_tables;
+mod text_out;
 pub mod told_verdict;
 pub mod verdict_text;
+pub mod version;
 pub mod visual_lines;

@@ -53,7 +53,7 @@ fn are_scalars(codes: &[u32]) -> bool
 
 /// Refuses code points by the first that is no scalar value. This is looked at before anything is written, so that a
 /// room that refuses a text still holds the former one.
-fn check_codes(codes: &[u32]) -> Result<(), Refusal>
+pub(crate) fn check_codes(codes: &[u32]) -> Result<(), Refusal>
     ensures refused { IfErr result (RefusesCodes codes.now) }
     ensures scalars { OnOk result ((k : ℕ) → k < length codes.now
         → IsScalar (slice_index codes.now k)) }

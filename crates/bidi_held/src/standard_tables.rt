@@ -7,6 +7,7 @@ ghost use Rattle.bidi_held.specs.Written.{WritesWhole};
 
 use crate::read_tables::of_files;
 use crate::refusal::Refusal;
+use crate::text_out::write_text;
 use standard::facts::EDITION;
 use std::alloc::Global;
 use ucdfiles::tables::Tables;
@@ -27,9 +28,5 @@ pub fn standard_tables(alloc: Global) -> Result<Tables, Refusal>
 pub fn write_edition(out: &mut [u8]) -> usize
     ensures { WritesWhole EDITION.now result out.old out.new }
 {
-    let edition = EDITION.as_bytes();
-    if edition.len() <= out.len() {
-        out[..edition.len()].copy_from_slice(edition);
-    }
-    edition.len()
+    write_text(EDITION, out)
 }

@@ -10,7 +10,7 @@ use units::class::Class;
 
 /// A class that leaves a paragraph of level 0, and each position in it, at that level: neither R, AL or AN nor an
 /// initiator of an embedding, an override or an isolate.
-fn stays_left(class: Class) -> bool
+pub fn stays_left(class: Class) -> bool
     ensures { result ≡ stays_left class }
 {
     !matches!(
