@@ -1,7 +1,7 @@
 #!/bin/bash
-# Looks whether all that says the version of the product says what the file VERSION does: the header, the manual page,
-# the module for Python, the file for pkg-config that is installed, and the soname's number; and, where the program is
-# built and names a version, `bidi --version`. It ends with 0 where all agree, and with 1 where not.
+# Looks whether all that says the version of the product says what the file VERSION does: the command, the library for
+# C, the header, the manual page, the module for Python, the file for pkg-config that is installed, and the soname's
+# number; and, where the program is built, `bidi --version`. It ends with 0 where all agree, and with 1 where not.
 #
 # usage: tools/check_version.sh
 set -u
@@ -19,6 +19,8 @@ says() {
 }
 
 [[ $version =~ ^[0-9]+\.[0-9]+\.[0-9]+$ ]] || { echo "VERSION is no version: '$version'" >&2; wrong=1; }
+says crates/command "$(sed -n 's/^pub const BIDI_VERSION: &str = "\([^ ]*\) .*$/\1/p' crates/command/src/help.rt)"
+says crates/bidi_held "$(sed -n 's/^pub const VERSION: &str = "\(.*\)";$/\1/p' crates/bidi_held/src/version.rt)"
 says tools/c/bidi.h "$(sed -n 's/^#define BIDI_VERSION "\(.*\)"$/\1/p' tools/c/bidi.h)"
 numbers=$(sed -n 's/^#define BIDI_VERSION_\(MAJOR\|MINOR\|PATCH\) \([0-9]*\)$/\2/p' tools/c/bidi.h)
 says "tools/c/bidi.h, by numbers," "$(tr '\n' . <<< "$numbers" | sed 's/\.$//')"
@@ -31,11 +33,6 @@ done
 grep -q '^Version: @version@$' tools/c/bidi_c.pc.in || says tools/c/bidi_c.pc.in 'something else than @version@'
 program=crates/bidi/out/bidi
 if [ -x "$program" ]; then
-    said=$("$program" --version | sed -n 's/^\(bidi\|version\) \([0-9][0-9.]*\)\( .*\)\{0,1\}$/\2/p')
-    if [ -n "$said" ]; then
-        says "bidi --version" "$said"
-    else
-        echo "bidi --version names no version of the product"
-    fi
+    says "bidi --version" "$("$program" --version | sed -n '1s/^bidi \([^ ]*\) .*$/\1/p')"
 fi
 [ "$wrong" -eq 0 ] && echo "version $version, everywhere"

@@ -13,8 +13,8 @@
  *    same tables at once have a handle each on them, which bidi_tables_share makes.
  *  - Between calls a handle may move to another thread (that it may is proved, as `Send`), where what the first one
  *    did is known to it, as behind a lock, a start, a join or a sequentially consistent atomic. Else: as above.
- *  - Each pointer stands for as many items as its length says, also where that is 0: it is not null, and aligned for
- *    its type. Else: memory that is not the caller's is read or written. (A one-item array serves for length 0.)
+ *  - Each pointer stands for as many items as its length says, and is aligned for its type; where the length is 0 it
+ *    may be null. Else: memory that is not the caller's is read or written.
  *  - What a call writes is used by no other argument of it. What it only reads may overlap. Else: what is written is
  *    not what the contracts say.
  *  - No call is made from a signal handler, or in a forked child of a process with threads. Else: malloc may be stuck.
@@ -30,6 +30,7 @@
 #define BIDI_VERSION_MAJOR 1
 #define BIDI_VERSION_MINOR 0
 #define BIDI_VERSION_PATCH 0
+/* The library's is what bidi_version writes. */
 #include <stdbool.h>
 #include <stddef.h>
 #include <stdint.h>
@@ -108,6 +109,8 @@ uint32_t bidi_tables_new(const uint8_t *classes, size_t classes_len, const uint8
  * `text` if they have place there, with no zero behind them. */
 uint32_t bidi_tables_standard(bidi_tables *tables);
 size_t bidi_edition(uint8_t *text, size_t place);
+/* The version of the product, as 1.0.0, in the same way. */
+size_t bidi_version(uint8_t *text, size_t place);
 /* `shared` holds the same tables as `tables` from now on, for another thread or for longer; what it held before is
  * freed. The tables are freed with the last of the handles and judges that hold them. */
 uint32_t bidi_tables_share(bidi_tables *tables, bidi_tables *shared);
@@ -121,6 +124,14 @@ uint32_t bidi_class(bidi_tables *tables, uint32_t code, uint8_t *class_number);
  * refused as bidi_class is. */
 enum { BIDI_NO_BRACKET = 0, BIDI_OPENING = 1, BIDI_CLOSING = 2 };
 uint32_t bidi_bracket(bidi_tables *tables, uint32_t code, uint8_t *bracket);
+
+/* What is known of a text of code points without a layout. The level of its first paragraph (P1 to P3), 0 or 1; and
+ * whether it has only classes that stay at level 0, neither R, AL nor AN, and no initiator, 1 or 0: if so, all of its
+ * levels are 0, unless its paragraphs are asked to be right-to-left. BIDI_NO_TABLES, or else BIDI_NO_DIRECTION, or else
+ * BIDI_NO_CHARACTER, of which `place` is the index; what is asked for stays as it was then. No memory is taken. */
+uint32_t bidi_base_level(bidi_tables *tables, const uint32_t *codes, size_t n, uint32_t direction, uint8_t *level,
+                         uint64_t *place);
+uint32_t bidi_is_left_to_right(bidi_tables *tables, const uint32_t *codes, size_t n, uint8_t *stays, uint64_t *place);
 
 /* Room for texts of up to n code points, 87 bytes for each. What `room` held before is freed once it is made. */
 uint32_t bidi_room_new(size_t n, bidi_room *room);

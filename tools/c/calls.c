@@ -278,6 +278,50 @@ static void print_properties(bidi_tables *tables, uint32_t code) {
   printf("%04X: class %u %u, bracket %u %u\n", code, status, class_number, of_bracket, bracket);
 }
 
+/* What is known of a text without a layout, and refusals, which leave all but the place as it was. */
+static void print_base(bidi_tables *tables, const uint32_t *codes, size_t n, uint32_t direction) {
+  uint8_t level = 77, stays = 77;
+  uint64_t place = 99, stays_place = 99;
+  uint32_t status = bidi_base_level(tables, codes, n, direction, &level, &place);
+  uint32_t of_stays = bidi_is_left_to_right(tables, codes, n, &stays, &stays_place);
+  printf("base of %zu: %u level %u place %llu, %u left to right %u place %llu\n", n, status, level,
+         (unsigned long long)place, of_stays, stays, (unsigned long long)stays_place);
+}
+
+static void find_bases(bidi_tables *tables, bidi_room *room) {
+  const uint32_t isolated[] = { 0x2067, 0x5D0, 0x2069, 'a', 0x2029, 0x5D0 }, late[] = { '1', '(', 0x627, 'a' };
+  const uint32_t unclosed[] = { 0x2068, 'a', 0x5D0 }, wrong[] = { 'a', 0xD800, 0x110000 }, plain[] = { 'a', '1', 0x2029 };
+  for (uint32_t direction = 0; direction < 5; direction++) print_base(tables, isolated, 6, direction);
+  print_base(tables, late, 4, BIDI_AUTO);
+  print_base(tables, unclosed, 3, BIDI_AUTO);
+  print_base(tables, unclosed, 3, BIDI_AUTO_RTL);
+  print_base(tables, plain, 3, BIDI_AUTO);
+  print_base(tables, wrong, 3, BIDI_AUTO);
+  print_base(tables, NULL, 0, BIDI_AUTO_RTL);
+  print_base((bidi_tables *)room, wrong, 3, 9);
+}
+
+/* Null pointers where nothing is to be read or written. */
+static void pass_nulls(bidi_room *room, bidi_tables *tables) {
+  uint64_t place = 99;
+  bidi_tables made = BIDI_NONE;
+  bidi_fault fault = { 0, 0 };
+  bidi_judge judge = BIDI_NONE;
+  uint32_t status = bidi_lay_out(room, tables, NULL, 0, BIDI_AUTO, NULL, 0, &place);
+  printf("nulls: %u, levels %zu, paragraphs %zu, lines %zu, order %zu, places %zu, shown %zu\n", status,
+         bidi_levels(room, NULL, 0), bidi_para_levels(room, NULL, 0), bidi_line_count(room),
+         bidi_order(room, 0, NULL, 0), bidi_places(room, 0, NULL, 0), bidi_shown(room, tables, NULL, 0, 0, NULL, 0));
+  status = bidi_lay_out_classes(room, NULL, 0, BIDI_RTL, NULL, 0, &place);
+  printf("nulls: %u, breaks %u, edition %zu, version %zu\n", status, bidi_set_lines(room, NULL, 0, &place),
+         bidi_edition(NULL, 0), bidi_version(NULL, 0));
+  status = bidi_tables_new(NULL, 0, NULL, 0, NULL, 0, &made, &fault);
+  printf("nulls: %u, held %d", status, made.made);
+  status = bidi_judge_new_classes(&judge);
+  printf(", judge %u, fed %u\n", status, bidi_judge_feed(&judge, NULL, 0));
+  bidi_judge_free(&judge);
+  bidi_tables_free(&made);
+}
+
 static void use_standard_tables(bidi_room *room) {
   const uint32_t text[] = { 'a', ' ', 0x5D0, '(', 0x661, ')', '!' };
   const size_t none[1] = { 0 };
@@ -290,6 +334,11 @@ static void use_standard_tables(bidi_room *room) {
   const uint32_t codes[] = { 'a', 0x5D0, 0x661, '(', ']', 0x2329, 0x3009, '<', 0x2067, 0x10FFFF, 0xD800, 0x110000 };
   for (size_t i = 0; i < 12; i++) print_properties(&tables, codes[i]);
   print_properties((bidi_tables *)room, 'a');
+  uint8_t version[16] = { 0 };
+  n = bidi_version(version, sizeof version);
+  printf("version %s, of the header %s, bytes %zu\n", (char *)version, BIDI_VERSION, n);
+  find_bases(&tables, room);
+  pass_nulls(room, &tables);
   bidi_tables_free(&tables);
   print_properties(&tables, 'a');
 }

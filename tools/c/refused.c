@@ -43,6 +43,7 @@ int main(int argc, char **argv) {
   bidi_line_of(&room, 0, 2, levels, 3, order, 3, &n);
   bidi_run(&room, 0, 0, &run); bidi_shown(&room, &tables, text, 3, 0, shown, 3); bidi_mirror(&tables, '(');
   bidi_class(&tables, '(', levels); bidi_bracket(&tables, '(', levels);
+  bidi_base_level(&tables, text, 3, BIDI_AUTO, levels, &place); bidi_is_left_to_right(&tables, text, 3, levels, &place);
   const uint8_t bytes[] = { 'a', 0xD7, 0x90 }; const uint16_t units[] = { 'a', 0x5D0 }; bidi_line_t line_of;
   status += bidi_lay_out_utf8(&encoded, &tables, bytes, 3, BIDI_AUTO, none, 0, &place);
   status += bidi_lay_out_utf16(&encoded, &tables, units, 2, BIDI_AUTO, none, 0, &place);

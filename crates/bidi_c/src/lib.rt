@@ -4,6 +4,7 @@
 //! Each export is total for handles that are all zero or were made by these calls. docs/C.md is their manual.
 #![tactic(auto)]
 
+pub mod base;
 pub mod bidi_handle;
 pub mod encoded_calls;
 pub mod encoded_layouts;

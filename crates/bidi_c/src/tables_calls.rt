@@ -6,6 +6,7 @@ ghost use Rattle.bidi_held.specs.Holdings.{tables_in, SharesTables};
 ghost use Rattle.bidi_held.specs.MadeTables.{MakesTables, fault_named, image_by};
 ghost use Rattle.bidi_held.specs.Statuses.{Answers, AnswersNaming, Puts};
 ghost use Rattle.bidi_held.specs.Written.{WritesWhole};
+ghost use Rattle.bidi_held.specs.declared.version.TheConstants.{VERSION};
 ghost use Rattle.bidi_c.specs.HeldAt.{held_at, tables_at};
 
 use crate::bidi_handle::BidiHandle;
@@ -13,6 +14,7 @@ use bidi_held::held::Held;
 use bidi_held::read_tables::{BidiFault, kind_in, mirror_image, read_tables};
 use bidi_held::refusal::{Refusal, status};
 use bidi_held::standard_tables::{standard_tables, write_edition};
+use bidi_held::version::write_version;
 use std::alloc::Global;
 use std::sync::Arc;
 use ucdfiles::tables::Tables;
@@ -90,6 +92,14 @@ pub extern "C" fn bidi_edition(text: &mut [u8]) -> usize
     ensures { WritesWhole EDITION.now result text.old text.new }
 {
     write_edition(text)
+}
+
+/// How many bytes the version of the product has, as "1.0.0". They are written to `text`, if all fit there.
+#[unsafe(no_mangle)]
+pub extern "C" fn bidi_version(text: &mut [u8]) -> usize
+    ensures { WritesWhole VERSION.now result text.old text.new }
+{
+    write_version(text)
 }
 
 fn share_tables(
