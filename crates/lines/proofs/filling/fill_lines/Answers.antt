@@ -1,10 +1,8 @@
-use Rattle.std.proofs.Common.{rules, ◌≡◌, ◌<◌, ◌+◌, ◌-◌, ◌++◌, [], ◌∷◌, ℕ, List, Option, Bool, true, false, length, take, arith, sym, refl, ap, ◌∙◌, subst}
+use Rattle.std.proofs.Common.{rules, ◌≡◌, ◌<◌, ◌+◌, ◌-◌, ◌++◌, [], ◌∷◌, ℕ, List, true, length, take, arith, sym, refl, ap, ◌∙◌, subst}
 use Rattle.std.specs.Prelude.{IfSome, count_by, map, slice_index_or, slice_set}
-use Rattle.std.specs.Bool.{then_some}
 use Rattle.std.proofs.lemmas.List.{length-map, length-take-le, take_more, take_more_set, with_items_is}
 use Rattle.units.specs.Classes.{classes_of, is_separator}
 use Rattle.units.specs.Isolates.{level_of_para}
-use Rattle.units.specs.declared.level.ParaLevel.{ParaLevel}
 use Rattle.units.specs.declared.level.ParaLevel.TheVariants.{Zero}
 use Rattle.units.specs.Reordering.{begins_line, para_level_at}
 use Rattle.lines.specs.Bounds.{AreBounds, bound_at, first_bound}
