@@ -3,8 +3,8 @@
 # look-up included, and prints one table. Of ordinary texts it counts the instructions that a character takes, by
 # valgrind, which are the same on each run; of hostile ones it takes the time, which is not. Each text is one paragraph
 # and one line, in direction auto. Between the two stands what it takes to break a text that is laid out into lines of
-# 80 anew, and to copy each line's order. What is counted is done again and again over what was made once. In the column
-# of the C library levels and order are copied out besides.
+# 80 anew, and to copy each line's order; and what it takes to lay out each of these lines alone. What is counted is
+# done again and again over what was made once. In the column of the C library levels and order are copied out besides.
 #
 # usage: tools/beside_others.sh [FOLDER]      (FOLDER, with the property files: /usr/share/unicode)
 #
@@ -51,6 +51,7 @@ build lay_out_icu -licuuc
 build lay_out_fribidi -lfribidi
 build break_bidi_c "$library" "$heap"
 build break_icu -licuuc
+build line_bidi_c "$library" "$heap"
 [ -x "$program" ] || echo "no program at $program" >&2
 
 # characters_of TEXT: how many characters a file has.
@@ -112,6 +113,13 @@ for name in ${ordinary%% one_*}; do
     text=$work/texts/$name.txt
     count=$(characters_of "$text")
     row "$name" - "$(each_of break_bidi_c "$text" "$count")" "$(each_of break_icu "$text" "$count")" -
+done
+# shellcheck disable=SC2059
+printf "$head" "lines alone" "ours" "from C" "ICU" "FriBidi" "to ICU" "C to ICU"
+for name in ${ordinary%% one_*}; do
+    text=$work/texts/$name.txt
+    count=$(characters_of "$text")
+    row "$name" - "$(each_of line_bidi_c "$text" "$count")" "$(each_of break_icu "$text" "$count")" -
 done
 # shellcheck disable=SC2059
 printf "$head" "ns" "ours" "from C" "ICU" "FriBidi" "to ICU" "C to ICU"
