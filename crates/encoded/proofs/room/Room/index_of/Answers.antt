@@ -1,4 +1,4 @@
-use Rattle.std.proofs.Common.{◌∙◌, ◌+◌, ◌≡◌, ℕ, List, ap, arith, length, subst, sym, take}
+use Rattle.std.proofs.Common.{◌∙◌, ℕ, ap, arith, length, subst, sym}
 use Rattle.std.specs.Box.{boxed_slice_items}
 use Rattle.encoded.specs.Offsets.{AreStarts}
 use Rattle.encoded.specs.Starts.{AreOffsets}
