@@ -16,4 +16,4 @@ pub mod properties;
 pub mod room_calls;
 pub mod tables_calls;
 pub mod verdict_calls;
-pub mod visual;
+pub mod visual_calls;
