@@ -1,3 +1,4 @@
 -- What the proofs share.
+mod HeldRooms
 pub mod HeldTexts
 mod LevelWalk
