@@ -88,6 +88,10 @@ position code class level X W1 W2 W3 W4 W5 W6 W7 N0 N1 N2 I L1
 sequence 0 level 0 sos L eos L: 0
 order 0' '' explain --classes ON
 ends 2 '' 'bidi: X1 is no class' explain --classes 'ON X1 X2'
+# Classes in a word of 131,071 bytes, the longest that Linux hands to a program.
+"$program" explain --classes "ON$(printf '%131069s' '')" > found_out 2> found_err
+is 'status of the longest word of classes' 0 $?
+is 'order of the longest word of classes' 'order 0' "$(tail -n 1 found_out)"
 ends 3 '' 'bidi: cannot read missing.txt' explain --tables t missing.txt
 ends 2 '' 'bidi: a word is not UTF-8' judge --kind classes $'\xff'
 ends 3 '' 'bidi: cannot read missing.txt' levels --tables t missing.txt

@@ -4,8 +4,8 @@
 # refused, and no other. The program must end as ever, or say `bidi: out of memory` and end with 3. It prints, for each
 # crate that takes memory, how many growths were refused, and ends with 0 where all passed.
 #
-# usage: tools/refused_growths.sh [CRATE ..]    (of table_tests, file_tests, engine_tests, layout_tests, command_tests,
-#        bidi; with none all of them)
+# usage: tools/refused_growths.sh [CRATE ..]    (of table_tests, file_tests, engine_tests, layout_tests, text_tests,
+#        command_tests, bidi; with none all of them)
 #
 # It runs what `rt ci` leaves in crates/*/out, or `rt test` and `rt run` in a crate's folder, and takes some seconds. It
 # needs a C compiler (CC, else cc), and ends with 2 where that or a program is missing.
@@ -104,7 +104,7 @@ program_of_bidi() {
     echo "bidi: $growths growths refused, each in turn: the program, over files of the system"
 }
 
-for crate in ${*:-table_tests file_tests engine_tests layout_tests command_tests bidi}; do
+for crate in ${*:-table_tests file_tests engine_tests layout_tests text_tests command_tests bidi}; do
     case $crate in
         table_tests)
             tests_of table_tests 'the three readers of tables, and a source that had failed' \
@@ -118,8 +118,9 @@ for crate in ${*:-table_tests file_tests engine_tests layout_tests command_tests
                 rooms::says_that_memory_was_refused ;;
         layout_tests)
             tests_of layout_tests 'Scratch, and a thousand layouts after it' \
-                line_rows::no_growth_comes_after_making
-            tests_of layout_tests 'print_levels and print_reorder' \
+                line_rows::no_growth_comes_after_making ;;
+        text_tests)
+            tests_of text_tests 'print_levels and print_reorder' \
                 printed_refused::prints_or_says_that_memory_was_refused ;;
         command_tests)
             tests_of command_tests 'run over files in memory' \

@@ -22,18 +22,13 @@ use units::level::{Direction, Level};
 use units::slice_source::SliceSource;
 use units::steps::Steps;
 
-/// The tables of the small files, with these mirror images.
-pub fn tables_with(alloc: Global, mirrors: &[u8]) -> Result<Tables, TableFault> {
+/// The tables of the small files.
+pub fn tables(alloc: Global) -> Result<Tables, TableFault> {
     Ok(Tables::new(
         ClassTable::read(alloc, &mut SliceSource::new(CLASSES))?,
         BracketTable::read(alloc, &mut SliceSource::new(BRACKETS))?,
-        MirrorTable::read(alloc, &mut SliceSource::new(mirrors))?,
+        MirrorTable::read(alloc, &mut SliceSource::new(MIRRORS))?,
     ))
-}
-
-/// The tables of the small files.
-pub fn tables(alloc: Global) -> Result<Tables, TableFault> {
-    tables_with(alloc, MIRRORS)
 }
 
 /// The units of a text by these tables.

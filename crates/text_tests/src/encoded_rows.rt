@@ -59,6 +59,7 @@ fn tells_runs(rt: &impl Abort, room: &Room) -> Option<()> {
         shown: 2,
     };
     let mut out = [others];
+    assert_eq!(rt; room.layout().line_count(), 2);
     assert_eq!(rt; room.write_runs(0, ParaLevel::Zero, &mut out), 1);
     assert_eq!(rt; out[0], letter);
     assert_eq!(rt; room.write_runs(1, ParaLevel::Zero, &mut out), 1);
@@ -86,6 +87,7 @@ fn breaks_anew(rt: &impl Abort, room: &mut Room) -> Result<(), Fail> {
     assert_eq!(rt; inside.err(), Some(EncodedFault::BreakInside(0)));
     tells_offsets(rt, room);
     room.break_anew(&[3])?;
+    assert_eq!(rt; room.layout().line_count(), 2);
     assert_eq!(rt; room.line(0), EncodedLine { start: 0, end: 3 });
     has_levels(rt, room, &[1, 1, 0, 0]);
     room.break_anew(&[2])?;
@@ -127,9 +129,11 @@ fn lays_out_replaced(rt: &impl Abort, alloc: Global, tables: &Tables) -> Result<
     for (k, start) in CUT_SHORT_STARTS.iter().enumerate() {
         assert_eq!(rt; room.offset_of(k), *start);
     }
+    assert_eq!(rt; room.layout().line_count(), 3);
     assert_eq!(rt; room.line(1), EncodedLine { start: 4, end: 7 });
     let inside = room.lay_out_utf8_lossy(tables, CUT_SHORT, Direction::Ltr, &[2], limits);
     assert_eq!(rt; inside.err(), Some(EncodedFault::BreakInside(0)));
+    assert_eq!(rt; room.layout().line_count(), 3);
     assert_eq!(rt; room.line(1), EncodedLine { start: 4, end: 7 });
     Ok(())
 }

@@ -1,0 +1,23 @@
+//! The tables by which texts are laid out.
+use std::alloc::Global;
+use ucdfiles::bracket_table::BracketTable;
+use ucdfiles::class_table::ClassTable;
+use ucdfiles::fault::TableFault;
+use ucdfiles::mirror_table::MirrorTable;
+use ucdfiles::small::{BRACKETS, CLASSES, MIRRORS};
+use ucdfiles::tables::Tables;
+use units::slice_source::SliceSource;
+
+/// The tables of the small files, with these mirror images.
+pub fn tables_with(alloc: Global, mirrors: &[u8]) -> Result<Tables, TableFault> {
+    Ok(Tables::new(
+        ClassTable::read(alloc, &mut SliceSource::new(CLASSES))?,
+        BracketTable::read(alloc, &mut SliceSource::new(BRACKETS))?,
+        MirrorTable::read(alloc, &mut SliceSource::new(mirrors))?,
+    ))
+}
+
+/// The tables of the small files.
+pub fn tables(alloc: Global) -> Result<Tables, TableFault> {
+    tables_with(alloc, MIRRORS)
+}

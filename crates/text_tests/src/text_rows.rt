@@ -1,0 +1,95 @@
+//! Texts in one value with their layout: broken into two lines, refused, and as long as a text can be.
+use crate::given::tables;
+use lines::breaks::BreakFault;
+use std::alloc::Global;
+use std::process::Abort;
+use std::test::Fail;
+use texts::{Direction, Text, TextFault};
+use ucdfiles::tables::Tables;
+use units::memory::Memory;
+
+/// Compares a line as it is shown.
+fn is_shown(
+    rt: &impl Abort,
+    alloc: Global,
+    text: &Text<'_>,
+    k: usize,
+    shown: &str,
+) -> Result<(), Fail> {
+    assert!(rt; k < text.layout().line_count());
+    let line = text.shown_line(alloc, k)?;
+    assert_eq!(rt; line.as_str(), shown, "{k}");
+    Ok(())
+}
+
+/// A Hebrew letter and a bracket, broken before a Latin letter and a Hebrew one.
+fn shows_two_lines(rt: &impl Abort, alloc: Global, tables: &Tables) -> Result<(), Fail> {
+    let words = "\u{5D0}<a\u{5D1}";
+    let text = Text::lay_out(alloc, tables, words, Direction::Rtl, &[2])?;
+    assert_eq!(rt; text.chars(), ['\u{5D0}', '<', 'a', '\u{5D1}'].as_slice());
+    assert_eq!(rt; text.layout().line_count(), 2);
+    is_shown(rt, alloc, &text, 0, ">\u{5D0}")?;
+    is_shown(rt, alloc, &text, 1, "\u{5D1}a")
+}
+
+#[test]
+fn shows_each_line(rt: HostRuntime) -> Result<(), Fail> {
+    let tables = tables(rt.alloc())?;
+    shows_two_lines(&rt, rt.alloc(), &tables)
+}
+
+/// Compares why a text of two characters is refused with these breaks.
+fn is_refused(rt: &impl Abort, alloc: Global, tables: &Tables, at: &[usize], fault: BreakFault) {
+    let answer = Text::lay_out(alloc, tables, "ab", Direction::Auto, at);
+    assert_eq!(rt; answer.err(), Some(TextFault::Break(fault)));
+}
+
+#[test]
+fn names_the_first_faulty_break(rt: HostRuntime) -> Result<(), Fail> {
+    let tables = tables(rt.alloc())?;
+    is_refused(&rt, rt.alloc(), &tables, &[1, 2], BreakFault::OutOfRange(1));
+    is_refused(&rt, rt.alloc(), &tables, &[1, 1], BreakFault::NotRising(1));
+    Ok(())
+}
+
+/// So many times `a`.
+fn letters(alloc: Global, count: usize) -> Result<String, Memory> {
+    let mut text = String::with_capacity(alloc, count)?;
+    for _ in 0..count {
+        text.push('a')?;
+    }
+    Ok(text)
+}
+
+/// Lays out a text of so many characters in two lines, of which the second one has two characters.
+fn lays_out_long(
+    rt: &impl Abort,
+    alloc: Global,
+    tables: &Tables,
+    count: usize,
+) -> Result<(), Fail> {
+    assert!(rt; count > 2);
+    let words = letters(alloc, count)?;
+    let text = Text::lay_out(alloc, tables, &words, Direction::Auto, &[count - 2])?;
+    assert_eq!(rt; text.layout().line_count(), 2);
+    is_shown(rt, alloc, &text, 1, "aa")
+}
+
+#[test]
+fn lays_out_a_text_of_any_length(rt: HostRuntime) -> Result<(), Fail> {
+    let tables = tables(rt.alloc())?;
+    for count in [4_097, 1_000_001, 16_777_216] {
+        lays_out_long(&rt, rt.alloc(), &tables, count)?;
+    }
+    Ok(())
+}
+
+/// A text that has a character more is told as too long, also where its break is faulty.
+#[test]
+fn refuses_a_text_that_is_too_long(rt: HostRuntime) -> Result<(), Fail> {
+    let tables = tables(rt.alloc())?;
+    let words = letters(rt.alloc(), 16_777_217)?;
+    let answer = Text::lay_out(rt.alloc(), &tables, &words, Direction::Auto, &[0]);
+    assert_eq!(rt; answer.err(), Some(TextFault::TooLong));
+    Ok(())
+}
