@@ -57,7 +57,7 @@ fn words<'a>(alphabet: &'a str, lengths: &'a str) -> [&'a str; 8] {
 fn prints_rows_that_are_judged_right(rt: HostRuntime) {
     let alloc = rt.alloc();
     let rows = outcome_of(alloc, &words("LRO LRE PDF", "1..2"), &[]);
-    assert_eq!(rt; rows.status, 0);
+    assert_eq!(rt; rows.ended.status, 0);
     let files = [whole("FILE", rows.out.written())];
     let ending = Ending::prints(0, b"yes: 36 rows, 36 cases\n");
     assert_run(&rt, alloc, &JUDGE_CLASSES, &files, ending);
