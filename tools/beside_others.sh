@@ -3,8 +3,9 @@
 # look-up included, and prints one table. Of ordinary texts it counts the instructions that a character takes, by
 # valgrind, which are the same on each run; of hostile ones it takes the time, which is not. Each text is one paragraph
 # and one line, in direction auto. Between the two stands what it takes to break a text that is laid out into lines of
-# 80 anew, and to copy each line's order; and what it takes to lay out each of these lines alone. What is counted is
-# done again and again over what was made once. In the column of the C library levels and order are copied out besides.
+# 80 anew, and to copy each line's order; what it takes to lay out each of these lines alone; and what texts in UTF-8
+# and UTF-16 take, with what a code unit takes above the library's call on code points. What is counted is done again
+# and again over what was made once. In the columns of the C library levels and order are copied out besides.
 #
 # usage: tools/beside_others.sh [FOLDER]      (FOLDER, with the property files: /usr/share/unicode)
 #
@@ -52,11 +53,22 @@ build lay_out_fribidi -lfribidi
 build break_bidi_c "$library" "$heap"
 build break_icu -licuuc
 build line_bidi_c "$library" "$heap"
+build utf8_bidi_c "$library" "$heap"
+build utf8_icu -licuuc
+build utf8_fribidi -lfribidi
+build utf16_bidi_c "$library" "$heap"
 [ -x "$program" ] || echo "no program at $program" >&2
 
 # characters_of TEXT: how many characters a file has.
 characters_of() {
     python3 -c 'import sys; print(len(open(sys.argv[1], encoding="utf-8", newline="").read()))' "$1"
+}
+
+# units_of ENCODING TEXT: how many code units it has in UTF-8 or UTF-16.
+units_of() {
+    python3 -c 'import sys
+text = open(sys.argv[2], encoding="utf-8", newline="").read()
+print(len(text.encode(sys.argv[1])) // {"utf-8": 1, "utf-16-le": 2}[sys.argv[1]])' "$1" "$2"
 }
 
 # instructions WORD..: how many instructions a command runs. Words for callgrind stand before the command.
@@ -73,12 +85,19 @@ each_of_program() {
     [ -n "$few" ] && [ -n "$more" ] && echo "$(((more - few + 10 * $2) / (20 * $2)))" || echo -
 }
 
-# each_of NAME TEXT COUNT: those of an engine's program.
-each_of() {
+# all_of NAME TEXT: the instructions of 21 calls of an engine's program, or `-`.
+all_of() {
     [ -x "$work/$1" ] || { echo -; return; }
     local all
     all=$(instructions --toggle-collect=lay_out_once "$work/$1" "$2" 20 "$work")
-    [ -n "$all" ] && echo "$(((all + 10 * $3) / (21 * $3)))" || echo -
+    echo "${all:--}"
+}
+
+# each_of NAME TEXT COUNT: those of one call for a character.
+each_of() {
+    local all
+    all=$(all_of "$1" "$2")
+    [ "$all" != - ] && echo "$(((all + 10 * $3) / (21 * $3)))" || echo -
 }
 
 # time_of WORD..: the nanoseconds that a program takes for a character, or `-` where it is missing or out of time.
@@ -95,6 +114,19 @@ row() {
         BEGIN {
             printf "%-18s %10s %10s %10s %10s %8s %8s\n",
                 name, ours, from_c, icu, fribidi, beside(ours, icu), beside(from_c, icu)
+        }'
+}
+
+# encoded_row NAME CHARACTERS UNITS CODES OURS ICU FRIBIDI, the last four of 21 calls, each of which may be `-`: a line
+# of the table of texts in code units, with the ratio to ICU, and what each unit takes above the call on code points.
+encoded_row() {
+    awk -v name="$1" -v characters="$2" -v units="$3" -v codes="$4" -v ours="$5" -v icu="$6" -v fribidi="$7" '
+        function each(all) { return all == "-" ? "-" : sprintf("%.0f", all / (21 * characters)) }
+        function beside(a, b) { return a == "-" || b == "-" || b == 0 ? "-" : sprintf("%.2f", a / b) }
+        function above(a, b) { return a == "-" || b == "-" ? "-" : sprintf("%.1f", (a - b) / (21 * units)) }
+        BEGIN {
+            printf "%-18s %10s %10s %10s %10s %8s %8s\n",
+                name, each(codes), each(ours), each(icu), each(fribidi), beside(ours, icu), above(ours, codes)
         }'
 }
 
@@ -120,6 +152,20 @@ for name in ${ordinary%% one_*}; do
     text=$work/texts/$name.txt
     count=$(characters_of "$text")
     row "$name" - "$(each_of line_bidi_c "$text" "$count")" "$(each_of break_icu "$text" "$count")" -
+done
+# shellcheck disable=SC2059
+printf "$head" "in UTF-8" "codes" "ours" "ICU" "FriBidi" "to ICU" "a unit"
+for name in ${ordinary%% one_*}; do
+    text=$work/texts/$name.txt
+    encoded_row "$name" "$(characters_of "$text")" "$(units_of utf-8 "$text")" "$(all_of lay_out_bidi_c "$text")" \
+        "$(all_of utf8_bidi_c "$text")" "$(all_of utf8_icu "$text")" "$(all_of utf8_fribidi "$text")"
+done
+# shellcheck disable=SC2059
+printf "$head" "in UTF-16" "codes" "ours" "ICU" "FriBidi" "to ICU" "a unit"
+for name in ${ordinary%% one_*}; do
+    text=$work/texts/$name.txt
+    encoded_row "$name" "$(characters_of "$text")" "$(units_of utf-16-le "$text")" "$(all_of lay_out_bidi_c "$text")" \
+        "$(all_of utf16_bidi_c "$text")" "$(all_of lay_out_icu "$text")" -
 done
 # shellcheck disable=SC2059
 printf "$head" "ns" "ours" "from C" "ICU" "FriBidi" "to ICU" "C to ICU"

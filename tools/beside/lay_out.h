@@ -4,9 +4,10 @@
  * usage: lay_out_.. FILE ROUNDS [FOLDER]
  *
  * An engine's file defines `prepare`, which makes room and keeps the text, and `lay_out_once`, which looks up the
- * classes and lays the text out. FOLDER holds the property files, for an engine that reads them. Of all ROUNDS + 1
- * calls all but the first are timed. It prints the number of characters and the nanoseconds that each takes, the least
- * of ten batches. Instructions: valgrind --tool=callgrind --toggle-collect=lay_out_once.
+ * classes and lays the text out; one that takes UTF-8 takes the bytes of the file. FOLDER holds the property files, for
+ * an engine that reads them. Of all ROUNDS + 1 calls all but the first are timed. It prints the number of characters
+ * and the nanoseconds that each takes, the least of ten batches. Instructions: valgrind --tool=callgrind
+ * --toggle-collect=lay_out_once.
  */
 #include <stdint.h>
 #include <stdio.h>
@@ -53,6 +54,10 @@ static uint32_t *decode(const uint8_t *bytes, size_t length, size_t *count) {
     return codes;
 }
 
+/* The bytes of the file, which is in UTF-8. */
+static uint8_t *file_bytes;
+static size_t file_length;
+
 /* Of the engine. */
 static void prepare(const uint32_t *codes, size_t n, const char *folder);
 void lay_out_once(void);
@@ -65,9 +70,9 @@ static double seconds(void) {
 
 int main(int count, char **words) {
     if (count < 3) fail("usage: lay_out FILE ROUNDS [FOLDER]");
-    size_t length, n;
-    uint8_t *bytes = read_bytes(words[1], &length);
-    uint32_t *codes = decode(bytes, length, &n);
+    size_t n;
+    file_bytes = read_bytes(words[1], &file_length);
+    uint32_t *codes = decode(file_bytes, file_length, &n);
     prepare(codes, n, count > 3 ? words[3] : ".");
 
     lay_out_once();

@@ -1,0 +1,27 @@
+/* The engine of this repository, by the library for programs in C: a text in UTF-8 is decoded and laid out, and the
+ * levels and the order of its characters are copied out. */
+#include "lay_out.h"
+#include "../c/bidi.h"
+
+static bidi_tables tables = BIDI_NONE;
+static bidi_room text_room = BIDI_NONE;
+static size_t length, *order;
+static uint8_t *levels;
+
+static void prepare(const uint32_t *codes, size_t n, const char *folder) {
+    (void)codes;
+    (void)folder;
+    if (bidi_tables_standard(&tables)) fail("no tables");
+    if (bidi_room_new_encoded(file_length, &text_room)) fail("no room");
+    length = n;
+    order = room(sizeof(size_t) * n);
+    levels = room(n);
+}
+
+__attribute__((noinline)) void lay_out_once(void) {
+    static const size_t none[1];
+    uint64_t place;
+    if (bidi_lay_out_utf8(&text_room, &tables, file_bytes, file_length, BIDI_AUTO, none, 0, &place)) fail("no layout");
+    bidi_levels(&text_room, levels, length);
+    bidi_order(&text_room, 0, order, length);
+}
