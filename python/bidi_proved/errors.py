@@ -104,6 +104,27 @@ class NoVerdict(BidiError, ValueError):
     status = 19
 
 
+class LineNotForward(BidiError, ValueError):
+    """The line does not start below its end."""
+
+    says = "The line does not start below its end"
+    status = 21
+
+
+class LineBeyondText(BidiError, ValueError):
+    """The line starts below 0, or ends behind the text."""
+
+    says = "The line starts below 0, or ends behind the text"
+    status = 22
+
+
+class LineCrossesParagraph(BidiError, ValueError):
+    """The line goes on behind the end of a paragraph."""
+
+    says = "The line goes on behind the end of a paragraph"
+    status = 23
+
+
 class StaleLayout(BidiError):
     """The room has laid out another text since, or broken this one into other lines."""
 

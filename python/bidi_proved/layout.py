@@ -2,13 +2,14 @@
 import array
 import contextlib
 import enum
+import itertools
 import threading
 import typing
 import weakref
 
 from . import library
 from .errors import StaleLayout, refuse
-from .library import CALL, Handle, address, copied, items
+from .library import CALL, Handle, address, codes_of, copied, items
 from .tables import Lent
 
 REMOVED = 255
@@ -54,6 +55,14 @@ def _placed(breaks):
     return placed or items("Q", 0), len(placed)
 
 
+def _span(start, end, most):
+    """A line as the library takes it, of a text of at most so many positions; numbers that no such text has become a
+    line that is refused for the same reason."""
+    if start >= end:
+        return 0, 0
+    return (start, end) if 0 <= start and end <= most else (most, most + 1)
+
+
 def _number_of(item):
     """The number of a class; what names none becomes one that is refused as well."""
     number = NUMBERS.get(item, REMOVED) if isinstance(item, str) else item
@@ -64,7 +73,8 @@ class Room:
     """Memory for texts of up to `size` characters, 87 bytes for each, and for the layout of the last one.
 
     Whoever lays out many texts makes one for each thread. A layout of it can be asked until it lays out the next
-    text or breaks this one anew, and raises StaleLayout from then on. A call waits while another thread is in a call on the same room.
+    text or breaks this one anew, and raises StaleLayout from then on. A call waits while another thread is in a call
+    on the same room.
     """
 
     def __init__(self, size):
@@ -84,7 +94,7 @@ class Room:
         Refused with TextTooLong, BreakOutOfRange, BreakNotRising, NoCharacter, DepthRefused or BracketsRefused; the
         room holds what it held then.
         """
-        codes = _codes_of(text)
+        codes = codes_of(text)
 
         def call(*words):
             if self._lent is None or self._lent.tables is not tables:
@@ -146,6 +156,18 @@ class Layout:
             self._room._laid_out += 1
             return Layout(self._room, self._room._laid_out, self._lent, self._text, self._codes)
 
+    def line_of(self, start, end):
+        """One line alone of the text (L1, L2), from `start` to before `end`, at the cost of that line, wherever other
+        lines end: for those who show a part of a long text, or measure where lines may end. Levels are not found anew,
+        and this layout and its lines stay as they are.
+
+        Refused with LineNotForward, LineBeyondText or LineCrossesParagraph. NotImplementedError: the library is an
+        older one.
+        """
+        if not library.HAS_LINE_OF:
+            raise NotImplementedError("this library lays out no line alone")
+        return LineAlone(self, start, end)
+
     @property
     def lines(self):
         """Its lines, in the order of the text."""
@@ -157,6 +179,20 @@ class Layout:
         """Its lines as they are shown, each a str from left to right with mirror images (L4), without the paragraph
         separator at its end and without what X9 removes. What shows them may not reorder them once more."""
         return [line.display() for line in self.lines]
+
+    def _characters(self):
+        """The text that was laid out."""
+        if self._text is None:
+            raise ValueError("a text of classes has no characters")
+        return self._text
+
+    def _displayed(self, line):
+        """What one of its lines shows, without a paragraph separator."""
+        shown, last = line.shown, line.end - 1
+        if last < line.start or not self._lent.tables._separates(self._text[last]):
+            return shown
+        at = line.order.index(last)
+        return shown[:at] + shown[at + 1 :]
 
     def _asked(self, code, call, *words):
         """What a look-up of the library writes."""
@@ -208,31 +244,65 @@ class Line:
         """Its characters as they are shown, from left to right, with mirror images (L4); a paragraph separator is one
         of them. ValueError: a text of classes has no characters."""
         layout = self._layout
-        if layout._text is None:
-            raise ValueError("a text of classes has no characters")
+        n = len(layout._characters())
 
         def call(handle, *words):
             with layout._lent.guard:
-                return CALL.bidi_shown(
-                    handle, layout._lent.handle, address(layout._codes), len(layout._text), self._number, *words
-                )
+                return CALL.bidi_shown(handle, layout._lent.handle, address(layout._codes), n, self._number, *words)
 
         return layout._asked("I", call).tobytes().decode("utf-32-le")
 
     def display(self):
         """`shown` without a paragraph separator."""
-        shown, last = self.shown, self.end - 1
-        if last < self.start or not self._layout._lent.tables._separates(self._layout._text[last]):
-            return shown
-        at = self.order.index(last)
-        return shown[:at] + shown[at + 1 :]
+        return self._layout._displayed(self)
 
 
-def _codes_of(text):
-    """The code points of a str. Half of a surrogate pair stays what it is, and the library refuses it."""
-    codes = array.array("I")
-    codes.frombytes(text.encode("utf-32-le", "surrogatepass"))
-    return codes or items("I", 0)
+class LineAlone:
+    """A line of a text that was laid out, found without the text's other lines: positions [start, end) of the text.
+
+    `levels` has the level of each of them after L1, None where X9 removes it, and `order` those that are shown, from
+    left to right (L2). All of it stays when the room lays out another text.
+    """
+
+    def __init__(self, layout, start, end):
+        self._layout, self.start, self.end = layout, start, end
+        start, end = _span(start, end, layout._room.size)
+        n, shown = end - start, library.c_size_t(0)
+        levels, order = items("B", n), items("Q", n)
+        with layout._held() as handle:
+            refuse(CALL.bidi_line_of(handle, start, end, address(levels), n, address(order), n, shown))
+        self.levels = [None if level == REMOVED else level for level in levels]
+        self.order = order[: shown.value].tolist()
+
+    @property
+    def places(self):
+        """The place of each of its positions, from `start` on, None where X9 removes it."""
+        found = {at: place for place, at in enumerate(self.order)}
+        return [found.get(at) for at in range(self.start, self.end)]
+
+    @property
+    def runs(self):
+        """Its visual runs from left to right."""
+        found = []
+        for level, positions in itertools.groupby(self.order, self._level):
+            positions = list(positions)
+            first, last = min(positions), max(positions)
+            found.append(Run(first, last + 1 - first, len(positions), level))
+        return found
+
+    @property
+    def shown(self):
+        """Its characters as they are shown, from left to right, with mirror images (L4); a paragraph separator is one
+        of them. ValueError: a text of classes has no characters."""
+        text, mirror = self._layout._characters(), self._layout._lent.tables.mirror
+        return "".join(mirror(text[at]) if self._level(at) % 2 else text[at] for at in self.order)
+
+    def display(self):
+        """`shown` without a paragraph separator."""
+        return self._layout._displayed(self)
+
+    def _level(self, at):
+        return self.levels[at - self.start]
 
 
 def lay_out(text, tables, direction=Direction.AUTO, breaks=(), limits=Limits()):

@@ -51,6 +51,7 @@ HANDLE = POINTER(Handle)
 TEXT = [HANDLE, HANDLE, c_void_p, c_size_t, c_uint32, c_void_p, c_size_t]
 CLASSES = [HANDLE, c_char_p, c_size_t, c_uint32, c_void_p, c_size_t]
 PLACE = POINTER(c_uint64)
+BYTE = POINTER(c_uint8)
 CALLS = {
     "bidi_tables_new": (c_uint32, [c_char_p, c_size_t] * 3 + [HANDLE, POINTER(Fault)]),
     "bidi_tables_free": (None, [HANDLE]),
@@ -79,7 +80,11 @@ NEWER_CALLS = {
     "bidi_tables_standard": (c_uint32, [HANDLE]),
     "bidi_tables_share": (c_uint32, [HANDLE, HANDLE]),
     "bidi_edition": (c_size_t, [c_void_p, c_size_t]),
+    "bidi_version": (c_size_t, [c_void_p, c_size_t]),
     "bidi_set_lines": (c_uint32, [HANDLE, c_void_p, c_size_t, PLACE]),
+    "bidi_line_of": (c_uint32, [HANDLE, c_size_t, c_size_t, *[c_void_p, c_size_t] * 2, POINTER(c_size_t)]),
+    "bidi_base_level": (c_uint32, [HANDLE, c_void_p, c_size_t, c_uint32, BYTE, PLACE]),
+    "bidi_is_left_to_right": (c_uint32, [HANDLE, c_void_p, c_size_t, BYTE, PLACE]),
 }
 
 
@@ -121,6 +126,10 @@ HAS_STANDARD_TABLES = hasattr(CALL, "bidi_tables_standard") and hasattr(CALL, "b
 SHARES_TABLES = hasattr(CALL, "bidi_tables_share")
 # Whether a text that is laid out can be broken into lines anew.
 SETS_LINES = hasattr(CALL, "bidi_set_lines")
+# Whether one line alone of such a text can be laid out.
+HAS_LINE_OF = hasattr(CALL, "bidi_line_of")
+# Whether it says of a text what is known without a layout.
+HAS_BASE_LEVEL = hasattr(CALL, "bidi_base_level") and hasattr(CALL, "bidi_is_left_to_right")
 
 
 def items(code, n):
@@ -142,3 +151,15 @@ def copied(code, ask):
     kept = items(code, n)
     ask(address(kept), n)
     return kept[:n]
+
+
+def codes_of(text):
+    """The code points of a str. Half of a surrogate pair stays what it is, and the library refuses it."""
+    codes = array.array("I")
+    codes.frombytes(text.encode("utf-32-le", "surrogatepass"))
+    return codes or items("I", 0)
+
+
+def version():
+    """The version of the library that was loaded, such as "1.0.0", or None where it tells none."""
+    return copied("B", CALL.bidi_version).tobytes().decode("ascii") if hasattr(CALL, "bidi_version") else None

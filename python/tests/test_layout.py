@@ -1,10 +1,12 @@
 """Texts whose levels, order, runs and shown lines were worked out by hand by the rules."""
 import pickle
+import re
 import unittest
 
 import bidi_proved as bidi
+from bidi_proved.errors import BY_STATUS
 
-from . import PUBLISHED, all_tables, small_tables
+from . import PUBLISHED, TOP, all_tables, small_tables
 
 ALEF, BET, GIMEL, DALET = "\u05d0\u05d1\u05d2\u05d3"
 
@@ -141,6 +143,21 @@ class Refused(unittest.TestCase):
             bidi.Tables(b"", b"0028; 0029; x\n", b"")
         with self.assertRaises(bidi.MirrorFileFault):
             bidi.Tables(b"", b"", b"0028\n")
+
+
+class Statuses(unittest.TestCase):
+    """Each status of the header has an exception, but for those that no call of the module can be answered with."""
+
+    NEVER = {
+        "BIDI_DONE", "BIDI_NO_DIRECTION", "BIDI_NO_ROOM", "BIDI_NO_TABLES", "BIDI_NO_PLACE", "BIDI_TOO_SMALL",
+        "BIDI_ILL_FORMED", "BIDI_BREAK_INSIDE",
+    }
+
+    def test_exceptions(self):
+        header = (TOP / "tools/c/bidi.h").read_text()
+        enum = re.search(r"enum \{\n( *BIDI_DONE = 0,.*?)\};", header, re.DOTALL)[1]
+        numbers = {name: int(number) for name, number in re.findall(r"^ *(BIDI_\w+) = (\d+)", enum, re.MULTILINE)}
+        self.assertEqual(set(BY_STATUS), {number for name, number in numbers.items() if name not in self.NEVER})
 
 
 class BuiltIn(unittest.TestCase):
