@@ -9,9 +9,10 @@ weak_steps = 1 + 1
 abbrev pub pair_steps : ℕ
 pair_steps = 2 + 63
 
--- N0: the walk, what is looked at inside for each of two directions, and the brackets and marks that take one
+-- N0: the walk, what is looked at inside for each of two directions, what is looked back at for the nearest strong
+-- class, and the brackets and marks that take a direction
 abbrev pub paired_steps : ℕ
-paired_steps = 1 + 2 + 1
+paired_steps = 1 + 2 + 1 + 1
 
 -- BD14 to BD16, N0
 abbrev pub bracket_steps : ℕ
