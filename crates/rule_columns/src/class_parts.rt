@@ -21,81 +21,16 @@ use units::level::Level;
 use units::memory::Memory;
 use units::steps::Steps;
 
-/// The classes after each of W1 to W3.
+/// The classes after each of W1 to W7.
 #[derive(Drop)]
-pub struct FirstWeak {
+pub struct WeakPart {
     pub(crate) w1: Vec<Class>,
     pub(crate) w2: Vec<Class>,
     pub(crate) w3: Vec<Class>,
-}
-
-impl FirstWeak {
-    /// Of a paragraph, by its sequences and its classes after X1 to X9. The error is refused memory.
-    fn of<L: Ledger>(
-        alloc: Global,
-        sequences: &Sequences,
-        current: &[Class],
-        steps: &mut Steps<L>,
-    ) -> Result<FirstWeak, Memory>
-        requires apart { AreDisjoint sequences.now.extent sequences.now.all }
-        requires length { length current.now ≡ sequences.now.extent }
-        ensures w1 { IfOk result (λ part. part.w1.items
-            ≡ rewritten (by_pass pass.W1) sequences.now.all current.now) }
-        ensures w2 { IfOk result (λ part. part.w2.items
-            ≡ rewritten (by_pass pass.W2) sequences.now.all part.w1.items) }
-        ensures w3 { IfOk result (λ part. part.w3.items
-            ≡ rewritten (by_pass pass.W3) sequences.now.all part.w2.items) }
-        ensures length { IfOk result (λ part. length part.w3.items ≡ sequences.now.extent) }
-    {
-        let w1 = rewritten(alloc, Pass::W1, sequences, current, steps)?;
-        let w2 = rewritten(alloc, Pass::W2, sequences, &w1, steps)?;
-        let w3 = rewritten(alloc, Pass::W3, sequences, &w2, steps)?;
-        Ok(FirstWeak { w1, w2, w3 })
-    }
-}
-
-/// The classes after each of W4 to W7.
-#[derive(Drop)]
-pub struct LastWeak {
     pub(crate) w4: Vec<Class>,
     pub(crate) w5: Vec<Class>,
     pub(crate) w6: Vec<Class>,
     pub(crate) w7: Vec<Class>,
-}
-
-impl LastWeak {
-    /// Of a paragraph, by its sequences and its classes after W3. The error is refused memory.
-    fn of<L: Ledger>(
-        alloc: Global,
-        sequences: &Sequences,
-        w3: &[Class],
-        steps: &mut Steps<L>,
-    ) -> Result<LastWeak, Memory>
-        requires apart { AreDisjoint sequences.now.extent sequences.now.all }
-        requires length { length w3.now ≡ sequences.now.extent }
-        ensures w4 { IfOk result (λ part. part.w4.items
-            ≡ rewritten (by_pass pass.W4) sequences.now.all w3.now) }
-        ensures w5 { IfOk result (λ part. part.w5.items
-            ≡ rewritten (by_pass pass.W5) sequences.now.all part.w4.items) }
-        ensures w6 { IfOk result (λ part. part.w6.items
-            ≡ rewritten (by_pass pass.W6) sequences.now.all part.w5.items) }
-        ensures w7 { IfOk result (λ part. part.w7.items
-            ≡ rewritten (by_pass pass.W7) sequences.now.all part.w6.items) }
-        ensures length { IfOk result (λ part. length part.w7.items ≡ sequences.now.extent) }
-    {
-        let w4 = rewritten(alloc, Pass::W4, sequences, w3, steps)?;
-        let w5 = rewritten(alloc, Pass::W5, sequences, &w4, steps)?;
-        let w6 = rewritten(alloc, Pass::W6, sequences, &w5, steps)?;
-        let w7 = rewritten(alloc, Pass::W7, sequences, &w6, steps)?;
-        Ok(LastWeak { w4, w5, w6, w7 })
-    }
-}
-
-/// The classes after each of W1 to W7.
-#[derive(Drop)]
-pub struct WeakPart {
-    pub(crate) first: FirstWeak,
-    pub(crate) last: LastWeak,
 }
 
 impl Model for WeakPart {
@@ -103,7 +38,7 @@ impl Model for WeakPart {
 
     ghost Value = { WeakOf };
 
-    ghost view = { λ part. record { w1 = part.first.w1.items; w2 = part.first.w2.items; w3 = part.first.w3.items; w4 = part.last.w4.items; w5 = part.last.w5.items; w6 = part.last.w6.items; w7 = part.last.w7.items } };
+    ghost view = { λ part. record { w1 = part.w1.items; w2 = part.w2.items; w3 = part.w3.items; w4 = part.w4.items; w5 = part.w5.items; w6 = part.w6.items; w7 = part.w7.items } };
 }
 
 impl WeakPart {
@@ -119,9 +54,22 @@ impl WeakPart {
         ensures value { IfOk result (λ part. part ≡ weak_part sequences.now.all current.now) }
         ensures length { IfOk result (λ part. length part.w7 ≡ sequences.now.extent) }
     {
-        let first = FirstWeak::of(alloc, sequences, current, steps)?;
-        let last = LastWeak::of(alloc, sequences, &first.w3, steps)?;
-        Ok(WeakPart { first, last })
+        let w1 = rewritten(alloc, Pass::W1, sequences, current, steps)?;
+        let w2 = rewritten(alloc, Pass::W2, sequences, &w1, steps)?;
+        let w3 = rewritten(alloc, Pass::W3, sequences, &w2, steps)?;
+        let w4 = rewritten(alloc, Pass::W4, sequences, &w3, steps)?;
+        let w5 = rewritten(alloc, Pass::W5, sequences, &w4, steps)?;
+        let w6 = rewritten(alloc, Pass::W6, sequences, &w5, steps)?;
+        let w7 = rewritten(alloc, Pass::W7, sequences, &w6, steps)?;
+        Ok(WeakPart {
+            w1,
+            w2,
+            w3,
+            w4,
+            w5,
+            w6,
+            w7,
+        })
     }
 }
 

@@ -47,8 +47,7 @@ impl ClassesPart {
         ensures { IfOk result (λ part. part ≡ classes_part sequences.now.all para.now current.items) }
     {
         let weak = WeakPart::of(alloc, sequences, &current, steps)?;
-        let w7 = &weak.last.w7;
-        let brackets = BracketPart::of(alloc, sequences, para, &current, w7, steps)?;
+        let brackets = BracketPart::of(alloc, sequences, para, &current, &weak.w7, steps)?;
         let resolved = ResolvedPart::of(alloc, sequences, &brackets.n0, steps)?;
         Ok(ClassesPart {
             current,

@@ -71,13 +71,13 @@ impl Columns {
     {
         match rule {
             Rule::X => &self.classes.current,
-            Rule::W1 => &self.classes.weak.first.w1,
-            Rule::W2 => &self.classes.weak.first.w2,
-            Rule::W3 => &self.classes.weak.first.w3,
-            Rule::W4 => &self.classes.weak.last.w4,
-            Rule::W5 => &self.classes.weak.last.w5,
-            Rule::W6 => &self.classes.weak.last.w6,
-            Rule::W7 => &self.classes.weak.last.w7,
+            Rule::W1 => &self.classes.weak.w1,
+            Rule::W2 => &self.classes.weak.w2,
+            Rule::W3 => &self.classes.weak.w3,
+            Rule::W4 => &self.classes.weak.w4,
+            Rule::W5 => &self.classes.weak.w5,
+            Rule::W6 => &self.classes.weak.w6,
+            Rule::W7 => &self.classes.weak.w7,
             Rule::N0 => &self.classes.brackets.n0,
             Rule::N1 => &self.classes.resolved.n1,
             Rule::N2 => &self.classes.resolved.n2,
@@ -121,28 +121,6 @@ impl Columns {
     }
 }
 
-/// What `columns_of` does, and counts its steps.
-fn counted_columns<L: Ledger>(
-    alloc: Global,
-    para: &[Unit],
-    direction: Direction,
-    steps: &mut Steps<L>,
-) -> Result<Columns, Memory>
-    requires separators { SeparatorOnlyLast para.now }
-    requires length { length para.now ≤ longest_text }
-    ensures { IfOk result (λ columns. columns ≡ columns_of para.now direction) }
-{
-    let shown = ShownPart::of(alloc, para, direction, steps)?;
-    let explicit = ExplicitPart::of(alloc, para, direction, steps)?;
-    let current = current_classes(alloc, &explicit.places, para.len())?;
-    let classes = ClassesPart::of(alloc, &explicit.sequences, para, current, steps)?;
-    Ok(Columns {
-        explicit,
-        classes,
-        shown,
-    })
-}
-
 /// What `columns_of` does, by a count of steps that begins with the blank.
 fn columns_with<L: Ledger>(
     alloc: Global,
@@ -158,7 +136,15 @@ fn columns_with<L: Ledger>(
     ensures { IfOk result (λ columns. columns ≡ columns_of para.now direction) }
 {
     let mut steps = Steps::<L>::new(blank);
-    counted_columns(alloc, para, direction, &mut steps)
+    let shown = ShownPart::of(alloc, para, direction, &mut steps)?;
+    let explicit = ExplicitPart::of(alloc, para, direction, &mut steps)?;
+    let current = current_classes(alloc, &explicit.places, para.len())?;
+    let classes = ClassesPart::of(alloc, &explicit.sequences, para, current, &mut steps)?;
+    Ok(Columns {
+        explicit,
+        classes,
+        shown,
+    })
 }
 
 /// What the rules leave of a paragraph under a direction, by the standard limits (P2 to L2). The error is refused

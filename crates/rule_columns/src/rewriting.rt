@@ -11,23 +11,7 @@ use units::class::Class;
 use units::memory::Memory;
 use units::steps::Steps;
 
-/// Does what a rule says to the classes of a paragraph, sequence by sequence.
-fn rewrite<L: Ledger>(
-    pass: Pass,
-    sequences: &Sequences,
-    classes: &mut [Class],
-    steps: &mut Steps<L>,
-)
-    requires apart { AreDisjoint sequences.now.extent sequences.now.all }
-    requires length { length classes.old ≡ sequences.now.extent }
-    ensures { classes.new ≡ rewritten (by_pass pass) sequences.now.all classes.old }
-{
-    for k in 0..sequences.count() {
-        apply(pass, &sequences.get(k), classes, steps);
-    }
-}
-
-/// The classes of a paragraph after a rule, by those before it. The error is refused memory.
+/// The classes of a paragraph after a rule, by those before it, sequence by sequence. The error is refused memory.
 pub fn rewritten<L: Ledger>(
     alloc: Global,
     pass: Pass,
@@ -41,6 +25,8 @@ pub fn rewritten<L: Ledger>(
     ensures length { IfOk result (λ classes. length classes.items ≡ sequences.now.extent) }
 {
     let mut classes = Vec::from_slice(alloc, before)?;
-    rewrite(pass, sequences, &mut classes, steps);
+    for k in 0..sequences.count() {
+        apply(pass, &sequences.get(k), &mut classes, steps);
+    }
     Ok(classes)
 }

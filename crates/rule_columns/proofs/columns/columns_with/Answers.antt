@@ -1,7 +1,7 @@
 use Rattle.paragraph.specs.Covering.{positions_in}
 use Rattle.rule_columns.specs.Columns.{explicit_view}
 use Rattle.rule_columns.proofs.PuttingTogether.{columns_from, own_from}
-use Rattle.rule_columns.proofs.columns.counted_columns.Goals as goal
+use Rattle.rule_columns.proofs.columns.columns_with.Goals as goal
 
 pub of-requires-3-clause-own : goal.of-requires-3-clause-own
 of-requires-3-clause-own g c =
