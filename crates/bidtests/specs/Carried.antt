@@ -52,9 +52,9 @@ cases_behind _ before = before
 abbrev pub counted : Finding → Carried → Carried
 counted found s = record { limits = s.limits; levels = s.levels; order = s.order; rows = rows_behind found s.rows; cases = cases_behind found s.cases }
 
--- with a row counted that has so many cases
-abbrev pub with_row : ℕ → Carried → Carried
-with_row cases s = record { limits = s.limits; levels = s.levels; order = s.order; rows = saturated (s.rows + 1); cases = saturated (s.cases + cases) }
+-- with a right row counted that has so many cases
+abbrev pub with_right_row : ℕ → Carried → Carried
+with_right_row cases s = record { limits = s.limits; levels = s.levels; order = s.order; rows = saturated (s.rows + 1); cases = saturated (s.cases + cases) }
 
 -- with the list in force that a line of a classes file says
 abbrev pub listed : ClassesLine → Carried → Carried

@@ -15,10 +15,10 @@ wrong_fault None = None
 wrong_fault (Some x) = Some (OfCase x.0 x.1)
 
 -- what is wrong with a line that comes to this, if it is malformed or holds a wrong case
-abbrev pub fault_of : LimitsOf → Finding → Option LineFault
-fault_of limits Silent = None
-fault_of limits (Faulty cause) = Some (OfForm cause)
-fault_of limits (Row claim) = wrong_fault (wrong_case limits claim claim.directions)
+abbrev pub line_fault_of : LimitsOf → Finding → Option LineFault
+line_fault_of limits Silent = None
+line_fault_of limits (Faulty cause) = Some (OfForm cause)
+line_fault_of limits (Row claim) = wrong_fault (wrong_case limits claim claim.directions)
 
 -- the no that a line of this number gives with this fault
 abbrev pub no_with : ℕ → LineFault → Verdict

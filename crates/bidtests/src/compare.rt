@@ -10,7 +10,7 @@ ghost use Rattle.units.specs.Positions.{same_position};
 ghost use Rattle.lines.specs.Layouts.{view_of};
 ghost use Rattle.lines.specs.Scratches.{room_of};
 ghost use Rattle.bidtests.specs.Verdicts.{agrees, first_of, first_difference, Row};
-ghost use Rattle.bidtests.specs.LineFaults.{fault_of};
+ghost use Rattle.bidtests.specs.LineFaults.{line_fault_of};
 ghost use Rattle.std.specs.Result.{result_err};
 ghost use Rattle.bidtests.specs.Readings.{claim_of};
 ghost use Rattle.bidtests.specs.Comparisons.{Compares, ComparesWith, DiffersAt, GoesOnBehind};
@@ -152,7 +152,7 @@ fn compare(
 /// and where. LTR or RTL is passed over where auto gave the same layout.
 pub fn judge_claim(scratch: &mut Scratch, claim: Claim<'_>, limits: Limits) -> Result<(), LineFault>
     requires { length claim.text.now ≤ room_of scratch.old }
-    ensures fault { result_err result ≡ fault_of limits (Row (claim_of claim.entry)) }
+    ensures fault { result_err result ≡ line_fault_of limits (Row (claim_of claim.entry)) }
     ensures room { room_of scratch.new ≡ room_of scratch.old }
 {
     let mut right = None;

@@ -2,7 +2,7 @@
 ghost use Rattle.std.specs.Prelude.{◌≡◌, ◌≤◌, IfOk, OnOk, length};
 ghost use Rattle.std.specs.Result.{result_err};
 ghost use Rattle.units.specs.Text.{longest_line};
-ghost use Rattle.bidtests.specs.LineFaults.{fault_of};
+ghost use Rattle.bidtests.specs.LineFaults.{line_fault_of};
 ghost use Rattle.lines.specs.Scratches.{room_of};
 
 use crate::compare::judge_claim;
@@ -54,7 +54,7 @@ fn scratch(alloc: Global) -> Result<Scratch, Memory>
 }
 
 impl LineJudge {
-    ghost use Rattle.bidtests.specs.Carried.{at_start, no_at, after_line, comes_to_behind, with_row};
+    ghost use Rattle.bidtests.specs.Carried.{at_start, no_at, after_line, comes_to_behind, with_right_row};
 
     /// Before the first line.
     pub fn new(alloc: Global, limits: Limits) -> Result<Self, Memory>
@@ -73,7 +73,7 @@ impl LineJudge {
 
     /// Counts a row that is right, and its cases.
     fn count(&mut self, cases: usize)
-        ensures { self.new ≡ with_row cases self.old }
+        ensures { self.new ≡ with_right_row cases self.old }
     {
         self.rows = self.rows.saturating_add(1);
         self.cases = self.cases.saturating_add(cases as u64);
@@ -83,7 +83,7 @@ impl LineJudge {
     fn judge(&mut self, kind: Kind<'_>, line: &[u8]) -> Result<(), LineFault>
         requires { length line.now ≤ longest_line }
         ensures fault { result_err result
-            ≡ fault_of self.old.limits (comes_to_behind kind.entry self.old line.now) }
+            ≡ line_fault_of self.old.limits (comes_to_behind kind.entry self.old line.now) }
         ensures carried { OnOk result (self.new ≡ after_line kind.entry line.now self.old) }
     {
         let Some(asked) = self.reader.read_line(kind, line)? else {
