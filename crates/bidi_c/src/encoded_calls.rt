@@ -1,5 +1,5 @@
 // Room for texts in code units, and what is told of them in offsets.
-ghost use Rattle.std.specs.Prelude.{ℕ, ◌≡◌, ◌≤◌, None, IfErr, IfOk};
+ghost use Rattle.std.specs.Prelude.{ℕ, ◌≡◌, ◌≤◌, None};
 ghost use Rattle.encoded.specs.Offsets.{IsOf, code_units, offset_of};
 ghost use Rattle.bidi_held.specs.Holdings.{encoded_in, RefusesRoom};
 ghost use Rattle.bidi_held.specs.Statuses.{Answers, Puts};
@@ -8,6 +8,7 @@ ghost use Rattle.encoded_held.specs.InCodeUnits.{byte_of_character, IsEncodedRun
 ghost use Rattle.bidi_c.specs.HeldAt.{held_at};
 
 use crate::bidi_handle::BidiHandle;
+use crate::putting::put;
 use bidi_held::held::Held;
 use bidi_held::lines_out::BidiLine;
 use bidi_held::refusal::{Refusal, of_room, status};
@@ -79,26 +80,19 @@ pub extern "C" fn bidi_level_at(room: &mut BidiHandle, at: usize) -> u8
     }
 }
 
-fn look_up_encoded_line(room: &mut BidiHandle, k: usize, line: &mut BidiLine) -> Result<(), Refusal>
-    ensures room { held_at room.new ≡ held_at room.old }
-    ensures line { Puts (TellsEncodedLine (held_at room.old) k) (RefusesEncodedLine (held_at room.old) k)
-        line.old line.new result }
-{
-    match room.held() {
-        Some(held) => tell_encoded_line(held, k, line),
-        None => Err(Refusal::NoRoom),
-    }
-}
-
 /// The line with the number `k`, counted from 0: the offsets at which it begins and ends, and how many of its
 /// characters are shown; where there is none, `line` stays as it was.
 #[unsafe(no_mangle)]
+#[tactic(auto, using(crate::proofs::NothingHeld::no_room))]
 pub extern "C" fn bidi_encoded_line(room: &mut BidiHandle, k: usize, line: &mut BidiLine) -> u32
     ensures room { held_at room.new ≡ held_at room.old }
     ensures line { Answers (Puts (TellsEncodedLine (held_at room.old) k)
         (RefusesEncodedLine (held_at room.old) k) line.old line.new) result }
 {
-    status(look_up_encoded_line(room, k, line))
+    match room.held() {
+        Some(held) => status(tell_encoded_line(held, k, line)),
+        None => status(Err(Refusal::NoRoom)),
+    }
 }
 
 /// How many code units the text has, 0 without a room for them. Their levels after L1, each that of its character, are
@@ -115,20 +109,10 @@ pub extern "C" fn bidi_encoded_levels(room: &mut BidiHandle, levels: &mut [u8]) 
     }
 }
 
-fn look_up_encoded_run(room: &mut BidiHandle, k: usize, from: usize) -> Result<BidiRun, Refusal>
-    ensures room { held_at room.new ≡ held_at room.old }
-    ensures run { IfOk result (IsEncodedRun (held_at room.old) k from) }
-    ensures refused { IfErr result (RefusesEncodedRun (held_at room.old) k from) }
-{
-    match room.held() {
-        Some(held) => encoded_run_of(held, k, from),
-        None => Err(Refusal::NoRoom),
-    }
-}
-
 /// The run of the line with the number `k` that begins at the place `from`, as `bidi_run` tells of it, but with where it
 /// begins and how long it is in code units.
 #[unsafe(no_mangle)]
+#[tactic(auto, using(crate::proofs::NothingHeld::no_room))]
 pub extern "C" fn bidi_encoded_run(
     room: &mut BidiHandle,
     k: usize,
@@ -139,11 +123,8 @@ pub extern "C" fn bidi_encoded_run(
     ensures run { Answers (Puts (IsEncodedRun (held_at room.old) k from)
         (RefusesEncodedRun (held_at room.old) k from) run.old run.new) result }
 {
-    match look_up_encoded_run(room, k, from) {
-        Ok(found) => {
-            *run = found;
-            status(Ok(()))
-        }
-        Err(refusal) => status(Err(refusal)),
+    match room.held() {
+        Some(held) => status(put(encoded_run_of(held, k, from), run)),
+        None => status(Err(Refusal::NoRoom)),
     }
 }

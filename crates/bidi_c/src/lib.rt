@@ -13,6 +13,7 @@ pub mod judge_calls;
 pub mod laying_out;
 pub mod looking_up;
 pub mod properties;
+mod putting;
 pub mod room_calls;
 pub mod tables_calls;
 pub mod verdict_calls;

@@ -57,28 +57,21 @@ pub extern "C" fn bidi_line_count(room: &mut BidiHandle) -> usize
     }
 }
 
-fn look_up_line(room: &mut BidiHandle, k: usize, line: &mut BidiLine) -> Result<(), Refusal>
-    ensures room { held_at room.new ≡ held_at room.old }
-    ensures line { Puts (TellsOf (layout_at room.old) k) (RefusesLine (held_at room.old) k)
-        line.old line.new result }
-{
-    let Some(held) = room.held() else {
-        return Err(Refusal::NoRoom);
-    };
-    match held.layout() {
-        Some(layout) => tell_line(&layout, k, line),
-        None => Err(Refusal::NoRoom),
-    }
-}
-
 /// The line with the number `k`, counted from 0; where there is none, `line` stays as it was.
 #[unsafe(no_mangle)]
+#[tactic(auto, using(crate::proofs::NothingHeld::no_room))]
 pub extern "C" fn bidi_line(room: &mut BidiHandle, k: usize, line: &mut BidiLine) -> u32
     ensures room { held_at room.new ≡ held_at room.old }
     ensures line { Answers (Puts (TellsOf (layout_at room.old) k)
         (RefusesLine (held_at room.old) k) line.old line.new) result }
 {
-    status(look_up_line(room, k, line))
+    let Some(held) = room.held() else {
+        return status(Err(Refusal::NoRoom));
+    };
+    match held.layout() {
+        Some(layout) => status(tell_line(&layout, k, line)),
+        None => status(Err(Refusal::NoRoom)),
+    }
 }
 
 /// How many positions the order of the line with the number `k` has, 0 where there is no such line. They are written

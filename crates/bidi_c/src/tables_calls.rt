@@ -68,13 +68,6 @@ pub extern "C" fn bidi_tables_new(
     status(done)
 }
 
-fn make_standard_tables(alloc: Global, tables: &mut BidiHandle) -> Result<(), Refusal>
-    ensures { MakesTables CLASSES BRACKETS MIRRORS (held_at tables.old) (held_at tables.new) result }
-{
-    let made = standard_tables(alloc)?;
-    hold_tables(alloc, made, tables)
-}
-
 /// Makes the tables of the edition of Unicode that is built in. What the handle held before is freed once they are
 /// made; where they are refused, the handle holds that still.
 #[unsafe(no_mangle)]
@@ -82,7 +75,10 @@ pub extern "C" fn bidi_tables_standard(alloc: Global, tables: &mut BidiHandle) -
     ensures { Answers (MakesTables CLASSES BRACKETS MIRRORS (held_at tables.old) (held_at tables.new))
         result }
 {
-    status(make_standard_tables(alloc, tables))
+    match standard_tables(alloc) {
+        Ok(made) => status(hold_tables(alloc, made, tables)),
+        Err(refusal) => status(Err(refusal)),
+    }
 }
 
 /// How many bytes the number of the edition has that is built in, as "15.0.0". They are written to `text`, if all fit

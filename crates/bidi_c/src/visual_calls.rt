@@ -1,10 +1,11 @@
 // A line from left to right, copied out.
-ghost use Rattle.std.specs.Prelude.{◌≡◌, IfOk, IfErr};
+ghost use Rattle.std.specs.Prelude.{◌≡◌};
 ghost use Rattle.bidi_held.specs.Statuses.{Answers, Puts};
 ghost use Rattle.bidi_held.specs.Visual.{IsVisualRun, RefusesRun, WritesPlaces, WritesShown, shown_held};
 ghost use Rattle.bidi_c.specs.HeldAt.{held_at, layout_at, line_of_room};
 
 use crate::bidi_handle::BidiHandle;
+use crate::putting::put;
 use bidi_held::refusal::{Refusal, status};
 use bidi_held::visual_lines::{BidiRun, run_of, show, write_places_of};
 
@@ -25,35 +26,22 @@ pub extern "C" fn bidi_places(room: &mut BidiHandle, k: usize, places: &mut [usi
     }
 }
 
-fn look_up_run(room: &mut BidiHandle, k: usize, from: usize) -> Result<BidiRun, Refusal>
-    ensures room { held_at room.new ≡ held_at room.old }
-    ensures run { IfOk result (IsVisualRun (layout_at room.old).levels (line_of_room room.old k).order from) }
-    ensures refused { IfErr result (RefusesRun (held_at room.old) k from) }
-{
-    let Some(held) = room.held() else {
-        return Err(Refusal::NoRoom);
-    };
-    match held.layout() {
-        Some(layout) => run_of(&layout, k, from),
-        None => Err(Refusal::NoRoom),
-    }
-}
-
 /// The run of the line with the number `k` that begins at the place `from`: all places from there on up to the next
 /// whose position has another level. The runs of a line are those from 0, and from behind each one.
 #[unsafe(no_mangle)]
+#[tactic(auto, using(crate::proofs::NothingHeld::no_room))]
 pub extern "C" fn bidi_run(room: &mut BidiHandle, k: usize, from: usize, run: &mut BidiRun) -> u32
     ensures room { held_at room.new ≡ held_at room.old }
     ensures run { Answers (Puts
         (IsVisualRun (layout_at room.old).levels (line_of_room room.old k).order from)
         (RefusesRun (held_at room.old) k from) run.old run.new) result }
 {
-    match look_up_run(room, k, from) {
-        Ok(found) => {
-            *run = found;
-            status(Ok(()))
-        }
-        Err(refusal) => status(Err(refusal)),
+    let Some(held) = room.held() else {
+        return status(Err(Refusal::NoRoom));
+    };
+    match held.layout() {
+        Some(layout) => status(put(run_of(&layout, k, from), run)),
+        None => status(Err(Refusal::NoRoom)),
     }
 }
 
