@@ -15,6 +15,6 @@ pub record UnitStages : Type 0 where
 abbrev pub unit_stages : TablesOf → UnitStages
 unit_stages tables = record { classes = tables.classes; brackets = tables.brackets }
 
--- the unit that they give a code point: by those of tables its `unit_by`
-abbrev pub unit_in : UnitStages → ℕ → BidiUnit
-unit_in stages c = record { class = class_by stages.classes c; bracket = bracket_by stages.brackets c }
+-- the unit that they give a code point; the stages of tables give the one that the tables give (`unit_by`)
+abbrev pub unit_by_stages : UnitStages → ℕ → BidiUnit
+unit_by_stages stages c = record { class = class_by stages.classes c; bracket = bracket_by stages.brackets c }

@@ -57,7 +57,7 @@ fn are_neutral(classes: &ClassTable, brackets: &BracketTable) -> bool
 }
 
 /// The classes and the brackets of characters, lent out of the tables for a text. Contracts see what gives a code point
-/// its unit, by `unit_in`.
+/// its unit, by `unit_by_stages`.
 #[derive(Drop)]
 pub struct LentUnits<'a> {
     classes: LentStages<'a, Class>,
@@ -78,12 +78,12 @@ impl<'a> Model for LentUnits<'a> {
 }
 
 impl<'a> LentUnits<'a> {
-    ghost use Rattle.ucdfiles.specs.UnitStages.{unit_in};
+    ghost use Rattle.ucdfiles.specs.UnitStages.{unit_by_stages};
 
     #[tactic(auto, unfolding(crate::specs::Tables::class_by, crate::specs::Tables::bracket_by))]
     /// What the algorithm knows of a character: its class and its bracket.
     pub fn unit(&self, c: char) -> Unit
-        ensures { result ≡ unit_in self.now c }
+        ensures { result ≡ unit_by_stages self.now c }
     {
         let class = self.classes.value(c);
         if self.brackets_are_neutral && !matches!(class, Class::ON) {

@@ -2,7 +2,7 @@ use Rattle.std.proofs.Common.{◌≡◌, ◌∙◌, ◌<◌, ◌+◌, ℕ, List,
 use Rattle.std.specs.Option.{unwrap_or}
 use Rattle.std.specs.Char.Escape.{encode_utf16}
 use Rattle.std.proofs.lemmas.Bool.{cases_eq}
-use Rattle.ucdfiles.specs.UnitStages.{UnitStages, unit_in}
+use Rattle.ucdfiles.specs.UnitStages.{UnitStages, unit_by_stages}
 use Rattle.encoded.specs.Decoded.{IsWritten}
 use Rattle.encoded.specs.Encodings.{in_utf16, utf16_text, IsPaired}
 use Rattle.encoded.specs.Offsets.{Spelled}
@@ -19,7 +19,7 @@ loop-at-preserved c =
     let next = at_next text l.count l.at found.result.0 found.result.1 found.ensures.first found.ensures.behind found.ensures.forward found.ensures.inside l.invariant.reached in
     let same : d ≡ unwrap_or found.result.0 0xFFFD = c.in-Some.ensures.0 in
     let read : in_utf16 d ≡ get_or (utf16_text text) l.count (in_utf16 d) = subst (λ (x : ℕ). in_utf16 x ≡ get_or (utf16_text text) l.count (in_utf16 x)) (sym same) next.read in
-    let is = c.unit.ensures ∙ ap (λ (s : UnitStages). unit_in s d) c.units-lent.ensures in
+    let is = c.unit.ensures ∙ ap (λ (s : UnitStages). unit_by_stages s d) c.units-lent.ensures in
     let behind : found.result.1 ≡ l.at + length (encode_utf16 d) = found.ensures.behind ∙ ap (λ (x : ℕ). l.at + length (encode_utf16 x)) (sym same) in
     let below : l.count < length text = omega (arith, l.invariant.reached.few, c.loop-at-test.true) in
     record {
