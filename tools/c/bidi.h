@@ -194,15 +194,18 @@ size_t bidi_shown(bidi_room *room, bidi_tables *tables, const uint32_t *codes, s
 /* Texts in UTF-8 and UTF-16, told of in offsets: how many code units (bytes, or 16 bits) stand before something. */
 
 /* Room for such texts of up to n code units, 113 bytes for each. It takes texts in code units alone, as the rooms above
- * take none; bidi_set_lines takes no such room, all look-ups above do, and count in characters. */
+ * take none; bidi_set_lines and bidi_line_of take no such room, all look-ups above do, and count in characters. */
 uint32_t bidi_room_new_encoded(size_t n, bidi_room *room);
 
 /* Lays out a text in UTF-8 or UTF-16 as bidi_lay_out does one of code points. `breaks` are offsets, at each of which a
  * character begins: rising, none 0, all below n. Of what is wrong the first is named: BIDI_TOO_LONG; BIDI_ILL_FORMED;
- * a break out of range or not rising; BIDI_BREAK_INSIDE. The lossy call reads U+FFFD for each surrogate that stands
- * alone. */
+ * a break out of range or not rising; BIDI_BREAK_INSIDE. The lossy calls refuse nothing as ill-formed, and read U+FFFD
+ * there: of UTF-8 for each maximal subpart (of the bytes there, all that could begin a character, or else one), of
+ * UTF-16 for each surrogate that stands alone. No break stands within such a part. */
 uint32_t bidi_lay_out_utf8(bidi_room *room, bidi_tables *tables, const uint8_t *text, size_t n, uint32_t direction,
                            const size_t *breaks, size_t break_count, uint64_t *place);
+uint32_t bidi_lay_out_utf8_lossy(bidi_room *room, bidi_tables *tables, const uint8_t *text, size_t n,
+                                 uint32_t direction, const size_t *breaks, size_t break_count, uint64_t *place);
 uint32_t bidi_lay_out_utf16(bidi_room *room, bidi_tables *tables, const uint16_t *text, size_t n, uint32_t direction,
                             const size_t *breaks, size_t break_count, uint64_t *place);
 uint32_t bidi_lay_out_utf16_lossy(bidi_room *room, bidi_tables *tables, const uint16_t *text, size_t n,
@@ -212,12 +215,19 @@ uint32_t bidi_lay_out_utf16_lossy(bidi_room *room, bidi_tables *tables, const ui
 uint32_t bidi_lay_out_utf8_with(bidi_room *room, bidi_tables *tables, const uint8_t *text, size_t n,
                                 uint32_t direction, const size_t *breaks, size_t break_count, bidi_limits limits,
                                 uint64_t *place);
+uint32_t bidi_lay_out_utf8_lossy_with(bidi_room *room, bidi_tables *tables, const uint8_t *text, size_t n,
+                                      uint32_t direction, const size_t *breaks, size_t break_count,
+                                      bidi_limits limits, uint64_t *place);
 uint32_t bidi_lay_out_utf16_with(bidi_room *room, bidi_tables *tables, const uint16_t *text, size_t n,
                                  uint32_t direction, const size_t *breaks, size_t break_count, bidi_limits limits,
                                  uint64_t *place);
 uint32_t bidi_lay_out_utf16_lossy_with(bidi_room *room, bidi_tables *tables, const uint16_t *text, size_t n,
                                        uint32_t direction, const size_t *breaks, size_t break_count,
                                        bidi_limits limits, uint64_t *place);
+
+/* Breaks the text that the room holds into lines anew as bidi_set_lines does, but at offsets, which are refused as the
+ * calls above refuse them. The room then holds the lines that it held. */
+uint32_t bidi_encoded_set_lines(bidi_room *room, const size_t *breaks, size_t break_count, uint64_t *place);
 
 /* From an offset to the index of the character that the code unit there belongs to, from the text's end on how many
  * characters it has; and from a character to the offset at which it begins, behind the last one that of the text's end.

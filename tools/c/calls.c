@@ -381,6 +381,23 @@ static void lay_out_utf8(bidi_room *room, bidi_tables *tables, const char *text,
   print_encoded(room);
 }
 
+/* Bytes that need not be UTF-8. */
+static void lay_out_utf8_lossy(bidi_room *room, bidi_tables *tables, const char *text, const size_t *breaks,
+                               size_t count) {
+  uint64_t place = 0;
+  uint32_t status = bidi_lay_out_utf8_lossy(room, tables, (const uint8_t *)text, strlen(text), BIDI_AUTO, breaks,
+                                            count, &place);
+  printf("utf8 lossy %u at %llu: ", status, (unsigned long long)place);
+  print_encoded(room);
+}
+
+static void set_encoded_lines(bidi_room *room, const size_t *breaks, size_t count) {
+  uint64_t place = 0;
+  uint32_t status = bidi_encoded_set_lines(room, breaks, count, &place);
+  printf("lines %u at %llu: ", status, (unsigned long long)place);
+  print_encoded(room);
+}
+
 static void lay_out_utf16(bidi_room *room, bidi_tables *tables, const uint16_t *text, size_t n, const size_t *breaks,
                           size_t count) {
   uint64_t place = 0;
@@ -403,6 +420,9 @@ static void lay_out_encoded_by_limits(bidi_room *room, bidi_tables *tables) {
     uint32_t status = bidi_lay_out_utf8_with(room, tables, bytes, 6, BIDI_RTL, none, 0, by[i], &place);
     printf("utf8, brackets %u: %u ", by[i].brackets, status);
     print_encoded(room);
+    status = bidi_lay_out_utf8_lossy_with(room, tables, bytes, 5, BIDI_RTL, none, 0, by[i], &place);
+    printf("utf8 lossy, brackets %u: %u ", by[i].brackets, status);
+    print_encoded(room);
     status = bidi_lay_out_utf16_with(room, tables, units, 5, BIDI_RTL, none, 0, by[i], &place);
     printf("utf16, brackets %u: %u ", by[i].brackets, status);
     print_encoded(room);
@@ -410,6 +430,33 @@ static void lay_out_encoded_by_limits(bidi_room *room, bidi_tables *tables) {
     printf("lossy, brackets %u: %u ", by[i].brackets, status);
     print_encoded(room);
   }
+}
+
+/* Bytes that are no UTF-8: a character that is cut short by a letter, two bytes that begin none, one that is cut short by
+ * the end; and breaks inside of these. */
+static void lay_out_ill_formed(bidi_room *room, bidi_room *codes, bidi_tables *tables) {
+  const char *text = "a\xF0\x9F\x98" "b\xFF\xFE\xD7\x90\xE2\x82";
+  const size_t four[] = { 1, 4, 6, 9 }, within[] = { 4, 10 }, outside[] = { 11 };
+  lay_out_utf8_lossy(room, tables, text, four, 4);
+  lay_out_utf8_lossy(room, tables, text, within, 2);
+  lay_out_utf8_lossy(room, tables, text, outside, 1);
+  lay_out_utf8_lossy(room, tables, "1234567890123456\xFF", outside, 0);
+  lay_out_utf8_lossy(codes, tables, text, four, 4);
+  set_encoded_lines(room, within, 1);
+  set_encoded_lines(room, within, 2);
+}
+
+/* Breaks of a text that is held: those that it had, none, others, and such as are refused. */
+static void break_encoded(bidi_room *room, bidi_room *codes, bidi_tables *tables) {
+  const size_t three[] = { 3 }, others[] = { 2, 6 }, falling[] = { 6, 2 }, outside[] = { 2, 11 }, inside[] = { 2, 4 };
+  lay_out_utf8(room, tables, "ab \xD7\x90(\xD7\x91) 1", BIDI_AUTO, three, 1);
+  set_encoded_lines(room, others, 2);
+  set_encoded_lines(room, three, 0);
+  set_encoded_lines(room, three, 1);
+  set_encoded_lines(room, falling, 2);
+  set_encoded_lines(room, outside, 2);
+  set_encoded_lines(room, inside, 2);
+  set_encoded_lines(codes, three, 1);
 }
 
 static void lay_out_encoded(bidi_tables *tables) {
@@ -423,6 +470,8 @@ static void lay_out_encoded(bidi_tables *tables) {
   uint32_t status = bidi_room_new_encoded(16777217, &room), made = bidi_room_new_encoded(16, &room);
   printf("encoded room: %u, %u, size %zu: ", status, made, bidi_room_size(&room));
   print_encoded(&room);
+  set_encoded_lines(&room, one, 0);
+  set_encoded_lines(&room, one, 1);
   lay_out_utf8(&room, tables, text, BIDI_AUTO, one, 1);
   print_layout(&room, tables, NULL, 0);
   lay_out_utf8(&room, tables, text, BIDI_RTL, two, 2);
@@ -445,6 +494,8 @@ static void lay_out_encoded(bidi_tables *tables) {
   lay_out_utf16(&room, tables, lone, 4, one, 1);
   lay_out_utf16(&codes, tables, lone, 4, one, 1);
   lay_out_encoded_by_limits(&room, tables);
+  lay_out_ill_formed(&room, &codes, tables);
+  break_encoded(&room, &codes, tables);
   bidi_room_free(&codes);
   bidi_room_free(&room);
 }

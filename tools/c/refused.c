@@ -46,8 +46,11 @@ int main(int argc, char **argv) {
   bidi_base_level(&tables, text, 3, BIDI_AUTO, levels, &place); bidi_is_left_to_right(&tables, text, 3, levels, &place);
   const uint8_t bytes[] = { 'a', 0xD7, 0x90 }; const uint16_t units[] = { 'a', 0x5D0 }; bidi_line_t line_of;
   status += bidi_lay_out_utf8(&encoded, &tables, bytes, 3, BIDI_AUTO, none, 0, &place);
+  status += bidi_lay_out_utf8_lossy(&encoded, &tables, bytes, 2, BIDI_AUTO, none, 0, &place);
   status += bidi_lay_out_utf16(&encoded, &tables, units, 2, BIDI_AUTO, none, 0, &place);
   status += bidi_lay_out_utf16_lossy(&encoded, &tables, units, 2, BIDI_AUTO, none, 0, &place);
+  const size_t second[] = { 1 };
+  status += bidi_encoded_set_lines(&encoded, second, 1, &place);
   bidi_index_of(&encoded, 1); bidi_offset_of(&encoded, 1); bidi_level_at(&encoded, 1);
   bidi_encoded_levels(&encoded, levels, 3); bidi_encoded_line(&encoded, 0, &line_of);
   bidi_encoded_run(&encoded, 0, 0, &run);

@@ -1,27 +1,29 @@
-// Texts in code units laid out.
+// Texts in code units laid out, and broken into lines anew.
 ghost use Rattle.std.specs.Prelude.{◌≡◌};
 ghost use Rattle.units.specs.Limits.{standard};
 ghost use Rattle.bidi_held.specs.LimitsGiven.{ByLimits};
 ghost use Rattle.bidi_held.specs.Statuses.{AnswersNaming, place_named};
-ghost use Rattle.encoded_held.specs.EncodedTexts.{LaysOutUtf8, LaysOutUtf16, LaysOutUtf16Lossy};
+ghost use Rattle.encoded_held.specs.EncodedTexts.{LaysOutEncoded, LaysOutUtf8, LaysOutUtf8Lossy, LaysOutUtf16, LaysOutUtf16Lossy};
+ghost use Rattle.encoded_held.specs.LinesAnew.{SetsEncodedLines};
 ghost use Rattle.bidi_c.specs.HeldAt.{held_at};
 
 use crate::bidi_handle::BidiHandle;
 use bidi_held::limits::BidiLimits;
 use bidi_held::refusal::{Refusal, answer};
-use encoded_held::laying_out::{lay_out_utf8_held, lay_out_utf16_held, lay_out_utf16_lossy_held};
+use encoded_held::encoded_text::EncodedText;
+use encoded_held::laying_out::{lay_out_encoded_held, set_encoded_lines_held};
 use units::limits::Limits;
 
-fn lay_out_utf8(
+fn lay_out_text(
     room: &mut BidiHandle,
     tables: &mut BidiHandle,
-    text: &[u8],
+    text: EncodedText<'_>,
     direction: u32,
     breaks: &[usize],
     limits: Limits,
 ) -> Result<(), Refusal>
     ensures tables { held_at tables.new ≡ held_at tables.old }
-    ensures room { LaysOutUtf8 limits (held_at tables.old) text.now direction breaks.now
+    ensures room { LaysOutEncoded text.entry limits (held_at tables.old) direction breaks.now
         (held_at room.old) (held_at room.new) result }
 {
     let Some(held) = room.held() else {
@@ -30,7 +32,24 @@ fn lay_out_utf8(
     let Some(by) = tables.held() else {
         return Err(Refusal::NoTables);
     };
-    lay_out_utf8_held(held, by, text, direction, breaks, limits)
+    lay_out_encoded_held(held, by, text, direction, breaks, limits)
+}
+
+fn lay_out_text_with(
+    room: &mut BidiHandle,
+    tables: &mut BidiHandle,
+    text: EncodedText<'_>,
+    direction: u32,
+    breaks: &[usize],
+    limits: BidiLimits,
+) -> Result<(), Refusal>
+    ensures tables { held_at tables.new ≡ held_at tables.old }
+    ensures room { ByLimits limits (held_at room.new ≡ held_at room.old) (λ limits.
+        LaysOutEncoded text.entry limits (held_at tables.old) direction breaks.now
+        (held_at room.old) (held_at room.new)) result }
+{
+    let allowed = limits.allowed()?;
+    lay_out_text(room, tables, text, direction, breaks, allowed)
 }
 
 /// Lays out a text in UTF-8 in the room, by the tables and the standard limits, under the direction with this number,
@@ -51,25 +70,15 @@ pub extern "C" fn bidi_lay_out_utf8(
         direction breaks.now (held_at room.old) (held_at room.new)) result place.old place.new }
 {
     let limits = Limits::standard();
-    let done = lay_out_utf8(room, tables, text, direction, breaks, limits);
+    let done = lay_out_text(
+        room,
+        tables,
+        EncodedText::Utf8(text),
+        direction,
+        breaks,
+        limits,
+    );
     answer(done, place)
-}
-
-fn lay_out_utf8_with(
-    room: &mut BidiHandle,
-    tables: &mut BidiHandle,
-    text: &[u8],
-    direction: u32,
-    breaks: &[usize],
-    limits: BidiLimits,
-) -> Result<(), Refusal>
-    ensures tables { held_at tables.new ≡ held_at tables.old }
-    ensures room { ByLimits limits (held_at room.new ≡ held_at room.old) (λ limits.
-        LaysOutUtf8 limits (held_at tables.old) text.now direction breaks.now
-        (held_at room.old) (held_at room.new)) result }
-{
-    let allowed = limits.allowed()?;
-    lay_out_utf8(room, tables, text, direction, breaks, allowed)
 }
 
 /// Lays out a text as `bidi_lay_out_utf8` does, by these limits in place of the standard ones.
@@ -88,29 +97,57 @@ pub extern "C" fn bidi_lay_out_utf8_with(
         (λ limits. LaysOutUtf8 limits (held_at tables.old) text.now direction breaks.now
         (held_at room.old) (held_at room.new))) result place.old place.new }
 {
-    let done = lay_out_utf8_with(room, tables, text, direction, breaks, limits);
+    let text = EncodedText::Utf8(text);
+    let done = lay_out_text_with(room, tables, text, direction, breaks, limits);
     answer(done, place)
 }
 
-fn lay_out_utf16(
+/// Lays out a text in UTF-8 as `bidi_lay_out_utf8` does, with U+FFFD in the place of each maximal subpart of what is no
+/// UTF-8: of the bytes there, all that could begin a character, or else one. No break stands inside such a part.
+#[unsafe(no_mangle)]
+pub extern "C" fn bidi_lay_out_utf8_lossy(
     room: &mut BidiHandle,
     tables: &mut BidiHandle,
-    text: &[u16],
+    text: &[u8],
     direction: u32,
     breaks: &[usize],
-    limits: Limits,
-) -> Result<(), Refusal>
+    place: &mut u64,
+) -> u32
     ensures tables { held_at tables.new ≡ held_at tables.old }
-    ensures room { LaysOutUtf16 limits (held_at tables.old) text.now direction breaks.now
-        (held_at room.old) (held_at room.new) result }
+    ensures room { AnswersNaming place_named (LaysOutUtf8Lossy standard (held_at tables.old) text.now
+        direction breaks.now (held_at room.old) (held_at room.new)) result place.old place.new }
 {
-    let Some(held) = room.held() else {
-        return Err(Refusal::NoRoom);
-    };
-    let Some(by) = tables.held() else {
-        return Err(Refusal::NoTables);
-    };
-    lay_out_utf16_held(held, by, text, direction, breaks, limits)
+    let limits = Limits::standard();
+    let done = lay_out_text(
+        room,
+        tables,
+        EncodedText::Utf8Lossy(text),
+        direction,
+        breaks,
+        limits,
+    );
+    answer(done, place)
+}
+
+/// Lays out a text as `bidi_lay_out_utf8_lossy` does, by these limits in place of the standard ones.
+#[unsafe(no_mangle)]
+pub extern "C" fn bidi_lay_out_utf8_lossy_with(
+    room: &mut BidiHandle,
+    tables: &mut BidiHandle,
+    text: &[u8],
+    direction: u32,
+    breaks: &[usize],
+    limits: BidiLimits,
+    place: &mut u64,
+) -> u32
+    ensures tables { held_at tables.new ≡ held_at tables.old }
+    ensures room { AnswersNaming place_named (ByLimits limits (held_at room.new ≡ held_at room.old)
+        (λ limits. LaysOutUtf8Lossy limits (held_at tables.old) text.now direction breaks.now
+        (held_at room.old) (held_at room.new))) result place.old place.new }
+{
+    let text = EncodedText::Utf8Lossy(text);
+    let done = lay_out_text_with(room, tables, text, direction, breaks, limits);
+    answer(done, place)
 }
 
 /// Lays out a text in UTF-16 as `bidi_lay_out_utf8` does one in UTF-8: offsets are those of its code units of 16 bits,
@@ -129,25 +166,15 @@ pub extern "C" fn bidi_lay_out_utf16(
         direction breaks.now (held_at room.old) (held_at room.new)) result place.old place.new }
 {
     let limits = Limits::standard();
-    let done = lay_out_utf16(room, tables, text, direction, breaks, limits);
+    let done = lay_out_text(
+        room,
+        tables,
+        EncodedText::Utf16(text),
+        direction,
+        breaks,
+        limits,
+    );
     answer(done, place)
-}
-
-fn lay_out_utf16_with(
-    room: &mut BidiHandle,
-    tables: &mut BidiHandle,
-    text: &[u16],
-    direction: u32,
-    breaks: &[usize],
-    limits: BidiLimits,
-) -> Result<(), Refusal>
-    ensures tables { held_at tables.new ≡ held_at tables.old }
-    ensures room { ByLimits limits (held_at room.new ≡ held_at room.old) (λ limits.
-        LaysOutUtf16 limits (held_at tables.old) text.now direction breaks.now
-        (held_at room.old) (held_at room.new)) result }
-{
-    let allowed = limits.allowed()?;
-    lay_out_utf16(room, tables, text, direction, breaks, allowed)
 }
 
 /// Lays out a text as `bidi_lay_out_utf16` does, by these limits in place of the standard ones.
@@ -166,29 +193,9 @@ pub extern "C" fn bidi_lay_out_utf16_with(
         (λ limits. LaysOutUtf16 limits (held_at tables.old) text.now direction breaks.now
         (held_at room.old) (held_at room.new))) result place.old place.new }
 {
-    let done = lay_out_utf16_with(room, tables, text, direction, breaks, limits);
+    let text = EncodedText::Utf16(text);
+    let done = lay_out_text_with(room, tables, text, direction, breaks, limits);
     answer(done, place)
-}
-
-fn lay_out_utf16_lossy(
-    room: &mut BidiHandle,
-    tables: &mut BidiHandle,
-    text: &[u16],
-    direction: u32,
-    breaks: &[usize],
-    limits: Limits,
-) -> Result<(), Refusal>
-    ensures tables { held_at tables.new ≡ held_at tables.old }
-    ensures room { LaysOutUtf16Lossy limits (held_at tables.old) text.now direction breaks.now
-        (held_at room.old) (held_at room.new) result }
-{
-    let Some(held) = room.held() else {
-        return Err(Refusal::NoRoom);
-    };
-    let Some(by) = tables.held() else {
-        return Err(Refusal::NoTables);
-    };
-    lay_out_utf16_lossy_held(held, by, text, direction, breaks, limits)
 }
 
 /// Lays out a text in UTF-16 as `bidi_lay_out_utf16` does, with U+FFFD in the place of each surrogate that stands
@@ -207,25 +214,15 @@ pub extern "C" fn bidi_lay_out_utf16_lossy(
         direction breaks.now (held_at room.old) (held_at room.new)) result place.old place.new }
 {
     let limits = Limits::standard();
-    let done = lay_out_utf16_lossy(room, tables, text, direction, breaks, limits);
+    let done = lay_out_text(
+        room,
+        tables,
+        EncodedText::Utf16Lossy(text),
+        direction,
+        breaks,
+        limits,
+    );
     answer(done, place)
-}
-
-fn lay_out_utf16_lossy_with(
-    room: &mut BidiHandle,
-    tables: &mut BidiHandle,
-    text: &[u16],
-    direction: u32,
-    breaks: &[usize],
-    limits: BidiLimits,
-) -> Result<(), Refusal>
-    ensures tables { held_at tables.new ≡ held_at tables.old }
-    ensures room { ByLimits limits (held_at room.new ≡ held_at room.old) (λ limits.
-        LaysOutUtf16Lossy limits (held_at tables.old) text.now direction breaks.now
-        (held_at room.old) (held_at room.new)) result }
-{
-    let allowed = limits.allowed()?;
-    lay_out_utf16_lossy(room, tables, text, direction, breaks, allowed)
 }
 
 /// Lays out a text as `bidi_lay_out_utf16_lossy` does, by these limits in place of the standard ones.
@@ -244,6 +241,31 @@ pub extern "C" fn bidi_lay_out_utf16_lossy_with(
         (λ limits. LaysOutUtf16Lossy limits (held_at tables.old) text.now direction breaks.now
         (held_at room.old) (held_at room.new))) result place.old place.new }
 {
-    let done = lay_out_utf16_lossy_with(room, tables, text, direction, breaks, limits);
+    let text = EncodedText::Utf16Lossy(text);
+    let done = lay_out_text_with(room, tables, text, direction, breaks, limits);
     answer(done, place)
+}
+
+fn set_encoded_lines(room: &mut BidiHandle, breaks: &[usize]) -> Result<(), Refusal>
+    ensures { SetsEncodedLines breaks.now (held_at room.old) (held_at room.new) result }
+{
+    match room.held() {
+        Some(held) => set_encoded_lines_held(held, breaks),
+        None => Err(Refusal::NoRoom),
+    }
+}
+
+/// Breaks the text in code units that the room holds into lines anew (L1, L2), at offsets: its levels before L1, its
+/// direction and its limits stay. Where the breaks are refused, the room holds the lines that it held, and `place` names
+/// the break.
+#[unsafe(no_mangle)]
+pub extern "C" fn bidi_encoded_set_lines(
+    room: &mut BidiHandle,
+    breaks: &[usize],
+    place: &mut u64,
+) -> u32
+    ensures { AnswersNaming place_named (SetsEncodedLines breaks.now (held_at room.old) (held_at room.new))
+        result place.old place.new }
+{
+    answer(set_encoded_lines(room, breaks), place)
 }

@@ -1,4 +1,5 @@
 -- What the proofs share.
+mod HeldLines
 mod HeldRooms
 pub mod HeldTexts
 mod LevelWalk

@@ -5,9 +5,10 @@ use Rattle.units.specs.Limits.{LimitsOf, standard}
 use Rattle.units.specs.declared.level.Direction.TheVariants.{Auto}
 use Rattle.lines.specs.declared.breaks.BreakFault.TheVariants.{OutOfRange, NotRising}
 use Rattle.encoded.specs.Encodings.{utf8_text, utf16_text, IsUtf16}
+use Rattle.encoded.specs.LossyTexts.{utf8_lossy_text}
 use Rattle.encoded.specs.Offsets.{Spelled}
-use Rattle.encoded.specs.Refusals.{RefusesUtf8, RefusesUtf16, RefusesUtf16Lossy, TakesUtf8, TakesUtf16}
-use Rattle.encoded.specs.Rooms.{Holds, HoldsLayout, Keeps, room_for}
+use Rattle.encoded.specs.Refusals.{RefusesUtf8, RefusesUtf8Lossy, RefusesUtf16, RefusesUtf16Lossy, TakesUtf8, TakesUtf8Lossy, TakesUtf16}
+use Rattle.encoded.specs.Rooms.{Holds, HoldsLayout, HoldsTextBy, Keeps, room_for}
 use Rattle.encoded.specs.declared.fault.EncodedFault.{EncodedFault}
 use Rattle.encoded.specs.declared.fault.EncodedFault.TheVariants.{TooLong, IllFormed, Break, BreakInside}
 use Rattle.bidi_held.specs.Holdings.{capacity_in, encoded_in, layout_held, tables_in}
@@ -16,6 +17,8 @@ use Rattle.bidi_held.specs.Texts.{direction_numbered}
 use Rattle.bidi_held.specs.declared.held.Held.{Held}
 use Rattle.bidi_held.specs.declared.refusal.Refusal.{Refusal}
 use Rattle.bidi_held.specs.declared.refusal.Refusal.TheVariants as told
+use Rattle.encoded_held.specs.declared.encoded_text.EncodedText.{EncodedText}
+use Rattle.encoded_held.specs.declared.encoded_text.EncodedText.TheVariants.{Utf8, Utf8Lossy, Utf16, Utf16Lossy}
 
 -- there is room for code units, and it holds this text
 abbrev pub HoldsText : Option Held → List Spelled → Type 0
@@ -56,15 +59,22 @@ IsLaidOut limits tables text number breaks room =
     MatchOption (tables_in tables) ⊥ (λ by. MatchOption (direction_numbered number) ⊥
     (λ direction. MatchOption (encoded_in room) ⊥ (HoldsLayout limits by text direction breaks)))
 
+-- there are tables, the number is a direction, and by these limits the room holds this text, however it is broken
+abbrev pub IsTextHeld : LimitsOf → Option Held → List Spelled → ℕ → Option Held → Type 0
+IsTextHeld limits tables text number room =
+    MatchOption (tables_in tables) ⊥ (λ by. MatchOption (direction_numbered number) ⊥
+    (λ direction. MatchOption (encoded_in room) ⊥ (HoldsTextBy limits by text direction)))
+
 -- what is held before and after a call that is to lay out a text in code units: there is as much room as before, and
--- what is no room for code units stays; where the call is done the text was taken, and its layout is held; else what is
--- held stays
+-- what is no room for code units stays; where the call is done the text was taken, it is the one that is held, and so
+-- is its layout; else what is held stays
 pub record LaysOutText (RoomTakes : ℕ → Type 0) (RoomRefuses : ℕ → EncodedFault → Type 0) (text : List Spelled) (limits : LimitsOf) (tables : Option Held) (direction : ℕ) (breaks : List ℕ) (old new : Option Held) (outcome : Outcome) : Type 0 where
   pub capacity : capacity_in new ≡ capacity_in old
   pub other : encoded_in old ≡ None → new ≡ old
   pub kept : OnErr outcome (Stays old new)
   pub refused : IfErr outcome (RefusesText RoomRefuses old tables direction)
   pub taken : OnOk outcome (MatchOption (encoded_in old) ⊥ (λ held. RoomTakes (room_for held)))
+  pub holds : OnOk outcome (IsTextHeld limits tables text direction new)
   pub laid_out : OnOk outcome (IsLaidOut limits tables text direction breaks new)
 
 -- what is held before and after a call that is to lay out a text in UTF-8
@@ -72,6 +82,13 @@ abbrev pub LaysOutUtf8 : LimitsOf → Option Held → List ℕ → ℕ → List 
 LaysOutUtf8 limits tables bytes direction breaks old new outcome =
     LaysOutText (λ room. TakesUtf8 room bytes breaks) (λ room. RefusesUtf8 room bytes breaks) (utf8_text bytes)
     limits tables direction breaks old new outcome
+
+-- what is held before and after a call that is to lay out a text in UTF-8, where U+FFFD is read for each maximal subpart
+-- of what is ill-formed
+abbrev pub LaysOutUtf8Lossy : LimitsOf → Option Held → List ℕ → ℕ → List ℕ → Option Held → Option Held → Outcome → Type 0
+LaysOutUtf8Lossy limits tables bytes direction breaks old new outcome =
+    LaysOutText (λ room. TakesUtf8Lossy room bytes breaks) (λ room. RefusesUtf8Lossy room bytes breaks)
+    (utf8_lossy_text bytes) limits tables direction breaks old new outcome
 
 -- what is held before and after a call that is to lay out a text in UTF-16
 abbrev pub LaysOutUtf16 : LimitsOf → Option Held → List ℕ → ℕ → List ℕ → Option Held → Option Held → Outcome → Type 0
@@ -85,3 +102,10 @@ abbrev pub LaysOutUtf16Lossy : LimitsOf → Option Held → List ℕ → ℕ →
 LaysOutUtf16Lossy limits tables units direction breaks old new outcome =
     LaysOutText (λ room. TakesUtf16 room units breaks) (λ room. RefusesUtf16Lossy room units breaks)
     (utf16_text units) limits tables direction breaks old new outcome
+
+-- what is held before and after a call that is to lay out a text in code units, as its caller has it
+abbrev pub LaysOutEncoded : EncodedText → LimitsOf → Option Held → ℕ → List ℕ → Option Held → Option Held → Outcome → Type 0
+LaysOutEncoded (Utf8 bytes) limits tables = LaysOutUtf8 limits tables bytes.now
+LaysOutEncoded (Utf8Lossy bytes) limits tables = LaysOutUtf8Lossy limits tables bytes.now
+LaysOutEncoded (Utf16 units) limits tables = LaysOutUtf16 limits tables units.now
+LaysOutEncoded (Utf16Lossy units) limits tables = LaysOutUtf16Lossy limits tables units.now

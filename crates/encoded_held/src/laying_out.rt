@@ -1,7 +1,9 @@
 //! Texts in code units laid out in what is held.
-ghost use Rattle.std.specs.Prelude.{◌≡◌, Some};
-ghost use Rattle.encoded_held.specs.EncodedTexts.{refusal_of, LaysOutUtf8, LaysOutUtf16, LaysOutUtf16Lossy};
+ghost use Rattle.std.specs.Prelude.{◌≡◌, Err, Ok, Some, MatchResult};
+ghost use Rattle.encoded_held.specs.EncodedTexts.{refusal_of, LaysOutEncoded};
+ghost use Rattle.encoded_held.specs.LinesAnew.{SetsEncodedLines};
 
+use crate::encoded_text::EncodedText;
 use bidi_held::held::Held;
 use bidi_held::layouts::direction_numbered;
 use bidi_held::refusal::Refusal;
@@ -22,43 +24,24 @@ fn refusal_of(fault: EncodedFault) -> Refusal
     }
 }
 
-/// Lays out a text in UTF-8 by these limits, if these are a room for code units and tables and the number is a
-/// direction.
-pub fn lay_out_utf8_held(
-    room: &mut Held,
-    tables: &Held,
-    text: &[u8],
-    direction: u32,
-    breaks: &[usize],
-    limits: Limits,
-) -> Result<(), Refusal>
-    ensures { LaysOutUtf8 limits (Some tables.now) text.now direction breaks.now (Some room.old)
-        (Some room.new) result }
+/// What a call on the room comes to, told as for C.
+fn told(done: Result<(), EncodedFault>) -> Result<(), Refusal>
+    ensures { MatchResult done (λ all. result ≡ Ok all) (λ fault. result ≡ Err (refusal_of fault)) }
 {
-    let Held::Encoded(room) = room else {
-        return Err(Refusal::NoRoom);
-    };
-    let Some(tables) = tables.tables() else {
-        return Err(Refusal::NoTables);
-    };
-    let Some(direction) = direction_numbered(direction) else {
-        return Err(Refusal::NoDirection);
-    };
-    room.lay_out_utf8(tables, text, direction, breaks, limits)
-        .map_err(refusal_of)
+    done.map_err(refusal_of)
 }
 
-/// Lays out a text in UTF-16 by these limits, if these are a room for code units and tables and the number is a
+/// Lays out a text in code units by these limits, if these are a room for code units and tables and the number is a
 /// direction.
-pub fn lay_out_utf16_held(
+pub fn lay_out_encoded_held(
     room: &mut Held,
     tables: &Held,
-    text: &[u16],
+    text: EncodedText<'_>,
     direction: u32,
     breaks: &[usize],
     limits: Limits,
 ) -> Result<(), Refusal>
-    ensures { LaysOutUtf16 limits (Some tables.now) text.now direction breaks.now (Some room.old)
+    ensures { LaysOutEncoded text.entry limits (Some tables.now) direction breaks.now (Some room.old)
         (Some room.new) result }
 {
     let Held::Encoded(room) = room else {
@@ -70,31 +53,25 @@ pub fn lay_out_utf16_held(
     let Some(direction) = direction_numbered(direction) else {
         return Err(Refusal::NoDirection);
     };
-    room.lay_out_utf16(tables, text, direction, breaks, limits)
-        .map_err(refusal_of)
+    let done = match text {
+        EncodedText::Utf8(bytes) => room.lay_out_utf8(tables, bytes, direction, breaks, limits),
+        EncodedText::Utf8Lossy(bytes) => {
+            room.lay_out_utf8_lossy(tables, bytes, direction, breaks, limits)
+        }
+        EncodedText::Utf16(units) => room.lay_out_utf16(tables, units, direction, breaks, limits),
+        EncodedText::Utf16Lossy(units) => {
+            room.lay_out_utf16_lossy(tables, units, direction, breaks, limits)
+        }
+    };
+    told(done)
 }
 
-/// What `lay_out_utf16_held` does, with U+FFFD in the place of each surrogate that stands alone.
-pub fn lay_out_utf16_lossy_held(
-    room: &mut Held,
-    tables: &Held,
-    text: &[u16],
-    direction: u32,
-    breaks: &[usize],
-    limits: Limits,
-) -> Result<(), Refusal>
-    ensures { LaysOutUtf16Lossy limits (Some tables.now) text.now direction breaks.now (Some room.old)
-        (Some room.new) result }
+/// Breaks the text that is held into lines anew at offsets, if this is a room for code units.
+pub fn set_encoded_lines_held(room: &mut Held, breaks: &[usize]) -> Result<(), Refusal>
+    ensures { SetsEncodedLines breaks.now (Some room.old) (Some room.new) result }
 {
-    let Held::Encoded(room) = room else {
-        return Err(Refusal::NoRoom);
-    };
-    let Some(tables) = tables.tables() else {
-        return Err(Refusal::NoTables);
-    };
-    let Some(direction) = direction_numbered(direction) else {
-        return Err(Refusal::NoDirection);
-    };
-    room.lay_out_utf16_lossy(tables, text, direction, breaks, limits)
-        .map_err(refusal_of)
+    match room {
+        Held::Encoded(room) => told(room.break_anew(breaks)),
+        _ => Err(Refusal::NoRoom),
+    }
 }

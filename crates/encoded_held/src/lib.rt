@@ -3,6 +3,7 @@
 #![tactic(auto)]
 
 pub mod encoded_levels;
+pub mod encoded_text;
 pub mod laying_out;
 pub mod lookups;
 pub mod runs;
