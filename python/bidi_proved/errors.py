@@ -125,6 +125,20 @@ class LineCrossesParagraph(BidiError, ValueError):
     status = 23
 
 
+class IllFormed(PlacedError):
+    """The bytes are no UTF-8: `place` is the offset of the first that is no part of a character."""
+
+    says = "The bytes are no UTF-8"
+    status = 24
+
+
+class BreakInside(PlacedError):
+    """A break stands inside a character."""
+
+    says = "A break stands inside a character"
+    status = 25
+
+
 class StaleLayout(BidiError):
     """The room has laid out another text since, or broken this one into other lines."""
 

@@ -13,7 +13,7 @@ from .library import CALL, Handle, address, codes_of, copied, items
 from .tables import Lent
 
 REMOVED = 255
-NOWHERE = 2**64 - 1
+NOWHERE = library.MOST
 CLASSES = "L R AL EN ES ET AN CS NSM BN B S WS ON LRE LRO RLE RLO PDF LRI RLI FSI PDI".split()
 NUMBERS = {name: number for number, name in enumerate(CLASSES)}
 
@@ -69,7 +69,42 @@ def _number_of(item):
     return number if 0 <= number <= REMOVED else REMOVED
 
 
-class Room:
+class AnyRoom:
+    """Memory for texts and for the layout of the last one."""
+
+    def __init__(self, size, make, items_of):
+        if size < 0:
+            raise ValueError(f"a room for {size} {items_of}")
+        self.size = size
+        self._handle = Handle()
+        self._lock = threading.Lock()
+        self._laid_out, self._lent = 0, None
+        refuse(make(min(size, NOWHERE), self._handle))
+        weakref.finalize(self, CALL.bidi_room_free, self._handle)
+
+    def _by_tables(self, call, tables, *text):
+        """The call on this room by tables, of a text."""
+
+        def called(*words):
+            if self._lent is None or self._lent.tables is not tables:
+                self._lent = Lent(tables)
+            with self._lent.guard:
+                return call(self._handle, self._lent.handle, *text, *words)
+
+        return called
+
+    def _hold(self, call, laid_out, direction, breaks, limits):
+        """What the call lays out: `laid_out(room, number, lent)`."""
+        placed, count = _placed(breaks)
+        by, place = Limits(*limits)._for_call(), library.c_uint64(0)
+        with self._lock:
+            status = call(Direction(direction), address(placed), count, by, place)
+            refuse(status, place=place.value)
+            self._laid_out += 1
+            return laid_out(self, self._laid_out, self._lent)
+
+
+class Room(AnyRoom):
     """Memory for texts of up to `size` characters, 87 bytes for each, and for the layout of the last one.
 
     Whoever lays out many texts makes one for each thread. A layout of it can be asked until it lays out the next
@@ -78,14 +113,7 @@ class Room:
     """
 
     def __init__(self, size):
-        if size < 0:
-            raise ValueError(f"a room for {size} characters")
-        self.size = size
-        self._handle = Handle()
-        self._lock = threading.Lock()
-        self._laid_out, self._lent = 0, None
-        refuse(CALL.bidi_room_new(min(size, NOWHERE), self._handle))
-        weakref.finalize(self, CALL.bidi_room_free, self._handle)
+        super().__init__(size, CALL.bidi_room_new, "characters")
 
     def lay_out(self, text, tables, direction=Direction.AUTO, breaks=(), limits=Limits()):
         """Lays out a str, by tables, under a direction, with lines that begin at its start, behind each paragraph
@@ -95,14 +123,8 @@ class Room:
         room holds what it held then.
         """
         codes = codes_of(text)
-
-        def call(*words):
-            if self._lent is None or self._lent.tables is not tables:
-                self._lent = Lent(tables)
-            with self._lent.guard:
-                return CALL.bidi_lay_out_with(self._handle, self._lent.handle, address(codes), len(text), *words)
-
-        return self._hold(call, text, codes, direction, breaks, limits)
+        call = self._by_tables(CALL.bidi_lay_out_with, tables, address(codes), len(text))
+        return self._hold(call, lambda *held: Layout(*held, text, codes), direction, breaks, limits)
 
     def lay_out_classes(self, classes, direction=Direction.AUTO, breaks=(), limits=Limits()):
         """The same for a text of classes, by their short names (such as "AL") or numbers; it has no brackets."""
@@ -111,34 +133,67 @@ class Room:
         def call(*words):
             return CALL.bidi_lay_out_classes_with(self._handle, numbers, len(numbers), *words)
 
-        return self._hold(call, None, None, direction, breaks, limits)
+        return self._hold(call, lambda *held: Layout(*held, None, None), direction, breaks, limits)
 
-    def _hold(self, call, text, codes, direction, breaks, limits):
+
+class AnyLayout:
+    """What a room laid out, while it holds that."""
+
+    def __init__(self, room, number, lent):
+        self._room, self._number, self._lent = room, number, lent
+
+    @property
+    def paragraph_levels(self):
+        """The level of each paragraph (P2, P3)."""
+        return self._asked("B", CALL.bidi_para_levels).tolist()
+
+    def _anew(self, call, breaks, laid_out):
+        """What the call makes of the text by these breaks: `laid_out(room, number, lent)`."""
         placed, count = _placed(breaks)
-        by, place = Limits(*limits)._for_call(), library.c_uint64(0)
-        with self._lock:
-            status = call(Direction(direction), address(placed), count, by, place)
-            refuse(status, place=place.value)
-            self._laid_out += 1
-            return Layout(self, self._laid_out, self._lent, text, codes)
+        place = library.c_uint64(0)
+        with self._held() as handle:
+            refuse(call(handle, address(placed), count, place), place=place.value)
+            self._room._laid_out += 1
+            return laid_out(self._room, self._room._laid_out, self._lent)
+
+    def _line_count(self):
+        with self._held() as handle:
+            return CALL.bidi_line_count(handle)
+
+    def _asked(self, code, call, *words):
+        """What a look-up of the library writes."""
+        with self._held() as handle:
+            return copied(code, lambda at, place: call(handle, *words, at, place))
+
+    def _runs(self, call, number):
+        """The visual runs of a line from left to right, as the call tells of them."""
+        found, run, at = [], library.Run(), 0
+        with self._held() as handle:
+            while call(handle, number, at, run) == 0:
+                found.append(Run(run.start, run.length, run.shown, run.level))
+                at += run.shown
+        return found
+
+    @contextlib.contextmanager
+    def _held(self):
+        """The room's handle, while no other thread uses it and the room holds this layout."""
+        with self._room._lock:
+            if self._room._laid_out != self._number:
+                raise StaleLayout(StaleLayout.says)
+            yield self._room._handle
 
 
-class Layout:
+class Layout(AnyLayout):
     """What a room laid out: levels, paragraphs and lines. Places of lines are counted from the left."""
 
     def __init__(self, room, number, lent, text, codes):
-        self._room, self._number, self._lent = room, number, lent
+        super().__init__(room, number, lent)
         self._text, self._codes = text, codes
 
     @property
     def levels(self):
         """The level of each position after L1, None where X9 removes it."""
         return [None if level == REMOVED else level for level in self._asked("B", CALL.bidi_levels)]
-
-    @property
-    def paragraph_levels(self):
-        """The level of each paragraph (P2, P3)."""
-        return self._asked("B", CALL.bidi_para_levels).tolist()
 
     def with_lines(self, breaks):
         """The same text with lines that begin at these breaks (L1, L2): for those who shape a text and know only then
@@ -149,12 +204,7 @@ class Layout:
         """
         if not library.SETS_LINES:
             raise NotImplementedError("this library breaks no text anew")
-        placed, count = _placed(breaks)
-        place = library.c_uint64(0)
-        with self._held() as handle:
-            refuse(CALL.bidi_set_lines(handle, address(placed), count, place), place=place.value)
-            self._room._laid_out += 1
-            return Layout(self._room, self._room._laid_out, self._lent, self._text, self._codes)
+        return self._anew(CALL.bidi_set_lines, breaks, lambda *held: Layout(*held, self._text, self._codes))
 
     def line_of(self, start, end):
         """One line alone of the text (L1, L2), from `start` to before `end`, at the cost of that line, wherever other
@@ -171,9 +221,7 @@ class Layout:
     @property
     def lines(self):
         """Its lines, in the order of the text."""
-        with self._held() as handle:
-            count = CALL.bidi_line_count(handle)
-        return [Line(self, number) for number in range(count)]
+        return [Line(self, number) for number in range(self._line_count())]
 
     def display(self):
         """Its lines as they are shown, each a str from left to right with mirror images (L4), without the paragraph
@@ -193,19 +241,6 @@ class Layout:
             return shown
         at = line.order.index(last)
         return shown[:at] + shown[at + 1 :]
-
-    def _asked(self, code, call, *words):
-        """What a look-up of the library writes."""
-        with self._held() as handle:
-            return copied(code, lambda at, place: call(handle, *words, at, place))
-
-    @contextlib.contextmanager
-    def _held(self):
-        """The room's handle, while no other thread uses it and the room holds this layout."""
-        with self._room._lock:
-            if self._room._laid_out != self._number:
-                raise StaleLayout(StaleLayout.says)
-            yield self._room._handle
 
 
 class Line:
@@ -232,12 +267,7 @@ class Line:
     @property
     def runs(self):
         """Its visual runs from left to right."""
-        found, run, at = [], library.Run(), 0
-        with self._layout._held() as handle:
-            while CALL.bidi_run(handle, self._number, at, run) == 0:
-                found.append(Run(run.start, run.length, run.shown, run.level))
-                at += run.shown
-        return found
+        return self._layout._runs(CALL.bidi_run, self._number)
 
     @property
     def shown(self):

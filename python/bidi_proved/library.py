@@ -86,6 +86,22 @@ NEWER_CALLS = {
     "bidi_base_level": (c_uint32, [HANDLE, c_void_p, c_size_t, c_uint32, BYTE, PLACE]),
     "bidi_is_left_to_right": (c_uint32, [HANDLE, c_void_p, c_size_t, BYTE, PLACE]),
 }
+# Those for texts in UTF-8.
+UTF8_TEXT = [HANDLE, HANDLE, c_char_p, c_size_t, c_uint32, c_void_p, c_size_t, Limits, PLACE]
+UTF8_CALLS = {
+    "bidi_room_new_encoded": (c_uint32, [c_size_t, HANDLE]),
+    "bidi_lay_out_utf8_with": (c_uint32, UTF8_TEXT),
+    "bidi_lay_out_utf8_lossy_with": (c_uint32, UTF8_TEXT),
+    "bidi_encoded_set_lines": (c_uint32, [HANDLE, c_void_p, c_size_t, PLACE]),
+    "bidi_index_of": (c_size_t, [HANDLE, c_size_t]),
+    "bidi_offset_of": (c_size_t, [HANDLE, c_size_t]),
+    "bidi_level_at": (c_uint8, [HANDLE, c_size_t]),
+    "bidi_encoded_levels": (c_size_t, [HANDLE, c_void_p, c_size_t]),
+    "bidi_encoded_line": (c_uint32, [HANDLE, c_size_t, POINTER(Line)]),
+    "bidi_encoded_run": (c_uint32, [HANDLE, c_size_t, c_size_t, POINTER(Run)]),
+}
+# The greatest word.
+MOST = 2**64 - 1
 
 
 def candidates():
@@ -114,7 +130,8 @@ def load():
 
 def declare(found):
     """Declares what the calls take and answer."""
-    known = {**CALLS, **{name: types for name, types in NEWER_CALLS.items() if hasattr(found, name)}}
+    newer = {**NEWER_CALLS, **UTF8_CALLS}
+    known = {**CALLS, **{name: types for name, types in newer.items() if hasattr(found, name)}}
     for name, (result, words) in known.items():
         call = getattr(found, name)
         call.restype, call.argtypes = result, words
@@ -130,6 +147,8 @@ SETS_LINES = hasattr(CALL, "bidi_set_lines")
 HAS_LINE_OF = hasattr(CALL, "bidi_line_of")
 # Whether it says of a text what is known without a layout.
 HAS_BASE_LEVEL = hasattr(CALL, "bidi_base_level") and hasattr(CALL, "bidi_is_left_to_right")
+# Whether it lays out texts in UTF-8, refused or read with U+FFFD where they are ill-formed, and breaks them anew.
+HAS_UTF8 = all(hasattr(CALL, name) for name in UTF8_CALLS)
 
 
 def items(code, n):

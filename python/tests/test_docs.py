@@ -43,6 +43,9 @@ class Manual(unittest.TestCase):
     def test_example(self):
         self.runs("example.py")
 
+    def test_cursor(self):
+        self.runs("cursor.py")
+
     def test_resize(self):
         self.runs("resize.py")
 

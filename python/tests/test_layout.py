@@ -150,7 +150,6 @@ class Statuses(unittest.TestCase):
 
     NEVER = {
         "BIDI_DONE", "BIDI_NO_DIRECTION", "BIDI_NO_ROOM", "BIDI_NO_TABLES", "BIDI_NO_PLACE", "BIDI_TOO_SMALL",
-        "BIDI_ILL_FORMED", "BIDI_BREAK_INSIDE",
     }
 
     def test_exceptions(self):

@@ -1,0 +1,138 @@
+"""Texts in UTF-8, told of by offsets: worked ones, and many beside their characters."""
+import unittest
+
+import bidi_proved as bidi
+
+from . import small_tables
+
+ALEF, BET = "\u05d0\u05d1"
+RLE, EMOJI = "\u202b", "\U0001f600"
+PARTS = ["ab ", f"{ALEF}{BET} ", "12, ", f"({ALEF}b) ", "x\n", f"{BET}-3 ", f"{RLE}a", EMOJI]
+FAULTS = [b"\xff", b"\xf0\x9f\x98", b"\xd7", b"\xed\xa0\x80", b"\xe2\x82"]
+TEXTS = ["".join(PARTS[(k * i) % 8] for i in range(k % 19)) for k in range(200)]
+
+
+def starts_of(characters):
+    """The offset at which each character begins, and that of the text's end."""
+    found = [0]
+    for character in characters:
+        found.append(found[-1] + len(character.encode("utf-8")))
+    return found
+
+
+@unittest.skipUnless(bidi.HAS_UTF8, "this library lays out no UTF-8")
+class Worked(unittest.TestCase):
+    def setUp(self):
+        self.tables = small_tables()
+        self.text = f"ab {ALEF}({BET}) 1"
+
+    def test_offsets(self):
+        layout = bidi.lay_out_utf8(self.text, self.tables, breaks=[3])
+        self.assertEqual(layout.text, self.text.encode("utf-8"))
+        self.assertEqual(layout.levels, [0, 0, 0, 1, 1, 1, 1, 1, 1, 1, 2])
+        self.assertEqual(layout.paragraph_levels, [0])
+        self.assertEqual([layout.index_of(at) for at in range(12)], [0, 1, 2, 3, 3, 4, 5, 5, 6, 7, 8, 9])
+        self.assertEqual([layout.offset_of(index) for index in range(11)], [0, 1, 2, 3, 5, 6, 8, 9, 10, 11, 11])
+        first, second = layout.lines
+        self.assertEqual((first.start, first.end, first.order), (0, 3, [0, 1, 2]))
+        self.assertEqual((second.start, second.end, second.order), (3, 11, [10, 9, 8, 6, 5, 3]))
+        self.assertEqual(first.runs, [bidi.Run(0, 3, 3, 0)])
+        self.assertEqual(second.runs, [bidi.Run(10, 1, 1, 2), bidi.Run(3, 7, 5, 1)])
+
+    def test_removed(self):
+        layout = bidi.lay_out_utf8(f"a{RLE}b\n{EMOJI}".encode("utf-8"), self.tables)
+        self.assertEqual(layout.levels, [0, None, None, None, 2, 0, 0, 0, 0, 0])
+        self.assertEqual([layout.level_at(at) for at in (0, 2, 4, 10, 2**70)], [0, None, 2, None, None])
+        self.assertEqual([line.order for line in layout.lines], [[0, 4, 5], [6]])
+        self.assertEqual((layout.index_of(2**70), layout.offset_of(2**70)), (5, 10))
+        for asked in (layout.level_at, layout.index_of, layout.offset_of):
+            with self.assertRaises(ValueError):
+                asked(-1)
+
+    def test_other_lines(self):
+        whole = bidi.lay_out_utf8(self.text, self.tables, bidi.Direction.RTL)
+        broken = whole.with_lines([2, 6])
+        self.assertEqual([(line.start, line.end) for line in broken.lines], [(0, 2), (2, 6), (6, 11)])
+        self.assertEqual(broken.levels, bidi.lay_out_utf8(self.text, self.tables, 1, [2, 6]).levels)
+        with self.assertRaises(bidi.StaleLayout):
+            whole.levels  # pylint: disable=pointless-statement
+        with self.assertRaises(bidi.BreakInside) as told:
+            broken.with_lines([2, 4])
+        self.assertEqual((told.exception.place, len(broken.lines)), (1, 3))
+        self.assertEqual(broken.with_lines([]).levels, [2, 2, 1, 1, 1, 1, 1, 1, 1, 1, 2])
+
+    def test_ill_formed(self):
+        text = b"a\xf0\x9f\x98b\xff\xfe\xd7\x90\xe2\x82"
+        with self.assertRaises(bidi.IllFormed) as told:
+            bidi.lay_out_utf8(text, self.tables)
+        self.assertEqual(told.exception.place, 1)
+        layout = bidi.lay_out_utf8(text, self.tables, errors="replace", breaks=[4, 9])
+        self.assertEqual([layout.offset_of(index) for index in range(8)], [0, 1, 4, 5, 6, 7, 9, 11])
+        self.assertEqual([(line.start, line.end) for line in layout.lines], [(0, 4), (4, 9), (9, 11)])
+        with self.assertRaises(bidi.BreakInside):
+            layout.with_lines([10])
+        with self.assertRaises(bidi.IllFormed):
+            bidi.lay_out_utf8("a\ud800", self.tables)
+        with self.assertRaises(LookupError):
+            bidi.lay_out_utf8("a", self.tables, errors="ignore")
+
+    def test_refused_by_a_room(self):
+        room = bidi.Utf8Room(11)
+        held = room.lay_out(self.text, self.tables)
+        for kind, text, named in (
+            (bidi.TextTooLong, self.text + "a", {}),
+            (bidi.IllFormed, b"\x80", {}),
+            (bidi.BreakOutOfRange, self.text, {"breaks": [11]}),
+            (bidi.BreakNotRising, self.text, {"breaks": [3, 3]}),
+            (bidi.BreakInside, self.text, {"breaks": [4]}),
+            (bidi.DepthRefused, self.text, {"limits": (0, 63)}),
+        ):
+            with self.assertRaises(kind):
+                room.lay_out(text, self.tables, **named)
+        self.assertEqual(held.levels, [0, 0, 0, 1, 1, 1, 1, 1, 1, 1, 2])
+        with self.assertRaises(ValueError):
+            bidi.Utf8Room(-1)
+        with self.assertRaises(bidi.RoomTooBig):
+            bidi.Utf8Room(16777217)
+
+
+@unittest.skipUnless(bidi.HAS_UTF8, "this library lays out no UTF-8")
+class BesideCharacters(unittest.TestCase):
+    """Of each text, what is told in offsets is what a layout of its characters says."""
+
+    def setUp(self):
+        self.tables = small_tables()
+
+    def check(self, encoded, characters, starts, breaks, **named):
+        layout = bidi.lay_out_utf8(encoded, self.tables, breaks=[starts[at] for at in breaks], **named)
+        other = bidi.lay_out(characters, self.tables, breaks=breaks)
+        widths = [end - start for start, end in zip(starts, starts[1:])]
+        levels = [level for level, width in zip(other.levels, widths) for _ in range(width)]
+        self.assertEqual(layout.levels, levels)
+        self.assertEqual(layout.paragraph_levels, other.paragraph_levels)
+        for line, expected in zip(layout.lines, other.lines):
+            self.assertEqual((line.start, line.end), (starts[expected.start], starts[expected.end]))
+            self.assertEqual(line.order, [starts[at] for at in expected.order])
+            runs = [
+                bidi.Run(starts[run.start], starts[run.start + run.length] - starts[run.start], run.shown, run.level)
+                for run in expected.runs
+            ]
+            self.assertEqual(line.runs, runs)
+        self.assertEqual(len(layout.lines), len(other.lines))
+
+    def test_texts(self):
+        for text in TEXTS:
+            breaks = list(range(5, len(text), 7))
+            self.check(text, text, starts_of(text), breaks)
+
+    def test_replaced(self):
+        for k, text in enumerate(TEXTS):
+            pieces = [(part, 1) for part in text] + [(FAULTS[k % 5], 0)] + [(part, 1) for part in text[::2]]
+            encoded = b"".join(part.encode("utf-8") if whole else part for part, whole in pieces)
+            characters = encoded.decode("utf-8", "replace")
+            starts = [0]
+            for part, whole in pieces:
+                wide = [len(part.encode("utf-8"))] if whole else [1, 1, 1] if part[:1] == b"\xed" else [len(part)]
+                for width in wide:
+                    starts.append(starts[-1] + width)
+            self.check(encoded, characters, starts, [], errors="replace")
