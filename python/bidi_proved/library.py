@@ -98,6 +98,7 @@ UTF8_CALLS = {
     "bidi_level_at": (c_uint8, [HANDLE, c_size_t]),
     "bidi_encoded_levels": (c_size_t, [HANDLE, c_void_p, c_size_t]),
     "bidi_encoded_line": (c_uint32, [HANDLE, c_size_t, POINTER(Line)]),
+    "bidi_encoded_order": (c_size_t, [HANDLE, c_size_t, c_void_p, c_size_t]),
     "bidi_encoded_run": (c_uint32, [HANDLE, c_size_t, c_size_t, POINTER(Run)]),
 }
 # The greatest word.

@@ -96,9 +96,7 @@ class Utf8Line:
     @property
     def order(self):
         """The offsets at which its shown characters begin, from left to right (L2)."""
-        shown = self._layout._asked("Q", CALL.bidi_order, self._number)
-        with self._layout._held() as handle:
-            return [CALL.bidi_offset_of(handle, index) for index in shown]
+        return self._layout._asked("Q", CALL.bidi_encoded_order, self._number).tolist()
 
     @property
     def runs(self):

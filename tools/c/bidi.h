@@ -240,6 +240,9 @@ uint8_t bidi_level_at(bidi_room *room, size_t offset);
 size_t bidi_encoded_levels(bidi_room *room, uint8_t *levels, size_t place);
 /* Line k as bidi_line tells of it, but with `start` and `end` in offsets. */
 uint32_t bidi_encoded_line(bidi_room *room, size_t k, bidi_line_t *line);
+/* The offsets at which the shown characters of line k begin, from left to right (L2), copied as bidi_order copies their
+ * indices. */
+size_t bidi_encoded_order(bidi_room *room, size_t k, size_t *order, size_t place);
 /* The visual run of line k that begins at the place `from`, as bidi_run tells of it, but with `start` and `length` in
  * code units. */
 uint32_t bidi_encoded_run(bidi_room *room, size_t k, size_t from, bidi_run_t *run);

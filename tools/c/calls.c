@@ -349,7 +349,11 @@ static void print_encoded_line(bidi_room *room, size_t k) {
   bidi_run_t run;
   uint32_t status = bidi_encoded_line(room, k, &line);
   if (status) { printf(" no line %zu: %u", k, status); return; }
-  printf(" | [%zu,%zu) shown %zu runs", line.start, line.end, line.shown);
+  size_t order[64];
+  printf(" | [%zu,%zu) shown %zu order", line.start, line.end, line.shown);
+  size_t shown = bidi_encoded_order(room, k, order, 64);
+  for (size_t i = 0; i < shown; i++) printf(" %zu", order[i]);
+  printf(" runs");
   for (size_t at = 0; bidi_encoded_run(room, k, at, &run) == BIDI_DONE; at += run.shown)
     printf(" %zu+%zu(%zu)@%u", run.start, run.length, run.shown, run.level);
 }
@@ -369,7 +373,9 @@ static void print_encoded(bidi_room *room) {
   printf(" begin");
   for (size_t k = 0; k <= count + 1; k++) printf(" %zu", bidi_offset_of(room, k));
   for (size_t k = 0; k <= lines; k++) print_encoded_line(room, k);
-  printf("\n");
+  size_t few[2] = { 77, 77 }, counted = bidi_encoded_order(room, 0, few, 1);
+  printf(" order %zu by one place %zu %zu, of no line %zu\n", counted, few[0], few[1],
+         bidi_encoded_order(room, lines, few, 2));
 }
 
 static void lay_out_utf8(bidi_room *room, bidi_tables *tables, const char *text, uint32_t direction,

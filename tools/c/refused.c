@@ -53,7 +53,7 @@ int main(int argc, char **argv) {
   status += bidi_encoded_set_lines(&encoded, second, 1, &place);
   bidi_index_of(&encoded, 1); bidi_offset_of(&encoded, 1); bidi_level_at(&encoded, 1);
   bidi_encoded_levels(&encoded, levels, 3); bidi_encoded_line(&encoded, 0, &line_of);
-  bidi_encoded_run(&encoded, 0, 0, &run);
+  bidi_encoded_run(&encoded, 0, 0, &run); bidi_encoded_order(&encoded, 0, order, 3);
   printf("layout and look-ups: status %u, %ld asked\n", status, asked);
   refused_at = 0;
   printf("judge: %ld refused\n", IN_TURN(bidi_judge_new_classes(&judge), !judge.made));

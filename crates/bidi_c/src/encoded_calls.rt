@@ -4,7 +4,7 @@ ghost use Rattle.encoded.specs.Offsets.{IsOf, code_units, offset_of};
 ghost use Rattle.bidi_held.specs.Holdings.{encoded_in, RefusesRoom};
 ghost use Rattle.bidi_held.specs.Statuses.{Answers, Puts};
 ghost use Rattle.encoded_held.specs.EncodedTexts.{IsNewEncodedRoom};
-ghost use Rattle.encoded_held.specs.InCodeUnits.{byte_of_character, IsEncodedRun, IsIndexAt, OfItsText, RefusesEncodedLine, RefusesEncodedRun, TellsEncodedLine, WritesEncodedLevels};
+ghost use Rattle.encoded_held.specs.InCodeUnits.{byte_of_character, IsEncodedRun, IsIndexAt, OfItsText, RefusesEncodedLine, RefusesEncodedRun, TellsEncodedLine, WritesEncodedLevels, WritesEncodedOrder};
 ghost use Rattle.bidi_c.specs.HeldAt.{held_at};
 
 use crate::bidi_handle::BidiHandle;
@@ -15,7 +15,9 @@ use bidi_held::refusal::{Refusal, of_room, status};
 use bidi_held::visual_lines::BidiRun;
 use encoded::room::Room;
 use encoded_held::encoded_levels::write_encoded_levels;
-use encoded_held::lookups::{index_held, level_held, offset_held, tell_encoded_line};
+use encoded_held::lookups::{
+    index_held, level_held, offset_held, tell_encoded_line, write_encoded_order,
+};
 use encoded_held::runs::encoded_run_of;
 use std::alloc::Global;
 
@@ -105,6 +107,20 @@ pub extern "C" fn bidi_encoded_levels(room: &mut BidiHandle, levels: &mut [u8]) 
 {
     match room.held() {
         Some(held) => write_encoded_levels(held, levels),
+        None => 0,
+    }
+}
+
+/// How many characters of the line with the number `k` are shown, 0 without such a line or a room for code units. The
+/// offsets at which they begin, from left to right (L2), are written to `order`, if all fit there.
+#[unsafe(no_mangle)]
+pub extern "C" fn bidi_encoded_order(room: &mut BidiHandle, k: usize, order: &mut [usize]) -> usize
+    ensures room { held_at room.new ≡ held_at room.old }
+    ensures none { encoded_in (held_at room.old) ≡ None → (result ≡ 0) × (order.new ≡ order.old) }
+    ensures order { WritesEncodedOrder (held_at room.old) k result order.old order.new }
+{
+    match room.held() {
+        Some(held) => write_encoded_order(held, k, order),
         None => 0,
     }
 }

@@ -10,3 +10,4 @@ pub mod RoomColumns
 pub mod Looking
 pub mod HeldLines
 pub mod EncodedRunLists
+mod OrderOffsets

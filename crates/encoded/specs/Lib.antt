@@ -9,3 +9,4 @@ pub mod Rooms
 pub mod Refusals
 pub mod Columns
 pub mod EncodedRuns
+pub mod EncodedOrders

@@ -7,6 +7,7 @@ pub mod fault;
 mod indices;
 pub mod lookups;
 mod lossy;
+pub mod orders;
 pub mod room;
 pub mod runs;
 mod utf16;

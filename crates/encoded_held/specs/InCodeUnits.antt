@@ -1,5 +1,6 @@
 -- What is told of a text in code units, by offsets.
 use Rattle.std.specs.Prelude.{ℕ, ◌≡◌, ◌≤◌, ◌<◌, ◌+◌, ◌⊎◌, Option, None, IsSome, List, length, slice_index, slice_index_or}
+use Rattle.encoded.specs.EncodedOrders.{order_in_code_units}
 use Rattle.encoded.specs.Offsets.{Spelled, IsOf, code_units, offset_of}
 use Rattle.encoded.specs.Rooms.{characters_in, starts_in}
 use Rattle.encoded.specs.declared.room.Room.{Room as EncodedRoom}
@@ -7,7 +8,7 @@ use Rattle.bidi_held.specs.Holdings.{encoded_in, layout_held, line_numbered}
 use Rattle.bidi_held.specs.LinesOut.{LayoutRefusesLine}
 use Rattle.bidi_held.specs.Texts.{level_byte}
 use Rattle.bidi_held.specs.Visual.{IsVisualRun, LineRefusesRun}
-use Rattle.bidi_held.specs.Written.{Writes}
+use Rattle.bidi_held.specs.Written.{Writes, WritesWhole}
 use Rattle.bidi_held.specs.declared.held.Held.{Held}
 use Rattle.bidi_held.specs.declared.lines_out.BidiLine.{BidiLine}
 use Rattle.bidi_held.specs.declared.refusal.Refusal.{Refusal}
@@ -51,6 +52,12 @@ pub record TellsEncodedLine (room : Option Held) (k : ℕ) (told : BidiLine) : T
   pub start : OfItsText room (λ text. told.start ≡ offset_of text (line_numbered (layout_held room) k).start)
   pub end : OfItsText room (λ text. told.end ≡ offset_of text (line_numbered (layout_held room) k).end)
   pub shown : told.shown ≡ length (line_numbered (layout_held room) k).order
+
+-- L2: the offsets at which the shown characters of the line with the number k begin, from left to right, are counted,
+-- and written whole or not at all; there are none where there is no such line
+abbrev pub WritesEncodedOrder : Option Held → ℕ → ℕ → List ℕ → List ℕ → Type 0
+WritesEncodedOrder room k counted old new =
+    OfItsText room (λ text. WritesWhole (order_in_code_units text (line_numbered (layout_held room) k)) counted old new)
 
 -- the line with the number k is refused for this reason: there is no room for code units, or no such line
 abbrev pub RefusesEncodedLine : Option Held → ℕ → Refusal → Type 0

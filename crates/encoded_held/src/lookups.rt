@@ -4,7 +4,7 @@ ghost use Rattle.encoded.specs.Offsets.{Spelled, IsOf, code_units, offset_of};
 ghost use Rattle.encoded.specs.Rooms.{Holds};
 ghost use Rattle.bidi_held.specs.Holdings.{encoded_in};
 ghost use Rattle.bidi_held.specs.Statuses.{Puts};
-ghost use Rattle.encoded_held.specs.InCodeUnits.{byte_of_character, IsIndexAt, OfItsText, RefusesEncodedLine, TellsEncodedLine};
+ghost use Rattle.encoded_held.specs.InCodeUnits.{byte_of_character, IsIndexAt, OfItsText, RefusesEncodedLine, TellsEncodedLine, WritesEncodedOrder};
 
 use bidi_held::held::Held;
 use bidi_held::lines_out::{BidiLine, byte_of};
@@ -78,4 +78,16 @@ pub fn tell_encoded_line(room: &Held, k: usize, line: &mut BidiLine) -> Result<(
         shown: layout.line(k).order.len(),
     };
     Ok(())
+}
+
+/// Writes the offsets at which the shown characters of the line with the number `k` begin, from left to right (L2), to
+/// the front of `out`, if all fit there. It answers how many they are, 0 without a room for code units or such a line.
+pub fn write_encoded_order(room: &Held, k: usize, out: &mut [usize]) -> usize
+    ensures none { encoded_in (Some room.now) ≡ None → (result ≡ 0) × (out.new ≡ out.old) }
+    ensures order { WritesEncodedOrder (Some room.now) k result out.old out.new }
+{
+    match room.encoded() {
+        Some(room) if k < room.layout().line_count() => room.write_order(k, out),
+        _ => 0,
+    }
 }
