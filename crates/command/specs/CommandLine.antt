@@ -19,7 +19,10 @@ use Rattle.clap.specs.declared.builder.value_parser.ValueParser.TheVariants as p
 use Rattle.units.specs.declared.level.Direction.{Direction}
 use Rattle.units.specs.declared.level.Direction.TheVariants.{Auto, Ltr, Rtl, AutoRtl}
 use Rattle.bidtests.specs.VerdictText.{direction_word}
-use Rattle.command.specs.Refusals.{kind_without_request}
+use Rattle.command.specs.Refusals.{refusal_without_request}
+use Rattle.command.specs.declared.refusal.NoRequest.{NoRequest}
+use Rattle.command.specs.declared.refusal.WordsFault.{WordsFault}
+use Rattle.command.specs.declared.refusal.WordsFault.TheVariants as fault
 use Rattle.requests.specs.declared.request.FileKind.{FileKind}
 use Rattle.requests.specs.declared.request.FileKind.TheVariants.{Classes, Characters}
 use Rattle.requests.specs.declared.request.Print.{Print}
@@ -201,10 +204,9 @@ abbrev pub IsAskedBy : Option (Text × List Row) → Request → Type 0
 IsAskedBy None request = ⊥
 IsAskedBy (Some met) request = AsksFor met.0 met.1 request
 
--- the subcommand that was met makes no request, and the error is of the kind for that, unless memory was refused
-abbrev pub MakesNone : Option (Text × List Row) → Error → Type 0
-MakesNone met error = (kind_of error ≡ OutOfMemory)
-    ⊎ ((kind_of error ≡ kind_without_request met) × ((request : Request) → ¬ (IsAskedBy met request)))
+-- the subcommand that was met makes no request, for this reason
+abbrev pub MakesNone : Option (Text × List Row) → NoRequest → Type 0
+MakesNone met why = (why ≡ refusal_without_request met) × ((request : Request) → ¬ (IsAskedBy met request))
 
 -- the words pass, and this subcommand is met, with these values
 pub record HasMet (words : List Text) (met : Option (Text × List Row)) : Type 0 where
@@ -220,14 +222,29 @@ pub record IsRead (words : List Text) (request : Request) : Type 0 where
   pub passes : fault_of app words ≡ []
   pub asked : IsAskedBy (subcommand_of app words) request
 
--- the words are refused with this kind of error, or ask for help or the version; or the subcommand that was met, if one
--- was, makes no request, and this is the kind for that
+-- the words are refused with this kind of error, or ask for help or the version
 pub record WordsAreRefused (words : List Text) (kind : ErrorKind) : Type 0 where
   pub app : App
   pub is : IsBidi app
-  pub refused : IsAmong kind (fault_of app words) ⊎ ((kind ≡ kind_without_request (subcommand_of app words)) × ((request : Request) → ¬ (IsAskedBy (subcommand_of app words) request)))
+  pub refused : IsAmong kind (fault_of app words)
 
--- what the words are read as: a request, or an error, unless memory was refused
-abbrev pub IsReadAs : List Text → Result Request Error → Type 0
+-- so says an error of `clap`, unless memory was refused
+abbrev pub IsRefusedByClap : List Text → Error → Type 0
+IsRefusedByClap words error = (kind_of error ≡ OutOfMemory) ⊎ WordsAreRefused words (kind_of error)
+
+-- the words pass, and make no request, for this reason
+pub record WordsMakeNone (words : List Text) (why : NoRequest) : Type 0 where
+  pub app : App
+  pub is : IsBidi app
+  pub passes : fault_of app words ≡ []
+  pub none : MakesNone (subcommand_of app words) why
+
+-- why the words are no request
+abbrev pub IsUnread : List Text → WordsFault → Type 0
+IsUnread words (fault.ByClap error) = IsRefusedByClap words error
+IsUnread words (fault.NoRequest why) = WordsMakeNone words why
+
+-- what the words are read as: a request, or why they are none
+abbrev pub IsReadAs : List Text → Result Request WordsFault → Type 0
 IsReadAs words (Ok request) = IsRead words request
-IsReadAs words (Err error) = (kind_of error ≡ OutOfMemory) ⊎ WordsAreRefused words (kind_of error)
+IsReadAs words (Err fault) = IsUnread words fault

@@ -1,5 +1,5 @@
 -- What a run comes to, by how its words were read.
-use Rattle.std.specs.Prelude.{◌≡◌, ◌≢◌, ◌⊎◌, ℕ, List, [], ◌∷◌, Option, Result, Ok, Err, codes}
+use Rattle.std.specs.Prelude.{◌≡◌, ◌≢◌, ◌⊎◌, ℕ, List, [], ◌∷◌, Option, Result, Ok, Err, codes, true}
 use Rattle.std.specs.List.{concat}
 use Rattle.std.specs.Io.KnownBytes.{Appends}
 use Rattle.clap.specs.Values.{kind_of}
@@ -15,6 +15,10 @@ use Rattle.requests.specs.declared.outcome.Ended.{Ended}
 use Rattle.requests.specs.declared.outcome.Outcome.TheVariants.{Judged}
 use Rattle.requests.specs.declared.request.Request.{Request}
 use Rattle.command.specs.CommandLine.{IsRead, IsReadAs}
+use Rattle.command.specs.Refusals.{no_request_text}
+use Rattle.command.specs.declared.refusal.NoRequest.{NoRequest}
+use Rattle.command.specs.declared.refusal.WordsFault.{WordsFault}
+use Rattle.command.specs.declared.refusal.WordsFault.TheVariants as fault
 
 -- the words ask for help or the version
 abbrev pub AsksForHelp : Error → Type 0
@@ -33,8 +37,8 @@ abbrev pub IsPrinted : Option (List ℕ) → Option (List ℕ) → ErrorKind →
 IsPrinted before after kind.DisplayVersion = Appends before after version_text
 IsPrinted before after _ = Unit {0}
 
--- words that are no request end so: help or the version was asked for, and is printed, or a write of it failed; or memory
--- was refused; or the words are refused, and nothing is printed
+-- words that `clap` answers with this error end so: help or the version was asked for, and is printed, or a write of it
+-- failed; or memory was refused; or the words are refused, and nothing is printed
 abbrev pub EndsWithout : Option (List ℕ) → Option (List ℕ) → Option (List ℕ) → Option (List ℕ) → Error → Ended → Type 0
 EndsWithout before after err_before err_after error ended =
     (AsksForHelp error × IsPrinted before after (kind_of error) × EndsWell 0 err_before err_after ended)
@@ -42,20 +46,32 @@ EndsWithout before after err_before err_after error ended =
     ⊎ (((kind_of error ≡ kind.OutOfMemory) × (after ≡ before) × EndsBy OutOfMemory err_before err_after ended)
     ⊎ (RefusesWords error × (after ≡ before) × (ended.status ≡ 2))))
 
+-- words that pass and make no request, for this reason, end so: nothing is printed, and where that is said, known bytes
+-- grew by the text that says it
+pub record EndsUnasked (why : NoRequest) (before after err_before err_after : Option (List ℕ)) (ended : Ended) : Type 0 where
+  pub status_is : ended.status ≡ 2
+  pub unprinted : after ≡ before
+  pub says : ended.is_said ≡ true → Appends err_before err_after (no_request_text why)
+
+-- words that are no request, for this reason, end so
+abbrev pub EndsUnread : Option (List ℕ) → Option (List ℕ) → Option (List ℕ) → Option (List ℕ) → WordsFault → Ended → Type 0
+EndsUnread before after err_before err_after (fault.ByClap error) ended = EndsWithout before after err_before err_after error ended
+EndsUnread before after err_before err_after (fault.NoRequest why) ended = EndsUnasked why before after err_before err_after ended
+
 -- words that were read so came to what that asks for, and the run ended so: of the first two what is printed tells, of
 -- the next two what is said
-abbrev pub EndsAsRead : FileFacts → Option (List ℕ) → Option (List ℕ) → Option (List ℕ) → Option (List ℕ) → Result Request Error → Ended → Type 0
+abbrev pub EndsAsRead : FileFacts → Option (List ℕ) → Option (List ℕ) → Option (List ℕ) → Option (List ℕ) → Result Request WordsFault → Ended → Type 0
 EndsAsRead files before after err_before err_after (Ok request) ended = HasEnded files before after err_before err_after request ended
-EndsAsRead files before after err_before err_after (Err error) ended = EndsWithout before after err_before err_after error ended
+EndsAsRead files before after err_before err_after (Err fault) ended = EndsUnread before after err_before err_after fault ended
 
 -- the words were read, and the run came to what that asks for
 pub record HasRun (files : FileFacts) (before after err_before err_after : Option (List ℕ)) (words : List (List ℕ)) (ended : Ended) : Type 0 where
-  pub read : Result Request Error
+  pub read : Result Request WordsFault
   pub is : IsReadAs words read
   pub ends : EndsAsRead files before after err_before err_after read ended
 
 -- what the words were read as is a request, which came to a no
-abbrev pub RequestSaidNo : FileFacts → Option (List ℕ) → Option (List ℕ) → Result Request Error → Type 0
+abbrev pub RequestSaidNo : FileFacts → Option (List ℕ) → Option (List ℕ) → Result Request WordsFault → Type 0
 RequestSaidNo files before after read =
     (request : Request) × (read ≡ Ok request) × IsDone files before after request (Judged 1)
 

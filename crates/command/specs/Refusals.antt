@@ -1,9 +1,11 @@
--- The kinds of error with which words are refused that `clap` lets pass and that make no request.
-use Rattle.std.specs.Prelude.{◌&&◌, ◌||◌, Bool, List, Option, None, Some, is_some, codes, if◌then◌else◌}
+-- Why words that `clap` lets pass make no request, and what a user is told then.
+use Rattle.std.specs.Prelude.{◌&&◌, ◌||◌, Bool, ℕ, List, [], ◌∷◌, Option, None, Some, is_some, codes, if◌then◌else◌}
+use Rattle.std.specs.List.{concat}
 use Rattle.std.specs.Str.{bytes_eq}
 use Rattle.clap.specs.Walk.{Row, Text, first_of}
-use Rattle.clap.specs.declared.error.kind.ErrorKind.{ErrorKind}
-use Rattle.clap.specs.declared.error.kind.ErrorKind.TheVariants.{ArgumentConflict, MissingRequiredArgument, MissingSubcommand}
+use Rattle.command.specs.declared.help.TheConstants.{BIDI_USAGE, EXPLAIN_USAGE}
+use Rattle.command.specs.declared.refusal.NoRequest.{NoRequest}
+use Rattle.command.specs.declared.refusal.NoRequest.TheVariants.{ClassesAndText, NoText, NoSubcommand}
 
 -- classes are given, and a text or tables beside them
 abbrev pub has_classes_and_text : List Row → Bool
@@ -11,14 +13,31 @@ has_classes_and_text rows =
     is_some (first_of (codes "classes") rows) && (is_some (first_of (codes "tables") rows) || is_some (first_of (codes "file") rows))
 
 -- of `explain`: classes and a text exclude each other, and one of them is required
-abbrev pub explain_kind : Bool → ErrorKind
-explain_kind both = if both then ArgumentConflict else MissingRequiredArgument
+abbrev pub explain_refusal : Bool → NoRequest
+explain_refusal both = if both then ClassesAndText else NoText
 
 -- where the subcommand of this name makes no request of these values
-abbrev pub kind_in_subcommand : Text → List Row → ErrorKind
-kind_in_subcommand name rows = if bytes_eq name (codes "explain") then explain_kind (has_classes_and_text rows) else MissingSubcommand
+abbrev pub refusal_in_subcommand : Text → List Row → NoRequest
+refusal_in_subcommand name rows = if bytes_eq name (codes "explain") then explain_refusal (has_classes_and_text rows) else NoSubcommand
 
 -- where the subcommand that was met makes none
-abbrev pub kind_without_request : Option (Text × List Row) → ErrorKind
-kind_without_request None = MissingSubcommand
-kind_without_request (Some met) = kind_in_subcommand met.0 met.1
+abbrev pub refusal_without_request : Option (Text × List Row) → NoRequest
+refusal_without_request None = NoSubcommand
+refusal_without_request (Some met) = refusal_in_subcommand met.0 met.1
+
+-- what is wrong, in words
+abbrev pub words_without_request : NoRequest → List ℕ
+words_without_request ClassesAndText = codes "the argument '--classes <CLASSES>' cannot be used with '--tables <DIR>' or '<FILE>'"
+words_without_request NoText = codes "'<FILE>' is required, or '--classes <CLASSES>'"
+words_without_request NoSubcommand = codes "a subcommand is needed"
+
+-- how to call what was called
+abbrev pub usage_without_request : NoRequest → List ℕ
+usage_without_request ClassesAndText = EXPLAIN_USAGE.now
+usage_without_request NoText = EXPLAIN_USAGE.now
+usage_without_request NoSubcommand = BIDI_USAGE.now
+
+-- what a user is told
+abbrev pub no_request_text : NoRequest → List ℕ
+no_request_text why = concat (codes "error: " ∷ words_without_request why ∷ codes "\n\nUsage: " ∷ usage_without_request why
+    ∷ codes "\n\nFor more information, try '--help'.\n" ∷ [])

@@ -4,11 +4,12 @@ use Rattle.clap.proofs.OnLiterals.{clap_on_literals}
 use Rattle.clap.specs.Faults.{fault_of}
 use Rattle.clap.specs.Simple.{subcommand_of}
 use Rattle.clap.specs.Walk.{Row, Text, first_of, one_of}
-use Rattle.clap.specs.declared.error.kind.ErrorKind.TheVariants.{ArgumentConflict, DisplayVersion, InvalidValue, MissingRequiredArgument}
+use Rattle.clap.specs.declared.error.kind.ErrorKind.TheVariants.{DisplayVersion, InvalidValue}
 use Rattle.units.specs.declared.level.Direction.{Direction}
 use Rattle.units.specs.declared.level.Direction.TheVariants.{Auto, Rtl}
 use Rattle.command.specs.CommandLine.{Choices, bidi_app, direction_named, kind_named}
-use Rattle.command.specs.Refusals.{kind_without_request}
+use Rattle.command.specs.Refusals.{refusal_without_request}
+use Rattle.command.specs.declared.refusal.NoRequest.TheVariants.{ClassesAndText, NoText}
 use Rattle.requests.specs.declared.request.FileKind.{FileKind}
 use Rattle.requests.specs.declared.request.FileKind.TheVariants.{Characters}
 
@@ -156,14 +157,14 @@ pub explain_classes_words : (c : Choices) → option_map met (subcommand_of (bid
 unfolding clap_on_literals
 explain_classes_words c = refl
 
--- neither, and both: no request, and the kind of error for that
+-- neither, and both: no request, and the reason for that
 pub explain_nothing_words : (c : Choices)
-    → kind_without_request (subcommand_of (bidi_app c) (codes "bidi" ∷ codes "explain" ∷ [])) ≡ MissingRequiredArgument
+    → refusal_without_request (subcommand_of (bidi_app c) (codes "bidi" ∷ codes "explain" ∷ [])) ≡ NoText
 unfolding clap_on_literals
 explain_nothing_words c = refl
 
-pub explain_both_words : (c : Choices) → kind_without_request (subcommand_of (bidi_app c)
-    (codes "bidi" ∷ codes "explain" ∷ codes "--classes" ∷ codes "R" ∷ codes "FILE" ∷ [])) ≡ ArgumentConflict
+pub explain_both_words : (c : Choices) → refusal_without_request (subcommand_of (bidi_app c)
+    (codes "bidi" ∷ codes "explain" ∷ codes "--classes" ∷ codes "R" ∷ codes "FILE" ∷ [])) ≡ ClassesAndText
 unfolding clap_on_literals
 explain_both_words c = refl
 

@@ -45,7 +45,7 @@ fn reorder_command<'a>(alloc: Global) -> Result<Command<'a>, AllocError>
 
 /// The subcommand `explain`. By `clap` alone all of its arguments may be left out or stand together: which of them make
 /// a request is told by these.
-pub fn explain_command<'a>(alloc: Global) -> Result<Command<'a>, AllocError>
+fn explain_command<'a>(alloc: Global) -> Result<Command<'a>, AllocError>
     ensures app { IfOk result (λ command. (choice : Choice) × (words_of choice ≡ direction_words)
         × (app_of command ≡ explain_app choice)) }
     ensures local { IfOk result (λ command. (fields_of command).has_globals ≡ false) }

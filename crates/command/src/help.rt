@@ -21,6 +21,9 @@ pub const BIDI_VERSION: &str = "1.0.0 (rules P1 to L2 and L4 of UAX #9, Unicode 
 tables of Unicode 15.0.0 built in
 proved with rattle-kit-13b logic dac8208d650f15bf";
 
+/// How `bidi` is called.
+pub const BIDI_USAGE: &str = "bidi <COMMAND>";
+
 /// What stands at the end of the help of `bidi`.
 pub const BIDI_EXAMPLE: &str = "Example:\n  bidi levels text.txt";
 
@@ -89,13 +92,6 @@ pub const EXPLAIN_USAGE: &str = "bidi explain [OPTIONS] <FILE>
 pub const EXPLAIN_EXAMPLE: &str = "Examples:
   bidi explain text.txt
   bidi explain --classes 'R ON LRE L'";
-
-/// Why `explain` is refused with classes and a text.
-pub const EXPLAIN_BOTH: &str =
-    "the argument '--classes <CLASSES>' cannot be used with '--tables <DIR>' or '<FILE>'";
-
-/// Why `explain` is refused without classes and without a text.
-pub const EXPLAIN_NEITHER: &str = "'<FILE>' is required, or '--classes <CLASSES>'";
 
 /// What `judge` prints, and with which status it ends.
 pub const JUDGE_LONG_ABOUT: &str = "Judges a conformance file.

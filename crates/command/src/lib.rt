@@ -5,5 +5,6 @@
 mod arguments;
 mod command_line;
 mod help;
+mod refusal;
 pub mod run;
 mod words;

@@ -1,12 +1,14 @@
 // A run of the command.
-ghost use Rattle.std.specs.Prelude.{◌≡◌, ◌≤◌, OnErr, OnOk};
+ghost use Rattle.std.specs.Prelude.{◌≡◌, ◌≤◌, OnErr, OnOk, true};
 ghost use Rattle.std.specs.Io.KnownBytes.{Appends};
 ghost use Rattle.clap.specs.Walk.{texts};
 ghost use Rattle.command.specs.Outcomes.{RequestSaidNo, EndsWithout, EndsAsRead, HasRun, HasSaidNo, version_text};
+ghost use Rattle.command.specs.Refusals.{no_request_text};
 ghost use Rattle.requests.specs.FaultText.{EndsBy};
 ghost use Rattle.requests.specs.Outcomes.{EndsWell};
 
 use crate::help::BIDI_VERSION;
+use crate::refusal::{NoRequest, WordsFault};
 use crate::words::request_of;
 use clap::Error;
 use clap::error::ErrorKind;
@@ -60,7 +62,21 @@ fn refuse<E: Write>(refusal: &Error, err: &mut E) -> Ended
     }
 }
 
-/// Ends a run whose words are no request: help or the version is printed, or it is said why they are refused.
+/// Says why words that pass make no request, and answers how the run ends.
+fn say_no_request<E: Write>(why: NoRequest, err: &mut E) -> Ended
+    ensures status { result.status ≡ 2 }
+    ensures said { result.is_said ≡ true → Appends (E.contents err.old) (E.contents err.new) (no_request_text why) }
+{
+    let written = write!(err, "{why}");
+    let flushed = err.flush();
+    Ended {
+        status: 2,
+        is_said: written.is_ok() && flushed.is_ok(),
+    }
+}
+
+/// Ends a run whose words `clap` answers with an error: help or the version is printed, or it is said why they are
+/// refused.
 fn run_without_request<W: Write, E: Write>(error: &Error, out: &mut W, err: &mut E) -> Ended
     ensures { EndsWithout (W.contents out.old) (W.contents out.new)
         (E.contents err.old) (E.contents err.new) error.now result }
@@ -76,7 +92,7 @@ fn run_without_request<W: Write, E: Write>(error: &Error, out: &mut W, err: &mut
 /// Does what words ask for, as they were read, and answers how the run ends.
 fn run_as_read<F: Files, W: Write, E: Write>(
     alloc: Global,
-    read: Result<Request<'_>, Error>,
+    read: Result<Request<'_>, WordsFault>,
     files: &F,
     out: &mut W,
     err: &mut E,
@@ -90,7 +106,8 @@ fn run_as_read<F: Files, W: Write, E: Write>(
 {
     match read {
         Ok(request) => run_request(alloc, request, files, out, err),
-        Err(error) => run_without_request(&error, out, err),
+        Err(WordsFault::ByClap(error)) => run_without_request(&error, out, err),
+        Err(WordsFault::NoRequest(why)) => say_no_request(why, err),
     }
 }
 

@@ -1,20 +1,18 @@
 // What the words of a command line ask for.
-ghost use Rattle.std.specs.Prelude.{◌≡◌, codes, option_map, Err, IfOk, IfErr, IfSome, IfNone, is_some};
+ghost use Rattle.std.specs.Prelude.{◌≡◌, codes, option_map, IfOk, IfErr, IfSome, IfNone, is_some};
 ghost use Rattle.clap.specs.Matches.{found_of};
 ghost use Rattle.clap.specs.Simple.{subcommand_rows_of};
 ghost use Rattle.clap.specs.Walk.{first_of, one_of, rows_of, texts};
-ghost use Rattle.clap.specs.Values.{kind_of};
-ghost use Rattle.command.specs.CommandLine.{AsksFor, ColumnsAre, HasMet, IsAskedBy, IsReadAs, MakesNone};
+ghost use Rattle.command.specs.CommandLine.{AsksFor, ColumnsAre, HasMet, IsAskedBy, IsReadAs, IsRefusedByClap, MakesNone};
 ghost use Rattle.command.specs.CommandLine.{direction_named, folder_of, kind_named};
-ghost use Rattle.command.specs.Refusals.{has_classes_and_text, kind_in_subcommand, kind_without_request};
+ghost use Rattle.command.specs.Refusals.{has_classes_and_text, refusal_in_subcommand, refusal_without_request};
 ghost use Rattle.requests.specs.declared.request.Request.{Request as RequestOf};
 
-use crate::command_line::{bidi_command, explain_command};
-use crate::help;
-use clap::error::ErrorKind;
-use clap::{ArgMatches, Command, Error};
+use crate::command_line::bidi_command;
+use crate::refusal::{NoRequest, WordsFault};
+use clap::{ArgMatches, Error};
 use requests::request::{FileKind, Print, Request, TableSource};
-use std::alloc::{AllocError, Global};
+use std::alloc::Global;
 use std::num::NonZeroU16;
 use units::level::Direction;
 
@@ -182,76 +180,52 @@ fn has_both(matches: &ArgMatches<'_>) -> bool
     has_value(matches, "classes") && (has_value(matches, "tables") || has_value(matches, "file"))
 }
 
-/// The kind of error where the subcommand of this name makes no request of its arguments.
-fn kind_in_subcommand(name: &str, matches: &ArgMatches<'_>) -> ErrorKind
-    ensures { result ≡ kind_in_subcommand name.now (rows_of (found_of matches.now)) }
+/// Why the subcommand of this name makes no request of its arguments.
+fn refusal_in_subcommand(name: &str, matches: &ArgMatches<'_>) -> NoRequest
+    ensures { result ≡ refusal_in_subcommand name.now (rows_of (found_of matches.now)) }
 {
     match name {
-        "explain" if has_both(matches) => ErrorKind::ArgumentConflict,
-        "explain" => ErrorKind::MissingRequiredArgument,
-        _ => ErrorKind::MissingSubcommand,
+        "explain" if has_both(matches) => NoRequest::ClassesAndText,
+        "explain" => NoRequest::NoText,
+        _ => NoRequest::NoSubcommand,
     }
 }
 
-/// The kind of error where the subcommand that was met makes no request.
-fn kind_without_request(matches: &ArgMatches<'_>) -> ErrorKind
-    ensures { result ≡ kind_without_request (subcommand_rows_of matches.now) }
+/// Why the subcommand that was met makes no request.
+fn refusal_without_request(matches: &ArgMatches<'_>) -> NoRequest
+    ensures { result ≡ refusal_without_request (subcommand_rows_of matches.now) }
 {
     match matches.subcommand() {
-        Some((name, inner)) => kind_in_subcommand(name, inner),
-        None => ErrorKind::MissingSubcommand,
-    }
-}
-
-/// The error of this kind, by a command if there was memory to make it.
-fn error_by(
-    made: Result<Command<'_>, AllocError>,
-    kind: ErrorKind,
-    message: &str,
-) -> Result<Error, AllocError>
-    ensures { IfOk result (λ error. kind_of error ≡ kind) }
-{
-    made?.error(kind, message)
-}
-
-/// The error of this kind, where words make no request.
-fn error_without_request(alloc: Global, kind: ErrorKind) -> Result<Error, AllocError>
-    ensures { IfOk result (λ error. kind_of error ≡ kind) }
-{
-    match kind {
-        ErrorKind::ArgumentConflict => error_by(explain_command(alloc), kind, help::EXPLAIN_BOTH),
-        ErrorKind::MissingRequiredArgument => {
-            error_by(explain_command(alloc), kind, help::EXPLAIN_NEITHER)
-        }
-        _ => error_by(bidi_command(alloc), kind, "a subcommand is needed"),
+        Some((name, inner)) => refusal_in_subcommand(name, inner),
+        None => NoRequest::NoSubcommand,
     }
 }
 
 /// What the words of a command line give to its arguments, or the error by which they are refused.
 fn matches_of<'a>(alloc: Global, words: &'a [&'a str]) -> Result<ArgMatches<'a>, Error>
     ensures met { IfOk result (λ matches. HasMet (texts words.now) (subcommand_rows_of matches)) }
-    ensures refused { IfErr result (λ error. IsReadAs (texts words.now) (Err error)) }
+    ensures refused { IfErr result (IsRefusedByClap (texts words.now)) }
 {
     let mut command = bidi_command(alloc)?;
     command.try_get_matches_from_mut(words)
 }
 
-/// The request of the subcommand that was met, or the error that it makes none.
-fn request_or_error<'a>(alloc: Global, matches: &ArgMatches<'a>) -> Result<Request<'a>, Error>
+/// The request of the subcommand that was met, or why it makes none.
+fn request_or_refusal<'a>(matches: &ArgMatches<'a>) -> Result<Request<'a>, NoRequest>
     ensures request { IfOk result (IsAskedBy (subcommand_rows_of matches.now)) }
-    ensures error { IfErr result (MakesNone (subcommand_rows_of matches.now)) }
+    ensures refusal { IfErr result (MakesNone (subcommand_rows_of matches.now)) }
 {
     match request_by(matches) {
         Some(request) => Ok(request),
-        None => Err(error_without_request(alloc, kind_without_request(matches))?),
+        None => Err(refusal_without_request(matches)),
     }
 }
 
 /// Reads the words of a command line, of which the first is the program's name. Words that are refused, or that ask for
-/// help or the version, are answered as an error with the text for the user.
-pub fn request_of<'a>(alloc: Global, words: &'a [&'a str]) -> Result<Request<'a>, Error>
+/// help or the version, are answered as a fault with the text for the user.
+pub fn request_of<'a>(alloc: Global, words: &'a [&'a str]) -> Result<Request<'a>, WordsFault>
     ensures { IsReadAs (texts words.now) result }
 {
     let matches = matches_of(alloc, words)?;
-    request_or_error(alloc, &matches)
+    Ok(request_or_refusal(&matches)?)
 }

@@ -1,12 +1,12 @@
 use Rattle.std.proofs.Common.{◌≡◌, ℕ, List, Result, Ok, subst}
-use Rattle.clap.specs.declared.error.Error.{Error}
+use Rattle.command.specs.declared.refusal.WordsFault.{WordsFault}
 use Rattle.clap.specs.Walk.{texts}
 use Rattle.command.specs.CommandLine.{IsRead, IsReadAs}
 use Rattle.requests.specs.declared.request.Request.{Request}
 use Rattle.command.proofs.run.run.Goals as goal
 
-read_so : (words : List (List ℕ)) (read : Result Request Error) (request : Request) → read ≡ Ok request → IsReadAs words read → IsRead words request
-read_so words read request e h = subst (λ (r : Result Request Error). IsReadAs words r) e h
+read_so : (words : List (List ℕ)) (read : Result Request WordsFault) (request : Request) → read ≡ Ok request → IsReadAs words read → IsRead words request
+read_so words read request e h = subst (λ (r : Result Request WordsFault). IsReadAs words r) e h
 
 pub returns-clause-no : goal.returns-clause-no
 returns-clause-no g c = λ one.

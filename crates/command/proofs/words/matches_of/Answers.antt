@@ -6,7 +6,7 @@ use Rattle.clap.specs.Simple.{App, HasMatchesOf, app_of, is_simple, subcommand_r
 use Rattle.clap.specs.Walk.{Text, texts}
 use Rattle.clap.specs.declared.error.Error.{Error}
 use Rattle.clap.specs.declared.parser.matches.ArgMatches.{ArgMatches}
-use Rattle.command.specs.CommandLine.{Choices, HasMet, IsBidi, IsReadAs, bidi_app}
+use Rattle.command.specs.CommandLine.{Choices, HasMet, IsBidi, IsRefusedByClap, bidi_app}
 use Rattle.command.proofs.words.matches_of.Goals as goal
 
 bidi_is_simple : (c : Choices) → is_simple (bidi_app c) ≡ true
@@ -26,12 +26,12 @@ met : (app : App) (words : List Text) (r : Result ArgMatches Error) → IsBidi a
 met app words (Ok m) h passes found = record { app = app; is = h; passes = passes; same = (found (simple app h)).1 }
 met app words (Err e) h fails found = tt
 
-refused_by : (app : App) (words : List Text) (e : Error) → IsBidi app → HasKind (fault_of app words) e → IsReadAs words (Err e)
+refused_by : (app : App) (words : List Text) (e : Error) → IsBidi app → HasKind (fault_of app words) e → IsRefusedByClap words e
 refused_by app words e h (inl memory) = inl memory
-refused_by app words e h (inr kind) = inr (record { app = app; is = h; refused = inl kind })
+refused_by app words e h (inr kind) = inr (record { app = app; is = h; refused = kind })
 
 refused : (app : App) (words : List Text) (r : Result ArgMatches Error) → IsBidi app → FailsBy (fault_of app words) r
-    → IfErr r (λ e. IsReadAs words (Err e))
+    → IfErr r (IsRefusedByClap words)
 refused app words (Ok m) h passes = tt
 refused app words (Err e) h fails = refused_by app words e h fails
 

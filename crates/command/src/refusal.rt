@@ -1,0 +1,87 @@
+// Why words are no request.
+ghost use Rattle.std.specs.Prelude.{◌≡◌, Some};
+ghost use Rattle.command.specs.Refusals.{no_request_text, usage_without_request, words_without_request};
+
+use crate::help::{BIDI_USAGE, EXPLAIN_USAGE};
+use clap::Error;
+use std::fmt;
+
+/// Why words that `clap` lets pass make no request. Its text is what a user is told.
+#[derive(Clone, Copy, Debug, PartialEq, Eq)]
+pub enum NoRequest {
+    /// `explain` is given classes, and tables or a text beside them.
+    ClassesAndText,
+    /// `explain` is given neither classes nor a text.
+    NoText,
+    /// No subcommand makes one.
+    NoSubcommand,
+}
+
+impl NoRequest {
+    /// What is wrong, in words.
+    fn words(self) -> &'static str
+        ensures { result.now ≡ words_without_request self }
+    {
+        match self {
+            NoRequest::ClassesAndText => {
+                "the argument '--classes <CLASSES>' cannot be used with '--tables <DIR>' or '<FILE>'"
+            }
+            NoRequest::NoText => "'<FILE>' is required, or '--classes <CLASSES>'",
+            NoRequest::NoSubcommand => "a subcommand is needed",
+        }
+    }
+
+    /// How to call what was called.
+    fn usage(self) -> &'static str
+        ensures { result.now ≡ usage_without_request self }
+    {
+        match self {
+            NoRequest::ClassesAndText | NoRequest::NoText => EXPLAIN_USAGE,
+            NoRequest::NoSubcommand => BIDI_USAGE,
+        }
+    }
+}
+
+impl fmt::Display for NoRequest {
+    ghost output = { λ why. Some (no_request_text why) };
+
+    fn fmt<W: fmt::Write>(&self, f: &mut fmt::Formatter<W>) -> fmt::Result {
+        let words = self.words();
+        let usage = self.usage();
+        write!(
+            f,
+            "error: {words}\n\nUsage: {usage}\n\nFor more information, try '--help'.\n"
+        )
+    }
+}
+
+/// Why the words of a command line are no request.
+#[derive(Debug, Drop)]
+pub enum WordsFault {
+    /// `clap` refuses them, or they ask for help or the version, or memory was refused.
+    ByClap(Error),
+    /// They pass, and make no request.
+    NoRequest(NoRequest),
+}
+
+impl From<Error> for WordsFault {
+    ghost use Rattle.std.specs.Prelude.{◌≡◌};
+    ghost use Rattle.command.specs.declared.refusal.WordsFault.TheVariants.{ByClap};
+
+    ghost from_gives = { λ error fault. fault ≡ ByClap error };
+
+    fn from(error: Error) -> Self {
+        WordsFault::ByClap(error)
+    }
+}
+
+impl From<NoRequest> for WordsFault {
+    ghost use Rattle.std.specs.Prelude.{◌≡◌};
+    ghost use Rattle.command.specs.declared.refusal.WordsFault.TheVariants as fault;
+
+    ghost from_gives = { λ why given. given ≡ fault.NoRequest why };
+
+    fn from(why: NoRequest) -> Self {
+        WordsFault::NoRequest(why)
+    }
+}
