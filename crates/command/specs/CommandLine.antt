@@ -1,11 +1,11 @@
 -- The command line, as it is read: the command with its subcommands and arguments, and the request that the values of a
 -- subcommand make.
-use Rattle.std.specs.Prelude.{◌≡◌, ◌⊎◌, List, [], ◌∷◌, Option, None, Some, Result, Ok, Err, IfOk, codes, map, option_map, pos, true, false, if◌then◌else◌}
+use Rattle.std.specs.Prelude.{◌≡◌, ◌⊎◌, ℕ, List, [], ◌∷◌, Option, None, Some, Result, Ok, Err, IfOk, codes, map, option_map, unwrap_or, pos, true, false, if◌then◌else◌}
 use Rattle.std.specs.Borrow.{Bor}
 use Rattle.std.specs.declared.num.NonZeroU16.{NonZeroU16}
 use Rattle.std.specs.declared.num.ParseIntError.{ParseIntError}
 use Rattle.std.specs.Str.{bytes_eq}
-use Rattle.std.specs.Str.Parse.{ParsesNonZeroUnsigned, digits_value, without_leading_plus}
+use Rattle.std.specs.Str.Parse.{ParsesNonZeroUnsigned, ParsesUnsigned, digits_value, without_leading_plus}
 use Rattle.clap.specs.Faults.{fault_of}
 use Rattle.clap.specs.Kinds.{IsAmong}
 use Rattle.clap.specs.Matches.{ReadsOne}
@@ -29,6 +29,8 @@ use Rattle.requests.specs.declared.request.Print.{Print}
 use Rattle.requests.specs.declared.request.Print.TheVariants.{Levels, Reorder, Explained}
 use Rattle.requests.specs.declared.request.TableSource.{TableSource}
 use Rattle.requests.specs.declared.request.TableSource.TheVariants.{Folder, BuiltIn}
+use Rattle.requests.specs.declared.request.RowsForm.{RowsForm}
+use Rattle.requests.specs.declared.request.RowsForm.TheVariants.{Exhaustive, Random}
 use Rattle.requests.specs.declared.request.Request.{Request}
 use Rattle.requests.specs.declared.request.Request.TheVariants as requested
 
@@ -82,6 +84,10 @@ alphabet_rule = record (option_rule (codes "alphabet")) { required = true }
 abbrev pub length_rule : Rule
 length_rule = record (option_rule (codes "length")) { required = true }
 
+-- --seed and --count, numbers of 64 bits
+abbrev pub number_rule : Text → Rule
+number_rule name = record (option_rule name) { parser = Some (parser.Unsigned 0 18446744073709551615) }
+
 abbrev pub not_required : Rule → Rule
 not_required rule = record rule { required = false }
 
@@ -100,7 +106,8 @@ abbrev pub judge_app : Choice → App
 judge_app kinds = with_rule (with_rule (with_rule (new_app (codes "judge")) (kind_rule kinds)) tables_rule) file_rule
 
 abbrev pub rows_app : Choice → App
-rows_app forms = with_rule (with_rule (with_rule (new_app (codes "rows")) (form_rule forms)) alphabet_rule) length_rule
+rows_app forms =
+    with_rule (with_rule (with_rule (with_rule (with_rule (new_app (codes "rows")) (form_rule forms)) alphabet_rule) length_rule) (number_rule (codes "seed"))) (number_rule (codes "count"))
 
 -- the words that name directions, kinds and forms
 abbrev pub direction_words : List Text
@@ -110,7 +117,7 @@ abbrev pub kind_words : List Text
 kind_words = codes "classes" ∷ codes "characters" ∷ []
 
 abbrev pub form_words : List Text
-form_words = codes "exhaustive" ∷ []
+form_words = codes "exhaustive" ∷ codes "random" ∷ []
 
 -- the command without its subcommands: one is needed, but for help and the version
 abbrev pub bidi_top : App
@@ -174,6 +181,22 @@ abbrev pub ColumnsAre : Option Text → Option NonZeroU16 → Type 0
 ColumnsAre None columns = columns ≡ None
 ColumnsAre (Some text) columns = ReadsOne ReadsColumns text columns
 
+-- a number as its text is read
+abbrev pub ReadsNumber : Text → Result ℕ ParseIntError → Type 0
+ReadsNumber text r = ParsesUnsigned 64 10 text r
+
+-- a number by its text, if that is given, and else this one
+abbrev pub NumberIs : ℕ → Option Text → ℕ → Type 0
+NumberIs default None n = n ≡ default
+NumberIs default (Some text) n = (read : Option ℕ) × ReadsOne ReadsNumber text read × (n ≡ unwrap_or read default)
+
+-- the form of rows that the values say: all texts, or 1,000 that are drawn, or as many as are asked for, by the seed 0
+-- or the one that is given
+abbrev pub FormIs : List Row → RowsForm → Type 0
+FormIs rows Exhaustive = first_of (codes "form") rows ≡ Some (codes "exhaustive")
+FormIs rows (Random seed count) = (first_of (codes "form") rows ≡ Some (codes "random"))
+    × NumberIs 0 (one_of (codes "seed") rows) seed × NumberIs 1000 (one_of (codes "count") rows) count
+
 -- the folder that tables come from, if they come from one
 abbrev pub folder_of : TableSource → Option Text
 folder_of (Folder folder) = Some folder.now
@@ -196,7 +219,7 @@ AsksFor name rows (requested.ExplainClasses classes direction) = (name ≡ codes
 AsksFor name rows (requested.Judge kind tables file) = (name ≡ codes "judge")
     × (kind_named (first_of (codes "kind") rows) ≡ Some kind) × (first_of (codes "tables") rows ≡ option_map (λ folder. folder.now) tables)
     × (first_of (codes "file") rows ≡ Some file.now)
-AsksFor name rows (requested.Rows alphabet lengths) = (name ≡ codes "rows") × (first_of (codes "form") rows ≡ Some (codes "exhaustive"))
+AsksFor name rows (requested.Rows form alphabet lengths) = (name ≡ codes "rows") × FormIs rows form
     × (first_of (codes "alphabet") rows ≡ Some alphabet.now) × (first_of (codes "length") rows ≡ Some lengths.now)
 
 -- the subcommand that was met makes this request

@@ -3,7 +3,7 @@ ghost use Rattle.std.specs.Prelude.{◌≡◌, false};
 ghost use Rattle.clap.specs.Walk.{rule_of};
 ghost use Rattle.command.specs.CommandLine.{Choice, alphabet_rule, classes_rule, columns_rule, direction_rule};
 ghost use Rattle.command.specs.CommandLine.{direction_words, file_rule, form_rule, form_words, kind_rule, kind_words};
-ghost use Rattle.command.specs.CommandLine.{length_rule, tables_rule, words_of};
+ghost use Rattle.command.specs.CommandLine.{length_rule, number_rule, tables_rule, words_of};
 
 use clap::Arg;
 use clap::builder::ValueParser;
@@ -13,7 +13,7 @@ const DIRECTIONS: [&str; 4] = ["auto", "ltr", "rtl", "auto-rtl"];
 
 const KINDS: [&str; 2] = ["classes", "characters"];
 
-const FORMS: [&str; 1] = ["exhaustive"];
+const FORMS: [&str; 2] = ["exhaustive", "random"];
 
 /// FILE, which is required.
 pub fn file_argument<'a>(alloc: Global) -> Arg<'a>
@@ -89,7 +89,10 @@ pub fn form_argument<'a>(alloc: Global) -> Arg<'a>
         .value_name("FORM")
         .required(true)
         .value_parser(FORMS.as_slice())
-        .help("Which texts the rows have: with `exhaustive` all of these lengths over the alphabet")
+        .help(
+            "Which texts over the alphabet the rows have: with `exhaustive` all of these lengths, \
+             with `random` as many as --count says, drawn by --seed",
+        )
 }
 
 /// `--alphabet CLASSES`, which is required.
@@ -114,6 +117,18 @@ pub fn length_argument<'a>(alloc: Global) -> Arg<'a>
         .value_name("LENGTHS")
         .required(true)
         .help("The lengths of the texts, 1 to 4096: `N`, or `A..B` for all from A up to B")
+}
+
+/// An option of this name with a number of 64 bits, which may be left out, with this help.
+pub fn number_argument<'a>(alloc: Global, name: &'a str, help: &'a str) -> Arg<'a>
+    ensures rule { rule_of result ≡ number_rule name.now }
+    ensures local { result.global ≡ false }
+{
+    Arg::new(alloc, name)
+        .long(name)
+        .value_name("N")
+        .value_parser(clap::value_parser!(u64))
+        .help(help)
 }
 
 /// `--kind`, which is required.

@@ -8,7 +8,7 @@ ghost use Rattle.command.specs.CommandLine.{form_words, kind_words, levels_app, 
 
 use crate::arguments::{
     alphabet_argument, classes_argument, columns_argument, direction_argument, file_argument,
-    form_argument, kind_argument, length_argument, tables_argument,
+    form_argument, kind_argument, length_argument, number_argument, tables_argument,
 };
 use crate::help;
 use clap::Command;
@@ -81,12 +81,14 @@ fn rows_command<'a>(alloc: Global) -> Result<Command<'a>, AllocError>
     ensures local { IfOk result (λ command. (fields_of command).has_globals ≡ false) }
 {
     Command::new(alloc, "rows")
-        .about("Prints a conformance file of all texts over an alphabet")
+        .about("Prints a conformance file of texts over an alphabet")
         .long_about(help::ROWS_LONG_ABOUT)
         .after_help(help::ROWS_EXAMPLE)
         .arg(form_argument(alloc))?
         .arg(alphabet_argument(alloc))?
-        .arg(length_argument(alloc))
+        .arg(length_argument(alloc))?
+        .arg(number_argument(alloc, "seed", help::ROWS_SEED_HELP))?
+        .arg(number_argument(alloc, "count", help::ROWS_COUNT_HELP))
 }
 
 /// The command `bidi` without its subcommands, of which one is needed.

@@ -114,13 +114,23 @@ pub const ROWS_LONG_ABOUT: &str =
     "Prints a conformance file, in the form of BidiTest.txt, with right answers.
 
 Its texts are all of the lengths that are given over an alphabet of classes, the shorter
-ones first, each under the directions auto, ltr and rtl. A text under a direction is three
-lines: its levels, its order, and a row that names this direction.
+ones first, or as many as are asked for, drawn by a seed: the same for the same words on
+every machine. Each stands under the directions auto, ltr and rtl. A text under a direction
+is three lines: its levels, its order, and a row that names this direction.
 
 Ends with status 0, 2 where the command line is refused, --alphabet has a name of no class
-or none, --length is no range of lengths or there are 2^64 texts of a length or more, and 3
-where a write fails or memory is refused.";
+or none, --length is no range of lengths, all texts are asked for and there are 2^64 of a
+length or more, or texts are to be drawn and --length ends before it begins, and 3 where a
+write fails or memory is refused.";
+
+/// What `--seed` says, and of which rows.
+pub const ROWS_SEED_HELP: &str =
+    "The seed by which `--form random` draws texts, 0 where it is left out";
+
+/// What `--count` says, and of which rows.
+pub const ROWS_COUNT_HELP: &str = "How many texts `--form random` draws, 1000 where it is left out";
 
 /// What stands at the end of the help of `rows`.
-pub const ROWS_EXAMPLE: &str =
-    "Example:\n  bidi rows --form exhaustive --alphabet 'LRO RLE L PDF PDI RLO' --length 1..4";
+pub const ROWS_EXAMPLE: &str = "Examples:
+  bidi rows --form exhaustive --alphabet 'LRO RLE L PDF PDI RLO' --length 1..4
+  bidi rows --form random --seed 1 --count 5000 --alphabet 'L R AL AN NSM' --length 1..40";

@@ -4,14 +4,15 @@ ghost use Rattle.clap.specs.Matches.{found_of};
 ghost use Rattle.clap.specs.Simple.{subcommand_rows_of};
 ghost use Rattle.clap.specs.Walk.{first_of, one_of, rows_of, texts};
 ghost use Rattle.command.specs.CommandLine.{AsksFor, ColumnsAre, HasMet, IsAskedBy, IsReadAs, IsRefusedByClap, MakesNone};
-ghost use Rattle.command.specs.CommandLine.{direction_named, folder_of, kind_named};
+ghost use Rattle.command.specs.CommandLine.{FormIs, NumberIs, direction_named, folder_of, kind_named};
 ghost use Rattle.command.specs.Refusals.{has_classes_and_text, refusal_in_subcommand, refusal_without_request};
 ghost use Rattle.requests.specs.declared.request.Request.{Request as RequestOf};
+ghost use Rattle.requests.specs.declared.request.RowsForm.{RowsForm as FormOf};
 
 use crate::command_line::bidi_command;
 use crate::refusal::{NoRequest, WordsFault};
 use clap::{ArgMatches, Error};
-use requests::request::{FileKind, Print, Request, TableSource};
+use requests::request::{FileKind, Print, Request, RowsForm, TableSource};
 use std::alloc::Global;
 use std::num::NonZeroU16;
 use units::level::Direction;
@@ -132,19 +133,39 @@ fn judge_in<'a>(matches: &ArgMatches<'a>) -> Option<Request<'a>>
     })
 }
 
+/// The number of 64 bits that an argument says, or the one that it is where it is left out.
+fn number_in(matches: &ArgMatches<'_>, id: &str, default: u64) -> u64
+    ensures { NumberIs default (one_of id.now (rows_of (found_of matches.now))) result }
+{
+    matches.get_one::<u64>(id).unwrap_or(default)
+}
+
+/// Which texts the rows have.
+fn form_in(matches: &ArgMatches<'_>) -> Option<RowsForm>
+    ensures some { IfSome result (FormIs (rows_of (found_of matches.now))) }
+    ensures none { IfNone result ((form : FormOf) → ¬ (FormIs (rows_of (found_of matches.now)) form)) }
+{
+    match text_of(matches, "form") {
+        Some("exhaustive") => Some(RowsForm::Exhaustive),
+        Some("random") => Some(RowsForm::Random {
+            seed: number_in(matches, "seed", 0),
+            count: number_in(matches, "count", 1000),
+        }),
+        _ => None,
+    }
+}
+
 /// What `rows` asks for, by its arguments.
 fn rows_in<'a>(matches: &ArgMatches<'a>) -> Option<Request<'a>>
     ensures some { IfSome result (AsksFor (codes "rows") (rows_of (found_of matches.now))) }
     ensures none { IfNone result ((request : RequestOf)
         → ¬ (AsksFor (codes "rows") (rows_of (found_of matches.now)) request)) }
 {
-    match text_of(matches, "form") {
-        Some("exhaustive") => Some(Request::Rows {
-            alphabet: text_of(matches, "alphabet")?,
-            lengths: text_of(matches, "length")?,
-        }),
-        _ => None,
-    }
+    Some(Request::Rows {
+        form: form_in(matches)?,
+        alphabet: text_of(matches, "alphabet")?,
+        lengths: text_of(matches, "length")?,
+    })
 }
 
 /// What a subcommand of this name asks for, by its arguments.

@@ -1,4 +1,4 @@
-//! Rows of all texts over an alphabet.
+//! Rows of texts over an alphabet, all or drawn.
 use crate::command_lines::{JUDGE_CLASSES, ROWS};
 use crate::memory_files::whole;
 use crate::runs::{Ending, assert_run, outcome_of};
@@ -88,4 +88,95 @@ fn refuses_what_makes_no_rows(rt: HostRuntime) {
         let ending = Ending::fails(2, line);
         assert_run(&rt, rt.alloc(), &words(alphabet, lengths), &[], ending);
     }
+}
+
+/// The words for rows of texts that are drawn.
+fn drawn<'a>(seed: &'a str, count: &'a str, lengths: &'a str) -> [&'a str; 12] {
+    [
+        "bidi",
+        "rows",
+        "--form",
+        "random",
+        "--seed",
+        seed,
+        "--count",
+        count,
+        "--alphabet",
+        "R L",
+        "--length",
+        lengths,
+    ]
+}
+
+const DRAWN_TEXT: &[u8] = b"@Levels: 1
+@Reorder: 0
+R; 1
+@Levels: 1
+@Reorder: 0
+R; 2
+@Levels: 1
+@Reorder: 0
+R; 4
+@Levels: 0 1
+@Reorder: 0 1
+L R; 1
+@Levels: 0 1
+@Reorder: 0 1
+L R; 2
+@Levels: 2 1
+@Reorder: 1 0
+L R; 4
+";
+
+#[test]
+fn prints_rows_that_are_drawn(rt: HostRuntime) {
+    let ending = Ending::prints(0, DRAWN_TEXT);
+    assert_run(&rt, rt.alloc(), &drawn("0", "2", "1..2"), &[], ending);
+}
+
+#[test]
+fn prints_no_rows_where_none_is_drawn(rt: HostRuntime) {
+    let ending = Ending::prints(0, b"");
+    assert_run(&rt, rt.alloc(), &drawn("0", "0", "1..2"), &[], ending);
+}
+
+#[test]
+fn draws_nothing_from_a_longer_to_a_shorter_length(rt: HostRuntime) {
+    let ending = Ending::fails(2, b"bidi: --length ends before it begins\n");
+    assert_run(&rt, rt.alloc(), &drawn("0", "2", "2..1"), &[], ending);
+}
+
+#[test]
+fn draws_a_thousand_texts_by_the_seed_0_where_nothing_is_said(rt: HostRuntime) {
+    let alloc = rt.alloc();
+    let said = outcome_of(alloc, &drawn("0", "1000", "1..3"), &[]);
+    let [
+        bidi,
+        rows,
+        form,
+        random,
+        _,
+        _,
+        _,
+        _,
+        alphabet_option,
+        alphabet,
+        length_option,
+        lengths,
+    ] = drawn("0", "1000", "1..3");
+    let left_out = [
+        bidi,
+        rows,
+        form,
+        random,
+        alphabet_option,
+        alphabet,
+        length_option,
+        lengths,
+    ];
+    let ending = Ending::prints(0, said.out.written());
+    assert_run(&rt, alloc, &left_out, &[], ending);
+    let files = [whole("FILE", said.out.written())];
+    let ending = Ending::prints(0, b"yes: 3000 rows, 3000 cases\n");
+    assert_run(&rt, alloc, &JUDGE_CLASSES, &files, ending);
 }

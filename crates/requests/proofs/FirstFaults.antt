@@ -19,6 +19,7 @@ use Rattle.requests.specs.declared.request.TableSource.{TableSource}
 use Rattle.requests.specs.declared.request.TableSource.TheVariants.{Folder, BuiltIn}
 use Rattle.requests.specs.declared.request.Request.{Request}
 use Rattle.requests.specs.declared.request.Request.TheVariants.{Text, ExplainClasses, Judge, Rows}
+use Rattle.requests.specs.declared.request.RowsForm.{RowsForm}
 use Rattle.requests.specs.declared.fault.Fault.{Fault}
 use Rattle.requests.specs.declared.fault.Fault.TheVariants.{WordNotUtf8, TablesNeeded, ClassesTooLong, NoClass, NoLengths, NoRows, CannotRead, FaultyLine, NotUtf8, CannotWrite, OutOfMemory}
 use Rattle.printing.specs.declared.fault.PrintFault.{PrintFault}
@@ -118,10 +119,10 @@ has_printed files printed source file tables text before after stated read said 
 }
 
 -- the words of rows that were printed say them
-rows_done : (alphabet lengths : List ℕ) (before after : Option (List ℕ)) → HasPrintedRows alphabet lengths before after → AreDone (rows_steps alphabet lengths)
-rows_done alphabet lengths before after h = (
+rows_done : (form : RowsForm) (alphabet lengths : List ℕ) (before after : Option (List ℕ)) → HasPrintedRows form alphabet lengths before after → AreDone (rows_steps form alphabet lengths)
+rows_done form alphabet lengths before after h = (
   (h.texts.alphabet, h.are.classes),
-  (((h.texts.least, h.texts.greatest), h.are.ends), ((h.texts, h.are, h.counted), tt)),
+  (((h.texts.least, h.texts.greatest), h.are.ends), ((h.texts, h.are, h.made.some), tt)),
 )
 
 -- what was done was read before
@@ -134,11 +135,11 @@ request_done files before after (Judge Classes tables file) (Judged status) h = 
 request_done files before after (Judge Characters (Some folder) file) (Judged status) h =
     all_done (table_steps files folder.now) (file_step files most_file_bytes file.now ∷ [])
     (tables_done files folder.now h.is.0 h.is.1) ((h.bytes, h.read), tt)
-request_done files before after (Rows alphabet lengths) Printed h = rows_done alphabet.now lengths.now before after h
+request_done files before after (Rows form alphabet lengths) Printed h = rows_done form alphabet.now lengths.now before after h
 request_done files before after (Text source direction file print) (Judged status) h = absurd h
 request_done files before after (ExplainClasses word direction) (Judged status) h = absurd h
 request_done files before after (Judge Classes tables file) Printed h = absurd h
 request_done files before after (Judge Characters (Some folder) file) Printed h = absurd h
 request_done files before after (Judge Characters None file) (Judged status) h = absurd h
 request_done files before after (Judge Characters None file) Printed h = absurd h
-request_done files before after (Rows alphabet lengths) (Judged status) h = absurd h
+request_done files before after (Rows form alphabet lengths) (Judged status) h = absurd h

@@ -2,3 +2,4 @@ pub mod ClassNames
 pub mod FirstFaults
 pub mod LengthPieces
 pub mod TableEnds
+pub mod MadeRows

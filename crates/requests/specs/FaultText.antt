@@ -11,8 +11,8 @@ use Rattle.requests.specs.declared.fault.Fault.{Fault}
 use Rattle.requests.specs.declared.outcome.Ended.{Ended}
 use Rattle.requests.specs.declared.fault.Fault.TheVariants.{WordNotUtf8, TablesNeeded, ClassesTooLong, NoClass, NoLengths, NoRows, CannotRead, FaultyLine, NotUtf8, CannotWrite, OutOfMemory}
 use Rattle.printing.specs.LevelsText.{line_feed}
-use Rattle.rows.specs.declared.exhaustive.ExhaustiveFault.{ExhaustiveFault}
-use Rattle.rows.specs.declared.exhaustive.ExhaustiveFault.TheVariants as refused
+use Rattle.rows.specs.declared.fault.RowsFault.{RowsFault}
+use Rattle.rows.specs.declared.fault.RowsFault.TheVariants as refused
 
 -- the line that says what is wrong with a line of a table's file: the file's name, the line's number from 1, and the
 -- fault's name
@@ -24,15 +24,16 @@ faulty_line_text name line fault =
 abbrev pub no_class_text : List ℕ → List ℕ
 no_class_text name = concat (codes "bidi: " ∷ name ∷ codes " is no class" ∷ line_feed ∷ [])
 
--- why texts can't be enumerated
-abbrev pub rows_refusal : ExhaustiveFault → List ℕ
+-- why texts can't be enumerated or drawn
+abbrev pub rows_refusal : RowsFault → List ℕ
 rows_refusal refused.NoClass = codes "--alphabet has no class"
 rows_refusal refused.NoLength = codes "--length begins at 0"
 rows_refusal refused.TooLong = codes "--length ends above 4096"
 rows_refusal refused.TooMany = codes "there are too many texts"
+rows_refusal refused.NoneBetween = codes "--length ends before it begins"
 
 -- the line that says it
-abbrev pub no_rows_text : ExhaustiveFault → List ℕ
+abbrev pub no_rows_text : RowsFault → List ℕ
 no_rows_text fault = concat (codes "bidi: " ∷ rows_refusal fault ∷ line_feed ∷ [])
 
 -- the line that says that the text in the file of this name is not UTF-8

@@ -29,7 +29,7 @@ IsDone files before after (Judge Classes tables file) (Judged status) =
     HasJudged files IsClassesVerdict file.now before after status
 IsDone files before after (Judge Characters (Some folder) file) (Judged status) =
     HasJudgedBy files folder.now file.now before after status
-IsDone files before after (Rows alphabet lengths) Printed = HasPrintedRows alphabet.now lengths.now before after
+IsDone files before after (Rows form alphabet lengths) Printed = HasPrintedRows form alphabet.now lengths.now before after
 IsDone files before after _ _ = ⊥
 
 -- a request comes to what it asks for, or fails in a step

@@ -6,16 +6,18 @@ use Rattle.ucdfiles.specs.PairFiles.{bracket_fault, mirror_fault}
 use Rattle.ucdfiles.specs.declared.fault.Fault.{Fault as LineFault}
 use Rattle.ucdfiles.specs.Tables.{TablesOf}
 use Rattle.units.specs.declared.class.Class.{Class}
+use Rattle.rows.specs.Exhaustive.{ExhaustiveOf}
 use Rattle.requests.specs.ClassWords.{EndsNames, classes_named}
 use Rattle.requests.specs.declared.request.FileKind.TheVariants.{Classes, Characters}
 use Rattle.requests.specs.declared.request.TableSource.{TableSource}
 use Rattle.requests.specs.declared.request.TableSource.TheVariants.{Folder, BuiltIn}
 use Rattle.requests.specs.declared.request.Request.{Request}
+use Rattle.requests.specs.declared.request.RowsForm.{RowsForm}
 use Rattle.requests.specs.declared.request.Request.TheVariants.{Text, ExplainClasses, Judge, Rows}
 use Rattle.requests.specs.declared.fault.Fault.{Fault}
 use Rattle.requests.specs.declared.fault.Fault.TheVariants.{TablesNeeded, ClassesTooLong, CannotRead, NotUtf8, CannotWrite, OutOfMemory}
 use Rattle.requests.specs.Printed.{most_text_bytes}
-use Rattle.requests.specs.PrintedRows.{AreEnumerated, EndsTexts}
+use Rattle.requests.specs.PrintedRows.{CanBeMade, EndsMaking, EndsTexts, refusal_in}
 use Rattle.requests.specs.RowWords.{EndsLengths, lengths_named}
 use Rattle.requests.specs.ReadFiles.{FileFacts, IsClassPath, bracket_name, mirror_name, in_folder, most_file_bytes, origin_of}
 use Rattle.requests.specs.TableFaults.{EndsClasses, EndsTable, IsFaultless}
@@ -78,16 +80,23 @@ lengths_step word = record {
   EndsBy = EndsLengths word;
 }
 
--- that the texts which two words say can be enumerated
-abbrev pub texts_step : List ℕ → List ℕ → RequestStep
-texts_step alphabet lengths = record {
-  Done = AreEnumerated alphabet lengths;
-  EndsBy = EndsTexts alphabet lengths;
+-- that there is a file of this form of texts
+abbrev pub making_step : RowsForm → ExhaustiveOf → RequestStep
+making_step form texts = record {
+  Done = refusal_in form texts ≡ None;
+  EndsBy = EndsMaking form texts;
+}
+
+-- that the texts of this form which two words say can be enumerated or drawn
+abbrev pub texts_step : RowsForm → List ℕ → List ℕ → RequestStep
+texts_step form alphabet lengths = record {
+  Done = CanBeMade form alphabet lengths;
+  EndsBy = EndsTexts form alphabet lengths;
 }
 
 -- what is read of the words for rows
-abbrev pub rows_steps : List ℕ → List ℕ → List RequestStep
-rows_steps alphabet lengths = names_step alphabet ∷ lengths_step lengths ∷ texts_step alphabet lengths ∷ []
+abbrev pub rows_steps : RowsForm → List ℕ → List ℕ → List RequestStep
+rows_steps form alphabet lengths = names_step alphabet ∷ lengths_step lengths ∷ texts_step form alphabet lengths ∷ []
 
 -- the making of the tables that are built in
 abbrev pub built_in_step : RequestStep
@@ -164,4 +173,4 @@ module _ (files : FileFacts) where
   steps_of (Judge Classes tables file) = file_step most_file_bytes file.now ∷ []
   steps_of (Judge Characters (Some folder) file) = characters_steps folder.now file.now
   steps_of (Judge Characters None file) = record { Done = ⊥; EndsBy = EndsUnnamed } ∷ []
-  steps_of (Rows alphabet lengths) = rows_steps alphabet.now lengths.now
+  steps_of (Rows form alphabet lengths) = rows_steps form alphabet.now lengths.now

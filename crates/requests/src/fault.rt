@@ -8,7 +8,7 @@ ghost use Rattle.requests.specs.FaultText.{no_rows_text, not_utf8_text, rows_ref
 
 use crate::outcome::Ended;
 use printing::fault::PrintFault;
-use rows::exhaustive::ExhaustiveFault;
+use rows::fault::RowsFault;
 use std::alloc::{AllocError, AllocFailed};
 use std::io;
 use std::io::Write;
@@ -28,8 +28,8 @@ pub enum Fault<'a> {
     NoClass(&'a [u8]),
     /// The word for the lengths says none.
     NoLengths(&'a str),
-    /// The texts over the alphabet, of the lengths, can't be enumerated.
-    NoRows(ExhaustiveFault),
+    /// The texts over the alphabet, of the lengths, can't be enumerated or drawn.
+    NoRows(RowsFault),
     /// The file of this name can't be opened, a read of it failed, or it has more bytes than are allowed.
     CannotRead(&'a str),
     /// A line of the table's file of this name is faulty.
@@ -145,20 +145,21 @@ fn print_no_lengths<E: Write>(err: &mut E, word: &str) -> io::Result<()>
     writeln!(err, "bidi: {word} is no range of lengths")
 }
 
-/// Why texts can't be enumerated, in words.
-fn refusal_in_words(fault: ExhaustiveFault) -> &'static str
+/// Why texts can't be enumerated or drawn, in words.
+fn refusal_in_words(fault: RowsFault) -> &'static str
     ensures { result.now ≡ rows_refusal fault }
 {
     match fault {
-        ExhaustiveFault::NoClass => "--alphabet has no class",
-        ExhaustiveFault::NoLength => "--length begins at 0",
-        ExhaustiveFault::TooLong => "--length ends above 4096",
-        ExhaustiveFault::TooMany => "there are too many texts",
+        RowsFault::NoClass => "--alphabet has no class",
+        RowsFault::NoLength => "--length begins at 0",
+        RowsFault::TooLong => "--length ends above 4096",
+        RowsFault::TooMany => "there are too many texts",
+        RowsFault::NoneBetween => "--length ends before it begins",
     }
 }
 
-/// Writes the line that says why texts can't be enumerated.
-fn print_no_rows<E: Write>(err: &mut E, fault: ExhaustiveFault) -> io::Result<()>
+/// Writes the line that says why texts can't be enumerated or drawn.
+fn print_no_rows<E: Write>(err: &mut E, fault: RowsFault) -> io::Result<()>
     ensures { OnOk result (Appends (E.contents err.old) (E.contents err.new) (no_rows_text fault)) }
 {
     let refusal = refusal_in_words(fault);

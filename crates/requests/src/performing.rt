@@ -130,7 +130,11 @@ pub fn perform<'a, F: Files, W: Write>(
         Request::Judge { kind, tables, file } => {
             return judge_file(alloc, kind, tables, file, files, out);
         }
-        Request::Rows { alphabet, lengths } => print_rows(alloc, alphabet, lengths, out)?,
+        Request::Rows {
+            form,
+            alphabet,
+            lengths,
+        } => print_rows(alloc, form, alphabet, lengths, out)?,
     }
     Ok(Outcome::Printed)
 }

@@ -32,6 +32,15 @@ pub enum TableSource<'a> {
     BuiltIn,
 }
 
+/// Which texts over an alphabet rows have.
+#[derive(Clone, Copy, Debug, PartialEq, Eq)]
+pub enum RowsForm {
+    /// All of the lengths, the shorter ones first.
+    Exhaustive,
+    /// So many, drawn by a seed.
+    Random { seed: u64, count: u64 },
+}
+
 /// What is asked for. Files and folders are named as they were given.
 #[derive(Clone, Copy, Debug, PartialEq, Eq)]
 pub enum Request<'a> {
@@ -53,9 +62,10 @@ pub enum Request<'a> {
         tables: Option<&'a str>,
         file: &'a str,
     },
-    /// Print all texts of these lengths over the alphabet of classes whose names stand in the word, as a conformance
-    /// file of which a judge says yes.
+    /// Print texts of these lengths over the alphabet of classes whose names stand in the word, all or some that are
+    /// drawn, as a conformance file of which a judge says yes.
     Rows {
+        form: RowsForm,
         alphabet: &'a str,
         lengths: &'a str,
     },

@@ -11,3 +11,4 @@ pub mod Judged
 pub mod JoinedTexts
 pub mod FilledText
 pub mod RowTextsOf
+pub mod DrawnText

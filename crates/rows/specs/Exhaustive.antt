@@ -8,8 +8,8 @@ use Rattle.units.specs.declared.class.Class.TheVariants.{L}
 use Rattle.units.specs.declared.level.Direction.{Direction}
 use Rattle.bidtests.specs.ClassesFile.{unit_of_class}
 use Rattle.rows.specs.RowTexts.{Case, longest_row}
-use Rattle.rows.specs.declared.exhaustive.ExhaustiveFault.{ExhaustiveFault}
-use Rattle.rows.specs.declared.exhaustive.ExhaustiveFault.TheVariants.{NoClass, NoLength, TooLong, TooMany}
+use Rattle.rows.specs.declared.fault.RowsFault.{RowsFault}
+use Rattle.rows.specs.declared.fault.RowsFault.TheVariants.{NoClass, NoLength, TooLong, TooMany}
 
 -- the texts over an alphabet from the least length up to the greatest
 pub record ExhaustiveOf : Type 0 where
@@ -25,7 +25,7 @@ pub record CanBeCounted (e : ExhaustiveOf) : Type 0 where
   pub few : length e.alphabet ^ e.greatest < 2 ^ 64
 
 -- the first reason why these texts can't be enumerated
-abbrev pub refusal_of : ExhaustiveOf → Option ExhaustiveFault
+abbrev pub refusal_of : ExhaustiveOf → Option RowsFault
 refusal_of e =
     if length e.alphabet == 0 then Some NoClass
     else if e.least == 0 then Some NoLength

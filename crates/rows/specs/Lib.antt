@@ -1,3 +1,4 @@
 pub mod RowTexts
 pub mod Exhaustive
 pub mod Judged
+pub mod Random

@@ -2,24 +2,12 @@
 ghost use Rattle.std.specs.Prelude.{◌≡◌, IfOk};
 ghost use Rattle.std.specs.Result.{result_err};
 
+use crate::fault::RowsFault;
 use std::marker::Model;
 use units::class::Class;
 
 /// The longest text of a row, in units: with it no line is longer than a judge takes.
 pub const LONGEST_ROW: usize = 4096;
-
-/// Why texts can't be enumerated.
-#[derive(Clone, Copy, Debug, PartialEq, Eq)]
-pub enum ExhaustiveFault {
-    /// The alphabet has no class.
-    NoClass,
-    /// The least length is 0, and a row has a class.
-    NoLength,
-    /// The greatest length is above `LONGEST_ROW`.
-    TooLong,
-    /// There are 2^64 texts of the greatest length, or more.
-    TooMany,
-}
 
 /// All texts over an alphabet from a least length up to a greatest, in units, the shorter ones first; those of one
 /// length in the order of the alphabet, the last place fastest. There are none where the least is above the greatest.
@@ -49,18 +37,18 @@ impl<'a> Exhaustive<'a> {
         alphabet: &'a [Class],
         least: usize,
         greatest: usize,
-    ) -> Result<Exhaustive<'a>, ExhaustiveFault>
+    ) -> Result<Exhaustive<'a>, RowsFault>
         ensures made { IfOk result (λ e. e ≡ record { alphabet = alphabet.now; least = least; greatest = greatest }) }
         ensures refused { result_err result ≡ refusal_of (record { alphabet = alphabet.now; least = least; greatest = greatest }) }
     {
         if alphabet.is_empty() {
-            return Err(ExhaustiveFault::NoClass);
+            return Err(RowsFault::NoClass);
         }
         if least == 0 {
-            return Err(ExhaustiveFault::NoLength);
+            return Err(RowsFault::NoLength);
         }
         if greatest > LONGEST_ROW {
-            return Err(ExhaustiveFault::TooLong);
+            return Err(RowsFault::TooLong);
         }
         match alphabet.len().checked_pow(greatest as u32) {
             Some(_) => Ok(Exhaustive {
@@ -68,7 +56,7 @@ impl<'a> Exhaustive<'a> {
                 least,
                 greatest,
             }),
-            None => Err(ExhaustiveFault::TooMany),
+            None => Err(RowsFault::TooMany),
         }
     }
 

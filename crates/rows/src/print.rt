@@ -21,7 +21,7 @@ use units::level::Direction;
 use units::memory::Memory;
 
 /// Room for the longest text.
-fn room_for(alloc: Global, len: usize) -> Result<Vec<Unit>, Memory>
+pub fn room_for(alloc: Global, len: usize) -> Result<Vec<Unit>, Memory>
     ensures { IfOk result (λ text. length text.items ≡ len) }
 {
     let unit = Unit {

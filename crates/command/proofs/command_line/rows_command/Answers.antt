@@ -11,11 +11,13 @@ returns-clause-app c =
     let form = c.form_argument.ensures.rule in
     let with_form = c.in_ok-arg.ensures.shape c.form_argument.ensures.local ∙ ap₂ with_rule plain form.2 in
     let with_alphabet = c.in_ok-arg-2.ensures.shape c.alphabet_argument.ensures.local ∙ ap₂ with_rule with_form c.alphabet_argument.ensures.rule in
-    IfOk-weaker c.arg-3.result _ _ (λ command h. (
+    let with_length = c.in_ok-arg-3.ensures.shape c.length_argument.ensures.local ∙ ap₂ with_rule with_alphabet c.length_argument.ensures.rule in
+    let with_seed = c.in_ok-arg-4.ensures.shape c.number_argument.ensures.local ∙ ap₂ with_rule with_length c.number_argument.ensures.rule in
+    IfOk-weaker c.arg-5.result _ _ (λ command h. (
       form.0,
       form.1,
-      h.shape c.length_argument.ensures.local ∙ ap₂ with_rule with_alphabet c.length_argument.ensures.rule,
-    )) c.arg-3.ensures
+      h.shape c.number_argument-2.ensures.local ∙ ap₂ with_rule with_seed c.number_argument-2.ensures.rule,
+    )) c.arg-5.ensures
 
 pub returns-clause-local : goal.returns-clause-local
 returns-clause-local c =
@@ -23,4 +25,6 @@ returns-clause-local c =
     ap (λ f. f.has_globals) c.after_help.ensures ∙ ap (λ f. f.has_globals) c.long_about.ensures ∙ ap (λ f. f.has_globals) c.about.ensures ∙ c.new.ensures.local in
     let with_form = c.in_ok-arg.ensures.globals ∙ ap₂ ◌||◌ plain c.form_argument.ensures.local in
     let with_alphabet = c.in_ok-arg-2.ensures.globals ∙ ap₂ ◌||◌ with_form c.alphabet_argument.ensures.local in
-    IfOk-weaker c.arg-3.result _ _ (λ command h. h.globals ∙ ap₂ ◌||◌ with_alphabet c.length_argument.ensures.local) c.arg-3.ensures
+    let with_length = c.in_ok-arg-3.ensures.globals ∙ ap₂ ◌||◌ with_alphabet c.length_argument.ensures.local in
+    let with_seed = c.in_ok-arg-4.ensures.globals ∙ ap₂ ◌||◌ with_length c.number_argument.ensures.local in
+    IfOk-weaker c.arg-5.result _ _ (λ command h. h.globals ∙ ap₂ ◌||◌ with_seed c.number_argument-2.ensures.local) c.arg-5.ensures

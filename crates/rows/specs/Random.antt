@@ -1,0 +1,70 @@
+-- Texts drawn from an alphabet: the same for the same seed, whatever runs the program.
+use Rattle.std.specs.Prelude.{Option, Some, None, ℕ, ◌+◌, ◌-◌, ◌%◌, ◌<◌, ◌≤◌, ◌==◌, nat_lt, if◌then◌else◌, List, length, map, slice_index_or}
+use Rattle.rand_pcg.specs.Lcg.{Lcg, advance, increment_of, started}
+use Rattle.rand_pcg.specs.Pcg.{multiplier_64, pcg32}
+use Rattle.units.specs.Positions.{positions_from}
+use Rattle.units.specs.declared.bracket.Unit.{Unit as BidiUnit}
+use Rattle.units.specs.declared.class.Class.{Class}
+use Rattle.units.specs.declared.class.Class.TheVariants.{L}
+use Rattle.units.specs.declared.level.Direction.{Direction}
+use Rattle.bidtests.specs.ClassesFile.{unit_of_class}
+use Rattle.rows.specs.RowTexts.{Case, longest_row}
+use Rattle.rows.specs.Exhaustive.{cases_between, under_each}
+use Rattle.rows.specs.declared.fault.RowsFault.{RowsFault}
+use Rattle.rows.specs.declared.fault.RowsFault.TheVariants.{NoClass, NoLength, TooLong, NoneBetween}
+
+-- so many texts, drawn by this seed from an alphabet, none shorter than the least length or longer than the greatest
+pub record RandomOf : Type 0 where
+  pub alphabet : List Class
+  pub least : ℕ
+  pub greatest : ℕ
+  pub seed : ℕ
+  pub count : ℕ
+
+-- there is a class, each text has one, none is too long, and there is a length to draw
+pub record CanBeDrawn (r : RandomOf) : Type 0 where
+  pub classes : 0 < length r.alphabet
+  pub some : 0 < r.least
+  pub short : r.greatest ≤ longest_row
+  pub between : r.least ≤ r.greatest
+
+-- the first reason why these texts can't be drawn
+abbrev pub no_drawing_of : RandomOf → Option RowsFault
+no_drawing_of r =
+    if length r.alphabet == 0 then Some NoClass
+    else if r.least == 0 then Some NoLength
+    else if nat_lt longest_row r.greatest then Some TooLong
+    else if nat_lt r.greatest r.least then Some NoneBetween
+    else None
+
+-- each text has a generator of its own, PCG32: the seed is its state, and the text's number its stream
+abbrev pub generator_of : ℕ → ℕ → Lcg
+generator_of seed number = started 64 multiplier_64 seed (increment_of 64 number)
+
+-- the word of 32 bits that a generator gives behind so many others
+abbrev pub word_behind : Lcg → ℕ → ℕ
+word_behind g words = (pcg32 (advance 64 multiplier_64 words g)).0
+
+-- the class that a word draws from an alphabet
+abbrev pub class_drawn : List Class → ℕ → Class
+class_drawn alphabet word = slice_index_or alphabet (word % length alphabet) L
+
+-- the text of this length that a generator draws, a word for each place
+abbrev pub text_drawn : List Class → Lcg → ℕ → List BidiUnit
+text_drawn alphabet g len = map (λ place. unit_of_class (class_drawn alphabet (word_behind g place))) (positions_from 0 len)
+
+-- the length of a text, which the first word of its generator draws
+abbrev pub length_drawn : RandomOf → ℕ → ℕ
+length_drawn r number = r.least + (pcg32 (generator_of r.seed number)).0 % (r.greatest - r.least + 1)
+
+-- the text of this number: its classes are drawn behind its length
+abbrev pub text_of_draw : RandomOf → ℕ → List BidiUnit
+text_of_draw r number = text_drawn r.alphabet (pcg32 (generator_of r.seed number)).1 (length_drawn r number)
+
+-- the cases of the text of this number
+abbrev pub cases_of_draw : RandomOf → List Direction → ℕ → List Case
+cases_of_draw r directions number = under_each directions (text_of_draw r number)
+
+-- the cases of all texts, by their numbers
+abbrev pub cases_drawn : RandomOf → List Direction → List Case
+cases_drawn r directions = cases_between (cases_of_draw r directions) 0 r.count

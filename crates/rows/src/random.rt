@@ -1,0 +1,105 @@
+//! Texts drawn from an alphabet.
+ghost use Rattle.std.specs.Prelude.{◌≡◌, IfOk};
+ghost use Rattle.std.specs.Result.{result_err};
+
+use crate::exhaustive::LONGEST_ROW;
+use crate::fault::RowsFault;
+use std::marker::Model;
+use units::class::Class;
+
+/// Texts drawn from an alphabet by a seed, each of a length from the least up to the greatest, in units. The text of a
+/// number is the same for the same seed, alphabet and lengths, on whatever machine and however many texts there are:
+/// its length and its classes are drawn, one word each, from the PCG32 whose state is the seed and whose stream is the
+/// text's number, counted from 0. A class that stands twice in the alphabet is drawn twice as often.
+#[derive(Drop)]
+pub struct Random<'a> {
+    alphabet: &'a [Class],
+    least: usize,
+    greatest: usize,
+    seed: u64,
+    count: usize,
+}
+
+impl<'a> Model for Random<'a> {
+    ghost use Rattle.rows.specs.Random.{CanBeDrawn, RandomOf};
+
+    ghost Value = { RandomOf };
+
+    ghost view = { λ r. record { alphabet = r.alphabet.now; least = r.least; greatest = r.greatest; seed = r.seed; count = r.count } };
+
+    ghost invariant = { λ r. CanBeDrawn (record { alphabet = r.alphabet.now; least = r.least; greatest = r.greatest; seed = r.seed; count = r.count }) };
+}
+
+impl<'a> Random<'a> {
+    ghost use Rattle.rows.specs.Random.{CanBeDrawn, RandomOf, no_drawing_of};
+
+    /// So many texts of these lengths over this alphabet, by this seed. Of the faults that hold the first is named, in
+    /// the order `NoClass`, `NoLength`, `TooLong`, `NoneBetween`.
+    pub fn new(
+        alphabet: &'a [Class],
+        least: usize,
+        greatest: usize,
+        seed: u64,
+        count: usize,
+    ) -> Result<Random<'a>, RowsFault>
+        ensures made { IfOk result (λ r. r ≡ record { alphabet = alphabet.now; least = least; greatest = greatest; seed = seed; count = count }) }
+        ensures refused { result_err result ≡ no_drawing_of (record { alphabet = alphabet.now; least = least; greatest = greatest; seed = seed; count = count }) }
+    {
+        if alphabet.is_empty() {
+            return Err(RowsFault::NoClass);
+        }
+        if least == 0 {
+            return Err(RowsFault::NoLength);
+        }
+        if greatest > LONGEST_ROW {
+            return Err(RowsFault::TooLong);
+        }
+        if greatest < least {
+            return Err(RowsFault::NoneBetween);
+        }
+        Ok(Random {
+            alphabet,
+            least,
+            greatest,
+            seed,
+            count,
+        })
+    }
+
+    /// The alphabet.
+    pub fn alphabet(&self) -> &[Class]
+        ensures value { result.now ≡ self.now.alphabet }
+        ensures drawn { CanBeDrawn self.now }
+    {
+        self.alphabet
+    }
+
+    /// The least length, in units.
+    pub fn least(&self) -> usize
+        ensures { result ≡ self.now.least }
+    {
+        self.least
+    }
+
+    /// The greatest length, in units.
+    pub fn greatest(&self) -> usize
+        ensures value { result ≡ self.now.greatest }
+        ensures drawn { CanBeDrawn self.now }
+    {
+        self.greatest
+    }
+
+    /// The seed.
+    pub fn seed(&self) -> u64
+        ensures { result ≡ self.now.seed }
+    {
+        self.seed
+    }
+
+    /// How many texts there are.
+    pub fn count(&self) -> usize
+        ensures { result ≡ self.now.count }
+    {
+        self.count
+    }
+}
