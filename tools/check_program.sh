@@ -55,8 +55,15 @@ head -c 16777217 /dev/zero > large.txt
 ends 0 'yes: 1 rows, 1 cases' '' judge --kind classes yes.txt
 ends 1 'no: line 3: rtl: levels at 0' '' judge --kind classes no.txt
 ends 0 'yes: 1 rows, 1 cases' '' judge --kind characters --tables t characters.txt
-ends 3 '' 'bidi: cannot read missing.txt' judge --kind classes missing.txt
-ends 3 '' 'bidi: cannot read t' judge --kind classes t
+ends 3 '' 'bidi: cannot read missing.txt: no such file' judge --kind classes missing.txt
+ends 3 '' 'bidi: cannot read t: a folder' judge --kind classes t
+ends 3 '' 'bidi: cannot read no.txt/no.txt: no such file' judge --kind classes no.txt/no.txt
+# Whoever may read all files is refused none.
+if [ "$(id -u)" != 0 ]; then
+    cp no.txt kept.txt
+    chmod 0 kept.txt
+    ends 3 '' 'bidi: cannot read kept.txt: permission denied' judge --kind classes kept.txt
+fi
 ends 2 '' 'bidi: --tables is needed' judge --kind characters characters.txt
 ends 0 $'@Levels: 1\n@Reorder: 0\nR; 1\n@Levels: 1\n@Reorder: 0\nR; 2\n@Levels: 1\n@Reorder: 0\nR; 4' '' \
     rows --form exhaustive --alphabet R --length 1
@@ -92,12 +99,12 @@ ends 2 '' 'bidi: X1 is no class' explain --classes 'ON X1 X2'
 "$program" explain --classes "ON$(printf '%131069s' '')" > found_out 2> found_err
 is 'status of the longest word of classes' 0 $?
 is 'order of the longest word of classes' 'order 0' "$(tail -n 1 found_out)"
-ends 3 '' 'bidi: cannot read missing.txt' explain --tables t missing.txt
+ends 3 '' 'bidi: cannot read missing.txt: no such file' explain --tables t missing.txt
 ends 2 '' 'bidi: a word is not UTF-8' judge --kind classes $'\xff'
-ends 3 '' 'bidi: cannot read missing.txt' levels --tables t missing.txt
+ends 3 '' 'bidi: cannot read missing.txt: no such file' levels --tables t missing.txt
 ends 3 '' 'bidi: bytes.txt: not UTF-8' reorder --tables t bytes.txt
-ends 3 '' 'bidi: cannot read large.txt' reorder --tables t large.txt
-ends 3 '' 'bidi: cannot read DerivedBidiClass.txt' levels --tables none text.txt
+ends 3 '' 'bidi: cannot read large.txt: too large' reorder --tables t large.txt
+ends 3 '' 'bidi: cannot read DerivedBidiClass.txt: no such file' levels --tables none text.txt
 
 # The tables that are built in, where no folder is named: they mirror a guillemet. A folder without a name is refused.
 printf '\xd7\x90\xc2\xab' > guillemet.txt
@@ -106,7 +113,7 @@ ends 0 $'a) \xd7\x90' '' reorder text.txt
 ends 0 $'\xc2\xbb\xd7\x90' '' reorder guillemet.txt
 ends 0 $'\xc2\xab\xd7\x90' '' reorder --tables t guillemet.txt
 ends 0 $'paragraph 0 level 1: R at 0\n'"$explained" '' explain text.txt
-ends 3 '' 'bidi: cannot read missing.txt' levels missing.txt
+ends 3 '' 'bidi: cannot read missing.txt: no such file' levels missing.txt
 "$program" levels --tables '' text.txt > found_out 2> found_err
 is 'status of a folder without a name' 2 $?
 is 'standard output of a folder without a name' '' "$(cat found_out)"
@@ -120,10 +127,10 @@ printf '05D0 ; R\n05D0 ; R\n' > e/extracted/DerivedBidiClass.txt
 ends 3 '' 'bidi: DerivedBidiClass.txt: line 2: Overlap' levels --tables e text.txt
 mv t/DerivedBidiClass.txt e/extracted
 ends 0 $'a) \xd7\x90' '' reorder --tables e text.txt
-ends 3 '' 'bidi: cannot read DerivedBidiClass.txt' levels --tables t text.txt
+ends 3 '' 'bidi: cannot read DerivedBidiClass.txt: no such file' levels --tables t text.txt
 cp e/extracted/DerivedBidiClass.txt t
 mkdir e/DerivedBidiClass.txt
-ends 3 '' 'bidi: cannot read DerivedBidiClass.txt' levels --tables e text.txt
+ends 3 '' 'bidi: cannot read DerivedBidiClass.txt: a folder' levels --tables e text.txt
 
 printf '0041 ; Left_To_Right\n' > t/BidiMirroring.txt
 ends 3 '' 'bidi: BidiMirroring.txt: line 1: CodePoint' levels --tables t text.txt
@@ -137,9 +144,9 @@ ends 1 'no: line 3: rtl: levels at 0' '' judge --kind classes - < no.txt
 ends 0 'yes: 1 rows, 1 cases' '' judge --kind characters --tables t - < <(cat characters.txt)
 ends 3 '' 'bidi: bytes.txt: not UTF-8' reorder --tables t bytes.txt < text.txt
 ends 3 '' 'bidi: -: not UTF-8' reorder --tables t - < bytes.txt
-ends 3 '' 'bidi: cannot read -' reorder --tables t - < large.txt
+ends 3 '' 'bidi: cannot read -: too large' reorder --tables t - < large.txt
 ends 3 '' 'bidi: cannot read -' levels --tables t - <&-
-ends 3 '' 'bidi: cannot read -' levels --tables t - < t
+ends 3 '' 'bidi: cannot read -: a folder' levels --tables t - < t
 cp text.txt ./-
 ends 0 'yes: 1 rows, 1 cases' '' judge --kind classes - < yes.txt
 ends 0 $'a) \xd7\x90' '' reorder --tables t ./- < yes.txt

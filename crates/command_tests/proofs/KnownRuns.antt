@@ -87,7 +87,7 @@ chars_row = refl
 -- the classes stand in the folder itself
 class_path_is : (bytes path : List ℕ) → IsClassPath (memory_facts (files_with bytes)) (codes "t") path → path ≡ in_folder (codes "t") class_name
 class_path_is bytes path (inl e) = e
-class_path_is bytes path (inr h) = let refused = h.0 in cc
+class_path_is bytes path (inr h) = let refused = h.1.0 in cc
 
 alef_is : (bytes : List ℕ) (tables : TablesOf) → AreTables (memory_facts (files_with bytes)) (codes "t") tables → unit_by tables 1488 ≡ alef_unit
 alef_is bytes tables h =

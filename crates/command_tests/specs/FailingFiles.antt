@@ -1,11 +1,12 @@
 -- Files and standard input that all have the same bytes, of which a read fails behind the first.
 use Rattle.std.specs.Prelude.{◌≡◌, ◌<◌, ℕ, List, ◌++◌, length}
 use Rattle.std.proofs.Common.{sym, ◌∙◌}
+use Rattle.units.specs.declared.unread.Unread.TheVariants.{TooLarge, Other}
 use Rattle.requests.specs.ReadFiles.{FileFacts}
 
 -- nothing is said of any origin
 abbrev pub no_facts : FileFacts
-no_facts = record { Refuses = λ _ _. ⊥; Begins = λ _ _ _. ⊥; Holds = λ _ _ _. ⊥; Fails = λ _ _ _. ⊥ }
+no_facts = record { Refuses = λ _ _ _. ⊥; Begins = λ _ _ _. ⊥; Holds = λ _ _ _. ⊥; Fails = λ _ _ _ _. ⊥ }
 
 -- the bytes begin with these
 abbrev pub BeginsWith : List ℕ → List ℕ → Type 0
@@ -14,10 +15,10 @@ BeginsWith bytes first = (rest : List ℕ) × (bytes ≡ first ++ rest)
 -- what is said of such files, by the bytes that can be read
 abbrev pub failing_facts : List ℕ → FileFacts
 failing_facts readable = record {
-  Refuses = λ origin most. most < length readable;
+  Refuses = λ origin most unread. (most < length readable) × (unread ≡ TooLarge);
   Begins = λ origin most bytes. BeginsWith readable bytes;
   Holds = λ origin most bytes. ⊥;
-  Fails = λ origin most bytes. BeginsWith readable bytes;
+  Fails = λ origin most bytes unread. BeginsWith readable bytes × (unread ≡ Other);
 }
 
 pub begins-given : (readable left now first : List ℕ) → left ≡ readable → left ≡ first ++ now → BeginsWith readable first

@@ -1,11 +1,14 @@
 -- Files and standard input in memory: which of them an origin names, and what a source over it hands out.
-use Rattle.std.specs.Prelude.{◌≡◌, ◌≤◌, ℕ, min, List, ◌++◌, Option, None, Some, length, find}
+use Rattle.std.specs.Prelude.{◌≡◌, ◌+◌, ◌<◌, ◌≤◌, ℕ, min, List, ◌++◌, Option, None, Some, length, find}
 use Rattle.std.specs.Borrow.{Bor}
 use Rattle.std.specs.Io.KnownBytes.{Consumes, IsAtEnd}
 use Rattle.std.specs.Str.{bytes_eq}
-use Rattle.std.proofs.Common.{append-nil, arith, sym, ap, subst, ◌∙◌}
-use Rattle.units.specs.HandsOut.{Reading, ReaderHasEnded, failures_of}
-use Rattle.units.specs.declared.reader_source.State.TheVariants.{Open}
+use Rattle.std.proofs.Common.{append-nil, arith, length-append, sym, ap, subst, ◌∙◌}
+use Rattle.units.specs.HandsOut.{GivesTooMany, Reading, ReaderHasEnded, failures_of, unread_of}
+use Rattle.units.specs.declared.reader_source.State.{State}
+use Rattle.units.specs.declared.reader_source.State.TheVariants.{Open, Ended, Failed}
+use Rattle.units.specs.declared.unread.Unread.{Unread}
+use Rattle.units.specs.declared.unread.Unread.TheVariants.{Missing, TooLarge}
 use Rattle.requests.specs.ReadFiles.{FileFacts, FileNamed, Gives, Origin, StandardInput}
 
 -- a file: its name, its bytes, and how many of them can be read
@@ -37,13 +40,22 @@ abbrev pub IsWhole : Option StoredFile → ℕ → List ℕ → Type 0
 IsWhole None most bytes = ⊥
 IsWhole (Some file) most bytes = (bytes ≡ file.bytes) × (length bytes ≤ min most file.readable)
 
+-- the file has more bytes than may be read
+abbrev pub IsTooLarge : Option StoredFile → ℕ → Type 0
+IsTooLarge None most = ⊥
+IsTooLarge (Some file) most = min most file.readable < length file.bytes
+
+-- a read fails behind these bytes, for this reason: if it is that the file is too large, it is
+abbrev pub FailsBehind : Option StoredFile → ℕ → List ℕ → Unread → Type 0
+FailsBehind file most bytes unread = FileBeginsWith file bytes × (unread ≡ TooLarge → IsTooLarge file most)
+
 -- what is said of files and standard input in memory
 abbrev pub memory_facts : Stored → FileFacts
 memory_facts stored = record {
-  Refuses = λ origin most. stored_at stored origin ≡ None;
+  Refuses = λ origin most unread. (stored_at stored origin ≡ None) × (unread ≡ Missing);
   Begins = λ origin most bytes. FileBeginsWith (stored_at stored origin) bytes;
   Holds = λ origin most bytes. IsWhole (stored_at stored origin) most bytes;
-  Fails = λ origin most bytes. FileBeginsWith (stored_at stored origin) bytes;
+  Fails = λ origin most bytes unread. FailsBehind (stored_at stored origin) most bytes unread;
 }
 
 -- a source stands over the file, with its limit, and was not read yet
@@ -73,4 +85,31 @@ whole-gave None most opened now bytes stands given ended = absurd stands
 whole-gave (Some file) most opened now bytes stands given ended = (
   all_of opened.remaining now.remaining file.bytes bytes stands.0 (given.consumed (ap failures_of ended.state_is)) ended.no_more,
   omega (arith, given.falls, stands.1),
+)
+
+-- a source that has failed, and says that there was too much
+too_large : (state : State) → failures_of state ≡ 1 → unread_of state ≡ TooLarge → state ≡ Failed TooLarge
+too_large Open failed why = absurd (let bad : ⊥ = omega (arith, failed) in bad)
+too_large Ended failed why = absurd (let bad : ⊥ = omega (arith, failed) in bad)
+too_large (Failed unread) failed why = ap Failed why
+
+longer : (xs bytes more rest : List ℕ) (left now : ℕ) → xs ≡ (bytes ++ more) ++ rest → now < length more → now + length bytes ≡ left
+    → left < length xs
+longer xs bytes more rest left now e f g =
+    omega (arith, ap length e, length-append (bytes ++ more) rest, length-append bytes more, f, g)
+
+passed : (xs bytes : List ℕ) (known : Option (List ℕ)) (left now most : ℕ) → known ≡ Some xs → left ≡ most → now + length bytes ≡ left
+    → GivesTooMany known bytes now → most < length xs
+passed xs bytes known left now most e limit falls h =
+    let first = first_rest known xs (bytes ++ h.0) h.1.0 e h.1.1 in
+    longer xs bytes h.0 first.0 most now first.1 h.2 (falls ∙ limit)
+
+pub fails-gave : (file : Option StoredFile) (most : ℕ) (opened now : Reading) (bytes : List ℕ)
+    → StandsOver file most opened → Gives opened bytes now → failures_of now.state ≡ 1
+    → FailsBehind file most bytes (unread_of now.state)
+fails-gave None most opened now bytes stands given failed = absurd stands
+fails-gave (Some file) most opened now bytes stands given failed = (
+  begins-gave (Some file) most opened now bytes stands given,
+  λ why. passed file.bytes bytes opened.remaining opened.left now.left (min most file.readable) stands.0 stands.1 given.falls
+      (given.passes (ap failures_of stands.2) (too_large now.state failed why)),
 )

@@ -1,11 +1,13 @@
 //! Files and standard input that fail: each behind the same bytes, or none finds memory to be opened.
-ghost use Rattle.std.specs.Prelude.{◌≡◌, ℕ, List};
+ghost use Rattle.std.specs.Prelude.{◌≡◌, ℕ, List, refl};
+ghost use Rattle.units.specs.declared.unread.Unread.TheVariants.{Other};
 ghost use Rattle.command_tests.specs.FailingFiles.{begins-given, failing_facts, no_facts};
 
 use requests::files::{Files, OpenFault};
 use std::alloc::Global;
 use std::marker::Model;
 use units::cut_source::CutSource;
+use units::unread::Unread;
 
 /// Files of which each has the same bytes, and fails behind the first of them; standard input is one more. Contracts
 /// see the bytes before that.
@@ -36,13 +38,15 @@ impl<'a> Files for FailingFiles<'a> {
 
     ghost facts = { failing_facts };
 
+    ghost why = { λ _. Other };
+
     ghost gave = { λ files _ _ opened now bytes stands given.
         begins-given files opened.left now.left bytes stands given };
 
     ghost gave_all = { λ _ _ _ _ _ _ _ _ ended. absurd ended };
 
     ghost gave_up = { λ files _ _ opened now bytes stands given _.
-        begins-given files opened.left now.left bytes stands given };
+        (begins-given files opened.left now.left bytes stands given, refl) };
 
     fn file(&self, alloc: Global, _name: &str, most: u64) -> Result<Self::Source, OpenFault> {
         self.input(alloc, most)
@@ -51,9 +55,13 @@ impl<'a> Files for FailingFiles<'a> {
     fn input(&self, _alloc: Global, most: u64) -> Result<Self::Source, OpenFault> {
         let bytes = self.bytes;
         if bytes.len() as u64 > most {
-            return Err(OpenFault::Cannot);
+            return Err(OpenFault::Cannot(Unread::TooLarge));
         }
         Ok(CutSource::new(bytes, bytes.len()))
+    }
+
+    fn unread(&self, _source: &Self::Source) -> Unread {
+        Unread::Other
     }
 }
 
@@ -68,6 +76,8 @@ impl Files for NoMemory {
 
     ghost facts = { λ _. no_facts };
 
+    ghost why = { λ _. Other };
+
     ghost gave = { λ _ _ _ _ _ _ opened _. absurd opened };
 
     ghost gave_all = { λ _ _ _ _ _ _ opened _ _. absurd opened };
@@ -80,5 +90,9 @@ impl Files for NoMemory {
 
     fn input(&self, _alloc: Global, _most: u64) -> Result<Self::Source, OpenFault> {
         Err(OpenFault::Memory)
+    }
+
+    fn unread(&self, _source: &Self::Source) -> Unread {
+        Unread::Other
     }
 }

@@ -46,14 +46,20 @@ fn reads_standard_input(rt: HostRuntime) {
 fn says_that_standard_input_was_not_read(rt: HostRuntime) {
     let [classes, brackets, mirrors, _] = tables_and(b"");
     let files = [classes, brackets, mirrors, whole("-", b"")];
-    let inputs: [Option<MemoryFile<'_>>; 2] = [None, Some(cut("", b"abc", 2))];
-    for input in inputs {
+    let inputs: [(Option<MemoryFile<'_>>, &[u8]); 2] = [
+        (None, b"bidi: cannot read -: no such file\n"),
+        (
+            Some(cut("", b"abc", 2)),
+            b"bidi: cannot read -: too large\n",
+        ),
+    ];
+    for (input, line) in inputs {
         for words in [LEVELS, REORDER, JUDGE] {
             let files = match input {
                 Some(input) => MemoryFiles::new(&files).with_input(input),
                 None => MemoryFiles::new(&files),
             };
-            let ending = Ending::fails(3, b"bidi: cannot read -\n");
+            let ending = Ending::fails(3, line);
             assert_run_over(&rt, rt.alloc(), &words, files, ending);
         }
     }

@@ -50,7 +50,14 @@ fn a_text_of_as_many_bytes_as_allowed_is_read(rt: HostRuntime) -> Result<(), Fai
 
     text.push(b'a')?;
     out.clear();
-    assert_reorder(&rt, alloc, &text, &mut out, 3, b"bidi: cannot read FILE\n");
+    assert_reorder(
+        &rt,
+        alloc,
+        &text,
+        &mut out,
+        3,
+        b"bidi: cannot read FILE: too large\n",
+    );
     assert!(rt; out.is_empty());
     Ok(())
 }

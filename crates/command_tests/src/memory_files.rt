@@ -1,14 +1,16 @@
 //! Files and standard input in memory, of which a read may fail behind some of the bytes.
 ghost use Rattle.std.specs.Prelude.{◌≡◌};
-ghost use Rattle.command_tests.specs.MemoryFiles.{StandsOver, begins-gave, memory_facts, stored_at, whole-gave};
+ghost use Rattle.units.specs.HandsOut.{unread_of};
+ghost use Rattle.command_tests.specs.MemoryFiles.{StandsOver, begins-gave, fails-gave, memory_facts, stored_at, whole-gave};
 
 use requests::files::{Files, OpenFault};
 use std::alloc::Global;
 use std::marker::Model;
 use ucdfiles::small::{BRACKETS, CLASSES, MIRRORS};
 use units::reader_source::ReaderSource;
+use units::unread::Unread;
 
-/// A file in memory. A read past its first `readable` bytes fails.
+/// A file in memory. A read past its first `readable` bytes fails, since there are too many.
 #[derive(Clone, Copy)]
 pub struct MemoryFile<'a> {
     pub name: &'a str,
@@ -88,25 +90,30 @@ impl<'a> Files for MemoryFiles<'a> {
 
     ghost facts = { memory_facts };
 
+    ghost why = { λ source. unread_of source.state };
+
     ghost gave = { λ files origin most opened now bytes. begins-gave (stored_at files origin) most opened now bytes };
 
     ghost gave_all = { λ files origin most opened now bytes. whole-gave (stored_at files origin) most opened now bytes };
 
-    ghost gave_up = { λ files origin most opened now bytes stands given _.
-        begins-gave (stored_at files origin) most opened now bytes stands given };
+    ghost gave_up = { λ files origin most opened now bytes. fails-gave (stored_at files origin) most opened now bytes };
 
     fn file(&self, _alloc: Global, name: &str, most: u64) -> Result<Self::Source, OpenFault> {
         match self.files.iter().find(|file| file.name == name) {
             Some(file) => Ok(ReaderSource::new(file.bytes, most.min(file.readable))),
-            None => Err(OpenFault::Cannot),
+            None => Err(OpenFault::Cannot(Unread::Missing)),
         }
     }
 
     fn input(&self, _alloc: Global, most: u64) -> Result<Self::Source, OpenFault> {
         match self.input {
             Some(file) => Ok(ReaderSource::new(file.bytes, most.min(file.readable))),
-            None => Err(OpenFault::Cannot),
+            None => Err(OpenFault::Cannot(Unread::Missing)),
         }
+    }
+
+    fn unread(&self, source: &Self::Source) -> Unread {
+        source.unread()
     }
 }
 

@@ -3,6 +3,7 @@ use std::io::{self, Read};
 use std::process::Abort;
 use units::reader_source::ReaderSource;
 use units::source::{ByteSource, SourceFault};
+use units::unread::Unread;
 
 /// Gives three bytes at each read but the second, which is interrupted.
 #[derive(Drop)]
@@ -19,6 +20,18 @@ impl Read for Interrupted {
         let count = buf.len().min(3);
         buf[..count].fill(b'a');
         Ok(count)
+    }
+}
+
+/// Fails at each read, by an error of this kind.
+#[derive(Drop)]
+struct Failing {
+    kind: io::ErrorKind,
+}
+
+impl Read for Failing {
+    fn read(&mut self, _buf: &mut [u8]) -> io::Result<usize> {
+        Err(io::Error::from(self.kind))
     }
 }
 
@@ -48,6 +61,22 @@ fn a_byte_past_the_limit_is_a_failure(rt: HostRuntime) {
     let mut source = ReaderSource::new(b"abcd".as_slice(), 3);
     answers(&rt, &mut source, &mut [0; 2], &[Ok(2), Err(SourceFault)]);
     assert_eq!(rt; source.failures(), 1);
+    assert_eq!(rt; source.unread(), Unread::TooLarge);
+}
+
+#[test]
+fn an_error_of_the_reader_says_why_it_failed(rt: HostRuntime) {
+    for (kind, unread) in [
+        (io::ErrorKind::NotFound, Unread::Missing),
+        (io::ErrorKind::NotADirectory, Unread::Missing),
+        (io::ErrorKind::PermissionDenied, Unread::Forbidden),
+        (io::ErrorKind::IsADirectory, Unread::Folder),
+        (io::ErrorKind::Interrupted, Unread::Other),
+    ] {
+        let mut source = ReaderSource::new(Failing { kind }, 100);
+        answers(&rt, &mut source, &mut [0; 8], &[Err(SourceFault)]);
+        assert_eq!(rt; source.unread(), unread);
+    }
 }
 
 #[test]

@@ -49,7 +49,7 @@ FailsIn-behind xs ys before after fault done (inr h) = inr (all_done xs ys done 
 -- what ends the opening of what FILE names ends its reading
 pub opening_ends : (files : FileFacts) (most : ℕ) (file : List ℕ) (fault : Fault) → EndsOpening (files.Refuses (origin_of file) most) file fault
     → EndsFile files most file fault
-opening_ends files most file (CannotRead unread) h = (h.0, inl h.1)
+opening_ends files most file (CannotRead said unread) h = (h.0, inl h.1)
 opening_ends files most file OutOfMemory h = tt
 opening_ends files most file WordNotUtf8 h = absurd h
 opening_ends files most file TablesNeeded h = absurd h

@@ -2,6 +2,7 @@
 use Rattle.std.proofs.Common.{◌≡◌, ◌⊎◌, ℕ, List, [], Option, Some, inl, inr, refl}
 use Rattle.std.specs.Borrow.{Bor}
 use Rattle.units.specs.Text.{lines_of}
+use Rattle.units.specs.declared.unread.Unread.{Unread}
 use Rattle.ucdfiles.specs.Faults.{first_fault}
 use Rattle.ucdfiles.specs.Reading.{IsFault, RefusesBytes}
 use Rattle.ucdfiles.specs.declared.fault.Fault.{Fault as LineFault}
@@ -11,15 +12,15 @@ use Rattle.requests.specs.ReadFiles.{FileFacts, FileNamed, most_file_bytes}
 use Rattle.requests.specs.TableFaults.{EndsReading, HasFault, table_fault}
 
 module _ (files : FileFacts) (fault : List (List ℕ) → List ℕ → Option LineFault) (path : List ℕ) (ended : Type 0) (bytes : List ℕ)
-    (begins : files.Begins (FileNamed path) most_file_bytes bytes) (whole : ended → files.Holds (FileNamed path) most_file_bytes bytes) where
+    (unread : Unread) (begins : files.Begins (FileNamed path) most_file_bytes bytes) (whole : ended → files.Holds (FileNamed path) most_file_bytes bytes) where
   of_line : (e : TableFault) → (e ≡ Memory → ⊥) → RefusesBytes fault bytes e ⊎ (ended × (first_fault fault [] (lines_of bytes) ≡ Some e))
       → HasFault files fault path e
   of_line e other (inl (inl memory)) = absurd (other memory)
   of_line e other (inl (inr settled)) = (bytes, inl (begins, settled))
   of_line e other (inr last) = (bytes, inr (whole last.0, last.1))
 
-  pub table_ends : (name : Bor (List ℕ)) (e : TableFault) → (e ≡ Read → files.Fails (FileNamed path) most_file_bytes bytes)
-      → IsFault fault ended bytes e → EndsReading files fault path name.now (table_fault name e)
+  pub table_ends : (name : Bor (List ℕ)) (e : TableFault) → (e ≡ Read → files.Fails (FileNamed path) most_file_bytes bytes unread)
+      → IsFault fault ended bytes e → EndsReading files fault path name.now (table_fault name e unread)
   table_ends name (CodePoint line) failed h = (refl, refl, of_line _ (λ m. cc) (h.other (λ r. cc)))
   table_ends name (Backwards line) failed h = (refl, refl, of_line _ (λ m. cc) (h.other (λ r. cc)))
   table_ends name (ClassName line) failed h = (refl, refl, of_line _ (λ m. cc) (h.other (λ r. cc)))

@@ -1,8 +1,10 @@
 -- How a fault is said: its line on standard error, and the exit status that goes with it.
-use Rattle.std.specs.Prelude.{◌≡◌, ℕ, List, [], ◌∷◌, Option, codes, true}
+use Rattle.std.specs.Prelude.{◌≡◌, ℕ, List, [], ◌∷◌, Option, Some, None, codes, true}
 use Rattle.std.specs.List.{concat}
 use Rattle.std.specs.Fmt.{decimal}
 use Rattle.std.specs.Io.KnownBytes.{Appends}
+use Rattle.units.specs.declared.unread.Unread.{Unread}
+use Rattle.units.specs.declared.unread.Unread.TheVariants.{Missing, Forbidden, Folder, TooLarge, Other}
 use Rattle.ucdfiles.specs.declared.fault.TableFault.{TableFault}
 use Rattle.ucdfiles.specs.Faults.{name_of}
 use Rattle.printing.specs.declared.fault.PrintFault.{PrintFault}
@@ -36,6 +38,22 @@ rows_refusal refused.NoneBetween = codes "--length ends before it begins"
 abbrev pub no_rows_text : RowsFault → List ℕ
 no_rows_text fault = concat (codes "bidi: " ∷ rows_refusal fault ∷ line_feed ∷ [])
 
+-- why a file can't be read, where that is known
+abbrev pub unread_words : Unread → Option (List ℕ)
+unread_words Missing = Some (codes "no such file")
+unread_words Forbidden = Some (codes "permission denied")
+unread_words Folder = Some (codes "a folder")
+unread_words TooLarge = Some (codes "too large")
+unread_words Other = None
+
+-- the line that says that the file of this name can't be read, and why, where that is known
+abbrev pub unread_line : List ℕ → Option (List ℕ) → List ℕ
+unread_line name (Some reason) = concat (codes "bidi: cannot read " ∷ name ∷ codes ": " ∷ reason ∷ line_feed ∷ [])
+unread_line name None = concat (codes "bidi: cannot read " ∷ name ∷ line_feed ∷ [])
+
+abbrev pub unread_text : List ℕ → Unread → List ℕ
+unread_text name unread = unread_line name (unread_words unread)
+
 -- the line that says that the text in the file of this name is not UTF-8
 abbrev pub not_utf8_text : List ℕ → List ℕ
 not_utf8_text name = concat (codes "bidi: " ∷ name ∷ codes ": not UTF-8" ∷ line_feed ∷ [])
@@ -49,8 +67,7 @@ SaysFault before after (NoClass name) = Appends before after (no_class_text name
 SaysFault before after (NoLengths word) =
     Appends before after (concat (codes "bidi: " ∷ word.now ∷ codes " is no range of lengths" ∷ line_feed ∷ []))
 SaysFault before after (NoRows fault) = Appends before after (no_rows_text fault)
-SaysFault before after (CannotRead name) =
-    Appends before after (concat (codes "bidi: cannot read " ∷ name.now ∷ line_feed ∷ []))
+SaysFault before after (CannotRead name unread) = Appends before after (unread_text name.now unread)
 SaysFault before after (FaultyLine name line fault) = Appends before after (faulty_line_text name.now line fault)
 SaysFault before after (NotUtf8 name) = Appends before after (not_utf8_text name.now)
 SaysFault before after CannotWrite = Appends before after (concat (codes "bidi: cannot write" ∷ line_feed ∷ []))
@@ -64,7 +81,7 @@ fault_status ClassesTooLong = 2
 fault_status (NoClass name) = 2
 fault_status (NoLengths word) = 2
 fault_status (NoRows fault) = 2
-fault_status (CannotRead name) = 3
+fault_status (CannotRead name unread) = 3
 fault_status (FaultyLine name line fault) = 3
 fault_status (NotUtf8 name) = 3
 fault_status CannotWrite = 3
@@ -75,9 +92,10 @@ pub record EndsBy (fault : Fault) (before after : Option (List ℕ)) (ended : En
   pub status_is : ended.status ≡ fault_status fault
   pub says : ended.is_said ≡ true → SaysFault before after fault
 
--- when a fault, said by this name, ends the opening of a file: it can't be opened, or memory was refused
-abbrev pub EndsOpening : Type 0 → List ℕ → Fault → Type 0
-EndsOpening Cannot name (CannotRead unread) = (unread.now ≡ name) × Cannot
+-- when a fault, said by this name, ends the opening of a file: it can't be opened for the reason that is said, or
+-- memory was refused
+abbrev pub EndsOpening : (Unread → Type 0) → List ℕ → Fault → Type 0
+EndsOpening Cannot name (CannotRead said unread) = (said.now ≡ name) × Cannot unread
 EndsOpening Cannot name OutOfMemory = Unit {0}
 EndsOpening Cannot name _ = ⊥
 

@@ -3,6 +3,7 @@ use Rattle.std.specs.Prelude.{◌≡◌, ◌⊎◌, ℕ, ◌^◌, List, [], ◌�
 use Rattle.std.specs.List.{concat}
 use Rattle.std.specs.Str.{bytes_eq}
 use Rattle.units.specs.HandsOut.{Reading, HandsOut}
+use Rattle.units.specs.declared.unread.Unread.{Unread}
 use Rattle.ucdfiles.specs.ClassFile.{StatesClasses}
 use Rattle.ucdfiles.specs.PairFiles.{StatesBrackets, StatesMirrors}
 use Rattle.ucdfiles.specs.Tables.{TablesOf, class_by, bracket_by, glyph_by}
@@ -24,13 +25,13 @@ origin_of word = if bytes_eq word (codes "-") then StandardInput else FileNamed 
 abbrev pub OfOrigin : Type 1
 OfOrigin = Origin → ℕ → List ℕ → Type 0
 
--- what is said of origins: that one can't be opened with a limit; that it begins with these bytes; that it holds them
--- and no more; that a read behind them fails
+-- what is said of origins: that one can't be opened with a limit, and why; that it begins with these bytes; that it
+-- holds them and no more; that a read behind them fails, and why
 pub record FileFacts : Type 1 where
-  pub Refuses : Origin → ℕ → Type 0
+  pub Refuses : Origin → ℕ → Unread → Type 0
   pub Begins : OfOrigin
   pub Holds : OfOrigin
-  pub Fails : OfOrigin
+  pub Fails : Origin → ℕ → List ℕ → Unread → Type 0
 
 -- the most bytes that a conformance file or a table's file may have
 abbrev pub most_file_bytes : ℕ
@@ -54,15 +55,16 @@ mirror_name = codes "BidiMirroring.txt"
 abbrev pub in_folder : List ℕ → List ℕ → List ℕ
 in_folder folder name = concat (folder ∷ codes "/" ∷ name ∷ [])
 
--- the file of this name in the folder can't be opened
-abbrev pub CannotOpen : FileFacts → List ℕ → List ℕ → Type 0
-CannotOpen files folder name = files.Refuses (FileNamed (in_folder folder name)) most_file_bytes
+-- the file of this name in the folder can't be opened, for this reason
+abbrev pub CannotOpen : FileFacts → List ℕ → List ℕ → Unread → Type 0
+CannotOpen files folder name unread = files.Refuses (FileNamed (in_folder folder name)) most_file_bytes unread
 
 -- this is the path of the classes' file: of the one in the folder, or where that can't be opened of the one in its folder
 -- `extracted`
 abbrev pub IsClassPath : FileFacts → List ℕ → List ℕ → Type 0
 IsClassPath files folder path =
-    (path ≡ in_folder folder class_name) ⊎ (CannotOpen files folder class_name × (path ≡ in_folder folder extracted_name))
+    (path ≡ in_folder folder class_name)
+    ⊎ ((unread : Unread) × CannotOpen files folder class_name unread × (path ≡ in_folder folder extracted_name))
 
 -- the file of the classes was read whole, and its bytes state this
 abbrev pub HoldsClasses : FileFacts → List ℕ → (List ℕ → Type 0) → Type 0

@@ -42,10 +42,11 @@ IsFirstFault (step ∷ steps) fault = step.EndsBy fault ⊎ (step.Done × IsFirs
 abbrev pub EndsUnnamed : Fault → Type 0
 EndsUnnamed fault = fault ≡ TablesNeeded
 
--- when a fault ends the reading of what FILE names: it can't be opened, a read of it fails, or memory was refused
+-- when a fault ends the reading of what FILE names: it can't be opened or a read of it fails, for the reason that is
+-- said, or memory was refused
 abbrev pub EndsFile : FileFacts → ℕ → List ℕ → Fault → Type 0
-EndsFile files most file (CannotRead unread) =
-    (unread.now ≡ file) × (files.Refuses (origin_of file) most ⊎ ((bytes : List ℕ) × files.Fails (origin_of file) most bytes))
+EndsFile files most file (CannotRead said unread) = (said.now ≡ file)
+    × (files.Refuses (origin_of file) most unread ⊎ ((bytes : List ℕ) × files.Fails (origin_of file) most bytes unread))
 EndsFile files most file OutOfMemory = Unit {0}
 EndsFile files most file _ = ⊥
 

@@ -1,8 +1,9 @@
 -- What reading a file of the system or its standard input came to, by the limit that it was opened with; of its name
 -- nothing is known.
 use Rattle.std.specs.Prelude.{◌≡◌, ℕ, List}
-use Rattle.units.specs.HandsOut.{Reading, ReaderHasEnded, failures_of}
+use Rattle.units.specs.HandsOut.{Reading, ReaderHasEnded, failures_of, unread_of}
 use Rattle.units.specs.declared.reader_source.State.TheVariants.{Open}
+use Rattle.units.specs.declared.unread.Unread.{Unread}
 use Rattle.requests.specs.ReadFiles.{FileFacts, Gives}
 
 -- a source with this limit that was not read yet
@@ -25,19 +26,20 @@ pub record WasReadWhole (most : ℕ) (bytes : List ℕ) : Type 0 where
   pub given : Gives opened bytes now
   pub whole : ReaderHasEnded now
 
--- or failed
-pub record GaveUp (most : ℕ) (bytes : List ℕ) : Type 0 where
+-- or failed, for this reason
+pub record GaveUp (most : ℕ) (bytes : List ℕ) (unread : Unread) : Type 0 where
   pub opened : Reading
   pub now : Reading
   pub as_named : IsOpened most opened
   pub given : Gives opened bytes now
   pub failed : failures_of now.state ≡ 1
+  pub why : unread_of now.state ≡ unread
 
 -- what is said of files of the system and its standard input: nothing of whether one can be opened
 abbrev pub system_facts : FileFacts
 system_facts = record {
-  Refuses = λ _ _. Unit {0};
+  Refuses = λ _ _ _. Unit {0};
   Begins = λ _ most bytes. HasBegun most bytes;
   Holds = λ _ most bytes. WasReadWhole most bytes;
-  Fails = λ _ most bytes. GaveUp most bytes;
+  Fails = λ _ most bytes unread. GaveUp most bytes unread;
 }

@@ -2,6 +2,7 @@
 use Rattle.std.specs.Prelude.{◌≡◌, ◌⊎◌, ℕ, List, [], Option, Some, None}
 use Rattle.std.specs.Borrow.{Bor}
 use Rattle.units.specs.Text.{lines_of, settled_lines}
+use Rattle.units.specs.declared.unread.Unread.{Unread}
 use Rattle.ucdfiles.specs.ClassFile.{class_fault}
 use Rattle.ucdfiles.specs.Faults.{first_fault, line_of_fault}
 use Rattle.ucdfiles.specs.declared.fault.Fault.{Fault as LineFault}
@@ -12,15 +13,15 @@ use Rattle.requests.specs.declared.fault.Fault.TheVariants.{CannotRead, FaultyLi
 use Rattle.requests.specs.FaultText.{EndsOpening}
 use Rattle.requests.specs.ReadFiles.{CannotOpen, FileFacts, FileNamed, IsClassPath, class_name, extracted_name, in_folder, most_file_bytes}
 
--- the fault of a table's file of this name: that of the line that it has, else memory or a read
-abbrev pub said_as : Bor (List ℕ) → TableFault → Option ℕ → Fault
-said_as name fault (Some line) = FaultyLine name line fault
-said_as name table.Memory None = OutOfMemory
-said_as name _ None = CannotRead name
+-- the fault of a table's file of this name: that of the line that it has, else memory or a read, with its reason
+abbrev pub said_as : Bor (List ℕ) → TableFault → Unread → Option ℕ → Fault
+said_as name fault unread (Some line) = FaultyLine name line fault
+said_as name table.Memory unread None = OutOfMemory
+said_as name _ unread None = CannotRead name unread
 
--- how the fault of a table's file of this name is said
-abbrev pub table_fault : Bor (List ℕ) → TableFault → Fault
-table_fault name fault = said_as name fault (line_of_fault fault)
+-- how the fault of a table's file of this name is said, by why a read of it failed
+abbrev pub table_fault : Bor (List ℕ) → TableFault → Unread → Fault
+table_fault name fault unread = said_as name fault unread (line_of_fault fault)
 
 -- this is the fault of the first faulty line: of those that are settled in what the file begins with, or of all that it
 -- holds
@@ -29,9 +30,10 @@ HasFault files fault path e = (bytes : List ℕ)
     × ((files.Begins (FileNamed path) most_file_bytes bytes × (first_fault fault [] (settled_lines bytes) ≡ Some e))
     ⊎ (files.Holds (FileNamed path) most_file_bytes bytes × (first_fault fault [] (lines_of bytes) ≡ Some e)))
 
--- a read fails behind bytes without a faulty line
-abbrev pub FailsFaultless : FileFacts → (List (List ℕ) → List ℕ → Option LineFault) → List ℕ → Type 0
-FailsFaultless files fault path = (bytes : List ℕ) × files.Fails (FileNamed path) most_file_bytes bytes × (first_fault fault [] (settled_lines bytes) ≡ None)
+-- a read fails behind bytes without a faulty line, for this reason
+abbrev pub FailsFaultless : FileFacts → (List (List ℕ) → List ℕ → Option LineFault) → List ℕ → Unread → Type 0
+FailsFaultless files fault path unread = (bytes : List ℕ)
+    × files.Fails (FileNamed path) most_file_bytes bytes unread × (first_fault fault [] (settled_lines bytes) ≡ None)
 
 -- the file was read whole, and no line is faulty
 abbrev pub IsFaultless : FileFacts → (List (List ℕ) → List ℕ → Option LineFault) → List ℕ → Type 0
@@ -40,7 +42,7 @@ IsFaultless files fault path = (bytes : List ℕ) × files.Holds (FileNamed path
 -- when a fault, said by this name, ends the reading of a table's file that was opened: a read fails, its first faulty
 -- line is said, or memory was refused
 abbrev pub EndsReading : FileFacts → (List (List ℕ) → List ℕ → Option LineFault) → List ℕ → List ℕ → Fault → Type 0
-EndsReading files fault path name (CannotRead unread) = (unread.now ≡ name) × FailsFaultless files fault path
+EndsReading files fault path name (CannotRead said unread) = (said.now ≡ name) × FailsFaultless files fault path unread
 EndsReading files fault path name (FaultyLine faulty line e) =
     (faulty.now ≡ name) × (line_of_fault e ≡ Some line) × HasFault files fault path e
 EndsReading files fault path name OutOfMemory = Unit {0}
@@ -51,9 +53,14 @@ abbrev pub EndsTable : FileFacts → (List (List ℕ) → List ℕ → Option Li
 EndsTable files fault folder name said =
     EndsOpening (CannotOpen files folder name) name said ⊎ EndsReading files fault (in_folder folder name) name said
 
+-- neither of the two files of the folder's classes can be opened, the one in the folder for this reason
+abbrev pub CannotOpenClasses : FileFacts → List ℕ → Unread → Type 0
+CannotOpenClasses files folder unread = CannotOpen files folder class_name unread
+    × ((other : Unread) × CannotOpen files folder extracted_name other)
+
 -- when a fault ends the reading of the folder's classes: neither of the two files can be opened, or the reading of the
 -- first that opens ends so; the file in the folder is named
 abbrev pub EndsClasses : FileFacts → List ℕ → Fault → Type 0
 EndsClasses files folder said =
-    EndsOpening (CannotOpen files folder class_name × CannotOpen files folder extracted_name) class_name said
+    EndsOpening (CannotOpenClasses files folder) class_name said
     ⊎ ((path : List ℕ) × IsClassPath files folder path × EndsReading files class_fault path class_name said)

@@ -2,6 +2,7 @@
 use Rattle.std.specs.Prelude.{◌≡◌, ℕ, List}
 use Rattle.std.specs.Borrow.{Bor}
 use Rattle.standard.specs.declared.facts.TheConstants.{BRACKETS, CLASSES, MIRRORS}
+use Rattle.units.specs.declared.unread.Unread.TheVariants.{Other}
 use Rattle.ucdfiles.specs.Files.{IsFirstFaulty, StateTables}
 use Rattle.ucdfiles.specs.Tables.{TablesOf}
 use Rattle.ucdfiles.specs.declared.fault.TableFault.{TableFault}
@@ -44,4 +45,4 @@ pub record EndsBuiltIn (fault : Fault) : Type 0 where
   pub first : IsFaultOfFacts faulty
   pub name : Bor (List ℕ)
   pub named : name.now ≡ faulty_name faulty
-  pub said : fault ≡ table_fault name (fault_within faulty)
+  pub said : fault ≡ table_fault name (fault_within faulty) Other

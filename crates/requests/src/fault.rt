@@ -1,10 +1,10 @@
 // What goes wrong in a run, and how it is said.
-ghost use Rattle.std.specs.Prelude.{◌≡◌, [], ◌∷◌, codes, OnOk};
+ghost use Rattle.std.specs.Prelude.{◌≡◌, [], ◌∷◌, codes, OnOk, option_map};
 ghost use Rattle.std.specs.List.{concat};
 ghost use Rattle.std.specs.Io.KnownBytes.{Appends};
 ghost use Rattle.printing.specs.LevelsText.{line_feed};
 ghost use Rattle.requests.specs.FaultText.{EndsBy, SaysFault, fault_status, faulty_line_text, no_class_text};
-ghost use Rattle.requests.specs.FaultText.{no_rows_text, not_utf8_text, rows_refusal};
+ghost use Rattle.requests.specs.FaultText.{no_rows_text, not_utf8_text, rows_refusal, unread_text, unread_words};
 
 use crate::outcome::Ended;
 use printing::fault::PrintFault;
@@ -14,6 +14,7 @@ use std::io;
 use std::io::Write;
 use ucdfiles::fault::TableFault;
 use units::memory::Memory;
+use units::unread::Unread;
 
 /// Why a run did not end well.
 #[derive(Debug, Drop)]
@@ -30,8 +31,12 @@ pub enum Fault<'a> {
     NoLengths(&'a str),
     /// The texts over the alphabet, of the lengths, can't be enumerated or drawn.
     NoRows(RowsFault),
-    /// The file of this name can't be opened, a read of it failed, or it has more bytes than are allowed.
-    CannotRead(&'a str),
+    /// The file of this name can't be opened, a read of it failed, or it has more bytes than are allowed, for this
+    /// reason.
+    CannotRead {
+        name: &'a str,
+        unread: Unread,
+    },
     /// A line of the table's file of this name is faulty.
     FaultyLine {
         name: &'a str,
@@ -100,12 +105,27 @@ fn print_line<E: Write>(err: &mut E, line: &str) -> io::Result<()>
     writeln!(err, "{line}")
 }
 
-/// Writes the line that says that the file of this name can't be read.
-fn print_unread<E: Write>(err: &mut E, name: &str) -> io::Result<()>
-    ensures { OnOk result (Appends (E.contents err.old) (E.contents err.new)
-        (concat (codes "bidi: cannot read " ∷ name.now ∷ line_feed ∷ []))) }
+/// Why a file can't be read, in words, unless the reason is not known.
+fn unread_in_words(unread: Unread) -> Option<&'static str>
+    ensures { option_map (λ reason. reason.now) result ≡ unread_words unread }
 {
-    writeln!(err, "bidi: cannot read {name}")
+    match unread {
+        Unread::Missing => Some("no such file"),
+        Unread::Forbidden => Some("permission denied"),
+        Unread::Folder => Some("a folder"),
+        Unread::TooLarge => Some("too large"),
+        Unread::Other => None,
+    }
+}
+
+/// Writes the line that says that the file of this name can't be read, and why.
+fn print_unread<E: Write>(err: &mut E, name: &str, unread: Unread) -> io::Result<()>
+    ensures { OnOk result (Appends (E.contents err.old) (E.contents err.new) (unread_text name.now unread)) }
+{
+    match unread_in_words(unread) {
+        Some(reason) => writeln!(err, "bidi: cannot read {name}: {reason}"),
+        None => writeln!(err, "bidi: cannot read {name}"),
+    }
 }
 
 /// Writes the line that says that the text in the file of this name is not UTF-8.
@@ -190,7 +210,7 @@ impl Fault<'_> {
             Fault::NoClass(name) => print_no_class(err, name),
             Fault::NoLengths(word) => print_no_lengths(err, word),
             Fault::NoRows(fault) => print_no_rows(err, *fault),
-            Fault::CannotRead(name) => print_unread(err, name),
+            Fault::CannotRead { name, unread } => print_unread(err, name, *unread),
             Fault::FaultyLine { name, line, fault } => print_faulty_line(err, name, *line, *fault),
             Fault::NotUtf8(name) => print_not_utf8(err, name),
             Fault::CannotWrite => print_line(err, "bidi: cannot write"),

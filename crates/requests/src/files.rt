@@ -1,5 +1,7 @@
 // Files by their names, and standard input.
-ghost use Rattle.std.specs.Prelude.{◌≡◌, ◌≤◌, ℕ, List, IfOk, IfErr};
+ghost use Rattle.std.specs.Prelude.{◌≡◌, ◌≤◌, ℕ, List, IfOk, IfErr, refl};
+ghost use Rattle.units.specs.HandsOut.{unread_of};
+ghost use Rattle.units.specs.declared.unread.Unread.{Unread};
 ghost use Rattle.requests.specs.ReadFiles.{FileFacts, FileNamed, Origin, StandardInput};
 ghost use Rattle.requests.specs.SystemFiles.{IsOpened, system_facts};
 
@@ -8,12 +10,13 @@ use std::alloc::{AllocError, Global};
 use std::io::{self, Input};
 use units::reader_source::ReaderSource;
 use units::source::ByteSource;
+use units::unread::Unread;
 
 /// Why a file gave no source.
 #[derive(Clone, Copy, Debug, PartialEq, Eq)]
 pub enum OpenFault {
-    /// There is no such file, or it can't be opened.
-    Cannot,
+    /// It can't be opened, for this reason.
+    Cannot(Unread),
     /// Memory was refused.
     Memory,
 }
@@ -38,24 +41,32 @@ pub trait Files {
     // The source was opened as the file of a name or as standard input, to hand out at most so many bytes.
     ghost opens: { Self → Origin → ℕ → Self.Source → Type 0 };
 
-    // Which of them can't be opened, and what each begins with, what it holds, and where it fails.
+    // Which of them can't be opened, and what each begins with, what it holds, and where it fails; and why.
     ghost facts: { Self → FileFacts };
 
+    // Why a source failed.
+    ghost why: { Self.Source → Unread };
+
     /// A source of the bytes of the file of this name, of which a read past the first `most` bytes fails. The fault is
-    /// `Cannot` where there is no such file or it can't be opened, and `Memory` where memory was refused.
+    /// `Cannot` where there is no such file or it can't be opened, with the reason, and `Memory` where memory was
+    /// refused.
     fn file(&self, alloc: Global, name: &str, most: u64) -> Result<Self::Source, OpenFault>
         ensures opened { IfOk result (opens self.now (FileNamed name.now) most) }
         ensures limit { IfOk result (λ source. Self.Source.room source ≤ most) }
-        ensures cannot { IfErr result (λ fault. fault ≡ OpenFault.Cannot
-            → (facts self.now).Refuses (FileNamed name.now) most) };
+        ensures cannot { IfErr result (λ fault. (unread : Unread) → fault ≡ OpenFault.Cannot unread
+            → (facts self.now).Refuses (FileNamed name.now) most unread) };
 
     /// A source of the bytes of standard input, of which a read past the first `most` bytes fails. The faults are the
     /// same.
     fn input(&self, alloc: Global, most: u64) -> Result<Self::Source, OpenFault>
         ensures opened { IfOk result (opens self.now StandardInput most) }
         ensures limit { IfOk result (λ source. Self.Source.room source ≤ most) }
-        ensures cannot { IfErr result (λ fault. fault ≡ OpenFault.Cannot
-            → (facts self.now).Refuses StandardInput most) };
+        ensures cannot { IfErr result (λ fault. (unread : Unread) → fault ≡ OpenFault.Cannot unread
+            → (facts self.now).Refuses StandardInput most unread) };
+
+    /// Why a read of this source failed; of one that has not failed the answer says nothing.
+    fn unread(&self, source: &Self::Source) -> Unread
+        ensures { result ≡ why source.now };
 
     ghost gave: { (files : Self) (origin : Origin) (most : ℕ) (opened now : Self.Source) (bytes : List ℕ)
         → opens files origin most opened → Self.Source.gives opened bytes now → (facts files).Begins origin most bytes };
@@ -66,7 +77,7 @@ pub trait Files {
 
     ghost gave_up: { (files : Self) (origin : Origin) (most : ℕ) (opened now : Self.Source) (bytes : List ℕ)
         → opens files origin most opened → Self.Source.gives opened bytes now → Self.Source.failures now ≡ 1
-        → (facts files).Fails origin most bytes };
+        → (facts files).Fails origin most bytes (why now) };
 }
 
 /// The files of the system, and its standard input.
@@ -90,6 +101,8 @@ impl<'a, R: std::rt::Files + Input> Files for SystemFiles<'a, R> {
 
     ghost facts = { λ _. system_facts };
 
+    ghost why = { λ source. unread_of source.state };
+
     ghost gave = { λ _ _ most opened now bytes as_named given.
         record { opened = opened; now = now; as_named = as_named; given = given } };
 
@@ -97,19 +110,23 @@ impl<'a, R: std::rt::Files + Input> Files for SystemFiles<'a, R> {
         record { opened = opened; now = now; as_named = as_named; given = given; whole = whole } };
 
     ghost gave_up = { λ _ _ most opened now bytes as_named given failed.
-        record { opened = opened; now = now; as_named = as_named; given = given; failed = failed } };
+        record { opened = opened; now = now; as_named = as_named; given = given; failed = failed; why = refl } };
 
     fn file(&self, _alloc: Global, name: &str, most: u64) -> Result<Self::Source, OpenFault> {
         match std::fs::open(self.rt, name) {
             Ok(file) => Ok(ReaderSource::new(Either::Left(file), most)),
             Err(error) => match error.kind() {
                 io::ErrorKind::OutOfMemory => Err(OpenFault::Memory),
-                _ => Err(OpenFault::Cannot),
+                kind => Err(OpenFault::Cannot(Unread::by_kind(kind))),
             },
         }
     }
 
     fn input(&self, _alloc: Global, most: u64) -> Result<Self::Source, OpenFault> {
         Ok(ReaderSource::new(Either::Right(self.rt.reader()), most))
+    }
+
+    fn unread(&self, source: &Self::Source) -> Unread {
+        source.unread()
     }
 }

@@ -45,7 +45,10 @@ fn verdict_on<'a, F: Files>(
     let mut source = open(alloc, files, file, MOST_FILE_BYTES)?;
     match judge_reader(judge, &mut source) {
         Ok(verdict) => Ok(verdict),
-        Err(_) => Err(Fault::CannotRead(file)),
+        Err(_) => {
+            let unread = files.unread(&source);
+            Err(Fault::CannotRead { name: file, unread })
+        }
     }
 }
 

@@ -1,11 +1,13 @@
 // Files and standard input opened.
 ghost use Rattle.std.specs.Prelude.{◌≡◌, ◌≤◌, IfOk, IfErr};
+ghost use Rattle.units.specs.declared.unread.Unread.{Unread};
 ghost use Rattle.requests.specs.FaultText.{EndsOpening};
 ghost use Rattle.requests.specs.ReadFiles.{origin_of};
 
 use crate::fault::Fault;
 use crate::files::{Files, OpenFault};
 use std::alloc::Global;
+use units::unread::Unread;
 
 /// The most bytes that a conformance file or a table's file may have.
 pub const MOST_FILE_BYTES: u64 = 1_099_511_627_776;
@@ -25,8 +27,8 @@ fn source_of<F: Files>(
 ) -> Result<F::Source, OpenFault>
     ensures opened { IfOk result (F.opens files.now (origin_of file.now) most) }
     ensures limit { IfOk result (λ source. F.Source.ByteSource.room source ≤ most) }
-    ensures cannot { IfErr result (λ fault. fault ≡ OpenFault.Cannot
-        → (F.facts files.now).Refuses (origin_of file.now) most) }
+    ensures cannot { IfErr result (λ fault. (unread : Unread) → fault ≡ OpenFault.Cannot unread
+        → (F.facts files.now).Refuses (origin_of file.now) most unread) }
 {
     if file == STANDARD_INPUT {
         files.input(alloc, most)
@@ -36,7 +38,7 @@ fn source_of<F: Files>(
 }
 
 /// Opens what FILE names, standard input by `-` and else the file of that name, of which a read past the first `most`
-/// bytes fails. The faults are that it can't be opened, said by that word, and refused memory.
+/// bytes fails. The faults are that it can't be opened, said by that word with the reason, and refused memory.
 pub fn open<'a, F: Files>(
     alloc: Global,
     files: &F,
@@ -49,7 +51,7 @@ pub fn open<'a, F: Files>(
 {
     match source_of(alloc, files, file, most) {
         Ok(source) => Ok(source),
-        Err(OpenFault::Cannot) => Err(Fault::CannotRead(file)),
+        Err(OpenFault::Cannot(unread)) => Err(Fault::CannotRead { name: file, unread }),
         Err(OpenFault::Memory) => Err(Fault::OutOfMemory),
     }
 }

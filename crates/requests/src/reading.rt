@@ -27,7 +27,10 @@ fn bytes_in_file<'a, F: Files>(
     let mut piece = [0; 4096];
     loop {
         match source.read(&mut piece) {
-            Err(_) => return Err(Fault::CannotRead(file)),
+            Err(_) => {
+                let unread = files.unread(&source);
+                return Err(Fault::CannotRead { name: file, unread });
+            }
             Ok(0) => return Ok(bytes),
             Ok(n) => bytes.extend_from_slice(&piece[..n])?,
         }

@@ -1,5 +1,6 @@
 // The tables of a folder.
 ghost use Rattle.std.specs.Prelude.{◌≡◌, ℕ, List, IfOk, IfErr};
+ghost use Rattle.units.specs.declared.unread.Unread.{Unread};
 ghost use Rattle.ucdfiles.specs.ClassFile.{StatesClasses};
 ghost use Rattle.ucdfiles.specs.PairFiles.{bracket_fault, mirror_fault, StatesBrackets, StatesMirrors};
 ghost use Rattle.ucdfiles.specs.Tables.{class_by, bracket_by, glyph_by};
@@ -7,7 +8,7 @@ ghost use Rattle.requests.specs.FaultText.{EndsOpening};
 ghost use Rattle.requests.specs.ReadFiles.{AreTables, CannotOpen, FileNamed, HoldsClasses, HoldsTable, IsClassPath};
 ghost use Rattle.requests.specs.ReadFiles.{bracket_name, class_name, extracted_name, in_folder, mirror_name, most_file_bytes};
 ghost use Rattle.requests.specs.Steps.{IsFirstFault, table_steps};
-ghost use Rattle.requests.specs.TableFaults.{EndsClasses, EndsTable, table_fault};
+ghost use Rattle.requests.specs.TableFaults.{CannotOpenClasses, EndsClasses, EndsTable, table_fault};
 
 use crate::fault::Fault;
 use crate::files::{Files, OpenFault};
@@ -18,6 +19,7 @@ use ucdfiles::class_table::ClassTable;
 use ucdfiles::fault::TableFault;
 use ucdfiles::mirror_table::MirrorTable;
 use ucdfiles::tables::Tables;
+use units::unread::Unread;
 
 pub const CLASSES: &str = "DerivedBidiClass.txt";
 
@@ -36,34 +38,55 @@ fn open_in<F: Files>(
     name: &str,
 ) -> Result<F::Source, OpenFault>
     ensures opened { IfOk result (F.opens files.now (FileNamed (in_folder folder.now name.now)) most_file_bytes) }
-    ensures cannot { IfErr result (λ fault. fault ≡ OpenFault.Cannot
-        → CannotOpen (F.facts files.now) folder.now name.now) }
+    ensures cannot { IfErr result (λ fault. (unread : Unread) → fault ≡ OpenFault.Cannot unread
+        → CannotOpen (F.facts files.now) folder.now name.now unread) }
 {
     let path = format!(in alloc; "{folder}/{name}")?;
     files.file(alloc, path.as_str(), MOST_FILE_BYTES)
 }
 
-/// Opens the table's file of this name in the folder. The faults are that it can't be opened, said by the name `said`,
-/// and refused memory.
+/// Opens the table's file of this name in the folder. The faults are that it can't be opened, with the reason, and
+/// refused memory.
 fn open_table<F: Files>(
     alloc: Global,
     files: &F,
     folder: &str,
-    name: &str,
-    said: &'static str,
+    name: &'static str,
 ) -> Result<F::Source, Fault<'static>>
     ensures opened { IfOk result (F.opens files.now (FileNamed (in_folder folder.now name.now)) most_file_bytes) }
-    ensures fault { IfErr result (EndsOpening (CannotOpen (F.facts files.now) folder.now name.now) said.now) }
+    ensures fault { IfErr result (EndsOpening (CannotOpen (F.facts files.now) folder.now name.now) name.now) }
 {
     match open_in(alloc, files, folder, name) {
         Ok(source) => Ok(source),
-        Err(OpenFault::Cannot) => Err(Fault::CannotRead(said)),
+        Err(OpenFault::Cannot(unread)) => Err(Fault::CannotRead { name, unread }),
+        Err(OpenFault::Memory) => Err(Fault::OutOfMemory),
+    }
+}
+
+/// Opens the file of the classes in the folder `extracted` of the folder, where the one in the folder can't be opened
+/// for this reason. The faults are that neither can be opened, said of the one in the folder, and refused memory.
+fn open_extracted<F: Files>(
+    alloc: Global,
+    files: &F,
+    folder: &str,
+    unread: Unread,
+) -> Result<F::Source, Fault<'static>>
+    requires { CannotOpen (F.facts files.now) folder.now class_name unread }
+    ensures opened { IfOk result (F.opens files.now (FileNamed (in_folder folder.now extracted_name)) most_file_bytes) }
+    ensures fault { IfErr result (EndsOpening (CannotOpenClasses (F.facts files.now) folder.now) class_name) }
+{
+    match open_in(alloc, files, folder, EXTRACTED_CLASSES) {
+        Ok(source) => Ok(source),
+        Err(OpenFault::Cannot(_)) => Err(Fault::CannotRead {
+            name: CLASSES,
+            unread,
+        }),
         Err(OpenFault::Memory) => Err(Fault::OutOfMemory),
     }
 }
 
 /// Opens the file of the classes: the one in the folder, or where that can't be opened the one in its folder
-/// `extracted`, where Unicode publishes it. Where neither can be opened, the fault names the first.
+/// `extracted`, where Unicode publishes it. Where neither can be opened, the fault names the first, with its reason.
 fn open_classes<F: Files>(
     alloc: Global,
     files: &F,
@@ -71,25 +94,23 @@ fn open_classes<F: Files>(
 ) -> Result<F::Source, Fault<'static>>
     ensures opened { IfOk result (λ source. (path : List ℕ) × IsClassPath (F.facts files.now) folder.now path
         × F.opens files.now (FileNamed path) most_file_bytes source) }
-    ensures fault { IfErr result (EndsOpening
-        (CannotOpen (F.facts files.now) folder.now class_name
-        × CannotOpen (F.facts files.now) folder.now extracted_name) class_name) }
+    ensures fault { IfErr result (EndsOpening (CannotOpenClasses (F.facts files.now) folder.now) class_name) }
 {
     match open_in(alloc, files, folder, CLASSES) {
         Ok(source) => Ok(source),
-        Err(OpenFault::Cannot) => open_table(alloc, files, folder, EXTRACTED_CLASSES, CLASSES),
+        Err(OpenFault::Cannot(unread)) => open_extracted(alloc, files, folder, unread),
         Err(OpenFault::Memory) => Err(Fault::OutOfMemory),
     }
 }
 
-/// How the fault of the table's file of this name is said.
-pub fn fault_of_table(name: &'static str, fault: TableFault) -> Fault<'static>
-    ensures { result ≡ table_fault name.entry fault }
+/// How the fault of the table's file of this name is said, by why a read of it failed.
+pub fn fault_of_table(name: &'static str, fault: TableFault, unread: Unread) -> Fault<'static>
+    ensures { result ≡ table_fault name.entry fault unread }
 {
     match (fault.line(), fault) {
         (Some(line), _) => Fault::FaultyLine { name, line, fault },
         (None, TableFault::Memory) => Fault::OutOfMemory,
-        (None, _) => Fault::CannotRead(name),
+        (None, _) => Fault::CannotRead { name, unread },
     }
 }
 
@@ -106,7 +127,7 @@ fn read_classes<F: Files>(
     let mut source = open_classes(alloc, files, folder)?;
     match ClassTable::read(alloc, &mut source) {
         Ok(table) => Ok(table),
-        Err(fault) => Err(fault_of_table(CLASSES, fault)),
+        Err(fault) => Err(fault_of_table(CLASSES, fault, files.unread(&source))),
     }
 }
 
@@ -120,10 +141,10 @@ fn read_brackets<F: Files>(
         (λ bytes. StatesBrackets bytes (bracket_by table))) }
     ensures err { IfErr result (EndsTable (F.facts files.now) bracket_fault folder.now bracket_name) }
 {
-    let mut source = open_table(alloc, files, folder, BRACKETS, BRACKETS)?;
+    let mut source = open_table(alloc, files, folder, BRACKETS)?;
     match BracketTable::read(alloc, &mut source) {
         Ok(table) => Ok(table),
-        Err(fault) => Err(fault_of_table(BRACKETS, fault)),
+        Err(fault) => Err(fault_of_table(BRACKETS, fault, files.unread(&source))),
     }
 }
 
@@ -137,10 +158,10 @@ fn read_mirrors<F: Files>(
         (λ bytes. StatesMirrors bytes (glyph_by table))) }
     ensures err { IfErr result (EndsTable (F.facts files.now) mirror_fault folder.now mirror_name) }
 {
-    let mut source = open_table(alloc, files, folder, MIRRORS, MIRRORS)?;
+    let mut source = open_table(alloc, files, folder, MIRRORS)?;
     match MirrorTable::read(alloc, &mut source) {
         Ok(table) => Ok(table),
-        Err(fault) => Err(fault_of_table(MIRRORS, fault)),
+        Err(fault) => Err(fault_of_table(MIRRORS, fault, files.unread(&source))),
     }
 }
 

@@ -10,6 +10,7 @@ use crate::table_files::{BRACKETS, CLASSES, MIRRORS, fault_of_table, read_tables
 use std::alloc::Global;
 use ucdfiles::files::FileFault;
 use ucdfiles::tables::Tables;
+use units::unread::Unread;
 
 /// The tables that the facts state which are built in. The fault is that of their first faulty line, of which a test
 /// says that there is none, or refused memory.
@@ -19,9 +20,9 @@ fn built_in_tables(alloc: Global) -> Result<Tables, Fault<'static>>
 {
     match standard::tables(alloc) {
         Ok(tables) => Ok(tables),
-        Err(FileFault::Classes(fault)) => Err(fault_of_table(CLASSES, fault)),
-        Err(FileFault::Brackets(fault)) => Err(fault_of_table(BRACKETS, fault)),
-        Err(FileFault::Mirrors(fault)) => Err(fault_of_table(MIRRORS, fault)),
+        Err(FileFault::Classes(fault)) => Err(fault_of_table(CLASSES, fault, Unread::Other)),
+        Err(FileFault::Brackets(fault)) => Err(fault_of_table(BRACKETS, fault, Unread::Other)),
+        Err(FileFault::Mirrors(fault)) => Err(fault_of_table(MIRRORS, fault, Unread::Other)),
     }
 }
 

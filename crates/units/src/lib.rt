@@ -14,3 +14,4 @@ pub mod slice_source;
 pub mod source;
 pub mod steps;
 pub mod text;
+pub mod unread;

@@ -1,8 +1,9 @@
 // A source over any reader.
 ghost use Rattle.std.specs.Prelude.{◌≡◌};
-ghost use Rattle.units.specs.HandsOut.{HandsOut, ReaderHasEnded, failures_of, HandsOut-nothing, HandsOut-joined};
+ghost use Rattle.units.specs.HandsOut.{HandsOut, ReaderHasEnded, failures_of, unread_of, HandsOut-nothing, HandsOut-joined};
 
 use crate::source::{ByteSource, SourceFault};
+use crate::unread::Unread;
 use std::io::Read;
 use std::marker::Model;
 
@@ -13,8 +14,8 @@ pub enum State {
     Open,
     /// The reader has ended; it is asked no more.
     Ended,
-    /// The reader has failed, or passed the limit; it is asked no more.
-    Failed,
+    /// The reader has failed, or passed the limit, for this reason; it is asked no more.
+    Failed(Unread),
 }
 
 /// Hands out what a reader gives, at most so many bytes of it. Each error of the reader is a failure, `Interrupted`
@@ -52,6 +53,17 @@ impl<R: Read + Drop> ReaderSource<R> {
             state: State::Open,
         }
     }
+
+    /// Why a read failed: by the error of the reader, or `TooLarge` where it passed the limit. Where none has failed,
+    /// it is `Other`.
+    pub fn unread(&self) -> Unread
+        ensures { result ≡ unread_of self.now.state }
+    {
+        match self.state {
+            State::Failed(unread) => unread,
+            State::Open | State::Ended => Unread::Other,
+        }
+    }
 }
 
 impl<R: Read + Drop> ByteSource for ReaderSource<R> {
@@ -70,12 +82,12 @@ impl<R: Read + Drop> ByteSource for ReaderSource<R> {
     fn read(&mut self, buf: &mut [u8]) -> Result<usize, SourceFault> {
         match self.state {
             State::Ended => return Ok(0),
-            State::Failed => return Err(SourceFault),
+            State::Failed(_) => return Err(SourceFault),
             State::Open => {}
         }
         match self.reader.read(buf) {
-            Err(_) => {
-                self.state = State::Failed;
+            Err(error) => {
+                self.state = State::Failed(Unread::by_kind(error.kind()));
                 Err(SourceFault)
             }
             Ok(0) => {
@@ -84,7 +96,7 @@ impl<R: Read + Drop> ByteSource for ReaderSource<R> {
             }
             Ok(n) => {
                 if n as u64 > self.left {
-                    self.state = State::Failed;
+                    self.state = State::Failed(Unread::TooLarge);
                     return Err(SourceFault);
                 }
                 self.left -= n as u64;
@@ -95,7 +107,7 @@ impl<R: Read + Drop> ByteSource for ReaderSource<R> {
 
     fn failures(&self) -> u32 {
         match self.state {
-            State::Failed => 1,
+            State::Failed(_) => 1,
             _ => 0,
         }
     }

@@ -10,10 +10,10 @@ pub record HandedOut {S : Type 0} (Opens : S → Type 0) (gives : S → List ℕ
   pub given : gives opened bytes now
   pub bound : length bytes + room now ≤ most_text_bytes
 
-abbrev pub invariant-loop-bytes : goal.invariant-loop-bytes
-invariant-loop-bytes g l =
+abbrev pub invariant-loop-source : goal.invariant-loop-source
+invariant-loop-source g l =
     HandedOut (g.F.Files.opens l.files (origin_of l.file) most_text_bytes) g.F.Source.ByteSource.gives
     g.F.Source.ByteSource.room l.source l.bytes.items
 
-abbrev pub decreases-loop-bytes : goal.decreases-loop-bytes
-decreases-loop-bytes g l = g.F.Source.ByteSource.room l.source
+abbrev pub decreases-loop-source : goal.decreases-loop-source
+decreases-loop-source g l = g.F.Source.ByteSource.room l.source

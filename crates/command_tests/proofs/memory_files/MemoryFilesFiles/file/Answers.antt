@@ -44,4 +44,4 @@ returns-in-None-clause-cannot c =
     ap (option_map stored) (ap (option_map (λ (b : Bor MemoryFile). b.now)) (sym is) ∙ first)
     ∙ find-map (λ (file : StoredFile). bytes_eq file.name name) stored files
     ∙ ap (λ (all : List StoredFile). find (λ (file : StoredFile). bytes_eq file.name name) all) shown in
-    λ e. sym found
+    λ unread e. (sym found, search rules)
