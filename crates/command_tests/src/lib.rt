@@ -31,6 +31,10 @@ mod levels;
 #[cfg(test)]
 mod memory_files;
 #[cfg(test)]
+mod opened;
+#[cfg(test)]
+mod recording_files;
+#[cfg(test)]
 mod reorder;
 #[cfg(test)]
 mod runs;

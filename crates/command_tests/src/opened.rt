@@ -1,0 +1,121 @@
+//! What a request opens: the files, by their names and in order, and standard input.
+use crate::command_lines::{
+    EXPLAIN, EXPLAIN_CLASSES, JUDGE_CHARACTERS, JUDGE_CLASSES, LEVELS, REORDER, ROWS,
+};
+use crate::memory_files::{MemoryFile, MemoryFiles, tables_and, whole};
+use crate::recording_files::RecordingFiles;
+use crate::writers::FixedWriter;
+use command::run::run;
+use std::alloc::Global;
+use std::cell::RefCell;
+use std::process::Abort;
+use ucdfiles::small::{BRACKETS, CLASSES, MIRRORS};
+
+/// The names of the tables of the folder `t`, in the order in which they are read.
+const TABLES: &str = "t/DerivedBidiClass.txt\nt/BidiBrackets.txt\nt/BidiMirroring.txt\n";
+
+/// What is written down where standard input is asked for.
+const INPUT: &str = "standard input\n";
+
+/// Runs with these words over these files and an empty standard input, and compares how that ends, and the names that
+/// were asked for, first those of the tables and then the others, each with an LF behind it.
+fn assert_opens(
+    rt: &impl Abort,
+    alloc: Global,
+    words: &[&str],
+    files: &[MemoryFile<'_>],
+    status: u8,
+    tables: &str,
+    others: &str,
+) {
+    let asked = RefCell::new(String::new(alloc));
+    let files = MemoryFiles::new(files).with_input(whole("", b""));
+    let files = RecordingFiles::new(files, &asked);
+    let (mut out, mut err) = (FixedWriter::new(), FixedWriter::new());
+    let ended = run(alloc, words, &files, &mut out, &mut err);
+    assert_eq!(rt; ended.status, status, "{words:?}");
+    let Ok(asked) = asked.try_borrow() else {
+        return assert!(rt; false, "{words:?}");
+    };
+    let rest = asked.strip_prefix(tables).unwrap_or("other tables");
+    assert_eq!(rt; rest, others, "{words:?}");
+}
+
+/// Runs over the tables of the folder `t` and an empty `FILE`, and compares what is opened in a run that ends well.
+fn assert_reads(rt: &impl Abort, alloc: Global, words: &[&str], tables: &str, others: &str) {
+    assert_opens(rt, alloc, words, &tables_and(b""), 0, tables, others);
+}
+
+#[test]
+fn opens_the_tables_and_then_the_file(rt: HostRuntime) {
+    for words in [&LEVELS, &REORDER, &EXPLAIN] {
+        assert_reads(&rt, rt.alloc(), words, TABLES, "FILE\n");
+    }
+    assert_reads(&rt, rt.alloc(), &JUDGE_CHARACTERS, TABLES, "FILE\n");
+}
+
+#[test]
+fn opens_no_tables_where_none_are_needed(rt: HostRuntime) {
+    let judge = [
+        "bidi", "judge", "--kind", "classes", "--tables", "t", "FILE",
+    ];
+    assert_reads(&rt, rt.alloc(), &JUDGE_CLASSES, "", "FILE\n");
+    assert_reads(&rt, rt.alloc(), &judge, "", "FILE\n");
+    for name in ["levels", "reorder", "explain"] {
+        let words = ["bidi", name, "FILE"];
+        assert_reads(&rt, rt.alloc(), &words, "", "FILE\n");
+    }
+}
+
+#[test]
+fn opens_standard_input_in_the_place_of_the_file(rt: HostRuntime) {
+    for name in ["levels", "reorder", "explain"] {
+        assert_reads(&rt, rt.alloc(), &["bidi", name, "-"], "", INPUT);
+        let words = ["bidi", name, "--tables", "t", "-"];
+        assert_reads(&rt, rt.alloc(), &words, TABLES, INPUT);
+    }
+    let classes = ["bidi", "judge", "--kind", "classes", "-"];
+    assert_reads(&rt, rt.alloc(), &classes, "", INPUT);
+    let characters = [
+        "bidi",
+        "judge",
+        "--kind",
+        "characters",
+        "--tables",
+        "t",
+        "-",
+    ];
+    assert_reads(&rt, rt.alloc(), &characters, TABLES, INPUT);
+}
+
+#[test]
+fn opens_nothing(rt: HostRuntime) {
+    for words in [EXPLAIN_CLASSES.as_slice(), &ROWS, &["bidi", "--version"]] {
+        assert_reads(&rt, rt.alloc(), words, "", "");
+    }
+    let unnamed = ["bidi", "judge", "--kind", "characters", "FILE"];
+    let files = tables_and(b"");
+    assert_opens(&rt, rt.alloc(), &unnamed, &files, 2, "", "");
+    assert_opens(&rt, rt.alloc(), &["bidi", "levels"], &files, 2, "", "");
+}
+
+#[test]
+fn opens_the_classes_of_the_folder_extracted(rt: HostRuntime) {
+    let files = [
+        whole("t/extracted/DerivedBidiClass.txt", CLASSES),
+        whole("t/BidiBrackets.txt", BRACKETS),
+        whole("t/BidiMirroring.txt", MIRRORS),
+        whole("FILE", b""),
+    ];
+    let tables =
+        "t/DerivedBidiClass.txt\nt/extracted/DerivedBidiClass.txt\nt/BidiBrackets.txt\nt/BidiMirroring.txt\n";
+    assert_opens(&rt, rt.alloc(), &LEVELS, &files, 0, tables, "FILE\n");
+}
+
+#[test]
+fn opens_no_file_behind_a_fault(rt: HostRuntime) {
+    let words = ["bidi", "levels", "--tables", "none", "FILE"];
+    let asked = "none/DerivedBidiClass.txt\nnone/extracted/DerivedBidiClass.txt\n";
+    let files = tables_and(b"");
+    assert_opens(&rt, rt.alloc(), &words, &files, 3, asked, "");
+}
