@@ -4,3 +4,5 @@ pub mod LineSteps
 pub mod ByteSteps
 pub mod Joined
 pub mod Holding
+pub mod Printing
+pub mod SettledCases

@@ -1,9 +1,9 @@
 -- The report on a test file: its wrong cases, their counts, and the first malformed line, at which it ends.
-use Rattle.std.specs.Prelude.{◌≡◌, ◌≤◌, ◌↔◌, Option, Some, None, ℕ, ◌+◌, List, [], ◌∷◌}
+use Rattle.std.specs.Prelude.{◌≡◌, ◌≤◌, ◌↔◌, Option, Some, None, ℕ, ◌+◌, Bool, true, false, List, [], ◌∷◌}
 use Rattle.std.specs.List.{Contains}
 use Rattle.units.specs.Limits.{LimitsOf}
 use Rattle.units.specs.Lines.{line_number}
-use Rattle.units.specs.Text.{lines_of}
+use Rattle.units.specs.Text.{lines_of, settled_lines}
 use Rattle.bidtests.specs.declared.kind.Kind.{Kind}
 use Rattle.bidtests.specs.declared.verdict.Cause.{Cause}
 use Rattle.bidtests.specs.declared.verdict.Verdict.{Verdict}
@@ -39,6 +39,19 @@ report_on limits fs = record {
 -- the report on the bytes of a file of this kind, by these limits
 abbrev pub report_of : LimitsOf → Kind → List ℕ → FileReport
 report_of limits kind bytes = report_on limits (findings_by kind (lines_of bytes))
+
+-- the wrong cases of the lines that stay as they are whatever bytes follow these, up to the first malformed one
+abbrev pub settled_cases : LimitsOf → Kind → List ℕ → List WrongCase
+settled_cases limits kind bytes = wrong_cases_from limits 0 (sound_lines (findings_by kind (settled_lines bytes)))
+
+-- no case is wrong, and no line malformed
+abbrev pub right_with : List WrongCase → Option (ℕ × Cause) → Bool
+right_with [] None = true
+right_with _ _ = false
+
+-- the file of this report is right
+abbrev pub is_right : FileReport → Bool
+is_right report = right_with report.wrong report.malformed
 
 -- the verdict by the first wrong case and the first malformed line, and by how many rows and cases there are
 abbrev pub verdict_from : List WrongCase → Option (ℕ × Cause) → ℕ → ℕ → Verdict

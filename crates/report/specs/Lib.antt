@@ -3,3 +3,4 @@ pub mod Tallies
 pub mod FileReports
 pub mod ReportText
 pub mod Reporting
+pub mod PrintedReports

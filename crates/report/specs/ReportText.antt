@@ -63,6 +63,10 @@ foot_text malformed t = malformed_text malformed ++ totals_text t ++ directions_
 abbrev pub wrong_cases_text : List WrongCase → List ℕ
 wrong_cases_text ws = flat_map wrong_case_text ws
 
+-- the lines of the first of these wrong cases, at most so many
+abbrev pub first_cases_text : ℕ → List WrongCase → List ℕ
+first_cases_text most ws = wrong_cases_text (take most ws)
+
 -- the text of a report: its first wrong cases, at most so many, and its foot
 abbrev pub report_text : ℕ → FileReport → List ℕ
-report_text most report = wrong_cases_text (take most report.wrong) ++ foot_text report.malformed report.tally
+report_text most report = first_cases_text most report.wrong ++ foot_text report.malformed report.tally

@@ -7,6 +7,7 @@
 
 pub mod laws;
 mod line_report;
+pub mod print;
 pub mod report;
 pub mod report_text;
 mod row_cases;

@@ -6,7 +6,7 @@ ghost use Rattle.units.specs.Limits.{LimitsOf};
 ghost use Rattle.units.specs.Text.{longest_line};
 ghost use Rattle.bidtests.specs.declared.kind.Kind.{Kind as FileKind};
 ghost use Rattle.report.specs.declared.wrong_case.WrongCase.{WrongCase as Told};
-ghost use Rattle.report.specs.FileReports.{report_of};
+ghost use Rattle.report.specs.FileReports.{is_right, report_of};
 ghost use Rattle.report.specs.Reporting.{IsAfterLast, IsAfterStep, HasNothingNew, Reports};
 ghost use Rattle.report.specs.Reporting.{malformed_by, malformed_last, report_at_end};
 
@@ -168,6 +168,14 @@ impl Ended {
         ensures { result ≡ self.now.tally }
     {
         self.lines.tally()
+    }
+
+    /// Whether the file is right: no line is malformed, and no case wrong.
+    pub fn is_right(&self) -> bool
+        ensures { (limits : LimitsOf) (kind : FileKind) (told : List Told) (b : List ℕ)
+            → report_of limits kind b ≡ report_at_end told self.now → result ≡ is_right (report_of limits kind b) }
+    {
+        self.lines.tally().wrong_cases == 0 && self.malformed.is_none()
     }
 
     /// The number of the first malformed line and why it is malformed, if there is one.

@@ -1,0 +1,112 @@
+-- What was printed of a report, piece by piece.
+use Rattle.std.proofs.Common.{◌≡◌, ℕ, suc, zero, ◌+◌, Option, List, [], ◌∷◌, ◌++◌, length, take, refl, sym, ap, subst, ◌∙◌, arith, append_assoc, append-nil, length-append, drop, Bool, Result, Ok, Err, IfErr, IsErrAnd}
+use Rattle.std.specs.Io.KnownBytes.{Appends}
+use Rattle.std.specs.List.{flat_map}
+use Rattle.std.proofs.lemmas.Grind.{flat_map-append}
+use Rattle.std.proofs.lemmas.List.{take-append-drop}
+use Rattle.units.specs.Limits.{LimitsOf}
+use Rattle.bidtests.specs.declared.kind.Kind.{Kind}
+use Rattle.bidtests.specs.declared.verdict.Cause.{Cause}
+use Rattle.printing.proofs.Appending.{Appends-to, Appends-joined, Appends-nothing}
+use Rattle.report.specs.declared.wrong_case.WrongCase.{WrongCase}
+use Rattle.report.specs.declared.print.ReportFault.{ReportFault}
+use Rattle.report.specs.declared.print.ReportFault.TheVariants.{Write}
+use Rattle.report.specs.declared.tally.Tally.{Tally}
+use Rattle.report.specs.FileReports.{is_right, report_of, settled_cases}
+use Rattle.report.specs.Reporting.{EndedReport, Reporting, Reports, report_at_end}
+use Rattle.report.specs.PrintedReports.{BreaksOff, HasTold, HasWrittenFirst, Prints, PrintsSettled}
+use Rattle.report.specs.ReportText.{first_cases_text, foot_text, report_text, wrong_case_text}
+use Rattle.report.proofs.SettledCases.{told-settled}
+
+-- the first cases of two lists, one behind the other, where so many more may follow those of the first
+take-both : (most left : ℕ) (xs ys : List WrongCase) → left + length (take most xs) ≡ most → take most (xs ++ ys) ≡ take most xs ++ take left ys
+take-both zero left xs ys e =
+    let none : left ≡ 0 = omega (arith, e) in rw none refl
+take-both (suc most) left [] ys e =
+    let all : suc most ≡ left = omega (arith, e) in ap (λ n. take n ys) all
+take-both (suc most) left (x ∷ xs) ys e = ap (λ ws. x ∷ ws) (take-both most left xs ys (omega (arith, e)))
+
+length-both : (most left rest : ℕ) (xs ys : List WrongCase) → left + length (take most xs) ≡ most → rest + length (take left ys) ≡ left
+    → rest + length (take most (xs ++ ys)) ≡ most
+length-both most left rest xs ys e f =
+    omega (arith, e, f, ap (λ (ws : List WrongCase). length ws) (take-both most left xs ys e), length-append (take most xs) (take left ys))
+
+joined-text : (most left : ℕ) (xs ys : List WrongCase) → left + length (take most xs) ≡ most
+    → first_cases_text most xs ++ first_cases_text left ys ≡ first_cases_text most (xs ++ ys)
+joined-text most left xs ys e =
+    sym (ap (flat_map wrong_case_text) (take-both most left xs ys e) ∙ flat_map-append wrong_case_text (take most xs) (take left ys))
+
+-- nothing is written yet
+pub nothing-written : (most : ℕ) (a : Option (List ℕ)) → HasWrittenFirst most [] a a most
+nothing-written zero a = record { lines = Appends-nothing a; more = refl }
+nothing-written (suc most) a = record { lines = Appends-nothing a; more = omega arith }
+
+-- more cases, behind others
+pub written-more : (most left rest : ℕ) (ws vs : List WrongCase) (a b c : Option (List ℕ)) → HasWrittenFirst most ws a b left → HasWrittenFirst left vs b c rest
+    → HasWrittenFirst most (ws ++ vs) a c rest
+written-more most left rest ws vs a b c h g = record {
+  lines = Appends-to a c _ _ (joined-text most left ws vs h.more) (Appends-joined a b c _ _ h.lines g.lines);
+  more = length-both most left rest ws vs h.more g.more;
+}
+
+-- nothing is told of no bytes
+pub nothing-told : (r : Reporting) → HasTold r [] [] r
+nothing-told r limits kind told b s = rw (append-nil told, append-nil b) s
+
+-- what is told of bytes, behind what is told of those before
+pub told-more : (r s t : Reporting) (ws vs : List WrongCase) (xs ys : List ℕ) → HasTold r ws xs s → HasTold s vs ys t → HasTold r (ws ++ vs) (xs ++ ys) t
+told-more r s t ws vs xs ys f g limits kind told b h =
+    rw (← append_assoc told ws vs, ← append_assoc b xs ys) (g limits kind (told ++ ws) (b ++ xs) (f limits kind told b h))
+
+-- a part of a piece is handed over, and the first cases told are written
+pub record HasGone (before after : Reporting) (most left : ℕ) (a b : Option (List ℕ)) (piece rest : List ℕ) : Type 0 where
+  pub passed : List ℕ
+  pub joined : passed ++ rest ≡ piece
+  pub cases : List WrongCase
+  pub told : HasTold before cases passed after
+  pub written : HasWrittenFirst most cases a b left
+
+-- where a report breaks off, the cases that it told are those of the settled lines
+pub settled-written : (r s : Reporting) (most left : ℕ) (ws : List WrongCase) (a b : Option (List ℕ)) (xs ys : List ℕ) → ys ≡ xs → HasTold r ws xs s
+    → HasWrittenFirst most ws a b left → PrintsSettled r most ys a b
+settled-written r s most left ws a b xs ys e told written limits kind just =
+    let is : ws ≡ settled_cases limits kind ys = told-settled limits kind s ws xs (told limits kind [] [] just) ∙ ap (settled_cases limits kind) (sym e) in
+    Appends-to a b _ _ (ap (first_cases_text most) is) written.lines
+
+-- where a write failed, these bytes were given
+pub write-fails : {A : Type 0} (Failed : Type 0) (r : Reporting) (most : ℕ) (a b : Option (List ℕ)) (Gave : List ℕ → Type 0) (given : List ℕ) → Gave given
+    → (result : Result A ReportFault) → IsErrAnd result (λ fault. fault ≡ Write) → IfErr result (λ fault. (xs : List ℕ) × Gave xs × BreaksOff Failed r most xs a b fault)
+write-fails Failed r most a b Gave given gave (Ok x) e = absurd e
+write-fails Failed r most a b Gave given gave (Err fault) e = (given, gave, subst (BreaksOff Failed r most given a b) (sym e) tt)
+
+-- the text of a whole report: the cases told before the end and those of a last line, and the foot
+pub whole-printed : (r s : Reporting) (e : EndedReport) (most left further : ℕ) (ws found : List WrongCase) (given : List ℕ) (a b c d : Option (List ℕ))
+    (malformed : Option (ℕ × Cause)) (tally : Tally) (right : Bool) → HasTold r ws given s → HasWrittenFirst most ws a b left
+    → ((limits : LimitsOf) (kind : Kind) (told : List WrongCase) (bs : List ℕ) → Reports limits kind s told bs → report_of limits kind bs ≡ report_at_end told e)
+    → found ≡ e.found → HasWrittenFirst left found b c further → malformed ≡ e.malformed → tally ≡ e.tally → Appends c d (foot_text malformed tally)
+    → ((limits : LimitsOf) (kind : Kind) (told : List WrongCase) (bs : List ℕ) → report_of limits kind bs ≡ report_at_end told e → right ≡ is_right (report_of limits kind bs))
+    → Prints r most given a d right
+whole-printed r s e most left further ws found given a b c d malformed tally right told written ends found-is last malformed-is tally-is foot answers limits kind just =
+    let is : report_of limits kind given ≡ report_at_end ws e = ends limits kind ws given (told limits kind [] [] just) in
+    let cases = written-more most left further ws found a b c written last in
+    let text : first_cases_text most (ws ++ found) ++ foot_text malformed tally ≡ report_text most (report_at_end ws e) = rw (found-is, malformed-is, tally-is) refl in
+    record {
+      text = Appends-to a d _ _ (text ∙ ap (report_text most) (sym is)) (Appends-joined a c d _ _ cases.lines foot);
+      answer = answers limits kind ws given is;
+    }
+
+module _ (before : Reporting) (most : ℕ) (a : Option (List ℕ)) (piece : List ℕ) where
+  pub nothing-gone : HasGone before before most most a a piece piece
+  nothing-gone = record { passed = []; joined = refl; cases = []; told = nothing-told before; written = nothing-written most a }
+
+  -- some more of the piece
+  pub more-gone : (r t : Reporting) (left further : ℕ) (b c : Option (List ℕ)) (rest : List ℕ) (used : ℕ) (vs : List WrongCase)
+      → HasGone before r most left a b piece rest → HasTold r vs (take used rest) t → HasWrittenFirst left vs b c further
+      → HasGone before t most further a c piece (drop used rest)
+  more-gone r t left further b c rest used vs h told written = record {
+    passed = h.passed ++ take used rest;
+    joined = append_assoc h.passed (take used rest) (drop used rest) ∙ ap (λ xs. h.passed ++ xs) (take-append-drop used rest) ∙ h.joined;
+    cases = h.cases ++ vs;
+    told = told-more before r t h.cases vs h.passed (take used rest) h.told told;
+    written = written-more most left further h.cases vs a b c h.written written;
+  }

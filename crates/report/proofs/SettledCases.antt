@@ -1,0 +1,87 @@
+-- The wrong cases that were told are those of the lines that are settled.
+use Rattle.std.proofs.Common.{◌≡◌, ◌⊎◌, ℕ, ◌+◌, true, false, Bool, Option, None, Some, List, [], ◌∷◌, ◌++◌, reverse, map, refl, sym, ap, ◌∙◌, append-nil, inl, inr}
+use Rattle.units.specs.Limits.{LimitsOf, standard}
+use Rattle.units.specs.LineCutting.{Cutting}
+use Rattle.units.specs.Text.{lines_with, lines_of, settled_lines, has_bytes, is_over_long}
+use Rattle.units.proofs.Ranges.{cut_at-some}
+use Rattle.ucdfiles.proofs.Settled.{settled-whole}
+use Rattle.bidtests.specs.declared.kind.Kind.{Kind}
+use Rattle.bidtests.specs.declared.kind.Kind.TheVariants.{Classes, Characters}
+use Rattle.bidtests.specs.declared.verdict.Cause.{Cause}
+use Rattle.bidtests.specs.Carried.{Carried, comes_to_behind}
+use Rattle.bidtests.specs.ClassesFile.{classes_line, levels_in_force, order_in_force}
+use Rattle.bidtests.specs.FileKinds.{findings_by}
+use Rattle.bidtests.specs.Verdicts.{Finding, Silent, Row, Faulty}
+use Rattle.bidtests.proofs.LineByLine.{findings-last}
+use Rattle.report.specs.declared.wrong_case.WrongCase.{WrongCase}
+use Rattle.report.specs.FileReports.{FileReport, first_malformed, report_of, settled_cases}
+use Rattle.report.specs.Reporting.{LineReporting, Reporting, Reports, ReportsBy}
+use Rattle.report.specs.WrongCases.{sound_lines, wrong_cases_from}
+use Rattle.report.proofs.LineSteps.{all-sound}
+
+-- the lines are the settled ones, or these and one more
+abbrev OneMore : List (List ℕ) → List (List ℕ) → Type 0
+OneMore lines settled = (lines ≡ settled) ⊎ ((last : List ℕ) × (lines ≡ settled ++ last ∷ []))
+
+last-line : (b : ℕ) (line : List ℕ) (over : Bool) → is_over_long (b ∷ line) ≡ over
+    → OneMore (lines_with has_bytes ((b ∷ line) ∷ [])) (lines_with is_over_long ((b ∷ line) ∷ []))
+last-line b line true e = rw e (inl refl)
+last-line b line false e = rw e (inr (b ∷ line, refl))
+
+behind-line : (line : List ℕ) (lines settled : List (List ℕ)) → OneMore lines settled → OneMore (line ∷ lines) (line ∷ settled)
+behind-line line lines settled (inl e) = inl (ap (λ ls. line ∷ ls) e)
+behind-line line lines settled (inr last) = inr (last.0, ap (λ ls. line ∷ ls) last.1)
+
+with-last : (x : List ℕ) (more : List (List ℕ)) → OneMore (lines_with has_bytes (x ∷ more)) (lines_with is_over_long (x ∷ more))
+with-last [] [] = inl refl
+with-last (b ∷ line) [] = last-line b line (is_over_long (b ∷ line)) refl
+with-last x (y ∷ more) = behind-line x _ _ (with-last y more)
+
+lines-settled : (bytes : List ℕ) → OneMore (lines_of bytes) (settled_lines bytes)
+lines-settled bytes = let s = cut_at-some 10 bytes in rw s.2 (with-last s.0 s.1)
+
+-- one line more comes to one finding more
+one-finding : (kind : Kind) (lines : List (List ℕ)) (line : List ℕ) → (f : Finding) × (findings_by kind (lines ++ line ∷ []) ≡ findings_by kind lines ++ f ∷ [])
+one-finding Classes lines line =
+    let s : Carried = record {
+      limits = standard;
+      levels = levels_in_force (reverse (map classes_line lines));
+      order = order_in_force (reverse (map classes_line lines));
+      rows = 0;
+      cases = 0;
+    } in
+    (comes_to_behind Classes s line, findings-last Classes s lines line (refl, refl))
+one-finding (Characters tables) lines line =
+    let s : Carried = record { limits = standard; levels = None; order = None; rows = 0; cases = 0 } in
+    (comes_to_behind (Characters tables) s line, findings-last (Characters tables) s lines line tt)
+
+-- where one of these is malformed, the last stands behind the sound lines
+last-unsound : (k : ℕ) (fs : List Finding) (f : Finding) (m : ℕ × Cause) → first_malformed k (fs ++ f ∷ []) ≡ Some m → sound_lines (fs ++ f ∷ []) ≡ sound_lines fs
+last-unsound k [] Silent m e = absurd cc
+last-unsound k [] (Faulty cause) m e = refl
+last-unsound k [] (Row claim) m e = absurd cc
+last-unsound k (Silent ∷ fs) f m e = ap (λ hs. Silent ∷ hs) (last-unsound (k + 1) fs f m e)
+last-unsound k (Faulty cause ∷ fs) f m e = refl
+last-unsound k (Row claim ∷ fs) f m e = ap (λ hs. Row claim ∷ hs) (last-unsound (k + 1) fs f m e)
+
+sound-settled : (kind : Kind) (lines settled : List (List ℕ)) (m : ℕ × Cause) → OneMore lines settled → first_malformed 0 (findings_by kind lines) ≡ Some m
+    → sound_lines (findings_by kind lines) ≡ sound_lines (findings_by kind settled)
+sound-settled kind lines settled m (inl e) malformed = ap (λ ls. sound_lines (findings_by kind ls)) e
+sound-settled kind lines settled m (inr last) malformed =
+    let f = one-finding kind settled last.0 in
+    let all : findings_by kind lines ≡ findings_by kind settled ++ f.0 ∷ [] = ap (findings_by kind) last.1 ∙ f.1 in
+    ap sound_lines all ∙ last-unsound 0 (findings_by kind settled) f.0 m (sym (ap (first_malformed 0) all) ∙ malformed)
+
+told-settled-by : (limits : LimitsOf) (kind : Kind) (m : Option (ℕ × Cause)) (cutting : Cutting) (s : LineReporting) (told : List WrongCase) (b : List ℕ)
+    → ReportsBy limits kind m cutting s told b → told ≡ settled_cases limits kind b
+told-settled-by limits kind None cutting s told b o =
+    let lines : settled_lines b ≡ o.lines = settled-whole b o.lines o.rest o.cut in
+    o.behind.cases ∙ sym (ap (λ ls. wrong_cases_from limits 0 (sound_lines (findings_by kind ls))) lines
+    ∙ ap (wrong_cases_from limits 0) (all-sound 0 (findings_by kind o.lines) o.behind.sound))
+told-settled-by limits kind (Some m) cutting s told b r =
+    let whole = ap (report_of limits kind) (sym (append-nil b)) ∙ r [] in
+    sym (ap (λ (report : FileReport). report.wrong) whole)
+    ∙ ap (wrong_cases_from limits 0) (sound-settled kind (lines_of b) (settled_lines b) m (lines-settled b) (ap (λ (report : FileReport). report.malformed) whole))
+
+pub told-settled : (limits : LimitsOf) (kind : Kind) (r : Reporting) (told : List WrongCase) (b : List ℕ) → Reports limits kind r told b → told ≡ settled_cases limits kind b
+told-settled limits kind r told b h = told-settled-by limits kind r.malformed r.cutting r.lines told b h.is

@@ -1,0 +1,45 @@
+use Rattle.std.proofs.Common.{rules, ◌≡◌, ◌++◌, [], take, ap, ◌∙◌, append-nil}
+use Rattle.report.proofs.Printing.{nothing-told, nothing-written, settled-written, told-more, write-fails, written-more}
+use Rattle.report.proofs.print.print_source.Goals as goal
+
+pub loop-n-init : goal.loop-n-init
+loop-n-init g c = ([], [], g.met.S.ByteSource.gives_nothing _, nothing-told _, nothing-written _ _)
+
+pub returns-in-Err-clause-fault : goal.returns-in-Err-clause-fault
+returns-in-Err-clause-fault g c =
+    let inv = c.loop-n.invariant in
+    let failed : g.S.ByteSource.failures c.read.new.self ≡ 1 = search rules in (
+      inv.0 ++ [],
+      g.met.S.ByteSource.gives_joined _ _ _ _ _ inv.2 c.in-Err.ensures.none_given,
+      (failed, settled-written _ _ _ _ _ _ _ _ _ (append-nil inv.0) inv.3 inv.4),
+    )
+
+pub returns-in-Ok-eq0-clause-told : goal.returns-in-Ok-eq0-clause-told
+returns-in-Ok-eq0-clause-told g c =
+    let inv = c.loop-n.invariant in
+    let buf = c.read.new.buf in
+    let n = c.in-Ok-eq0.field-0 in
+    let none : inv.0 ++ take n buf ≡ inv.0 = ap (λ k. inv.0 ++ take k buf) c.in-Ok-eq0.field-0-test ∙ append-nil inv.0 in (
+      inv.0 ++ take n buf,
+      inv.1,
+      g.met.S.ByteSource.gives_joined _ _ _ _ _ inv.2 c.in-Ok-eq0.ensures.given,
+      rw none inv.3,
+      inv.4,
+    )
+
+pub returns-in_err-left-in-Ok-clause-fault : goal.returns-in_err-left-in-Ok-clause-fault
+returns-in_err-left-in-Ok-clause-fault g c =
+    let inv = c.loop-n.invariant in
+    let given = g.met.S.ByteSource.gives_joined _ _ _ _ _ inv.2 c.in-Ok.ensures.given in
+    write-fails _ _ _ _ _ (λ xs. g.S.ByteSource.gives c.args.source.now xs c.read.new.self) _ given _ c.from_residual.ensures.1
+
+pub loop-n-preserved : goal.loop-n-preserved
+loop-n-preserved g c =
+    let inv = c.loop-n.invariant in
+    let told = c.in_ok-left-in-Ok.ensures in (
+      inv.0 ++ take c.in-Ok.n c.read.new.buf,
+      inv.1 ++ told.0,
+      g.met.S.ByteSource.gives_joined _ _ _ _ _ inv.2 c.in-Ok.ensures.given,
+      told-more _ _ _ _ _ _ _ inv.3 told.1,
+      written-more _ _ _ _ _ _ _ _ inv.4 told.2,
+    )

@@ -1,0 +1,14 @@
+use Rattle.std.proofs.Common.{ℕ, List}
+use Rattle.report.specs.declared.wrong_case.WrongCase.{WrongCase}
+use Rattle.report.specs.PrintedReports.{HasTold, HasWrittenFirst}
+use Rattle.report.proofs.print.print_source.Given as goal
+
+abbrev pub invariant-loop-n : goal.invariant-loop-n
+invariant-loop-n g l =
+    (given : List ℕ) × (told : List WrongCase)
+    × g.S.ByteSource.gives l.initial.source given l.source
+    × HasTold l.initial.report told given l.report
+    × HasWrittenFirst l.most told (g.W.Write.contents l.initial.w) (g.W.Write.contents l.w) l.left
+
+abbrev pub decreases-loop-n : goal.decreases-loop-n
+decreases-loop-n g l = g.S.ByteSource.room l.source

@@ -1,0 +1,45 @@
+-- What is printed of a report while its file is read.
+use Rattle.std.specs.Prelude.{◌≡◌, Option, ℕ, ◌+◌, Bool, List, [], ◌++◌, length, take}
+use Rattle.std.specs.Io.KnownBytes.{Appends}
+use Rattle.units.specs.Limits.{LimitsOf}
+use Rattle.bidtests.specs.declared.kind.Kind.{Kind}
+use Rattle.report.specs.declared.print.ReportFault.{ReportFault}
+use Rattle.report.specs.declared.print.ReportFault.TheVariants.{Read, Write}
+use Rattle.report.specs.declared.wrong_case.WrongCase.{WrongCase}
+use Rattle.report.specs.FileReports.{FileReport, is_right, report_of, settled_cases}
+use Rattle.report.specs.Reporting.{Reporting, Reports}
+use Rattle.report.specs.ReportText.{first_cases_text, report_text}
+
+-- the report told these wrong cases while it was handed these bytes
+abbrev pub HasTold : Reporting → List WrongCase → List ℕ → Reporting → Type 0
+HasTold before ws bytes after =
+    (limits : LimitsOf) (kind : Kind) (told : List WrongCase) (b : List ℕ)
+    → Reports limits kind before told b → Reports limits kind after (told ++ ws) (b ++ bytes)
+
+-- known bytes grew by the lines of the first of these wrong cases, at most so many, and so many more may follow
+pub record HasWrittenFirst (most : ℕ) (ws : List WrongCase) (before after : Option (List ℕ)) (left : ℕ) : Type 0 where
+  pub lines : Appends before after (first_cases_text most ws)
+  pub more : left + length (take most ws) ≡ most
+
+-- what known bytes grew by is the text of the report, and the answer is whether the file is right
+pub record IsPrinted (most : ℕ) (report : FileReport) (before after : Option (List ℕ)) (right : Bool) : Type 0 where
+  pub text : Appends before after (report_text most report)
+  pub answer : right ≡ is_right report
+
+-- the report, which was just begun, is printed on these bytes as its whole file
+abbrev pub Prints : Reporting → ℕ → List ℕ → Option (List ℕ) → Option (List ℕ) → Bool → Type 0
+Prints report most bytes before after right =
+    (limits : LimitsOf) (kind : Kind) → Reports limits kind report [] []
+    → IsPrinted most (report_of limits kind bytes) before after right
+
+-- the lines of the wrong cases are printed that stand on the lines which these bytes settle
+abbrev pub PrintsSettled : Reporting → ℕ → List ℕ → Option (List ℕ) → Option (List ℕ) → Type 0
+PrintsSettled report most bytes before after =
+    (limits : LimitsOf) (kind : Kind) → Reports limits kind report [] []
+    → Appends before after (first_cases_text most (settled_cases limits kind bytes))
+
+-- the report, which was just begun, breaks off behind these bytes: the source failed, and the wrong cases so far are
+-- printed, or a write failed
+abbrev pub BreaksOff : Type 0 → Reporting → ℕ → List ℕ → Option (List ℕ) → Option (List ℕ) → ReportFault → Type 0
+BreaksOff Failed report most bytes before after Read = Failed × PrintsSettled report most bytes before after
+BreaksOff Failed report most bytes before after Write = Unit {0}

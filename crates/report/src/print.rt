@@ -1,0 +1,127 @@
+//! A report printed as its file is read.
+ghost use Rattle.std.specs.Prelude.{◌≡◌, ◌≤◌, ℕ, List, IfOk, IfErr, OnOk};
+ghost use Rattle.std.specs.Io.KnownBytes.{Appends};
+ghost use Rattle.report.specs.declared.wrong_case.WrongCase.{WrongCase as Told};
+ghost use Rattle.report.specs.PrintedReports.{BreaksOff, HasTold, HasWrittenFirst, Prints};
+ghost use Rattle.report.specs.ReportText.{first_cases_text, wrong_cases_text};
+
+use crate::report::Report;
+use crate::report_text::{print_foot, print_wrong_case};
+use crate::wrong_case::WrongCase;
+use std::io;
+use std::io::Write;
+use units::source::ByteSource;
+
+/// Why a report broke off.
+#[derive(Clone, Copy, Debug, PartialEq, Eq)]
+pub enum ReportFault {
+    /// The source failed.
+    Read,
+    /// A write failed. How much went out before is not known.
+    Write,
+}
+
+impl From<io::Error> for ReportFault {
+    ghost use Rattle.std.specs.Prelude.{◌≡◌};
+    ghost use Rattle.report.specs.declared.print.ReportFault.TheVariants.{Write};
+
+    ghost from_gives = { λ _ fault. fault ≡ Write };
+
+    fn from(_error: io::Error) -> Self {
+        ReportFault::Write
+    }
+}
+
+/// Writes the lines of these wrong cases.
+fn print_cases<W: Write>(w: &mut W, cases: &[WrongCase]) -> io::Result<()>
+    ensures { OnOk result (Appends (W.contents w.old) (W.contents w.new) (wrong_cases_text cases.now)) }
+{
+    for case in cases {
+        print_wrong_case(w, case)?;
+    }
+    Ok(())
+}
+
+/// Writes the lines of the first of these wrong cases, at most `most`, and answers how many more may follow.
+fn print_first<W: Write>(w: &mut W, cases: &[WrongCase], most: u64) -> io::Result<u64>
+    ensures { IfOk result (HasWrittenFirst most cases.now (W.contents w.old) (W.contents w.new)) }
+{
+    let count = most.min(cases.len() as u64);
+    print_cases(w, &cases[..count as usize])?;
+    Ok(most - count)
+}
+
+/// Hands the next bytes of the file to the report, and writes the lines of the first wrong cases that it tells, at most
+/// `most`. Answers how many more may follow.
+fn print_piece<W: Write>(
+    w: &mut W,
+    report: &mut Report<'_>,
+    piece: &[u8],
+    most: u64,
+) -> io::Result<u64>
+    ensures { IfOk result (λ left. (told : List Told) × HasTold report.old told piece.now report.new
+        × HasWrittenFirst most told (W.contents w.old) (W.contents w.new) left) }
+{
+    let mut rest = piece;
+    let mut left = most;
+    while !rest.is_empty() {
+        let used = report.take(rest);
+        left = print_first(w, report.found(), left)?;
+        rest = &rest[used..];
+    }
+    Ok(left)
+}
+
+/// Reads the source to its end, hands the report what it gives, and writes the lines of the first wrong cases that the
+/// report tells, at most `most`. Answers how many more may follow.
+fn print_source<S: ByteSource, W: Write>(
+    w: &mut W,
+    report: &mut Report<'_>,
+    source: &mut S,
+    most: u64,
+) -> Result<u64, ReportFault>
+    ensures whole { OnOk result (S.ended source.new) }
+    ensures told { IfOk result (λ left. (given : List ℕ) × (told : List Told)
+        × S.gives source.old given source.new × HasTold report.old told given report.new
+        × HasWrittenFirst most told (W.contents w.old) (W.contents w.new) left) }
+    ensures fault { IfErr result (λ fault. (given : List ℕ) × S.gives source.old given source.new
+        × BreaksOff (S.failures source.new ≡ 1) report.old most given
+        (W.contents w.old) (W.contents w.new) fault) }
+{
+    let mut left = most;
+    let mut piece = [0; 4096];
+    loop {
+        match source.read(&mut piece) {
+            Err(_) => return Err(ReportFault::Read),
+            Ok(0) => return Ok(left),
+            Ok(n) => left = print_piece(w, report, &piece[..n], left)?,
+        }
+    }
+}
+
+/// Reads the source to its end and writes the report on what it handed out, the whole file as which the report was
+/// begun: a line for each of the first wrong cases, at most `most`, each as soon as its line is read, and then the foot
+/// (`report_text`). Answers whether the file is right: no line is malformed, and no case wrong.
+///
+/// It reads on behind a malformed line, 4,096 bytes at a time, and takes no memory. The faults are `Read` where the
+/// source has failed, behind the lines of the wrong cases on the lines that have ended, and `Write` where the writer
+/// fails.
+pub fn print_report<S: ByteSource, W: Write>(
+    w: &mut W,
+    mut report: Report<'_>,
+    source: &mut S,
+    most: u64,
+) -> Result<bool, ReportFault>
+    ensures whole { OnOk result (S.ended source.new) }
+    ensures printed { IfOk result (λ right. (given : List ℕ) × S.gives source.old given source.new
+        × Prints report.entry most given (W.contents w.old) (W.contents w.new) right) }
+    ensures fault { IfErr result (λ fault. (given : List ℕ) × S.gives source.old given source.new
+        × BreaksOff (S.failures source.new ≡ 1) report.entry most given
+        (W.contents w.old) (W.contents w.new) fault) }
+{
+    let left = print_source(w, &mut report, source, most)?;
+    let ended = report.finish();
+    print_first(w, ended.found(), left)?;
+    print_foot(w, ended.malformed(), &ended.tally())?;
+    Ok(ended.is_right())
+}
