@@ -147,9 +147,7 @@ fn draws_nothing_from_a_longer_to_a_shorter_length(rt: HostRuntime) {
 }
 
 #[test]
-fn draws_a_thousand_texts_by_the_seed_0_where_nothing_is_said(rt: HostRuntime) {
-    let alloc = rt.alloc();
-    let said = outcome_of(alloc, &drawn("0", "1000", "1..3"), &[]);
+fn draws_by_the_seed_0_where_none_is_said(rt: HostRuntime) {
     let [
         bidi,
         rows,
@@ -157,26 +155,35 @@ fn draws_a_thousand_texts_by_the_seed_0_where_nothing_is_said(rt: HostRuntime) {
         random,
         _,
         _,
-        _,
-        _,
+        count_option,
+        count,
         alphabet_option,
         alphabet,
         length_option,
         lengths,
-    ] = drawn("0", "1000", "1..3");
+    ] = drawn("0", "2", "1..2");
     let left_out = [
         bidi,
         rows,
         form,
         random,
+        count_option,
+        count,
         alphabet_option,
         alphabet,
         length_option,
         lengths,
     ];
-    let ending = Ending::prints(0, said.out.written());
-    assert_run(&rt, alloc, &left_out, &[], ending);
-    let files = [whole("FILE", said.out.written())];
-    let ending = Ending::prints(0, b"yes: 3000 rows, 3000 cases\n");
+    let ending = Ending::prints(0, DRAWN_TEXT);
+    assert_run(&rt, rt.alloc(), &left_out, &[], ending);
+}
+
+#[test]
+fn draws_rows_that_are_judged_right(rt: HostRuntime) {
+    let alloc = rt.alloc();
+    let rows = outcome_of(alloc, &drawn("7", "20", "1..3"), &[]);
+    assert_eq!(rt; rows.ended.status, 0);
+    let files = [whole("FILE", rows.out.written())];
+    let ending = Ending::prints(0, b"yes: 60 rows, 60 cases\n");
     assert_run(&rt, alloc, &JUDGE_CLASSES, &files, ending);
 }

@@ -64,7 +64,7 @@ const REFUSED_LINES: [&'static [&'static str]; 33] = [
         "bidi",
         "rows",
         "--form",
-        "random",
+        "other",
         "--alphabet",
         "L",
         "--length",
