@@ -32,6 +32,8 @@ pub struct Filled {
 }
 
 /// Writes the order of one line more behind those that are written, and answers how many positions they have then.
+// Inlined, a short text takes fewer instructions.
+#[inline(always)]
 fn write_line<L: Ledger>(
     line: LineSpan<'_>,
     uniform: Option<ParaLevel>,
@@ -60,6 +62,8 @@ fn write_line<L: Ledger>(
 /// `paras` are the levels of the text's paragraphs, and the levels are those of its positions after L1; `uniform`
 /// says that each one that remains is known to have its paragraph's. It takes at least n and at most `7 * n` steps for
 /// a text of n positions, however many lines it has, and where that is known at most `3 * n`.
+// Inlined, a short text takes fewer instructions.
+#[inline(always)]
 pub(crate) fn fill_lines<L: Ledger>(
     own: &[Unit],
     lines: usize,

@@ -72,6 +72,8 @@ fn write_all<L: Ledger>(
 
 /// Writes the remaining positions of a line that all have this level from left to right to the front of `order`, in
 /// at most two steps for each of its positions. It answers how many they are.
+// Inlined, a short text takes fewer instructions.
+#[inline(always)]
 fn write_uniform<L: Ledger>(
     line: LineSpan<'_>,
     level: ParaLevel,
@@ -176,6 +178,8 @@ fn write_runs<L: Ledger>(
 /// place for each unit of the text up to the line's end. `uniform` is the level that all remaining positions of the
 /// line have, where that is known. It takes between n and `6 * n` steps on a line of n positions, and where that level
 /// is known at most `2 * n`.
+// Inlined, a short text takes fewer instructions.
+#[inline(always)]
 pub fn write_order<L: Ledger>(
     line: LineSpan<'_>,
     uniform: Option<ParaLevel>,

@@ -151,6 +151,8 @@ pub fn reset_text<L: Ledger>(
 
 /// What `reset_text` does, where it may change a level: not where each position that remains is known to have its
 /// paragraph's, as `uniform` says.
+// Inlined, a short text takes fewer instructions.
+#[inline(always)]
 pub(crate) fn reset_unless_uniform<L: Ledger>(
     own: &[Unit],
     breaks: &Breaks,
