@@ -5,6 +5,7 @@ pub mod IsolateMaps
 pub mod OpenInitiators
 pub mod StatusStacks
 pub mod StackChanges
+pub mod Stretches
 pub mod ExplicitLevels
 pub mod Laws
 pub mod WantedLevels

@@ -33,6 +33,13 @@ RefusesInitiator is_isolate old new =
     → is_taken depth cs para_level p qs ≡ false → is_isolate ≡ is_isolate_initiator (class_at cs p)
     → Represents depth cs para_level qs old → Represents depth cs para_level (p ∷ qs) new
 
+-- X1: this is what holds inside the innermost initiator that was taken
+abbrev pub IsInnermost : StatusStack → Status → Type 0
+IsInnermost stack status =
+    (depth : ℕ) (cs : List Class) (para_level : ℕ) (qs : List ℕ) → Represents depth cs para_level qs stack
+    → (status.level ≡ (state_within depth cs para_level qs).level)
+    × (status.override_class ≡ (state_within depth cs para_level qs).override)
+
 -- X5a to X6a: the level and the current class of a position of this class, which is neither removed nor a separator
 abbrev pub GivesPlaceInside : StatusStack → Class → ℕ × Class → Type 0
 GivesPlaceInside stack class place =

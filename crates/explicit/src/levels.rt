@@ -1,16 +1,17 @@
 //! The explicit levels of a paragraph (X1 to X9).
-ghost use Rattle.std.specs.Prelude.{◌≡◌, ◌+◌, ◌*◌, ◌<◌, ◌≤◌, length, None, slice_index_or, IfOk};
+ghost use Rattle.std.specs.Prelude.{◌≡◌, ◌+◌, ◌-◌, ◌*◌, ◌<◌, ◌≤◌, length, None, slice_index_or, IfOk};
 ghost use Rattle.std.specs.Option.{option_map_or};
 ghost use Rattle.units.specs.Classes.{classes_of};
 ghost use Rattle.units.specs.Isolates.{level_of_para};
 ghost use Rattle.units.specs.declared.class.Class.TheVariants.{BN};
 ghost use Rattle.explicit.specs.IsolateMaps.{IsFilledFrom};
 ghost use Rattle.explicit.specs.ExplicitLevels.{HoldsLevels, IsExplicitAt, IsWithinDepth};
-ghost use Rattle.explicit.specs.StatusStacks.{entry_count};
+ghost use Rattle.explicit.specs.StatusStacks.{entry_count, is_ordinary};
+ghost use Rattle.explicit.specs.Stretches.{IsStretch, with_places};
 ghost use Rattle.explicit.specs.WantedLevels.{IsOddWanted};
 
 use crate::isolates::IsolateMap;
-use crate::status::{StatusStack, is_ordinary};
+use crate::status::{Status, StatusStack, is_ordinary};
 use std::alloc::Global;
 use std::boxed::BoxedSlice;
 use std::marker::Model;
@@ -95,7 +96,32 @@ fn asks_odd(class: Class, right_to_left: bool) -> bool
     }
 }
 
-// X1 to X9: finds the level and the current class of each position. The stack is empty before and after.
+// X5a to X6a: writes the places of the positions from this one on, inside this status, up to the next one whose class is
+// not ordinary, or to the end. Answers that position. Each that is written is a step.
+fn place_ordinary<L: Ledger>(
+    para: &[Unit],
+    from: usize,
+    status: Status,
+    places: &mut [Option<(Level, Class)>],
+    steps: &mut Steps<L>,
+) -> usize
+    requires from { from ≤ length para.now }
+    requires room { length para.now ≤ length places.old }
+    ensures stretch { IsStretch is_ordinary (classes_of para.now) from result }
+    ensures places { places.new ≡ with_places status (classes_of para.now) from (result - from) places.old }
+    ensures steps { steps.new + from ≡ steps.old + result }
+{
+    let mut p = from;
+    while p < para.len() && is_ordinary(para[p].class) {
+        steps.tick();
+        places[p] = Some(status.place(para[p].class));
+        p += 1;
+    }
+    p
+}
+
+// X1 to X9: finds the level and the current class of each position, from one that begins or ends something or is removed
+// to the next. The stack is empty before and after.
 fn find_places<L: Ledger>(
     para: &[Unit],
     map: &IsolateMap,
@@ -116,16 +142,15 @@ fn find_places<L: Ledger>(
     ensures most_steps { steps.new ≤ steps.old + (2 * length para.now + 1) }
 {
     stack.begin(base);
-    for (p, unit) in para.iter().enumerate() {
+    let mut p = place_ordinary(para, 0, stack.inside(), places, steps);
+    while p < para.len() {
         steps.tick();
-        if is_ordinary(unit.class) {
-            places[p] = Some(stack.place_inside(unit.class));
-        } else {
-            stack.close(unit.class, steps);
-            places[p] = stack.place(unit.class, base);
-            let odd = asks_odd(unit.class, map.is_right_to_left(p));
-            stack.open(unit.class, odd, depth);
-        }
+        let class = para[p].class;
+        stack.close(class, steps);
+        places[p] = stack.place(class, base);
+        let odd = asks_odd(class, map.is_right_to_left(p));
+        stack.open(class, odd, depth);
+        p = place_ordinary(para, p + 1, stack.inside(), places, steps);
     }
     stack.clear(steps);
 }

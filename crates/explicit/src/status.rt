@@ -5,7 +5,8 @@ ghost use Rattle.units.specs.Explicit.{next_odd, next_even, override_of};
 ghost use Rattle.units.specs.declared.class.Class.{Class};
 ghost use Rattle.explicit.specs.OpenInitiators.{after_pdi, after_pdf, left_open, opened};
 ghost use Rattle.explicit.specs.StatusStacks.{Represents, IsKept, before_isolate, entry_count, is_ordinary};
-ghost use Rattle.explicit.specs.StackChanges.{Closes, Opens, TakesInitiator, RefusesInitiator, GivesPlaceInside, GivesPlace};
+ghost use Rattle.explicit.specs.StackChanges.{Closes, Opens, TakesInitiator, RefusesInitiator, IsInnermost, GivesPlaceInside, GivesPlace};
+ghost use Rattle.explicit.specs.Stretches.{place_by};
 
 use arrayvec::ArrayVec;
 use std::sync::ledger::Ledger;
@@ -19,6 +20,16 @@ pub struct Status {
     pub level: Level,
     pub override_class: Option<Class>,
     pub is_isolate: bool,
+}
+
+impl Status {
+    /// X5a to X6a: where this holds, the level and the current class of a position of this class, which is neither
+    /// removed nor a separator.
+    pub fn place(&self, class: Class) -> (Level, Class)
+        ensures { result ≡ place_by self.now class }
+    {
+        (self.level, self.override_class.unwrap_or(class))
+    }
 }
 
 impl Default for Status {
@@ -133,9 +144,17 @@ impl StatusStack {
         self.entries[self.entries.len() - 1]
     }
 
-    /// X5a to X6a: the level and the current class of a position of this class, which is neither removed nor a
-    /// separator.
-    pub fn place_inside(&self, class: Class) -> (Level, Class)
+    /// What holds inside the innermost initiator that was taken, as long as none is opened or closed.
+    pub fn inside(&self) -> Status
+        requires { 0 < entry_count self.now }
+        ensures { IsInnermost self.now result }
+    {
+        self.current()
+    }
+
+    // X5a to X6a: the level and the current class of a position of this class, which is neither removed nor a
+    // separator.
+    fn place_inside(&self, class: Class) -> (Level, Class)
         requires { IsKept self.now }
         ensures { GivesPlaceInside self.now class result }
     {

@@ -1,4 +1,4 @@
-use Rattle.std.proofs.Common.{◌≡◌, ℕ, ◌+◌, ◌*◌, ◌<◌, ◌≤◌, get_or}
+use Rattle.std.proofs.Common.{◌≡◌, ℕ, ◌+◌, ◌-◌, ◌*◌, ◌<◌, ◌≤◌, get_or, length}
 use Rattle.std.specs.Prelude.{None}
 use Rattle.units.specs.Classes.{classes_of}
 use Rattle.units.specs.Explicit.{explicit_at}
@@ -8,8 +8,13 @@ use Rattle.explicit.proofs.levels.find_places.Given as goal
 
 abbrev pub invariant-loop-p : goal.invariant-loop-p
 invariant-loop-p g l = record {
+  within : l.p ≤ length l.para;
   keeps : Represents l.depth (classes_of l.para) l.base (open_before (classes_of l.para) l.p) l.stack;
   filled : (k : ℕ) → k < l.p → get_or l.places k None ≡ explicit_at l.depth (classes_of l.para) l.base k;
+  room : length l.places ≡ length l.fn.places;
   least : l.fn.steps + l.p ≤ l.steps;
   most : l.steps + entry_count l.stack ≤ l.fn.steps + (2 * l.p + 1);
 }
+
+abbrev pub decreases-loop-p : goal.decreases-loop-p
+decreases-loop-p g l = length l.para - l.p

@@ -1,0 +1,31 @@
+use Rattle.std.proofs.Common.{◌≡◌, ◌-◌, ◌<◌, ◌≤◌, ℕ, List, length, set, true, arith, sym, ap, ◌∙◌, subst, inl, inr}
+use Rattle.std.specs.Prelude.{Option, Some}
+use Rattle.std.proofs.lemmas.Bool.{cases_eq}
+use Rattle.units.specs.Classes.{class_at, classes_of}
+use Rattle.units.specs.declared.class.Class.{Class}
+use Rattle.explicit.specs.StatusStacks.{is_ordinary}
+use Rattle.explicit.specs.Stretches.{place_by, with_places}
+use Rattle.explicit.proofs.Holders.Roles.{class_read}
+use Rattle.explicit.proofs.LevelsFound.Stretches.{places-next}
+use Rattle.explicit.proofs.levels.place_ordinary.Goals as goal
+
+pub loop-p-preserved : goal.loop-p-preserved
+loop-p-preserved g c =
+    let l = c.loop-p in
+    let cs : List Class = classes_of c.args.para.now in
+    let inside : l.p < length c.args.para.now = omega arith in
+    let low : c.args.from ≤ l.p = l.invariant.later in
+    let read = class_read c.args.para.now l.p _ inside in
+    let ordinary : is_ordinary (class_at cs l.p) ≡ true = ap is_ordinary read ∙ sym c.is_ordinary.ensures ∙ c.if-is_ordinary.true in
+    record {
+      later = omega arith;
+      within = omega arith;
+      passed = λ k from to. elim (cases_eq k l.p) [
+        | inl e ↦ subst (λ (q : ℕ). is_ordinary (class_at cs q) ≡ true) (sym e) ordinary
+        | inr ne ↦ l.invariant.passed k from (omega arith)
+      ];
+      placed = ap (λ (xs : List (Option (ℕ × Class))). set xs l.p (Some c.place.result)) l.invariant.placed
+          ∙ ap (λ (x : ℕ × Class). set (with_places c.args.status cs c.args.from (l.p - c.args.from) c.args.places.now) l.p (Some x)) (c.place.ensures ∙ ap (place_by c.args.status) (sym read))
+          ∙ places-next c.args.status cs c.args.from l.p c.args.places.now low;
+      taken = omega (arith, c.tick.ensures, l.invariant.taken);
+    }
