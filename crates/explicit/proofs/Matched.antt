@@ -7,4 +7,5 @@ pub mod Nesting
 pub mod OpenStack
 pub mod PartnerOf
 pub mod Partners
+pub mod Stops
 pub mod AtMostOne

@@ -1,4 +1,5 @@
 pub mod Around
 pub mod Sides
+pub mod Passed
 pub mod StrongInside
 pub mod LevelUnder

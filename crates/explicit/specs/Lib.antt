@@ -6,6 +6,7 @@ pub mod OpenInitiators
 pub mod StatusStacks
 pub mod StackChanges
 pub mod Stretches
+pub mod Stops
 pub mod ExplicitLevels
 pub mod Laws
 pub mod WantedLevels

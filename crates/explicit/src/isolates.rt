@@ -1,10 +1,11 @@
 //! The isolates of a paragraph (BD9), and on which side each begins (P2, P3).
-ghost use Rattle.std.specs.Prelude.{◌≡◌, ◌+◌, ◌<◌, ◌≤◌, ℕ, length, List, Option, None, IfOk, slice_index_or};
-ghost use Rattle.units.specs.Classes.{classes_of, is_isolate_initiator};
+ghost use Rattle.std.specs.Prelude.{◌≡◌, ◌+◌, ◌-◌, ◌<◌, ◌≤◌, ℕ, true, false, length, List, Option, None, IfOk, IfSome, IsNone, slice_index_or};
+ghost use Rattle.units.specs.Classes.{class_at, classes_of, is_isolate_initiator, is_isolate_formatting};
 ghost use Rattle.units.specs.Isolates.{partner_of, first_strong};
 ghost use Rattle.units.specs.declared.class.Class.{Class};
 ghost use Rattle.explicit.specs.IsolateMaps.{room, HasPartners, IsFilledFrom, IsSideInside};
 ghost use Rattle.explicit.specs.Sides.{HasSides, side_at, noted, noted_at};
+ghost use Rattle.explicit.specs.Stops.{HasNoFormatting, ArePassed, IsNextStop, is_passed, without_partners};
 
 use crate::side::Side;
 use std::alloc::Global;
@@ -126,8 +127,116 @@ fn note_strong(
     outside
 }
 
+// LRI, RLI, FSI and PDI.
+fn is_isolate_formatting(class: Class) -> bool
+    ensures { result ≡ is_isolate_formatting class }
+{
+    matches!(class, Class::LRI | Class::RLI | Class::FSI | Class::PDI)
+}
+
+// Whether an isolate begins or ends at this position.
+fn is_formatting_at(para: &[Unit], p: usize) -> bool
+    requires { p < length para.now }
+    ensures { result ≡ is_isolate_formatting (class_at (classes_of para.now) p) }
+{
+    is_isolate_formatting(para[p].class)
+}
+
+// Whether an isolate begins or ends at this position or at one of the three behind it.
+fn is_formatting_in_four(para: &[Unit], p: usize) -> bool
+    requires { p + 4 ≤ length para.now }
+    ensures { result ≡ false → HasNoFormatting (classes_of para.now) p (p + 4) }
+{
+    is_formatting_at(para, p)
+        | is_formatting_at(para, p + 1)
+        | is_formatting_at(para, p + 2)
+        | is_formatting_at(para, p + 3)
+}
+
+// Whether a walk over isolates passes a class: no isolate begins or ends there, and it is no strong one that is sought.
+fn is_passed(class: Class, sought: bool) -> bool
+    ensures { result ≡ is_passed sought class }
+{
+    !(is_isolate_formatting(class) || sought && class.is_strong())
+}
+
+// Writes that the positions from `from` on, before `end`, have no partners. Each is a step.
+fn clear<L: Ledger>(
+    partners: &mut [OptionalPosition],
+    from: usize,
+    end: usize,
+    steps: &mut Steps<L>,
+)
+    requires order { from ≤ end }
+    requires within { end ≤ length partners.old }
+    ensures partners { partners.new ≡ without_partners from (end - from) partners.old }
+    ensures steps { steps.new + from ≡ steps.old + end }
+{
+    steps.add(end - from);
+    for k in from..end {
+        partners[k] = OptionalPosition::none();
+    }
+}
+
+// Passes positions from this one on at which no isolate begins or ends, four at a time, where no strong class is sought,
+// and writes that they have no partners. Answers the position behind them. Each is a step.
+fn pass_fours<L: Ledger>(
+    para: &[Unit],
+    from: usize,
+    sought: bool,
+    partners: &mut [OptionalPosition],
+    steps: &mut Steps<L>,
+) -> usize
+    requires from { from ≤ length para.now }
+    requires room { length para.now ≤ length partners.old }
+    ensures later { from ≤ result }
+    ensures within { result ≤ length para.now }
+    ensures passed { HasNoFormatting (classes_of para.now) from result }
+    ensures seeks { sought ≡ true → result ≡ from }
+    ensures partners { partners.new ≡ without_partners from (result - from) partners.old }
+    ensures steps { steps.new + from ≡ steps.old + result }
+{
+    let mut p = from;
+    while !sought && para.len() - p >= 4 && !is_formatting_in_four(para, p) {
+        clear(partners, p, p + 4, steps);
+        p += 4;
+    }
+    p
+}
+
+// The next position, from this one on, at which an isolate begins or ends, or a strong class stands if one is `sought`.
+// Writes that it and what is passed have no partners. Each position that is looked at is a step.
+fn next_stop<L: Ledger>(
+    para: &[Unit],
+    from: usize,
+    sought: bool,
+    partners: &mut [OptionalPosition],
+    steps: &mut Steps<L>,
+) -> Option<usize>
+    requires from { from ≤ length para.now }
+    requires room { length para.now ≤ length partners.old }
+    ensures found { IfSome result (λ p. IsNextStop sought (classes_of para.now) from p) }
+    ensures none { IsNone result → ArePassed sought (classes_of para.now) from (length para.now) }
+    ensures partners { IfSome result (λ p. partners.new ≡ without_partners from (p + 1 - from) partners.old) }
+    ensures all_partners { IsNone result
+        → partners.new ≡ without_partners from (length para.now - from) partners.old }
+    ensures steps { IfSome result (λ p. steps.new + from ≡ steps.old + (p + 1)) }
+    ensures all_steps { IsNone result → steps.new + from ≡ steps.old + length para.now }
+{
+    let start = pass_fours(para, from, sought, partners, steps);
+    for p in start..para.len() {
+        steps.tick();
+        partners[p] = OptionalPosition::none();
+        if !is_passed(para[p].class, sought) {
+            return Some(p);
+        }
+    }
+    None
+}
+
 // BD9, P2, P3: matches each PDI with the last open initiator, and notes the first strong class of each isolate.
 // Writes the partners of all positions and the sides of all initiators, and answers the side outside of all isolates.
+// A strong class is sought again behind each isolate initiator and each PDI.
 fn match_partners<L: Ledger>(
     para: &[Unit],
     partners: &mut [OptionalPosition],
@@ -146,20 +255,24 @@ fn match_partners<L: Ledger>(
 {
     let mut outside = Side::Unknown;
     let mut depth = 0;
-    for (p, unit) in para.iter().enumerate() {
-        steps.tick();
-        partners[p] = OptionalPosition::none();
-        if unit.class.is_isolate_initiator() {
+    let mut from = 0;
+    let mut sought = true;
+    while let Some(p) = next_stop(para, from, sought, partners, steps) {
+        let class = para[p].class;
+        let is_strong = class.is_strong();
+        from = p + 1;
+        sought = !is_strong;
+        if class.is_isolate_initiator() {
             openers[depth] = p as u32;
             depth += 1;
             sides[p] = Side::Unknown;
-        } else if unit.class.is_pdi() && depth > 0 {
+        } else if class.is_pdi() && depth > 0 {
             depth -= 1;
             let opener = openers[depth] as usize;
             partners[opener] = OptionalPosition::some(p);
             partners[p] = OptionalPosition::some(opener);
-        } else if unit.class.is_strong() {
-            outside = note_strong(unit.class, openers, depth, sides, outside);
+        } else if is_strong {
+            outside = note_strong(class, openers, depth, sides, outside);
         }
     }
     outside

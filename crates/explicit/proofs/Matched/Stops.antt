@@ -1,0 +1,104 @@
+-- What the walk that finds isolates passes: partners are none there, and nothing is opened or closed.
+use Rattle.std.proofs.Common.{◌≡◌, ℕ, zero, suc, ◌+◌, ◌-◌, ◌≤◌, Bool, true, false, List, length, set, Option, None, inl, inr, refl, sym, ap, subst, ◌∙◌, arith}
+use Rattle.std.proofs.lemmas.Bool.{cases_eq, cases_lt}
+use Rattle.std.proofs.lemmas.List.{length-set}
+use Rattle.std.specs.Prelude.{not, ◌||◌, ◌&&◌}
+use Rattle.units.specs.Classes.{class_at, is_isolate_formatting, is_isolate_initiator, is_pdi, is_strong}
+use Rattle.units.specs.declared.class.Class.{Class}
+use Rattle.explicit.specs.Stops.{HasNoFormatting, ArePassed, is_passed, without_partners}
+use Rattle.explicit.proofs.Matched.Filling.{IsFilling, filling_other}
+
+-- one position more
+pub cleared_next : (from p : ℕ) (partners : List (Option ℕ)) → from ≤ p → set (without_partners from (p - from) partners) p None ≡ without_partners from (p + 1 - from) partners
+cleared_next from p partners low =
+    let e : p + 1 - from ≡ suc (p - from) = omega arith in
+    let at : from + (p - from) ≡ p = omega arith in
+    sym (ap (λ (n : ℕ). without_partners from n partners) e ∙ ap (λ (q : ℕ). set (without_partners from (p - from) partners) q None) at)
+
+-- and many more
+cleared_both : (from m n : ℕ) (partners : List (Option ℕ)) → without_partners (from + m) n (without_partners from m partners) ≡ without_partners from (m + n) partners
+cleared_both from m zero partners = let e : m ≡ m + 0 = omega arith in ap (λ (k : ℕ). without_partners from k partners) e
+cleared_both from m (suc n) partners =
+    let e : suc (m + n) ≡ m + suc n = omega arith in
+    let at : from + m + n ≡ from + (m + n) = omega arith in
+    ap (λ (xs : List (Option ℕ)). set xs (from + m + n) None) (cleared_both from m n partners)
+    ∙ ap (λ (q : ℕ). set (without_partners from (m + n) partners) q None) at
+    ∙ ap (λ (k : ℕ). without_partners from k partners) e
+
+pub cleared_further : (from p end : ℕ) (partners : List (Option ℕ)) → from ≤ p → p ≤ end → without_partners p (end - p) (without_partners from (p - from) partners) ≡ without_partners from (end - from) partners
+cleared_further from p end partners low high =
+    let at : p ≡ from + (p - from) = omega arith in
+    let all : p - from + (end - p) ≡ end - from = omega arith in
+    ap (λ (q : ℕ). without_partners q (end - p) (without_partners from (p - from) partners)) at
+    ∙ cleared_both from (p - from) (end - p) partners
+    ∙ ap (λ (k : ℕ). without_partners from k partners) all
+
+pub cleared_length : (from n : ℕ) (partners : List (Option ℕ)) → length (without_partners from n partners) ≡ length partners
+cleared_length from zero partners = refl
+cleared_length from (suc n) partners = length-set (without_partners from n partners) (from + n) None ∙ cleared_length from n partners
+
+-- no isolate begins or ends at either stretch
+pub no_formatting_both : (cs : List Class) (from p end : ℕ) → HasNoFormatting cs from p → HasNoFormatting cs p end → HasNoFormatting cs from end
+no_formatting_both cs from p end one other q low high = elim (cases_lt q p) [
+  | inl before ↦ one q low before
+  | inr behind ↦ other q behind high
+]
+
+none_of_four : (a b c d : Bool) → (((a || b) || c) || d) ≡ false → (a ≡ false) × (b ≡ false) × (c ≡ false) × (d ≡ false)
+none_of_four true b c d h = absurd (cc)
+none_of_four false true c d h = absurd (cc)
+none_of_four false false true d h = absurd (cc)
+none_of_four false false false true h = absurd (cc)
+none_of_four false false false false h = (refl, refl, refl, refl)
+
+-- nor at a position and the three behind it
+pub no_formatting_four : (cs : List Class) (k : ℕ) (a b c d : Bool) → a ≡ is_isolate_formatting (class_at cs k) → b ≡ is_isolate_formatting (class_at cs (k + 1)) → c ≡ is_isolate_formatting (class_at cs (k + 2)) → d ≡ is_isolate_formatting (class_at cs (k + 3)) →
+    (((a || b) || c) || d) ≡ false → HasNoFormatting cs k (k + 4)
+no_formatting_four cs k a b c d at0 at1 at2 at3 h q low high =
+    let none = none_of_four a b c d h in
+    let F : ℕ → Type 0 = λ j. is_isolate_formatting (class_at cs j) ≡ false in
+    elim (cases_eq q k) [
+      | inl e ↦ subst F (sym e) (sym at0 ∙ none.0)
+      | inr n0 ↦ elim (cases_eq q (k + 1)) [
+        | inl e ↦ subst F (sym e) (sym at1 ∙ none.1)
+        | inr n1 ↦ elim (cases_eq q (k + 2)) [
+          | inl e ↦ subst F (sym e) (sym at2 ∙ none.2)
+          | inr n2 ↦ let e : q ≡ k + 3 = omega arith in subst F (sym e) (sym at3 ∙ none.3)
+        ]
+      ]
+    ]
+
+-- what is passed four at a time
+pub passed_by_fours : (sought : Bool) (cs : List Class) (from end : ℕ) → HasNoFormatting cs from end → (sought ≡ true → end ≡ from) → ArePassed sought cs from end
+passed_by_fours true cs from end none seeks p low high = let e = seeks refl in absurd (omega arith)
+passed_by_fours false cs from end none seeks p low high = rw (none p low high) refl
+
+none_of : (a b c : Bool) → not ((a || b) || c) ≡ true → (a ≡ false) × (b ≡ false) × (c ≡ false)
+none_of true b c h = absurd (cc)
+none_of false true c h = absurd (cc)
+none_of false false true h = absurd (cc)
+none_of false false false h = (refl, refl, refl)
+
+-- what a class that is passed is not
+pub record IsNoStop (sought : Bool) (c : Class) : Type 0 where
+  pub initiator_is : is_isolate_initiator c ≡ false
+  pub pdi_is : is_pdi c ≡ false
+  pub strong_is : (sought && is_strong c) ≡ false
+
+pub no_stop : (sought : Bool) (c : Class) → is_passed sought c ≡ true → IsNoStop sought c
+no_stop sought c h =
+    let parts = none_of (is_isolate_initiator c) (is_pdi c) (sought && is_strong c) h in
+    record { initiator_is = parts.0; pdi_is = parts.1; strong_is = parts.2 }
+
+-- after what is passed
+pub filling_passed : (cs : List Class) (sought : Bool) (from end depth room : ℕ) (partners : List (Option ℕ)) (openers : List ℕ) → IsFilling cs from depth room partners openers → ArePassed sought cs from end → end ≤ length cs → (n : ℕ) → from + n ≤ end → IsFilling cs (from + n) depth room (without_partners from n partners) openers
+filling_passed cs sought from end depth room partners openers now passed inside zero h = let e : from + 0 ≡ from = omega arith in rw e now
+filling_passed cs sought from end depth room partners openers now passed inside (suc n) h =
+    let e : from + suc n ≡ from + n + 1 = omega arith in
+    let no = no_stop sought (class_at cs (from + n)) (passed (from + n) (omega arith) (omega arith)) in
+    rw e (filling_other cs (from + n) depth room (without_partners from n partners) openers (filling_passed cs sought from end depth room partners openers now passed inside n (omega arith)) (omega arith) no.initiator_is no.pdi_is)
+
+pub filling_passed_all : (cs : List Class) (sought : Bool) (from end depth room : ℕ) (partners : List (Option ℕ)) (openers : List ℕ) → IsFilling cs from depth room partners openers → ArePassed sought cs from end → end ≤ length cs → from ≤ end → IsFilling cs end depth room (without_partners from (end - from) partners) openers
+filling_passed_all cs sought from end depth room partners openers now passed inside low =
+    let whole : from + (end - from) ≡ end = omega arith in
+    rw whole at (filling_passed cs sought from end depth room partners openers now passed inside (end - from) (omega arith))

@@ -1,0 +1,84 @@
+-- The first strong classes that were noted, after positions that the walk passes.
+use Rattle.std.proofs.Common.{◌≡◌, ℕ, zero, suc, ◌+◌, ◌-◌, ◌<◌, ◌≤◌, Bool, true, false, List, length, get_or, set, Option, inl, inr, refl, sym, ap, ◌∙◌, arith}
+use Rattle.std.proofs.lemmas.Bool.{cases_Bool}
+use Rattle.std.proofs.lemmas.List.{set-get_or, get_or-set_same}
+use Rattle.std.specs.Prelude.{◌&&◌, not}
+use Rattle.units.specs.Classes.{class_at, is_strong}
+use Rattle.units.specs.Classes.{is_right_to_left as is_class_right_to_left}
+use Rattle.units.specs.declared.class.Class.{Class}
+use Rattle.explicit.specs.Sides.{noted, noted_at, strong_side}
+use Rattle.explicit.specs.Stops.{ArePassed, IsNextStop, without_partners}
+use Rattle.explicit.specs.declared.side.Side.{Side}
+use Rattle.explicit.specs.declared.side.Side.TheVariants.{Unknown, LeftToRight, RightToLeft}
+use Rattle.explicit.proofs.Matched.Filling.{IsFilling}
+use Rattle.explicit.proofs.Matched.Stops.{no_stop, filling_passed, filling_passed_all}
+use Rattle.explicit.proofs.StrongSides.Sides.{AreNoted, noted_weak, noted_strong}
+
+-- the first strong class is noted in the last of the open isolates, or outside of all where none is open
+pub record IsFound (depth : ℕ) (s : ℕ → ℕ) (sides : List Side) (outside : Side) : Type 0 where
+  pub outside_is : depth ≡ 0 → outside ≡ Unknown → ⊥
+  pub inside_is : (d : ℕ) → depth ≡ d + 1 → get_or sides (s d) Unknown ≡ Unknown → ⊥
+
+-- it stays as it is
+noted_again : (side : Side) (c : Class) → (side ≡ Unknown → ⊥) → noted side c ≡ side
+noted_again Unknown c known = absurd (known refl)
+noted_again LeftToRight c known = refl
+noted_again RightToLeft c known = refl
+
+strong_side_known : (c : Class) → strong_side c ≡ Unknown → ⊥
+strong_side_known c e = elim (cases_Bool (is_class_right_to_left c)) [
+  | inl t ↦ let no : RightToLeft ≡ Unknown = rw t at e in absurd (cc)
+  | inr f ↦ let no : LeftToRight ≡ Unknown = rw f at e in absurd (cc)
+]
+
+pub noted_known : (side : Side) (c : Class) → noted side c ≡ Unknown → ⊥
+noted_known Unknown c e = strong_side_known c e
+noted_known LeftToRight c e = absurd (cc)
+noted_known RightToLeft c e = absurd (cc)
+
+pub is_not : (b : Bool) → not b ≡ false → b ≡ true
+is_not true e = refl
+is_not false e = absurd (cc)
+
+not_sought : (sought : Bool) (c : Class) → (sought && is_strong c) ≡ false → is_strong c ≡ true → sought ≡ false
+not_sought false c h strong = refl
+not_sought true c h strong = absurd (cc)
+
+pub noted_passed : (cs : List Class) (sought : Bool) (from end depth room : ℕ) (partners : List (Option ℕ)) (openers : List ℕ) (sides : List Side) (outside : Side) → IsFilling cs from depth room partners openers → ArePassed sought cs from end → end ≤ length cs → length sides ≡ room → (sought ≡ false → IsFound depth (λ a. get_or openers a 0) sides outside) → AreNoted cs from sides outside → (n : ℕ) → from + n ≤ end → AreNoted cs (from + n) sides outside
+noted_passed cs sought from end depth room partners openers sides outside now passed inside fit found noted' zero h = let e : from + 0 ≡ from = omega arith in rw e noted'
+noted_passed cs sought from end depth room partners openers sides outside now passed inside fit found noted' (suc n) h =
+    let e : from + suc n ≡ from + n + 1 = omega arith in
+    let class : Class = class_at cs (from + n) in
+    let no = no_stop sought class (passed (from + n) (omega arith) (omega arith)) in
+    let before = noted_passed cs sought from end depth room partners openers sides outside now passed inside fit found noted' n (omega arith) in
+    let filling = filling_passed cs sought from end depth room partners openers now passed inside n (omega arith) in
+    let enough = filling.enough in
+    rw e (elim (cases_Bool (is_strong class)) [
+      | inl strong ↦
+          let known = found (not_sought sought class no.strong_is strong) in
+          noted_strong cs (from + n) depth (λ a. get_or openers a 0) class sides sides outside outside before (omega arith) (omega (arith, enough, fit)) filling.pass.stack refl strong
+          (λ z. (sym (noted_again outside class (known.outside_is z)), refl))
+          (λ d z. (refl, sym (ap (set sides (get_or openers d 0)) (noted_again (get_or sides (get_or openers d 0) Unknown) class (known.inside_is d z)) ∙ set-get_or sides (get_or openers d 0) Unknown)))
+      | inr weak ↦ noted_weak before weak no.initiator_is
+    ])
+
+pub noted_passed_all : (cs : List Class) (sought : Bool) (from end depth room : ℕ) (partners : List (Option ℕ)) (openers : List ℕ) (sides : List Side) (outside : Side) → IsFilling cs from depth room partners openers → ArePassed sought cs from end → end ≤ length cs → length sides ≡ room → (sought ≡ false → IsFound depth (λ a. get_or openers a 0) sides outside) → AreNoted cs from sides outside → from ≤ end → AreNoted cs end sides outside
+noted_passed_all cs sought from end depth room partners openers sides outside now passed inside fit found noted' low =
+    let whole : from + (end - from) ≡ end = omega arith in
+    rw whole at (noted_passed cs sought from end depth room partners openers sides outside now passed inside fit found noted' (end - from) (omega arith))
+
+-- a strong class that was noted there is found
+pub found_strong : (depth : ℕ) (s : ℕ → ℕ) (class : Class) (sides new : List Side) (outside found : Side) → (depth ≡ 0 → (found ≡ noted outside class) × (new ≡ sides)) → ((d : ℕ) → depth ≡ d + 1 → (found ≡ outside) × (new ≡ noted_at sides (s d) class)) → ((d : ℕ) → depth ≡ d + 1 → s d < length sides) → IsFound depth s new found
+found_strong depth s class sides new outside found none some within = record {
+  outside_is = λ z e. noted_known outside class (sym (none z).0 ∙ e);
+  inside_is = λ d z e. noted_known (get_or sides (s d) Unknown) class (sym (ap (λ (xs : List Side). get_or xs (s d) Unknown) (some d z).1 ∙ get_or-set_same sides (s d) (noted (get_or sides (s d) Unknown) class) Unknown (within d z)) ∙ e);
+}
+
+-- what is known at the next stop
+pub at_stop : (cs : List Class) (sought : Bool) (from p depth room : ℕ) (partners : List (Option ℕ)) (openers : List ℕ) (sides : List Side) (outside : Side) → IsFilling cs from depth room partners openers → length sides ≡ room → (sought ≡ false → IsFound depth (λ a. get_or openers a 0) sides outside) → AreNoted cs from sides outside → IsNextStop sought cs from p →
+    IsFilling cs p depth room (without_partners from (p - from) partners) openers × AreNoted cs p sides outside
+at_stop cs sought from p depth room partners openers sides outside now fit found noted' stop =
+    let inside = stop.within in (
+      filling_passed_all cs sought from p depth room partners openers now stop.first (omega (arith, inside)) stop.later,
+      noted_passed_all cs sought from p depth room partners openers sides outside now stop.first (omega (arith, inside)) fit found noted' stop.later,
+    )
