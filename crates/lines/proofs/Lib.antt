@@ -31,6 +31,7 @@ pub mod RunLinking
 pub mod RunWriting
 pub mod LineAlone
 pub mod ParagraphFound
+pub mod OneUnit
 pub mod OrderAlone
 pub mod LineHeld
 pub mod KnownLevels

@@ -1,10 +1,12 @@
 //! The paragraph levels and the resolved levels of a text (P1 to I2), and where its lines end.
-ghost use Rattle.std.specs.Prelude.{◌≡◌, ◌<◌, ◌≤◌, ◌+◌, ◌*◌, ◌^◌, length, map, true};
+ghost use Rattle.std.specs.Prelude.{◌≡◌, ◌<◌, ◌≤◌, ◌+◌, ◌*◌, ◌^◌, [], ◌∷◌, false, length, map, true};
 ghost use Rattle.units.specs.Isolates.{level_of_para};
 ghost use Rattle.units.specs.Layout.{para_levels_of, text_levels};
+ghost use Rattle.lines.specs.Bounds.{bound_at, first_bound};
 ghost use Rattle.lines.specs.Columns.{levels_filled, para_ends_filled, paras_filled, HasTextRoom, KeepsTextRoom};
 ghost use Rattle.lines.specs.Kept.{keeps_levels};
 ghost use Rattle.lines.specs.LineEnds.{AreAllLineEnds, AreAllParagraphEnds};
+ghost use Rattle.lines.specs.OneUnit.{IsResolved};
 ghost use Rattle.lines.specs.Spaces.{StaysAtParas};
 ghost use Rattle.lines.specs.StepBounds.{light_text_steps, text_steps};
 
@@ -13,6 +15,7 @@ use crate::breaks::Breaks;
 use crate::columns::TextColumns;
 use crate::cutting::{cut_paragraph, start_cut};
 use paragraph::contents::FirstParagraph;
+use paragraph::one_unit::{KeptUnit, kept_unit};
 use paragraph::resolver::Resolver;
 use std::sync::ledger::Ledger;
 use units::bracket::Unit;
@@ -32,10 +35,61 @@ pub struct ResolvedText {
     pub uniform: bool,
 }
 
-/// Writes the levels of a text's paragraphs, their ends and the resolved levels of its positions to the fronts of their
-/// columns, paragraph by paragraph, by these limits; and the ends of its lines, of which one is at the end of each
-/// paragraph, to the front of `bounds`.
-pub(crate) fn resolve_text<L: Ledger>(
+/// Writes the levels of a paragraph of one unit, its end, and that of its line, to the fronts of their columns.
+fn write_unit(kept: KeptUnit, columns: &mut TextColumns, bounds: &mut [Bound])
+    requires room { HasTextRoom columns.old 1 }
+    requires bounds { 1 < length bounds.old }
+    ensures room { KeepsTextRoom columns.old columns.new }
+    ensures paras { paras_filled 1 columns.new ≡ kept.para ∷ [] }
+    ensures para_ends { para_ends_filled 1 columns.new ≡ 1 ∷ [] }
+    ensures levels { levels_filled 1 columns.new ≡ kept.level ∷ [] }
+    ensures first { bound_at bounds.new 0 ≡ first_bound }
+    ensures last { (bound_at bounds.new 1).position ≡ 1 }
+{
+    columns.paras[0] = kept.para;
+    columns.para_ends[0] = 1;
+    columns.levels[0] = kept.level;
+    bounds[0] = Bound {
+        position: 0,
+        order: 0,
+    };
+    bounds[1] = Bound {
+        position: 1,
+        order: 0,
+    };
+}
+
+/// What `resolve_text` does for a text of one unit that keeps its paragraph's level: its paragraph, its class, its
+/// line and its level are a step each. Where the unit may leave that level, it answers so, and does nothing.
+#[inline(always)]
+fn resolve_unit<L: Ledger>(
+    text: &[Unit],
+    direction: Direction,
+    columns: &mut TextColumns,
+    bounds: &mut [Bound],
+    steps: &mut Steps<L>,
+) -> bool
+    requires one { length text.now ≡ 1 }
+    requires room { HasTextRoom columns.old 1 }
+    requires bounds { 1 < length bounds.old }
+    ensures known { result ≡ keeps_levels text.now direction }
+    ensures room { KeepsTextRoom columns.old columns.new }
+    ensures resolved { result ≡ true → IsResolved text.now direction (paras_filled 1 columns.new)
+        (para_ends_filled 1 columns.new) (levels_filled 1 columns.new) bounds.new }
+    ensures steps { result ≡ true → steps.new ≡ steps.old + 4 }
+    ensures left { result ≡ false → columns.new ≡ columns.old }
+    ensures no_steps { result ≡ false → steps.new ≡ steps.old }
+{
+    let Some(kept) = kept_unit(text[0], direction) else {
+        return false;
+    };
+    steps.add(4);
+    write_unit(kept, columns, bounds);
+    true
+}
+
+/// What `resolve_text` does, whatever the text is.
+fn resolve_paragraphs<L: Ledger>(
     text: &[Unit],
     direction: Direction,
     breaks: &Breaks,
@@ -103,4 +157,51 @@ pub(crate) fn resolve_text<L: Ledger>(
         lines: cut.lines,
         uniform,
     }
+}
+
+/// Writes the levels of a text's paragraphs, their ends and the resolved levels of its positions to the fronts of their
+/// columns, paragraph by paragraph, by these limits; and the ends of its lines, of which one is at the end of each
+/// paragraph, to the front of `bounds`.
+pub(crate) fn resolve_text<L: Ledger>(
+    text: &[Unit],
+    direction: Direction,
+    breaks: &Breaks,
+    limits: Limits,
+    resolver: &mut Resolver,
+    columns: &mut TextColumns,
+    bounds: &mut [Bound],
+    steps: &mut Steps<L>,
+) -> ResolvedText
+    requires len { breaks.now.len ≡ length text.now }
+    requires small { length text.now < 2 ^ 32 }
+    requires resolver { length text.now ≤ resolver.old }
+    requires room { HasTextRoom columns.old (length text.now) }
+    requires bounds { length text.now < length bounds.old }
+    ensures resolver { resolver.new ≡ resolver.old }
+    ensures room { KeepsTextRoom columns.old columns.new }
+    ensures paras { map level_of_para (paras_filled result.paragraphs columns.new)
+        ≡ para_levels_of text.now direction }
+    ensures para_ends { AreAllParagraphEnds text.now (para_ends_filled result.paragraphs columns.new) }
+    ensures few { result.paragraphs ≤ length text.now }
+    ensures levels { levels_filled (length text.now) columns.new ≡ text_levels limits text.now direction }
+    ensures ends { AreAllLineEnds text.now breaks.now.positions result.lines bounds.new }
+    ensures few_lines { result.lines ≤ length text.now }
+    ensures known { result.uniform ≡ keeps_levels text.now direction }
+    ensures uniform { result.uniform ≡ true
+        → StaysAtParas text.now (paras_filled result.paragraphs columns.new)
+        (levels_filled (length text.now) columns.new) }
+    ensures at_least { steps.old + 2 * length text.now + result.paragraphs + result.lines ≤ steps.new }
+    ensures at_most { steps.new ≤ steps.old + text_steps * length text.now }
+    ensures light { result.uniform ≡ true → steps.new ≤ steps.old + light_text_steps * length text.now }
+{
+    if text.len() == 1 && resolve_unit(text, direction, columns, bounds, steps) {
+        return ResolvedText {
+            paragraphs: 1,
+            lines: 1,
+            uniform: true,
+        };
+    }
+    resolve_paragraphs(
+        text, direction, breaks, limits, resolver, columns, bounds, steps,
+    )
 }

@@ -7,3 +7,4 @@ pub mod ClassKinds
 pub mod Scan
 pub mod FirstSides
 pub mod Unresolved
+pub mod OneUnit

@@ -1,5 +1,5 @@
 //! What a paragraph contains, which tells the rules that have nothing to do in it; and where it ends.
-ghost use Rattle.std.specs.Prelude.{◌≡◌, ◌+◌, ◌<◌, ◌≤◌, List, Some, drop, find, length, take};
+ghost use Rattle.std.specs.Prelude.{◌≡◌, ◌+◌, ◌<◌, ◌≤◌, List, [], ◌∷◌, Some, drop, find, length, take};
 ghost use Rattle.std.specs.List.{list_all, list_any};
 ghost use Rattle.units.specs.Classes.{classes_of, is_initiator, is_removed, is_strong};
 ghost use Rattle.units.specs.Isolates.{level_of_para};
@@ -76,6 +76,21 @@ fn may_rise_at_odd(classes: ClassSet) -> bool
 }
 
 impl Contents {
+    /// What a paragraph of one unit of this class contains.
+    pub(crate) fn of_class(class: Class) -> Contents
+        ensures { Describes result (class ∷ []) }
+    {
+        let side = if class.is_strong() {
+            Side::Unknown.noting(class)
+        } else {
+            Side::Unknown
+        };
+        Contents {
+            classes: ClassSet::none().with(class),
+            side,
+        }
+    }
+
     /// No initiator: X1 to X9 leave all positions that remain at the paragraph's level.
     pub fn is_flat(&self) -> bool
         ensures { (cs : List BidiClass) → Describes self.now cs → result ≡ are_flat cs }

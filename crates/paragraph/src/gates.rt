@@ -88,7 +88,7 @@ pub fn find_sequences<L: Ledger>(
 }
 
 /// X9: this level, or none for a class that is removed, as no class of the paragraph is if `all_remain`.
-fn kept_level(all_remain: bool, level: Level, class: Class) -> Option<Level>
+pub fn kept_level(all_remain: bool, level: Level, class: Class) -> Option<Level>
     requires { all_remain ≡ true → is_removed class ≡ false }
     ensures { result ≡ kept_level level class }
 {

@@ -6,5 +6,6 @@ pub mod contents;
 mod found;
 mod gates;
 pub mod laws;
+pub mod one_unit;
 pub mod resolver;
 mod rooms;

@@ -1,150 +1,18 @@
-use Rattle.std.proofs.Common.{arith, rules, ap, sym, ◌∙◌, subst, ◌≡◌, ◌<◌, ◌≤◌, ◌+◌, ◌-◌, ◌++◌, ◌∷◌, [], ℕ, Bool, List, Option, length, take, drop, refl}
-use Rattle.std.specs.List.{list_all}
-use Rattle.std.specs.Prelude.{◌&&◌, slice_range}
-use Rattle.std.proofs.Math.Bool.{and-true, and_assoc}
-use Rattle.std.proofs.lemmas.Bool.{and_parts}
-use Rattle.std.proofs.lemmas.List.{drop_all, drop-drop, length-drop, length-map, length-take-le, take_more_set, take_rest, with_items_is}
-use Rattle.std.proofs.lemmas.Slice.{take-put_mid}
+use Rattle.std.proofs.Common.{arith, sym, ◌∙◌, ◌≡◌, List, length, true}
+use Rattle.units.specs.Paragraphs.{paragraphs_of}
 use Rattle.units.specs.declared.bracket.Unit.{Unit as BidiUnit}
-use Rattle.units.specs.Paragraphs.{paragraphs_of, SeparatorOnlyLast}
-use Rattle.units.specs.declared.level.Direction.{Direction}
-use Rattle.explicit.specs.FirstParagraph.{first_length}
-use Rattle.explicit.proofs.LevelsFound.OneCutting.{paragraphs_of_split}
-use Rattle.units.specs.Classes.{classes_of}
-use Rattle.paragraph.specs.Contents.{keeps_level}
-use Rattle.lines.specs.Kept.{keeps_levels, keeps_own_level}
+use Rattle.lines.specs.Kept.{keeps_levels}
 use Rattle.lines.proofs.AtParas.{all_stay, text_at_paras}
-use Rattle.lines.specs.LineBreaks.{AreBreaks}
-use Rattle.lines.specs.LineEnds.{AreLineEnds, AreParagraphEnds, ArePassed}
-use Rattle.lines.proofs.LineEnds.{ends_none}
-use Rattle.lines.proofs.NextLine.{passed_none}
-use Rattle.lines.proofs.ParagraphFound.{paragraph_ends_more, paragraph_ends_none}
-use Rattle.lines.proofs.ParagraphLines.{paragraph_from}
-use Rattle.lines.proofs.TextLevels.{IsWritten, written_none, separator_last, written_to, written_paras, written_levels}
 use Rattle.lines.proofs.resolving.resolve_text.Goals as goal
 
--- the first paragraph of what is left, and what is left behind it
-next_piece : (text : List BidiUnit) (start n : ℕ) → start < length text → n ≡ first_length (drop start text) →
-    paragraphs_of (drop start text) ≡ take n (drop start text) ∷ paragraphs_of (drop (start + n) text)
-next_piece text start n lt e =
-    let rest : List BidiUnit = drop start text in
-    paragraphs_of_split rest (omega (arith, length-drop start text))
-    ∙ ap (λ (k : ℕ). take k rest ∷ paragraphs_of (drop k rest)) (sym e)
-    ∙ ap (λ (us : List BidiUnit). take n rest ∷ paragraphs_of us) (drop-drop n start text)
+pub returns-then-resolve_unit-clause-ends : goal.returns-then-resolve_unit-clause-ends
+returns-then-resolve_unit-clause-ends g c = (c.resolve_unit.ensures.resolved c.if-resolve_unit.true).line c.args.breaks.now.positions
 
-pub loop-start-init : goal.loop-start-init
-loop-start-init g c = record {
-  written = written_none c.args.limits c.args.text.now c.args.direction c.deref_mut-levels.result.now;
-  known = refl;
-  passed = subst (λ n. ArePassed c.positions-at.result.now n 0) (sym c.start_cut-cut.ensures.passed) (passed_none c.positions-at.result.now c.args.breaks.now.len c.positions-at.ensures.breaks);
-  ends =
-      subst (λ n. AreLineEnds (classes_of c.args.text.now) c.positions-at.result.now n 0 c.start_cut-cut.new.bounds) (sym c.start_cut-cut.ensures.lines)
-      (ends_none (classes_of c.args.text.now) c.positions-at.result.now c.start_cut-cut.new.bounds c.start_cut-cut.ensures.first);
-  para_ends = paragraph_ends_none (classes_of c.args.text.now);
-  few_passed = omega (arith, c.start_cut-cut.ensures.passed);
-  few_lines = omega (arith, c.start_cut-cut.ensures.lines);
-  few = omega arith;
-  inside = omega arith;
-  resolver = search rules;
-  at_least = omega (arith, c.start_cut-cut.ensures.lines);
-  at_most = omega arith;
-  light = λ known. omega arith;
-}
-
--- the first paragraph, as a slice of the text
-piece_is : (text : List BidiUnit) (start n end : ℕ) → end ≡ start + n → slice_range text start end ≡ take n (drop start text)
-piece_is text start n end e = let m : end - start ≡ n = omega arith in ap (λ (k : ℕ). take k (drop start text)) m
-
-pub cut_paragraph-cut-requires-clause-breaks : goal.cut_paragraph-cut-requires-clause-breaks
-cut_paragraph-cut-requires-clause-breaks g c = subst (AreBreaks c.positions-at.result.now) c.requires.len c.positions-at.ensures.breaks
-
-pub resolve_known-resolved-requires-clause-separators : goal.resolve_known-resolved-requires-clause-separators
-resolve_known-resolved-requires-clause-separators g c =
-    let l = c.loop-start in
+pub returns-then-resolve_unit-clause-uniform : goal.returns-then-resolve_unit-clause-uniform
+returns-then-resolve_unit-clause-uniform g c = λ known.
     let text : List BidiUnit = c.args.text.now in
-    let n : ℕ = c.of-first.result.length in
-    let P : List (List BidiUnit) → Type 0 = λ pieces. IsWritten c.args.limits text c.args.direction l.start (take l.paragraphs l.paras) l.levels pieces in
-    let w : P (take n (drop l.start text) ∷ paragraphs_of (drop (l.start + n) text)) = subst P (next_piece text l.start n c.loop-start-test.true (c.of-first.ensures.first.length ∙ ap first_length (take_rest text l.start))) l.invariant.written in
-    subst SeparatorOnlyLast (sym (piece_is text l.start n (l.start + n) refl)) (separator_last w)
-
-pub loop-start-preserved : goal.loop-start-preserved
-loop-start-preserved g c =
-    let l = c.loop-start in
-    let text : List BidiUnit = c.args.text.now in
-    let direction : Direction = c.args.direction in
-    let n : ℕ = c.of-first.result.length in
-    let end : ℕ = l.start + n in
-    let para : List BidiUnit = slice_range text l.start end in
-    let known = c.resolve_known-resolved in
-    let some : 0 < n = c.of-first.ensures.some (omega (arith, length-drop l.start text, ap length (take_rest text l.start))) in
-    let within : n ≤ length text - l.start = omega (arith, c.of-first.ensures.within, length-drop l.start text, ap length (take_rest text l.start)) in
-    let split : paragraphs_of (drop l.start text) ≡ para ∷ paragraphs_of (drop end text) =
-    next_piece text l.start n c.loop-start-test.true (c.of-first.ensures.first.length ∙ ap first_length (take_rest text l.start))
-    ∙ ap (λ (us : List BidiUnit). us ∷ paragraphs_of (drop end text)) (sym (piece_is text l.start n end refl)) in
-    let long : length para ≡ n = ap length (piece_is text l.start n end refl) ∙ length-take-le n (drop l.start text) (omega (arith, length-drop l.start text)) in
-    let P : List (List BidiUnit) → Type 0 = λ pieces. IsWritten c.args.limits text direction l.start (take l.paragraphs l.paras) l.levels pieces in
-    let w : P (para ∷ paragraphs_of (drop end text)) = subst P split l.invariant.written in
-    let room : l.paragraphs < length l.paras = omega (arith, l.auto.paras, l.invariant.few, ap length c.deref_mut-paras.ensures.value, c.requires.room.paras) in
-    let keeps : List BidiUnit → Bool = keeps_own_level direction in
-    let ends_room : l.paragraphs < length l.para_ends = omega (arith, l.auto.para_ends, l.invariant.few, ap length c.deref_mut-para_ends.ensures.value, c.requires.room.para_ends) in
-    let next = paragraph_from text l.start n c.loop-start-test.true (c.of-first.ensures.first.length ∙ ap first_length (take_rest text l.start)) some within in
-    record {
-      written =
-          rw (take_more_set l.paras l.paragraphs known.result.level room)
-          (written_to w end known.result.level _ (omega (arith, long)) known.ensures.level
-          (take-put_mid l.start _ l.levels known.new.levels end (omega arith) (omega arith)
-          ∙ ap (λ (xs : List (Option ℕ)). take l.start l.levels ++ xs) known.ensures.levels));
-      known =
-          and_assoc l.uniform known.result.uniform (list_all keeps (paragraphs_of (drop end text)))
-          ∙ ap (λ b. l.uniform && (b && list_all keeps (paragraphs_of (drop end text)))) (known.ensures.known ∙ ap (λ n. keeps_level n (classes_of para)) known.ensures.level)
-          ∙ ap (λ pieces. l.uniform && list_all keeps pieces) (sym split)
-          ∙ l.invariant.known;
-      passed = c.cut_paragraph-cut.ensures.passed;
-      ends =
-          c.cut_paragraph-cut.ensures.ends (classes_of text) (length-map text (λ u. u.class))
-          next l.invariant.ends;
-      para_ends = rw (take_more_set l.para_ends l.paragraphs end ends_room) (paragraph_ends_more (classes_of text) (take l.paragraphs l.para_ends) l.start end l.invariant.para_ends next);
-      few_passed = c.cut_paragraph-cut.ensures.few_passed;
-      few_lines = omega (arith, c.cut_paragraph-cut.ensures.few_lines);
-      few = omega (arith, l.invariant.few);
-      inside = omega arith;
-      resolver = search rules;
-      at_least = omega (arith, long);
-      at_most = omega (arith, long);
-      light = λ both.
-          let parts = and_parts l.uniform known.result.uniform both in
-          omega (arith, long, some, l.invariant.light parts.0, known.ensures.light parts.1);
-    }
-
--- at the text's end no paragraph is left
-known_whole : (text : List BidiUnit) (direction : Direction) (start : ℕ) (uniform : Bool) → drop start text ≡ [] → (uniform && list_all (keeps_own_level direction) (paragraphs_of (drop start text))) ≡ keeps_levels text direction → uniform ≡ keeps_levels text direction
-known_whole text direction start uniform done known =
-    sym (and-true uniform) ∙ ap (λ us. uniform && list_all (keeps_own_level direction) (paragraphs_of us)) (sym done) ∙ known
-
-pub returns-clause-known : goal.returns-clause-known
-returns-clause-known g c =
-    let l = c.loop-start in
-    known_whole c.args.text.now c.args.direction l.start l.uniform (drop_all l.start c.args.text.now (omega arith)) l.invariant.known
-
-pub returns-clause-uniform : goal.returns-clause-uniform
-returns-clause-uniform g c = λ e.
-    let l = c.loop-start in
-    let text : List BidiUnit = c.args.text.now in
-    let direction : Direction = c.args.direction in
-    let done : drop l.start text ≡ [] = drop_all l.start text (omega arith) in
-    let P : List (List BidiUnit) → Type 0 = λ pieces. IsWritten c.args.limits text direction l.start (take l.paragraphs l.paras) l.levels pieces in
-    let w : P [] = subst P (ap paragraphs_of done) l.invariant.written in
-    let room = c.args.columns.now in
-    let as_paras : length l.paras ≡ room.paras.items.len = search rules in
-    let as_levels : length l.levels ≡ room.levels.items.len = search rules in
-    rw (with_items_is room.paras.items l.paras as_paras, with_items_is room.levels.items l.levels as_levels, written_paras w, written_levels w)
-    (text_at_paras c.args.limits direction text (all_stay c.args.limits direction (paragraphs_of text) (sym (known_whole text direction l.start l.uniform done l.invariant.known) ∙ e)))
-
-pub returns-clause-para_ends : goal.returns-clause-para_ends
-returns-clause-para_ends g c =
-    let l = c.loop-start in
-    let room = c.args.columns.now in
-    let done : l.start ≡ length c.args.text.now = omega arith in
-    let as_ends : length l.para_ends ≡ room.para_ends.items.len = search rules in
-    rw (with_items_is room.para_ends.items l.para_ends as_ends)
-    (subst (AreParagraphEnds (classes_of c.args.text.now) (take l.paragraphs l.para_ends)) done l.invariant.para_ends)
+    let found = c.resolve_unit.ensures.resolved c.if-resolve_unit.true in
+    let one : length text ≡ 1 = omega arith in
+    let keeps : keeps_levels text c.args.direction ≡ true = sym c.resolve_unit.ensures.known ∙ c.if-resolve_unit.true in
+    rw (one, found.paras_are, found.levels_are c.args.limits)
+    (text_at_paras c.args.limits c.args.direction text (all_stay c.args.limits c.args.direction (paragraphs_of text) keeps))

@@ -7,7 +7,7 @@ use Rattle.lines.specs.Kept.{keeps_levels, keeps_own_level}
 use Rattle.lines.specs.LineEnds.{AreLineEnds, AreParagraphEnds, ArePassed}
 use Rattle.lines.specs.StepBounds.{light_text_steps, text_steps}
 use Rattle.lines.proofs.TextLevels.{IsWritten}
-use Rattle.lines.proofs.resolving.resolve_text.Given as goal
+use Rattle.lines.proofs.resolving.resolve_paragraphs.Given as goal
 
 abbrev pub invariant-loop-start : goal.invariant-loop-start
 invariant-loop-start g l = record {

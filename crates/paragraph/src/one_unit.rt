@@ -1,0 +1,35 @@
+//! A paragraph of one unit, which most classes leave at the paragraph's level (P2 to I2).
+ghost use Rattle.std.specs.Prelude.{◌≡◌, false, MatchOption};
+ghost use Rattle.paragraph.specs.OneUnit.{IsKept, keeps_unit};
+
+use crate::contents::Contents;
+use crate::gates::kept_level;
+use explicit::para_level::level_under;
+use units::bracket::Unit;
+use units::level::{Direction, Level, ParaLevel};
+
+/// The levels of a paragraph of one unit that keeps the paragraph's level.
+#[derive(Clone, Copy)]
+pub struct KeptUnit {
+    /// The paragraph's (P2, P3).
+    pub para: ParaLevel,
+    /// The unit's resolved one (X1 to I2), none where X9 removes it.
+    pub level: Option<Level>,
+}
+
+/// The levels of a paragraph of this unit alone, or none where the unit does not keep the paragraph's level.
+#[inline(always)]
+pub fn kept_unit(unit: Unit, direction: Direction) -> Option<KeptUnit>
+    ensures { MatchOption result (keeps_unit direction unit ≡ false) (IsKept direction unit) }
+{
+    let contents = Contents::of_class(unit.class);
+    if !contents.is_flat() {
+        return None;
+    }
+    let para = level_under(direction, contents.side());
+    if !contents.keeps(para) {
+        return None;
+    }
+    let level = kept_level(false, para.level(), unit.class);
+    Some(KeptUnit { para, level })
+}
