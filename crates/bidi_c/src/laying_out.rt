@@ -13,6 +13,8 @@ use bidi_held::limits::BidiLimits;
 use bidi_held::refusal::{Refusal, answer, status};
 use units::limits::Limits;
 
+// Inlined, a call on a short text takes fewer instructions.
+#[inline(always)]
 fn lay_out(
     room: &mut BidiHandle,
     tables: &mut BidiHandle,

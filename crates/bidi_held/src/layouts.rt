@@ -23,6 +23,8 @@ pub fn direction_numbered(number: u32) -> Option<Direction>
 }
 
 /// Lays out a text of code points by these limits, if these are a room and tables and the number is a direction.
+// Inlined, a call on a short text takes fewer instructions.
+#[inline(always)]
 pub fn lay_out_held(
     room: &mut Held,
     tables: &Held,

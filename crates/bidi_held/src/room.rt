@@ -252,6 +252,8 @@ impl Room {
 
     /// Lays out the text of these code points by these limits. Its length is looked at first, then the breaks, then
     /// the code points. A room that refuses a text still holds the former one.
+    // Inlined, a call on a short text takes fewer instructions.
+    #[inline(always)]
     pub fn lay_out(
         &mut self,
         tables: &Tables,
