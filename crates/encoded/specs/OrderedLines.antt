@@ -4,9 +4,10 @@ use Rattle.units.specs.Layout.{LineLayout, TextLayout}
 use Rattle.units.specs.Reordering.{line_order}
 use Rattle.lines.specs.Layouts.{line_at}
 
--- L2: the line has the order of its levels
-abbrev pub HasOrder : List (Option ℕ) → LineLayout → Type 0
-HasOrder levels line = line.order ≡ line_order levels line.start line.end
+-- L2: the line begins within the text, and has the order of its levels
+pub record HasOrder (levels : List (Option ℕ)) (line : LineLayout) : Type 0 where
+  pub begins : line.start < length levels
+  pub ordered : line.order ≡ line_order levels line.start line.end
 
 -- L2: each line of the layout has
 abbrev pub LinesHaveOrder : TextLayout → Type 0

@@ -25,7 +25,7 @@ use std::mem::swap;
 use ucdfiles::tables::Tables;
 use units::bracket::{Bracket, Unit};
 use units::class::Class;
-use units::level::Direction;
+use units::level::{Direction, ParaLevel};
 use units::limits::Limits;
 
 /// Room for texts in code units and their layouts, to be used again and again: 113 bytes for each code unit of room.
@@ -98,6 +98,7 @@ impl Room {
     ghost use Rattle.ucdfiles.specs.Tables.{TablesOf};
     ghost use Rattle.lines.specs.Layouts.{view_of};
     ghost use Rattle.lines.specs.LineBreaks.{AreBreaks};
+    ghost use Rattle.lines.specs.ParaLevels.{HasParaLevelAt};
     ghost use Rattle.lines.specs.Scratches.{room_of, layout_in};
     ghost use Rattle.encoded.specs.Decoded.{AreDecoded};
     ghost use Rattle.encoded.specs.Encodings.{utf16_text, utf8_text, IsUtf16};
@@ -115,6 +116,7 @@ impl Room {
         ensures made { IfOk result (λ room. room_for room ≡ n) }
         ensures empty { IfOk result (λ room. layout_held room ≡ layout_of standard [] Auto []) }
         ensures holds { IfOk result (λ room. Holds room []) }
+        ensures held { (tables : TablesOf) → IfOk result (HoldsTextBy standard tables [] Auto) }
         ensures too_big { (result ≡ Err RoomFault.TooBig) ↔ (longest_text < n) }
     {
         if n > MOST {
@@ -129,6 +131,7 @@ impl Room {
         ensures made { IfOk result (λ room. room_for room ≡ n) }
         ensures empty { IfOk result (λ room. layout_held room ≡ layout_of standard [] Auto []) }
         ensures holds { IfOk result (λ room. Holds room []) }
+        ensures held { (tables : TablesOf) → IfOk result (HoldsTextBy standard tables [] Auto) }
     {
         let units = unit_column(alloc, n)?;
         let spare_units = unit_column(alloc, n)?;
@@ -161,6 +164,15 @@ impl Room {
         ensures { view_of result ≡ layout_held self.now }
     {
         self.scratch.layout()
+    }
+
+    /// The level of the paragraph (P2, P3) in which the character with an index lies, found by a search through the ends
+    /// of the paragraphs.
+    pub fn para_level_at(&self, index: usize) -> ParaLevel
+        requires { index < characters_in self.now }
+        ensures { HasParaLevelAt (units_held self.now).units self.now.direction index result }
+    {
+        self.scratch.para_level_at(index)
     }
 
     /// Lays out the first `count` of the spare units, at breaks that are found; their offsets stand in the spare column.

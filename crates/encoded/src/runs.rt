@@ -27,7 +27,7 @@ pub struct EncodedRun {
 }
 
 /// The line with the number `k` of a layout, in a paragraph of this level.
-fn ordered_line<'a>(layout: &'a Layout<'_>, k: usize, para_level: ParaLevel) -> OrderedLine<'a>
+pub fn ordered_line<'a>(layout: &'a Layout<'_>, k: usize, para_level: ParaLevel) -> OrderedLine<'a>
     requires { k < length (view_of layout.now).lines }
     ensures line { IsOrderedLine (view_of layout.now) k para_level result }
     ensures order { LinesHaveOrder (view_of layout.now) → IsInOrder result }

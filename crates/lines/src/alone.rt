@@ -35,7 +35,7 @@ pub enum SpanFault {
 const SEARCH_STEPS: usize = 25;
 
 /// How many of the ends of paragraphs are not above the position.
-fn count_up_to(ends: &[u32], position: usize) -> usize
+pub(crate) fn count_up_to(ends: &[u32], position: usize) -> usize
     requires { Rises ends.now }
     ensures bound { result ≤ length ends.now }
     ensures below { AllWithin (λ end. end ≤ position) ends.now 0 result }

@@ -4,5 +4,6 @@ pub mod InOrder
 pub mod LevelRuns
 pub mod LineRuns
 pub mod Partition
+pub mod SameCount
 pub mod NextRuns
 pub mod Walked

@@ -25,7 +25,7 @@ extends line run a b r c low high same =
     ]
 
 -- two runs that share a position have the same positions
-same_span : (line : OrderedLine) (run other : VisualRun) (p x : ℕ) → IsLevelRun line run → IsLevelRun line other → Covers run p → Covers other p → Covers run x → Covers other x
+pub same_span : (line : OrderedLine) (run other : VisualRun) (p x : ℕ) → IsLevelRun line run → IsLevelRun line other → Covers run p → Covers other p → Covers run x → Covers other x
 same_span line run other p x r o c d h =
     extends line other p x o d (omega (arith, r.from, h.0)) (omega (arith, r.within, h.1)) (λ q w.
     let inside : Covers run q = elim w [
@@ -46,7 +46,7 @@ stand_at line from (run ∷ runs) to i s a b =
     ]
 
 -- a run, and its place
-run_at : (line : OrderedLine) (from : ℕ) (runs : List VisualRun) (to k : ℕ) → StandFrom line from runs to → k < length runs → (place : ℕ) × (from ≤ place) × IsRunAt line place (run_numbered runs k)
+pub run_at : (line : OrderedLine) (from : ℕ) (runs : List VisualRun) (to k : ℕ) → StandFrom line from runs to → k < length runs → (place : ℕ) × (from ≤ place) × IsRunAt line place (run_numbered runs k)
 run_at line from [] to k s lt = absurd (omega arith)
 run_at line from (run ∷ runs) to zero s lt = (from, omega arith, s.0)
 run_at line from (run ∷ runs) to (suc k) s lt =
