@@ -1,6 +1,15 @@
 pub mod Appending
 pub mod Breaks
 pub mod Codes
+pub mod HeadBreaks
+pub mod HeadColumns
+pub mod HeadLayout
+pub mod HeadLines
+pub mod HeadOrders
+pub mod HeadPrinted
+pub mod HeadResets
+pub mod HeadTexts
 pub mod Passing
 pub mod Printing
 pub mod Showing
+pub mod UnderWay

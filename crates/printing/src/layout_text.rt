@@ -1,10 +1,13 @@
 // The text of `levels`, over the parts of a layout.
-ghost use Rattle.std.specs.Prelude.{◌≡◌, ◌≤◌, length, map, slice_index_or, OnOk};
+ghost use Rattle.std.specs.Prelude.{◌≡◌, ◌≤◌, ◌+◌, length, map, slice_index_or, OnOk};
 ghost use Rattle.std.specs.Io.KnownBytes.{Appends};
 ghost use Rattle.units.specs.Isolates.{level_of_para};
+ghost use Rattle.units.specs.Layout.{longest_text};
 ghost use Rattle.lines.specs.Layouts.{view_of};
-ghost use Rattle.printing.specs.LevelsText.{printed, text_at_position, levels_text};
+ghost use Rattle.printing.specs.Behind.{one_paragraph_behind, position_behind};
+ghost use Rattle.printing.specs.LevelsText.{printed};
 
+use crate::passed::Passed;
 use crate::position_line::{print_paragraph, print_position};
 use lines::layout::Layout;
 use std::io;
@@ -12,55 +15,52 @@ use std::io::Write;
 use units::bracket::Unit;
 use units::level::{Level, ParaLevel};
 
-/// Writes the lines of the positions from `start` up to `end` of a text, by its characters, units and levels after L1.
+/// Writes the lines of the positions of a paragraph behind what was passed, by its characters, units and levels after
+/// L1.
 fn print_positions<W: Write>(
     w: &mut W,
+    passed: Passed,
     chars: &[char],
     text: &[Unit],
     levels: &[Option<Level>],
-    start: usize,
-    end: usize,
 ) -> io::Result<()>
     requires units { length text.now ≡ length chars.now }
     requires levels { length levels.now ≡ length chars.now }
-    requires start { start ≤ end }
-    requires end { end ≤ length chars.now }
+    requires small { passed.characters + length chars.now ≤ longest_text }
     ensures { OnOk result (Appends (W.contents w.old) (W.contents w.new)
-        (printed (text_at_position chars.now text.now levels.now) start end)) }
+        (printed (position_behind passed chars.now text.now levels.now) 0 (length chars.now))) }
 {
-    for p in start..end {
-        print_position(w, p, chars[p], text[p].class, levels[p])?;
+    for p in 0..chars.len() {
+        print_position(w, passed.characters + p, chars[p], text[p].class, levels[p])?;
     }
     Ok(())
 }
 
-/// The level of the paragraph with the number `k`.
-fn level_of_paragraph(paras: &[ParaLevel], k: usize) -> ParaLevel
-    ensures { level_of_para result ≡ slice_index_or (map level_of_para paras.now) k 0 }
+/// The level of the first paragraph.
+fn level_of_first(paras: &[ParaLevel]) -> ParaLevel
+    ensures { level_of_para result ≡ slice_index_or (map level_of_para paras.now) 0 0 }
 {
-    match paras.get(k) {
+    match paras.first() {
         Some(level) => *level,
         None => ParaLevel::Zero,
     }
 }
 
-/// Writes the paragraphs of a text, each a line of its layout: the paragraph's line, and then those of its positions.
-pub fn print_paragraphs<W: Write>(
+/// Writes a paragraph behind what was passed, by its layout: the paragraph's line, and then those of its positions.
+pub(crate) fn print_one_paragraph<W: Write>(
     w: &mut W,
+    passed: Passed,
     chars: &[char],
     text: &[Unit],
     layout: &Layout<'_>,
 ) -> io::Result<()>
     requires units { length text.now ≡ length chars.now }
     requires levels { length (view_of layout.now).levels ≡ length chars.now }
+    requires small { passed.characters + length chars.now ≤ longest_text }
     ensures { OnOk result (Appends (W.contents w.old) (W.contents w.new)
-        (levels_text chars.now text.now (view_of layout.now))) }
+        (one_paragraph_behind passed (slice_index_or (view_of layout.now).paras 0 0)
+        chars.now text.now (view_of layout.now).levels)) }
 {
-    let paras = layout.para_levels();
-    for k in 0..layout.line_count() {
-        let line = layout.line(k);
-        print_paragraph(w, k, level_of_paragraph(paras, k))?;
-        print_positions(w, chars, text, layout.levels(), line.start, line.end)?;
-    }
-    Ok(())
+    print_paragraph(w, passed.paragraphs, level_of_first(layout.para_levels()))?;
+    print_positions(w, passed, chars, text, layout.levels())
 }

@@ -1,9 +1,13 @@
 //! What is printed of a text by tables: its levels, position by position, and its lines as they are shown.
 #![tactic(auto)]
 
+mod begun;
 mod columns;
 pub mod fault;
+pub mod form;
 mod layout_text;
+mod paragraphs;
+mod passed;
 mod position_line;
 pub mod print;
 mod reorder_text;

@@ -1,68 +1,62 @@
 //! What `levels` and `reorder` print of a text.
-ghost use Rattle.std.specs.Prelude.{◌≡◌, ◌≤◌, [], length, OnOk};
+ghost use Rattle.std.specs.Prelude.{◌≡◌, ◌≤◌, length, OnOk};
 ghost use Rattle.std.specs.Io.KnownBytes.{Appends};
-ghost use Rattle.units.specs.Layout.{layout_of, longest_text};
-ghost use Rattle.units.specs.Limits.{standard};
-ghost use Rattle.ucdfiles.specs.Tables.{glyph_by};
-ghost use Rattle.printing.specs.LevelsText.{levels_text};
-ghost use Rattle.printing.specs.PrintedTexts.{lines_text, printed_levels, printed_reorder};
+ghost use Rattle.std.specs.Str.{chars};
+ghost use Rattle.units.specs.Layout.{longest_text};
+ghost use Rattle.printing.specs.Behind.{printed_as};
+ghost use Rattle.printing.specs.PrintedTexts.{printed_levels, printed_reorder};
 
-use crate::columns::breaks_of;
+use crate::begun::Begun;
 use crate::fault::PrintFault;
-use crate::layout_text::print_paragraphs;
-use crate::reorder_text::print_lines;
-use crate::text_units::units_of;
-use lines::breaks::Breaks;
-use lines::lay_out::lay_out_into;
-use lines::scratch::Scratch;
+use crate::form::Form;
+use crate::paragraphs::{print_last, take_character};
 use std::alloc::Global;
 use std::io::Write;
 use std::num::NonZeroU16;
-use ucdfiles::mirror_table::MirrorTable;
 use ucdfiles::tables::Tables;
-use units::bracket::Unit;
 use units::level::Direction;
 
-/// Writes the levels of a text of these units.
-fn print_levels_of<W: Write>(
+/// Writes a text in this form, as `print_levels` and `print_reorder` say, paragraph by paragraph: a paragraph's
+/// characters are looked up and laid out where it ends, and written before the next one is looked at. The memory that
+/// is taken, some 80 bytes a character, is that of the longest paragraph. The text may have 16,777,216 bytes. The
+/// faults are those of these two.
+pub fn print_utf8<W: Write>(
     alloc: Global,
     w: &mut W,
-    text: &[char],
-    units: &[Unit],
+    tables: &Tables,
+    text: &str,
     direction: Direction,
+    form: Form,
 ) -> Result<(), PrintFault>
-    requires longest { length text.now ≤ longest_text }
-    requires units { length units.now ≡ length text.now }
+    requires { length text.now ≤ longest_text }
     ensures { OnOk result (Appends (W.contents w.old) (W.contents w.new)
-        (levels_text text.now units.now (layout_of standard units.now direction []))) }
+        (printed_as form tables.now (chars text.now) direction)) }
 {
-    let breaks = Breaks::new(&[], units.len()).unwrap();
-    let mut room = Scratch::reserve(alloc, units.len())?;
-    lay_out_into(&mut room, units, direction, &breaks).unwrap();
-    print_paragraphs(w, text, units, &room.layout())?;
-    Ok(())
+    let mut begun = Begun::new(alloc)?;
+    for character in text.chars() {
+        take_character(alloc, w, tables, direction, form, &mut begun, character)?;
+    }
+    print_last(alloc, w, tables, direction, form, &mut begun)
 }
 
-/// Writes the lines of a text of these units, broken at these positions.
-fn print_lines_of<W: Write>(
+/// What `print_utf8` does, of a text in a list of characters.
+fn print_chars<W: Write>(
     alloc: Global,
     w: &mut W,
-    mirrors: &MirrorTable,
+    tables: &Tables,
     text: &[char],
-    units: &[Unit],
     direction: Direction,
-    breaks: &Breaks,
+    form: Form,
 ) -> Result<(), PrintFault>
-    requires longest { length text.now ≤ longest_text }
-    requires units { length units.now ≡ length text.now }
-    requires breaks { breaks.now.len ≡ length units.now }
+    requires { length text.now ≤ longest_text }
     ensures { OnOk result (Appends (W.contents w.old) (W.contents w.new)
-        (lines_text (glyph_by mirrors.now) text.now units.now direction breaks.now.positions)) }
+        (printed_as form tables.now text.now direction)) }
 {
-    let mut room = Scratch::reserve(alloc, units.len())?;
-    lay_out_into(&mut room, units, direction, breaks).unwrap();
-    print_lines(w, mirrors, text, units, &room.layout())?;
-    Ok(())
+    let mut begun = Begun::new(alloc)?;
+    for k in 0..text.len() {
+        take_character(alloc, w, tables, direction, form, &mut begun, text[k])?;
+    }
+    print_last(alloc, w, tables, direction, form, &mut begun)
 }
 
 /// Writes the levels of a text: for each paragraph a line with its number, counted from 0, and its level (P2, P3);
@@ -80,8 +74,7 @@ pub fn print_levels<W: Write>(
     ensures { OnOk result (Appends (W.contents w.old) (W.contents w.new)
         (printed_levels tables.now text.now direction)) }
 {
-    let units = units_of(alloc, tables, text)?;
-    print_levels_of(alloc, w, text, &units, direction)
+    print_chars(alloc, w, tables, text, direction, Form::Levels)
 }
 
 /// Writes a text as it is shown: each line from left to right (L2), in UTF-8, with mirror images at odd levels (L4),
@@ -101,16 +94,5 @@ pub fn print_reorder<W: Write>(
     ensures { OnOk result (Appends (W.contents w.old) (W.contents w.new)
         (printed_reorder tables.now text.now direction columns)) }
 {
-    let units = units_of(alloc, tables, text)?;
-    let positions = breaks_of(alloc, &units, columns)?;
-    let at_columns = Breaks::new(&positions, text.len()).unwrap();
-    print_lines_of(
-        alloc,
-        w,
-        tables.mirrors(),
-        text,
-        &units,
-        direction,
-        &at_columns,
-    )
+    print_chars(alloc, w, tables, text, direction, Form::Reorder { columns })
 }

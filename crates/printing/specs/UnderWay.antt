@@ -1,0 +1,39 @@
+-- A text that is printed paragraph by paragraph, while its characters come.
+use Rattle.std.specs.Prelude.{◌≡◌, ◌≤◌, ℕ, ◌+◌, false, Option, List, [], ◌∷◌, ◌++◌, length}
+use Rattle.std.specs.Io.KnownBytes.{Appends}
+use Rattle.units.specs.Classes.{is_separator}
+use Rattle.units.specs.declared.bracket.Unit.{Unit as BidiUnit}
+use Rattle.units.specs.declared.level.Direction.{Direction}
+use Rattle.ucdfiles.specs.Tables.{TablesOf, units_by}
+use Rattle.printing.specs.Behind.{printed_behind}
+use Rattle.printing.specs.declared.form.Form.{Form}
+use Rattle.printing.specs.declared.begun.Begun.{Begun}
+use Rattle.printing.specs.declared.passed.Passed.{Passed}
+
+-- no paragraph separator stands among them
+abbrev pub ArePlain : List BidiUnit → Type 0
+ArePlain [] = Unit {0}
+ArePlain (unit ∷ units) = (is_separator unit.class ≡ false) × ArePlain units
+
+-- how many characters came so far
+abbrev pub handed_in : Begun → ℕ
+handed_in begun = begun.passed.characters + length begun.chars.items
+
+-- it has the units of its characters by the tables, it has not ended, and no passed paragraph was empty
+pub record IsBegun (tables : TablesOf) (begun : Begun) : Type 0 where
+  pub units : begun.units.items ≡ units_by tables begun.chars.items
+  pub plain : ArePlain begun.units.items
+  pub few : begun.passed.paragraphs ≤ begun.passed.characters
+
+-- one part is behind another, a paragraph of so many characters
+pub record Follows (passed : Passed) (characters : ℕ) (next : Passed) : Type 0 where
+  pub paragraphs : next.paragraphs ≡ passed.paragraphs + 1
+  pub characters_are : next.characters ≡ passed.characters + characters
+
+-- further characters came, and known bytes grew by what is printed of the text from the paragraph that had begun on,
+-- whatever comes behind them, up to the one that has begun now
+pub record PrintsOn (form : Form) (tables : TablesOf) (direction : Direction) (more : List ℕ) (before after : Option (List ℕ)) (old new : Begun) : Type 0 where
+  pub done : List ℕ
+  pub said : Appends before after done
+  pub left : (rest : List ℕ) → printed_behind form old.passed tables (old.chars.items ++ (more ++ rest)) direction
+      ≡ done ++ printed_behind form new.passed tables (new.chars.items ++ rest) direction

@@ -1,0 +1,82 @@
+// The paragraph of a text that has begun, while the text is printed paragraph by paragraph.
+use crate::passed::Passed;
+use lines::scratch::Scratch;
+use std::alloc::Global;
+use units::bracket::Unit;
+use units::memory::Memory;
+
+/// The paragraph that has begun: what was passed before it, its characters so far with their units, and room for its
+/// layout. The lists and the room serve the paragraphs behind it too, and grow to the longest one.
+#[derive(Drop)]
+pub(crate) struct Begun {
+    pub(crate) passed: Passed,
+    pub(crate) chars: Vec<char>,
+    pub(crate) units: Vec<Unit>,
+    pub(crate) room: Scratch,
+}
+
+impl Begun {
+    ghost use Rattle.std.specs.Prelude.{◌≡◌, ◌≤◌, [], ◌∷◌, ◌++◌, length, IfOk, OnOk};
+    ghost use Rattle.units.specs.Layout.{longest_text};
+    ghost use Rattle.ucdfiles.specs.Tables.{TablesOf};
+    ghost use Rattle.lines.specs.Scratches.{room_of};
+    ghost use Rattle.printing.specs.UnderWay.{Follows, IsBegun, handed_in};
+
+    /// The first paragraph, before any of its characters came.
+    pub(crate) fn new(alloc: Global) -> Result<Begun, Memory>
+        ensures begun { IfOk result (λ begun. (tables : TablesOf) → IsBegun tables begun) }
+        ensures empty { IfOk result (λ begun. begun.chars.items ≡ []) }
+        ensures first { IfOk result (λ begun. begun.passed ≡ record { paragraphs = 0; characters = 0 }) }
+    {
+        let room = Scratch::reserve(alloc, 0)?;
+        Ok(Begun {
+            passed: Passed {
+                paragraphs: 0,
+                characters: 0,
+            },
+            chars: Vec::new(alloc),
+            units: Vec::new(alloc),
+            room,
+        })
+    }
+
+    /// Adds a character with its unit.
+    pub(crate) fn add(&mut self, character: char, unit: Unit) -> Result<(), Memory>
+        ensures chars { OnOk result (self.new.chars.items ≡ self.old.chars.items ++ character ∷ []) }
+        ensures units { OnOk result (self.new.units.items ≡ self.old.units.items ++ unit ∷ []) }
+        ensures passed { self.new.passed ≡ self.old.passed }
+    {
+        if self.chars.push(character).is_err() || self.units.push(unit).is_err() {
+            return Err(Memory);
+        }
+        Ok(())
+    }
+
+    /// Makes room for the layout of the paragraph, where there is less.
+    pub(crate) fn make_room(&mut self, alloc: Global) -> Result<(), Memory>
+        requires { length self.old.units.items ≤ longest_text }
+        ensures room { OnOk result (length self.new.units.items ≤ room_of self.new.room) }
+        ensures chars { self.new.chars.items ≡ self.old.chars.items }
+        ensures units { self.new.units.items ≡ self.old.units.items }
+        ensures passed { self.new.passed ≡ self.old.passed }
+    {
+        if self.room.room() < self.units.len() {
+            self.room = Scratch::reserve(alloc, self.units.len())?;
+        }
+        Ok(())
+    }
+
+    /// Passes the paragraph: the one behind it begins.
+    pub(crate) fn pass(&mut self)
+        requires characters { handed_in self.old ≤ longest_text }
+        requires paragraphs { self.old.passed.paragraphs ≤ self.old.passed.characters }
+        ensures chars { self.new.chars.items ≡ [] }
+        ensures units { self.new.units.items ≡ [] }
+        ensures passed { Follows self.old.passed (length self.old.chars.items) self.new.passed }
+    {
+        self.passed.paragraphs += 1;
+        self.passed.characters += self.chars.len();
+        self.chars.clear();
+        self.units.clear();
+    }
+}

@@ -1,0 +1,181 @@
+// A text printed paragraph by paragraph, while its characters come.
+ghost use Rattle.std.specs.Prelude.{◌≡◌, ◌<◌, ◌≤◌, ◌+◌, [], ◌∷◌, length, OnOk};
+ghost use Rattle.std.specs.Io.KnownBytes.{Appends};
+ghost use Rattle.units.specs.Layout.{layout_of, longest_text};
+ghost use Rattle.units.specs.Limits.{standard};
+ghost use Rattle.units.specs.Paragraphs.{SeparatorOnlyLast};
+ghost use Rattle.lines.specs.Scratches.{room_of};
+ghost use Rattle.ucdfiles.specs.Tables.{glyph_by, units_by};
+ghost use Rattle.printing.specs.Behind.{levels_behind, printed_behind, printed_units};
+ghost use Rattle.printing.specs.PrintedTexts.{breaks_of, lines_text};
+ghost use Rattle.printing.specs.UnderWay.{Follows, IsBegun, PrintsOn, handed_in};
+
+use crate::begun::Begun;
+use crate::columns::breaks_of;
+use crate::fault::PrintFault;
+use crate::form::Form;
+use crate::layout_text::print_one_paragraph;
+use crate::passed::Passed;
+use crate::reorder_text::print_lines;
+use lines::breaks::Breaks;
+use lines::lay_out::lay_out_into;
+use lines::scratch::Scratch;
+use std::alloc::Global;
+use std::io::Write;
+use std::num::NonZeroU16;
+use ucdfiles::mirror_table::MirrorTable;
+use ucdfiles::tables::Tables;
+use units::bracket::Unit;
+use units::level::Direction;
+
+/// Lays out a paragraph behind what was passed, and writes its levels.
+fn print_levels_of<W: Write>(
+    w: &mut W,
+    passed: Passed,
+    chars: &[char],
+    units: &[Unit],
+    direction: Direction,
+    room: &mut Scratch,
+) -> Result<(), PrintFault>
+    requires units { length units.now ≡ length chars.now }
+    requires some { 0 < length chars.now }
+    requires one { SeparatorOnlyLast units.now }
+    requires small { passed.characters + length chars.now ≤ longest_text }
+    requires room { length units.now ≤ room_of room.old }
+    ensures { OnOk result (Appends (W.contents w.old) (W.contents w.new)
+        (levels_behind passed chars.now units.now (layout_of standard units.now direction []))) }
+{
+    let breaks = Breaks::new(&[], units.len()).unwrap();
+    lay_out_into(room, units, direction, &breaks).unwrap();
+    print_one_paragraph(w, passed, chars, units, &room.layout())?;
+    Ok(())
+}
+
+/// Lays out a paragraph with breaks at columns where such are asked for, and writes its lines as they are shown.
+fn print_lines_of<W: Write>(
+    alloc: Global,
+    w: &mut W,
+    mirrors: &MirrorTable,
+    chars: &[char],
+    units: &[Unit],
+    direction: Direction,
+    columns: Option<NonZeroU16>,
+    room: &mut Scratch,
+) -> Result<(), PrintFault>
+    requires units { length units.now ≡ length chars.now }
+    requires room { length units.now ≤ room_of room.old }
+    ensures { OnOk result (Appends (W.contents w.old) (W.contents w.new)
+        (lines_text (glyph_by mirrors.now) chars.now units.now direction (breaks_of units.now columns))) }
+{
+    let positions = breaks_of(alloc, units, columns)?;
+    let breaks = Breaks::new(&positions, units.len()).unwrap();
+    lay_out_into(room, units, direction, &breaks).unwrap();
+    print_lines(w, mirrors, chars, units, &room.layout())?;
+    Ok(())
+}
+
+/// Writes the paragraph that has begun in this form.
+fn print_as<W: Write>(
+    alloc: Global,
+    w: &mut W,
+    tables: &Tables,
+    direction: Direction,
+    form: Form,
+    begun: &mut Begun,
+) -> Result<(), PrintFault>
+    requires len { length begun.old.units.items ≡ length begun.old.chars.items }
+    requires some { 0 < length begun.old.chars.items }
+    requires one { SeparatorOnlyLast begun.old.units.items }
+    requires small { handed_in begun.old ≤ longest_text }
+    requires room { length begun.old.units.items ≤ room_of begun.old.room }
+    ensures printed { OnOk result (Appends (W.contents w.old) (W.contents w.new)
+        (printed_units form begun.old.passed tables.now begun.old.chars.items begun.old.units.items direction)) }
+    ensures chars { begun.new.chars.items ≡ begun.old.chars.items }
+    ensures units { begun.new.units.items ≡ begun.old.units.items }
+    ensures passed { begun.new.passed ≡ begun.old.passed }
+{
+    let Begun {
+        passed,
+        chars,
+        units,
+        room,
+    } = begun;
+    match form {
+        Form::Levels => print_levels_of(w, *passed, chars, units, direction, room),
+        Form::Reorder { columns } => {
+            let mirrors = tables.mirrors();
+            print_lines_of(alloc, w, mirrors, chars, units, direction, columns, room)
+        }
+    }
+}
+
+/// Writes the paragraph that has begun, which has all of its characters now, and passes it.
+fn print_begun<W: Write>(
+    alloc: Global,
+    w: &mut W,
+    tables: &Tables,
+    direction: Direction,
+    form: Form,
+    begun: &mut Begun,
+) -> Result<(), PrintFault>
+    requires units { begun.old.units.items ≡ units_by tables.now begun.old.chars.items }
+    requires some { 0 < length begun.old.chars.items }
+    requires one { SeparatorOnlyLast begun.old.units.items }
+    requires small { handed_in begun.old ≤ longest_text }
+    requires few { begun.old.passed.paragraphs ≤ begun.old.passed.characters }
+    ensures printed { OnOk result (Appends (W.contents w.old) (W.contents w.new)
+        (printed_behind form begun.old.passed tables.now begun.old.chars.items direction)) }
+    ensures chars { OnOk result (begun.new.chars.items ≡ []) }
+    ensures units { OnOk result (begun.new.units.items ≡ []) }
+    ensures passed { OnOk result (Follows begun.old.passed (length begun.old.chars.items) begun.new.passed) }
+{
+    begun.make_room(alloc)?;
+    print_as(alloc, w, tables, direction, form, begun)?;
+    begun.pass();
+    Ok(())
+}
+
+/// Adds a character to the paragraph that has begun, and writes that where the character ends it (P1).
+pub(crate) fn take_character<W: Write>(
+    alloc: Global,
+    w: &mut W,
+    tables: &Tables,
+    direction: Direction,
+    form: Form,
+    begun: &mut Begun,
+    character: char,
+) -> Result<(), PrintFault>
+    requires begun { IsBegun tables.now begun.old }
+    requires small { handed_in begun.old < longest_text }
+    ensures begun { OnOk result (IsBegun tables.now begun.new) }
+    ensures handed { OnOk result (handed_in begun.new ≡ handed_in begun.old + 1) }
+    ensures printed { OnOk result (PrintsOn form tables.now direction (character ∷ [])
+        (W.contents w.old) (W.contents w.new) begun.old begun.new) }
+{
+    let unit = tables.unit(character);
+    begun.add(character, unit)?;
+    if unit.class.is_separator() {
+        print_begun(alloc, w, tables, direction, form, begun)?;
+    }
+    Ok(())
+}
+
+/// Writes the paragraph that has begun, where any of its characters came: the text has ended.
+pub(crate) fn print_last<W: Write>(
+    alloc: Global,
+    w: &mut W,
+    tables: &Tables,
+    direction: Direction,
+    form: Form,
+    begun: &mut Begun,
+) -> Result<(), PrintFault>
+    requires begun { IsBegun tables.now begun.old }
+    requires small { handed_in begun.old ≤ longest_text }
+    ensures { OnOk result (Appends (W.contents w.old) (W.contents w.new)
+        (printed_behind form begun.old.passed tables.now begun.old.chars.items direction)) }
+{
+    if begun.chars.is_empty() {
+        return Ok(());
+    }
+    print_begun(alloc, w, tables, direction, form, begun)
+}

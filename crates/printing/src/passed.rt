@@ -1,0 +1,8 @@
+// What stands before a part of a text.
+
+/// How many paragraphs and how many characters of a text stand before a part of it.
+#[derive(Clone, Copy)]
+pub(crate) struct Passed {
+    pub(crate) paragraphs: usize,
+    pub(crate) characters: usize,
+}
