@@ -151,12 +151,20 @@ cp text.txt ./-
 ends 0 'yes: 1 rows, 1 cases' '' judge --kind classes - < yes.txt
 ends 0 $'a) \xd7\x90' '' reorder --tables t ./- < yes.txt
 
-# Texts as long as a file can be, printed, and one of 1,048,576 characters explained.
+# Texts as long as a file can be, printed, with one of a quarter of that and one character more, and one of 1,048,576
+# characters explained.
 head -c 16777216 /dev/zero | tr '\0' a > most.txt
 "$program" reorder most.txt > found_out 2> found_err
 is 'status of reorder of the longest text' 0 $?
 { cat most.txt; echo; } | cmp -s - found_out
 is 'comparison of what reorder prints of the longest text' 0 $?
+head -c 4194305 most.txt > quarter.txt
+"$program" reorder quarter.txt > found_out 2> found_err
+is 'status of reorder of a quarter of that' 0 $?
+is 'bytes of reorder of a quarter of that' 4194306 "$(wc -c < found_out)"
+"$program" levels quarter.txt 2> found_err | tail -n 1 > found_out
+is 'status of levels of a quarter of that' 0 "${PIPESTATUS[0]}"
+is 'last line of levels of a quarter of that' '4194304 0061 L 0' "$(cat found_out)"
 "$program" levels most.txt 2> found_err | tail -n 1 > found_out
 is 'status of levels of the longest text' 0 "${PIPESTATUS[0]}"
 is 'last line of levels of the longest text' '16777215 0061 L 0' "$(cat found_out)"

@@ -1,5 +1,5 @@
-/* sizes UCD: the greatest sizes that calls take, where memory suffices: rooms of a million and of 16,777,216 code
- * points that are filled, and property files of more than a million bytes. Its output is stored in sizes.out. */
+/* sizes UCD: the greatest sizes that calls take, where memory suffices: rooms of up to 16,777,216 code points that are
+ * filled, and property files of more than a million bytes. Its output is stored in sizes.out. */
 #include "bidi.h"
 #include "read_file.h"
 #include <string.h>
@@ -54,6 +54,7 @@ int main(int argc, char **argv) {
   read_long_files(argv[1], 1 << 22, &tables);
   fill_room(&tables, 4096);
   fill_room(&tables, 1000000);
+  fill_room(&tables, 4194305);
   fill_room(&tables, 16777216);
   bidi_tables_free(&tables);
   return 0;

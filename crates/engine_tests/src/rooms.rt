@@ -27,7 +27,7 @@ fn assert_refusals(rt: &impl Abort, alloc: Global, n: usize, refusal: Option<Mem
 
 #[test]
 fn rooms_of_any_size_are_made(rt: HostRuntime) {
-    for n in [0, 1, 40_001, 65_536, 1_000_000] {
+    for n in [0, 1, 40_001, 65_536, 1_000_000, 4_194_305, 16_777_216] {
         assert_refusals(&rt, rt.alloc(), n, None);
     }
 }

@@ -28,11 +28,12 @@ fn expect(rt: &impl Abort, alloc: Global, bytes: &[u8], verdict: Verdict) -> Res
 }
 
 /// Files that are right: their bytes, and how many rows and cases they have.
-const RIGHT: [(&[u8], u64, u64); 5] = [
+const RIGHT: [(&[u8], u64, u64); 6] = [
     (b"", 0, 0),
     (b"@Levels: 1 1 0\n@Reorder: 1 0 2\nR B L; 1\n", 1, 1),
     (b"@Levels: 0 1 1\n@Reorder: 0 2 1\nL R AL; 3\n", 1, 2),
     (b"@Levels: 2 1 1\n@Reorder: 2 1 0\nL R AL; 4", 1, 1),
+    (b"@Levels: 0\n@Reorder: 0\nL; 8\n", 1, 1),
     (
         b"# \xff\r\n@Type:\tL\r\n@Levels:\t0\n@Reorder: 0 # x\n L ;\t3 \r\nL;2\n\n",
         2,

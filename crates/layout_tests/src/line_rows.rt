@@ -4,7 +4,7 @@ ghost use Rattle.std.specs.Prelude.{OnOk};
 
 use crate::given::{levels, numbers, shows, unit, units_of};
 use lines::breaks::{BreakFault, Breaks};
-use lines::lay_out::{break_anew_into, lay_out_into};
+use lines::lay_out::{TooLong, break_anew_into, lay_out_into};
 use lines::layout::Layout;
 use lines::scratch::{RoomFault, Scratch};
 use std::alloc::Global;
@@ -109,7 +109,8 @@ fn breaks_a_text_anew(rt: HostRuntime) -> Result<(), Fail> {
 fn refuses_then_lays_out(rt: &impl Abort, room: &mut Scratch) -> Result<(), Fail> {
     let long = [unit(Class::R), unit(Class::WS), unit(Class::R)];
     let breaks = Breaks::new(&[], long.len())?;
-    assert!(rt; lay_out_into(room, &long, Direction::Ltr, &breaks).is_err());
+    let answer = lay_out_into(room, &long, Direction::Ltr, &breaks);
+    assert_eq!(rt; answer, Err(TooLong));
     let text = [unit(Class::L), unit(Class::L)];
     let expected = [Level::new(0), Level::new(0)];
     shows(rt, room, &text, Direction::Ltr, &expected, &[0, 1])

@@ -178,7 +178,7 @@ fn room_is_made(rt: &impl Abort, alloc: Global, n: usize) -> Result<(), Fail> {
 
 #[test]
 fn rooms_of_any_size_are_made(rt: HostRuntime) -> Result<(), Fail> {
-    for n in [0, 1, 65_536, 1_000_000, 1_000_001] {
+    for n in [0, 1, 65_536, 1_000_000, 1_000_001, 4_194_305, 16_777_216] {
         room_is_made(&rt, rt.alloc(), n)?;
     }
     Ok(())
