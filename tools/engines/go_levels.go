@@ -1,0 +1,41 @@
+// Stands in a copy of golang.org/x/text/unicode/bidi that run.sh makes: what that package tells nobody, levels and an
+// order, by the functions that its own tests call.
+package bidi
+
+// RowOf answers the paragraph's level of a text, the level of each of its characters, and which of them stands at each
+// place from the left. The direction is 0 left-to-right, 1 right-to-left, 2 found in the text.
+func RowOf(text []rune, direction int) (int, []int8, []int, error) {
+	classes := make([]Class, len(text))
+	brackets := make([]bracketType, len(text))
+	pairs := make([]rune, len(text))
+	for i, character := range text {
+		// Canonical equivalents are left to the caller (bracket.go).
+		switch character {
+		case 0x2329:
+			character = 0x3008
+		case 0x232A:
+			character = 0x3009
+		}
+		properties, _ := LookupRune(character)
+		classes[i] = properties.Class()
+		if properties.IsOpeningBracket() {
+			brackets[i], pairs[i] = bpOpen, character
+		} else if properties.IsBracket() {
+			brackets[i], pairs[i] = bpClose, properties.reverseBracket(character)
+		}
+	}
+	base := level(direction)
+	if direction == 2 {
+		base = implicitLevel
+	}
+	made, err := newParagraph(classes, brackets, pairs, base)
+	if err != nil {
+		return 0, nil, nil, err
+	}
+	found := made.getLevels([]int{len(text)})
+	levels := make([]int8, len(text))
+	for i, one := range found {
+		levels[i] = int8(one)
+	}
+	return int(made.embeddingLevel), levels, computeReordering(found), nil
+}
