@@ -174,11 +174,11 @@ is 'status of explain of a long text' 0 "${PIPESTATUS[0]}"
 is 'end of explain of a long text' ' 1048575' "$(cat found_out)"
 
 # Rows of the longest texts, which the judge says yes to, and of longer ones.
-"$program" rows --form exhaustive --alphabet R --length 4096 > rows.txt 2> found_err
+"$program" rows --form exhaustive --alphabet R --length 4095 > rows.txt 2> found_err
 is 'status of rows of the longest text' 0 $?
 is 'lines of rows of the longest text' 9 "$(wc -l < rows.txt)"
 ends 0 'yes: 3 rows, 3 cases' '' judge --kind classes rows.txt
-ends 2 '' 'bidi: --length ends above 4096' rows --form exhaustive --alphabet R --length 4097
+ends 2 '' 'bidi: --length ends above 4095' rows --form exhaustive --alphabet R --length 4096
 
 # Words that are refused, help and the version.
 "$program" reorder --columns 0 --tables t text.txt > found_out 2> found_err

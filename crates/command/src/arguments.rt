@@ -116,7 +116,7 @@ pub fn length_argument<'a>(alloc: Global) -> Arg<'a>
         .long("length")
         .value_name("LENGTHS")
         .required(true)
-        .help("The lengths of the texts, 1 to 4096: `N`, or `A..B` for all from A up to B")
+        .help("The lengths of the texts, 1 to 4095: `N`, or `A..B` for all from A up to B")
 }
 
 /// An option of this name with a number of 64 bits, which may be left out, with this help.

@@ -81,7 +81,7 @@ fn refuses_what_makes_no_rows(rt: HostRuntime) {
         ("L", "01", b"bidi: 01 is no range of lengths\n"),
         ("L", "65536", b"bidi: 65536 is no range of lengths\n"),
         ("L", "0..1", b"bidi: --length begins at 0\n"),
-        ("L", "1..4097", b"bidi: --length ends above 4096\n"),
+        ("L", "1..4096", b"bidi: --length ends above 4095\n"),
         ("L R", "1..64", b"bidi: there are too many texts\n"),
     ];
     for (alphabet, lengths, line) in rows {

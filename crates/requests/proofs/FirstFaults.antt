@@ -121,7 +121,7 @@ has_printed files printed source file tables text before after stated read said 
 -- the words of rows that were printed say them
 rows_done : (form : RowsForm) (alphabet lengths : List ℕ) (before after : Option (List ℕ)) → HasPrintedRows form alphabet lengths before after → AreDone (rows_steps form alphabet lengths)
 rows_done form alphabet lengths before after h = (
-  (h.texts.alphabet, h.are.classes),
+  (h.texts.alphabet, h.are.letters),
   (((h.texts.least, h.texts.greatest), h.are.ends), ((h.texts, h.are, h.made.some), tt)),
 )
 

@@ -9,10 +9,10 @@ use Rattle.requests.specs.declared.request.RowsForm.{RowsForm}
 module _ (form : RowsForm) (alphabet lengths : List ℕ) (texts : ExhaustiveOf) (are : AreTextsOf alphabet lengths texts) (before after : Option (List ℕ)) where
   rows_fail : (fault : Fault) → FailsIn (making_step form texts ∷ []) before after fault → FailsIn (rows_steps form alphabet lengths) before after fault
   rows_fail fault (inl (inl ends, same)) =
-      inl (inr ((texts.alphabet, are.classes), inr (((texts.least, texts.greatest), are.ends), inl (texts, are, ends))), same)
+      inl (inr ((texts.alphabet, are.letters), inr (((texts.least, texts.greatest), are.ends), inl (texts, are, ends))), same)
   rows_fail fault (inl (inr (done, more), same)) = absurd more
   rows_fail fault (inr (done, ends)) =
-      inr (((texts.alphabet, are.classes), (((texts.least, texts.greatest), are.ends), ((texts, are, done.0), tt))), ends)
+      inr (((texts.alphabet, are.letters), (((texts.least, texts.greatest), are.ends), ((texts, are, done.0), tt))), ends)
 
   pub rows_fail_if : {T : Type 0} (r : Result T Fault) → IfErr r (FailsIn (making_step form texts ∷ []) before after)
       → IfErr r (FailsIn (rows_steps form alphabet lengths) before after)

@@ -1,14 +1,21 @@
 -- The classes that a word of the command line names.
-use Rattle.std.specs.Prelude.{◌≡◌, ℕ, List, Option, Some, is_some, not, find}
+use Rattle.std.specs.Prelude.{◌≡◌, ℕ, List, Option, Some, is_some, map, not, find}
+use Rattle.std.specs.Option.{option_map}
 use Rattle.units.specs.ClassNames.{class_of_short}
 use Rattle.units.specs.Text.{each_read, items_of}
 use Rattle.units.specs.declared.class.Class.{Class}
+use Rattle.rows.specs.declared.letter.Letter.{Letter}
+use Rattle.rows.specs.declared.letter.Letter.TheVariants as letter
 use Rattle.requests.specs.declared.fault.Fault.{Fault}
 use Rattle.requests.specs.declared.fault.Fault.TheVariants.{NoClass, OutOfMemory}
 
 -- the classes of the short names that blanks separate, or none where one of them is no such name
 abbrev pub classes_named : List ℕ → Option (List Class)
 classes_named word = each_read class_of_short (items_of word)
+
+-- these classes as letters, of which the texts of rows are made
+abbrev pub letters_named : List ℕ → Option (List Letter)
+letters_named word = option_map (map letter.Class) (classes_named word)
 
 -- the first of these names that is that of no class
 abbrev pub first_no_class : List (List ℕ) → Option (List ℕ)

@@ -28,9 +28,9 @@ no_class_text name = concat (codes "bidi: " ∷ name ∷ codes " is no class" �
 
 -- why texts can't be enumerated or drawn
 abbrev pub rows_refusal : RowsFault → List ℕ
-rows_refusal refused.NoClass = codes "--alphabet has no class"
+rows_refusal refused.NoLetter = codes "--alphabet has no class"
 rows_refusal refused.NoLength = codes "--length begins at 0"
-rows_refusal refused.TooLong = codes "--length ends above 4096"
+rows_refusal refused.TooLong = codes "--length ends above 4095"
 rows_refusal refused.TooMany = codes "there are too many texts"
 rows_refusal refused.NoneBetween = codes "--length ends before it begins"
 

@@ -4,12 +4,13 @@ use Rattle.std.specs.Io.KnownBytes.{Appends}
 use Rattle.units.specs.Limits.{standard}
 use Rattle.units.specs.declared.level.Direction.{Direction}
 use Rattle.units.specs.declared.level.Direction.TheVariants.{Auto, Ltr, Rtl}
+use Rattle.bidtests.specs.declared.kind.Kind.TheVariants as file
 use Rattle.rows.specs.declared.fault.RowsFault.{RowsFault}
 use Rattle.rows.specs.Exhaustive.{ExhaustiveOf, cases_in, refusal_of}
 use Rattle.rows.specs.Random.{RandomOf, cases_drawn, no_drawing_of}
 use Rattle.rows.specs.Judged.{JudgeSaysYes}
 use Rattle.rows.specs.RowTexts.{Case, cases_text}
-use Rattle.requests.specs.ClassWords.{classes_named}
+use Rattle.requests.specs.ClassWords.{letters_named}
 use Rattle.requests.specs.RowWords.{lengths_named}
 use Rattle.requests.specs.declared.request.RowsForm.{RowsForm}
 use Rattle.requests.specs.declared.request.RowsForm.TheVariants.{Exhaustive, Random}
@@ -43,12 +44,12 @@ cases_of_form (Random seed count) texts = cases_drawn (drawn_from seed count tex
 -- there is such a file, and it is what known bytes grew by, by the standard limits; the judge's verdict on it is a yes
 pub record HasPrintedTexts (form : RowsForm) (texts : ExhaustiveOf) (before after : Option (List ℕ)) : Type 0 where
   pub some : refusal_in form texts ≡ None
-  pub said : Appends before after (cases_text standard (cases_of_form form texts))
-  pub right : JudgeSaysYes standard (cases_of_form form texts)
+  pub said : Appends before after (cases_text standard file.Classes (cases_of_form form texts))
+  pub right : JudgeSaysYes standard file.Classes (cases_of_form form texts)
 
--- the words say an alphabet and lengths, which are those of these texts
+-- the words say the classes and the lengths of these texts
 pub record AreTextsOf (alphabet lengths : List ℕ) (texts : ExhaustiveOf) : Type 0 where
-  pub classes : classes_named alphabet ≡ Some texts.alphabet
+  pub letters : letters_named alphabet ≡ Some texts.alphabet
   pub ends : lengths_named lengths ≡ Some (texts.least, texts.greatest)
 
 -- the file of this form of the texts that the words say was printed

@@ -7,7 +7,8 @@ use Rattle.ucdfiles.specs.declared.fault.Fault.{Fault as LineFault}
 use Rattle.ucdfiles.specs.Tables.{TablesOf}
 use Rattle.units.specs.declared.class.Class.{Class}
 use Rattle.rows.specs.Exhaustive.{ExhaustiveOf}
-use Rattle.requests.specs.ClassWords.{EndsNames, classes_named}
+use Rattle.rows.specs.declared.letter.Letter.{Letter}
+use Rattle.requests.specs.ClassWords.{EndsNames, classes_named, letters_named}
 use Rattle.requests.specs.declared.request.FileKind.TheVariants.{Classes, Characters}
 use Rattle.requests.specs.declared.request.TableSource.{TableSource}
 use Rattle.requests.specs.declared.request.TableSource.TheVariants.{Folder, BuiltIn}
@@ -70,6 +71,13 @@ names_step word = record {
   EndsBy = EndsNames word;
 }
 
+-- the reading of the names in it, as letters
+abbrev pub letters_step : List ℕ → RequestStep
+letters_step word = record {
+  Done = (letters : List Letter) × (letters_named word ≡ Some letters);
+  EndsBy = EndsNames word;
+}
+
 -- what is read of a word for classes
 abbrev pub classes_steps : List ℕ → List RequestStep
 classes_steps word = length_step word ∷ names_step word ∷ []
@@ -97,7 +105,7 @@ texts_step form alphabet lengths = record {
 
 -- what is read of the words for rows
 abbrev pub rows_steps : RowsForm → List ℕ → List ℕ → List RequestStep
-rows_steps form alphabet lengths = names_step alphabet ∷ lengths_step lengths ∷ texts_step form alphabet lengths ∷ []
+rows_steps form alphabet lengths = letters_step alphabet ∷ lengths_step lengths ∷ texts_step form alphabet lengths ∷ []
 
 -- the making of the tables that are built in
 abbrev pub built_in_step : RequestStep

@@ -170,9 +170,9 @@ fn refusal_in_words(fault: RowsFault) -> &'static str
     ensures { result.now ≡ rows_refusal fault }
 {
     match fault {
-        RowsFault::NoClass => "--alphabet has no class",
+        RowsFault::NoLetter => "--alphabet has no class",
         RowsFault::NoLength => "--length begins at 0",
-        RowsFault::TooLong => "--length ends above 4096",
+        RowsFault::TooLong => "--length ends above 4095",
         RowsFault::TooMany => "there are too many texts",
         RowsFault::NoneBetween => "--length ends before it begins",
     }

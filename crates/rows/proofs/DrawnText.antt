@@ -1,23 +1,21 @@
--- A text that is filled from its first place on with classes that are drawn.
+-- A text that is filled from its first place on with letters that are drawn.
 use Rattle.std.proofs.Common.{◌≡◌, ℕ, zero, suc, ◌+◌, ◌<◌, ◌≤◌, List, length, get_or, set, refl, sym, ap, ◌∙◌, inl, inr, arith, add-one, length-set}
 use Rattle.std.proofs.lemmas.Bool.{cases_lt}
 use Rattle.std.proofs.lemmas.Grind.{get_or-set_at}
 use Rattle.std.proofs.lemmas.List.{ext_get_or, get_or-map, get_or-set_other, length-map}
 use Rattle.rand_pcg.specs.Lcg.{Lcg, advance, next_state, state_after}
 use Rattle.rand_pcg.specs.Pcg.{multiplier_64, pcg32}
-use Rattle.units.specs.Layout.{no_unit}
 use Rattle.units.specs.Positions.{positions_from}
-use Rattle.units.specs.declared.bracket.Unit.{Unit as BidiUnit}
-use Rattle.units.specs.declared.class.Class.{Class}
 use Rattle.units.proofs.Positions.{length-positions_from, get_or-positions_from}
-use Rattle.bidtests.specs.ClassesFile.{unit_of_class}
-use Rattle.rows.specs.Random.{class_drawn, text_drawn, word_behind}
+use Rattle.rows.specs.Letters.{no_letter}
+use Rattle.rows.specs.Random.{letter_drawn, text_drawn, word_behind}
+use Rattle.rows.specs.declared.letter.Letter.{Letter}
 
--- the first places, so many of them, have classes that were drawn, and the generator stands behind their words
-pub record IsDrawnBy (alphabet : List Class) (from now : Lcg) (text : List BidiUnit) (len done : ℕ) : Type 0 where
+-- the first places, so many of them, have letters that were drawn, and the generator stands behind their words
+pub record IsDrawnBy (alphabet : List Letter) (from now : Lcg) (text : List Letter) (len done : ℕ) : Type 0 where
   pub size : length text ≡ len
   pub behind : now ≡ advance 64 multiplier_64 done from
-  pub places : (p : ℕ) → p < done → get_or text p no_unit ≡ unit_of_class (class_drawn alphabet (word_behind from p))
+  pub places : (p : ℕ) → p < done → get_or text p no_letter ≡ letter_drawn alphabet (word_behind from p)
 
 state_after-one_more : (w m i n s : ℕ) → next_state w m i (state_after w m i n s) ≡ state_after w m i (suc n) s
 unfolding state_after
@@ -28,34 +26,34 @@ advance-one_more : (g : Lcg) (n : ℕ) → (pcg32 (advance 64 multiplier_64 n g)
 advance-one_more g n =
     ap (λ (s : ℕ). record { state = s; increment = g.increment }) (state_after-one_more 64 multiplier_64 g.increment n g.state ∙ ap (λ k. state_after 64 multiplier_64 g.increment k g.state) (sym (add-one n)))
 
-pub drawn-none : (alphabet : List Class) (from : Lcg) (text : List BidiUnit) (len : ℕ) → length text ≡ len → IsDrawnBy alphabet from from text len 0
+pub drawn-none : (alphabet : List Letter) (from : Lcg) (text : List Letter) (len : ℕ) → length text ≡ len → IsDrawnBy alphabet from from text len 0
 unfolding state_after
 drawn-none alphabet from text len n = record { size = n; behind = refl; places = λ p lt. absurd (omega arith) }
 
-pub drawn-more : (alphabet : List Class) (from now next : Lcg) (text : List BidiUnit) (len done : ℕ) (unit : BidiUnit) → done < len → IsDrawnBy alphabet from now text len done
+pub drawn-more : (alphabet : List Letter) (from now next : Lcg) (text : List Letter) (len done : ℕ) (letter : Letter) → done < len → IsDrawnBy alphabet from now text len done
     → next ≡ (pcg32 now).1
-    → unit ≡ unit_of_class (class_drawn alphabet (pcg32 now).0)
-    → IsDrawnBy alphabet from next (set text done unit) len (done + 1)
-drawn-more alphabet from now next text len done unit lt h step is = record {
-  size = length-set text done unit ∙ h.size;
+    → letter ≡ letter_drawn alphabet (pcg32 now).0
+    → IsDrawnBy alphabet from next (set text done letter) len (done + 1)
+drawn-more alphabet from now next text len done letter lt h step is = record {
+  size = length-set text done letter ∙ h.size;
   behind = step ∙ ap (λ g. (pcg32 g).1) h.behind ∙ advance-one_more from done;
   places = λ p within.
       elim (cases_lt p done) [
-        | inl before ↦ get_or-set_other text done p unit no_unit (λ e. absurd (omega arith)) ∙ h.places p before
+        | inl before ↦ get_or-set_other text done p letter no_letter (λ e. absurd (omega arith)) ∙ h.places p before
         | inr here ↦ (
             let at : p ≡ done = omega arith in
-            get_or-set_at text done p unit no_unit at (omega (arith, h.size)) ∙ is
-            ∙ ap (λ g. unit_of_class (class_drawn alphabet (pcg32 g).0)) h.behind
-            ∙ ap (λ n. unit_of_class (class_drawn alphabet (word_behind from n))) (sym at))
+            get_or-set_at text done p letter no_letter at (omega (arith, h.size)) ∙ is
+            ∙ ap (λ g. letter_drawn alphabet (pcg32 g).0) h.behind
+            ∙ ap (λ n. letter_drawn alphabet (word_behind from n)) (sym at))
       ];
 }
 
-pub drawn-all : (alphabet : List Class) (from now : Lcg) (text : List BidiUnit) (len done : ℕ) → len ≤ done → IsDrawnBy alphabet from now text len done → text ≡ text_drawn alphabet from len
+pub drawn-all : (alphabet : List Letter) (from now : Lcg) (text : List Letter) (len done : ℕ) → len ≤ done → IsDrawnBy alphabet from now text len done → text ≡ text_drawn alphabet from len
 drawn-all alphabet from now text len done all h =
     let count : length (positions_from 0 len) ≡ len = length-positions_from 0 len in
-    let class : ℕ → BidiUnit = λ p. unit_of_class (class_drawn alphabet (word_behind from p)) in
-    ext_get_or no_unit text (text_drawn alphabet from len) (h.size ∙ sym (length-map (positions_from 0 len) class ∙ count))
+    let letter : ℕ → Letter = λ p. letter_drawn alphabet (word_behind from p) in
+    ext_get_or no_letter text (text_drawn alphabet from len) (h.size ∙ sym (length-map (positions_from 0 len) letter ∙ count))
     (λ p lt.
     let inside : p < len = omega (arith, h.size) in
     let at : get_or (positions_from 0 len) p 0 ≡ p = omega (arith, get_or-positions_from 0 len p 0 inside) in
-    h.places p (omega arith) ∙ sym (get_or-map class (positions_from 0 len) p 0 no_unit (omega (arith, count)) ∙ ap class at))
+    h.places p (omega arith) ∙ sym (get_or-map letter (positions_from 0 len) p 0 no_letter (omega (arith, count)) ∙ ap letter at))

@@ -2,19 +2,26 @@
 use Rattle.std.proofs.Common.{◌≡◌, ◌≢◌, ℕ, ◌<◌, ◌≤◌, ◌==◌, true, Bool, Option, Some, None, List, length, refl, sym, ap, ◌∙◌, arith}
 use Rattle.std.specs.Prelude.{◌&&◌, not, nat_le, nat_lt, codes}
 use Rattle.std.specs.List.{list_all}
+use Rattle.std.specs.Borrow.{Bor}
 use Rattle.std.specs.Fmt.{decimal}
 use Rattle.std.specs.Option.{option_map}
 use Rattle.std.proofs.lemmas.Bool.{and_parts}
 use Rattle.std.proofs.lemmas.Bool.Decides.{nat_tests}
 use Rattle.std.proofs.lemmas.Fmt.{length-decimal-le}
 use Rattle.units.specs.ClassNames.{short_name, class_of_short}
-use Rattle.units.specs.declared.bracket.Bracket.{Bracket}
 use Rattle.units.specs.declared.bracket.Unit.{Unit as BidiUnit}
 use Rattle.units.specs.declared.class.Class.{Class}
 use Rattle.units.specs.declared.class.Class.TheVariants.{L}
+use Rattle.ucdfiles.specs.Tables.{TablesOf, unit_by}
 use Rattle.printing.specs.LevelsText.{level_text}
+use Rattle.bidtests.specs.CharactersFile.{character_item}
 use Rattle.bidtests.specs.ClassesFile.{level_item, order_item, unit_item, unit_of_class}
-use Rattle.rows.specs.RowTexts.{IsPlain, unit_name}
+use Rattle.bidtests.specs.declared.kind.Kind.{Kind}
+use Rattle.bidtests.specs.declared.kind.Kind.TheVariants.{Classes, Characters}
+use Rattle.rows.specs.Letters.{IsLetterOf, letter_name, unit_of}
+use Rattle.rows.specs.declared.letter.Letter.{Letter}
+use Rattle.rows.specs.declared.letter.Letter.TheVariants as letter
+use Rattle.rows.proofs.HexNumbers.{code-few, code-item, code-read}
 use Rattle.rows.proofs.Items.{IsItem, IsItemByte, all-tested}
 use Rattle.rows.proofs.LevelBounds.{IsLevel}
 use Rattle.rows.proofs.ReadNumbers.{number-read, decimal-item, decimal-no_word}
@@ -48,16 +55,27 @@ name : (class : Class) → IsName class
 name L = record { test = refl; few = refl; read = refl }
 name _ = record { test = refl; few = refl; read = refl }
 
-pub name-item : (unit : BidiUnit) → IsItem (unit_name unit)
-name-item unit = tested-item (short_name unit.class) (name unit.class).test
+pub name-item : (kind : Kind) (l : Letter) → IsLetterOf kind l → IsItem (letter_name l)
+name-item Classes (letter.Class class) is = tested-item (short_name class) (name class).test
+name-item Classes (letter.Character code unit) is = absurd is
+name-item (Characters tables) (letter.Class class) is = absurd is
+name-item (Characters tables) (letter.Character code unit) is = code-item code is.0
 
-pub name-few : (unit : BidiUnit) → length (unit_name unit) ≤ 3
-name-few unit = let test = (name unit.class).few in grind (arith, nat_tests)
+pub name-few : (kind : Kind) (l : Letter) → IsLetterOf kind l → length (letter_name l) ≤ 6
+name-few Classes (letter.Class class) is = let test = (name class).few in grind (arith, nat_tests)
+name-few Classes (letter.Character code unit) is = absurd is
+name-few (Characters tables) (letter.Class class) is = absurd is
+name-few (Characters tables) (letter.Character code unit) is = code-few code is.0
 
-pub name-read : (unit : BidiUnit) → IsPlain unit → unit_item (unit_name unit) ≡ Some unit
-name-read unit plain =
-    ap (option_map unit_of_class) (name unit.class).read
-    ∙ ap (λ (b : Bracket). Some (record { class = unit.class; bracket = b })) (sym plain)
+pub class-read : (l : Letter) → IsLetterOf Classes l → unit_item (letter_name l) ≡ Some (unit_of l)
+class-read (letter.Class class) is = ap (option_map unit_of_class) (name class).read
+class-read (letter.Character code unit) is = absurd is
+
+pub character-read : (tables : Bor TablesOf) (l : Letter) → IsLetterOf (Characters tables) l
+    → character_item (unit_by tables.now) (letter_name l) ≡ Some (unit_of l)
+character-read tables (letter.Class class) is = absurd is
+character-read tables (letter.Character code unit) is =
+    ap (option_map (unit_by tables.now)) (code-read code is.0) ∙ ap (λ (u : BidiUnit). Some u) (sym is.1)
 
 pub level-item : (level : Option ℕ) → IsLevel level → IsItem (level_text level)
 level-item None within = tested-item (codes "x") refl

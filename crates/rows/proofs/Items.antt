@@ -59,3 +59,12 @@ module _ {A : Type 0} (text : A → List ℕ) where
       let first : read (text x) ≡ Some x = All-head (λ y. read (text y) ≡ Some y) x xs reads in
       let rest : each_read read (map text xs) ≡ Some xs = each-read read xs (All-tail (λ y. read (text y) ≡ Some y) x xs reads) in
       rw (first, rest) refl
+
+  -- items that are read as something of what they are the texts of
+  pub each-read-as : {B : Type 0} (read : List ℕ → Option B) (value : A → B) (xs : List A) → All (λ x. read (text x) ≡ Some (value x)) xs
+      → each_read read (map text xs) ≡ Some (map value xs)
+  each-read-as read value [] reads = refl
+  each-read-as read value (x ∷ xs) reads =
+      let first : read (text x) ≡ Some (value x) = All-head (λ y. read (text y) ≡ Some (value y)) x xs reads in
+      let rest : each_read read (map text xs) ≡ Some (map value xs) = each-read-as read value xs (All-tail (λ y. read (text y) ≡ Some (value y)) x xs reads) in
+      rw (first, rest) refl

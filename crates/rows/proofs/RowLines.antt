@@ -10,16 +10,15 @@ use Rattle.units.specs.declared.bracket.Unit.{Unit as BidiUnit}
 use Rattle.units.specs.declared.level.Direction.{Direction}
 use Rattle.units.specs.declared.level.Direction.TheVariants.{Auto}
 use Rattle.bidtests.specs.ClassesFile.{RowOf, bit_set, classes_content, classes_row_as_read, classes_row_by, classes_row_of_items, unit_item}
-use Rattle.rows.specs.RowTexts.{IsPlain, IsRowText, behind_blanks, bit_text, names_text, row_line, unit_name}
-use Rattle.rows.proofs.Contents.{trimmed-whole, cut-first}
-use Rattle.rows.proofs.Items.{all-of-every, IsItem, IsItemByte, all-tested, no-blank, items-first, each-read}
-use Rattle.rows.proofs.ItemTexts.{name-item, name-few, name-read}
-use Rattle.rows.proofs.LineTexts.{EndsPlain, IsFieldByte, IsLineByte, IsSaidBy, Says, behind-fields, ends-append, ends-behind, ends-item, field-item, length-behind, line-field, whole-line}
-
--- the first byte of what begins with an item
-first-byte : (w rest : List ℕ) → IsItem w → IsItemByte (get_or (w ++ rest) 0 0)
-first-byte [] rest item = absurd (omega (arith, item.some))
-first-byte (b ∷ w) rest item = item.bytes 0 0 (omega arith)
+use Rattle.bidtests.specs.declared.kind.Kind.TheVariants.{Classes}
+use Rattle.rows.specs.Letters.{IsLetterOf, letter_name, unit_of, units_of}
+use Rattle.rows.specs.RowTexts.{IsRowText, between_blanks, bit_text, row_line}
+use Rattle.rows.specs.declared.letter.Letter.{Letter}
+use Rattle.rows.proofs.Between.{IsField, between-ends, between-field, between-first, between-items, length-between}
+use Rattle.rows.proofs.Contents.{cut-first}
+use Rattle.rows.proofs.Items.{IsItem, IsItemByte, all-tested, each-read-as, no-blank}
+use Rattle.rows.proofs.ItemTexts.{class-read, name-few, name-item}
+use Rattle.rows.proofs.LineTexts.{EndsPlain, IsFieldByte, IsLineByte, IsSaidBy, Says, ends-append, line-field, whole-line}
 
 is-line-byte : (b : ℕ) → (nat_le 32 b && not (b == 35)) ≡ true → IsLineByte b
 is-line-byte b test =
@@ -50,45 +49,37 @@ no-directive : (bs : List ℕ) → 0 < length bs → get_or bs 0 0 ≢ 64 → cl
 no-directive [] some ne = absurd (omega arith)
 no-directive (b ∷ bs) some ne = rw (ne_eqb b 64 ne) refl
 
-module _ (unit : BidiUnit) (units : List BidiUnit) (direction : Direction) where
-  abbrev text : List BidiUnit
-  text = unit ∷ units
+module _ (l : Letter) (ls : List Letter) (direction : Direction) (letters : All (IsLetterOf Classes) (l ∷ ls)) where
+  abbrev text : List Letter
+  text = l ∷ ls
 
   abbrev names : List ℕ
-  names = names_text text
+  names = between_blanks letter_name text
 
-  items : All (λ u. IsItem (unit_name u)) units
-  items = all-of-every (λ u. IsItem (unit_name u)) name-item units
+  items : All (λ x. IsItem (letter_name x)) text
+  items = All-weaker (IsLetterOf Classes) (λ x. IsItem (letter_name x)) (name-item Classes) text letters
 
-  names-fields : All IsFieldByte names
-  names-fields =
-      All-append IsFieldByte (unit_name unit) (behind_blanks unit_name units)
-      (All-weaker IsItemByte IsFieldByte field-item (unit_name unit) (name-item unit).bytes) (behind-fields unit_name units items)
+  names-field : IsField names
+  names-field = between-field letter_name text items
 
   names-end : EndsPlain names
-  names-end = ends-behind unit_name (unit_name unit) units (ends-item (unit_name unit) (name-item unit)) items
+  names-end = between-ends letter_name l ls items
 
-  names-trimmed : trimmed names ≡ names
-  names-trimmed =
-      let first = no-blank (get_or names 0 0) (first-byte (unit_name unit) (behind_blanks unit_name units) (name-item unit)) in
-      trimmed-whole names (record { some = names-end.some; first = first; last = names-end.last })
-
-  length-names : length names ≤ length text * 4
+  length-names : length names ≤ length text * 7
   length-names =
-      let rest = length-behind unit_name 3 units (all-of-every (λ u. length (unit_name u) ≤ 3) name-few units) in
-      omega (arith, length-append (unit_name unit) (behind_blanks unit_name units), name-few unit, rest)
+      length-between letter_name 6 text (All-weaker (IsLetterOf Classes) (λ x. length (letter_name x) ≤ 6) (name-few Classes) text letters)
 
   line-first : IsItemByte (get_or (row_line text direction) 0 0)
   line-first =
       let begins : get_or (row_line text direction) 0 0 ≡ get_or names 0 0 = get_or_append_left names (59 ∷ 32 ∷ bit_text direction) 0 0 names-end.some in
-      subst IsItemByte (sym begins) (first-byte (unit_name unit) (behind_blanks unit_name units) (name-item unit))
+      subst IsItemByte (sym begins) (between-first letter_name l ls items)
 
   row-said : length text ≤ 4096 → IsSaidBy (row_line text direction)
   row-said fits =
       let is = bits direction in
       let ends = ends-append names (59 ∷ 32 ∷ bit_text direction) (bits-end direction) in
       record {
-        bytes = All-append IsLineByte names (59 ∷ 32 ∷ bit_text direction) (All-weaker IsFieldByte IsLineByte line-field names names-fields)
+        bytes = All-append IsLineByte names (59 ∷ 32 ∷ bit_text direction) (All-weaker IsFieldByte IsLineByte line-field names names-field.bytes)
             (all-tested IsLineByte (λ b. nat_le 32 b && not (b == 35)) is-line-byte (59 ∷ 32 ∷ bit_text direction) is.bytes);
         ends = record { some = ends.some; first = no-blank (get_or (row_line text direction) 0 0) line-first; last = ends.last };
         short = omega (arith, length-append names (59 ∷ 32 ∷ bit_text direction), length-names, is.count);
@@ -97,28 +88,28 @@ module _ (unit : BidiUnit) (units : List BidiUnit) (direction : Direction) where
   fields-read : fields_of (row_line text direction) ≡ names ∷ bit_text direction ∷ []
   fields-read =
       let is = bits direction in
-      ap each_trimmed (cut-first 59 names (32 ∷ bit_text direction) (All-weaker IsFieldByte (λ b. b ≢ 59) (λ b h. h.separator) names names-fields) ∙ ap (λ (ps : List (List ℕ)). names ∷ ps) is.uncut)
-      ∙ ap (λ (n : List ℕ). n ∷ trimmed (32 ∷ bit_text direction) ∷ []) names-trimmed
+      ap each_trimmed (cut-first 59 names (32 ∷ bit_text direction) (All-weaker IsFieldByte (λ b. b ≢ 59) (λ b h. h.separator) names names-field.bytes) ∙ ap (λ (ps : List (List ℕ)). names ∷ ps) is.uncut)
+      ∙ ap (λ (n : List ℕ). n ∷ trimmed (32 ∷ bit_text direction) ∷ []) names-field.trim
       ∙ ap (λ (b : List ℕ). names ∷ b ∷ []) is.trim
 
-  row-of-names : All IsPlain text → classes_row_of_items bit_set (items_of names) (bit_text direction) ≡ RowOf text (direction ∷ [])
-  row-of-names plain =
-      let reads = All-weaker IsPlain (λ u. unit_item (unit_name u) ≡ Some u) name-read text plain in
-      ap (λ (ws : List (List ℕ)). classes_row_of_items bit_set ws (bit_text direction)) (items-first unit_name (unit_name unit) units (name-item unit) items)
-      ∙ ap (λ (units : Option (List BidiUnit)). classes_row_as_read units (bit_set (bit_text direction))) (each-read unit_name unit_item text reads)
-      ∙ ap (classes_row_as_read (Some text)) (bits direction).read
+  row-of-names : classes_row_of_items bit_set (items_of names) (bit_text direction) ≡ RowOf (units_of text) (direction ∷ [])
+  row-of-names =
+      let reads = All-weaker (IsLetterOf Classes) (λ x. unit_item (letter_name x) ≡ Some (unit_of x)) class-read text letters in
+      ap (λ (ws : List (List ℕ)). classes_row_of_items bit_set ws (bit_text direction)) (between-items letter_name text items)
+      ∙ ap (λ (units : Option (List BidiUnit)). classes_row_as_read units (bit_set (bit_text direction))) (each-read-as letter_name unit_item unit_of text reads)
+      ∙ ap (classes_row_as_read (Some (units_of text))) (bits direction).read
 
-  row-read-some : length text ≤ 4096 → All IsPlain text → Says (row_line text direction) (RowOf text (direction ∷ []))
-  row-read-some fits plain =
+  row-read-some : length text ≤ 4096 → Says (row_line text direction) (RowOf (units_of text) (direction ∷ []))
+  row-read-some fits =
       let by = row-said fits in
       record {
         by = by;
         read = whole-line (row_line text direction) by
             ∙ no-directive (row_line text direction) by.ends.some line-first.plain
             ∙ ap (classes_row_by bit_set) fields-read
-            ∙ row-of-names plain;
+            ∙ row-of-names;
       }
 
-pub row-read : (text : List BidiUnit) (direction : Direction) → IsRowText text → Says (row_line text direction) (RowOf text (direction ∷ []))
+pub row-read : (text : List Letter) (direction : Direction) → IsRowText Classes text → Says (row_line text direction) (RowOf (units_of text) (direction ∷ []))
 row-read [] direction is = absurd (omega (arith, is.some))
-row-read (unit ∷ units) direction is = row-read-some unit units direction is.fits is.plain
+row-read (l ∷ ls) direction is = row-read-some l ls direction is.letters (omega (arith, is.fits))

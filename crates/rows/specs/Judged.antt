@@ -2,12 +2,12 @@
 use Rattle.std.specs.Prelude.{◌≡◌, List, length}
 use Rattle.units.specs.Limits.{LimitsOf}
 use Rattle.units.specs.Lines.{saturated}
-use Rattle.bidtests.specs.declared.kind.Kind.TheVariants.{Classes}
+use Rattle.bidtests.specs.declared.kind.Kind.{Kind}
 use Rattle.bidtests.specs.declared.verdict.Verdict.TheVariants.{Yes}
 use Rattle.bidtests.specs.FileKinds.{verdict_of}
 use Rattle.rows.specs.RowTexts.{Case, cases_text}
 
--- the verdict on the file of these cases, as a BidiTest.txt, is yes, and each case is a row with one case
-abbrev pub JudgeSaysYes : LimitsOf → List Case → Type 0
-JudgeSaysYes limits cases =
-    verdict_of limits Classes (cases_text limits cases) ≡ Yes (saturated (length cases)) (saturated (length cases))
+-- the verdict on the file of these cases, as one of this kind, is yes, and each case is a row with one case
+abbrev pub JudgeSaysYes : LimitsOf → Kind → List Case → Type 0
+JudgeSaysYes limits kind cases =
+    verdict_of limits kind (cases_text limits kind cases) ≡ Yes (saturated (length cases)) (saturated (length cases))

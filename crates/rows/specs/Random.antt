@@ -3,27 +3,25 @@ use Rattle.std.specs.Prelude.{Option, Some, None, ℕ, ◌+◌, ◌-◌, ◌%◌
 use Rattle.rand_pcg.specs.Lcg.{Lcg, advance, increment_of, started}
 use Rattle.rand_pcg.specs.Pcg.{multiplier_64, pcg32}
 use Rattle.units.specs.Positions.{positions_from}
-use Rattle.units.specs.declared.bracket.Unit.{Unit as BidiUnit}
-use Rattle.units.specs.declared.class.Class.{Class}
-use Rattle.units.specs.declared.class.Class.TheVariants.{L}
 use Rattle.units.specs.declared.level.Direction.{Direction}
-use Rattle.bidtests.specs.ClassesFile.{unit_of_class}
+use Rattle.rows.specs.Letters.{no_letter}
+use Rattle.rows.specs.declared.letter.Letter.{Letter}
 use Rattle.rows.specs.RowTexts.{Case, longest_row}
 use Rattle.rows.specs.Exhaustive.{cases_between, under_each}
 use Rattle.rows.specs.declared.fault.RowsFault.{RowsFault}
-use Rattle.rows.specs.declared.fault.RowsFault.TheVariants.{NoClass, NoLength, TooLong, NoneBetween}
+use Rattle.rows.specs.declared.fault.RowsFault.TheVariants.{NoLetter, NoLength, TooLong, NoneBetween}
 
 -- so many texts, drawn by this seed from an alphabet, none shorter than the least length or longer than the greatest
 pub record RandomOf : Type 0 where
-  pub alphabet : List Class
+  pub alphabet : List Letter
   pub least : ℕ
   pub greatest : ℕ
   pub seed : ℕ
   pub count : ℕ
 
--- there is a class, each text has one, none is too long, and there is a length to draw
+-- there is a letter, each text has one, none is too long, and there is a length to draw
 pub record CanBeDrawn (r : RandomOf) : Type 0 where
-  pub classes : 0 < length r.alphabet
+  pub letters : 0 < length r.alphabet
   pub some : 0 < r.least
   pub short : r.greatest ≤ longest_row
   pub between : r.least ≤ r.greatest
@@ -31,7 +29,7 @@ pub record CanBeDrawn (r : RandomOf) : Type 0 where
 -- the first reason why these texts can't be drawn
 abbrev pub no_drawing_of : RandomOf → Option RowsFault
 no_drawing_of r =
-    if length r.alphabet == 0 then Some NoClass
+    if length r.alphabet == 0 then Some NoLetter
     else if r.least == 0 then Some NoLength
     else if nat_lt longest_row r.greatest then Some TooLong
     else if nat_lt r.greatest r.least then Some NoneBetween
@@ -45,20 +43,20 @@ generator_of seed number = started 64 multiplier_64 seed (increment_of 64 number
 abbrev pub word_behind : Lcg → ℕ → ℕ
 word_behind g words = (pcg32 (advance 64 multiplier_64 words g)).0
 
--- the class that a word draws from an alphabet
-abbrev pub class_drawn : List Class → ℕ → Class
-class_drawn alphabet word = slice_index_or alphabet (word % length alphabet) L
+-- the letter that a word draws from an alphabet
+abbrev pub letter_drawn : List Letter → ℕ → Letter
+letter_drawn alphabet word = slice_index_or alphabet (word % length alphabet) no_letter
 
 -- the text of this length that a generator draws, a word for each place
-abbrev pub text_drawn : List Class → Lcg → ℕ → List BidiUnit
-text_drawn alphabet g len = map (λ place. unit_of_class (class_drawn alphabet (word_behind g place))) (positions_from 0 len)
+abbrev pub text_drawn : List Letter → Lcg → ℕ → List Letter
+text_drawn alphabet g len = map (λ place. letter_drawn alphabet (word_behind g place)) (positions_from 0 len)
 
 -- the length of a text, which the first word of its generator draws
 abbrev pub length_drawn : RandomOf → ℕ → ℕ
 length_drawn r number = r.least + (pcg32 (generator_of r.seed number)).0 % (r.greatest - r.least + 1)
 
--- the text of this number: its classes are drawn behind its length
-abbrev pub text_of_draw : RandomOf → ℕ → List BidiUnit
+-- the text of this number: its letters are drawn behind its length
+abbrev pub text_of_draw : RandomOf → ℕ → List Letter
 text_of_draw r number = text_drawn r.alphabet (pcg32 (generator_of r.seed number)).1 (length_drawn r number)
 
 -- the cases of the text of this number

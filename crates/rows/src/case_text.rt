@@ -1,4 +1,4 @@
-// The lines of a case, by its layout.
+// The lines of a case in a file of classes, by its layout.
 ghost use Rattle.std.specs.Prelude.{◌≡◌, ◌++◌, codes, OnOk};
 ghost use Rattle.std.specs.Fmt.{decimal};
 ghost use Rattle.std.specs.Io.KnownBytes.{Appends};
@@ -7,12 +7,14 @@ ghost use Rattle.units.specs.Layout.{all_orders};
 ghost use Rattle.units.specs.Lines.{ended};
 ghost use Rattle.lines.specs.Layouts.{view_of};
 ghost use Rattle.printing.specs.LevelsText.{level_text};
-ghost use Rattle.rows.specs.RowTexts.{behind_blanks, bit_text, levels_line, lines_with_layout, order_line, row_line, unit_name};
+ghost use Rattle.bidtests.specs.declared.kind.Kind.TheVariants as kind;
+ghost use Rattle.rows.specs.Letters.{letter_name};
+ghost use Rattle.rows.specs.RowTexts.{behind_blanks, between_blanks, bit_text, levels_line, lines_with_layout, order_line, row_line};
 
+use crate::letter::Letter;
 use lines::layout::Layout;
 use std::io;
 use std::io::Write;
-use units::bracket::Unit;
 use units::level::{Direction, Level};
 
 /// Writes a level, or `x` where the position is removed, behind a blank.
@@ -25,7 +27,8 @@ fn print_level<W: Write>(w: &mut W, level: Option<Level>) -> io::Result<()>
     }
 }
 
-fn print_levels<W: Write>(w: &mut W, levels: &[Option<Level>]) -> io::Result<()>
+/// Writes each level behind a blank.
+pub fn print_levels<W: Write>(w: &mut W, levels: &[Option<Level>]) -> io::Result<()>
     ensures { OnOk result (Appends (W.contents w.old) (W.contents w.new) (behind_blanks level_text levels.now)) }
 {
     for level in levels {
@@ -34,7 +37,8 @@ fn print_levels<W: Write>(w: &mut W, levels: &[Option<Level>]) -> io::Result<()>
     Ok(())
 }
 
-fn print_positions<W: Write>(w: &mut W, order: &[usize]) -> io::Result<()>
+/// Writes each position behind a blank.
+pub fn print_positions<W: Write>(w: &mut W, order: &[usize]) -> io::Result<()>
     ensures { OnOk result (Appends (W.contents w.old) (W.contents w.new) (behind_blanks decimal order.now)) }
 {
     for position in order {
@@ -54,19 +58,24 @@ fn print_orders<W: Write>(w: &mut W, layout: &Layout<'_>) -> io::Result<()>
     Ok(())
 }
 
-/// Writes the short name of a unit's class behind a blank.
-fn print_name<W: Write>(w: &mut W, unit: Unit) -> io::Result<()>
-    ensures { OnOk result (Appends (W.contents w.old) (W.contents w.new) (codes " " ++ unit_name unit)) }
+fn print_names_behind<W: Write>(w: &mut W, text: &[Letter]) -> io::Result<()>
+    ensures { OnOk result (Appends (W.contents w.old) (W.contents w.new) (behind_blanks letter_name text.now)) }
 {
-    let name = unit.class.short();
-    write!(w, " {name}")
+    for letter in text {
+        let letter = *letter;
+        write!(w, " {letter}")?;
+    }
+    Ok(())
 }
 
-fn print_names<W: Write>(w: &mut W, units: &[Unit]) -> io::Result<()>
-    ensures { OnOk result (Appends (W.contents w.old) (W.contents w.new) (behind_blanks unit_name units.now)) }
+/// Writes the names of a text's letters, a blank between each two.
+pub fn print_names<W: Write>(w: &mut W, text: &[Letter]) -> io::Result<()>
+    ensures { OnOk result (Appends (W.contents w.old) (W.contents w.new) (between_blanks letter_name text.now)) }
 {
-    for unit in units {
-        print_name(w, *unit)?;
+    if let [first, others @ ..] = text {
+        let first = *first;
+        write!(w, "{first}")?;
+        print_names_behind(w, others)?;
     }
     Ok(())
 }
@@ -100,27 +109,23 @@ fn print_order_line<W: Write>(w: &mut W, layout: &Layout<'_>) -> io::Result<()>
     writeln!(w)
 }
 
-fn print_row_line<W: Write>(w: &mut W, text: &[Unit], direction: Direction) -> io::Result<()>
+fn print_row_line<W: Write>(w: &mut W, text: &[Letter], direction: Direction) -> io::Result<()>
     ensures { OnOk result (Appends (W.contents w.old) (W.contents w.new) (ended (row_line text.now direction))) }
 {
-    if let [first, others @ ..] = text {
-        let name = first.class.short();
-        write!(w, "{name}")?;
-        print_names(w, others)?;
-    }
+    print_names(w, text)?;
     let bit = bit_of(direction);
     writeln!(w, "; {bit}")
 }
 
 /// Writes the lines of a text under a direction, of which this is the layout: its levels, its order, and its row.
-pub fn print_case<W: Write>(
+pub fn print_class_case<W: Write>(
     w: &mut W,
-    text: &[Unit],
+    text: &[Letter],
     direction: Direction,
     layout: &Layout<'_>,
 ) -> io::Result<()>
     ensures { OnOk result (Appends (W.contents w.old) (W.contents w.new)
-        (flat_map ended (lines_with_layout (view_of layout.now) (record { text = text.now; direction = direction })))) }
+        (flat_map ended (lines_with_layout kind.Classes (view_of layout.now) (record { text = text.now; direction = direction })))) }
 {
     print_levels_line(w, layout.levels())?;
     print_order_line(w, layout)?;

@@ -3,17 +3,17 @@ ghost use Rattle.std.specs.Prelude.{◌≡◌, IfOk};
 ghost use Rattle.std.specs.Result.{result_err};
 
 use crate::fault::RowsFault;
+use crate::letter::Letter;
 use std::marker::Model;
-use units::class::Class;
 
 /// The longest text of a row, in units: with it no line is longer than a judge takes.
-pub const LONGEST_ROW: usize = 4096;
+pub const LONGEST_ROW: usize = 4095;
 
 /// All texts over an alphabet from a least length up to a greatest, in units, the shorter ones first; those of one
 /// length in the order of the alphabet, the last place fastest. There are none where the least is above the greatest.
 #[derive(Drop)]
 pub struct Exhaustive<'a> {
-    alphabet: &'a [Class],
+    alphabet: &'a [Letter],
     least: usize,
     greatest: usize,
 }
@@ -31,10 +31,10 @@ impl<'a> Model for Exhaustive<'a> {
 impl<'a> Exhaustive<'a> {
     ghost use Rattle.rows.specs.Exhaustive.{CanBeCounted, ExhaustiveOf, refusal_of};
 
-    /// The texts of these lengths over this alphabet; a class that stands there twice is taken twice. Of the faults
+    /// The texts of these lengths over this alphabet; a letter that stands there twice is taken twice. Of the faults
     /// that hold the first is named, in the order in which they are listed.
     pub fn new(
-        alphabet: &'a [Class],
+        alphabet: &'a [Letter],
         least: usize,
         greatest: usize,
     ) -> Result<Exhaustive<'a>, RowsFault>
@@ -42,7 +42,7 @@ impl<'a> Exhaustive<'a> {
         ensures refused { result_err result ≡ refusal_of (record { alphabet = alphabet.now; least = least; greatest = greatest }) }
     {
         if alphabet.is_empty() {
-            return Err(RowsFault::NoClass);
+            return Err(RowsFault::NoLetter);
         }
         if least == 0 {
             return Err(RowsFault::NoLength);
@@ -61,7 +61,7 @@ impl<'a> Exhaustive<'a> {
     }
 
     /// The alphabet.
-    pub fn alphabet(&self) -> &[Class]
+    pub fn alphabet(&self) -> &[Letter]
         ensures { result.now ≡ self.now.alphabet }
     {
         self.alphabet

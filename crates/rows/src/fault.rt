@@ -3,9 +3,9 @@
 /// Why texts can't be enumerated, or drawn.
 #[derive(Clone, Copy, Debug, PartialEq, Eq)]
 pub enum RowsFault {
-    /// The alphabet has no class.
-    NoClass,
-    /// The least length is 0, and a row has a class.
+    /// The alphabet has no letter.
+    NoLetter,
+    /// The least length is 0, and a row has a letter.
     NoLength,
     /// The greatest length is above `LONGEST_ROW`.
     TooLong,

@@ -2,11 +2,10 @@
 ghost use Rattle.std.specs.Prelude.{◌≡◌, ◌<◌, length};
 ghost use Rattle.rows.specs.Exhaustive.{text_of_number};
 
-use units::bracket::{Bracket, Unit};
-use units::class::Class;
+use crate::letter::Letter;
 
 /// Fills a text with the one of its length that has this number, from its last place to its first.
-pub fn fill_text(alphabet: &[Class], number: usize, text: &mut [Unit])
+pub fn fill_text(alphabet: &[Letter], number: usize, text: &mut [Letter])
     requires { 0 < length alphabet.now }
     ensures length { length text.new ≡ length text.old }
     ensures text { text.new ≡ text_of_number alphabet.now (length text.old) number }
@@ -14,10 +13,7 @@ pub fn fill_text(alphabet: &[Class], number: usize, text: &mut [Unit])
     let len = text.len();
     let mut rest = number;
     for done in 0..len {
-        text[len - 1 - done] = Unit {
-            class: alphabet[rest % alphabet.len()],
-            bracket: Bracket::No,
-        };
+        text[len - 1 - done] = alphabet[rest % alphabet.len()];
         rest /= alphabet.len();
     }
 }

@@ -1,76 +1,68 @@
 //! The file of all texts over an alphabet.
-ghost use Rattle.std.specs.Prelude.{◌≡◌, ◌≤◌, ◌<◌, ◌^◌, length, IfOk, OnOk};
+ghost use Rattle.std.specs.Prelude.{◌≡◌, ◌<◌, ◌≤◌, ◌^◌, length, OnOk};
 ghost use Rattle.std.specs.Io.KnownBytes.{Appends};
+ghost use Rattle.std.specs.List.{All};
 ghost use Rattle.units.specs.Limits.{standard};
-ghost use Rattle.lines.specs.Scratches.{room_of};
+ghost use Rattle.rows.specs.Letters.{IsLetterOf};
 ghost use Rattle.rows.specs.RowTexts.{cases_text};
+ghost use Rattle.rows.specs.Rooms.{HasRowRoom, KeepsRowRoom};
 ghost use Rattle.rows.specs.Exhaustive.{cases_in, cases_of_length, cases_of_number, CanBeCounted};
 ghost use Rattle.rows.specs.Judged.{JudgeSaysYes};
 
 use crate::exhaustive::Exhaustive;
+use crate::letter::Letter;
 use crate::numbered::fill_text;
+use crate::room::{RowRoom, letters_for, room_for_rows};
 use crate::under_directions::print_text;
-use lines::scratch::Scratch;
+use bidtests::kind::Kind;
 use printing::fault::PrintFault;
 use std::alloc::Global;
 use std::io;
 use std::io::Write;
-use units::bracket::{Bracket, Unit};
-use units::class::Class;
 use units::level::Direction;
-use units::memory::Memory;
-
-/// Room for the longest text.
-pub fn room_for(alloc: Global, len: usize) -> Result<Vec<Unit>, Memory>
-    ensures { IfOk result (λ text. length text.items ≡ len) }
-{
-    let unit = Unit {
-        class: Class::L,
-        bracket: Bracket::No,
-    };
-    Ok(vec![in alloc; unit; len]?)
-}
 
 /// Writes the lines of the text that has this number among those as long as `text`, which is filled with it.
 fn print_numbered<W: Write>(
     w: &mut W,
-    scratch: &mut Scratch,
-    alphabet: &[Class],
+    room: &mut RowRoom,
+    kind: Kind<'_>,
+    alphabet: &[Letter],
     directions: &[Direction],
     number: usize,
-    text: &mut [Unit],
+    text: &mut [Letter],
 ) -> io::Result<()>
     requires some { 0 < length alphabet.now }
-    requires room { length text.old ≤ room_of scratch.old }
+    requires room { HasRowRoom (length text.old) room.old }
     ensures printed { OnOk result (Appends (W.contents w.old) (W.contents w.new)
-        (cases_text standard (cases_of_number alphabet.now directions.now (length text.old) number))) }
-    ensures room { room_of scratch.new ≡ room_of scratch.old }
+        (cases_text standard kind.entry (cases_of_number alphabet.now directions.now (length text.old) number))) }
+    ensures room { KeepsRowRoom room.old room.new }
     ensures length { length text.new ≡ length text.old }
 {
     fill_text(alphabet, number, text);
-    print_text(w, scratch, text, directions)
+    print_text(w, room, kind, text, directions)
 }
 
 /// Writes the lines of all texts as long as `text`.
 fn print_length<W: Write>(
     w: &mut W,
-    scratch: &mut Scratch,
-    alphabet: &[Class],
+    room: &mut RowRoom,
+    kind: Kind<'_>,
+    alphabet: &[Letter],
     directions: &[Direction],
-    text: &mut [Unit],
+    text: &mut [Letter],
 ) -> io::Result<()>
     requires some { 0 < length alphabet.now }
-    requires room { length text.old ≤ room_of scratch.old }
+    requires room { HasRowRoom (length text.old) room.old }
     requires few { length alphabet.now ^ length text.old < 2 ^ 64 }
     requires short { length text.old < 2 ^ 32 }
     ensures printed { OnOk result (Appends (W.contents w.old) (W.contents w.new)
-        (cases_text standard (cases_of_length alphabet.now directions.now (length text.old)))) }
-    ensures room { room_of scratch.new ≡ room_of scratch.old }
+        (cases_text standard kind.entry (cases_of_length alphabet.now directions.now (length text.old)))) }
+    ensures room { KeepsRowRoom room.old room.new }
     ensures length { length text.new ≡ length text.old }
 {
     let count = alphabet.len().pow(text.len() as u32);
     for number in 0..count {
-        print_numbered(w, scratch, alphabet, directions, number, text)?;
+        print_numbered(w, room, kind, alphabet, directions, number, text)?;
     }
     Ok(())
 }
@@ -78,42 +70,45 @@ fn print_length<W: Write>(
 /// Writes the lines of all texts, by their lengths; `row` is room for the longest.
 fn print_lengths<W: Write>(
     w: &mut W,
-    scratch: &mut Scratch,
+    room: &mut RowRoom,
+    kind: Kind<'_>,
     texts: &Exhaustive<'_>,
     directions: &[Direction],
-    row: &mut [Unit],
+    row: &mut [Letter],
 ) -> io::Result<()>
     requires counted { CanBeCounted texts.now }
-    requires scratch { texts.now.greatest ≤ room_of scratch.old }
+    requires room { HasRowRoom texts.now.greatest room.old }
     requires row { texts.now.greatest ≤ length row.old }
     ensures { OnOk result (Appends (W.contents w.old) (W.contents w.new)
-        (cases_text standard (cases_in texts.now directions.now))) }
+        (cases_text standard kind.entry (cases_in texts.now directions.now))) }
 {
     let alphabet = texts.alphabet();
     for len in texts.least()..texts.greatest() + 1 {
-        print_length(w, scratch, alphabet, directions, &mut row[..len])?;
+        print_length(w, room, kind, alphabet, directions, &mut row[..len])?;
     }
     Ok(())
 }
 
-/// Writes a test file in the form of BidiTest.txt: each of the texts, the shorter ones first, under each of these
-/// directions in their order, with the levels and the order that the rules give by the standard limits (P1 to L2). A
-/// text under a direction is three lines, `@Levels:`, `@Reorder:` and a row that names this direction alone. The judge
-/// says yes of what is written. The memory is that of one text of the greatest length, and is taken before the first
-/// write. The fault is `Write` where the writer fails, when it is not known how much it took, and `Memory` where memory
-/// is refused.
+/// Writes a test file of this kind: each of the texts, the shorter ones first, under each of these directions in their
+/// order, with the levels and the order that the rules give by the standard limits (P1 to L2). A text under a direction
+/// is in the form of BidiTest.txt three lines, `@Levels:`, `@Reorder:` and a row that names this direction alone, and in
+/// that of BidiCharacterTest.txt one row. The judge says yes of what is written, if the letters are of this kind. The
+/// memory is that of one text of the greatest length, and is taken before the first write. The fault is `Write` where
+/// the writer fails, when it is not known how much it took, and `Memory` where memory is refused.
 pub fn print_exhaustive<W: Write>(
     alloc: Global,
     w: &mut W,
+    kind: Kind<'_>,
     texts: &Exhaustive<'_>,
     directions: &[Direction],
 ) -> Result<(), PrintFault>
     ensures printed { OnOk result (Appends (W.contents w.old) (W.contents w.new)
-        (cases_text standard (cases_in texts.now directions.now))) }
-    ensures right { JudgeSaysYes standard (cases_in texts.now directions.now) }
+        (cases_text standard kind.entry (cases_in texts.now directions.now))) }
+    ensures right { All (IsLetterOf kind.entry) texts.now.alphabet
+        → JudgeSaysYes standard kind.entry (cases_in texts.now directions.now) }
 {
-    let mut scratch = Scratch::reserve(alloc, texts.greatest())?;
-    let mut row = room_for(alloc, texts.greatest())?;
-    print_lengths(w, &mut scratch, texts, directions, &mut row)?;
+    let mut room = room_for_rows(alloc, texts.greatest())?;
+    let mut row = letters_for(alloc, texts.greatest())?;
+    print_lengths(w, &mut room, kind, texts, directions, &mut row)?;
     Ok(())
 }

@@ -4,16 +4,16 @@ ghost use Rattle.std.specs.Result.{result_err};
 
 use crate::exhaustive::LONGEST_ROW;
 use crate::fault::RowsFault;
+use crate::letter::Letter;
 use std::marker::Model;
-use units::class::Class;
 
 /// Texts drawn from an alphabet by a seed, each of a length from the least up to the greatest, in units. The text of a
 /// number is the same for the same seed, alphabet and lengths, on whatever machine and however many texts there are:
-/// its length and its classes are drawn, one word each, from the PCG32 whose state is the seed and whose stream is the
-/// text's number, counted from 0. A class that stands twice in the alphabet is drawn twice as often.
+/// its length and its letters are drawn, one word each, from the PCG32 whose state is the seed and whose stream is the
+/// text's number, counted from 0. A letter that stands twice in the alphabet is drawn twice as often.
 #[derive(Drop)]
 pub struct Random<'a> {
-    alphabet: &'a [Class],
+    alphabet: &'a [Letter],
     least: usize,
     greatest: usize,
     seed: u64,
@@ -34,9 +34,9 @@ impl<'a> Random<'a> {
     ghost use Rattle.rows.specs.Random.{CanBeDrawn, RandomOf, no_drawing_of};
 
     /// So many texts of these lengths over this alphabet, by this seed. Of the faults that hold the first is named, in
-    /// the order `NoClass`, `NoLength`, `TooLong`, `NoneBetween`.
+    /// the order `NoLetter`, `NoLength`, `TooLong`, `NoneBetween`.
     pub fn new(
-        alphabet: &'a [Class],
+        alphabet: &'a [Letter],
         least: usize,
         greatest: usize,
         seed: u64,
@@ -46,7 +46,7 @@ impl<'a> Random<'a> {
         ensures refused { result_err result ≡ no_drawing_of (record { alphabet = alphabet.now; least = least; greatest = greatest; seed = seed; count = count }) }
     {
         if alphabet.is_empty() {
-            return Err(RowsFault::NoClass);
+            return Err(RowsFault::NoLetter);
         }
         if least == 0 {
             return Err(RowsFault::NoLength);
@@ -67,7 +67,7 @@ impl<'a> Random<'a> {
     }
 
     /// The alphabet.
-    pub fn alphabet(&self) -> &[Class]
+    pub fn alphabet(&self) -> &[Letter]
         ensures value { result.now ≡ self.now.alphabet }
         ensures drawn { CanBeDrawn self.now }
     {

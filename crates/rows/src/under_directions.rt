@@ -1,51 +1,103 @@
 // A text under each of some directions.
 ghost use Rattle.std.specs.Prelude.{◌≡◌, ◌≤◌, [], ◌∷◌, length, OnOk};
 ghost use Rattle.std.specs.Io.KnownBytes.{Appends};
+ghost use Rattle.std.specs.List.{flat_map};
 ghost use Rattle.units.specs.Limits.{standard};
+ghost use Rattle.units.specs.Lines.{ended};
+ghost use Rattle.lines.specs.Layouts.{view_of};
 ghost use Rattle.lines.specs.Scratches.{room_of};
-ghost use Rattle.rows.specs.RowTexts.{cases_text};
+ghost use Rattle.rows.specs.Letters.{units_of};
+ghost use Rattle.rows.specs.RowTexts.{cases_text, lines_with_layout};
+ghost use Rattle.rows.specs.Rooms.{HasRowRoom, KeepsRowRoom};
 ghost use Rattle.rows.specs.Exhaustive.{under_each};
 
-use crate::case_text::print_case;
+use crate::case_text::print_class_case;
+use crate::character_text::print_character_case;
+use crate::letter::Letter;
+use crate::letters::fill_front;
+use crate::room::RowRoom;
+use bidtests::kind::Kind;
 use lines::breaks::Breaks;
 use lines::lay_out::lay_out_into;
+use lines::layout::Layout;
 use lines::scratch::Scratch;
 use std::io;
 use std::io::Write;
 use units::bracket::Unit;
 use units::level::Direction;
 
-/// Lays out a text under a direction and writes its lines.
+/// Writes the lines of a text under a direction, of which this is the layout, for a file of this kind.
+fn print_case<W: Write>(
+    w: &mut W,
+    kind: Kind<'_>,
+    text: &[Letter],
+    direction: Direction,
+    layout: &Layout<'_>,
+) -> io::Result<()>
+    ensures { OnOk result (Appends (W.contents w.old) (W.contents w.new)
+        (flat_map ended (lines_with_layout kind.entry (view_of layout.now) (record { text = text.now; direction = direction })))) }
+{
+    match kind {
+        Kind::Classes => print_class_case(w, text, direction, layout),
+        Kind::Characters(_) => print_character_case(w, text, direction, layout),
+    }
+}
+
+/// Lays out a text with these units under a direction and writes its lines.
 fn print_under<W: Write>(
     w: &mut W,
     scratch: &mut Scratch,
-    text: &[Unit],
+    kind: Kind<'_>,
+    text: &[Letter],
+    units: &[Unit],
     direction: Direction,
 ) -> io::Result<()>
-    requires { length text.now ≤ room_of scratch.old }
+    requires units { units.now ≡ units_of text.now }
+    requires room { length text.now ≤ room_of scratch.old }
     ensures printed { OnOk result (Appends (W.contents w.old) (W.contents w.new)
-        (cases_text standard (record { text = text.now; direction = direction } ∷ []))) }
+        (cases_text standard kind.entry (record { text = text.now; direction = direction } ∷ []))) }
     ensures room { room_of scratch.new ≡ room_of scratch.old }
 {
-    let breaks = Breaks::new(&[], text.len()).unwrap();
-    lay_out_into(scratch, text, direction, &breaks).unwrap();
-    print_case(w, text, direction, &scratch.layout())
+    let breaks = Breaks::new(&[], units.len()).unwrap();
+    lay_out_into(scratch, units, direction, &breaks).unwrap();
+    print_case(w, kind, text, direction, &scratch.layout())
+}
+
+/// Writes the lines of a text with these units under each of these directions.
+fn print_under_each<W: Write>(
+    w: &mut W,
+    scratch: &mut Scratch,
+    kind: Kind<'_>,
+    text: &[Letter],
+    units: &[Unit],
+    directions: &[Direction],
+) -> io::Result<()>
+    requires units { units.now ≡ units_of text.now }
+    requires room { length text.now ≤ room_of scratch.old }
+    ensures printed { OnOk result (Appends (W.contents w.old) (W.contents w.new)
+        (cases_text standard kind.entry (under_each directions.now text.now))) }
+    ensures room { room_of scratch.new ≡ room_of scratch.old }
+{
+    for direction in directions {
+        print_under(w, scratch, kind, text, units, *direction)?;
+    }
+    Ok(())
 }
 
 /// Writes the lines of a text under each of these directions.
 pub fn print_text<W: Write>(
     w: &mut W,
-    scratch: &mut Scratch,
-    text: &[Unit],
+    room: &mut RowRoom,
+    kind: Kind<'_>,
+    text: &[Letter],
     directions: &[Direction],
 ) -> io::Result<()>
-    requires { length text.now ≤ room_of scratch.old }
+    requires { HasRowRoom (length text.now) room.old }
     ensures printed { OnOk result (Appends (W.contents w.old) (W.contents w.new)
-        (cases_text standard (under_each directions.now text.now))) }
-    ensures room { room_of scratch.new ≡ room_of scratch.old }
+        (cases_text standard kind.entry (under_each directions.now text.now))) }
+    ensures room { KeepsRowRoom room.old room.new }
 {
-    for direction in directions {
-        print_under(w, scratch, text, *direction)?;
-    }
-    Ok(())
+    fill_front(text, &mut room.units);
+    let units = &room.units[..text.len()];
+    print_under_each(w, &mut room.scratch, kind, text, units, directions)
 }

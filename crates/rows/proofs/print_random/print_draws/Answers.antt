@@ -6,20 +6,21 @@ use Rattle.printing.specs.LevelsText.{printed}
 use Rattle.rows.specs.RowTexts.{cases_text}
 use Rattle.rows.specs.Random.{cases_of_draw}
 use Rattle.rows.proofs.JoinedTexts.{text-between}
+use Rattle.rows.proofs.RoomsKept.{room-kept, room-still}
 use Rattle.rows.proofs.print_random.print_draws.Goals as goal
 
 pub loop-number-init : goal.loop-number-init
-loop-number-init g c = record { printed = nothing_printed _ _ _; room = refl; size = refl }
+loop-number-init g c = record { printed = nothing_printed _ _ _; room = room-kept _; size = refl }
 
 pub loop-number-preserved : goal.loop-number-preserved
 loop-number-preserved g c = record {
   printed = one_more_printed _ _ _ _ _ _ (omega arith) c.loop-number.invariant.printed c.in_ok-print_draw.ensures.printed;
-  room = c.print_draw.ensures.room ∙ c.loop-number.invariant.room;
+  room = room-still _ _ _ c.loop-number.invariant.room c.print_draw.ensures.room;
   size = c.print_draw.ensures.row ∙ c.loop-number.invariant.size;
 }
 
 pub returns : goal.returns
 returns g c =
     let cases = cases_of_draw c.args.texts.now c.args.directions.now in
-    let text = λ (n : ℕ). cases_text standard (cases n) in
-    Appends-to _ _ _ _ (ap (printed text 0) (omega (arith, c.count-number-end.ensures)) ∙ text-between standard cases 0 _) c.loop-number.invariant.printed.grown
+    let text = λ (n : ℕ). cases_text standard c.args.kind (cases n) in
+    Appends-to _ _ _ _ (ap (printed text 0) (omega (arith, c.count-number-end.ensures)) ∙ text-between standard c.args.kind cases 0 _) c.loop-number.invariant.printed.grown

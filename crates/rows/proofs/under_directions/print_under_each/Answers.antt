@@ -5,7 +5,7 @@ use Rattle.units.specs.declared.level.Direction.TheVariants.{Auto}
 use Rattle.printing.proofs.Appending.{Appends-to}
 use Rattle.printing.proofs.Passing.{nothing_passed, one_more_passed, all_passed}
 use Rattle.rows.proofs.JoinedTexts.{text-under}
-use Rattle.rows.proofs.under_directions.print_text.Goals as goal
+use Rattle.rows.proofs.under_directions.print_under_each.Goals as goal
 
 pub loop-direction-init : goal.loop-direction-init
 loop-direction-init g c = record { passed = nothing_passed _ _ _; room = refl }
@@ -18,5 +18,5 @@ loop-direction-preserved g c = record {
 
 pub returns-clause-printed : goal.returns-clause-printed
 returns-clause-printed g c =
-    Appends-to _ _ _ _ (text-under standard c.args.text.now c.args.directions.now)
+    Appends-to _ _ _ _ (text-under standard c.args.kind c.args.text.now c.args.directions.now)
     (all_passed _ _ _ _ _ (drop_all c.loop-direction.direction-index c.args.directions.now (omega arith)) c.loop-direction.invariant.passed)

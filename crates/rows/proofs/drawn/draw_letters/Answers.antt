@@ -1,14 +1,13 @@
-use Rattle.std.proofs.Common.{ap, arith, refl}
-use Rattle.bidtests.specs.ClassesFile.{unit_of_class}
+use Rattle.std.proofs.Common.{arith, refl}
 use Rattle.rows.proofs.DrawnText.{drawn-none, drawn-more, drawn-all}
-use Rattle.rows.proofs.drawn.draw_units.Goals as goal
+use Rattle.rows.proofs.drawn.draw_letters.Goals as goal
 
 pub loop-place-init : goal.loop-place-init
 loop-place-init c = drawn-none _ _ _ _ refl
 
 pub loop-place-preserved : goal.loop-place-preserved
 loop-place-preserved c =
-    drawn-more _ _ _ _ _ _ _ _ (omega arith) c.loop-place.invariant c.draw_class.ensures.behind (ap unit_of_class c.draw_class.ensures.class)
+    drawn-more _ _ _ _ _ _ _ _ (omega arith) c.loop-place.invariant c.draw_letter.ensures.behind c.draw_letter.ensures.letter
 
 pub returns : goal.returns
 returns c = drawn-all _ _ _ _ _ c.loop-place.place (omega arith) c.loop-place.invariant

@@ -1,0 +1,146 @@
+// The row of a case in a file of characters, by its layout.
+ghost use Rattle.std.specs.Prelude.{◌≡◌, ◌||◌, ◌∷◌, [], OnOk};
+ghost use Rattle.std.specs.Fmt.{decimal};
+ghost use Rattle.std.specs.Io.KnownBytes.{Appends};
+ghost use Rattle.units.specs.Layout.{all_orders};
+ghost use Rattle.units.specs.Lines.{ended};
+ghost use Rattle.lines.specs.Layouts.{view_of};
+ghost use Rattle.printing.specs.LevelsText.{level_text};
+ghost use Rattle.rows.specs.RowTexts.{between_blanks, direction_text, fields_with_layout, in_fields, para_text};
+ghost use Rattle.rows.specs.Placing.{behind_or_between, has_some};
+
+use crate::case_text::{print_levels, print_names, print_positions};
+use crate::letter::Letter;
+use lines::layout::Layout;
+use std::io;
+use std::io::Write;
+use units::level::{Direction, Level};
+
+/// The number that names a direction.
+fn number_of(direction: Direction) -> &'static str
+    ensures { result.now ≡ direction_text direction }
+{
+    match direction {
+        Direction::Ltr => "0",
+        Direction::Rtl => "1",
+        Direction::Auto => "2",
+        Direction::AutoRtl => "3",
+    }
+}
+
+/// Writes the level of the first paragraph, where there is one.
+fn print_para<W: Write>(w: &mut W, layout: &Layout<'_>) -> io::Result<()>
+    ensures { OnOk result (Appends (W.contents w.old) (W.contents w.new) (para_text (view_of layout.now).paras)) }
+{
+    match layout.para_levels() {
+        [first, ..] => write!(w, "{}", first.level().get()),
+        [] => Ok(()),
+    }
+}
+
+/// Writes a level, or `x` where the position is removed.
+fn print_first_level<W: Write>(w: &mut W, level: Option<Level>) -> io::Result<()>
+    ensures { OnOk result (Appends (W.contents w.old) (W.contents w.new) (level_text level)) }
+{
+    match level {
+        Some(level) => write!(w, "{}", level.get()),
+        None => write!(w, "x"),
+    }
+}
+
+/// Writes the levels, a blank between each two.
+fn print_levels_between<W: Write>(w: &mut W, levels: &[Option<Level>]) -> io::Result<()>
+    ensures { OnOk result (Appends (W.contents w.old) (W.contents w.new) (between_blanks level_text levels.now)) }
+{
+    if let [first, others @ ..] = levels {
+        print_first_level(w, *first)?;
+        print_levels(w, others)?;
+    }
+    Ok(())
+}
+
+/// Writes the positions of a line, the first of them behind a blank where others have begun.
+fn print_line_positions<W: Write>(w: &mut W, order: &[usize], begun: bool) -> io::Result<()>
+    ensures { OnOk result (Appends (W.contents w.old) (W.contents w.new) (behind_or_between begun decimal order.now)) }
+{
+    if begun {
+        return print_positions(w, order);
+    }
+    if let [first, others @ ..] = order {
+        write!(w, "{first}")?;
+        print_positions(w, others)?;
+    }
+    Ok(())
+}
+
+/// Whether a position was written, behind those of a line.
+fn has_begun(begun: bool, order: &[usize]) -> bool
+    ensures { result ≡ (begun || has_some order.now) }
+{
+    begun || !order.is_empty()
+}
+
+/// Writes the orders of all lines, one behind another, a blank between each two positions.
+fn print_orders_between<W: Write>(w: &mut W, layout: &Layout<'_>) -> io::Result<()>
+    ensures { OnOk result (Appends (W.contents w.old) (W.contents w.new)
+        (between_blanks decimal (all_orders (view_of layout.now)))) }
+{
+    let mut begun = false;
+    for k in 0..layout.line_count() {
+        let order = layout.line(k).order;
+        print_line_positions(w, order, begun)?;
+        begun = has_begun(begun, order);
+    }
+    Ok(())
+}
+
+/// Writes the fields of the levels and of the order.
+fn print_levels_and_order<W: Write>(w: &mut W, layout: &Layout<'_>) -> io::Result<()>
+    ensures { OnOk result (Appends (W.contents w.old) (W.contents w.new)
+        (in_fields (between_blanks level_text (view_of layout.now).levels ∷ between_blanks decimal (all_orders (view_of layout.now)) ∷ []))) }
+{
+    print_levels_between(w, layout.levels())?;
+    write!(w, ";")?;
+    print_orders_between(w, layout)
+}
+
+/// Writes the fields of the first paragraph's level, of the levels and of the order.
+fn print_layout<W: Write>(w: &mut W, layout: &Layout<'_>) -> io::Result<()>
+    ensures { OnOk result (Appends (W.contents w.old) (W.contents w.new)
+        (in_fields (para_text (view_of layout.now).paras ∷ between_blanks level_text (view_of layout.now).levels
+        ∷ between_blanks decimal (all_orders (view_of layout.now)) ∷ []))) }
+{
+    print_para(w, layout)?;
+    write!(w, ";")?;
+    print_levels_and_order(w, layout)
+}
+
+/// Writes the fields of the row of a text under a direction, of which this is the layout.
+fn print_fields<W: Write>(
+    w: &mut W,
+    text: &[Letter],
+    direction: Direction,
+    layout: &Layout<'_>,
+) -> io::Result<()>
+    ensures { OnOk result (Appends (W.contents w.old) (W.contents w.new)
+        (in_fields (fields_with_layout (view_of layout.now) (record { text = text.now; direction = direction })))) }
+{
+    print_names(w, text)?;
+    let number = number_of(direction);
+    write!(w, ";{number};")?;
+    print_layout(w, layout)
+}
+
+/// Writes the row of a text under a direction, of which this is the layout.
+pub fn print_character_case<W: Write>(
+    w: &mut W,
+    text: &[Letter],
+    direction: Direction,
+    layout: &Layout<'_>,
+) -> io::Result<()>
+    ensures { OnOk result (Appends (W.contents w.old) (W.contents w.new)
+        (ended (in_fields (fields_with_layout (view_of layout.now) (record { text = text.now; direction = direction }))))) }
+{
+    print_fields(w, text, direction, layout)?;
+    writeln!(w)
+}
