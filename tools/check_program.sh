@@ -1,8 +1,8 @@
 #!/bin/bash
 # Runs the built program over files of the system, and compares its statuses and what it writes: a yes, a no, a missing
-# file, texts by tables, by those built in and from standard input, a full disk, a closed pipe. Where the package
-# unicode-data is installed it reads the published property files and judges the official test files too; else it says
-# that it does not. It ends with 0 where all is as it is to be, with 1 where not, and with 2 where the program is missing.
+# file, texts by tables, by those built in and from standard input, reports, one of them on a thousand faults that are
+# planted here, a full disk, a closed pipe. Where the package unicode-data is installed it reads the published property
+# files and judges and reports on the official test files too; else it says that it does not. It ends with 0 where all is as it is to be, with 1 where not, and with 2 where the program is missing.
 #
 # usage: tools/check_program.sh [FOLDER]      (FOLDER, with the property and test files: /usr/share/unicode)
 #
@@ -180,6 +180,63 @@ is 'lines of rows of the longest text' 9 "$(wc -l < rows.txt)"
 ends 0 'yes: 3 rows, 3 cases' '' judge --kind classes rows.txt
 ends 2 '' 'bidi: --length ends above 4095' rows --form exhaustive --alphabet R --length 4096
 
+# Reports: what they print and count, where they end, and the first of the wrong cases.
+printf '@Levels: x 3\n@Reorder:\nLRE R; 3\nL; 16\nL; 1\n' > faults.txt
+counts=$'no: line 4: malformed: BitSet\n1 rows, 1 wrong; 2 cases, 2 wrong
+wrong by direction: auto 1, ltr 1, rtl 0, auto-rtl 0\nwrong by place: paragraph level 0, levels 0, order 2'
+auto='line 3: auto: order at 0: claimed nothing, defined 1'
+ends 1 "$auto"$'\nline 3: ltr: order at 0: claimed nothing, defined 1\n'"$counts" '' report --kind classes faults.txt
+ends 1 "$auto"$'\n'"$counts" '' report --kind classes --most 1 faults.txt
+ends 1 "$counts" '' report --kind classes --most=0 - < faults.txt
+none=$'wrong by direction: auto 0, ltr 0, rtl 0, auto-rtl 0\nwrong by place: paragraph level 0, levels 0, order 0'
+ends 0 $'1 rows, 0 wrong; 1 cases, 0 wrong\n'"$none" '' report --kind characters --tables t characters.txt
+ends 2 '' 'bidi: --tables is needed' report --kind characters characters.txt
+ends 3 '' 'bidi: cannot read missing.txt: no such file' report --kind classes missing.txt
+ends 3 '' 'bidi: cannot read t: a folder' report --kind classes t
+"$program" report --kind classes --most many faults.txt > found_out 2> found_err
+is 'status of a word that is no number of wrong cases' 2 $?
+
+# A thousand faults, one in a row of each text of a file that is right: a level of two more, a level too many, a position
+# left out. The report finds each at its place, and no other.
+"$program" rows --form random --seed 9 --count 1000 --alphabet 'L R AL EN ON' --length 1..9 > right.txt
+awk -v planted=planted.txt '
+    function direction(bits) { return bits == 1 ? "auto" : bits == 2 ? "ltr" : "rtl" }
+    function tell(place, claimed, defined) {
+        print "line " NR ": " direction($NF) ": " place ": claimed " claimed ", defined " defined > planted
+    }
+    /^@Levels:/ { row++; levels = $0; next }
+    /^@Reorder:/ { order = $0; next }
+    (row - 1) % 3 == int((row - 1) / 3) % 3 {
+        number = int((row + 2) / 3)
+        count = split(levels, level, " ") - 1
+        at = number % count
+        kind = int(number / 3) % 3
+        if (kind == 0) {
+            tell("levels at " at, level[at + 2] + 2, level[at + 2])
+            level[at + 2] += 2
+            levels = level[1]
+            for (k = 2; k <= count + 1; k++) levels = levels " " level[k]
+        } else if (kind == 1) {
+            tell("levels at " count, 9, "nothing")
+            levels = levels " 9"
+        } else {
+            split(order, position, " ")
+            tell("order at " count - 1, "nothing", position[count + 1])
+            sub(/ [0-9]+$/, "", order)
+        }
+    }
+    { print levels; print order; print }
+' right.txt > wrong.txt
+is 'number of planted faults' 1000 "$(wc -l < planted.txt)"
+"$program" report --kind classes --most 1000 wrong.txt > found_out 2> found_err
+is 'status of the report on planted faults' 1 $?
+is 'report on planted faults' "$(cat planted.txt)"$'\n3000 rows, 1000 wrong; 3000 cases, 1000 wrong' \
+    "$(head -n 1001 found_out)"
+is 'places of planted faults' 'wrong by place: paragraph level 0, levels 667, order 333' "$(tail -n 1 found_out)"
+"$program" report --kind classes wrong.txt > found_out 2> found_err
+is 'first planted faults' "$(head -n 20 planted.txt)" "$(head -n 20 found_out)"
+is 'lines of the report on planted faults' 23 "$(wc -l < found_out)"
+
 # Words that are refused, help and the version.
 "$program" reorder --columns 0 --tables t text.txt > found_out 2> found_err
 is 'status of refused words' 2 $?
@@ -191,7 +248,8 @@ is 'standard error of --help' '' "$(cat found_err)"
 ends 0 $'bidi 1.0.0 (rules P1 to L2 and L4 of UAX #9, Unicode 15.0)\ntables of Unicode 15.0.0 built in\nproved with rattle-kit-13b logic dac8208d650f15bf' '' --version
 
 # A full disk, and a pipe that no one reads.
-for words in 'judge --kind classes yes.txt' 'judge --kind classes no.txt' 'levels --tables t text.txt' \
+for words in 'judge --kind classes yes.txt' 'judge --kind classes no.txt' 'report --kind classes yes.txt' \
+    'report --kind classes --most 1000 wrong.txt' 'levels --tables t text.txt' \
     'reorder --tables t text.txt' 'explain --tables t text.txt' 'explain --classes R' \
     'rows --form exhaustive --alphabet R --length 1' '--help'; do
     # shellcheck disable=SC2086
@@ -213,8 +271,24 @@ if [ -n "$found" ]; then
     "$tools/standard_tables.py" --check "$folder"
     is 'status of the facts that are built in' 0 $?
     mkdir real
+    for name in BidiTest.txt BidiCharacterTest.txt; do
+        published=$(find "$folder" -name "$name*" | sort | head -n 1)
+        case $published in
+            *.gz) gzip -dc "$published" > "$name" ;;
+            *.bz2) bzip2 -dc "$published" > "$name" ;;
+            *.xz) xz -dc "$published" > "$name" ;;
+            *) cp "$published" "$name" ;;
+        esac
+    done
     for name in DerivedBidiClass.txt BidiBrackets.txt BidiMirroring.txt; do
         cp "$(find "$folder" -name "$name" | sort | head -n 1)" real
+    done
+    # As many rows and cases as the judge says yes to, of which none is wrong.
+    for words in '--kind classes BidiTest.txt' '--kind characters --tables real BidiCharacterTest.txt'; do
+        # shellcheck disable=SC2086
+        read -r _ rows _ cases _ <<< "$("$program" judge $words)"
+        # shellcheck disable=SC2086
+        ends 0 "$rows rows, 0 wrong; $cases cases, 0 wrong"$'\n'"$none" '' report $words
     done
     ends 0 $'paragraph 0 level 1\n0 05D0 R 1\n1 0020 WS 1\n2 0028 ON 1\n3 0061 L 2' '' levels --tables real text.txt
     ends 0 $'a) \xd7\x90' '' reorder --tables real text.txt

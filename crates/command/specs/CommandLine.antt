@@ -84,7 +84,7 @@ alphabet_rule = record (option_rule (codes "alphabet")) { required = true }
 abbrev pub length_rule : Rule
 length_rule = record (option_rule (codes "length")) { required = true }
 
--- --seed and --count, numbers of 64 bits
+-- --most, --seed and --count, numbers of 64 bits
 abbrev pub number_rule : Text → Rule
 number_rule name = record (option_rule name) { parser = Some (parser.Unsigned 0 18446744073709551615) }
 
@@ -105,6 +105,10 @@ explain_app directions =
 abbrev pub judge_app : Choice → App
 judge_app kinds = with_rule (with_rule (with_rule (new_app (codes "judge")) (kind_rule kinds)) tables_rule) file_rule
 
+abbrev pub report_app : Choice → App
+report_app kinds =
+    with_rule (with_rule (with_rule (with_rule (new_app (codes "report")) (kind_rule kinds)) tables_rule) (number_rule (codes "most"))) file_rule
+
 abbrev pub rows_app : Choice → App
 rows_app forms =
     with_rule (with_rule (with_rule (with_rule (with_rule (new_app (codes "rows")) (form_rule forms)) alphabet_rule) length_rule) (number_rule (codes "seed"))) (number_rule (codes "count"))
@@ -123,12 +127,13 @@ form_words = codes "exhaustive" ∷ codes "random" ∷ []
 abbrev pub bidi_top : App
 bidi_top = on_top (λ s. record s { has_version = true; subcommand_required = true }) (new_app (codes "bidi"))
 
--- the choices of the five subcommands: of directions, of kinds, of forms
+-- the choices of the six subcommands: of directions, of kinds, of forms
 pub record Choices : Type 0 where
   pub of_levels : Choice
   pub of_reorder : Choice
   pub of_explain : Choice
   pub of_judge : Choice
+  pub of_report : Choice
   pub of_rows : Choice
 
 -- with the subcommands that print of a text
@@ -138,9 +143,10 @@ with_texts c top =
 
 -- with those of conformance files
 abbrev pub with_files : Choices → App → App
-with_files c top = with_subcommand (with_subcommand top (judge_app c.of_judge).top) (rows_app c.of_rows).top
+with_files c top =
+    with_subcommand (with_subcommand (with_subcommand top (judge_app c.of_judge).top) (report_app c.of_report).top) (rows_app c.of_rows).top
 
--- the command, whose five subcommands have these choices
+-- the command, whose six subcommands have these choices
 abbrev pub bidi_app : Choices → App
 bidi_app c = with_files c (with_texts c bidi_top)
 
@@ -151,6 +157,7 @@ pub record IsBidi (app : App) : Type 0 where
   pub reorder_words : words_of choices.of_reorder ≡ direction_words
   pub explain_words : words_of choices.of_explain ≡ direction_words
   pub judge_words : words_of choices.of_judge ≡ kind_words
+  pub report_words : words_of choices.of_report ≡ kind_words
   pub rows_words : words_of choices.of_rows ≡ form_words
   pub is : app ≡ bidi_app choices
 
@@ -219,6 +226,9 @@ AsksFor name rows (requested.ExplainClasses classes direction) = (name ≡ codes
 AsksFor name rows (requested.Judge kind tables file) = (name ≡ codes "judge")
     × (kind_named (first_of (codes "kind") rows) ≡ Some kind) × (first_of (codes "tables") rows ≡ option_map (λ folder. folder.now) tables)
     × (first_of (codes "file") rows ≡ Some file.now)
+AsksFor name rows (requested.Report kind tables file most) = (name ≡ codes "report")
+    × (kind_named (first_of (codes "kind") rows) ≡ Some kind) × (first_of (codes "tables") rows ≡ option_map (λ folder. folder.now) tables)
+    × (first_of (codes "file") rows ≡ Some file.now) × NumberIs 20 (one_of (codes "most") rows) most
 AsksFor name rows (requested.Rows form alphabet lengths) = (name ≡ codes "rows") × FormIs rows form
     × (first_of (codes "alphabet") rows ≡ Some alphabet.now) × (first_of (codes "length") rows ≡ Some lengths.now)
 

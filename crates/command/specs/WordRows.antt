@@ -115,6 +115,22 @@ pub judge_words : (c : Choices) → option_map met (subcommand_of (bidi_app c)
 unfolding clap_on_literals
 judge_words c = refl
 
+-- to report on a file: how many wrong cases are printed stands in a word of its own, or is not said
+abbrev report_met : Text × List Row → Text × Option Text × Option Text × Option Text
+report_met p = (p.0, first_of (codes "kind") p.1, one_of (codes "most") p.1, first_of (codes "file") p.1)
+
+pub report_words : (c : Choices) → option_map report_met (subcommand_of (bidi_app c)
+    (codes "bidi" ∷ codes "report" ∷ codes "--most" ∷ codes "0" ∷ codes "--kind=classes" ∷ codes "FILE" ∷ []))
+    ≡ Some (codes "report", Some (codes "classes"), Some (codes "0"), Some (codes "FILE"))
+unfolding clap_on_literals
+report_words c = refl
+
+pub report_default_words : (c : Choices) → option_map report_met (subcommand_of (bidi_app c)
+    (codes "bidi" ∷ codes "report" ∷ codes "--kind" ∷ codes "classes" ∷ codes "FILE" ∷ []))
+    ≡ Some (codes "report", Some (codes "classes"), None, Some (codes "FILE"))
+unfolding clap_on_literals
+report_default_words c = refl
+
 -- what is explained of a text by tables of a folder
 pub explain_words : (c : Choices) → option_map met (subcommand_of (bidi_app c)
     (codes "bidi" ∷ codes "explain" ∷ codes "--tables" ∷ codes "t" ∷ codes "FILE" ∷ [])) ≡ Some (record {

@@ -4,7 +4,7 @@ ghost use Rattle.clap.specs.Built.{AddsSubcommand};
 ghost use Rattle.clap.specs.Simple.{app_of};
 ghost use Rattle.clap.specs.declared.builder.command.Command.TheViews.{out-Command as fields_of};
 ghost use Rattle.command.specs.CommandLine.{Choice, IsBidi, bidi_top, direction_words, explain_app, judge_app};
-ghost use Rattle.command.specs.CommandLine.{form_words, kind_words, levels_app, reorder_app, rows_app, words_of};
+ghost use Rattle.command.specs.CommandLine.{form_words, kind_words, levels_app, reorder_app, report_app, rows_app, words_of};
 
 use crate::arguments::{
     alphabet_argument, classes_argument, columns_argument, direction_argument, file_argument,
@@ -75,6 +75,21 @@ fn judge_command<'a>(alloc: Global) -> Result<Command<'a>, AllocError>
         .arg(file_argument(alloc))
 }
 
+fn report_command<'a>(alloc: Global) -> Result<Command<'a>, AllocError>
+    ensures app { IfOk result (λ command. (choice : Choice) × (words_of choice ≡ kind_words)
+        × (app_of command ≡ report_app choice)) }
+    ensures local { IfOk result (λ command. (fields_of command).has_globals ≡ false) }
+{
+    Command::new(alloc, "report")
+        .about("Prints the wrong cases of a conformance file, and their counts")
+        .long_about(help::REPORT_LONG_ABOUT)
+        .after_help(help::REPORT_EXAMPLE)
+        .arg(kind_argument(alloc))?
+        .arg(tables_argument(alloc, help::JUDGE_TABLES_HELP))?
+        .arg(number_argument(alloc, "most", help::REPORT_MOST_HELP))?
+        .arg(file_argument(alloc))
+}
+
 fn rows_command<'a>(alloc: Global) -> Result<Command<'a>, AllocError>
     ensures app { IfOk result (λ command. (choice : Choice) × (words_of choice ≡ form_words)
         × (app_of command ≡ rows_app choice)) }
@@ -124,5 +139,6 @@ pub fn bidi_command<'a>(alloc: Global) -> Result<Command<'a>, AllocError>
     let with_reorder = with_made(with_levels, reorder_command(alloc))?;
     let with_explain = with_made(with_reorder, explain_command(alloc))?;
     let with_judge = with_made(with_explain, judge_command(alloc))?;
-    with_made(with_judge, rows_command(alloc))
+    let with_report = with_made(with_judge, report_command(alloc))?;
+    with_made(with_report, rows_command(alloc))
 }

@@ -3,13 +3,13 @@
 /// What `bidi` does, in a sentence.
 pub const BIDI_ABOUT: &str =
     "Lays out texts by the Unicode Bidirectional Algorithm (UAX #9), shows what each of its rules
-does to a text, judges the conformance files, and prints such files";
+does to a text, judges the conformance files and reports on them, and prints such files";
 
 /// What `bidi` does, and with which status it ends.
 pub const BIDI_LONG_ABOUT: &str =
     "Lays out texts by the Unicode Bidirectional Algorithm (UAX #9), shows what each of
-its rules does to a text, judges the conformance files, and prints such files of all
-texts over an alphabet.
+its rules does to a text, judges the conformance files and reports on them, and prints
+such files of texts over an alphabet.
 
 Ends with status 0 where it is done or the verdict is yes, 1 where the verdict is no,
 2 where the command line is refused, and 3 where a file can't be read, a line of a
@@ -108,6 +108,28 @@ faulty, a write fails or memory is refused.";
 /// What stands at the end of the help of `judge`.
 pub const JUDGE_EXAMPLE: &str =
     "Example:\n  bidi judge --kind characters --tables ucd BidiCharacterTest.txt";
+
+/// What `report` prints, and with which status it ends.
+pub const REPORT_LONG_ABOUT: &str =
+    "Reports on a conformance file: judges it, and goes on behind a wrong row.
+
+Prints a line for each of the first wrong cases, with its line, its direction, the first
+place that differs, and what is claimed and what is defined there. It goes on up to the
+end of the file or the first malformed line, which it names as judge does, and then prints
+how many rows and cases there are, and how many are wrong, by direction and by place.
+
+Ends with status 0 where judge says yes, 1 where it says no, 2 where the command line is
+refused or `--tables` is needed, and 3 where a file can't be read, a line of a table is
+faulty, a write fails or memory is refused.";
+
+/// What `--most` says.
+pub const REPORT_MOST_HELP: &str =
+    "How many wrong cases are printed at most, 20 where it is left out; all are counted";
+
+/// What stands at the end of the help of `report`.
+pub const REPORT_EXAMPLE: &str = "Examples:
+  bidi report --kind classes --most 100 rows.txt
+  bidi report --kind characters --tables ucd BidiCharacterTest.txt";
 
 /// What `rows` prints, and with which status it ends.
 pub const ROWS_LONG_ABOUT: &str =

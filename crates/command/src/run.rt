@@ -130,8 +130,8 @@ pub fn run<F: Files, W: Write, E: Write>(
     ensures outcome { HasRun (F.facts files.now) (W.contents out.old) (W.contents out.new)
         (E.contents err.old) (E.contents err.new) (texts words.now) result }
 
-    // A no is answered only where the words ask for a judgement, all bytes of the file have that verdict and its line
-    // was written.
+    // A no is answered only where the words ask for a judgement or a report, all bytes of the file have that verdict and
+    // what says it was written.
     ensures no { result.status ≡ 1
         → HasSaidNo (F.facts files.now) (W.contents out.old) (W.contents out.new) (texts words.now) }
     ensures silent { result.status ≤ 1 → E.contents err.new ≡ E.contents err.old }

@@ -68,6 +68,13 @@ fn kind_in(matches: &ArgMatches<'_>) -> Option<FileKind>
     }
 }
 
+/// The number of 64 bits that an argument says, or the one that it is where it is left out.
+fn number_in(matches: &ArgMatches<'_>, id: &str, default: u64) -> u64
+    ensures { NumberIs default (one_of id.now (rows_of (found_of matches.now))) result }
+{
+    matches.get_one::<u64>(id).unwrap_or(default)
+}
+
 /// What `levels` asks for, by its arguments.
 fn levels_in<'a>(matches: &ArgMatches<'a>) -> Option<Request<'a>>
     ensures some { IfSome result (AsksFor (codes "levels") (rows_of (found_of matches.now))) }
@@ -133,11 +140,19 @@ fn judge_in<'a>(matches: &ArgMatches<'a>) -> Option<Request<'a>>
     })
 }
 
-/// The number of 64 bits that an argument says, or the one that it is where it is left out.
-fn number_in(matches: &ArgMatches<'_>, id: &str, default: u64) -> u64
-    ensures { NumberIs default (one_of id.now (rows_of (found_of matches.now))) result }
+/// What `report` asks for, by its arguments.
+fn report_in<'a>(matches: &ArgMatches<'a>) -> Option<Request<'a>>
+    ensures some { IfSome result (AsksFor (codes "report") (rows_of (found_of matches.now))) }
+    ensures none { IfNone result ((request : RequestOf)
+        → ¬ (AsksFor (codes "report") (rows_of (found_of matches.now)) request)) }
 {
-    matches.get_one::<u64>(id).unwrap_or(default)
+    let most = number_in(matches, "most", 20);
+    Some(Request::Report {
+        kind: kind_in(matches)?,
+        tables: text_of(matches, "tables"),
+        file: text_of(matches, "file")?,
+        most,
+    })
 }
 
 /// Which texts the rows have.
@@ -179,6 +194,7 @@ fn request_in<'a>(name: &str, matches: &ArgMatches<'a>) -> Option<Request<'a>>
         "reorder" => reorder_in(matches),
         "explain" => explain_in(matches),
         "judge" => judge_in(matches),
+        "report" => report_in(matches),
         "rows" => rows_in(matches),
         _ => None,
     }

@@ -29,3 +29,15 @@ pub const JUDGE_CHARACTERS: [&str; 7] = [
     "t",
     "FILE",
 ];
+
+pub const REPORT_CLASSES: [&str; 5] = ["bidi", "report", "--kind", "classes", "FILE"];
+
+pub const REPORT_CHARACTERS: [&str; 7] = [
+    "bidi",
+    "report",
+    "--kind",
+    "characters",
+    "--tables",
+    "t",
+    "FILE",
+];

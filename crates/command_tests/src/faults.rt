@@ -1,6 +1,7 @@
 //! Faults of words, of writing and of memory.
 use crate::command_lines::{
-    EXPLAIN, EXPLAIN_CLASSES, JUDGE_CHARACTERS, JUDGE_CLASSES, LEVELS, REORDER, ROWS,
+    EXPLAIN, EXPLAIN_CLASSES, JUDGE_CHARACTERS, JUDGE_CLASSES, LEVELS, REORDER, REPORT_CLASSES,
+    ROWS,
 };
 use crate::failing_files::NoMemory;
 use crate::memory_files::{MemoryFiles, tables_and};
@@ -112,7 +113,7 @@ fn begins_so(outcome: &Outcome, status: u8, out: &[u8], err: &[u8]) -> bool {
 // To be run with each allocation failing in turn.
 #[test]
 fn answers_as_ever_or_says_that_memory_was_refused(rt: HostRuntime) {
-    let rows: [(&[&str], u8, &[u8], &[u8]); 9] = [
+    let rows: [(&[&str], u8, &[u8], &[u8]); 10] = [
         (&LEVELS, 0, b"paragraph 0 level 0\n0 0040 L 0\n", b""),
         (&REORDER, 0, b"@Levels: 0\n@Reorder: 0\nL; 7\n", b""),
         (&EXPLAIN, 0, b"paragraph 0 level 0", b""),
@@ -124,6 +125,7 @@ fn answers_as_ever_or_says_that_memory_was_refused(rt: HostRuntime) {
             b"no: line 1: malformed: FieldCount\n",
             b"",
         ),
+        (&REPORT_CLASSES, 1, b"line 3: rtl: levels at 0: ", b""),
         (&ROWS, 0, b"@Levels: 1\n", b""),
         (&["bidi", "judge", "--help"], 0, b"Judges ", b""),
         (&["bidi", "other"], 2, b"", b"error: "),

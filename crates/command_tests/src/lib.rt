@@ -37,6 +37,8 @@ mod recording_files;
 #[cfg(test)]
 mod reorder;
 #[cfg(test)]
+mod report;
+#[cfg(test)]
 mod runs;
 #[cfg(test)]
 mod table_faults;

@@ -1,6 +1,7 @@
 //! What a request opens: the files, by their names and in order, and standard input.
 use crate::command_lines::{
-    EXPLAIN, EXPLAIN_CLASSES, JUDGE_CHARACTERS, JUDGE_CLASSES, LEVELS, REORDER, ROWS,
+    EXPLAIN, EXPLAIN_CLASSES, JUDGE_CHARACTERS, JUDGE_CLASSES, LEVELS, REORDER, REPORT_CHARACTERS,
+    REPORT_CLASSES, ROWS,
 };
 use crate::memory_files::{MemoryFile, MemoryFiles, tables_and, whole};
 use crate::recording_files::RecordingFiles;
@@ -51,7 +52,9 @@ fn opens_the_tables_and_then_the_file(rt: HostRuntime) {
     for words in [&LEVELS, &REORDER, &EXPLAIN] {
         assert_reads(&rt, rt.alloc(), words, TABLES, "FILE\n");
     }
-    assert_reads(&rt, rt.alloc(), &JUDGE_CHARACTERS, TABLES, "FILE\n");
+    for words in [&JUDGE_CHARACTERS, &REPORT_CHARACTERS] {
+        assert_reads(&rt, rt.alloc(), words, TABLES, "FILE\n");
+    }
 }
 
 #[test]
@@ -60,6 +63,7 @@ fn opens_no_tables_where_none_are_needed(rt: HostRuntime) {
         "bidi", "judge", "--kind", "classes", "--tables", "t", "FILE",
     ];
     assert_reads(&rt, rt.alloc(), &JUDGE_CLASSES, "", "FILE\n");
+    assert_reads(&rt, rt.alloc(), &REPORT_CLASSES, "", "FILE\n");
     assert_reads(&rt, rt.alloc(), &judge, "", "FILE\n");
     for name in ["levels", "reorder", "explain"] {
         let words = ["bidi", name, "FILE"];

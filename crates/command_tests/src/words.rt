@@ -115,7 +115,7 @@ fn says_what_is_refused(rt: HostRuntime) {
 
 #[test]
 fn prints_help(rt: HostRuntime) {
-    let rows: [(&[&str], &[u8]); 8] = [
+    let rows: [(&[&str], &[u8]); 9] = [
         (&["bidi", "--help"], b"Lays out texts "),
         (&["bidi", "levels", "--help"], b"Prints the levels "),
         (&["bidi", "reorder", "--help"], b"Prints the lines "),
@@ -123,6 +123,7 @@ fn prints_help(rt: HostRuntime) {
         (&["bidi", "explain", "--help"], b"Prints what each rule "),
         (&["bidi", "judge", "-h"], b"Judges "),
         (&["bidi", "judge", "--help"], b"Judges "),
+        (&["bidi", "report", "--help"], b"Reports on "),
         (&["bidi", "rows", "--help"], b"Prints a conformance file"),
     ];
     for (words, text) in rows {

@@ -12,13 +12,13 @@ use Rattle.requests.specs.TableSources.{AreTablesBy}
 use Rattle.requests.specs.FaultText.{EndsOpening, print_fault}
 use Rattle.requests.specs.Outcomes.{IsDone}
 use Rattle.requests.specs.Printed.{HasPrinted, most_text_bytes}
-use Rattle.requests.specs.Steps.{AreDone, EndsFile, EndsWriting, FailsIn, IsFirstFault, RequestStep, file_step, printing_steps, rows_steps, source_steps, steps_of, table_steps, text_steps}
+use Rattle.requests.specs.Steps.{AreDone, EndsFile, EndsWriting, FailsIn, IsFirstFault, RequestStep, file_step, opening_step, printing_steps, rows_steps, source_steps, steps_of, table_steps, text_steps}
 use Rattle.requests.specs.PrintedRows.{HasPrintedRows}
 use Rattle.requests.specs.declared.request.FileKind.TheVariants.{Classes, Characters}
 use Rattle.requests.specs.declared.request.TableSource.{TableSource}
 use Rattle.requests.specs.declared.request.TableSource.TheVariants.{Folder, BuiltIn}
 use Rattle.requests.specs.declared.request.Request.{Request}
-use Rattle.requests.specs.declared.request.Request.TheVariants.{Text, ExplainClasses, Judge, Rows}
+use Rattle.requests.specs.declared.request.Request.TheVariants.{Text, ExplainClasses, Judge, Report, Rows}
 use Rattle.requests.specs.declared.request.RowsForm.{RowsForm}
 use Rattle.requests.specs.declared.fault.Fault.{Fault}
 use Rattle.requests.specs.declared.fault.Fault.TheVariants.{WordNotUtf8, TablesNeeded, ClassesTooLong, NoClass, NoLengths, NoRows, CannotRead, FaultyLine, NotUtf8, CannotWrite, OutOfMemory}
@@ -135,6 +135,12 @@ request_done files before after (Judge Classes tables file) (Judged status) h = 
 request_done files before after (Judge Characters (Some folder) file) (Judged status) h =
     all_done (table_steps files folder.now) (file_step files most_file_bytes file.now ∷ [])
     (tables_done files folder.now h.is.0 h.is.1) ((h.bytes, h.read), tt)
+request_done files before after (Report Classes tables file most) (Judged status) h = ((h.2.bytes, h.2.begins), tt)
+request_done files before after (Report Characters (Some folder) file most) (Judged status) h =
+    let read = h.1 in
+    all_done (table_steps files folder.now) (opening_step files most_file_bytes file.now ∷ [])
+    (tables_done files folder.now read.0.now read.1) ((h.2.bytes, h.2.begins), tt)
+request_done files before after (Report Characters None file most) (Judged status) h = absurd h.1
 request_done files before after (Rows form alphabet lengths) Printed h = rows_done form alphabet.now lengths.now before after h
 request_done files before after (Text source direction file print) (Judged status) h = absurd h
 request_done files before after (ExplainClasses word direction) (Judged status) h = absurd h
@@ -142,4 +148,7 @@ request_done files before after (Judge Classes tables file) Printed h = absurd h
 request_done files before after (Judge Characters (Some folder) file) Printed h = absurd h
 request_done files before after (Judge Characters None file) (Judged status) h = absurd h
 request_done files before after (Judge Characters None file) Printed h = absurd h
+request_done files before after (Report Classes tables file most) Printed h = absurd h
+request_done files before after (Report Characters (Some folder) file most) Printed h = absurd h
+request_done files before after (Report Characters None file most) Printed h = absurd h
 request_done files before after (Rows form alphabet lengths) (Judged status) h = absurd h

@@ -3,3 +3,4 @@ pub mod FirstFaults
 pub mod LengthPieces
 pub mod TableEnds
 pub mod MadeRows
+pub mod Reported

@@ -5,6 +5,7 @@ pub mod Outcomes
 pub mod Printed
 pub mod PrintedRows
 pub mod ReadFiles
+pub mod ReportedFiles
 pub mod RowWords
 pub mod Steps
 pub mod SystemFiles

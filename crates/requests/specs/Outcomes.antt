@@ -1,8 +1,8 @@
 -- What a request comes to.
-use Rattle.std.specs.Prelude.{◌≡◌, ℕ, List, Option, Some, Result, Ok, Err, true}
+use Rattle.std.specs.Prelude.{◌≡◌, ◌⊎◌, ℕ, List, Option, Some, Result, Ok, Err, true}
 use Rattle.requests.specs.declared.request.FileKind.TheVariants.{Classes, Characters}
 use Rattle.requests.specs.declared.request.Request.{Request}
-use Rattle.requests.specs.declared.request.Request.TheVariants.{Text, ExplainClasses, Judge, Rows}
+use Rattle.requests.specs.declared.request.Request.TheVariants.{Text, ExplainClasses, Judge, Report, Rows}
 use Rattle.requests.specs.declared.fault.Fault.{Fault}
 use Rattle.requests.specs.declared.outcome.Ended.{Ended}
 use Rattle.requests.specs.declared.outcome.Outcome.{Outcome}
@@ -12,6 +12,7 @@ use Rattle.requests.specs.JudgedFiles.{HasJudged, HasJudgedBy, IsClassesVerdict}
 use Rattle.requests.specs.Printed.{HasExplained, HasPrinted, printed_text}
 use Rattle.requests.specs.PrintedRows.{HasPrintedRows}
 use Rattle.requests.specs.ReadFiles.{FileFacts}
+use Rattle.requests.specs.ReportedFiles.{HasReported, HasBrokenOff}
 use Rattle.requests.specs.Steps.{FailsIn, steps_of}
 
 -- the exit status: that of the verdict, and 0 after a text or rows
@@ -20,7 +21,7 @@ outcome_status (Judged status) = status
 outcome_status Printed = 0
 
 -- what was asked for is done: what is to be printed of the text or of classes is printed, or the rows are, or the file
--- is judged, by the tables that are asked for
+-- is judged or reported on, by the tables that are asked for
 abbrev pub IsDone : FileFacts → Option (List ℕ) → Option (List ℕ) → Request → Outcome → Type 0
 IsDone files before after (Text source direction file print) Printed =
     HasPrinted files (printed_text print direction) source file.now before after
@@ -29,13 +30,25 @@ IsDone files before after (Judge Classes tables file) (Judged status) =
     HasJudged files IsClassesVerdict file.now before after status
 IsDone files before after (Judge Characters (Some folder) file) (Judged status) =
     HasJudgedBy files folder.now file.now before after status
+IsDone files before after (Report kind tables file most) (Judged status) =
+    HasReported files kind tables file.now most before after status
 IsDone files before after (Rows form alphabet lengths) Printed = HasPrintedRows form alphabet.now lengths.now before after
 IsDone files before after _ _ = ⊥
 
--- a request comes to what it asks for, or fails in a step
+-- a report breaks off where a read of its file fails, behind what it printed by then; no other request prints anything
+-- before all is read
+abbrev pub BreaksOff : FileFacts → Option (List ℕ) → Option (List ℕ) → Request → Fault → Type 0
+BreaksOff files before after (Report kind tables file most) fault = HasBrokenOff files kind tables file.now most before after fault
+BreaksOff files before after _ fault = ⊥
+
+-- a request fails: in a step, or as a report that breaks off
+abbrev pub Fails : FileFacts → Option (List ℕ) → Option (List ℕ) → Request → Fault → Type 0
+Fails files before after request fault = FailsIn (steps_of files request) before after fault ⊎ BreaksOff files before after request fault
+
+-- a request comes to what it asks for, or fails
 abbrev pub ComesTo : FileFacts → Option (List ℕ) → Option (List ℕ) → Request → Result Outcome Fault → Type 0
 ComesTo files before after request (Ok outcome) = IsDone files before after request outcome
-ComesTo files before after request (Err fault) = FailsIn (steps_of files request) before after fault
+ComesTo files before after request (Err fault) = Fails files before after request fault
 
 -- a run ends without a fault: with this status, and known bytes are what they were
 pub record EndsWell (status : ℕ) (before after : Option (List ℕ)) (ended : Ended) : Type 0 where

@@ -14,9 +14,10 @@ use Rattle.requests.specs.declared.request.TableSource.{TableSource}
 use Rattle.requests.specs.declared.request.TableSource.TheVariants.{Folder, BuiltIn}
 use Rattle.requests.specs.declared.request.Request.{Request}
 use Rattle.requests.specs.declared.request.RowsForm.{RowsForm}
-use Rattle.requests.specs.declared.request.Request.TheVariants.{Text, ExplainClasses, Judge, Rows}
+use Rattle.requests.specs.declared.request.Request.TheVariants.{Text, ExplainClasses, Judge, Report, Rows}
 use Rattle.requests.specs.declared.fault.Fault.{Fault}
 use Rattle.requests.specs.declared.fault.Fault.TheVariants.{TablesNeeded, ClassesTooLong, CannotRead, NotUtf8, CannotWrite, OutOfMemory}
+use Rattle.requests.specs.FaultText.{EndsOpening}
 use Rattle.requests.specs.Printed.{most_text_bytes}
 use Rattle.requests.specs.PrintedRows.{CanBeMade, EndsMaking, EndsTexts, refusal_in}
 use Rattle.requests.specs.RowWords.{EndsLengths, lengths_named}
@@ -157,6 +158,13 @@ module _ (files : FileFacts) where
     EndsBy = EndsFile files most file;
   }
 
+  -- the opening of what FILE names, of which a part was read then
+  abbrev pub opening_step : ℕ → List ℕ → RequestStep
+  opening_step most file = record {
+    Done = (bytes : List ℕ) × files.Begins (origin_of file) most bytes;
+    EndsBy = EndsOpening (files.Refuses (origin_of file) most) file;
+  }
+
   -- the reading of its characters
   abbrev pub characters_step : List ℕ → RequestStep
   characters_step file = record {
@@ -175,6 +183,10 @@ module _ (files : FileFacts) where
   abbrev pub characters_steps : List ℕ → List ℕ → List RequestStep
   characters_steps folder file = table_steps folder ++ file_step most_file_bytes file ∷ []
 
+  -- what is read to report on a file of characters, before its first byte
+  abbrev pub opening_steps : List ℕ → List ℕ → List RequestStep
+  opening_steps folder file = table_steps folder ++ opening_step most_file_bytes file ∷ []
+
   -- what is read for a request, in this order
   abbrev pub steps_of : Request → List RequestStep
   steps_of (Text source direction file print) = printing_steps source file.now
@@ -182,4 +194,7 @@ module _ (files : FileFacts) where
   steps_of (Judge Classes tables file) = file_step most_file_bytes file.now ∷ []
   steps_of (Judge Characters (Some folder) file) = characters_steps folder.now file.now
   steps_of (Judge Characters None file) = record { Done = ⊥; EndsBy = EndsUnnamed } ∷ []
+  steps_of (Report Classes tables file most) = opening_step most_file_bytes file.now ∷ []
+  steps_of (Report Characters (Some folder) file most) = opening_steps folder.now file.now
+  steps_of (Report Characters None file most) = record { Done = ⊥; EndsBy = EndsUnnamed } ∷ []
   steps_of (Rows form alphabet lengths) = rows_steps form alphabet.now lengths.now

@@ -1,6 +1,6 @@
 //! What is asked of the command `bidi`, done over the files and writers that its caller hands it: bidirectional text is
-//! laid out, what each rule does to it is shown, and conformance files of the bidirectional algorithm are judged and
-//! written.
+//! laid out, what each rule does to it is shown, and conformance files of the bidirectional algorithm are judged,
+//! reported on and written.
 #![tactic(auto)]
 
 mod class_names;
@@ -13,6 +13,7 @@ mod opening;
 pub mod outcome;
 pub mod performing;
 mod reading;
+mod reporting;
 pub mod request;
 pub mod run;
 mod table_files;

@@ -5,7 +5,7 @@ ghost use Rattle.requests.specs.Outcomes.{outcome_status};
 /// What a request that is done came to.
 #[derive(Clone, Copy, Debug, PartialEq, Eq)]
 pub enum Outcome {
-    /// A file was judged and its verdict printed: the verdict's exit status.
+    /// A file was judged and its verdict printed, or reported on: the exit status of the verdict on it.
     Judged(u8),
     /// A text was printed, by its levels or as it is shown, or what each rule does to a text or to classes, or rows.
     Printed,

@@ -2,9 +2,9 @@
 ghost use Rattle.std.specs.Prelude.{◌≤◌, length, IfOk, IfErr, OnOk};
 ghost use Rattle.std.specs.Io.KnownBytes.{Appends};
 ghost use Rattle.units.specs.Layout.{longest_text};
-ghost use Rattle.requests.specs.Outcomes.{IsDone};
+ghost use Rattle.requests.specs.Outcomes.{Fails, IsDone};
 ghost use Rattle.requests.specs.Printed.{HasExplained, HasPrinted, HoldsText, printed_text};
-ghost use Rattle.requests.specs.Steps.{FailsIn, IsFirstFault, classes_steps, printing_steps, steps_of};
+ghost use Rattle.requests.specs.Steps.{FailsIn, IsFirstFault, classes_steps, printing_steps};
 ghost use Rattle.requests.specs.TableSources.{AreTablesBy};
 
 use crate::class_names::classes_in;
@@ -14,6 +14,7 @@ use crate::files::Files;
 use crate::judging::judge_file;
 use crate::outcome::Outcome;
 use crate::reading::text_in_file;
+use crate::reporting::report_file;
 use crate::request::{Print, Request, TableSource};
 use crate::table_source::tables_by;
 use explain::print::{print_explained, print_explained_classes};
@@ -114,8 +115,8 @@ pub fn perform<'a, F: Files, W: Write>(
 ) -> Result<Outcome, Fault<'a>>
     ensures done { IfOk result (IsDone (F.facts files.now)
         (W.contents out.old) (W.contents out.new) request.entry) }
-    ensures fault { IfErr result (FailsIn (steps_of (F.facts files.now) request.entry)
-        (W.contents out.old) (W.contents out.new)) }
+    ensures fault { IfErr result (Fails (F.facts files.now)
+        (W.contents out.old) (W.contents out.new) request.entry) }
 {
     match request {
         Request::Text {
@@ -130,6 +131,12 @@ pub fn perform<'a, F: Files, W: Write>(
         Request::Judge { kind, tables, file } => {
             return judge_file(alloc, kind, tables, file, files, out);
         }
+        Request::Report {
+            kind,
+            tables,
+            file,
+            most,
+        } => return report_file(alloc, kind, tables, file, most, files, out),
         Request::Rows {
             form,
             alphabet,

@@ -62,6 +62,14 @@ pub enum Request<'a> {
         tables: Option<&'a str>,
         file: &'a str,
     },
+    /// Report on a conformance file: print the first of its wrong cases, at most so many, and how many there are. The
+    /// folder of the tables is needed as it is to judge.
+    Report {
+        kind: FileKind,
+        tables: Option<&'a str>,
+        file: &'a str,
+        most: u64,
+    },
     /// Print texts of these lengths over the alphabet of classes whose names stand in the word, all or some that are
     /// drawn, as a conformance file of which a judge says yes.
     Rows {

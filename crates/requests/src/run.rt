@@ -1,8 +1,7 @@
 // A request done to its end.
 ghost use Rattle.std.specs.Prelude.{◌≡◌, ◌≤◌, IfOk, IfErr};
 ghost use Rattle.std.specs.Io.KnownBytes.{Keeps};
-ghost use Rattle.requests.specs.Outcomes.{HasEnded, IsDone};
-ghost use Rattle.requests.specs.Steps.{FailsIn, steps_of};
+ghost use Rattle.requests.specs.Outcomes.{Fails, HasEnded, IsDone};
 
 use crate::fault::Fault;
 use crate::files::Files;
@@ -32,8 +31,8 @@ fn perform_and_flush<'a, F: Files, W: Write>(
 ) -> Result<Outcome, Fault<'a>>
     ensures done { IfOk result (IsDone (F.facts files.now)
         (W.contents out.old) (W.contents out.new) request.entry) }
-    ensures fault { IfErr result (FailsIn (steps_of (F.facts files.now) request.entry)
-        (W.contents out.old) (W.contents out.new)) }
+    ensures fault { IfErr result (Fails (F.facts files.now)
+        (W.contents out.old) (W.contents out.new) request.entry) }
 {
     let outcome = perform(alloc, request, files, out)?;
     flush(out)?;

@@ -5,7 +5,7 @@ use Rattle.clap.specs.Simple.{App, app_of, with_subcommand}
 use Rattle.clap.specs.Walk.{Text}
 use Rattle.clap.specs.declared.builder.command.Command.{Command}
 use Rattle.clap.specs.declared.builder.command.Command.TheViews.{out-Command as fields_of}
-use Rattle.command.specs.CommandLine.{Choice, bidi_top, direction_words, explain_app, form_words, judge_app, kind_words, levels_app, reorder_app, rows_app, words_of}
+use Rattle.command.specs.CommandLine.{Choice, bidi_top, direction_words, explain_app, form_words, judge_app, kind_words, levels_app, reorder_app, report_app, rows_app, words_of}
 use Rattle.command.proofs.command_line.bidi_command.Goals as goal
 
 -- with a subcommand whose choice is among these words
@@ -33,24 +33,28 @@ returns-clause-app c =
     c.explain_command.ensures.local reorder.2 c.in_ok-with_explain.ensures in
     let judge = adds c.judge_command.result kind_words judge_app _ _ _ c.judge_command.ensures.app
     c.judge_command.ensures.local explain.2 c.in_ok-with_judge.ensures in
-    IfOk-weaker c.with_made-5.result _ _ (λ command h.
+    let report = adds c.report_command.result kind_words report_app _ _ _ c.report_command.ensures.app
+    c.report_command.ensures.local judge.2 c.in_ok-with_report.ensures in
+    IfOk-weaker c.with_made-6.result _ _ (λ command h.
     let rows = adds c.rows_command.result form_words rows_app _ command _ c.rows_command.ensures.app
-    c.rows_command.ensures.local judge.2 h in
+    c.rows_command.ensures.local report.2 h in
     record {
       choices = record {
         of_levels = levels.0;
         of_reorder = reorder.0;
         of_explain = explain.0;
         of_judge = judge.0;
+        of_report = report.0;
         of_rows = rows.0;
       };
       levels_words = levels.1;
       reorder_words = reorder.1;
       explain_words = explain.1;
       judge_words = judge.1;
+      report_words = report.1;
       rows_words = rows.1;
       is = rows.2;
-    }) c.with_made-5.ensures
+    }) c.with_made-6.ensures
 
 pub returns-clause-local : goal.returns-clause-local
 returns-clause-local c =
@@ -58,4 +62,5 @@ returns-clause-local c =
     let reorder = stays_local c.reorder_command.result _ _ c.reorder_command.ensures.local levels c.in_ok-with_reorder.ensures in
     let explain = stays_local c.explain_command.result _ _ c.explain_command.ensures.local reorder c.in_ok-with_explain.ensures in
     let judge = stays_local c.judge_command.result _ _ c.judge_command.ensures.local explain c.in_ok-with_judge.ensures in
-    IfOk-weaker c.with_made-5.result _ _ (λ command h. stays_local c.rows_command.result _ command c.rows_command.ensures.local judge h) c.with_made-5.ensures
+    let report = stays_local c.report_command.result _ _ c.report_command.ensures.local judge c.in_ok-with_report.ensures in
+    IfOk-weaker c.with_made-6.result _ _ (λ command h. stays_local c.rows_command.result _ command c.rows_command.ensures.local report h) c.with_made-6.ensures

@@ -5,6 +5,7 @@ use Rattle.requests.specs.declared.fault.Fault.{Fault}
 use Rattle.requests.specs.declared.fault.Fault.TheVariants.{CannotWrite}
 use Rattle.requests.specs.declared.outcome.Outcome.{Outcome}
 use Rattle.requests.proofs.FirstFaults.{printing_fails, request_done}
+use Rattle.requests.proofs.Reported.{steps_fail}
 use Rattle.requests.proofs.run.perform_and_flush.Goals as goal
 
 handed_on : (r : Result Outcome Fault) (e : Fault) → IsErrAnd r (λ given. given ≡ e) → e ≡ CannotWrite
@@ -15,5 +16,5 @@ handed_on (Err given) e same is = same ∙ is
 -- all was read and printed before what was printed is handed on
 pub returns-in_err-flush-clause-fault : goal.returns-in_err-flush-clause-fault
 returns-in_err-flush-clause-fault g c =
-    printing_fails _ _ _ _ Write (request_done _ _ _ _ _ c.in_ok-outcome.ensures.done)
-    (handed_on _ _ c.from_residual-in_err-flush.ensures.1 c.in_err-flush.ensures.fault)
+    steps_fail _ _ _ _ _ (printing_fails _ _ _ _ Write (request_done _ _ _ _ _ c.in_ok-outcome.ensures.done)
+    (handed_on _ _ c.from_residual-in_err-flush.ensures.1 c.in_err-flush.ensures.fault))

@@ -1,0 +1,26 @@
+use Rattle.requests.proofs.Reported.{handed_fail, steps_fail}
+use Rattle.requests.specs.declared.request.Request.TheVariants as requested
+use Rattle.requests.proofs.performing.perform.Goals as goal
+
+pub returns-in_err-print_file-in-Text-clause-fault : goal.returns-in_err-print_file-in-Text-clause-fault
+returns-in_err-print_file-in-Text-clause-fault g c =
+    rw c.in-Text.is (handed_fail (g.F.Files.facts c.args.files.now) (g.W.Write.contents c.args.out.now) (g.W.Write.contents c.print_file.new.out)
+    (requested.Text c.in-Text.tables c.in-Text.direction c.in-Text.file c.in-Text.print) _ _ c.from_residual.ensures.1
+    c.in_err-print_file-in-Text.ensures.fault)
+
+pub returns-in_err-explain_classes-in-ExplainClasses-clause-fault : goal.returns-in_err-explain_classes-in-ExplainClasses-clause-fault
+returns-in_err-explain_classes-in-ExplainClasses-clause-fault g c =
+    rw c.in-ExplainClasses.is (handed_fail (g.F.Files.facts c.args.files.now) (g.W.Write.contents c.args.out.now) (g.W.Write.contents c.explain_classes.new.out)
+    (requested.ExplainClasses c.in-ExplainClasses.classes c.in-ExplainClasses.direction) _ _
+    c.from_residual-in_err-explain_classes-in-ExplainClasses.ensures.1 c.in_err-explain_classes-in-ExplainClasses.ensures.fault)
+
+pub returns-in-Judge-clause-fault : goal.returns-in-Judge-clause-fault
+returns-in-Judge-clause-fault g c =
+    rw c.in-Judge.is (steps_fail (g.F.Files.facts c.args.files.now) (g.W.Write.contents c.args.out.now) (g.W.Write.contents c.judge_file.new.out)
+    (requested.Judge c.in-Judge.kind c.in-Judge.tables c.in-Judge.file) c.judge_file.result c.judge_file.ensures.fault)
+
+pub returns-in_err-print_rows-in-Rows-clause-fault : goal.returns-in_err-print_rows-in-Rows-clause-fault
+returns-in_err-print_rows-in-Rows-clause-fault g c =
+    rw c.in-Rows.is (handed_fail (g.F.Files.facts c.args.files.now) (g.W.Write.contents c.args.out.now) (g.W.Write.contents c.print_rows.new.out)
+    (requested.Rows c.in-Rows.form c.in-Rows.alphabet c.in-Rows.lengths) _ _
+    c.from_residual-in_err-print_rows-in-Rows.ensures.1 c.in_err-print_rows-in-Rows.ensures.fault)

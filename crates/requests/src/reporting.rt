@@ -1,0 +1,97 @@
+// A file reported on.
+ghost use Rattle.std.specs.Prelude.{◌≡◌, Some, IfOk, IfErr};
+ghost use Rattle.bidtests.specs.declared.kind.Kind.TheVariants as rows_of;
+ghost use Rattle.requests.specs.Outcomes.{Fails, IsDone};
+ghost use Rattle.requests.specs.ReportedFiles.{FailsAs, HasReported, HasReportedAs, report_status};
+ghost use Rattle.requests.specs.declared.request.Request.TheVariants.{Report as ReportOf};
+
+use crate::fault::Fault;
+use crate::files::Files;
+use crate::opening::{MOST_FILE_BYTES, open};
+use crate::outcome::Outcome;
+use crate::request::FileKind;
+use crate::table_files::read_tables;
+use bidtests::kind::Kind;
+use report::print::{ReportFault, print_report};
+use report::report::Report;
+use std::alloc::Global;
+use std::io::Write;
+use units::limits::Limits;
+
+/// The exit status of a report: 0 where the file is right, 1 where it is not.
+fn status_of(right: bool) -> u8
+    ensures { result ≡ report_status right }
+{
+    if right { 0 } else { 1 }
+}
+
+/// Reports on what FILE names, as a file of such rows: prints the first wrong cases, at most so many, while it is read,
+/// and then the counts. Answers the exit status.
+fn report_as<'a, F: Files, W: Write>(
+    alloc: Global,
+    rows: Kind<'_>,
+    file: &'a str,
+    most: u64,
+    files: &F,
+    out: &mut W,
+) -> Result<u8, Fault<'a>>
+    ensures reported { IfOk result (HasReportedAs (F.facts files.now)
+        rows.entry file.now most (W.contents out.old) (W.contents out.new)) }
+    ensures fault { IfErr result (FailsAs (F.facts files.now)
+        rows.entry file.now most (W.contents out.old) (W.contents out.new)) }
+{
+    let report = Report::new(alloc, rows, Limits::standard())?;
+    let mut source = open(alloc, files, file, MOST_FILE_BYTES)?;
+    match print_report(out, report, &mut source, most) {
+        Ok(right) => Ok(status_of(right)),
+        Err(ReportFault::Write) => Err(Fault::CannotWrite),
+        Err(ReportFault::Read) => {
+            let unread = files.unread(&source);
+            Err(Fault::CannotRead { name: file, unread })
+        }
+    }
+}
+
+/// Reports on what FILE names, whose rows are lists of code points, by the tables of the folder, which are read first.
+/// Answers the exit status.
+fn report_on_characters<'a, F: Files, W: Write>(
+    alloc: Global,
+    folder: &'a str,
+    file: &'a str,
+    most: u64,
+    files: &F,
+    out: &mut W,
+) -> Result<u8, Fault<'a>>
+    ensures reported { IfOk result (HasReported (F.facts files.now) FileKind.Characters (Some folder.entry)
+        file.now most (W.contents out.old) (W.contents out.new)) }
+    ensures fault { IfErr result (Fails (F.facts files.now) (W.contents out.old) (W.contents out.new)
+        (ReportOf FileKind.Characters (Some folder.entry) file.entry most)) }
+{
+    let tables = read_tables(alloc, files, folder)?;
+    report_as(alloc, Kind::Characters(&tables), file, most, files, out)
+}
+
+/// Reports on what FILE names, as a file of this kind. Where tables are needed and none are named, nothing is opened.
+pub fn report_file<'a, F: Files, W: Write>(
+    alloc: Global,
+    kind: FileKind,
+    tables: Option<&'a str>,
+    file: &'a str,
+    most: u64,
+    files: &F,
+    out: &mut W,
+) -> Result<Outcome, Fault<'a>>
+    ensures done { IfOk result (IsDone (F.facts files.now)
+        (W.contents out.old) (W.contents out.new) (ReportOf kind tables.entry file.entry most)) }
+    ensures fault { IfErr result (Fails (F.facts files.now)
+        (W.contents out.old) (W.contents out.new) (ReportOf kind tables.entry file.entry most)) }
+{
+    let status = match (kind, tables) {
+        (FileKind::Classes, _) => report_as(alloc, Kind::Classes, file, most, files, out)?,
+        (FileKind::Characters, Some(folder)) => {
+            report_on_characters(alloc, folder, file, most, files, out)?
+        }
+        (FileKind::Characters, None) => return Err(Fault::TablesNeeded),
+    };
+    Ok(Outcome::Judged(status))
+}
