@@ -95,6 +95,9 @@ position code class level X W1 W2 W3 W4 W5 W6 W7 N0 N1 N2 I L1
 sequence 0 level 0 sos L eos L: 0
 order 0' '' explain --classes ON
 ends 2 '' 'bidi: X1 is no class' explain --classes 'ON X1 X2'
+ends 0 $'paragraph 0 level 1: R at 0\n'"$explained" '' explain --tables t --codes '05D0 0020 0028 0061'
+ends 0 $'paragraph 0 level 1: given\n'"$explained" '' explain --direction rtl --codes '05D0 0020 0028 0061'
+ends 2 '' 'bidi: 28 is no code point' explain --codes '05D0 28 x'
 # Classes in a word of 131,071 bytes, the longest that Linux hands to a program.
 "$program" explain --classes "ON$(printf '%131069s' '')" > found_out 2> found_err
 is 'status of the longest word of classes' 0 $?
@@ -250,7 +253,7 @@ ends 0 $'bidi 1.0.0 (rules P1 to L2 and L4 of UAX #9, Unicode 15.0)\ntables of U
 # A full disk, and a pipe that no one reads.
 for words in 'judge --kind classes yes.txt' 'judge --kind classes no.txt' 'report --kind classes yes.txt' \
     'report --kind classes --most 1000 wrong.txt' 'levels --tables t text.txt' \
-    'reorder --tables t text.txt' 'explain --tables t text.txt' 'explain --classes R' \
+    'reorder --tables t text.txt' 'explain --tables t text.txt' 'explain --classes R' 'explain --codes 05D0' \
     'rows --form exhaustive --alphabet R --length 1' '--help'; do
     # shellcheck disable=SC2086
     "$program" $words > /dev/full 2> found_err

@@ -93,6 +93,7 @@ program_of_bidi() {
     rows 0 reorder --tables "$work/t" --columns 2 "$work/text"
     rows 0 explain --tables "$work/t" "$work/text"
     rows 0 explain --classes 'R ON LRE L'
+    rows 0 explain --tables "$work/t" --codes '05D0 0028'
     rows 1 judge --kind classes "$work/classes"
     rows 0 judge --kind characters --tables "$work/t" "$work/characters"
     rows 0 rows --form exhaustive --alphabet 'L R' --length 1..2
@@ -100,6 +101,7 @@ program_of_bidi() {
     rows 2 judge --kind characters "$work/characters"
     rows 2 levels
     rows 2 explain --classes 'R X'
+    rows 2 explain --codes '05D0 X'
     rows 0 --help
     echo "bidi: $growths growths refused, each in turn: the program, over files of the system"
 }

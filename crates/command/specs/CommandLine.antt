@@ -68,6 +68,10 @@ columns_rule = record (option_rule (codes "columns")) { parser = Some (parser.Si
 abbrev pub classes_rule : Rule
 classes_rule = option_rule (codes "classes")
 
+-- --codes
+abbrev pub codes_rule : Rule
+codes_rule = option_rule (codes "codes")
+
 -- --kind
 abbrev pub kind_rule : Choice → Rule
 kind_rule choice = record (option_rule (codes "kind")) { required = true; parser = Some (parser.Names choice) }
@@ -100,7 +104,7 @@ reorder_app directions =
 
 abbrev pub explain_app : Choice → App
 explain_app directions =
-    with_rule (with_rule (with_rule (with_rule (new_app (codes "explain")) tables_rule) classes_rule) (direction_rule directions)) (not_required file_rule)
+    with_rule (with_rule (with_rule (with_rule (with_rule (new_app (codes "explain")) tables_rule) classes_rule) codes_rule) (direction_rule directions)) (not_required file_rule)
 
 abbrev pub judge_app : Choice → App
 judge_app kinds = with_rule (with_rule (with_rule (new_app (codes "judge")) (kind_rule kinds)) tables_rule) file_rule
@@ -213,7 +217,7 @@ folder_of BuiltIn = None
 abbrev pub AsksToPrint : Text → List Row → Print → Type 0
 AsksToPrint name rows Levels = name ≡ codes "levels"
 AsksToPrint name rows (Reorder columns) = (name ≡ codes "reorder") × ColumnsAre (one_of (codes "columns") rows) columns
-AsksToPrint name rows Explained = (name ≡ codes "explain") × (first_of (codes "classes") rows ≡ None)
+AsksToPrint name rows Explained = (name ≡ codes "explain") × (first_of (codes "classes") rows ≡ None) × (first_of (codes "codes") rows ≡ None)
 
 -- the values of the subcommand of this name make this request
 abbrev pub AsksFor : Text → List Row → Request → Type 0
@@ -221,7 +225,10 @@ AsksFor name rows (requested.Text tables direction file print) = AsksToPrint nam
     × (first_of (codes "tables") rows ≡ folder_of tables) × (direction ≡ direction_named (first_of (codes "direction") rows))
     × (first_of (codes "file") rows ≡ Some file.now)
 AsksFor name rows (requested.ExplainClasses classes direction) = (name ≡ codes "explain")
-    × (first_of (codes "tables") rows ≡ None) × (first_of (codes "classes") rows ≡ Some classes.now)
+    × (first_of (codes "tables") rows ≡ None) × (first_of (codes "classes") rows ≡ Some classes.now) × (first_of (codes "codes") rows ≡ None)
+    × (direction ≡ direction_named (first_of (codes "direction") rows)) × (first_of (codes "file") rows ≡ None)
+AsksFor name rows (requested.ExplainCodes said tables direction) = (name ≡ codes "explain")
+    × (first_of (codes "tables") rows ≡ folder_of tables) × (first_of (codes "classes") rows ≡ None) × (first_of (codes "codes") rows ≡ Some said.now)
     × (direction ≡ direction_named (first_of (codes "direction") rows)) × (first_of (codes "file") rows ≡ None)
 AsksFor name rows (requested.Judge kind tables file) = (name ≡ codes "judge")
     × (kind_named (first_of (codes "kind") rows) ≡ Some kind) × (first_of (codes "tables") rows ≡ option_map (λ folder. folder.now) tables)

@@ -5,20 +5,26 @@ use Rattle.std.specs.Str.{bytes_eq}
 use Rattle.clap.specs.Walk.{Row, Text, first_of}
 use Rattle.command.specs.declared.help.TheConstants.{BIDI_USAGE, EXPLAIN_USAGE}
 use Rattle.command.specs.declared.refusal.NoRequest.{NoRequest}
-use Rattle.command.specs.declared.refusal.NoRequest.TheVariants.{ClassesAndText, NoText, NoSubcommand}
+use Rattle.command.specs.declared.refusal.NoRequest.TheVariants.{ClassesAndText, CodesAndText, NoText, NoSubcommand}
 
 -- classes are given, and a text or tables beside them
 abbrev pub has_classes_and_text : List Row → Bool
 has_classes_and_text rows =
     is_some (first_of (codes "classes") rows) && (is_some (first_of (codes "tables") rows) || is_some (first_of (codes "file") rows))
 
--- of `explain`: classes and a text exclude each other, and one of them is required
-abbrev pub explain_refusal : Bool → NoRequest
-explain_refusal both = if both then ClassesAndText else NoText
+-- code points are given, and classes or a text beside them
+abbrev pub has_codes_and_text : List Row → Bool
+has_codes_and_text rows =
+    is_some (first_of (codes "codes") rows) && (is_some (first_of (codes "classes") rows) || is_some (first_of (codes "file") rows))
+
+-- of `explain`: a text, code points and classes exclude each other, and one of them is required
+abbrev pub explain_refusal : List Row → NoRequest
+explain_refusal rows =
+    if has_classes_and_text rows then ClassesAndText else (if has_codes_and_text rows then CodesAndText else NoText)
 
 -- where the subcommand of this name makes no request of these values
 abbrev pub refusal_in_subcommand : Text → List Row → NoRequest
-refusal_in_subcommand name rows = if bytes_eq name (codes "explain") then explain_refusal (has_classes_and_text rows) else NoSubcommand
+refusal_in_subcommand name rows = if bytes_eq name (codes "explain") then explain_refusal rows else NoSubcommand
 
 -- where the subcommand that was met makes none
 abbrev pub refusal_without_request : Option (Text × List Row) → NoRequest
@@ -28,12 +34,14 @@ refusal_without_request (Some met) = refusal_in_subcommand met.0 met.1
 -- what is wrong, in words
 abbrev pub words_without_request : NoRequest → List ℕ
 words_without_request ClassesAndText = codes "the argument '--classes <CLASSES>' cannot be used with '--tables <DIR>' or '<FILE>'"
-words_without_request NoText = codes "'<FILE>' is required, or '--classes <CLASSES>'"
+words_without_request CodesAndText = codes "the argument '--codes <CODES>' cannot be used with '--classes <CLASSES>' or '<FILE>'"
+words_without_request NoText = codes "'<FILE>' is required, or '--codes <CODES>', or '--classes <CLASSES>'"
 words_without_request NoSubcommand = codes "a subcommand is needed"
 
 -- how to call what was called
 abbrev pub usage_without_request : NoRequest → List ℕ
 usage_without_request ClassesAndText = EXPLAIN_USAGE.now
+usage_without_request CodesAndText = EXPLAIN_USAGE.now
 usage_without_request NoText = EXPLAIN_USAGE.now
 usage_without_request NoSubcommand = BIDI_USAGE.now
 

@@ -9,15 +9,16 @@ use Rattle.units.specs.declared.level.Direction.{Direction}
 use Rattle.units.specs.declared.level.Direction.TheVariants.{Auto, Rtl}
 use Rattle.command.specs.CommandLine.{Choices, bidi_app, direction_named, kind_named}
 use Rattle.command.specs.Refusals.{refusal_without_request}
-use Rattle.command.specs.declared.refusal.NoRequest.TheVariants.{ClassesAndText, NoText}
+use Rattle.command.specs.declared.refusal.NoRequest.TheVariants.{ClassesAndText, CodesAndText, NoText}
 use Rattle.requests.specs.declared.request.FileKind.{FileKind}
 use Rattle.requests.specs.declared.request.FileKind.TheVariants.{Characters}
 
--- a subcommand, with its folder, classes, direction, text of columns, kind and file
+-- a subcommand, with its folder, classes, code points, direction, text of columns, kind and file
 pub record Met : Type 0 where
   pub name : Text
   pub tables : Option Text
   pub classes : Option Text
+  pub codes : Option Text
   pub direction : Direction
   pub columns : Option Text
   pub kind : Option FileKind
@@ -28,6 +29,7 @@ met p = record {
   name = p.0;
   tables = first_of (codes "tables") p.1;
   classes = first_of (codes "classes") p.1;
+  codes = first_of (codes "codes") p.1;
   direction = direction_named (first_of (codes "direction") p.1);
   columns = one_of (codes "columns") p.1;
   kind = kind_named (first_of (codes "kind") p.1);
@@ -40,6 +42,7 @@ pub levels_words : (c : Choices) → option_map met (subcommand_of (bidi_app c)
       name = codes "levels";
       tables = Some (codes "t");
       classes = None;
+      codes = None;
       direction = Auto;
       columns = None;
       kind = None;
@@ -54,6 +57,7 @@ pub standard_words : (c : Choices) → option_map met (subcommand_of (bidi_app c
       name = codes "levels";
       tables = None;
       classes = None;
+      codes = None;
       direction = Auto;
       columns = None;
       kind = None;
@@ -74,6 +78,7 @@ pub input_words : (c : Choices) → option_map met (subcommand_of (bidi_app c)
       name = codes "levels";
       tables = Some (codes "t");
       classes = None;
+      codes = None;
       direction = Auto;
       columns = None;
       kind = None;
@@ -93,6 +98,7 @@ pub reorder_words : (c : Choices) → option_map met (subcommand_of (bidi_app c)
       name = codes "reorder";
       tables = Some (codes "t");
       classes = None;
+      codes = None;
       direction = Rtl;
       columns = Some (codes "2");
       kind = None;
@@ -107,6 +113,7 @@ pub judge_words : (c : Choices) → option_map met (subcommand_of (bidi_app c)
       name = codes "judge";
       tables = Some (codes "t");
       classes = None;
+      codes = None;
       direction = Auto;
       columns = None;
       kind = Some Characters;
@@ -137,6 +144,7 @@ pub explain_words : (c : Choices) → option_map met (subcommand_of (bidi_app c)
       name = codes "explain";
       tables = Some (codes "t");
       classes = None;
+      codes = None;
       direction = Auto;
       columns = None;
       kind = None;
@@ -151,6 +159,7 @@ pub explain_standard_words : (c : Choices) → option_map met (subcommand_of (bi
       name = codes "explain";
       tables = None;
       classes = None;
+      codes = None;
       direction = Auto;
       columns = None;
       kind = None;
@@ -165,6 +174,7 @@ pub explain_classes_words : (c : Choices) → option_map met (subcommand_of (bid
       name = codes "explain";
       tables = None;
       classes = Some (codes "R ON L");
+      codes = None;
       direction = Rtl;
       columns = None;
       kind = None;
@@ -173,7 +183,22 @@ pub explain_classes_words : (c : Choices) → option_map met (subcommand_of (bid
 unfolding clap_on_literals
 explain_classes_words c = refl
 
--- neither, and both: no request, and the reason for that
+-- of code points, likewise
+pub explain_codes_words : (c : Choices) → option_map met (subcommand_of (bidi_app c)
+    (codes "bidi" ∷ codes "explain" ∷ codes "--codes" ∷ codes "05D0 0028" ∷ [])) ≡ Some (record {
+      name = codes "explain";
+      tables = None;
+      classes = None;
+      codes = Some (codes "05D0 0028");
+      direction = Auto;
+      columns = None;
+      kind = None;
+      file = None;
+    })
+unfolding clap_on_literals
+explain_codes_words c = refl
+
+-- none of these, and two of them: no request, and the reason for that
 pub explain_nothing_words : (c : Choices)
     → refusal_without_request (subcommand_of (bidi_app c) (codes "bidi" ∷ codes "explain" ∷ [])) ≡ NoText
 unfolding clap_on_literals
@@ -183,6 +208,11 @@ pub explain_both_words : (c : Choices) → refusal_without_request (subcommand_o
     (codes "bidi" ∷ codes "explain" ∷ codes "--classes" ∷ codes "R" ∷ codes "FILE" ∷ [])) ≡ ClassesAndText
 unfolding clap_on_literals
 explain_both_words c = refl
+
+pub explain_codes_and_classes_words : (c : Choices) → refusal_without_request (subcommand_of (bidi_app c)
+    (codes "bidi" ∷ codes "explain" ∷ codes "--classes" ∷ codes "R" ∷ codes "--codes" ∷ codes "05D0" ∷ [])) ≡ CodesAndText
+unfolding clap_on_literals
+explain_codes_and_classes_words c = refl
 
 -- rows: their form, alphabet and lengths
 abbrev rows_met : Text × List Row → Text × Option Text × Option Text × Option Text

@@ -1,7 +1,7 @@
 // The arguments of the subcommands.
 ghost use Rattle.std.specs.Prelude.{◌≡◌, false};
 ghost use Rattle.clap.specs.Walk.{rule_of};
-ghost use Rattle.command.specs.CommandLine.{Choice, alphabet_rule, classes_rule, columns_rule, direction_rule};
+ghost use Rattle.command.specs.CommandLine.{Choice, alphabet_rule, classes_rule, codes_rule, columns_rule, direction_rule};
 ghost use Rattle.command.specs.CommandLine.{direction_words, file_rule, form_rule, form_words, kind_rule, kind_words};
 ghost use Rattle.command.specs.CommandLine.{length_rule, number_rule, tables_rule, words_of};
 
@@ -76,6 +76,17 @@ pub fn classes_argument<'a>(alloc: Global) -> Arg<'a>
         .long("classes")
         .value_name("CLASSES")
         .help("Short names of classes, with blanks between them, in the place of a text")
+}
+
+/// `--codes CODES`, which may be left out.
+pub fn codes_argument<'a>(alloc: Global) -> Arg<'a>
+    ensures rule { rule_of result ≡ codes_rule }
+    ensures local { result.global ≡ false }
+{
+    Arg::new(alloc, "codes")
+        .long("codes")
+        .value_name("CODES")
+        .help("Code points in hex digits, with blanks between them, in the place of a text")
 }
 
 /// `--form`, which is required.

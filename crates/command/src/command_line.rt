@@ -7,8 +7,8 @@ ghost use Rattle.command.specs.CommandLine.{Choice, IsBidi, bidi_top, direction_
 ghost use Rattle.command.specs.CommandLine.{form_words, kind_words, levels_app, reorder_app, report_app, rows_app, words_of};
 
 use crate::arguments::{
-    alphabet_argument, classes_argument, columns_argument, direction_argument, file_argument,
-    form_argument, kind_argument, length_argument, number_argument, tables_argument,
+    alphabet_argument, classes_argument, codes_argument, columns_argument, direction_argument,
+    file_argument, form_argument, kind_argument, length_argument, number_argument, tables_argument,
 };
 use crate::help;
 use clap::Command;
@@ -57,6 +57,7 @@ fn explain_command<'a>(alloc: Global) -> Result<Command<'a>, AllocError>
         .override_usage(help::EXPLAIN_USAGE)
         .arg(tables_argument(alloc, help::TABLES_HELP))?
         .arg(classes_argument(alloc))?
+        .arg(codes_argument(alloc))?
         .arg(direction_argument(alloc))?
         .arg(file_argument(alloc).required(false))
 }

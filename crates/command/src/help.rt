@@ -69,7 +69,7 @@ pub const REORDER_EXAMPLE: &str =
 
 /// What `explain` prints, and with which status it ends.
 pub const EXPLAIN_LONG_ABOUT: &str =
-    "Prints what each rule does with a text, in UTF-8, or with a list of classes.
+    "Prints what each rule does with a text, in UTF-8 or in code points, or with a list of classes.
 
 For each paragraph prints a line `paragraph K level L: WHY`, K counted from 0, with what
 decided the level, a row for each of its positions, and then its isolating run sequences,
@@ -80,17 +80,19 @@ after X1 to X8, or `x` where X9 removes the position, the class after X1 to X8, 
 each of W1 to W7 and after N0, N1 and N2, the level after I1 and I2, and that after L1.
 `.` stands where a rule changed nothing.
 
-Ends with status 0, 2 where the command line is refused or --classes has a name of no
-class, and 3 where a file can't be read, a line of a table is faulty, the text is not
-UTF-8, a write fails or memory is refused.";
+Ends with status 0, 2 where the command line is refused, --classes has a name of no
+class or --codes an item that is no code point, and 3 where a file can't be read, a line
+of a table is faulty, the text is not UTF-8, a write fails or memory is refused.";
 
 /// How `explain` is called.
 pub const EXPLAIN_USAGE: &str = "bidi explain [OPTIONS] <FILE>
+       bidi explain [OPTIONS] --codes <CODES>
        bidi explain [OPTIONS] --classes <CLASSES>";
 
 /// What stands at the end of the help of `explain`.
 pub const EXPLAIN_EXAMPLE: &str = "Examples:
   bidi explain text.txt
+  bidi explain --codes '05D0 0028'
   bidi explain --classes 'R ON LRE L'";
 
 /// What `judge` prints, and with which status it ends.

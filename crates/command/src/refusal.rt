@@ -11,7 +11,9 @@ use std::fmt;
 pub enum NoRequest {
     /// `explain` is given classes, and tables or a text beside them.
     ClassesAndText,
-    /// `explain` is given neither classes nor a text.
+    /// `explain` is given code points, and classes or a text beside them.
+    CodesAndText,
+    /// `explain` is given neither a text nor code points nor classes.
     NoText,
     /// No subcommand makes one.
     NoSubcommand,
@@ -26,7 +28,10 @@ impl NoRequest {
             NoRequest::ClassesAndText => {
                 "the argument '--classes <CLASSES>' cannot be used with '--tables <DIR>' or '<FILE>'"
             }
-            NoRequest::NoText => "'<FILE>' is required, or '--classes <CLASSES>'",
+            NoRequest::CodesAndText => {
+                "the argument '--codes <CODES>' cannot be used with '--classes <CLASSES>' or '<FILE>'"
+            }
+            NoRequest::NoText => "'<FILE>' is required, or '--codes <CODES>', or '--classes <CLASSES>'",
             NoRequest::NoSubcommand => "a subcommand is needed",
         }
     }
@@ -36,7 +41,9 @@ impl NoRequest {
         ensures { result.now ≡ usage_without_request self }
     {
         match self {
-            NoRequest::ClassesAndText | NoRequest::NoText => EXPLAIN_USAGE,
+            NoRequest::ClassesAndText | NoRequest::CodesAndText | NoRequest::NoText => {
+                EXPLAIN_USAGE
+            }
             NoRequest::NoSubcommand => BIDI_USAGE,
         }
     }

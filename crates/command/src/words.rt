@@ -5,7 +5,8 @@ ghost use Rattle.clap.specs.Simple.{subcommand_rows_of};
 ghost use Rattle.clap.specs.Walk.{first_of, one_of, rows_of, texts};
 ghost use Rattle.command.specs.CommandLine.{AsksFor, ColumnsAre, HasMet, IsAskedBy, IsReadAs, IsRefusedByClap, MakesNone};
 ghost use Rattle.command.specs.CommandLine.{FormIs, NumberIs, direction_named, folder_of, kind_named};
-ghost use Rattle.command.specs.Refusals.{has_classes_and_text, refusal_in_subcommand, refusal_without_request};
+ghost use Rattle.command.specs.Refusals.{explain_refusal, has_classes_and_text, has_codes_and_text};
+ghost use Rattle.command.specs.Refusals.{refusal_in_subcommand, refusal_without_request};
 ghost use Rattle.requests.specs.declared.request.Request.{Request as RequestOf};
 ghost use Rattle.requests.specs.declared.request.RowsForm.{RowsForm as FormOf};
 
@@ -104,7 +105,7 @@ fn reorder_in<'a>(matches: &ArgMatches<'a>) -> Option<Request<'a>>
     })
 }
 
-/// What `explain` asks for, by its arguments: a text, by tables that may be named, or classes.
+/// What `explain` asks for, by its arguments: a text or code points, by tables that may be named, or classes.
 fn explain_in<'a>(matches: &ArgMatches<'a>) -> Option<Request<'a>>
     ensures some { IfSome result (AsksFor (codes "explain") (rows_of (found_of matches.now))) }
     ensures none { IfNone result ((request : RequestOf)
@@ -114,15 +115,21 @@ fn explain_in<'a>(matches: &ArgMatches<'a>) -> Option<Request<'a>>
     match (
         text_of(matches, "tables"),
         text_of(matches, "classes"),
+        text_of(matches, "codes"),
         text_of(matches, "file"),
     ) {
-        (_, None, Some(file)) => Some(Request::Text {
+        (_, None, None, Some(file)) => Some(Request::Text {
             tables: tables_in(matches),
             direction,
             file,
             print: Print::Explained,
         }),
-        (None, Some(classes), None) => Some(Request::ExplainClasses { classes, direction }),
+        (_, None, Some(codes), None) => Some(Request::ExplainCodes {
+            codes,
+            tables: tables_in(matches),
+            direction,
+        }),
+        (None, Some(classes), None, None) => Some(Request::ExplainClasses { classes, direction }),
         _ => None,
     }
 }
@@ -211,10 +218,30 @@ fn request_by<'a>(matches: &ArgMatches<'a>) -> Option<Request<'a>>
 }
 
 /// Whether `explain` is given classes, and a text or tables beside them.
-fn has_both(matches: &ArgMatches<'_>) -> bool
+fn has_classes_and_text(matches: &ArgMatches<'_>) -> bool
     ensures { result ≡ has_classes_and_text (rows_of (found_of matches.now)) }
 {
     has_value(matches, "classes") && (has_value(matches, "tables") || has_value(matches, "file"))
+}
+
+/// Whether `explain` is given code points, and classes or a text beside them.
+fn has_codes_and_text(matches: &ArgMatches<'_>) -> bool
+    ensures { result ≡ has_codes_and_text (rows_of (found_of matches.now)) }
+{
+    has_value(matches, "codes") && (has_value(matches, "classes") || has_value(matches, "file"))
+}
+
+/// Why `explain` makes no request of its arguments.
+fn explain_refusal(matches: &ArgMatches<'_>) -> NoRequest
+    ensures { result ≡ explain_refusal (rows_of (found_of matches.now)) }
+{
+    if has_classes_and_text(matches) {
+        NoRequest::ClassesAndText
+    } else if has_codes_and_text(matches) {
+        NoRequest::CodesAndText
+    } else {
+        NoRequest::NoText
+    }
 }
 
 /// Why the subcommand of this name makes no request of its arguments.
@@ -222,8 +249,7 @@ fn refusal_in_subcommand(name: &str, matches: &ArgMatches<'_>) -> NoRequest
     ensures { result ≡ refusal_in_subcommand name.now (rows_of (found_of matches.now)) }
 {
     match name {
-        "explain" if has_both(matches) => NoRequest::ClassesAndText,
-        "explain" => NoRequest::NoText,
+        "explain" => explain_refusal(matches),
         _ => NoRequest::NoSubcommand,
     }
 }

@@ -1,6 +1,7 @@
 //! Faults of words, of writing and of memory.
 use crate::command_lines::{
-    EXPLAIN, EXPLAIN_CLASSES, JUDGE_CHARACTERS, JUDGE_CLASSES, LEVELS, REORDER, REPORT_CLASSES,
+    EXPLAIN, EXPLAIN_CLASSES, EXPLAIN_CODES, JUDGE_CHARACTERS, JUDGE_CLASSES, LEVELS, REORDER,
+    REPORT_CLASSES,
     ROWS,
 };
 use crate::failing_files::NoMemory;
@@ -27,7 +28,7 @@ fn needs_tables_for_characters_before_it_opens_a_file(rt: HostRuntime) {
 fn says_that_a_write_failed(rt: HostRuntime) {
     let alloc = rt.alloc();
     let help: [&str; 2] = ["bidi", "--help"];
-    let rows: [(&[&str], usize, bool); 15] = [
+    let rows: [(&[&str], usize, bool); 17] = [
         (&JUDGE_CLASSES, 5, true),
         (&JUDGE_CLASSES, 100, false),
         (&JUDGE_CHARACTERS, 5, true),
@@ -40,6 +41,8 @@ fn says_that_a_write_failed(rt: HostRuntime) {
         (&EXPLAIN, 1000, false),
         (&EXPLAIN_CLASSES, 5, true),
         (&EXPLAIN_CLASSES, 1000, false),
+        (&EXPLAIN_CODES, 5, true),
+        (&EXPLAIN_CODES, 1000, false),
         (&ROWS, 5, true),
         (&ROWS, 1000, false),
         (&help, 5, true),
@@ -63,7 +66,7 @@ fn end_without_a_line(alloc: Global, words: &[&str]) -> Ended {
 
 #[test]
 fn keeps_the_status_where_the_fault_line_is_not_taken(rt: HostRuntime) {
-    let rows: [(&[&str], u8); 6] = [
+    let rows: [(&[&str], u8); 7] = [
         (&JUDGE_CLASSES, 3),
         (
             &[
@@ -81,6 +84,7 @@ fn keeps_the_status_where_the_fault_line_is_not_taken(rt: HostRuntime) {
         (&JUDGE_CHARACTERS, 3),
         (&["bidi", "judge", "--kind", "characters", "FILE"], 2),
         (&["bidi", "explain", "--classes", "R x"], 2),
+        (&["bidi", "explain", "--codes", "05D0 x"], 2),
         (&["bidi", "other"], 2),
     ];
     for (words, status) in rows {
@@ -118,6 +122,7 @@ fn answers_as_ever_or_says_that_memory_was_refused(rt: HostRuntime) {
         (&REORDER, 0, b"@Levels: 0\n@Reorder: 0\nL; 7\n", b""),
         (&EXPLAIN, 0, b"paragraph 0 level 0", b""),
         (&EXPLAIN_CLASSES, 0, b"paragraph 0 level 1", b""),
+        (&EXPLAIN_CODES, 0, b"paragraph 0 level 1", b""),
         (&JUDGE_CLASSES, 1, b"no: line 3: rtl: levels at 0\n", b""),
         (
             &JUDGE_CHARACTERS,

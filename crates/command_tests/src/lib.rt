@@ -5,6 +5,8 @@
 #[cfg(test)]
 mod built_in;
 #[cfg(test)]
+mod code_points;
+#[cfg(test)]
 mod command_lines;
 #[cfg(test)]
 mod enumerating;

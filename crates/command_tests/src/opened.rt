@@ -1,7 +1,7 @@
 //! What a request opens: the files, by their names and in order, and standard input.
 use crate::command_lines::{
-    EXPLAIN, EXPLAIN_CLASSES, JUDGE_CHARACTERS, JUDGE_CLASSES, LEVELS, REORDER, REPORT_CHARACTERS,
-    REPORT_CLASSES, ROWS,
+    EXPLAIN, EXPLAIN_CLASSES, EXPLAIN_CODES, JUDGE_CHARACTERS, JUDGE_CLASSES, LEVELS, REORDER,
+    REPORT_CHARACTERS, REPORT_CLASSES, ROWS,
 };
 use crate::memory_files::{MemoryFile, MemoryFiles, tables_and, whole};
 use crate::recording_files::RecordingFiles;
@@ -58,6 +58,11 @@ fn opens_the_tables_and_then_the_file(rt: HostRuntime) {
 }
 
 #[test]
+fn opens_the_tables_alone_for_code_points(rt: HostRuntime) {
+    assert_reads(&rt, rt.alloc(), &EXPLAIN_CODES, TABLES, "");
+}
+
+#[test]
 fn opens_no_tables_where_none_are_needed(rt: HostRuntime) {
     let judge = [
         "bidi", "judge", "--kind", "classes", "--tables", "t", "FILE",
@@ -94,12 +99,20 @@ fn opens_standard_input_in_the_place_of_the_file(rt: HostRuntime) {
 
 #[test]
 fn opens_nothing(rt: HostRuntime) {
-    for words in [EXPLAIN_CLASSES.as_slice(), &ROWS, &["bidi", "--version"]] {
+    let codes = ["bidi", "explain", "--codes", "05D0"];
+    for words in [
+        EXPLAIN_CLASSES.as_slice(),
+        &codes,
+        &ROWS,
+        &["bidi", "--version"],
+    ] {
         assert_reads(&rt, rt.alloc(), words, "", "");
     }
     let unnamed = ["bidi", "judge", "--kind", "characters", "FILE"];
     let files = tables_and(b"");
+    let faulty = ["bidi", "explain", "--tables", "t", "--codes", "05D0 x"];
     assert_opens(&rt, rt.alloc(), &unnamed, &files, 2, "", "");
+    assert_opens(&rt, rt.alloc(), &faulty, &files, 2, "", "");
     assert_opens(&rt, rt.alloc(), &["bidi", "levels"], &files, 2, "", "");
 }
 

@@ -1,7 +1,7 @@
 //! Words that are refused, help and the version.
 use crate::runs::{Ending, Text, assert_run};
 
-const REFUSED_LINES: [&'static [&'static str]; 33] = [
+const REFUSED_LINES: [&'static [&'static str]; 37] = [
     &[],
     &["bidi"],
     &["bidi", "other"],
@@ -39,6 +39,10 @@ const REFUSED_LINES: [&'static [&'static str]; 33] = [
     &["bidi", "explain", "--classes", "R", "--tables", "t"],
     &["bidi", "explain", "--classes", "R", "--tables", "t", "FILE"],
     &["bidi", "explain", "--classes", "R", "--classes", "R"],
+    &["bidi", "explain", "--codes"],
+    &["bidi", "explain", "--codes", "05D0", "FILE"],
+    &["bidi", "explain", "--codes", "05D0", "--classes", "R"],
+    &["bidi", "explain", "--codes", "05D0", "--codes", "05D0"],
     &["bidi", "judge", "FILE"],
     &["bidi", "judge", "--kind", "classes"],
     &["bidi", "judge", "--kind", "Classes", "FILE"],
@@ -86,15 +90,7 @@ fn refuses_command_lines(rt: HostRuntime) {
 
 #[test]
 fn says_what_is_refused(rt: HostRuntime) {
-    let rows: [(&[&str], &[u8]); 5] = [
-        (
-            &["bidi", "explain", "--tables", "t"],
-            b"error: '<FILE>' is required, or '--classes <CLASSES>'\n\nUsage: bidi explain [OPTIONS] <FILE>\n       bidi explain [OPTIONS] --classes <CLASSES>\n\nFor more information, try '--help'.\n",
-        ),
-        (
-            &["bidi", "explain", "--classes", "R", "FILE"],
-            b"error: the argument '--classes <CLASSES>' cannot be used with '--tables <DIR>' or '<FILE>'\n\nUsage: bidi explain [OPTIONS] <FILE>\n       bidi explain [OPTIONS] --classes <CLASSES>\n\nFor more information, try '--help'.\n",
-        ),
+    let rows: [(&[&str], &[u8]); 3] = [
         (
             &["bidi", "judge", "--kind", "other", "FILE"],
             b"error: invalid value 'other' for '--kind <KIND>'\n  [possible values: classes, characters]\n\nFor more information, try '--help'.\n",
@@ -106,6 +102,41 @@ fn says_what_is_refused(rt: HostRuntime) {
         (
             &["bidi", "reorder", "--tables", "t", "--columns", "0", "FILE"],
             b"error: invalid value '0' for '--columns <N>': 0 is not in 1..=65535\n\nFor more information, try '--help'.\n",
+        ),
+    ];
+    for (words, text) in rows {
+        assert_run(&rt, rt.alloc(), words, &[], Ending::fails(2, text));
+    }
+}
+
+#[test]
+fn says_why_nothing_is_explained(rt: HostRuntime) {
+    let classes: &[u8] = b"error: the argument '--classes <CLASSES>' cannot be used with '--tables <DIR>' or '<FILE>'\n\nUsage: bidi explain [OPTIONS] <FILE>\n       bidi explain [OPTIONS] --codes <CODES>\n       bidi explain [OPTIONS] --classes <CLASSES>\n\nFor more information, try '--help'.\n";
+    let codes: &[u8] = b"error: the argument '--codes <CODES>' cannot be used with '--classes <CLASSES>' or '<FILE>'\n\nUsage: bidi explain [OPTIONS] <FILE>\n       bidi explain [OPTIONS] --codes <CODES>\n       bidi explain [OPTIONS] --classes <CLASSES>\n\nFor more information, try '--help'.\n";
+    let none: &[u8] = b"error: '<FILE>' is required, or '--codes <CODES>', or '--classes <CLASSES>'\n\nUsage: bidi explain [OPTIONS] <FILE>\n       bidi explain [OPTIONS] --codes <CODES>\n       bidi explain [OPTIONS] --classes <CLASSES>\n\nFor more information, try '--help'.\n";
+    let rows: [(&[&str], &[u8]); 6] = [
+        (&["bidi", "explain", "--tables", "t"], none),
+        (&["bidi", "explain", "--classes", "R", "FILE"], classes),
+        (
+            &["bidi", "explain", "--classes", "R", "--tables", "t"],
+            classes,
+        ),
+        (&["bidi", "explain", "--codes", "05D0", "FILE"], codes),
+        (
+            &["bidi", "explain", "--codes", "05D0", "--classes", "R"],
+            codes,
+        ),
+        (
+            &[
+                "bidi",
+                "explain",
+                "--codes",
+                "05D0",
+                "--classes",
+                "R",
+                "FILE",
+            ],
+            classes,
         ),
     ];
     for (words, text) in rows {

@@ -1,5 +1,5 @@
 -- The fault of the first step that fails, where steps are joined; and what ends a step.
-use Rattle.std.proofs.Common.{◌≡◌, ℕ, List, [], ◌∷◌, ◌++◌, Option, None, Some, Result, Ok, Err, IfErr, IsErrAnd, inl, inr, subst, sym}
+use Rattle.std.proofs.Common.{◌≡◌, ℕ, List, [], ◌∷◌, ◌++◌, ◌≤◌, length, Option, None, Some, Result, Ok, Err, IfErr, IsErrAnd, inl, inr, subst, sym}
 use Rattle.std.specs.Io.KnownBytes.{Appends}
 use Rattle.std.specs.Str.{IsUtf8, chars}
 use Rattle.units.specs.Text.{lines_of}
@@ -11,17 +11,18 @@ use Rattle.requests.specs.ReadFiles.{AreTables, FileFacts, most_file_bytes, orig
 use Rattle.requests.specs.TableSources.{AreTablesBy}
 use Rattle.requests.specs.FaultText.{EndsOpening, print_fault}
 use Rattle.requests.specs.Outcomes.{IsDone}
+use Rattle.requests.specs.CodeWords.{codes_said}
 use Rattle.requests.specs.Printed.{HasPrinted, most_text_bytes}
-use Rattle.requests.specs.Steps.{AreDone, EndsFile, EndsWriting, FailsIn, IsFirstFault, RequestStep, file_step, opening_step, printing_steps, rows_steps, source_steps, steps_of, table_steps, text_steps}
+use Rattle.requests.specs.Steps.{AreDone, EndsFile, EndsWriting, FailsIn, IsFirstFault, RequestStep, codes_steps, explaining_steps, file_step, opening_step, printing_steps, rows_steps, source_steps, steps_of, table_steps, text_steps}
 use Rattle.requests.specs.PrintedRows.{HasPrintedRows}
 use Rattle.requests.specs.declared.request.FileKind.TheVariants.{Classes, Characters}
 use Rattle.requests.specs.declared.request.TableSource.{TableSource}
 use Rattle.requests.specs.declared.request.TableSource.TheVariants.{Folder, BuiltIn}
 use Rattle.requests.specs.declared.request.Request.{Request}
-use Rattle.requests.specs.declared.request.Request.TheVariants.{Text, ExplainClasses, Judge, Report, Rows}
+use Rattle.requests.specs.declared.request.Request.TheVariants.{Text, ExplainClasses, ExplainCodes, Judge, Report, Rows}
 use Rattle.requests.specs.declared.request.RowsForm.{RowsForm}
 use Rattle.requests.specs.declared.fault.Fault.{Fault}
-use Rattle.requests.specs.declared.fault.Fault.TheVariants.{WordNotUtf8, TablesNeeded, ClassesTooLong, NoClass, NoLengths, NoRows, CannotRead, FaultyLine, NotUtf8, CannotWrite, OutOfMemory}
+use Rattle.requests.specs.declared.fault.Fault.TheVariants.{WordNotUtf8, TablesNeeded, ClassesTooLong, CodesTooLong, NoClass, NoCodePoint, NoLengths, NoRows, CannotRead, FaultyLine, NotUtf8, CannotWrite, OutOfMemory}
 use Rattle.printing.specs.declared.fault.PrintFault.{PrintFault}
 use Rattle.printing.specs.declared.fault.PrintFault.TheVariants.{Write, Memory}
 use Rattle.requests.specs.declared.outcome.Outcome.{Outcome}
@@ -54,7 +55,9 @@ opening_ends files most file OutOfMemory h = tt
 opening_ends files most file WordNotUtf8 h = absurd h
 opening_ends files most file TablesNeeded h = absurd h
 opening_ends files most file ClassesTooLong h = absurd h
+opening_ends files most file CodesTooLong h = absurd h
 opening_ends files most file (NoClass name) h = absurd h
+opening_ends files most file (NoCodePoint item) h = absurd h
 opening_ends files most file (NoLengths word) h = absurd h
 opening_ends files most file (NoRows refusal) h = absurd h
 opening_ends files most file (FaultyLine name line e) h = absurd h
@@ -94,6 +97,13 @@ unfolding printing_steps
 text_done files source file tables h bytes whole utf8 =
     all_done (source_steps files source) (text_steps files file) (source_done files source tables h) ((bytes, whole), ((bytes, whole, utf8), tt))
 
+-- and all steps of the explaining of code points
+pub codes_done : (files : FileFacts) (word : List ℕ) (source : TableSource) (tables : TablesOf) → AreTablesBy files source tables
+    → length word ≤ most_text_bytes → (chars : List ℕ) → codes_said word ≡ Some chars → AreDone (explaining_steps files word source)
+unfolding explaining_steps
+codes_done files word source tables h short chars said =
+    all_done (codes_steps word) (source_steps files source) (short, ((chars, said), tt)) (source_done files source tables h)
+
 writing_ends : (f : PrintFault) → EndsWriting (print_fault f)
 writing_ends Write = tt
 writing_ends Memory = tt
@@ -131,6 +141,8 @@ pub request_done : (files : FileFacts) (before after : Option (List ℕ)) (reque
 request_done files before after (Text source direction file print) Printed h =
     text_done files source file.now h.tables h.stated h.bytes h.read h.utf8
 request_done files before after (ExplainClasses word direction) Printed h = (h.short, ((h.classes, h.named), tt))
+request_done files before after (ExplainCodes word source direction) Printed h =
+    codes_done files word.now source h.tables h.stated h.short h.chars h.said_by
 request_done files before after (Judge Classes tables file) (Judged status) h = ((h.bytes, h.read), tt)
 request_done files before after (Judge Characters (Some folder) file) (Judged status) h =
     all_done (table_steps files folder.now) (file_step files most_file_bytes file.now ∷ [])
@@ -144,6 +156,7 @@ request_done files before after (Report Characters None file most) (Judged statu
 request_done files before after (Rows form alphabet lengths) Printed h = rows_done form alphabet.now lengths.now before after h
 request_done files before after (Text source direction file print) (Judged status) h = absurd h
 request_done files before after (ExplainClasses word direction) (Judged status) h = absurd h
+request_done files before after (ExplainCodes word source direction) (Judged status) h = absurd h
 request_done files before after (Judge Classes tables file) Printed h = absurd h
 request_done files before after (Judge Characters (Some folder) file) Printed h = absurd h
 request_done files before after (Judge Characters None file) (Judged status) h = absurd h

@@ -1,6 +1,6 @@
-pub mod ClassNames
 pub mod FirstFaults
 pub mod LengthPieces
-pub mod TableEnds
 pub mod MadeRows
+pub mod TableEnds
+pub mod WordItems
 pub mod Reported

@@ -1,11 +1,12 @@
 -- The classes that a word of the command line names.
-use Rattle.std.specs.Prelude.{◌≡◌, ℕ, List, Option, Some, is_some, map, not, find}
+use Rattle.std.specs.Prelude.{◌≡◌, ℕ, List, Option, Some, map}
 use Rattle.std.specs.Option.{option_map}
 use Rattle.units.specs.ClassNames.{class_of_short}
 use Rattle.units.specs.Text.{each_read, items_of}
 use Rattle.units.specs.declared.class.Class.{Class}
 use Rattle.rows.specs.declared.letter.Letter.{Letter}
 use Rattle.rows.specs.declared.letter.Letter.TheVariants as letter
+use Rattle.requests.specs.ItemWords.{first_unread}
 use Rattle.requests.specs.declared.fault.Fault.{Fault}
 use Rattle.requests.specs.declared.fault.Fault.TheVariants.{NoClass, OutOfMemory}
 
@@ -17,12 +18,8 @@ classes_named word = each_read class_of_short (items_of word)
 abbrev pub letters_named : List ℕ → Option (List Letter)
 letters_named word = option_map (map letter.Class) (classes_named word)
 
--- the first of these names that is that of no class
-abbrev pub first_no_class : List (List ℕ) → Option (List ℕ)
-first_no_class names = find (λ name. not (is_some (class_of_short name))) names
-
 -- when a fault ends the reading of names: the first one of no class, or memory was refused
 abbrev pub EndsNames : List ℕ → Fault → Type 0
-EndsNames word (NoClass name) = first_no_class (items_of word) ≡ Some name.now
+EndsNames word (NoClass name) = first_unread class_of_short (items_of word) ≡ Some name.now
 EndsNames word OutOfMemory = Unit {0}
 EndsNames word _ = ⊥

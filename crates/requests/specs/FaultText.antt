@@ -11,7 +11,7 @@ use Rattle.printing.specs.declared.fault.PrintFault.{PrintFault}
 use Rattle.printing.specs.declared.fault.PrintFault.TheVariants.{Write, Memory}
 use Rattle.requests.specs.declared.fault.Fault.{Fault}
 use Rattle.requests.specs.declared.outcome.Ended.{Ended}
-use Rattle.requests.specs.declared.fault.Fault.TheVariants.{WordNotUtf8, TablesNeeded, ClassesTooLong, NoClass, NoLengths, NoRows, CannotRead, FaultyLine, NotUtf8, CannotWrite, OutOfMemory}
+use Rattle.requests.specs.declared.fault.Fault.TheVariants.{WordNotUtf8, TablesNeeded, ClassesTooLong, CodesTooLong, NoClass, NoCodePoint, NoLengths, NoRows, CannotRead, FaultyLine, NotUtf8, CannotWrite, OutOfMemory}
 use Rattle.printing.specs.LevelsText.{line_feed}
 use Rattle.rows.specs.declared.fault.RowsFault.{RowsFault}
 use Rattle.rows.specs.declared.fault.RowsFault.TheVariants as refused
@@ -25,6 +25,10 @@ faulty_line_text name line fault =
 -- the line that says that a name is that of no class
 abbrev pub no_class_text : List ℕ → List ℕ
 no_class_text name = concat (codes "bidi: " ∷ name ∷ codes " is no class" ∷ line_feed ∷ [])
+
+-- the line that says that an item is no code point
+abbrev pub no_code_point_text : List ℕ → List ℕ
+no_code_point_text item = concat (codes "bidi: " ∷ item ∷ codes " is no code point" ∷ line_feed ∷ [])
 
 -- why texts can't be enumerated or drawn
 abbrev pub rows_refusal : RowsFault → List ℕ
@@ -63,7 +67,9 @@ abbrev pub SaysFault : Option (List ℕ) → Option (List ℕ) → Fault → Typ
 SaysFault before after WordNotUtf8 = Appends before after (concat (codes "bidi: a word is not UTF-8" ∷ line_feed ∷ []))
 SaysFault before after TablesNeeded = Appends before after (concat (codes "bidi: --tables is needed" ∷ line_feed ∷ []))
 SaysFault before after ClassesTooLong = Appends before after (concat (codes "bidi: --classes is too long" ∷ line_feed ∷ []))
+SaysFault before after CodesTooLong = Appends before after (concat (codes "bidi: --codes is too long" ∷ line_feed ∷ []))
 SaysFault before after (NoClass name) = Appends before after (no_class_text name.now)
+SaysFault before after (NoCodePoint item) = Appends before after (no_code_point_text item.now)
 SaysFault before after (NoLengths word) =
     Appends before after (concat (codes "bidi: " ∷ word.now ∷ codes " is no range of lengths" ∷ line_feed ∷ []))
 SaysFault before after (NoRows fault) = Appends before after (no_rows_text fault)
@@ -73,12 +79,15 @@ SaysFault before after (NotUtf8 name) = Appends before after (not_utf8_text name
 SaysFault before after CannotWrite = Appends before after (concat (codes "bidi: cannot write" ∷ line_feed ∷ []))
 SaysFault before after OutOfMemory = Appends before after (concat (codes "bidi: out of memory" ∷ line_feed ∷ []))
 
--- 2 where the words of the command line are no text, name no tables, no classes or no rows, 3 where the run failed
+-- 2 where the words of the command line are no text, name no tables, no classes, no code points or no rows, 3 where the
+-- run failed
 abbrev pub fault_status : Fault → ℕ
 fault_status WordNotUtf8 = 2
 fault_status TablesNeeded = 2
 fault_status ClassesTooLong = 2
+fault_status CodesTooLong = 2
 fault_status (NoClass name) = 2
+fault_status (NoCodePoint item) = 2
 fault_status (NoLengths word) = 2
 fault_status (NoRows fault) = 2
 fault_status (CannotRead name unread) = 3

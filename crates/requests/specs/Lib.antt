@@ -1,5 +1,7 @@
 pub mod ClassWords
+pub mod CodeWords
 pub mod FaultText
+pub mod ItemWords
 pub mod JudgedFiles
 pub mod Outcomes
 pub mod Printed

@@ -2,14 +2,14 @@
 use Rattle.std.specs.Prelude.{◌≡◌, ◌⊎◌, ℕ, List, Option, Some, Result, Ok, Err, true}
 use Rattle.requests.specs.declared.request.FileKind.TheVariants.{Classes, Characters}
 use Rattle.requests.specs.declared.request.Request.{Request}
-use Rattle.requests.specs.declared.request.Request.TheVariants.{Text, ExplainClasses, Judge, Report, Rows}
+use Rattle.requests.specs.declared.request.Request.TheVariants.{Text, ExplainClasses, ExplainCodes, Judge, Report, Rows}
 use Rattle.requests.specs.declared.fault.Fault.{Fault}
 use Rattle.requests.specs.declared.outcome.Ended.{Ended}
 use Rattle.requests.specs.declared.outcome.Outcome.{Outcome}
 use Rattle.requests.specs.declared.outcome.Outcome.TheVariants.{Judged, Printed}
 use Rattle.requests.specs.FaultText.{EndsBy}
 use Rattle.requests.specs.JudgedFiles.{HasJudged, HasJudgedBy, IsClassesVerdict}
-use Rattle.requests.specs.Printed.{HasExplained, HasPrinted, printed_text}
+use Rattle.requests.specs.Printed.{HasExplained, HasExplainedCodes, HasPrinted, printed_text}
 use Rattle.requests.specs.PrintedRows.{HasPrintedRows}
 use Rattle.requests.specs.ReadFiles.{FileFacts}
 use Rattle.requests.specs.ReportedFiles.{HasReported, HasBrokenOff}
@@ -20,12 +20,14 @@ abbrev pub outcome_status : Outcome → ℕ
 outcome_status (Judged status) = status
 outcome_status Printed = 0
 
--- what was asked for is done: what is to be printed of the text or of classes is printed, or the rows are, or the file
--- is judged or reported on, by the tables that are asked for
+-- what was asked for is done: what is to be printed of the text, of classes or of code points is printed, or the rows
+-- are, or the file is judged or reported on, by the tables that are asked for
 abbrev pub IsDone : FileFacts → Option (List ℕ) → Option (List ℕ) → Request → Outcome → Type 0
 IsDone files before after (Text source direction file print) Printed =
     HasPrinted files (printed_text print direction) source file.now before after
 IsDone files before after (ExplainClasses word direction) Printed = HasExplained word.now direction before after
+IsDone files before after (ExplainCodes word source direction) Printed =
+    HasExplainedCodes files word.now source direction before after
 IsDone files before after (Judge Classes tables file) (Judged status) =
     HasJudged files IsClassesVerdict file.now before after status
 IsDone files before after (Judge Characters (Some folder) file) (Judged status) =

@@ -1,4 +1,4 @@
--- What is printed of a file's text, and of classes in a word.
+-- What is printed of a file's text, and of classes and of code points in a word.
 use Rattle.std.specs.Prelude.{◌≡◌, ◌≤◌, ℕ, ◌^◌, List, length, Option, Some}
 use Rattle.std.specs.Io.KnownBytes.{Appends}
 use Rattle.std.specs.Str.{chars, IsUtf8}
@@ -8,6 +8,7 @@ use Rattle.ucdfiles.specs.Tables.{TablesOf}
 use Rattle.explain.specs.Explained.{explained, explained_classes}
 use Rattle.printing.specs.PrintedTexts.{printed_levels, printed_reorder}
 use Rattle.requests.specs.ClassWords.{classes_named}
+use Rattle.requests.specs.CodeWords.{codes_said}
 use Rattle.requests.specs.declared.request.Print.{Print}
 use Rattle.requests.specs.declared.request.Print.TheVariants.{Levels, Reorder, Explained}
 use Rattle.requests.specs.declared.request.TableSource.{TableSource}
@@ -45,3 +46,13 @@ pub record HasExplained (word : List ℕ) (direction : Direction) (before after 
   pub classes : List Class
   pub named : classes_named word ≡ Some classes
   pub said : Appends before after (explained_classes classes direction)
+
+-- a word says code points, and what known bytes grew by is what `explain` prints of a text of these characters by the
+-- tables of this source
+pub record HasExplainedCodes (files : FileFacts) (word : List ℕ) (source : TableSource) (direction : Direction) (before after : Option (List ℕ)) : Type 0 where
+  pub short : length word ≤ most_text_bytes
+  pub chars : List ℕ
+  pub said_by : codes_said word ≡ Some chars
+  pub tables : TablesOf
+  pub stated : AreTablesBy files source tables
+  pub said : Appends before after (explained tables chars direction)

@@ -9,14 +9,15 @@ use Rattle.units.specs.declared.class.Class.{Class}
 use Rattle.rows.specs.Exhaustive.{ExhaustiveOf}
 use Rattle.rows.specs.declared.letter.Letter.{Letter}
 use Rattle.requests.specs.ClassWords.{EndsNames, classes_named, letters_named}
+use Rattle.requests.specs.CodeWords.{EndsCodes, codes_said}
 use Rattle.requests.specs.declared.request.FileKind.TheVariants.{Classes, Characters}
 use Rattle.requests.specs.declared.request.TableSource.{TableSource}
 use Rattle.requests.specs.declared.request.TableSource.TheVariants.{Folder, BuiltIn}
 use Rattle.requests.specs.declared.request.Request.{Request}
 use Rattle.requests.specs.declared.request.RowsForm.{RowsForm}
-use Rattle.requests.specs.declared.request.Request.TheVariants.{Text, ExplainClasses, Judge, Report, Rows}
+use Rattle.requests.specs.declared.request.Request.TheVariants.{Text, ExplainClasses, ExplainCodes, Judge, Report, Rows}
 use Rattle.requests.specs.declared.fault.Fault.{Fault}
-use Rattle.requests.specs.declared.fault.Fault.TheVariants.{TablesNeeded, ClassesTooLong, CannotRead, NotUtf8, CannotWrite, OutOfMemory}
+use Rattle.requests.specs.declared.fault.Fault.TheVariants.{TablesNeeded, ClassesTooLong, CodesTooLong, CannotRead, NotUtf8, CannotWrite, OutOfMemory}
 use Rattle.requests.specs.FaultText.{EndsOpening}
 use Rattle.requests.specs.Printed.{most_text_bytes}
 use Rattle.requests.specs.PrintedRows.{CanBeMade, EndsMaking, EndsTexts, refusal_in}
@@ -58,11 +59,11 @@ EndsText files file (NotUtf8 named) = (named.now ≡ file) × (bytes : List ℕ)
 EndsText files file OutOfMemory = Unit {0}
 EndsText files file _ = ⊥
 
--- that a word for classes has no more bytes than a text may have
-abbrev pub length_step : List ℕ → RequestStep
-length_step word = record {
+-- that a word has no more bytes than a text may have, which this fault says
+abbrev pub length_step : Fault → List ℕ → RequestStep
+length_step too_long word = record {
   Done = length word ≤ most_text_bytes;
-  EndsBy = λ fault. (fault ≡ ClassesTooLong) × (most_text_bytes < length word);
+  EndsBy = λ fault. (fault ≡ too_long) × (most_text_bytes < length word);
 }
 
 -- the reading of the names in it
@@ -81,7 +82,18 @@ letters_step word = record {
 
 -- what is read of a word for classes
 abbrev pub classes_steps : List ℕ → List RequestStep
-classes_steps word = length_step word ∷ names_step word ∷ []
+classes_steps word = length_step ClassesTooLong word ∷ names_step word ∷ []
+
+-- the reading of the code points in it
+abbrev pub codes_step : List ℕ → RequestStep
+codes_step word = record {
+  Done = (chars : List ℕ) × (codes_said word ≡ Some chars);
+  EndsBy = EndsCodes word;
+}
+
+-- what is read of a word for code points
+abbrev pub codes_steps : List ℕ → List RequestStep
+codes_steps word = length_step CodesTooLong word ∷ codes_step word ∷ []
 
 -- the reading of a word for lengths
 abbrev pub lengths_step : List ℕ → RequestStep
@@ -179,6 +191,10 @@ module _ (files : FileFacts) where
   unfoldable pub printing_steps : TableSource → List ℕ → List RequestStep
   printing_steps source file = source_steps source ++ text_steps file
 
+  -- what is read to explain code points
+  unfoldable pub explaining_steps : List ℕ → TableSource → List RequestStep
+  explaining_steps word source = codes_steps word ++ source_steps source
+
   -- what is read to judge a file of characters
   abbrev pub characters_steps : List ℕ → List ℕ → List RequestStep
   characters_steps folder file = table_steps folder ++ file_step most_file_bytes file ∷ []
@@ -191,6 +207,7 @@ module _ (files : FileFacts) where
   abbrev pub steps_of : Request → List RequestStep
   steps_of (Text source direction file print) = printing_steps source file.now
   steps_of (ExplainClasses word direction) = classes_steps word.now
+  steps_of (ExplainCodes word source direction) = explaining_steps word.now source
   steps_of (Judge Classes tables file) = file_step most_file_bytes file.now ∷ []
   steps_of (Judge Characters (Some folder) file) = characters_steps folder.now file.now
   steps_of (Judge Characters None file) = record { Done = ⊥; EndsBy = EndsUnnamed } ∷ []

@@ -1,15 +1,29 @@
 // Classes read from a word of the command line.
-ghost use Rattle.std.specs.Prelude.{◌≡◌, ◌≤◌, length, IfOk, IfErr, OnOk};
+ghost use Rattle.std.specs.Prelude.{◌≡◌, ◌≤◌, length, Some, IfOk, IfErr, OnOk};
 ghost use Rattle.units.specs.Layout.{longest_text};
 ghost use Rattle.requests.specs.ClassWords.{EndsNames, classes_named};
 ghost use Rattle.requests.specs.Printed.{most_text_bytes};
 ghost use Rattle.requests.specs.Steps.{IsFirstFault, classes_steps};
 
 use crate::fault::Fault;
+use crate::items::{ItemFault, ReadsItem, read_all};
 use crate::opening::MOST_TEXT_BYTES;
 use std::alloc::Global;
 use units::class::Class;
-use units::text::items::next_item;
+
+/// The short name of a class.
+#[derive(Drop)]
+struct ClassNames;
+
+impl ReadsItem<Class> for ClassNames {
+    ghost use Rattle.units.specs.ClassNames.{class_of_short};
+
+    ghost reading = { λ _. class_of_short };
+
+    fn read(&self, item: &[u8]) -> Option<Class> {
+        Class::from_short(item)
+    }
+}
 
 /// The classes of these names. The faults are the first name of no class, and refused memory.
 pub fn classes_of_names<'a>(alloc: Global, names: &'a [u8]) -> Result<Vec<Class>, Fault<'a>>
@@ -17,16 +31,11 @@ pub fn classes_of_names<'a>(alloc: Global, names: &'a [u8]) -> Result<Vec<Class>
     ensures count { IfOk result (λ classes. length classes.items ≤ length names.now) }
     ensures fault { IfErr result (EndsNames names.now) }
 {
-    let mut classes = Vec::new(alloc);
-    let mut left = names;
-    while let Some((name, rest)) = next_item(left) {
-        match Class::from_short(name) {
-            None => return Err(Fault::NoClass(name)),
-            Some(class) => classes.push(class)?,
-        }
-        left = rest;
+    match read_all(alloc, &ClassNames, names) {
+        Ok(classes) => Ok(classes),
+        Err(ItemFault::Unread(name)) => Err(Fault::NoClass(name)),
+        Err(ItemFault::Memory) => Err(Fault::OutOfMemory),
     }
-    Ok(classes)
 }
 
 /// The classes whose short names stand in a word, with blanks between them: as many as there are, or none. The faults

@@ -4,7 +4,8 @@ ghost use Rattle.std.specs.List.{concat};
 ghost use Rattle.std.specs.Io.KnownBytes.{Appends};
 ghost use Rattle.printing.specs.LevelsText.{line_feed};
 ghost use Rattle.requests.specs.FaultText.{EndsBy, SaysFault, fault_status, faulty_line_text, no_class_text};
-ghost use Rattle.requests.specs.FaultText.{no_rows_text, not_utf8_text, rows_refusal, unread_text, unread_words};
+ghost use Rattle.requests.specs.FaultText.{no_code_point_text, no_rows_text, not_utf8_text, rows_refusal};
+ghost use Rattle.requests.specs.FaultText.{unread_text, unread_words};
 
 use crate::outcome::Ended;
 use printing::fault::PrintFault;
@@ -25,8 +26,12 @@ pub enum Fault<'a> {
     TablesNeeded,
     /// The word for the classes has more bytes than a text may have.
     ClassesTooLong,
+    /// The word for the code points has more bytes than a text may have.
+    CodesTooLong,
     /// This name in the word for the classes is that of no class.
     NoClass(&'a [u8]),
+    /// This item of the word for the code points is none.
+    NoCodePoint(&'a [u8]),
     /// The word for the lengths says none.
     NoLengths(&'a str),
     /// The texts over the alphabet, of the lengths, can't be enumerated or drawn.
@@ -157,6 +162,15 @@ fn print_no_class<E: Write>(err: &mut E, name: &[u8]) -> io::Result<()>
     err.write_all(b" is no class\n")
 }
 
+/// Writes the line that says that an item is no code point.
+fn print_no_code_point<E: Write>(err: &mut E, item: &[u8]) -> io::Result<()>
+    ensures { OnOk result (Appends (E.contents err.old) (E.contents err.new) (no_code_point_text item.now)) }
+{
+    err.write_all(b"bidi: ")?;
+    err.write_all(item)?;
+    err.write_all(b" is no code point\n")
+}
+
 /// Writes the line that says that a word is no range of lengths.
 fn print_no_lengths<E: Write>(err: &mut E, word: &str) -> io::Result<()>
     ensures { OnOk result (Appends (E.contents err.old) (E.contents err.new)
@@ -187,14 +201,16 @@ fn print_no_rows<E: Write>(err: &mut E, fault: RowsFault) -> io::Result<()>
 }
 
 impl Fault<'_> {
-    /// The exit status: 2 where the words of the command line are no text, name no tables, no classes or no rows, else
-    /// 3.
+    /// The exit status: 2 where the words of the command line are no text, name no tables, no classes, no code points or
+    /// no rows, else 3.
     fn status(&self) -> u8
         ensures { result ≡ fault_status self.now }
     {
         match self {
-            Fault::WordNotUtf8 | Fault::TablesNeeded | Fault::ClassesTooLong => 2,
-            Fault::NoClass(_) | Fault::NoLengths(_) | Fault::NoRows(_) => 2,
+            Fault::WordNotUtf8 | Fault::TablesNeeded => 2,
+            Fault::ClassesTooLong | Fault::CodesTooLong => 2,
+            Fault::NoClass(_) | Fault::NoCodePoint(_) | Fault::NoLengths(_) => 2,
+            Fault::NoRows(_) => 2,
             _ => 3,
         }
     }
@@ -207,7 +223,9 @@ impl Fault<'_> {
             Fault::WordNotUtf8 => print_line(err, "bidi: a word is not UTF-8"),
             Fault::TablesNeeded => print_line(err, "bidi: --tables is needed"),
             Fault::ClassesTooLong => print_line(err, "bidi: --classes is too long"),
+            Fault::CodesTooLong => print_line(err, "bidi: --codes is too long"),
             Fault::NoClass(name) => print_no_class(err, name),
+            Fault::NoCodePoint(item) => print_no_code_point(err, item),
             Fault::NoLengths(word) => print_no_lengths(err, word),
             Fault::NoRows(fault) => print_no_rows(err, *fault),
             Fault::CannotRead { name, unread } => print_unread(err, name, *unread),

@@ -4,9 +4,11 @@
 #![tactic(auto)]
 
 mod class_names;
+mod code_points;
 mod enumerating;
 pub mod fault;
 pub mod files;
+mod items;
 mod judging;
 mod lengths;
 mod opening;

@@ -1,13 +1,16 @@
 // What a request asks for, done.
-ghost use Rattle.std.specs.Prelude.{◌≤◌, length, IfOk, IfErr, OnOk};
+ghost use Rattle.std.specs.Prelude.{◌≡◌, ◌≤◌, Some, length, IfOk, IfErr, OnOk};
 ghost use Rattle.std.specs.Io.KnownBytes.{Appends};
 ghost use Rattle.units.specs.Layout.{longest_text};
+ghost use Rattle.requests.specs.CodeWords.{codes_said};
 ghost use Rattle.requests.specs.Outcomes.{Fails, IsDone};
-ghost use Rattle.requests.specs.Printed.{HasExplained, HasPrinted, HoldsText, printed_text};
-ghost use Rattle.requests.specs.Steps.{FailsIn, IsFirstFault, classes_steps, printing_steps};
+ghost use Rattle.requests.specs.Printed.{HasExplained, HasExplainedCodes, HasPrinted, HoldsText, most_text_bytes};
+ghost use Rattle.requests.specs.Printed.{printed_text};
+ghost use Rattle.requests.specs.Steps.{FailsIn, IsFirstFault, classes_steps, explaining_steps, printing_steps};
 ghost use Rattle.requests.specs.TableSources.{AreTablesBy};
 
 use crate::class_names::classes_in;
+use crate::code_points::chars_in;
 use crate::enumerating::print_rows;
 use crate::fault::Fault;
 use crate::files::Files;
@@ -106,6 +109,45 @@ fn explain_classes<'a, W: Write>(
     Ok(())
 }
 
+/// The characters whose code points stand in the word, which is read first, and the tables of this source.
+fn chars_with_tables<'a, F: Files>(
+    alloc: Global,
+    word: &'a str,
+    source: TableSource<'_>,
+    files: &F,
+) -> Result<TextWithTables, Fault<'a>>
+    ensures text { IfOk result (λ read. codes_said word.now ≡ Some read.text.items) }
+    ensures tables { IfOk result (λ read. AreTablesBy (F.facts files.now) source.entry read.tables) }
+    ensures short { OnOk result (length word.now ≤ most_text_bytes) }
+    ensures bound { IfOk result (λ read. length read.text.items ≤ longest_text) }
+    ensures fault { IfErr result
+        (IsFirstFault (explaining_steps (F.facts files.now) word.now source.entry)) }
+{
+    let text = chars_in(alloc, word)?;
+    let tables = tables_by(alloc, files, source)?;
+    Ok(TextWithTables { tables, text })
+}
+
+/// Prints what each rule does to a text of the characters whose code points stand in the word, by the tables of this
+/// source.
+fn explain_codes<'a, F: Files, W: Write>(
+    alloc: Global,
+    word: &'a str,
+    source: TableSource<'_>,
+    direction: Direction,
+    files: &F,
+    out: &mut W,
+) -> Result<(), Fault<'a>>
+    ensures printed { OnOk result (HasExplainedCodes (F.facts files.now) word.now source.entry direction
+        (W.contents out.old) (W.contents out.new)) }
+    ensures fault { IfErr result (FailsIn (explaining_steps (F.facts files.now) word.now source.entry)
+        (W.contents out.old) (W.contents out.new)) }
+{
+    let read = chars_with_tables(alloc, word, source, files)?;
+    print_text(alloc, &read, direction, Print::Explained, out)?;
+    Ok(())
+}
+
 /// Does what is asked for.
 pub fn perform<'a, F: Files, W: Write>(
     alloc: Global,
@@ -128,6 +170,11 @@ pub fn perform<'a, F: Files, W: Write>(
         Request::ExplainClasses { classes, direction } => {
             explain_classes(alloc, classes, direction, out)?
         }
+        Request::ExplainCodes {
+            codes,
+            tables,
+            direction,
+        } => explain_codes(alloc, codes, tables, direction, files, out)?,
         Request::Judge { kind, tables, file } => {
             return judge_file(alloc, kind, tables, file, files, out);
         }

@@ -56,6 +56,12 @@ pub enum Request<'a> {
         classes: &'a str,
         direction: Direction,
     },
+    /// Print what each rule does to a text of the characters whose code points stand in the word, by these tables.
+    ExplainCodes {
+        codes: &'a str,
+        tables: TableSource<'a>,
+        direction: Direction,
+    },
     /// Judge a conformance file. The folder of the tables, where it is given, is needed for files of characters alone.
     Judge {
         kind: FileKind,

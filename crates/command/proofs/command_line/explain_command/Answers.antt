@@ -13,15 +13,16 @@ returns-clause-app c =
     ∙ ap app_of_fields c.about.ensures ∙ c.new.ensures.app in
     let with_tables = c.in_ok-arg.ensures.shape c.tables_argument.ensures.local ∙ ap₂ with_rule plain c.tables_argument.ensures.rule in
     let with_classes = c.in_ok-arg-2.ensures.shape c.classes_argument.ensures.local ∙ ap₂ with_rule with_tables c.classes_argument.ensures.rule in
+    let with_codes = c.in_ok-arg-3.ensures.shape c.codes_argument.ensures.local ∙ ap₂ with_rule with_classes c.codes_argument.ensures.rule in
     let direction = c.direction_argument.ensures.rule in
-    let with_direction = c.in_ok-arg-3.ensures.shape c.direction_argument.ensures.local ∙ ap₂ with_rule with_classes direction.2 in
+    let with_direction = c.in_ok-arg-4.ensures.shape c.direction_argument.ensures.local ∙ ap₂ with_rule with_codes direction.2 in
     let file : rule_of c.required.result ≡ not_required file_rule = ap rule_of c.required.ensures ∙ ap not_required c.file_argument.ensures.rule in
     let local : c.required.result.global ≡ false = ap (λ a. a.global) c.required.ensures ∙ c.file_argument.ensures.local in
-    IfOk-weaker c.arg-4.result _ _ (λ command h. (
+    IfOk-weaker c.arg-5.result _ _ (λ command h. (
       direction.0,
       direction.1,
       h.shape local ∙ ap₂ with_rule with_direction file,
-    )) c.arg-4.ensures
+    )) c.arg-5.ensures
 
 pub returns-clause-local : goal.returns-clause-local
 returns-clause-local c =
@@ -31,5 +32,6 @@ returns-clause-local c =
     let local : c.required.result.global ≡ false = ap (λ a. a.global) c.required.ensures ∙ c.file_argument.ensures.local in
     let with_tables = c.in_ok-arg.ensures.globals ∙ ap₂ ◌||◌ plain c.tables_argument.ensures.local in
     let with_classes = c.in_ok-arg-2.ensures.globals ∙ ap₂ ◌||◌ with_tables c.classes_argument.ensures.local in
-    let with_direction = c.in_ok-arg-3.ensures.globals ∙ ap₂ ◌||◌ with_classes c.direction_argument.ensures.local in
-    IfOk-weaker c.arg-4.result _ _ (λ command h. h.globals ∙ ap₂ ◌||◌ with_direction local) c.arg-4.ensures
+    let with_codes = c.in_ok-arg-3.ensures.globals ∙ ap₂ ◌||◌ with_classes c.codes_argument.ensures.local in
+    let with_direction = c.in_ok-arg-4.ensures.globals ∙ ap₂ ◌||◌ with_codes c.direction_argument.ensures.local in
+    IfOk-weaker c.arg-5.result _ _ (λ command h. h.globals ∙ ap₂ ◌||◌ with_direction local) c.arg-5.ensures
