@@ -7,14 +7,7 @@ pub const EXPLAIN: [&str; 5] = ["bidi", "explain", "--tables", "t", "FILE"];
 
 pub const EXPLAIN_CLASSES: [&str; 4] = ["bidi", "explain", "--classes", "R ON LRE L"];
 
-pub const EXPLAIN_CODES: [&str; 6] = [
-    "bidi",
-    "explain",
-    "--tables",
-    "t",
-    "--codes",
-    "05D0 0028",
-];
+pub const EXPLAIN_CODES: [&str; 6] = ["bidi", "explain", "--tables", "t", "--codes", "05D0 0028"];
 
 pub const JUDGE_CLASSES: [&str; 5] = ["bidi", "judge", "--kind", "classes", "FILE"];
 

@@ -1,8 +1,7 @@
 //! Faults of words, of writing and of memory.
 use crate::command_lines::{
     EXPLAIN, EXPLAIN_CLASSES, EXPLAIN_CODES, JUDGE_CHARACTERS, JUDGE_CLASSES, LEVELS, REORDER,
-    REPORT_CLASSES,
-    ROWS,
+    REPORT_CLASSES, ROWS,
 };
 use crate::failing_files::NoMemory;
 use crate::memory_files::{MemoryFiles, tables_and};

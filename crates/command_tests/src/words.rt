@@ -111,9 +111,12 @@ fn says_what_is_refused(rt: HostRuntime) {
 
 #[test]
 fn says_why_nothing_is_explained(rt: HostRuntime) {
-    let classes: &[u8] = b"error: the argument '--classes <CLASSES>' cannot be used with '--tables <DIR>' or '<FILE>'\n\nUsage: bidi explain [OPTIONS] <FILE>\n       bidi explain [OPTIONS] --codes <CODES>\n       bidi explain [OPTIONS] --classes <CLASSES>\n\nFor more information, try '--help'.\n";
-    let codes: &[u8] = b"error: the argument '--codes <CODES>' cannot be used with '--classes <CLASSES>' or '<FILE>'\n\nUsage: bidi explain [OPTIONS] <FILE>\n       bidi explain [OPTIONS] --codes <CODES>\n       bidi explain [OPTIONS] --classes <CLASSES>\n\nFor more information, try '--help'.\n";
-    let none: &[u8] = b"error: '<FILE>' is required, or '--codes <CODES>', or '--classes <CLASSES>'\n\nUsage: bidi explain [OPTIONS] <FILE>\n       bidi explain [OPTIONS] --codes <CODES>\n       bidi explain [OPTIONS] --classes <CLASSES>\n\nFor more information, try '--help'.\n";
+    let classes: &[u8] =
+        b"error: the argument '--classes <CLASSES>' cannot be used with '--tables <DIR>' or '<FILE>'\n\nUsage: bidi explain [OPTIONS] <FILE>\n       bidi explain [OPTIONS] --codes <CODES>\n       bidi explain [OPTIONS] --classes <CLASSES>\n\nFor more information, try '--help'.\n";
+    let codes: &[u8] =
+        b"error: the argument '--codes <CODES>' cannot be used with '--classes <CLASSES>' or '<FILE>'\n\nUsage: bidi explain [OPTIONS] <FILE>\n       bidi explain [OPTIONS] --codes <CODES>\n       bidi explain [OPTIONS] --classes <CLASSES>\n\nFor more information, try '--help'.\n";
+    let none: &[u8] =
+        b"error: '<FILE>' is required, or '--codes <CODES>', or '--classes <CLASSES>'\n\nUsage: bidi explain [OPTIONS] <FILE>\n       bidi explain [OPTIONS] --codes <CODES>\n       bidi explain [OPTIONS] --classes <CLASSES>\n\nFor more information, try '--help'.\n";
     let rows: [(&[&str], &[u8]); 6] = [
         (&["bidi", "explain", "--tables", "t"], none),
         (&["bidi", "explain", "--classes", "R", "FILE"], classes),
