@@ -88,7 +88,7 @@ fn write_uniform<L: Ledger>(
     ensures at_most { steps.new ≤ steps.old + light_order_steps * units_in_span line.entry }
 {
     let LineSpan { levels, start, end } = line;
-    if all_remain(&levels[start..end], steps) {
+    if end - start > 1 && all_remain(&levels[start..end], steps) {
         write_all(start, end, level, order, steps);
         return end - start;
     }
