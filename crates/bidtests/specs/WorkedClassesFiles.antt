@@ -7,6 +7,8 @@ use Rattle.units.specs.Lines.{ended}
 use Rattle.units.specs.declared.level.Direction.TheVariants.{Auto, Ltr, Rtl}
 use Rattle.bidtests.specs.Verdicts.{verdict_on}
 use Rattle.bidtests.specs.ClassesFile.{classes_line, classes_verdict}
+use Rattle.bidtests.specs.ThreeDirections.{three_classes_line, three_verdict_of}
+use Rattle.bidtests.specs.declared.kind.Kind.TheVariants.{Classes}
 use Rattle.bidtests.specs.declared.verdict.Place.TheVariants.{Levels, Order}
 use Rattle.bidtests.specs.declared.verdict.Cause.TheVariants.{LevelItem, OrderItem, ClassItem, BitSet, NoExpectation, Directive}
 use Rattle.bidtests.specs.declared.verdict.Verdict.TheVariants.{Yes, Malformed, Wrong}
@@ -66,6 +68,11 @@ neutral_auto = refl
 pub strong_auto_rtl : classes_verdict standard (written (codes "@Levels: 0" ∷ codes "@Reorder: 0" ∷ codes "L; 8" ∷ [])) ≡ Yes 1 1
 unfolding classes_files_compute
 strong_auto_rtl = refl
+
+-- where no row can ask for AutoRtl, 8 is no bit set
+pub bit_eight_of_three : three_verdict_of standard Classes (written (codes "@Levels: 0" ∷ codes "@Reorder: 0" ∷ codes "L; 8" ∷ [])) ≡ Malformed 3 BitSet
+unfolding classes_files_compute three_classes_line
+bit_eight_of_three = refl
 
 -- an FSI without a strong class acts as LRI under AutoRtl too
 pub isolate_auto_rtl : classes_verdict standard (written (codes "@Levels: 1 2 1" ∷ codes "@Reorder: 2 1 0" ∷ codes "FSI ON PDI; 8" ∷ [])) ≡ Yes 1 1
