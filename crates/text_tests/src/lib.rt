@@ -17,4 +17,6 @@ mod printed_refused;
 #[cfg(test)]
 mod printed_reorder;
 #[cfg(test)]
+mod printed_utf8;
+#[cfg(test)]
 mod text_rows;

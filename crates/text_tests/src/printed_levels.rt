@@ -15,7 +15,7 @@ struct Row {
     printed: &'static [u8],
 }
 
-const ROWS: [Row; 10] = [
+const ROWS: [Row; 11] = [
     Row {
         text: &['\u{5D0}', '1', '\n', 'a'],
         direction: Direction::Auto,
@@ -65,6 +65,12 @@ const ROWS: [Row; 10] = [
         text: &['\u{5D0}', '(', ')'],
         direction: Direction::Ltr,
         printed: b"paragraph 0 level 0\n0 05D0 R 1\n1 0028 ON 0\n2 0029 ON 0\n",
+    },
+    Row {
+        text: &['\n', '\u{5D0}', '\n', 'a'],
+        direction: Direction::Auto,
+        printed: b"paragraph 0 level 0\n0 000A B 0\nparagraph 1 level 1\n1 05D0 R 1\n2 000A B 1\n\
+paragraph 2 level 0\n3 0061 L 0\n",
     },
 ];
 
