@@ -1,9 +1,9 @@
 //! A report printed as its file is read.
-ghost use Rattle.std.specs.Prelude.{◌≡◌, ◌≤◌, ℕ, List, IfOk, IfErr, OnOk};
+ghost use Rattle.std.specs.Prelude.{◌≡◌, ℕ, List, IfOk, IfErr, OnOk};
 ghost use Rattle.std.specs.Io.KnownBytes.{Appends};
 ghost use Rattle.report.specs.declared.wrong_case.WrongCase.{WrongCase as Told};
 ghost use Rattle.report.specs.PrintedReports.{BreaksOff, HasTold, HasWrittenFirst, Prints};
-ghost use Rattle.report.specs.ReportText.{first_cases_text, wrong_cases_text};
+ghost use Rattle.report.specs.ReportText.{wrong_cases_text};
 
 use crate::report::Report;
 use crate::report_text::{print_foot, print_wrong_case};
