@@ -31,7 +31,8 @@ impl NoRequest {
             NoRequest::CodesAndText => {
                 "the argument '--codes <CODES>' cannot be used with '--classes <CLASSES>' or '<FILE>'"
             }
-            NoRequest::NoText => "'<FILE>' is required, or '--codes <CODES>', or '--classes <CLASSES>'",
+            NoRequest::NoText =>
+                "'<FILE>' is required, or '--codes <CODES>', or '--classes <CLASSES>'",
             NoRequest::NoSubcommand => "a subcommand is needed",
         }
     }
