@@ -248,7 +248,7 @@ is 'standard output of refused words' '' "$(cat found_out)"
 is 'status of --help' 0 $?
 is 'standard error of --help' '' "$(cat found_err)"
 
-ends 0 $'bidi 1.0.0 (rules P1 to L2 and L4 of UAX #9, Unicode 15.0)\ntables of Unicode 15.0.0 built in\nproved with rattle-kit-13b logic dac8208d650f15bf' '' --version
+ends 0 $'bidi 1.0.0 (rules P1 to L2 and L4 of UAX #9, Unicode 15.0)\ntables of Unicode 15.0.0 built in\nproved with rattle-kit-13f logic dac8208d650f15bf' '' --version
 
 # A full disk, and a pipe that no one reads.
 for words in 'judge --kind classes yes.txt' 'judge --kind classes no.txt' 'report --kind classes yes.txt' \

@@ -19,7 +19,7 @@ table is faulty, a text is not UTF-8, a write fails or memory is refused.";
 /// tables are built in, and the kit that all is proved with.
 pub const BIDI_VERSION: &str = "1.0.0 (rules P1 to L2 and L4 of UAX #9, Unicode 15.0)
 tables of Unicode 15.0.0 built in
-proved with rattle-kit-13b logic dac8208d650f15bf";
+proved with rattle-kit-13f logic dac8208d650f15bf";
 
 /// How `bidi` is called.
 pub const BIDI_USAGE: &str = "bidi <COMMAND>";

@@ -173,7 +173,7 @@ fn prints_help(rt: HostRuntime) {
 #[test]
 fn prints_the_version(rt: HostRuntime) {
     let version =
-        b"bidi 1.0.0 (rules P1 to L2 and L4 of UAX #9, Unicode 15.0)\ntables of Unicode 15.0.0 built in\nproved with rattle-kit-13b logic dac8208d650f15bf\n";
+        b"bidi 1.0.0 (rules P1 to L2 and L4 of UAX #9, Unicode 15.0)\ntables of Unicode 15.0.0 built in\nproved with rattle-kit-13f logic dac8208d650f15bf\n";
     for word in ["--version", "-V"] {
         assert_run(
             &rt,
