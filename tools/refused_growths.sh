@@ -95,6 +95,7 @@ program_of_bidi() {
     rows 0 explain --classes 'R ON LRE L'
     rows 0 explain --tables "$work/t" --codes '05D0 0028'
     rows 1 judge --kind classes "$work/classes"
+    rows 1 report --kind classes "$work/classes"
     rows 0 judge --kind characters --tables "$work/t" "$work/characters"
     rows 0 rows --form exhaustive --alphabet 'L R' --length 1..2
     rows 3 levels --tables "$work/t" "$work/missing"
