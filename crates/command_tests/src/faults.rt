@@ -116,7 +116,7 @@ fn begins_so(outcome: &Outcome, status: u8, out: &[u8], err: &[u8]) -> bool {
 // To be run with each allocation failing in turn.
 #[test]
 fn answers_as_ever_or_says_that_memory_was_refused(rt: HostRuntime) {
-    let rows: [(&[&str], u8, &[u8], &[u8]); 10] = [
+    let rows: [(&[&str], u8, &[u8], &[u8]); 11] = [
         (&LEVELS, 0, b"paragraph 0 level 0\n0 0040 L 0\n", b""),
         (&REORDER, 0, b"@Levels: 0\n@Reorder: 0\nL; 7\n", b""),
         (&EXPLAIN, 0, b"paragraph 0 level 0", b""),
