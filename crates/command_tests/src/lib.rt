@@ -39,7 +39,7 @@ mod recording_files;
 #[cfg(test)]
 mod reorder;
 #[cfg(test)]
-mod report;
+mod reports;
 #[cfg(test)]
 mod runs;
 #[cfg(test)]
