@@ -75,7 +75,7 @@ ends 0 $'a) \xd7\x90' '' reorder --tables t text.txt
 ends 0 $' \xd7\x90\na)' '' reorder --tables t --columns 2 text.txt
 ends 0 $'\xd7\x90 \n(a' '' reorder --tables t --direction ltr --columns 2 text.txt
 ends 0 $'\xd7\x90 \n(a' '' reorder --direction=ltr --columns 2 --tables t text.txt
-# As many words as a run can have, and one more.
+# As many words as a run of `reorder` can have, and one more.
 ends 0 $'\xd7\x90 \n(a' '' reorder --tables t --direction ltr --columns 2 -- text.txt
 "$program" reorder --tables t --direction ltr --columns 2 -- text.txt more > found_out 2> found_err
 is 'status of one word more' 2 $?
@@ -102,6 +102,19 @@ ends 2 '' 'bidi: 28 is no code point' explain --codes '05D0 28 x'
 "$program" explain --classes "ON$(printf '%131069s' '')" > found_out 2> found_err
 is 'status of the longest word of classes' 0 $?
 is 'order of the longest word of classes' 'order 0' "$(tail -n 1 found_out)"
+# Likewise a code point.
+"$program" explain --codes "0061$(printf '%131067s' '')" > found_out 2> found_err
+is 'status of the longest word of code points' 0 $?
+is 'order of the longest word of code points' 'order 0' "$(tail -n 1 found_out)"
+# As many paragraphs as a text can have bytes for.
+yes a | head -c 16777216 > paragraphs.txt
+"$program" reorder paragraphs.txt > found_out 2> found_err
+is 'status of reorder of many paragraphs' 0 $?
+is 'lines of reorder of many paragraphs' 8388608 "$(wc -l < found_out)"
+"$program" levels paragraphs.txt 2> found_err | tail -n 1 > found_out
+is 'status of levels of many paragraphs' 0 "${PIPESTATUS[0]}"
+is 'end of levels of many paragraphs' '16777215 000A B 0' "$(cat found_out)"
+rm paragraphs.txt
 ends 3 '' 'bidi: cannot read missing.txt: no such file' explain --tables t missing.txt
 ends 2 '' 'bidi: a word is not UTF-8' judge --kind classes $'\xff'
 ends 3 '' 'bidi: cannot read missing.txt: no such file' levels --tables t missing.txt
