@@ -1,7 +1,8 @@
 #!/bin/bash
 # Looks whether all that says the version of the product says what the file VERSION does: the command, the library for
 # C, the header, the manual page, the module for Python, the file for pkg-config that is installed, and the soname's
-# number; and, where the program is built, `bidi --version`. It ends with 0 where all agree, and with 1 where not.
+# number; and, where the program is built, `bidi --version`. Likewise whether the header and the command name the
+# edition of Unicode whose facts are built in. It ends with 0 where all agree, and with 1 where not.
 #
 # usage: tools/check_version.sh
 set -u
@@ -18,12 +19,23 @@ says() {
     fi
 }
 
+# says_edition WHERE FOUND: compares the edition that a place says with that of the facts.
+edition=$(sed -n 's/^pub const EDITION: &str = "\(.*\)";$/\1/p' crates/standard/src/facts.rt)
+says_edition() {
+    if [ -z "$edition" ] || [ "$2" != "$edition" ]; then
+        echo "$1 says the edition '$2', and the facts '$edition'" >&2
+        wrong=$((wrong + 1))
+    fi
+}
+
 [[ $version =~ ^[0-9]+\.[0-9]+\.[0-9]+$ ]] || { echo "VERSION is no version: '$version'" >&2; wrong=1; }
 says crates/command "$(sed -n 's/^pub const BIDI_VERSION: &str = "\([^ ]*\) .*$/\1/p' crates/command/src/help.rt)"
 says crates/bidi_held "$(sed -n 's/^pub const VERSION: &str = "\(.*\)";$/\1/p' crates/bidi_held/src/version.rt)"
 says tools/c/bidi.h "$(sed -n 's/^#define BIDI_VERSION "\(.*\)"$/\1/p' tools/c/bidi.h)"
 numbers=$(sed -n 's/^#define BIDI_VERSION_\(MAJOR\|MINOR\|PATCH\) \([0-9]*\)$/\2/p' tools/c/bidi.h)
 says "tools/c/bidi.h, by numbers," "$(tr '\n' . <<< "$numbers" | sed 's/\.$//')"
+says_edition tools/c/bidi.h "$(sed -n 's/^#define BIDI_EDITION "\(.*\)"$/\1/p' tools/c/bidi.h)"
+says_edition crates/command "$(sed -n 's/^tables of Unicode \(.*\) built in$/\1/p' crates/command/src/help.rt)"
 says docs/bidi.1 "$(sed -n 's/^\.TH BIDI 1 "[^"]*" "bidi \(.*\)" "User Commands"$/\1/p' docs/bidi.1)"
 says python/bidi_proved "$(sed -n 's/^__version__ = "\(.*\)"$/\1/p' python/bidi_proved/__init__.py)"
 for file in python/bidi_proved/library.py python/make_wheel.py; do

@@ -30,7 +30,9 @@
 #define BIDI_VERSION_MAJOR 1
 #define BIDI_VERSION_MINOR 0
 #define BIDI_VERSION_PATCH 0
-/* The library's is what bidi_version writes. */
+/* The edition of Unicode whose tables are built in. */
+#define BIDI_EDITION "15.0.0"
+/* Those of the library are what bidi_version and bidi_edition write. */
 #include <stdbool.h>
 #include <stddef.h>
 #include <stdint.h>
