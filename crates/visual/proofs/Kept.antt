@@ -8,11 +8,11 @@ use Rattle.lines.specs.LinePositions.{HasLevel, is_remaining}
 use Rattle.visual.specs.Spans.{AllRemoved}
 use Rattle.visual.specs.KeptLevels.{kept_level, next_remaining}
 
--- the level that was found
-abbrev pub level_found : List (Option ℕ) → ℕ → Option ℕ → ℕ
-level_found levels para_level found = option_map_or (λ q. unwrap_or (slice_index_or levels q None) para_level) found para_level
+-- the level of the next position that remains, if there is one, else that of the paragraph
+abbrev pub level_of_next : List (Option ℕ) → ℕ → Option ℕ → ℕ
+level_of_next levels para_level found = option_map_or (λ q. unwrap_or (slice_index_or levels q None) para_level) found para_level
 
-pub kept-is : (levels : List (Option ℕ)) (para end p : ℕ) → kept_level levels para end p ≡ level_found levels para (next_remaining levels end p)
+pub kept-is : (levels : List (Option ℕ)) (para end p : ℕ) → kept_level levels para end p ≡ level_of_next levels para (next_remaining levels end p)
 unfolding kept_level
 kept-is levels para end p = refl
 
@@ -31,18 +31,18 @@ next-removed levels end p lt h =
 -- its own
 pub kept-own : (levels : List (Option ℕ)) (para end p v : ℕ) → p < end → HasLevel levels p v → kept_level levels para end p ≡ v
 kept-own levels para end p v lt h =
-    kept-is levels para end p ∙ ap (level_found levels para) (next-own levels end p v lt h) ∙ ap (λ o. unwrap_or o para) h
+    kept-is levels para end p ∙ ap (level_of_next levels para) (next-own levels end p v lt h) ∙ ap (λ o. unwrap_or o para) h
 
 -- that of the next position
 pub kept-next : (levels : List (Option ℕ)) (para end p : ℕ) → p < end → slice_index_or levels p None ≡ None → kept_level levels para end p ≡ kept_level levels para end (p + 1)
 kept-next levels para end p lt h =
-    kept-is levels para end p ∙ ap (level_found levels para) (next-removed levels end p lt h) ∙ sym (kept-is levels para end (p + 1))
+    kept-is levels para end p ∙ ap (level_of_next levels para) (next-removed levels end p lt h) ∙ sym (kept-is levels para end (p + 1))
 
 -- the paragraph's, behind the line
 pub kept-end : (levels : List (Option ℕ)) (para end : ℕ) → kept_level levels para end end ≡ para
 kept-end levels para end =
     let e : end - end ≡ 0 = omega arith in
-    kept-is levels para end end ∙ ap (λ n. level_found levels para (first_from (is_remaining levels) end n)) e
+    kept-is levels para end end ∙ ap (λ n. level_of_next levels para (first_from (is_remaining levels) end n)) e
 
 through : (levels : List (Option ℕ)) (para end p n q : ℕ) → p + n ≡ q → q ≤ end → AllRemoved levels p q → kept_level levels para end p ≡ kept_level levels para end q
 through levels para end p zero q e le all = let t : p ≡ q = omega arith in ap (kept_level levels para end) t
