@@ -196,6 +196,23 @@ is 'lines of rows of the longest text' 9 "$(wc -l < rows.txt)"
 ends 0 'yes: 3 rows, 3 cases' '' judge --kind classes rows.txt
 ends 2 '' 'bidi: --length ends above 4095' rows --form exhaustive --alphabet R --length 4096
 
+# Rows of each form of hard texts and of each kind, by the tables that are built in, which the judge says yes to by those
+# of Unicode 15.0, where they are installed. Among 20 texts some pass the greatest depth, and the most open brackets.
+for form in nest marks numbers isolates separators; do
+    "$program" rows --form "$form" --count 20 --length 300..600 --directions 'ltr auto-rtl' > rows.txt 2> found_err
+    is "status of rows of $form" 0 $?
+    ends 0 'yes: 40 rows, 40 cases' '' judge --kind classes rows.txt
+done
+for form in nest brackets marks numbers isolates separators; do
+    "$program" rows --form "$form" --kind characters --count 20 --length 300..900 > rows.txt 2> found_err
+    is "status of rows of $form, of characters" 0 $?
+    is "lines of rows of $form, of characters" 60 "$(wc -l < rows.txt)"
+    if [ -d /usr/share/unicode ]; then
+        ends 0 'yes: 60 rows, 60 cases' '' judge --kind characters --tables /usr/share/unicode rows.txt
+    fi
+done
+ends 2 '' 'bidi: up is no direction' rows --form nest --length 1 --directions 'auto up'
+
 # Reports: what they print and count, where they end, and the first of the wrong cases.
 printf '@Levels: x 3\n@Reorder:\nLRE R; 3\nL; 16\nL; 1\n' > faults.txt
 counts=$'no: line 4: malformed: BitSet\n1 rows, 1 wrong; 2 cases, 2 wrong

@@ -98,6 +98,7 @@ program_of_bidi() {
     rows 1 report --kind classes "$work/classes"
     rows 0 judge --kind characters --tables "$work/t" "$work/characters"
     rows 0 rows --form exhaustive --alphabet 'L R' --length 1..2
+    rows 0 rows --form brackets --kind characters --tables "$work/t" --count 2 --length 1..2
     rows 3 levels --tables "$work/t" "$work/missing"
     rows 2 judge --kind characters "$work/characters"
     rows 2 levels

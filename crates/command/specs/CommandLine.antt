@@ -1,6 +1,6 @@
 -- The command line, as it is read: the command with its subcommands and arguments, and the request that the values of a
 -- subcommand make.
-use Rattle.std.specs.Prelude.{◌≡◌, ◌⊎◌, ℕ, List, [], ◌∷◌, Option, None, Some, Result, Ok, Err, IfOk, codes, map, option_map, unwrap_or, pos, true, false, if◌then◌else◌}
+use Rattle.std.specs.Prelude.{◌≡◌, ◌≢◌, ◌⊎◌, ℕ, List, [], ◌∷◌, Option, None, Some, Result, Ok, Err, IfOk, codes, map, option_map, unwrap_or, pos, true, false, if◌then◌else◌}
 use Rattle.std.specs.Borrow.{Bor}
 use Rattle.std.specs.declared.num.NonZeroU16.{NonZeroU16}
 use Rattle.std.specs.declared.num.ParseIntError.{ParseIntError}
@@ -16,19 +16,24 @@ use Rattle.clap.specs.declared.error.Error.{Error}
 use Rattle.clap.specs.declared.error.kind.ErrorKind.{ErrorKind}
 use Rattle.clap.specs.declared.error.kind.ErrorKind.TheVariants.{OutOfMemory}
 use Rattle.clap.specs.declared.builder.value_parser.ValueParser.TheVariants as parser
+use Rattle.rows.specs.declared.form.Form.{Form}
+use Rattle.rows.specs.declared.form.Form.TheVariants.{Nest, Brackets, Marks, Numbers, Isolates, Separators}
 use Rattle.units.specs.declared.level.Direction.{Direction}
 use Rattle.units.specs.declared.level.Direction.TheVariants.{Auto, Ltr, Rtl, AutoRtl}
 use Rattle.bidtests.specs.VerdictText.{direction_word}
-use Rattle.command.specs.Refusals.{refusal_without_request}
+use Rattle.command.specs.Refusals.{is_over_alphabet, refusal_without_request}
 use Rattle.command.specs.declared.refusal.NoRequest.{NoRequest}
 use Rattle.command.specs.declared.refusal.WordsFault.{WordsFault}
 use Rattle.command.specs.declared.refusal.WordsFault.TheVariants as fault
+use Rattle.requests.specs.declared.request.AskedRows.{AskedRows}
 use Rattle.requests.specs.declared.request.FileKind.{FileKind}
 use Rattle.requests.specs.declared.request.FileKind.TheVariants.{Classes, Characters}
 use Rattle.requests.specs.declared.request.Print.{Print}
 use Rattle.requests.specs.declared.request.Print.TheVariants.{Levels, Reorder, Explained}
 use Rattle.requests.specs.declared.request.TableSource.{TableSource}
 use Rattle.requests.specs.declared.request.TableSource.TheVariants.{Folder, BuiltIn}
+use Rattle.requests.specs.declared.request.RowLetters.{RowLetters}
+use Rattle.requests.specs.declared.request.RowLetters.TheVariants.{Alphabet, OfForm}
 use Rattle.requests.specs.declared.request.RowsForm.{RowsForm}
 use Rattle.requests.specs.declared.request.RowsForm.TheVariants.{Exhaustive, Random}
 use Rattle.requests.specs.declared.request.Request.{Request}
@@ -76,17 +81,28 @@ codes_rule = option_rule (codes "codes")
 abbrev pub kind_rule : Choice → Rule
 kind_rule choice = record (option_rule (codes "kind")) { required = true; parser = Some (parser.Names choice) }
 
+-- --kind of the file that rows make, which is `classes` where it is not given
+abbrev pub rows_kind_rule : Choice → Rule
+rows_kind_rule choice = record (option_rule (codes "kind")) {
+  defaults = codes "classes" ∷ [];
+  parser = Some (parser.Names choice);
+}
+
 -- --form
 abbrev pub form_rule : Choice → Rule
 form_rule choice = record (option_rule (codes "form")) { required = true; parser = Some (parser.Names choice) }
 
 -- --alphabet
 abbrev pub alphabet_rule : Rule
-alphabet_rule = record (option_rule (codes "alphabet")) { required = true }
+alphabet_rule = option_rule (codes "alphabet")
 
 -- --length
 abbrev pub length_rule : Rule
 length_rule = record (option_rule (codes "length")) { required = true }
+
+-- --directions, which are `auto`, `ltr` and `rtl` where they are not given
+abbrev pub directions_rule : Rule
+directions_rule = record (option_rule (codes "directions")) { defaults = codes "auto ltr rtl" ∷ [] }
 
 -- --most, --seed and --count, numbers of 64 bits
 abbrev pub number_rule : Text → Rule
@@ -113,9 +129,22 @@ abbrev pub report_app : Choice → App
 report_app kinds =
     with_rule (with_rule (with_rule (with_rule (new_app (codes "report")) (kind_rule kinds)) tables_rule) (number_rule (codes "most"))) file_rule
 
-abbrev pub rows_app : Choice → App
-rows_app forms =
-    with_rule (with_rule (with_rule (with_rule (with_rule (new_app (codes "rows")) (form_rule forms)) alphabet_rule) length_rule) (number_rule (codes "seed"))) (number_rule (codes "count"))
+-- the choices of `rows`: of forms, of kinds
+pub record RowChoices : Type 0 where
+  pub forms : Choice
+  pub kinds : Choice
+
+-- with what the file of rows is: its form, its kind, and the tables by which it is right
+abbrev pub with_rows_kind : RowChoices → App → App
+with_rows_kind c app = with_rule (with_rule (with_rule app (form_rule c.forms)) (rows_kind_rule c.kinds)) tables_rule
+
+-- with what its texts are: their letters, their lengths, and the directions under which they stand
+abbrev pub with_rows_texts : App → App
+with_rows_texts app = with_rule (with_rule (with_rule app alphabet_rule) length_rule) directions_rule
+
+abbrev pub rows_app : RowChoices → App
+rows_app c =
+    with_rule (with_rule (with_rows_texts (with_rows_kind c (new_app (codes "rows")))) (number_rule (codes "seed"))) (number_rule (codes "count"))
 
 -- the words that name directions, kinds and forms
 abbrev pub direction_words : List Text
@@ -125,20 +154,26 @@ abbrev pub kind_words : List Text
 kind_words = codes "classes" ∷ codes "characters" ∷ []
 
 abbrev pub form_words : List Text
-form_words = codes "exhaustive" ∷ codes "random" ∷ []
+form_words = codes "exhaustive" ∷ codes "random" ∷ codes "nest" ∷ codes "brackets" ∷ codes "marks" ∷ codes "numbers"
+    ∷ codes "isolates" ∷ codes "separators" ∷ []
+
+-- the choices of `rows` are of these words
+pub record HasRowWords (c : RowChoices) : Type 0 where
+  pub forms : words_of c.forms ≡ form_words
+  pub kinds : words_of c.kinds ≡ kind_words
 
 -- the command without its subcommands: one is needed, but for help and the version
 abbrev pub bidi_top : App
 bidi_top = on_top (λ s. record s { has_version = true; subcommand_required = true }) (new_app (codes "bidi"))
 
--- the choices of the six subcommands: of directions, of kinds, of forms
+-- the choices of the six subcommands: of directions, of kinds, of forms and kinds
 pub record Choices : Type 0 where
   pub of_levels : Choice
   pub of_reorder : Choice
   pub of_explain : Choice
   pub of_judge : Choice
   pub of_report : Choice
-  pub of_rows : Choice
+  pub of_rows : RowChoices
 
 -- with the subcommands that print of a text
 abbrev pub with_texts : Choices → App → App
@@ -162,7 +197,7 @@ pub record IsBidi (app : App) : Type 0 where
   pub explain_words : words_of choices.of_explain ≡ direction_words
   pub judge_words : words_of choices.of_judge ≡ kind_words
   pub report_words : words_of choices.of_report ≡ kind_words
-  pub rows_words : words_of choices.of_rows ≡ form_words
+  pub rows_words : HasRowWords choices.of_rows
   pub is : app ≡ bidi_app choices
 
 -- the word for a kind of file
@@ -201,17 +236,40 @@ abbrev pub NumberIs : ℕ → Option Text → ℕ → Type 0
 NumberIs default None n = n ≡ default
 NumberIs default (Some text) n = (read : Option ℕ) × ReadsOne ReadsNumber text read × (n ≡ unwrap_or read default)
 
--- the form of rows that the values say: all texts, or 1,000 that are drawn, or as many as are asked for, by the seed 0
--- or the one that is given
-abbrev pub FormIs : List Row → RowsForm → Type 0
-FormIs rows Exhaustive = first_of (codes "form") rows ≡ Some (codes "exhaustive")
-FormIs rows (Random seed count) = (first_of (codes "form") rows ≡ Some (codes "random"))
-    × NumberIs 0 (one_of (codes "seed") rows) seed × NumberIs 1000 (one_of (codes "count") rows) count
-
 -- the folder that tables come from, if they come from one
 abbrev pub folder_of : TableSource → Option Text
 folder_of (Folder folder) = Some folder.now
 folder_of BuiltIn = None
+
+-- the form of rows that the values say: all texts, or with another word for the form 1,000 that are drawn, or as many as
+-- are asked for, by the seed 0 or the one that is given
+abbrev pub FormIs : List Row → RowsForm → Type 0
+FormIs rows Exhaustive = first_of (codes "form") rows ≡ Some (codes "exhaustive")
+FormIs rows (Random seed count) = (first_of (codes "form") rows ≢ Some (codes "exhaustive"))
+    × NumberIs 0 (one_of (codes "seed") rows) seed × NumberIs 1000 (one_of (codes "count") rows) count
+
+-- the word for a form of hard texts
+abbrev pub form_word : Form → Text
+form_word Nest = codes "nest"
+form_word Brackets = codes "brackets"
+form_word Marks = codes "marks"
+form_word Numbers = codes "numbers"
+form_word Isolates = codes "isolates"
+form_word Separators = codes "separators"
+
+-- the letters of rows that the values say: an alphabet with a form that takes one, and else those of the form alone
+abbrev pub LettersAre : List Row → RowLetters → Type 0
+LettersAre rows (Alphabet word) = (is_over_alphabet (first_of (codes "form") rows) ≡ true) × (first_of (codes "alphabet") rows ≡ Some word.now)
+LettersAre rows (OfForm form) = (first_of (codes "form") rows ≡ Some (form_word form)) × (first_of (codes "alphabet") rows ≡ None)
+
+-- the rows that the values ask for
+pub record AsksForRows (rows : List Row) (asked : AskedRows) : Type 0 where
+  pub kind : kind_named (first_of (codes "kind") rows) ≡ Some asked.kind
+  pub tables : first_of (codes "tables") rows ≡ folder_of asked.tables
+  pub letters : LettersAre rows asked.letters
+  pub form : FormIs rows asked.form
+  pub lengths : first_of (codes "length") rows ≡ Some asked.lengths.now
+  pub directions : first_of (codes "directions") rows ≡ Some asked.directions.now
 
 -- the subcommand of this name prints this of a text, by these values
 abbrev pub AsksToPrint : Text → List Row → Print → Type 0
@@ -236,8 +294,7 @@ AsksFor name rows (requested.Judge kind tables file) = (name ≡ codes "judge")
 AsksFor name rows (requested.Report kind tables file most) = (name ≡ codes "report")
     × (kind_named (first_of (codes "kind") rows) ≡ Some kind) × (first_of (codes "tables") rows ≡ option_map (λ folder. folder.now) tables)
     × (first_of (codes "file") rows ≡ Some file.now) × NumberIs 20 (one_of (codes "most") rows) most
-AsksFor name rows (requested.Rows form alphabet lengths) = (name ≡ codes "rows") × FormIs rows form
-    × (first_of (codes "alphabet") rows ≡ Some alphabet.now) × (first_of (codes "length") rows ≡ Some lengths.now)
+AsksFor name rows (requested.Rows asked) = (name ≡ codes "rows") × AsksForRows rows asked
 
 -- the subcommand that was met makes this request
 abbrev pub IsAskedBy : Option (Text × List Row) → Request → Type 0

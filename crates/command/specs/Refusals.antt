@@ -1,11 +1,11 @@
 -- Why words that `clap` lets pass make no request, and what a user is told then.
-use Rattle.std.specs.Prelude.{◌&&◌, ◌||◌, Bool, ℕ, List, [], ◌∷◌, Option, None, Some, is_some, codes, if◌then◌else◌}
+use Rattle.std.specs.Prelude.{◌&&◌, ◌||◌, Bool, false, ℕ, List, [], ◌∷◌, Option, None, Some, is_some, codes, if◌then◌else◌}
 use Rattle.std.specs.List.{concat}
 use Rattle.std.specs.Str.{bytes_eq}
 use Rattle.clap.specs.Walk.{Row, Text, first_of}
-use Rattle.command.specs.declared.help.TheConstants.{BIDI_USAGE, EXPLAIN_USAGE}
+use Rattle.command.specs.declared.help.TheConstants.{BIDI_USAGE, EXPLAIN_USAGE, ROWS_USAGE}
 use Rattle.command.specs.declared.refusal.NoRequest.{NoRequest}
-use Rattle.command.specs.declared.refusal.NoRequest.TheVariants.{ClassesAndText, CodesAndText, NoText, NoSubcommand}
+use Rattle.command.specs.declared.refusal.NoRequest.TheVariants.{ClassesAndText, CodesAndText, NoText, NoAlphabet, AlphabetAndForm, NoSubcommand}
 
 -- classes are given, and a text or tables beside them
 abbrev pub has_classes_and_text : List Row → Bool
@@ -22,9 +22,23 @@ abbrev pub explain_refusal : List Row → NoRequest
 explain_refusal rows =
     if has_classes_and_text rows then ClassesAndText else (if has_codes_and_text rows then CodesAndText else NoText)
 
+-- the texts of this form are made of an alphabet: those of the other forms have letters of their own
+abbrev pub takes_alphabet : Text → Bool
+takes_alphabet form = bytes_eq form (codes "exhaustive") || bytes_eq form (codes "random")
+
+-- a form that takes an alphabet is named
+abbrev pub is_over_alphabet : Option Text → Bool
+is_over_alphabet None = false
+is_over_alphabet (Some form) = takes_alphabet form
+
+-- of `rows`: an alphabet is required where the form takes one, and excluded where it does not
+abbrev pub rows_refusal : List Row → NoRequest
+rows_refusal rows = if is_over_alphabet (first_of (codes "form") rows) then NoAlphabet else AlphabetAndForm
+
 -- where the subcommand of this name makes no request of these values
 abbrev pub refusal_in_subcommand : Text → List Row → NoRequest
-refusal_in_subcommand name rows = if bytes_eq name (codes "explain") then explain_refusal rows else NoSubcommand
+refusal_in_subcommand name rows =
+    if bytes_eq name (codes "explain") then explain_refusal rows else (if bytes_eq name (codes "rows") then rows_refusal rows else NoSubcommand)
 
 -- where the subcommand that was met makes none
 abbrev pub refusal_without_request : Option (Text × List Row) → NoRequest
@@ -36,6 +50,8 @@ abbrev pub words_without_request : NoRequest → List ℕ
 words_without_request ClassesAndText = codes "the argument '--classes <CLASSES>' cannot be used with '--tables <DIR>' or '<FILE>'"
 words_without_request CodesAndText = codes "the argument '--codes <CODES>' cannot be used with '--classes <CLASSES>' or '<FILE>'"
 words_without_request NoText = codes "'<FILE>' is required, or '--codes <CODES>', or '--classes <CLASSES>'"
+words_without_request NoAlphabet = codes "the argument '--alphabet <LETTERS>' is required with '--form exhaustive' and '--form random'"
+words_without_request AlphabetAndForm = codes "the argument '--alphabet <LETTERS>' can be used only with '--form exhaustive' and '--form random'"
 words_without_request NoSubcommand = codes "a subcommand is needed"
 
 -- how to call what was called
@@ -43,6 +59,8 @@ abbrev pub usage_without_request : NoRequest → List ℕ
 usage_without_request ClassesAndText = EXPLAIN_USAGE.now
 usage_without_request CodesAndText = EXPLAIN_USAGE.now
 usage_without_request NoText = EXPLAIN_USAGE.now
+usage_without_request NoAlphabet = ROWS_USAGE.now
+usage_without_request AlphabetAndForm = ROWS_USAGE.now
 usage_without_request NoSubcommand = BIDI_USAGE.now
 
 -- what a user is told

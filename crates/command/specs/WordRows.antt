@@ -9,9 +9,9 @@ use Rattle.units.specs.declared.level.Direction.{Direction}
 use Rattle.units.specs.declared.level.Direction.TheVariants.{Auto, Rtl}
 use Rattle.command.specs.CommandLine.{Choices, bidi_app, direction_named, kind_named}
 use Rattle.command.specs.Refusals.{refusal_without_request}
-use Rattle.command.specs.declared.refusal.NoRequest.TheVariants.{ClassesAndText, CodesAndText, NoText}
+use Rattle.command.specs.declared.refusal.NoRequest.TheVariants.{AlphabetAndForm, ClassesAndText, CodesAndText, NoAlphabet, NoText}
 use Rattle.requests.specs.declared.request.FileKind.{FileKind}
-use Rattle.requests.specs.declared.request.FileKind.TheVariants.{Characters}
+use Rattle.requests.specs.declared.request.FileKind.TheVariants.{Classes, Characters}
 
 -- a subcommand, with its folder, classes, code points, direction, text of columns, kind and file
 pub record Met : Type 0 where
@@ -214,12 +214,53 @@ pub explain_codes_and_classes_words : (c : Choices) → refusal_without_request 
 unfolding clap_on_literals
 explain_codes_and_classes_words c = refl
 
--- rows: their form, alphabet and lengths
-abbrev rows_met : Text × List Row → Text × Option Text × Option Text × Option Text
-rows_met p = (p.0, first_of (codes "form") p.1, first_of (codes "alphabet") p.1, first_of (codes "length") p.1)
+-- rows: their form, kind, alphabet, lengths and directions; they are of classes under three directions where none are given
+pub record RowsMet : Type 0 where
+  pub form : Option Text
+  pub kind : Option FileKind
+  pub alphabet : Option Text
+  pub lengths : Option Text
+  pub directions : Option Text
+
+abbrev rows_met : Text × List Row → RowsMet
+rows_met p = record {
+  form = first_of (codes "form") p.1;
+  kind = kind_named (first_of (codes "kind") p.1);
+  alphabet = first_of (codes "alphabet") p.1;
+  lengths = first_of (codes "length") p.1;
+  directions = first_of (codes "directions") p.1;
+}
 
 pub rows_words : (c : Choices) → option_map rows_met (subcommand_of (bidi_app c)
-    (codes "bidi" ∷ codes "rows" ∷ codes "--form" ∷ codes "exhaustive" ∷ codes "--alphabet" ∷ codes "R ON L" ∷ codes "--length=1..3" ∷ []))
-    ≡ Some (codes "rows", Some (codes "exhaustive"), Some (codes "R ON L"), Some (codes "1..3"))
+    (codes "bidi" ∷ codes "rows" ∷ codes "--form" ∷ codes "exhaustive" ∷ codes "--alphabet" ∷ codes "R ON L" ∷ codes "--length=1..3" ∷ [])) ≡ Some (record {
+      form = Some (codes "exhaustive");
+      kind = Some Classes;
+      alphabet = Some (codes "R ON L");
+      lengths = Some (codes "1..3");
+      directions = Some (codes "auto ltr rtl");
+    })
 unfolding clap_on_literals
 rows_words c = refl
+
+-- of a form of hard texts
+pub hard_rows_words : (c : Choices) → option_map rows_met (subcommand_of (bidi_app c)
+    (codes "bidi" ∷ codes "rows" ∷ codes "--form=nest" ∷ codes "--kind" ∷ codes "characters" ∷ codes "--length" ∷ codes "9" ∷ codes "--directions" ∷ codes "rtl" ∷ [])) ≡ Some (record {
+      form = Some (codes "nest");
+      kind = Some Characters;
+      alphabet = None;
+      lengths = Some (codes "9");
+      directions = Some (codes "rtl");
+    })
+unfolding clap_on_literals
+hard_rows_words c = refl
+
+-- an alphabet that is missing, and one too many: no request, and the reason for that
+pub rows_without_alphabet_words : (c : Choices) → refusal_without_request (subcommand_of (bidi_app c)
+    (codes "bidi" ∷ codes "rows" ∷ codes "--form" ∷ codes "random" ∷ codes "--length" ∷ codes "1" ∷ [])) ≡ NoAlphabet
+unfolding clap_on_literals
+rows_without_alphabet_words c = refl
+
+pub rows_with_two_letters_words : (c : Choices) → refusal_without_request (subcommand_of (bidi_app c)
+    (codes "bidi" ∷ codes "rows" ∷ codes "--form" ∷ codes "nest" ∷ codes "--alphabet" ∷ codes "L" ∷ codes "--length" ∷ codes "1" ∷ [])) ≡ AlphabetAndForm
+unfolding clap_on_literals
+rows_with_two_letters_words c = refl

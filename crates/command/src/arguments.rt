@@ -2,8 +2,8 @@
 ghost use Rattle.std.specs.Prelude.{◌≡◌, false};
 ghost use Rattle.clap.specs.Walk.{rule_of};
 ghost use Rattle.command.specs.CommandLine.{Choice, alphabet_rule, classes_rule, codes_rule, columns_rule, direction_rule};
-ghost use Rattle.command.specs.CommandLine.{direction_words, file_rule, form_rule, form_words, kind_rule, kind_words};
-ghost use Rattle.command.specs.CommandLine.{length_rule, number_rule, tables_rule, words_of};
+ghost use Rattle.command.specs.CommandLine.{direction_words, directions_rule, file_rule, form_rule, form_words, kind_rule};
+ghost use Rattle.command.specs.CommandLine.{kind_words, length_rule, number_rule, rows_kind_rule, tables_rule, words_of};
 
 use clap::Arg;
 use clap::builder::ValueParser;
@@ -13,7 +13,16 @@ const DIRECTIONS: [&str; 4] = ["auto", "ltr", "rtl", "auto-rtl"];
 
 const KINDS: [&str; 2] = ["classes", "characters"];
 
-const FORMS: [&str; 2] = ["exhaustive", "random"];
+const FORMS: [&str; 8] = [
+    "exhaustive",
+    "random",
+    "nest",
+    "brackets",
+    "marks",
+    "numbers",
+    "isolates",
+    "separators",
+];
 
 /// FILE, which is required.
 pub fn file_argument<'a>(alloc: Global) -> Arg<'a>
@@ -101,21 +110,24 @@ pub fn form_argument<'a>(alloc: Global) -> Arg<'a>
         .required(true)
         .value_parser(FORMS.as_slice())
         .help(
-            "Which texts over the alphabet the rows have: with `exhaustive` all of these lengths, \
-             with `random` as many as --count says, drawn by --seed",
+            "Which texts the rows have: with `exhaustive` all of these lengths over the alphabet, \
+             with `random` as many as --count says, drawn from it by --seed; with each other form \
+             as many, drawn from letters of its own",
         )
 }
 
-/// `--alphabet CLASSES`, which is required.
+/// `--alphabet LETTERS`, which may be left out.
 pub fn alphabet_argument<'a>(alloc: Global) -> Arg<'a>
     ensures rule { rule_of result ≡ alphabet_rule }
     ensures local { result.global ≡ false }
 {
     Arg::new(alloc, "alphabet")
         .long("alphabet")
-        .value_name("CLASSES")
-        .required(true)
-        .help("Short names of classes, with blanks between them")
+        .value_name("LETTERS")
+        .help(
+            "The letters of `--form exhaustive` and `--form random`, with blanks between them: short names \
+             of classes, or with `--kind characters` code points in hex digits",
+        )
 }
 
 /// `--length LENGTHS`, which is required.
@@ -128,6 +140,20 @@ pub fn length_argument<'a>(alloc: Global) -> Arg<'a>
         .value_name("LENGTHS")
         .required(true)
         .help("The lengths of the texts, 1 to 4095: `N`, or `A..B` for all from A up to B")
+}
+
+/// `--directions DIRECTIONS`, which is `auto ltr rtl` where it is left out.
+pub fn directions_argument<'a>(alloc: Global) -> Arg<'a>
+    ensures rule { rule_of result ≡ directions_rule }
+    ensures local { result.global ≡ false }
+{
+    Arg::new(alloc, "directions")
+        .long("directions")
+        .value_name("DIRECTIONS")
+        .default_value("auto ltr rtl")
+        .help(
+            "The directions under which each text stands, with blanks between them: auto, ltr, rtl or auto-rtl",
+        )
 }
 
 /// An option of this name with a number of 64 bits, which may be left out, with this help.
@@ -156,4 +182,18 @@ pub fn kind_argument<'a>(alloc: Global) -> Arg<'a>
         .help(
             "The file's form: that of BidiTest.txt, or that of BidiCharacterTest.txt, which needs --tables",
         )
+}
+
+/// `--kind` of the file that rows make, which is `classes` where it is left out.
+pub fn rows_kind_argument<'a>(alloc: Global) -> Arg<'a>
+    ensures rule { (choice : Choice) × (words_of choice ≡ kind_words)
+        × (rule_of result ≡ rows_kind_rule choice) }
+    ensures local { result.global ≡ false }
+{
+    Arg::new(alloc, "kind")
+        .long("kind")
+        .value_name("KIND")
+        .default_value("classes")
+        .value_parser(KINDS.as_slice())
+        .help("The file's form: that of BidiTest.txt, or that of BidiCharacterTest.txt")
 }

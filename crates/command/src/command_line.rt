@@ -3,12 +3,14 @@ ghost use Rattle.std.specs.Prelude.{◌≡◌, false, IfOk, IsOkAnd};
 ghost use Rattle.clap.specs.Built.{AddsSubcommand};
 ghost use Rattle.clap.specs.Simple.{app_of};
 ghost use Rattle.clap.specs.declared.builder.command.Command.TheViews.{out-Command as fields_of};
-ghost use Rattle.command.specs.CommandLine.{Choice, IsBidi, bidi_top, direction_words, explain_app, judge_app};
-ghost use Rattle.command.specs.CommandLine.{form_words, kind_words, levels_app, reorder_app, report_app, rows_app, words_of};
+ghost use Rattle.command.specs.CommandLine.{Choice, HasRowWords, IsBidi, RowChoices, bidi_top, direction_words};
+ghost use Rattle.command.specs.CommandLine.{explain_app, judge_app, kind_words, levels_app, reorder_app, report_app};
+ghost use Rattle.command.specs.CommandLine.{rows_app, words_of};
 
 use crate::arguments::{
     alphabet_argument, classes_argument, codes_argument, columns_argument, direction_argument,
-    file_argument, form_argument, kind_argument, length_argument, number_argument, tables_argument,
+    directions_argument, file_argument, form_argument, kind_argument, length_argument,
+    number_argument, rows_kind_argument, tables_argument,
 };
 use crate::help;
 use clap::Command;
@@ -91,18 +93,23 @@ fn report_command<'a>(alloc: Global) -> Result<Command<'a>, AllocError>
         .arg(file_argument(alloc))
 }
 
+/// The subcommand `rows`. By `clap` alone the alphabet may be left out: which forms take one is told by these.
 fn rows_command<'a>(alloc: Global) -> Result<Command<'a>, AllocError>
-    ensures app { IfOk result (λ command. (choice : Choice) × (words_of choice ≡ form_words)
-        × (app_of command ≡ rows_app choice)) }
+    ensures app { IfOk result (λ command. (choices : RowChoices) × HasRowWords choices
+        × (app_of command ≡ rows_app choices)) }
     ensures local { IfOk result (λ command. (fields_of command).has_globals ≡ false) }
 {
     Command::new(alloc, "rows")
-        .about("Prints a conformance file of texts over an alphabet")
+        .about("Prints a conformance file of hard texts, with right answers")
         .long_about(help::ROWS_LONG_ABOUT)
         .after_help(help::ROWS_EXAMPLE)
+        .override_usage(help::ROWS_USAGE)
         .arg(form_argument(alloc))?
+        .arg(rows_kind_argument(alloc))?
+        .arg(tables_argument(alloc, help::TABLES_HELP))?
         .arg(alphabet_argument(alloc))?
         .arg(length_argument(alloc))?
+        .arg(directions_argument(alloc))?
         .arg(number_argument(alloc, "seed", help::ROWS_SEED_HELP))?
         .arg(number_argument(alloc, "count", help::ROWS_COUNT_HELP))
 }

@@ -134,27 +134,40 @@ pub const REPORT_EXAMPLE: &str = "Examples:
   bidi report --kind characters --tables ucd BidiCharacterTest.txt";
 
 /// What `rows` prints, and with which status it ends.
-pub const ROWS_LONG_ABOUT: &str =
-    "Prints a conformance file, in the form of BidiTest.txt, with right answers.
+pub const ROWS_LONG_ABOUT: &str = "Prints a conformance file, in the form of BidiTest.txt or, with
+`--kind characters`, of BidiCharacterTest.txt, with right answers.
 
-Its texts are all of the lengths that are given over an alphabet of classes, the shorter
-ones first, or as many as are asked for, drawn by a seed: the same for the same words on
-every machine. Each stands under the directions auto, ltr and rtl. A text under a direction
-is three lines: its levels, its order, and a row that names this direction.
+Its texts are all of the lengths that are given over an alphabet, the shorter ones first,
+or as many as are asked for, drawn by a seed: the same for the same words on every machine.
+The other forms are drawn from letters of their own: `nest` has embeddings, overrides and
+isolates, `brackets` brackets, which only characters have, `marks` marks behind brackets and
+isolates, `numbers` numbers and what stands between them, `isolates` isolates, `separators`
+separators and white space. A long text of `nest` passes the greatest depth, and one of
+`brackets` the most that can be open.
 
-Ends with status 0, 2 where the command line is refused, --alphabet has a name of no class
-or none, --length is no range of lengths, all texts are asked for and there are 2^64 of a
+Each text stands under each of the directions. With `--kind classes` it is three lines there,
+its levels, its order, and a row that names this direction, with `--kind characters` one row.
+
+Ends with status 0, 2 where the command line is refused, --alphabet has a name of no class or
+an item that is no code point, there is no letter, --length is no range of lengths,
+--directions names none or what is none, all texts are asked for and there are 2^64 of a
 length or more, or texts are to be drawn and --length ends before it begins, and 3 where a
-write fails or memory is refused.";
+file can't be read, a line of a table is faulty, a write fails or memory is refused.";
+
+/// How `rows` is called.
+pub const ROWS_USAGE: &str =
+    "bidi rows [OPTIONS] --form exhaustive|random --alphabet <LETTERS> --length <LENGTHS>
+       bidi rows [OPTIONS] --form <FORM> --length <LENGTHS>";
 
 /// What `--seed` says, and of which rows.
-pub const ROWS_SEED_HELP: &str =
-    "The seed by which `--form random` draws texts, 0 where it is left out";
+pub const ROWS_SEED_HELP: &str = "The seed by which texts are drawn, 0 where it is left out";
 
 /// What `--count` says, and of which rows.
-pub const ROWS_COUNT_HELP: &str = "How many texts `--form random` draws, 1000 where it is left out";
+pub const ROWS_COUNT_HELP: &str = "How many texts are drawn, 1000 where it is left out";
 
 /// What stands at the end of the help of `rows`.
 pub const ROWS_EXAMPLE: &str = "Examples:
   bidi rows --form exhaustive --alphabet 'LRO RLE L PDF PDI RLO' --length 1..4
-  bidi rows --form random --seed 1 --count 5000 --alphabet 'L R AL AN NSM' --length 1..40";
+  bidi rows --form random --seed 1 --count 5000 --alphabet 'L R AL AN NSM' --length 1..40
+  bidi rows --form nest --length 1..600 --directions 'ltr rtl'
+  bidi rows --form brackets --kind characters --length 1..900";

@@ -2,7 +2,7 @@
 ghost use Rattle.std.specs.Prelude.{◌≡◌, Some};
 ghost use Rattle.command.specs.Refusals.{no_request_text, usage_without_request, words_without_request};
 
-use crate::help::{BIDI_USAGE, EXPLAIN_USAGE};
+use crate::help::{BIDI_USAGE, EXPLAIN_USAGE, ROWS_USAGE};
 use clap::Error;
 use std::fmt;
 
@@ -15,6 +15,10 @@ pub enum NoRequest {
     CodesAndText,
     /// `explain` is given neither a text nor code points nor classes.
     NoText,
+    /// `rows` is given no alphabet, and its form takes one.
+    NoAlphabet,
+    /// `rows` is given an alphabet, and its form has letters of its own.
+    AlphabetAndForm,
     /// No subcommand makes one.
     NoSubcommand,
 }
@@ -33,6 +37,12 @@ impl NoRequest {
             }
             NoRequest::NoText =>
                 "'<FILE>' is required, or '--codes <CODES>', or '--classes <CLASSES>'",
+            NoRequest::NoAlphabet => {
+                "the argument '--alphabet <LETTERS>' is required with '--form exhaustive' and '--form random'"
+            }
+            NoRequest::AlphabetAndForm => {
+                "the argument '--alphabet <LETTERS>' can be used only with '--form exhaustive' and '--form random'"
+            }
             NoRequest::NoSubcommand => "a subcommand is needed",
         }
     }
@@ -45,6 +55,7 @@ impl NoRequest {
             NoRequest::ClassesAndText | NoRequest::CodesAndText | NoRequest::NoText => {
                 EXPLAIN_USAGE
             }
+            NoRequest::NoAlphabet | NoRequest::AlphabetAndForm => ROWS_USAGE,
             NoRequest::NoSubcommand => BIDI_USAGE,
         }
     }

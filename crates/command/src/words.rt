@@ -1,19 +1,22 @@
 // What the words of a command line ask for.
-ghost use Rattle.std.specs.Prelude.{◌≡◌, codes, option_map, IfOk, IfErr, IfSome, IfNone, is_some};
+ghost use Rattle.std.specs.Prelude.{◌≡◌, ◌≢◌, codes, option_map, IfOk, IfErr, IfSome, IfNone, is_some};
 ghost use Rattle.clap.specs.Matches.{found_of};
 ghost use Rattle.clap.specs.Simple.{subcommand_rows_of};
 ghost use Rattle.clap.specs.Walk.{first_of, one_of, rows_of, texts};
 ghost use Rattle.command.specs.CommandLine.{AsksFor, ColumnsAre, HasMet, IsAskedBy, IsReadAs, IsRefusedByClap, MakesNone};
-ghost use Rattle.command.specs.CommandLine.{FormIs, NumberIs, direction_named, folder_of, kind_named};
-ghost use Rattle.command.specs.Refusals.{explain_refusal, has_classes_and_text, has_codes_and_text};
-ghost use Rattle.command.specs.Refusals.{refusal_in_subcommand, refusal_without_request};
+ghost use Rattle.command.specs.CommandLine.{FormIs, LettersAre, NumberIs, direction_named, folder_of, form_word};
+ghost use Rattle.command.specs.CommandLine.{kind_named};
+ghost use Rattle.command.specs.Refusals.{explain_refusal, has_classes_and_text, has_codes_and_text, is_over_alphabet};
+ghost use Rattle.command.specs.Refusals.{refusal_in_subcommand, refusal_without_request, rows_refusal};
 ghost use Rattle.requests.specs.declared.request.Request.{Request as RequestOf};
-ghost use Rattle.requests.specs.declared.request.RowsForm.{RowsForm as FormOf};
+ghost use Rattle.requests.specs.declared.request.RowLetters.{RowLetters as LettersOf};
+ghost use Rattle.rows.specs.declared.form.Form.{Form as HardForm};
 
 use crate::command_line::bidi_command;
 use crate::refusal::{NoRequest, WordsFault};
 use clap::{ArgMatches, Error};
-use requests::request::{FileKind, Print, Request, RowsForm, TableSource};
+use requests::request::{AskedRows, FileKind, Print, Request, RowLetters, RowsForm, TableSource};
+use rows::form::Form;
 use std::alloc::Global;
 use std::num::NonZeroU16;
 use units::level::Direction;
@@ -162,18 +165,55 @@ fn report_in<'a>(matches: &ArgMatches<'a>) -> Option<Request<'a>>
     })
 }
 
-/// Which texts the rows have.
-fn form_in(matches: &ArgMatches<'_>) -> Option<RowsForm>
-    ensures some { IfSome result (FormIs (rows_of (found_of matches.now))) }
-    ensures none { IfNone result ((form : FormOf) → ¬ (FormIs (rows_of (found_of matches.now)) form)) }
+/// Which texts the rows have: all, or some that are drawn.
+fn form_in(matches: &ArgMatches<'_>) -> RowsForm
+    ensures { FormIs (rows_of (found_of matches.now)) result }
 {
     match text_of(matches, "form") {
-        Some("exhaustive") => Some(RowsForm::Exhaustive),
-        Some("random") => Some(RowsForm::Random {
+        Some("exhaustive") => RowsForm::Exhaustive,
+        _ => RowsForm::Random {
             seed: number_in(matches, "seed", 0),
             count: number_in(matches, "count", 1000),
-        }),
+        },
+    }
+}
+
+/// Whether the form that is named takes an alphabet.
+fn is_over_alphabet(form: Option<&str>) -> bool
+    ensures { result ≡ is_over_alphabet (option_map (λ word. word.now) form.entry) }
+{
+    match form {
+        Some("exhaustive" | "random") => true,
+        _ => false,
+    }
+}
+
+/// The form of hard texts that a word names.
+fn hard_form(word: &str) -> Option<Form>
+    ensures some { IfSome result (λ form. word.now ≡ form_word form) }
+    ensures none { IfNone result ((form : HardForm) → word.now ≢ form_word form) }
+{
+    match word {
+        "nest" => Some(Form::Nest),
+        "brackets" => Some(Form::Brackets),
+        "marks" => Some(Form::Marks),
+        "numbers" => Some(Form::Numbers),
+        "isolates" => Some(Form::Isolates),
+        "separators" => Some(Form::Separators),
         _ => None,
+    }
+}
+
+/// Of which letters the texts of the rows are made.
+fn letters_in<'a>(matches: &ArgMatches<'a>) -> Option<RowLetters<'a>>
+    ensures some { IfSome result (LettersAre (rows_of (found_of matches.now))) }
+    ensures none { IfNone result ((letters : LettersOf) → ¬ (LettersAre (rows_of (found_of matches.now)) letters)) }
+{
+    let form = text_of(matches, "form");
+    match text_of(matches, "alphabet") {
+        Some(alphabet) if is_over_alphabet(form) => Some(RowLetters::Alphabet(alphabet)),
+        Some(_) => None,
+        None => Some(RowLetters::OfForm(hard_form(form?)?)),
     }
 }
 
@@ -183,11 +223,14 @@ fn rows_in<'a>(matches: &ArgMatches<'a>) -> Option<Request<'a>>
     ensures none { IfNone result ((request : RequestOf)
         → ¬ (AsksFor (codes "rows") (rows_of (found_of matches.now)) request)) }
 {
-    Some(Request::Rows {
-        form: form_in(matches)?,
-        alphabet: text_of(matches, "alphabet")?,
+    Some(Request::Rows(AskedRows {
+        kind: kind_in(matches)?,
+        tables: tables_in(matches),
+        letters: letters_in(matches)?,
+        form: form_in(matches),
         lengths: text_of(matches, "length")?,
-    })
+        directions: text_of(matches, "directions")?,
+    }))
 }
 
 /// What a subcommand of this name asks for, by its arguments.
@@ -244,12 +287,24 @@ fn explain_refusal(matches: &ArgMatches<'_>) -> NoRequest
     }
 }
 
+/// Why `rows` makes no request of its arguments.
+fn rows_refusal(matches: &ArgMatches<'_>) -> NoRequest
+    ensures { result ≡ rows_refusal (rows_of (found_of matches.now)) }
+{
+    if is_over_alphabet(text_of(matches, "form")) {
+        NoRequest::NoAlphabet
+    } else {
+        NoRequest::AlphabetAndForm
+    }
+}
+
 /// Why the subcommand of this name makes no request of its arguments.
 fn refusal_in_subcommand(name: &str, matches: &ArgMatches<'_>) -> NoRequest
     ensures { result ≡ refusal_in_subcommand name.now (rows_of (found_of matches.now)) }
 {
     match name {
         "explain" => explain_refusal(matches),
+        "rows" => rows_refusal(matches),
         _ => NoRequest::NoSubcommand,
     }
 }

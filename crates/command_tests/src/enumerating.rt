@@ -72,7 +72,11 @@ fn prints_no_rows_from_a_longer_to_a_shorter_length(rt: HostRuntime) {
 #[test]
 fn refuses_what_makes_no_rows(rt: HostRuntime) {
     let rows: [(&str, &str, &[u8]); 11] = [
-        ("", "1", b"bidi: --alphabet has no class\n"),
+        (
+            "",
+            "1",
+            b"bidi: --alphabet or --form gives no letter of this kind\n",
+        ),
         ("L x R", "1", b"bidi: x is no class\n"),
         ("L", "", b"bidi:  is no range of lengths\n"),
         ("L", "1.2", b"bidi: 1.2 is no range of lengths\n"),

@@ -21,6 +21,8 @@ mod faults;
 #[cfg(test)]
 mod file_faults;
 #[cfg(test)]
+mod hard_rows;
+#[cfg(test)]
 mod input;
 #[cfg(test)]
 mod judge;

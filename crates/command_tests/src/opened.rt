@@ -57,9 +57,24 @@ fn opens_the_tables_and_then_the_file(rt: HostRuntime) {
     }
 }
 
+/// The words for rows of characters, with the tables behind all others.
+const HARD_ROWS: [&str; 10] = [
+    "bidi",
+    "rows",
+    "--form",
+    "nest",
+    "--kind=characters",
+    "--length",
+    "1",
+    "--count=1",
+    "--tables",
+    "t",
+];
+
 #[test]
 fn opens_the_tables_alone_for_code_points(rt: HostRuntime) {
     assert_reads(&rt, rt.alloc(), &EXPLAIN_CODES, TABLES, "");
+    assert_reads(&rt, rt.alloc(), &HARD_ROWS, TABLES, "");
 }
 
 #[test]
@@ -104,6 +119,7 @@ fn opens_nothing(rt: HostRuntime) {
         EXPLAIN_CLASSES.as_slice(),
         &codes,
         &ROWS,
+        &HARD_ROWS[..8],
         &["bidi", "--version"],
     ] {
         assert_reads(&rt, rt.alloc(), words, "", "");

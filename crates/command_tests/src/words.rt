@@ -148,6 +148,38 @@ fn says_why_nothing_is_explained(rt: HostRuntime) {
 }
 
 #[test]
+fn says_why_there_are_no_rows(rt: HostRuntime) {
+    let none: &[u8] =
+        b"error: the argument '--alphabet <LETTERS>' is required with '--form exhaustive' and '--form random'\n\nUsage: bidi rows [OPTIONS] --form exhaustive|random --alphabet <LETTERS> --length <LENGTHS>\n       bidi rows [OPTIONS] --form <FORM> --length <LENGTHS>\n\nFor more information, try '--help'.\n";
+    let both: &[u8] =
+        b"error: the argument '--alphabet <LETTERS>' can be used only with '--form exhaustive' and '--form random'\n\nUsage: bidi rows [OPTIONS] --form exhaustive|random --alphabet <LETTERS> --length <LENGTHS>\n       bidi rows [OPTIONS] --form <FORM> --length <LENGTHS>\n\nFor more information, try '--help'.\n";
+    for form in ["exhaustive", "random"] {
+        let words = ["bidi", "rows", "--form", form, "--length", "1"];
+        assert_run(&rt, rt.alloc(), &words, &[], Ending::fails(2, none));
+    }
+    for form in [
+        "nest",
+        "brackets",
+        "marks",
+        "numbers",
+        "isolates",
+        "separators",
+    ] {
+        let words = [
+            "bidi",
+            "rows",
+            "--form",
+            form,
+            "--alphabet",
+            "L",
+            "--length",
+            "1",
+        ];
+        assert_run(&rt, rt.alloc(), &words, &[], Ending::fails(2, both));
+    }
+}
+
+#[test]
 fn prints_help(rt: HostRuntime) {
     let rows: [(&[&str], &[u8]); 9] = [
         (&["bidi", "--help"], b"Lays out texts "),

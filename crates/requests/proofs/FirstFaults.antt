@@ -7,22 +7,25 @@ use Rattle.ucdfiles.specs.ClassFile.{class_fault, class_file_fault}
 use Rattle.ucdfiles.specs.Faults.{first_fault}
 use Rattle.ucdfiles.specs.PairFiles.{bracket_fault, bracket_file_fault, mirror_fault, mirror_file_fault}
 use Rattle.ucdfiles.specs.Tables.{TablesOf}
+use Rattle.bidtests.specs.declared.kind.Kind.{Kind}
 use Rattle.requests.specs.ReadFiles.{AreTables, FileFacts, most_file_bytes, origin_of}
 use Rattle.requests.specs.TableSources.{AreTablesBy}
 use Rattle.requests.specs.FaultText.{EndsOpening, print_fault}
 use Rattle.requests.specs.Outcomes.{IsDone}
 use Rattle.requests.specs.CodeWords.{codes_said}
 use Rattle.requests.specs.Printed.{HasPrinted, most_text_bytes}
-use Rattle.requests.specs.Steps.{AreDone, EndsFile, EndsWriting, FailsIn, IsFirstFault, RequestStep, codes_steps, explaining_steps, file_step, opening_step, printing_steps, rows_steps, source_steps, steps_of, table_steps, text_steps}
-use Rattle.requests.specs.PrintedRows.{HasPrintedRows}
+use Rattle.requests.specs.Steps.{AreDone, EndsFile, EndsWriting, FailsIn, IsFirstFault, RequestStep, alphabet_steps, codes_steps, explaining_steps, file_step, kind_steps, opening_step, printing_steps, rows_steps, source_steps, steps_of, table_steps, text_steps, texts_step}
+use Rattle.requests.specs.PrintedRows.{HasPrintedRows, HasRowsOf}
+use Rattle.requests.proofs.AskedLetters.{alphabet_done}
+use Rattle.requests.specs.declared.request.FileKind.{FileKind}
 use Rattle.requests.specs.declared.request.FileKind.TheVariants.{Classes, Characters}
 use Rattle.requests.specs.declared.request.TableSource.{TableSource}
 use Rattle.requests.specs.declared.request.TableSource.TheVariants.{Folder, BuiltIn}
 use Rattle.requests.specs.declared.request.Request.{Request}
 use Rattle.requests.specs.declared.request.Request.TheVariants.{Text, ExplainClasses, ExplainCodes, Judge, Report, Rows}
-use Rattle.requests.specs.declared.request.RowsForm.{RowsForm}
+use Rattle.requests.specs.declared.request.AskedRows.{AskedRows}
 use Rattle.requests.specs.declared.fault.Fault.{Fault}
-use Rattle.requests.specs.declared.fault.Fault.TheVariants.{WordNotUtf8, TablesNeeded, ClassesTooLong, CodesTooLong, NoClass, NoCodePoint, NoLengths, NoRows, CannotRead, FaultyLine, NotUtf8, CannotWrite, OutOfMemory}
+use Rattle.requests.specs.declared.fault.Fault.TheVariants.{WordNotUtf8, TablesNeeded, ClassesTooLong, CodesTooLong, NoClass, NoCodePoint, NoLengths, NoDirection, NoDirections, NoRows, CannotRead, FaultyLine, NotUtf8, CannotWrite, OutOfMemory}
 use Rattle.printing.specs.declared.fault.PrintFault.{PrintFault}
 use Rattle.printing.specs.declared.fault.PrintFault.TheVariants.{Write, Memory}
 use Rattle.requests.specs.declared.outcome.Outcome.{Outcome}
@@ -59,6 +62,8 @@ opening_ends files most file CodesTooLong h = absurd h
 opening_ends files most file (NoClass name) h = absurd h
 opening_ends files most file (NoCodePoint item) h = absurd h
 opening_ends files most file (NoLengths word) h = absurd h
+opening_ends files most file (NoDirection item) h = absurd h
+opening_ends files most file NoDirections h = absurd h
 opening_ends files most file (NoRows refusal) h = absurd h
 opening_ends files most file (FaultyLine name line e) h = absurd h
 opening_ends files most file (NotUtf8 name) h = absurd h
@@ -128,11 +133,23 @@ has_printed files printed source file tables text before after stated read said 
   said = subst (λ (xs : List ℕ). Appends before after (printed tables xs)) read.3 said;
 }
 
--- the words of rows that were printed say them
-rows_done : (form : RowsForm) (alphabet lengths : List ℕ) (before after : Option (List ℕ)) → HasPrintedRows form alphabet lengths before after → AreDone (rows_steps form alphabet lengths)
-rows_done form alphabet lengths before after h = (
-  (h.texts.alphabet, h.are.letters),
-  (((h.texts.least, h.texts.greatest), h.are.ends), ((h.texts, h.are, h.made.some), tt)),
+-- what rows hold was read
+pub kind_done : (files : FileFacts) (k : FileKind) (source : TableSource) (kind : Kind) → HasRowsOf files k source kind → AreDone (kind_steps files k source)
+kind_done files Classes source kind h = tt
+kind_done files Characters source kind h = source_done files source h.0.now h.1
+
+-- what is asked of rows that were printed says them
+rows_done : (files : FileFacts) (asked : AskedRows) (before after : Option (List ℕ)) → HasPrintedRows files asked before after → AreDone (rows_steps files asked)
+unfolding rows_steps
+rows_done files asked before after h = (
+  ((h.texts.least, h.texts.greatest), h.are.ends),
+  (
+    (h.directions, h.named),
+    all_done (alphabet_steps asked.kind asked.letters) (kind_steps files asked.kind asked.tables ++ texts_step files asked ∷ [])
+        (alphabet_done files asked.kind asked.tables h.kind asked.letters h.texts.alphabet h.is h.are.letters)
+        (all_done (kind_steps files asked.kind asked.tables) (texts_step files asked ∷ [])
+        (kind_done files asked.kind asked.tables h.kind h.is) ((h.kind, h.is, h.texts, h.are, h.made.some), tt)),
+  ),
 )
 
 -- what was done was read before
@@ -153,7 +170,7 @@ request_done files before after (Report Characters (Some folder) file most) (Jud
     all_done (table_steps files folder.now) (opening_step files most_file_bytes file.now ∷ [])
     (tables_done files folder.now read.0.now read.1) ((h.2.bytes, h.2.begins), tt)
 request_done files before after (Report Characters None file most) (Judged status) h = absurd h.1
-request_done files before after (Rows form alphabet lengths) Printed h = rows_done form alphabet.now lengths.now before after h
+request_done files before after (Rows asked) Printed h = rows_done files asked before after h
 request_done files before after (Text source direction file print) (Judged status) h = absurd h
 request_done files before after (ExplainClasses word direction) (Judged status) h = absurd h
 request_done files before after (ExplainCodes word source direction) (Judged status) h = absurd h
@@ -164,4 +181,4 @@ request_done files before after (Judge Characters None file) Printed h = absurd 
 request_done files before after (Report Classes tables file most) Printed h = absurd h
 request_done files before after (Report Characters (Some folder) file most) Printed h = absurd h
 request_done files before after (Report Characters None file most) Printed h = absurd h
-request_done files before after (Rows form alphabet lengths) (Judged status) h = absurd h
+request_done files before after (Rows asked) (Judged status) h = absurd h

@@ -1,3 +1,4 @@
+pub mod AskedLetters
 pub mod FirstFaults
 pub mod LengthPieces
 pub mod MadeRows

@@ -1,11 +1,8 @@
 -- The classes that a word of the command line names.
-use Rattle.std.specs.Prelude.{◌≡◌, ℕ, List, Option, Some, map}
-use Rattle.std.specs.Option.{option_map}
+use Rattle.std.specs.Prelude.{◌≡◌, ℕ, List, Option, Some}
 use Rattle.units.specs.ClassNames.{class_of_short}
 use Rattle.units.specs.Text.{each_read, items_of}
 use Rattle.units.specs.declared.class.Class.{Class}
-use Rattle.rows.specs.declared.letter.Letter.{Letter}
-use Rattle.rows.specs.declared.letter.Letter.TheVariants as letter
 use Rattle.requests.specs.ItemWords.{first_unread}
 use Rattle.requests.specs.declared.fault.Fault.{Fault}
 use Rattle.requests.specs.declared.fault.Fault.TheVariants.{NoClass, OutOfMemory}
@@ -13,10 +10,6 @@ use Rattle.requests.specs.declared.fault.Fault.TheVariants.{NoClass, OutOfMemory
 -- the classes of the short names that blanks separate, or none where one of them is no such name
 abbrev pub classes_named : List ℕ → Option (List Class)
 classes_named word = each_read class_of_short (items_of word)
-
--- these classes as letters, of which the texts of rows are made
-abbrev pub letters_named : List ℕ → Option (List Letter)
-letters_named word = option_map (map letter.Class) (classes_named word)
 
 -- when a fault ends the reading of names: the first one of no class, or memory was refused
 abbrev pub EndsNames : List ℕ → Fault → Type 0

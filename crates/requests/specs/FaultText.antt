@@ -11,7 +11,7 @@ use Rattle.printing.specs.declared.fault.PrintFault.{PrintFault}
 use Rattle.printing.specs.declared.fault.PrintFault.TheVariants.{Write, Memory}
 use Rattle.requests.specs.declared.fault.Fault.{Fault}
 use Rattle.requests.specs.declared.outcome.Ended.{Ended}
-use Rattle.requests.specs.declared.fault.Fault.TheVariants.{WordNotUtf8, TablesNeeded, ClassesTooLong, CodesTooLong, NoClass, NoCodePoint, NoLengths, NoRows, CannotRead, FaultyLine, NotUtf8, CannotWrite, OutOfMemory}
+use Rattle.requests.specs.declared.fault.Fault.TheVariants.{WordNotUtf8, TablesNeeded, ClassesTooLong, CodesTooLong, NoClass, NoCodePoint, NoLengths, NoDirection, NoDirections, NoRows, CannotRead, FaultyLine, NotUtf8, CannotWrite, OutOfMemory}
 use Rattle.printing.specs.LevelsText.{line_feed}
 use Rattle.rows.specs.declared.fault.RowsFault.{RowsFault}
 use Rattle.rows.specs.declared.fault.RowsFault.TheVariants as refused
@@ -30,9 +30,13 @@ no_class_text name = concat (codes "bidi: " ∷ name ∷ codes " is no class" �
 abbrev pub no_code_point_text : List ℕ → List ℕ
 no_code_point_text item = concat (codes "bidi: " ∷ item ∷ codes " is no code point" ∷ line_feed ∷ [])
 
+-- the line that says that an item is no direction
+abbrev pub no_direction_text : List ℕ → List ℕ
+no_direction_text item = concat (codes "bidi: " ∷ item ∷ codes " is no direction" ∷ line_feed ∷ [])
+
 -- why texts can't be enumerated or drawn
 abbrev pub rows_refusal : RowsFault → List ℕ
-rows_refusal refused.NoLetter = codes "--alphabet has no class"
+rows_refusal refused.NoLetter = codes "--alphabet or --form gives no letter of this kind"
 rows_refusal refused.NoLength = codes "--length begins at 0"
 rows_refusal refused.TooLong = codes "--length ends above 4095"
 rows_refusal refused.TooMany = codes "there are too many texts"
@@ -72,6 +76,9 @@ SaysFault before after (NoClass name) = Appends before after (no_class_text name
 SaysFault before after (NoCodePoint item) = Appends before after (no_code_point_text item.now)
 SaysFault before after (NoLengths word) =
     Appends before after (concat (codes "bidi: " ∷ word.now ∷ codes " is no range of lengths" ∷ line_feed ∷ []))
+SaysFault before after (NoDirection item) = Appends before after (no_direction_text item.now)
+SaysFault before after NoDirections =
+    Appends before after (concat (codes "bidi: --directions has no direction" ∷ line_feed ∷ []))
 SaysFault before after (NoRows fault) = Appends before after (no_rows_text fault)
 SaysFault before after (CannotRead name unread) = Appends before after (unread_text name.now unread)
 SaysFault before after (FaultyLine name line fault) = Appends before after (faulty_line_text name.now line fault)
@@ -79,8 +86,8 @@ SaysFault before after (NotUtf8 name) = Appends before after (not_utf8_text name
 SaysFault before after CannotWrite = Appends before after (concat (codes "bidi: cannot write" ∷ line_feed ∷ []))
 SaysFault before after OutOfMemory = Appends before after (concat (codes "bidi: out of memory" ∷ line_feed ∷ []))
 
--- 2 where the words of the command line are no text, name no tables, no classes, no code points or no rows, 3 where the
--- run failed
+-- 2 where the words of the command line are no text, name no tables, no classes, no code points, no directions or no
+-- rows, 3 where the run failed
 abbrev pub fault_status : Fault → ℕ
 fault_status WordNotUtf8 = 2
 fault_status TablesNeeded = 2
@@ -89,6 +96,8 @@ fault_status CodesTooLong = 2
 fault_status (NoClass name) = 2
 fault_status (NoCodePoint item) = 2
 fault_status (NoLengths word) = 2
+fault_status (NoDirection item) = 2
+fault_status NoDirections = 2
 fault_status (NoRows fault) = 2
 fault_status (CannotRead name unread) = 3
 fault_status (FaultyLine name line fault) = 3

@@ -1,5 +1,6 @@
 pub mod ClassWords
 pub mod CodeWords
+pub mod DirectionWords
 pub mod FaultText
 pub mod ItemWords
 pub mod JudgedFiles

@@ -34,7 +34,7 @@ IsDone files before after (Judge Characters (Some folder) file) (Judged status) 
     HasJudgedBy files folder.now file.now before after status
 IsDone files before after (Report kind tables file most) (Judged status) =
     HasReported files kind tables file.now most before after status
-IsDone files before after (Rows form alphabet lengths) Printed = HasPrintedRows form alphabet.now lengths.now before after
+IsDone files before after (Rows asked) Printed = HasPrintedRows files asked before after
 IsDone files before after _ _ = ⊥
 
 -- a report breaks off where a read of its file fails, behind what it printed by then; no other request prints anything

@@ -7,10 +7,15 @@ use Rattle.ucdfiles.specs.declared.fault.Fault.{Fault as LineFault}
 use Rattle.ucdfiles.specs.Tables.{TablesOf}
 use Rattle.units.specs.declared.class.Class.{Class}
 use Rattle.rows.specs.Exhaustive.{ExhaustiveOf}
-use Rattle.rows.specs.declared.letter.Letter.{Letter}
-use Rattle.requests.specs.ClassWords.{EndsNames, classes_named, letters_named}
+use Rattle.units.specs.declared.level.Direction.{Direction}
+use Rattle.requests.specs.ClassWords.{EndsNames, classes_named}
 use Rattle.requests.specs.CodeWords.{EndsCodes, codes_said}
+use Rattle.requests.specs.DirectionWords.{EndsDirections, SaysDirections}
+use Rattle.requests.specs.declared.request.AskedRows.{AskedRows}
+use Rattle.requests.specs.declared.request.FileKind.{FileKind}
 use Rattle.requests.specs.declared.request.FileKind.TheVariants.{Classes, Characters}
+use Rattle.requests.specs.declared.request.RowLetters.{RowLetters}
+use Rattle.requests.specs.declared.request.RowLetters.TheVariants.{Alphabet, OfForm}
 use Rattle.requests.specs.declared.request.TableSource.{TableSource}
 use Rattle.requests.specs.declared.request.TableSource.TheVariants.{Folder, BuiltIn}
 use Rattle.requests.specs.declared.request.Request.{Request}
@@ -73,13 +78,6 @@ names_step word = record {
   EndsBy = EndsNames word;
 }
 
--- the reading of the names in it, as letters
-abbrev pub letters_step : List ℕ → RequestStep
-letters_step word = record {
-  Done = (letters : List Letter) × (letters_named word ≡ Some letters);
-  EndsBy = EndsNames word;
-}
-
 -- what is read of a word for classes
 abbrev pub classes_steps : List ℕ → List RequestStep
 classes_steps word = length_step ClassesTooLong word ∷ names_step word ∷ []
@@ -109,16 +107,27 @@ making_step form texts = record {
   EndsBy = EndsMaking form texts;
 }
 
--- that the texts of this form which two words say can be enumerated or drawn
-abbrev pub texts_step : RowsForm → List ℕ → List ℕ → RequestStep
-texts_step form alphabet lengths = record {
-  Done = CanBeMade form alphabet lengths;
-  EndsBy = EndsTexts form alphabet lengths;
+-- the reading of a word for directions
+abbrev pub directions_step : List ℕ → RequestStep
+directions_step word = record {
+  Done = (directions : List Direction) × SaysDirections word directions;
+  EndsBy = EndsDirections word;
 }
 
--- what is read of the words for rows
-abbrev pub rows_steps : RowsForm → List ℕ → List ℕ → List RequestStep
-rows_steps form alphabet lengths = letters_step alphabet ∷ lengths_step lengths ∷ texts_step form alphabet lengths ∷ []
+-- that there is memory
+abbrev pub memory_step : RequestStep
+memory_step = record {
+  Done = Unit {0};
+  EndsBy = λ fault. fault ≡ OutOfMemory;
+}
+
+-- what is read for the letters of a file of this kind: the names or the code points in their word, if there is one; the
+-- classes of a form are letters without tables
+abbrev pub alphabet_steps : FileKind → RowLetters → List RequestStep
+alphabet_steps Classes (Alphabet word) = names_step word.now ∷ []
+alphabet_steps Characters (Alphabet word) = codes_step word.now ∷ []
+alphabet_steps Classes (OfForm form) = memory_step ∷ []
+alphabet_steps Characters (OfForm form) = []
 
 -- the making of the tables that are built in
 abbrev pub built_in_step : RequestStep
@@ -162,6 +171,23 @@ module _ (files : FileFacts) where
   abbrev pub source_steps : TableSource → List RequestStep
   source_steps (Folder folder) = table_steps folder.now
   source_steps BuiltIn = built_in_step ∷ []
+
+  -- what is read for the tables of rows of this kind
+  abbrev pub kind_steps : FileKind → TableSource → List RequestStep
+  kind_steps Classes source = []
+  kind_steps Characters source = source_steps source
+
+  -- that the texts which are asked for can be enumerated or drawn
+  abbrev pub texts_step : AskedRows → RequestStep
+  texts_step asked = record {
+    Done = CanBeMade files asked;
+    EndsBy = EndsTexts files asked;
+  }
+
+  -- what is read to print rows
+  unfoldable pub rows_steps : AskedRows → List RequestStep
+  rows_steps asked = lengths_step asked.lengths.now ∷ directions_step asked.directions.now
+      ∷ (alphabet_steps asked.kind asked.letters ++ (kind_steps asked.kind asked.tables ++ texts_step asked ∷ []))
 
   -- the reading of what FILE names to its end
   abbrev pub file_step : ℕ → List ℕ → RequestStep
@@ -214,4 +240,4 @@ module _ (files : FileFacts) where
   steps_of (Report Classes tables file most) = opening_step most_file_bytes file.now ∷ []
   steps_of (Report Characters (Some folder) file most) = opening_steps folder.now file.now
   steps_of (Report Characters None file most) = record { Done = ⊥; EndsBy = EndsUnnamed } ∷ []
-  steps_of (Rows form alphabet lengths) = rows_steps form alphabet.now lengths.now
+  steps_of (Rows asked) = rows_steps asked

@@ -26,7 +26,7 @@ impl ReadsItem<char> for CodePoints {
 }
 
 /// The characters of these code points. The faults are the first item that is none, and refused memory.
-fn chars_of_items<'a>(alloc: Global, items: &'a [u8]) -> Result<Vec<char>, Fault<'a>>
+pub fn chars_of_items<'a>(alloc: Global, items: &'a [u8]) -> Result<Vec<char>, Fault<'a>>
     ensures chars { IfOk result (λ chars. codes_said items.now ≡ Some chars.items) }
     ensures count { IfOk result (λ chars. length chars.items ≤ length items.now) }
     ensures fault { IfErr result (EndsCodes items.now) }

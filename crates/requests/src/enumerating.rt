@@ -1,21 +1,26 @@
-// Texts of some lengths over an alphabet, all or some that are drawn, printed as a conformance file.
-ghost use Rattle.std.specs.Prelude.{◌≡◌, [], ◌∷◌, List, Some, IfOk, IfErr, OnOk};
+// Rows that are asked for: texts of some lengths over some letters, printed as a conformance file.
+ghost use Rattle.std.specs.Prelude.{◌≡◌, [], ◌∷◌, Some, IfErr, IfOk, OnOk};
 ghost use Rattle.std.specs.List.{All};
 ghost use Rattle.bidtests.specs.declared.kind.Kind.TheVariants as file;
 ghost use Rattle.rows.specs.Letters.{IsLetterOf};
-ghost use Rattle.requests.specs.ClassWords.{EndsNames, letters_named};
+ghost use Rattle.requests.specs.DirectionWords.{SaysDirections};
 ghost use Rattle.requests.specs.declared.request.RowsForm.TheVariants as form_of;
-ghost use Rattle.requests.specs.PrintedRows.{HasPrintedRows, HasPrintedTexts};
-ghost use Rattle.requests.specs.Steps.{FailsIn, making_step, rows_steps};
+ghost use Rattle.requests.specs.PrintedRows.{HasPrintedRows, HasPrintedTexts, chars_asked, letters_asked};
+ghost use Rattle.requests.specs.RowWords.{lengths_named};
+ghost use Rattle.requests.specs.Steps.{FailsIn, IsFirstFault, alphabet_steps, making_step, rows_steps};
 
 use crate::class_names::classes_of_names;
+use crate::code_points::chars_of_items;
+use crate::directions::directions_in;
 use crate::fault::Fault;
+use crate::files::Files;
 use crate::lengths::{Lengths, lengths_in};
-use crate::request::RowsForm;
+use crate::request::{AskedRows, FileKind, RowLetters, RowsForm};
+use crate::table_source::tables_by;
 use bidtests::kind::Kind;
 use rows::exhaustive::Exhaustive;
 use rows::letter::Letter;
-use rows::letters::class_letters;
+use rows::letters::{character_letters, class_letters};
 use rows::print::print_exhaustive;
 use rows::print_random::print_random;
 use rows::random::Random;
@@ -23,47 +28,48 @@ use std::alloc::Global;
 use std::io::Write;
 use units::level::Direction;
 
-/// Each text stands under these.
-const DIRECTIONS: [Direction; 3] = [Direction::Auto, Direction::Ltr, Direction::Rtl];
-
-/// Prints all texts of these lengths over an alphabet.
+/// Prints all texts of these lengths over such letters, each under these directions.
 fn print_all<'a, W: Write>(
     alloc: Global,
-    alphabet: &[Letter],
+    kind: Kind<'_>,
+    letters: &[Letter],
     lengths: Lengths,
+    directions: &[Direction],
     out: &mut W,
 ) -> Result<(), Fault<'a>>
-    requires { All (IsLetterOf file.Classes) alphabet.now }
-    ensures printed { OnOk result (HasPrintedTexts form_of.Exhaustive
-        (record { alphabet = alphabet.now; least = lengths.least; greatest = lengths.greatest }) (W.contents out.old) (W.contents out.new)) }
+    requires { All (IsLetterOf kind) letters.now }
+    ensures printed { OnOk result (HasPrintedTexts kind.entry form_of.Exhaustive directions.now
+        (record { alphabet = letters.now; least = lengths.least; greatest = lengths.greatest }) (W.contents out.old) (W.contents out.new)) }
     ensures fault { IfErr result (FailsIn (making_step form_of.Exhaustive
-        (record { alphabet = alphabet.now; least = lengths.least; greatest = lengths.greatest }) ∷ []) (W.contents out.old) (W.contents out.new)) }
+        (record { alphabet = letters.now; least = lengths.least; greatest = lengths.greatest }) ∷ []) (W.contents out.old) (W.contents out.new)) }
 {
-    let texts = match Exhaustive::new(alphabet, lengths.least, lengths.greatest) {
+    let texts = match Exhaustive::new(letters, lengths.least, lengths.greatest) {
         Ok(texts) => texts,
         Err(fault) => return Err(Fault::NoRows(fault)),
     };
-    print_exhaustive(alloc, out, Kind::Classes, &texts, &DIRECTIONS)?;
+    print_exhaustive(alloc, out, kind, &texts, directions)?;
     Ok(())
 }
 
-/// Prints so many texts of these lengths over an alphabet, drawn by a seed.
+/// Prints so many texts of these lengths over such letters, drawn by a seed, each under these directions.
 fn print_drawn<'a, W: Write>(
     alloc: Global,
-    alphabet: &[Letter],
+    kind: Kind<'_>,
+    letters: &[Letter],
     lengths: Lengths,
+    directions: &[Direction],
     seed: u64,
     count: u64,
     out: &mut W,
 ) -> Result<(), Fault<'a>>
-    requires { All (IsLetterOf file.Classes) alphabet.now }
-    ensures printed { OnOk result (HasPrintedTexts (form_of.Random seed count)
-        (record { alphabet = alphabet.now; least = lengths.least; greatest = lengths.greatest }) (W.contents out.old) (W.contents out.new)) }
+    requires { All (IsLetterOf kind) letters.now }
+    ensures printed { OnOk result (HasPrintedTexts kind.entry (form_of.Random seed count) directions.now
+        (record { alphabet = letters.now; least = lengths.least; greatest = lengths.greatest }) (W.contents out.old) (W.contents out.new)) }
     ensures fault { IfErr result (FailsIn (making_step (form_of.Random seed count)
-        (record { alphabet = alphabet.now; least = lengths.least; greatest = lengths.greatest }) ∷ []) (W.contents out.old) (W.contents out.new)) }
+        (record { alphabet = letters.now; least = lengths.least; greatest = lengths.greatest }) ∷ []) (W.contents out.old) (W.contents out.new)) }
 {
     let texts = match Random::new(
-        alphabet,
+        letters,
         lengths.least,
         lengths.greatest,
         seed,
@@ -72,59 +78,149 @@ fn print_drawn<'a, W: Write>(
         Ok(texts) => texts,
         Err(fault) => return Err(Fault::NoRows(fault)),
     };
-    print_random(alloc, out, Kind::Classes, &texts, &DIRECTIONS)?;
+    print_random(alloc, out, kind, &texts, directions)?;
     Ok(())
 }
 
-/// The letters of an alphabet, whose classes have these names. The faults are the first name of no class, and refused
-/// memory.
-fn letters_of_names<'a>(alloc: Global, names: &'a [u8]) -> Result<Vec<Letter>, Fault<'a>>
-    ensures letters { IfOk result (λ letters. letters_named names.now ≡ Some letters.items) }
-    ensures kind { IfOk result (λ letters. All (IsLetterOf file.Classes) letters.items) }
-    ensures fault { IfErr result (EndsNames names.now) }
-{
-    let classes = classes_of_names(alloc, names)?;
-    Ok(class_letters(alloc, &classes)?)
-}
-
-/// Prints the texts of this form, of these lengths over an alphabet.
+/// Prints the texts of this form, of these lengths over such letters, each under these directions.
 fn print_form<'a, W: Write>(
     alloc: Global,
+    kind: Kind<'_>,
     form: RowsForm,
-    alphabet: &[Letter],
+    letters: &[Letter],
     lengths: Lengths,
+    directions: &[Direction],
     out: &mut W,
 ) -> Result<(), Fault<'a>>
-    requires { All (IsLetterOf file.Classes) alphabet.now }
-    ensures printed { OnOk result (HasPrintedTexts form
-        (record { alphabet = alphabet.now; least = lengths.least; greatest = lengths.greatest }) (W.contents out.old) (W.contents out.new)) }
+    requires { All (IsLetterOf kind) letters.now }
+    ensures printed { OnOk result (HasPrintedTexts kind.entry form directions.now
+        (record { alphabet = letters.now; least = lengths.least; greatest = lengths.greatest }) (W.contents out.old) (W.contents out.new)) }
     ensures fault { IfErr result (FailsIn (making_step form
-        (record { alphabet = alphabet.now; least = lengths.least; greatest = lengths.greatest }) ∷ []) (W.contents out.old) (W.contents out.new)) }
+        (record { alphabet = letters.now; least = lengths.least; greatest = lengths.greatest }) ∷ []) (W.contents out.old) (W.contents out.new)) }
 {
     match form {
-        RowsForm::Exhaustive => print_all(alloc, alphabet, lengths, out),
+        RowsForm::Exhaustive => print_all(alloc, kind, letters, lengths, directions, out),
         RowsForm::Random { seed, count } => {
-            print_drawn(alloc, alphabet, lengths, seed, count, out)
+            print_drawn(alloc, kind, letters, lengths, directions, seed, count, out)
         }
     }
 }
 
-/// Prints texts of these lengths over the alphabet whose classes the word names, each under `auto`, `ltr` and `rtl`,
-/// with what the rules give: all, or so many that are drawn by a seed. The faults are the first name of no class, a
-/// word that says no lengths, why their texts can't be enumerated or drawn, refused memory, and a failed write.
-pub fn print_rows<'a, W: Write>(
+/// The letters that are asked for, which are classes. The faults are the first name of no class, and refused memory.
+fn letters_of_classes<'a>(alloc: Global, letters: RowLetters<'a>) -> Result<Vec<Letter>, Fault<'a>>
+    ensures letters { IfOk result (λ made. letters_asked file.Classes letters.entry ≡ Some made.items) }
+    ensures kind { IfOk result (λ made. All (IsLetterOf file.Classes) made.items) }
+    ensures fault { IfErr result (IsFirstFault (alphabet_steps FileKind.Classes letters.entry)) }
+{
+    match letters {
+        RowLetters::Alphabet(names) => {
+            let classes = classes_of_names(alloc, names.as_bytes())?;
+            Ok(class_letters(alloc, &classes)?)
+        }
+        RowLetters::OfForm(form) => Ok(class_letters(alloc, form.classes())?),
+    }
+}
+
+/// Prints the rows that are asked for, of characters, which these are that they say, with these lengths and directions.
+/// Their tables are read first.
+fn print_of_characters<'a, F: Files, W: Write>(
     alloc: Global,
-    form: RowsForm,
-    alphabet: &'a str,
-    lengths: &'a str,
+    asked: AskedRows<'a>,
+    characters: &[char],
+    lengths: Lengths,
+    directions: &[Direction],
+    files: &F,
+    out: &mut W,
+) -> Result<(), Fault<'a>>
+    requires kind { asked.kind ≡ FileKind.Characters }
+    requires characters { chars_asked asked.letters ≡ Some characters.now }
+    requires lengths { lengths_named asked.lengths.now ≡ Some (lengths.least, lengths.greatest) }
+    requires directions { SaysDirections asked.directions.now directions.now }
+    ensures printed { OnOk result
+        (HasPrintedRows (F.facts files.now) asked.entry (W.contents out.old) (W.contents out.new)) }
+    ensures fault { IfErr result
+        (FailsIn (rows_steps (F.facts files.now) asked.entry) (W.contents out.old) (W.contents out.new)) }
+{
+    let tables = tables_by(alloc, files, asked.tables)?;
+    let letters = character_letters(alloc, &tables, characters)?;
+    print_form(
+        alloc,
+        Kind::Characters(&tables),
+        asked.form,
+        &letters,
+        lengths,
+        directions,
+        out,
+    )
+}
+
+/// Prints the rows that are asked for, of characters, with these lengths and directions.
+fn print_rows_of_characters<'a, F: Files, W: Write>(
+    alloc: Global,
+    asked: AskedRows<'a>,
+    lengths: Lengths,
+    directions: &[Direction],
+    files: &F,
+    out: &mut W,
+) -> Result<(), Fault<'a>>
+    requires kind { asked.kind ≡ FileKind.Characters }
+    requires lengths { lengths_named asked.lengths.now ≡ Some (lengths.least, lengths.greatest) }
+    requires directions { SaysDirections asked.directions.now directions.now }
+    ensures printed { OnOk result
+        (HasPrintedRows (F.facts files.now) asked.entry (W.contents out.old) (W.contents out.new)) }
+    ensures fault { IfErr result
+        (FailsIn (rows_steps (F.facts files.now) asked.entry) (W.contents out.old) (W.contents out.new)) }
+{
+    match asked.letters {
+        RowLetters::Alphabet(codes) => {
+            let characters = chars_of_items(alloc, codes.as_bytes())?;
+            print_of_characters(alloc, asked, &characters, lengths, directions, files, out)
+        }
+        RowLetters::OfForm(form) => {
+            print_of_characters(
+                alloc,
+                asked,
+                form.characters(),
+                lengths,
+                directions,
+                files,
+                out,
+            )
+        }
+    }
+}
+
+/// Prints the rows that are asked for, with what the rules give. The faults are a word that says no lengths, one that
+/// names no directions, the first item of the alphabet that is no class or no code point, what `tables_by` ends with,
+/// why the texts can't be enumerated or drawn, refused memory, and a failed write.
+pub fn print_rows<'a, F: Files, W: Write>(
+    alloc: Global,
+    asked: AskedRows<'a>,
+    files: &F,
     out: &mut W,
 ) -> Result<(), Fault<'a>>
     ensures printed { OnOk result
-        (HasPrintedRows form alphabet.now lengths.now (W.contents out.old) (W.contents out.new)) }
+        (HasPrintedRows (F.facts files.now) asked.entry (W.contents out.old) (W.contents out.new)) }
     ensures fault { IfErr result
-        (FailsIn (rows_steps form alphabet.now lengths.now) (W.contents out.old) (W.contents out.new)) }
+        (FailsIn (rows_steps (F.facts files.now) asked.entry) (W.contents out.old) (W.contents out.new)) }
 {
-    let letters = letters_of_names(alloc, alphabet.as_bytes())?;
-    let lengths = lengths_in(lengths)?;
-    print_form(alloc, form, &letters, lengths, out)
+    let lengths = lengths_in(asked.lengths)?;
+    let directions = directions_in(alloc, asked.directions)?;
+    match asked.kind {
+        FileKind::Classes => {
+            let letters = letters_of_classes(alloc, asked.letters)?;
+            print_form(
+                alloc,
+                Kind::Classes,
+                asked.form,
+                &letters,
+                lengths,
+                &directions,
+                out,
+            )
+        }
+        FileKind::Characters => {
+            print_rows_of_characters(alloc, asked, lengths, &directions, files, out)
+        }
+    }
 }

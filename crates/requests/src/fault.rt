@@ -4,7 +4,7 @@ ghost use Rattle.std.specs.List.{concat};
 ghost use Rattle.std.specs.Io.KnownBytes.{Appends};
 ghost use Rattle.printing.specs.LevelsText.{line_feed};
 ghost use Rattle.requests.specs.FaultText.{EndsBy, SaysFault, fault_status, faulty_line_text, no_class_text};
-ghost use Rattle.requests.specs.FaultText.{no_code_point_text, no_rows_text, not_utf8_text, rows_refusal};
+ghost use Rattle.requests.specs.FaultText.{no_code_point_text, no_direction_text, no_rows_text, not_utf8_text, rows_refusal};
 ghost use Rattle.requests.specs.FaultText.{unread_text, unread_words};
 
 use crate::outcome::Ended;
@@ -34,7 +34,11 @@ pub enum Fault<'a> {
     NoCodePoint(&'a [u8]),
     /// The word for the lengths says none.
     NoLengths(&'a str),
-    /// The texts over the alphabet, of the lengths, can't be enumerated or drawn.
+    /// This item of the word for the directions is none.
+    NoDirection(&'a [u8]),
+    /// The word for the directions has none.
+    NoDirections,
+    /// The texts over the letters, of the lengths, can't be enumerated or drawn.
     NoRows(RowsFault),
     /// The file of this name can't be opened, a read of it failed, or it has more bytes than are allowed, for this
     /// reason.
@@ -171,6 +175,15 @@ fn print_no_code_point<E: Write>(err: &mut E, item: &[u8]) -> io::Result<()>
     err.write_all(b" is no code point\n")
 }
 
+/// Writes the line that says that an item is no direction.
+fn print_no_direction<E: Write>(err: &mut E, item: &[u8]) -> io::Result<()>
+    ensures { OnOk result (Appends (E.contents err.old) (E.contents err.new) (no_direction_text item.now)) }
+{
+    err.write_all(b"bidi: ")?;
+    err.write_all(item)?;
+    err.write_all(b" is no direction\n")
+}
+
 /// Writes the line that says that a word is no range of lengths.
 fn print_no_lengths<E: Write>(err: &mut E, word: &str) -> io::Result<()>
     ensures { OnOk result (Appends (E.contents err.old) (E.contents err.new)
@@ -184,7 +197,7 @@ fn refusal_in_words(fault: RowsFault) -> &'static str
     ensures { result.now ≡ rows_refusal fault }
 {
     match fault {
-        RowsFault::NoLetter => "--alphabet has no class",
+        RowsFault::NoLetter => "--alphabet or --form gives no letter of this kind",
         RowsFault::NoLength => "--length begins at 0",
         RowsFault::TooLong => "--length ends above 4095",
         RowsFault::TooMany => "there are too many texts",
@@ -201,8 +214,8 @@ fn print_no_rows<E: Write>(err: &mut E, fault: RowsFault) -> io::Result<()>
 }
 
 impl Fault<'_> {
-    /// The exit status: 2 where the words of the command line are no text, name no tables, no classes, no code points or
-    /// no rows, else 3.
+    /// The exit status: 2 where the words of the command line are no text, name no tables, no classes, no code points, no
+    /// directions or no rows, else 3.
     fn status(&self) -> u8
         ensures { result ≡ fault_status self.now }
     {
@@ -210,7 +223,7 @@ impl Fault<'_> {
             Fault::WordNotUtf8 | Fault::TablesNeeded => 2,
             Fault::ClassesTooLong | Fault::CodesTooLong => 2,
             Fault::NoClass(_) | Fault::NoCodePoint(_) | Fault::NoLengths(_) => 2,
-            Fault::NoRows(_) => 2,
+            Fault::NoDirection(_) | Fault::NoDirections | Fault::NoRows(_) => 2,
             _ => 3,
         }
     }
@@ -227,6 +240,8 @@ impl Fault<'_> {
             Fault::NoClass(name) => print_no_class(err, name),
             Fault::NoCodePoint(item) => print_no_code_point(err, item),
             Fault::NoLengths(word) => print_no_lengths(err, word),
+            Fault::NoDirection(item) => print_no_direction(err, item),
+            Fault::NoDirections => print_line(err, "bidi: --directions has no direction"),
             Fault::NoRows(fault) => print_no_rows(err, *fault),
             Fault::CannotRead { name, unread } => print_unread(err, name, *unread),
             Fault::FaultyLine { name, line, fault } => print_faulty_line(err, name, *line, *fault),

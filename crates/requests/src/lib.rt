@@ -5,6 +5,7 @@
 
 mod class_names;
 mod code_points;
+mod directions;
 mod enumerating;
 pub mod fault;
 pub mod files;

@@ -184,11 +184,7 @@ pub fn perform<'a, F: Files, W: Write>(
             file,
             most,
         } => return report_file(alloc, kind, tables, file, most, files, out),
-        Request::Rows {
-            form,
-            alphabet,
-            lengths,
-        } => print_rows(alloc, form, alphabet, lengths, out)?,
+        Request::Rows(asked) => print_rows(alloc, asked, files, out)?,
     }
     Ok(Outcome::Printed)
 }

@@ -1,5 +1,6 @@
 // What may be asked for.
 
+use rows::form::Form;
 use std::num::NonZeroU16;
 use units::level::Direction;
 
@@ -32,13 +33,37 @@ pub enum TableSource<'a> {
     BuiltIn,
 }
 
-/// Which texts over an alphabet rows have.
+/// Of which letters the texts of rows are made.
+#[derive(Clone, Copy, Debug, PartialEq, Eq)]
+pub enum RowLetters<'a> {
+    /// Those that the word says: names of classes, or code points.
+    Alphabet(&'a str),
+    /// Those of a form of hard texts.
+    OfForm(Form),
+}
+
+/// Which texts over their letters rows have.
 #[derive(Clone, Copy, Debug, PartialEq, Eq)]
 pub enum RowsForm {
     /// All of the lengths, the shorter ones first.
     Exhaustive,
     /// So many, drawn by a seed.
     Random { seed: u64, count: u64 },
+}
+
+/// Which rows are asked for.
+#[derive(Clone, Copy, Debug, PartialEq, Eq)]
+pub struct AskedRows<'a> {
+    /// The kind of the file that they make.
+    pub kind: FileKind,
+    /// The tables by which rows of characters are right; those of classes need none.
+    pub tables: TableSource<'a>,
+    pub letters: RowLetters<'a>,
+    pub form: RowsForm,
+    /// The word for the lengths of the texts.
+    pub lengths: &'a str,
+    /// The word for the directions under which each text stands.
+    pub directions: &'a str,
 }
 
 /// What is asked for. Files and folders are named as they were given.
@@ -76,11 +101,6 @@ pub enum Request<'a> {
         file: &'a str,
         most: u64,
     },
-    /// Print texts of these lengths over the alphabet of classes whose names stand in the word, all or some that are
-    /// drawn, as a conformance file of which a judge says yes.
-    Rows {
-        form: RowsForm,
-        alphabet: &'a str,
-        lengths: &'a str,
-    },
+    /// Print these rows, as a conformance file of which a judge says yes.
+    Rows(AskedRows<'a>),
 }

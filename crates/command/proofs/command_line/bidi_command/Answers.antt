@@ -5,17 +5,24 @@ use Rattle.clap.specs.Simple.{App, app_of, with_subcommand}
 use Rattle.clap.specs.Walk.{Text}
 use Rattle.clap.specs.declared.builder.command.Command.{Command}
 use Rattle.clap.specs.declared.builder.command.Command.TheViews.{out-Command as fields_of}
-use Rattle.command.specs.CommandLine.{Choice, bidi_top, direction_words, explain_app, form_words, judge_app, kind_words, levels_app, reorder_app, report_app, rows_app, words_of}
+use Rattle.command.specs.CommandLine.{Choice, HasRowWords, bidi_top, direction_words, explain_app, judge_app, kind_words, levels_app, reorder_app, report_app, rows_app, words_of}
 use Rattle.command.proofs.command_line.bidi_command.Goals as goal
 
--- with a subcommand whose choice is among these words
+-- with a subcommand whose choices have such words
+adds_with : {E C : Type 0} (r : Result Command E) (HasWords : C → Type 0) (app : C → App) (old new : Command) (top : App)
+    → IfOk r (λ command. (choices : C) × HasWords choices × (app_of command ≡ app choices))
+    → IfOk r (λ command. (fields_of command).has_globals ≡ false) → app_of old ≡ top → IsOkAnd r (λ made. AddsSubcommand old made new)
+    → (choices : C) × HasWords choices × (app_of new ≡ with_subcommand top (app choices).top)
+adds_with (Ok made) HasWords app old new top named local e h =
+    (named.0, named.1, h.shape local ∙ ap₂ with_subcommand e (ap (λ (a : App). a.top) named.2))
+adds_with (Err error) HasWords app old new top named local e h = absurd h
+
+-- with one whose choice is among these words
 adds : {E : Type 0} (r : Result Command E) (words : List Text) (app : Choice → App) (old new : Command) (top : App)
     → IfOk r (λ command. (choice : Choice) × (words_of choice ≡ words) × (app_of command ≡ app choice))
     → IfOk r (λ command. (fields_of command).has_globals ≡ false) → app_of old ≡ top → IsOkAnd r (λ made. AddsSubcommand old made new)
     → (choice : Choice) × (words_of choice ≡ words) × (app_of new ≡ with_subcommand top (app choice).top)
-adds (Ok made) words app old new top named local e h =
-    (named.0, named.1, h.shape local ∙ ap₂ with_subcommand e (ap (λ (a : App). a.top) named.2))
-adds (Err error) words app old new top named local e h = absurd h
+adds r words app old new top named local e h = adds_with r (λ choice. words_of choice ≡ words) app old new top named local e h
 
 -- with a subcommand without globals
 stays_local : {E : Type 0} (r : Result Command E) (old new : Command) → IfOk r (λ command. (fields_of command).has_globals ≡ false)
@@ -36,7 +43,7 @@ returns-clause-app c =
     let report = adds c.report_command.result kind_words report_app _ _ _ c.report_command.ensures.app
     c.report_command.ensures.local judge.2 c.in_ok-with_report.ensures in
     IfOk-weaker c.with_made-6.result _ _ (λ command h.
-    let rows = adds c.rows_command.result form_words rows_app _ command _ c.rows_command.ensures.app
+    let rows = adds_with c.rows_command.result HasRowWords rows_app _ command _ c.rows_command.ensures.app
     c.rows_command.ensures.local report.2 h in
     record {
       choices = record {

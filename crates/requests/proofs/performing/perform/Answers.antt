@@ -22,5 +22,5 @@ returns-in-Judge-clause-fault g c =
 pub returns-in_err-print_rows-in-Rows-clause-fault : goal.returns-in_err-print_rows-in-Rows-clause-fault
 returns-in_err-print_rows-in-Rows-clause-fault g c =
     rw c.in-Rows.is (handed_fail (g.F.Files.facts c.args.files.now) (g.W.Write.contents c.args.out.now) (g.W.Write.contents c.print_rows.new.out)
-    (requested.Rows c.in-Rows.form c.in-Rows.alphabet c.in-Rows.lengths) _ _
+    (requested.Rows c.in-Rows.asked) _ _
     c.from_residual-in_err-print_rows-in-Rows.ensures.1 c.in_err-print_rows-in-Rows.ensures.fault)

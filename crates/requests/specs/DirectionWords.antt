@@ -1,0 +1,34 @@
+-- The directions that a word of the command line names.
+use Rattle.std.specs.Prelude.{◌≡◌, ◌<◌, Bool, ℕ, List, [], ◌∷◌, length, Option, Some, find}
+use Rattle.std.specs.Str.{bytes_eq}
+use Rattle.units.specs.Text.{each_read, items_of}
+use Rattle.units.specs.declared.level.Direction.{Direction}
+use Rattle.units.specs.declared.level.Direction.TheVariants.{Auto, Ltr, Rtl, AutoRtl}
+use Rattle.bidtests.specs.VerdictText.{direction_word}
+use Rattle.requests.specs.ItemWords.{first_unread}
+use Rattle.requests.specs.declared.fault.Fault.{Fault}
+use Rattle.requests.specs.declared.fault.Fault.TheVariants.{NoDirection, NoDirections, OutOfMemory}
+
+-- the word for this direction
+abbrev pub is_direction_word : List ℕ → Direction → Bool
+is_direction_word word direction = bytes_eq (direction_word direction) word
+
+-- the direction that a word names: `auto`, `ltr`, `rtl` or `auto-rtl`
+abbrev pub direction_of : List ℕ → Option Direction
+direction_of word = find (is_direction_word word) (Auto ∷ Ltr ∷ Rtl ∷ AutoRtl ∷ [])
+
+-- the directions that blanks separate, or none where one of the items is no direction
+abbrev pub directions_named : List ℕ → Option (List Direction)
+directions_named word = each_read direction_of (items_of word)
+
+-- a word names these directions, one or more
+pub record SaysDirections (word : List ℕ) (directions : List Direction) : Type 0 where
+  pub named : directions_named word ≡ Some directions
+  pub some : 0 < length directions
+
+-- when a fault ends the reading of directions: the first item that is none, a word without an item, or memory was refused
+abbrev pub EndsDirections : List ℕ → Fault → Type 0
+EndsDirections word (NoDirection item) = first_unread direction_of (items_of word) ≡ Some item.now
+EndsDirections word NoDirections = directions_named word ≡ Some []
+EndsDirections word OutOfMemory = Unit {0}
+EndsDirections word _ = ⊥

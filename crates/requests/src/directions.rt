@@ -1,0 +1,45 @@
+// Directions read from a word of the command line.
+ghost use Rattle.std.specs.Prelude.{IfOk, IfErr};
+ghost use Rattle.requests.specs.DirectionWords.{EndsDirections, SaysDirections};
+
+use crate::fault::Fault;
+use crate::items::{ItemFault, ReadsItem, read_all};
+use std::alloc::Global;
+use units::level::Direction;
+
+/// The word for a direction.
+#[derive(Drop)]
+struct DirectionWords;
+
+impl ReadsItem<Direction> for DirectionWords {
+    ghost use Rattle.requests.specs.DirectionWords.{direction_of};
+
+    ghost reading = { λ _. direction_of };
+
+    fn read(&self, item: &[u8]) -> Option<Direction> {
+        match item {
+            b"auto" => Some(Direction::Auto),
+            b"ltr" => Some(Direction::Ltr),
+            b"rtl" => Some(Direction::Rtl),
+            b"auto-rtl" => Some(Direction::AutoRtl),
+            _ => None,
+        }
+    }
+}
+
+/// The directions that a word names, with blanks between them: one or more. The faults are the first item that is none,
+/// a word without an item, and refused memory.
+pub fn directions_in<'a>(alloc: Global, word: &'a str) -> Result<Vec<Direction>, Fault<'a>>
+    ensures directions { IfOk result (λ directions. SaysDirections word.now directions.items) }
+    ensures fault { IfErr result (EndsDirections word.now) }
+{
+    let directions = match read_all(alloc, &DirectionWords, word.as_bytes()) {
+        Ok(directions) => directions,
+        Err(ItemFault::Unread(item)) => return Err(Fault::NoDirection(item)),
+        Err(ItemFault::Memory) => return Err(Fault::OutOfMemory),
+    };
+    if directions.is_empty() {
+        return Err(Fault::NoDirections);
+    }
+    Ok(directions)
+}
