@@ -6,11 +6,13 @@ usage: tools/try_edits.py [--all] [--read] [CRATE | CRATE/EDIT ..]      (at the 
 It takes the edits of crates/CRATE/wrong/, with --all those of must-fail/ too; an edit that is named it takes from
 either. With --read it checks nothing, and says which edits can't be applied to the files as they are. Callers rest on
 contracts alone, so a wrong body hides no other: the edits of a crate that change different functions go into one copy,
-which is checked once. An edit counts as refused there if a goal of the function that it changes is open, by a proof
-file of that function or by the check's own search. What was not refused so, as where the function waits for a wrong
-one that it calls, goes into a further round, and at last is tried singly, as rt ci does. A function that no edit of a
-round changes must be proved there. For each edit a line is printed, and the last line is 'N passed, M failed'; the
-status is 1 where one failed.
+of which these functions are checked, and what they call, in one check. An edit counts as refused there if a goal of the
+function that it changes is open, by a proof file of that function or by the check's own search. What was not refused
+so, as where the function waits for a wrong one that it calls, goes into a further round, and then is tried singly: in
+the same way, and at last over the whole crate, as rt ci does. A function that no edit of a round changes must be proved
+where it is checked, and at the end the right code of all functions that were changed, over what the rounds kept. All
+else is rt ci's to prove. For each edit a line is printed, and the last line is 'N passed, M failed'; the status is 1
+where one failed.
 
 A crate is checked over a copy of what rt check kept of it in out/, or from nothing. The libraries below are those that
 rt check or rt lib built, or those that rt ci left; where neither fit the files, rt builds them. As many crates are
@@ -179,19 +181,39 @@ def is_part(path, functions):
     return any(path[: len(it)] == it for it in functions)
 
 
-def try_round(crate, edits, kept):
-    """Checks the crate once with all these edits. Returns what refuses each, and what should not have been refused."""
+def words_of(edits):
+    """Returns the words by which a check looks only at the functions that these edits change; where one changes no
+    function, those by which it looks at the whole crate."""
+    if not all(it.functions for it in edits):
+        return FLAGS
+    paths = sorted({"::".join(path) for it in edits for path in it.functions})
+    return [*FLAGS, *(word for path in paths for word in ("--only", path))]
+
+
+def check(crate, edits, kept):
+    """Checks the functions that these edits change, with all of them. Returns its status, None where it did not reach
+    the prover, and what it said."""
     texts = applied(crate, edits)
-    ran = rt.checked(crate, texts, FLAGS, kept)
+    ran = rt.checked(crate, texts, words_of(edits), kept)
     lines = ran.stdout.rstrip("\n").split("\n")
     reads = not any(rt.unread(it, texts) for it in lines) and not rt.rtlib.STALE.search(ran.stdout)
-    if ran.returncode != 1 or not lines[-1].startswith("logic=not-proved") or not reads:
+    return (ran.returncode if reads and lines[-1].startswith("only=") else None), ran.stdout
+
+
+def own_goals(edit, goals):
+    """Returns those of the open goals that are of a function that the edit changes."""
+    return [goal for path, goal in goals.items() if is_part(path, edit.functions)]
+
+
+def try_round(crate, edits, kept):
+    """Checks once what all these edits change. Returns what refuses each, and what should not have been refused."""
+    status, said = check(crate, edits, kept)
+    if status != 1:
         return {}, []
-    goals = open_goals(ran.stdout)
-    own = {it.label: [goal for path, goal in goals.items() if is_part(path, it.functions)] for it in edits}
+    goals = open_goals(said)
     changed = set().union(*(it.functions for it in edits))
     others = ["::".join(path) for path in goals if not is_part(path, changed)]
-    return {label: goals[0] for label, goals in own.items() if goals}, others
+    return {it.label: own[0] for it in edits if (own := own_goals(it, goals))}, others
 
 
 @contextlib.contextmanager
@@ -239,17 +261,24 @@ def try_edits(crate, files):
         if it.fault:
             tell(False, f"{it.label}: BAD EDIT: {it.fault}")
     with tempfile.TemporaryDirectory(prefix="rt-kept-") as shared:
-        for it in try_joined(crate, [it for it in edits if not it.fault], shared, tell):
+        tried = [it for it in edits if not it.fault]
+        for it in try_joined(crate, tried, shared, tell):
             with kept_work(crate, shared) as kept:
                 is_well, text = try_alone(crate, it, kept)
             tell(is_well, f"{it.label}: (singly) {text}")
-        if os.listdir(shared) and rt.checked(crate, {}, FLAGS, shared).returncode:
+        if os.listdir(shared) and rt.checked(crate, {}, words_of(tried), shared).returncode:
             tell(False, f"{crate.name}: NOT PROVED over what its rounds kept, so what they refused says nothing")
     return counts
 
 
 def try_alone(crate, edit, kept):
-    """Tries one edit. Returns whether the prover refuses it for what a contract says, and what to say."""
+    """Tries one edit. Returns whether the prover refuses it for what it says, and what to say."""
+    if edit.functions:
+        status, said = check(crate, [edit], kept)
+        if status == 0:
+            return False, "NOT REFUSED: what it changes is still proved"
+        if status == 1 and (own := own_goals(edit, open_goals(said))):
+            return True, f"refused, as it must be: {own[0]}"
     is_well, text = rt.must_fail(crate, edit.file, FLAGS, kept)
     is_by_contract = "only because a proof file names" not in text
     return is_well and is_by_contract, text.partition(".edit: ")[2]
