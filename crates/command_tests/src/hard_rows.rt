@@ -41,11 +41,11 @@ fn prints_rows_by_the_tables_of_a_folder(rt: HostRuntime) {
         "--form",
         "exhaustive",
         "--alphabet",
-        "0627",
+        "05D2",
         "--length",
         "1",
     ];
-    let small = b"0627;2;0;0;0\n0627;0;0;0;0\n0627;1;1;2;0\n";
+    let small = b"05D2;2;0;0;0\n05D2;0;0;0;0\n05D2;1;1;2;0\n";
     assert_run(
         &rt,
         rt.alloc(),
@@ -53,8 +53,8 @@ fn prints_rows_by_the_tables_of_a_folder(rt: HostRuntime) {
         &tables_and(b""),
         Ending::prints(0, small),
     );
-    let built_in = over_characters("0627", "auto ltr rtl");
-    let printed = b"0627;2;1;1;0\n0627;0;0;1;0\n0627;1;1;1;0\n";
+    let built_in = over_characters("05D2", "auto ltr rtl");
+    let printed = b"05D2;2;1;1;0\n05D2;0;0;1;0\n05D2;1;1;1;0\n";
     assert_run(&rt, rt.alloc(), &built_in, &[], Ending::prints(0, printed));
 }
 
