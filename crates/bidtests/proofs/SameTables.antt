@@ -29,7 +29,7 @@ verdict-with : (limits : LimitsOf) (kind : Kind) (bytes : List ℕ) → verdict_
 verdict-with limits Classes bytes = refl
 verdict-with limits (Characters tables) bytes = refl
 
-in-force-as : (kind other : Kind) → tables_of other ≡ tables_of kind → (levels : Option (List (Option ℕ))) (order : Option (List ℕ)) (lines : List (List ℕ))
+pub in-force-as : (kind other : Kind) → tables_of other ≡ tables_of kind → (levels : Option (List (Option ℕ))) (order : Option (List ℕ)) (lines : List (List ℕ))
     → AreInForce kind levels order lines → AreInForce other levels order lines
 in-force-as Classes Classes e levels order lines h = h
 in-force-as Classes (Characters tables) e levels order lines h = tt
@@ -37,7 +37,7 @@ in-force-as (Characters tables) Classes e levels order lines h = absurd (cc)
 in-force-as (Characters tables) (Characters others) e levels order lines h = tt
 
 module _ (limits : LimitsOf) (kind other : Kind) (same : tables_of other ≡ tables_of kind) where
-  findings-as : (lines : List (List ℕ)) → findings_by kind lines ≡ findings_by other lines
+  pub findings-as : (lines : List (List ℕ)) → findings_by kind lines ≡ findings_by other lines
   findings-as lines = findings-with kind lines ∙ ap (λ t. findings_with t lines) (sym same) ∙ sym (findings-with other lines)
 
   behind-as : (s : Carried) (lines : List (List ℕ)) → IsBehind limits kind s lines → IsBehind limits other s lines

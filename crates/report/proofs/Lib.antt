@@ -2,6 +2,7 @@ pub mod Amounts
 pub mod Counting
 pub mod LineSteps
 pub mod ByteSteps
+pub mod SameReports
 pub mod Joined
 pub mod Holding
 pub mod Printing

@@ -11,5 +11,6 @@ pub mod print;
 pub mod report;
 pub mod report_text;
 mod row_cases;
+pub mod state;
 pub mod tally;
 pub mod wrong_case;

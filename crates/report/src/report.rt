@@ -1,16 +1,12 @@
 //! The report on a test file of either kind.
-ghost use Rattle.std.specs.Prelude.{◌≡◌, ◌≤◌, ◌<◌, ℕ, List, [], ◌++◌, IfOk, IfSome, OnErr, OnOk, length, take};
-ghost use Rattle.std.specs.Result.{result_err};
-ghost use Rattle.units.specs.LineAnswers.{StepIsShort};
+ghost use Rattle.std.specs.Prelude.{◌≡◌, ◌≤◌, ◌<◌, ℕ, List, [], ◌++◌, IfOk, length, take};
 ghost use Rattle.units.specs.Limits.{LimitsOf};
-ghost use Rattle.units.specs.Text.{longest_line};
 ghost use Rattle.bidtests.specs.declared.kind.Kind.{Kind as FileKind};
 ghost use Rattle.report.specs.declared.wrong_case.WrongCase.{WrongCase as Told};
 ghost use Rattle.report.specs.FileReports.{is_right, report_of};
-ghost use Rattle.report.specs.Reporting.{IsAfterLast, IsAfterStep, HasNothingNew, Reports};
-ghost use Rattle.report.specs.Reporting.{malformed_by, malformed_last, report_at_end};
+ghost use Rattle.report.specs.Reporting.{Reports, report_at_end};
 
-use crate::line_report::LineReport;
+use crate::state::ReportState;
 use crate::tally::Tally;
 use crate::wrong_case::WrongCase;
 use bidtests::kind::Kind;
@@ -18,7 +14,6 @@ use bidtests::verdict::Cause;
 use std::alloc::Global;
 use std::marker::Model;
 use units::limits::Limits;
-use units::line_cut::{LineCut, Step};
 use units::memory::Memory;
 
 /// Reports on the bytes of a test file, in whatever pieces they come: its wrong cases, line by line, and their counts.
@@ -28,55 +23,16 @@ use units::memory::Memory;
 #[derive(Drop)]
 pub struct Report<'t> {
     kind: Kind<'t>,
-    cutter: LineCut,
-    lines: LineReport,
-    malformed: Option<(u64, Cause)>,
+    state: ReportState,
 }
 
 impl<'t> Model for Report<'t> {
     ghost use Rattle.report.specs.Reporting.{Reporting};
+    ghost use Rattle.report.specs.Standing.{reporting};
 
     ghost Value = { Reporting };
 
-    ghost view = { λ s. record { kind = s.kind; cutting = s.cutter; lines = s.lines; malformed = s.malformed } };
-}
-
-/// Reports on the line that a step ends, if it ends one. The error is its number and cause if it is malformed.
-fn report_step(kind: Kind<'_>, lines: &mut LineReport, step: Step<'_>) -> Result<(), (u64, Cause)>
-    requires short { StepIsShort step }
-    requires none { lines.old.found ≡ [] }
-    ensures malformed { result_err result ≡ malformed_by kind.entry lines.old step.entry }
-    ensures after { OnOk result (IsAfterStep kind.entry step.entry lines.old lines.new) }
-    ensures ended { OnErr result (HasNothingNew lines.old lines.new) }
-{
-    match step {
-        Step::More => Ok(()),
-        Step::Line { number, text } => lines
-            .report_line(kind, number, text)
-            .map_err(|cause| (number, cause)),
-        Step::TooLong { number } => Err((number, Cause::LineTooLong)),
-    }
-}
-
-/// Reports on the line that has begun, if one has, at the end of a file. The error is its number and cause if it is
-/// malformed.
-fn report_last(
-    kind: Kind<'_>,
-    lines: &mut LineReport,
-    last: Option<(u64, &[u8])>,
-) -> Result<(), (u64, Cause)>
-    requires short { IfSome last (λ line. length line.1.now ≤ longest_line) }
-    requires none { lines.old.found ≡ [] }
-    ensures malformed { result_err result ≡ malformed_last kind.entry lines.old last.entry }
-    ensures after { OnOk result (IsAfterLast kind.entry last.entry lines.old lines.new) }
-    ensures ended { OnErr result (HasNothingNew lines.old lines.new) }
-{
-    match last {
-        None => Ok(()),
-        Some((number, text)) => lines
-            .report_line(kind, number, text)
-            .map_err(|cause| (number, cause)),
-    }
+    ghost view = { λ s. reporting s.kind s.state };
 }
 
 impl<'t> Report<'t> {
@@ -86,13 +42,8 @@ impl<'t> Report<'t> {
         ensures stands { IfOk result (λ report. Reports limits kind.entry report [] []) }
         ensures none { IfOk result (λ report. report.lines.found ≡ []) }
     {
-        let lines = LineReport::new(alloc, limits)?;
-        Ok(Report {
-            kind,
-            cutter: LineCut::new(),
-            lines,
-            malformed: None,
-        })
+        let state = ReportState::new(alloc, limits)?;
+        Ok(Report { kind, state })
     }
 
     /// Takes the next bytes of the file, through the end of a line at most, and answers how many: call it until the
@@ -105,20 +56,14 @@ impl<'t> Report<'t> {
             → Reports limits kind self.old told b
             → Reports limits kind self.new (told ++ self.new.lines.found) (b ++ take result piece.now) }
     {
-        self.lines.forget();
-        if self.malformed.is_some() {
-            return piece.len();
-        }
-        let (used, step) = self.cutter.take(piece);
-        self.malformed = report_step(self.kind, &mut self.lines, step).err();
-        used
+        self.state.take(self.kind, piece)
     }
 
     /// The wrong cases of the line that the last bytes ended, in the order auto, LTR, RTL, AutoRtl.
     pub fn found(&self) -> &[WrongCase]
         ensures { result.now ≡ self.now.lines.found }
     {
-        self.lines.found()
+        self.state.found()
     }
 
     /// Takes the end of the file: the line that has begun ends too. It takes no memory and always succeeds.
@@ -126,33 +71,25 @@ impl<'t> Report<'t> {
         ensures { (limits : LimitsOf) (kind : FileKind) (told : List Told) (b : List ℕ)
             → Reports limits kind self.entry told b → report_of limits kind b ≡ report_at_end told result }
     {
-        let Report {
-            kind,
-            cutter,
-            mut lines,
-            mut malformed,
-        } = self;
-        lines.forget();
-        if malformed.is_none() {
-            malformed = report_last(kind, &mut lines, cutter.finish()).err();
-        }
-        Ended { lines, malformed }
+        let Report { kind, mut state } = self;
+        state.finish(kind);
+        Ended { state }
     }
 }
 
 /// What a report has come to at the end of its file.
 #[derive(Drop)]
 pub struct Ended {
-    lines: LineReport,
-    malformed: Option<(u64, Cause)>,
+    state: ReportState,
 }
 
 impl Model for Ended {
     ghost use Rattle.report.specs.Reporting.{EndedReport};
+    ghost use Rattle.report.specs.Standing.{ended_in};
 
     ghost Value = { EndedReport };
 
-    ghost view = { λ s. record { found = s.lines.found; tally = s.lines.tally; malformed = s.malformed } };
+    ghost view = { λ s. ended_in s.state };
 }
 
 impl Ended {
@@ -160,14 +97,14 @@ impl Ended {
     pub fn found(&self) -> &[WrongCase]
         ensures { result.now ≡ self.now.found }
     {
-        self.lines.found()
+        self.state.found()
     }
 
     /// The counts of the file, up to its first malformed line.
     pub fn tally(&self) -> Tally
         ensures { result ≡ self.now.tally }
     {
-        self.lines.tally()
+        self.state.tally()
     }
 
     /// Whether the file is right: no line is malformed, and no case wrong.
@@ -175,13 +112,13 @@ impl Ended {
         ensures { (limits : LimitsOf) (kind : FileKind) (told : List Told) (b : List ℕ)
             → report_of limits kind b ≡ report_at_end told self.now → result ≡ is_right (report_of limits kind b) }
     {
-        self.lines.tally().wrong_cases == 0 && self.malformed.is_none()
+        self.state.tally().wrong_cases == 0 && self.state.malformed().is_none()
     }
 
     /// The number of the first malformed line and why it is malformed, if there is one.
     pub fn malformed(&self) -> Option<(u64, Cause)>
         ensures { result ≡ self.now.malformed }
     {
-        self.malformed
+        self.state.malformed()
     }
 }

@@ -1,0 +1,150 @@
+//! What a report has come to, apart from the tables that it borrows.
+ghost use Rattle.std.specs.Prelude.{◌≡◌, ◌≤◌, ◌<◌, ℕ, List, [], Option, IfOk, IfSome, OnErr, OnOk, length, take};
+ghost use Rattle.std.specs.Result.{result_err};
+ghost use Rattle.units.specs.LineAnswers.{StepIsShort};
+ghost use Rattle.units.specs.Limits.{LimitsOf};
+ghost use Rattle.units.specs.Text.{longest_line};
+ghost use Rattle.ucdfiles.specs.Tables.{TablesOf};
+ghost use Rattle.bidtests.specs.Standing.{tables_of};
+ghost use Rattle.report.specs.declared.wrong_case.WrongCase.{WrongCase as Told};
+ghost use Rattle.report.specs.FileReports.{report_of};
+ghost use Rattle.report.specs.Reporting.{IsAfterLast, IsAfterStep, HasNothingNew};
+ghost use Rattle.report.specs.Reporting.{malformed_by, malformed_last, report_at_end};
+ghost use Rattle.report.specs.Standing.{HasToldFor, TakesIn, ended_in};
+
+use crate::line_report::LineReport;
+use crate::tally::Tally;
+use crate::wrong_case::WrongCase;
+use bidtests::kind::Kind;
+use bidtests::verdict::Cause;
+use std::alloc::Global;
+use std::marker::Model;
+use units::limits::Limits;
+use units::line_cut::{LineCut, Step};
+use units::memory::Memory;
+
+/// What a report has come to, for a caller that keeps it while it borrows no tables: each call is handed the kind of
+/// file again, with the same tables. It holds one line, one row's text, the lists in force and the wrong cases of one
+/// row. Contracts say by which limits it lays out, which bytes it stands for (those that were handed over, joined), and
+/// which wrong cases it has told.
+#[derive(Drop)]
+pub struct ReportState {
+    cutter: LineCut,
+    lines: LineReport,
+    malformed: Option<(u64, Cause)>,
+}
+
+impl Model for ReportState {
+    ghost use Rattle.report.specs.Standing.{StateOf};
+
+    ghost Value = { StateOf };
+
+    ghost view = { λ s. record { cutting = s.cutter; lines = s.lines; malformed = s.malformed } };
+}
+
+/// Reports on the line that a step ends, if it ends one. The error is its number and cause if it is malformed.
+fn report_step(kind: Kind<'_>, lines: &mut LineReport, step: Step<'_>) -> Result<(), (u64, Cause)>
+    requires short { StepIsShort step }
+    requires none { lines.old.found ≡ [] }
+    ensures malformed { result_err result ≡ malformed_by kind.entry lines.old step.entry }
+    ensures after { OnOk result (IsAfterStep kind.entry step.entry lines.old lines.new) }
+    ensures ended { OnErr result (HasNothingNew lines.old lines.new) }
+{
+    match step {
+        Step::More => Ok(()),
+        Step::Line { number, text } => lines
+            .report_line(kind, number, text)
+            .map_err(|cause| (number, cause)),
+        Step::TooLong { number } => Err((number, Cause::LineTooLong)),
+    }
+}
+
+/// Reports on the line that has begun, if one has, at the end of a file. The error is its number and cause if it is
+/// malformed.
+fn report_last(
+    kind: Kind<'_>,
+    lines: &mut LineReport,
+    last: Option<(u64, &[u8])>,
+) -> Result<(), (u64, Cause)>
+    requires short { IfSome last (λ line. length line.1.now ≤ longest_line) }
+    requires none { lines.old.found ≡ [] }
+    ensures malformed { result_err result ≡ malformed_last kind.entry lines.old last.entry }
+    ensures after { OnOk result (IsAfterLast kind.entry last.entry lines.old lines.new) }
+    ensures ended { OnErr result (HasNothingNew lines.old lines.new) }
+{
+    match last {
+        None => Ok(()),
+        Some((number, text)) => lines
+            .report_line(kind, number, text)
+            .map_err(|cause| (number, cause)),
+    }
+}
+
+impl ReportState {
+    /// Before the first byte of a file of either kind, to lay out by these limits. All memory is taken here: `Memory`
+    /// is answered where some of it was refused.
+    pub fn new(alloc: Global, limits: Limits) -> Result<ReportState, Memory>
+        ensures stands { IfOk result (λ state. (tables : Option TablesOf) → HasToldFor limits tables state [] []) }
+        ensures none { IfOk result (λ state. state.lines.found ≡ []) }
+    {
+        let lines = LineReport::new(alloc, limits)?;
+        Ok(ReportState {
+            cutter: LineCut::new(),
+            lines,
+            malformed: None,
+        })
+    }
+
+    /// Takes the next bytes of a file of this kind, through the end of a line at most, and answers how many: call it
+    /// until the piece is used up, and look at `found` each time. Where pieces begin and end changes nothing. Behind a
+    /// malformed line further bytes change nothing. It takes no memory and always succeeds.
+    pub fn take(&mut self, kind: Kind<'_>, piece: &[u8]) -> usize
+        ensures used { result ≤ length piece.now }
+        ensures some { 0 < length piece.now → 0 < result }
+        ensures reports { TakesIn (tables_of kind.entry) self.old (take result piece.now) self.new }
+    {
+        self.lines.forget();
+        if self.malformed.is_some() {
+            return piece.len();
+        }
+        let (used, step) = self.cutter.take(piece);
+        self.malformed = report_step(kind, &mut self.lines, step).err();
+        used
+    }
+
+    /// The wrong cases of the line that the last bytes ended, or the end of the file, in the order auto, LTR, RTL,
+    /// AutoRtl.
+    pub fn found(&self) -> &[WrongCase]
+        ensures { result.now ≡ self.now.lines.found }
+    {
+        self.lines.found()
+    }
+
+    /// Takes the end of a file of this kind: the line that has begun ends too. What is told then are the wrong cases of
+    /// a last line that no LF ends, the counts of the file, and its first malformed line. It takes no memory and always
+    /// succeeds. Which bytes the state stands for afterwards isn't said.
+    pub fn finish(&mut self, kind: Kind<'_>)
+        ensures { (limits : LimitsOf) (told : List Told) (b : List ℕ)
+            → HasToldFor limits (tables_of kind.entry) self.old told b
+            → report_of limits kind.entry b ≡ report_at_end told (ended_in self.new) }
+    {
+        self.lines.forget();
+        if self.malformed.is_none() {
+            self.malformed = report_last(kind, &mut self.lines, self.cutter.finish()).err();
+        }
+    }
+
+    /// The counts of the lines so far, up to the first malformed one.
+    pub fn tally(&self) -> Tally
+        ensures { result ≡ self.now.lines.tally }
+    {
+        self.lines.tally()
+    }
+
+    /// The number of the first malformed line and why it is malformed, if there is one.
+    pub fn malformed(&self) -> Option<(u64, Cause)>
+        ensures { result ≡ self.now.malformed }
+    {
+        self.malformed
+    }
+}
