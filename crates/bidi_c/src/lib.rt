@@ -1,5 +1,5 @@
-//! The engine for programs in C: tables, rooms and judges behind handles, texts laid out, their layouts
-//! copied out, test files judged, and verdicts said.
+//! The engine for programs in C: tables, rooms, judges and reports behind handles, texts laid out, their layouts copied
+//! out, test files judged and reported on, and verdicts said.
 //!
 //! Each export is total for handles that are all zero or were made by these calls. docs/C.md is their manual.
 #![tactic(auto)]
@@ -14,6 +14,7 @@ pub mod laying_out;
 pub mod looking_up;
 pub mod properties;
 mod putting;
+pub mod report_calls;
 pub mod room_calls;
 pub mod tables_calls;
 pub mod verdict_calls;

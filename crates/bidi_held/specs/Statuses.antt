@@ -3,7 +3,7 @@ use Rattle.std.specs.Prelude.{ℕ, ◌≡◌, Result, Ok, Err, IfErr, OnErr, OnO
 use Rattle.std.specs.Option.{unwrap_or}
 use Rattle.ucdfiles.specs.Faults.{line_of_fault}
 use Rattle.bidi_held.specs.declared.refusal.Refusal.{Refusal}
-use Rattle.bidi_held.specs.declared.refusal.Refusal.TheVariants.{Memory, TooBig, TooLong, NoCharacter, NoClass, BreakOutOfRange, BreakNotRising, NoDirection, NoRoom, NoTables, NoLine, NoPlace, NoJudge, Depth, Brackets, ClassFile, BracketFile, MirrorFile, NoVerdict, TooSmall, LineNotForward, LineBeyondText, LineCrossesParagraph, IllFormed, BreakInside}
+use Rattle.bidi_held.specs.declared.refusal.Refusal.TheVariants.{Memory, TooBig, TooLong, NoCharacter, NoClass, BreakOutOfRange, BreakNotRising, NoDirection, NoRoom, NoTables, NoLine, NoPlace, NoJudge, Depth, Brackets, ClassFile, BracketFile, MirrorFile, NoVerdict, TooSmall, LineNotForward, LineBeyondText, LineCrossesParagraph, IllFormed, BreakInside, NoReport, NoCase, CasesLeft}
 
 -- the number that a call answers; 0 is that it is done
 abbrev pub code_of : Refusal → ℕ
@@ -32,6 +32,9 @@ code_of LineBeyondText = 22
 code_of LineCrossesParagraph = 23
 code_of (IllFormed offset) = 24
 code_of (BreakInside index) = 25
+code_of NoReport = 26
+code_of NoCase = 27
+code_of CasesLeft = 28
 
 -- the index or offset that it names, or the line, from 1; 0 where it names none
 abbrev pub place_of : Refusal → ℕ

@@ -7,6 +7,7 @@ ghost use Rattle.bidi_held.specs.Holdings.{capacity_in, encoded_in, tables_in, l
 use crate::judge::TableJudge;
 use crate::refusal::Refusal;
 use crate::room::Room;
+use crate::table_report::TableReport;
 use encoded::room::Room as EncodedRoom;
 use lines::layout::Layout;
 use std::alloc::Global;
@@ -16,7 +17,7 @@ use ucdfiles::tables::Tables;
 /// What a handle may hold.
 #[derive(Drop)]
 pub enum Held {
-    /// The tables of the three property files. Other handles and judges may hold the same ones.
+    /// The tables of the three property files. Other handles, judges and reports may hold the same ones.
     Tables(Arc<Tables, Global>),
     /// Room for texts of code points or classes, with the layout of the last one.
     Room(Room),
@@ -24,6 +25,8 @@ pub enum Held {
     Encoded(EncodedRoom),
     /// A judge of a test file, with its tables. It is boxed because it has room for a line within it.
     Judge(Box<TableJudge>),
+    /// A report on a test file, with its tables, boxed as a judge is. `report_held` does the work on it.
+    Report(Box<TableReport>),
 }
 
 impl Held {

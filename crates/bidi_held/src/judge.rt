@@ -21,8 +21,8 @@ pub struct TableJudge {
     pub(crate) state: JudgeState,
 }
 
-/// The kind of the file that is judged by these tables, or without tables.
-fn kind_by(tables: &Option<Arc<Tables, Global>>) -> Kind<'_>
+/// The kind of the file that is judged or reported on by these tables, or without tables.
+pub fn kind_by(tables: &Option<Arc<Tables, Global>>) -> Kind<'_>
     ensures { tables_of result ≡ option_map arc_value tables.now }
 {
     match tables {

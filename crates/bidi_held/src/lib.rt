@@ -1,5 +1,5 @@
-//! What a handle for C holds, and the work on it: tables, rooms and judges, texts laid out in rooms, layouts written
-//! out, test files judged, and the lines that say verdicts. No pointer stands here.
+//! What a handle for C holds, and the work on it: tables, rooms, judges and reports, texts laid out in rooms, layouts
+//! written out, test files judged, and the lines that say verdicts. No pointer stands here.
 #![tactic(auto)]
 
 pub mod base;
@@ -14,6 +14,7 @@ pub mod read_tables;
 pub mod refusal;
 pub mod room;
 pub mod standard_tables;
+pub mod table_report;
 mod text_out;
 pub mod told_verdict;
 pub mod verdict_text;

@@ -60,6 +60,12 @@ pub enum Refusal {
     IllFormed(usize),
     /// The break with this index stands inside a character.
     BreakInside(usize),
+    /// The handle holds no report, or one whose file has ended where that is asked for more.
+    NoReport,
+    /// No wrong case is left of those that the report found last.
+    NoCase,
+    /// Wrong cases are left of those that the report found last.
+    CasesLeft,
 }
 
 /// What a call answers that has done what it was asked for.
@@ -97,6 +103,9 @@ impl Refusal {
             Refusal::LineCrossesParagraph => 23,
             Refusal::IllFormed(_) => 24,
             Refusal::BreakInside(_) => 25,
+            Refusal::NoReport => 26,
+            Refusal::NoCase => 27,
+            Refusal::CasesLeft => 28,
         }
     }
 

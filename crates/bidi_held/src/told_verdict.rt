@@ -29,7 +29,7 @@ pub struct BidiVerdict {
 }
 
 /// The number of a cause, from 1.
-fn number_of_cause(cause: Cause) -> u32
+pub fn number_of_cause(cause: Cause) -> u32
     ensures { result ≡ cause_number cause }
 {
     match cause {
@@ -49,7 +49,7 @@ fn number_of_cause(cause: Cause) -> u32
 }
 
 /// The number of a direction.
-fn number_of_direction(direction: Direction) -> u32
+pub fn number_of_direction(direction: Direction) -> u32
     ensures { result ≡ direction_number direction }
 {
     match direction {
@@ -57,6 +57,18 @@ fn number_of_direction(direction: Direction) -> u32
         Direction::Rtl => 1,
         Direction::Auto => 2,
         Direction::AutoRtl => 3,
+    }
+}
+
+/// The number of what is wrong with a case, and the index at which it is.
+pub fn numbers_of_place(place: Place) -> (u32, usize)
+    ensures number { result.0 ≡ place_number place }
+    ensures index { result.1 ≡ index_in place }
+{
+    match place {
+        Place::ParaLevel => (1, 0),
+        Place::Levels(index) => (2, index),
+        Place::Order(index) => (3, index),
     }
 }
 
@@ -92,11 +104,7 @@ pub fn told(verdict: Verdict) -> BidiVerdict
             direction,
             place,
         } => {
-            let (reason, index) = match place {
-                Place::ParaLevel => (1, 0),
-                Place::Levels(index) => (2, index),
-                Place::Order(index) => (3, index),
-            };
+            let (reason, index) = numbers_of_place(place);
             BidiVerdict {
                 answer: 2,
                 reason,

@@ -5,7 +5,7 @@ use Rattle.encoded.specs.Rooms.{layout_held as encoded_layout}
 use Rattle.encoded.specs.declared.room.Room.{Room as EncodedRoom}
 use Rattle.bidi_held.specs.Holdings.{encoded_in, layout_held, no_layout}
 use Rattle.bidi_held.specs.declared.held.Held.{Held}
-use Rattle.bidi_held.specs.declared.held.Held.TheVariants.{Tables, Room, Encoded, Judge}
+use Rattle.bidi_held.specs.declared.held.Held.TheVariants.{Tables, Room, Encoded, Judge, Report}
 
 abbrev layout_if_some : Option EncodedRoom → TextLayout
 layout_if_some (Some room) = encoded_layout room
@@ -22,3 +22,4 @@ held_layout (Some (Tables tables)) room e = absurd (subst HoldsNone e tt)
 held_layout (Some (Room other)) room e = absurd (subst HoldsNone e tt)
 held_layout (Some (Encoded held)) room e = ap layout_if_some e
 held_layout (Some (Judge judge)) room e = absurd (subst HoldsNone e tt)
+held_layout (Some (Report report)) room e = absurd (subst HoldsNone e tt)

@@ -110,6 +110,7 @@ byte_held (held.Encoded room) other k is = subst (λ (o : Option Room). MatchOpt
 byte_held (held.Tables tables) other k is = absurd (subst (λ (o : Option Room). MatchOption o (Unit {0}) (λ (r : Room). ⊥)) is tt)
 byte_held (held.Room room) other k is = absurd (subst (λ (o : Option Room). MatchOption o (Unit {0}) (λ (r : Room). ⊥)) is tt)
 byte_held (held.Judge judge) other k is = absurd (subst (λ (o : Option Room). MatchOption o (Unit {0}) (λ (r : Room). ⊥)) is tt)
+byte_held (held.Report report) other k is = absurd (subst (λ (o : Option Room). MatchOption o (Unit {0}) (λ (r : Room). ⊥)) is tt)
 
 -- all levels are written in front
 pub levels_written : (held : Held) (room : Room) (text : List Spelled) (count : ℕ) (old filled : List ℕ) → encoded_in (Some held) ≡ Some room → count ≡ code_units text

@@ -1,0 +1,100 @@
+-- What a report that is held is handed, and what it hands out.
+use Rattle.std.proofs.Common.{◌≡◌, ℕ, ◌+◌, ◌<◌, ◌++◌, Bool, true, false, Option, Some, None, List, [], ◌∷◌, drop, get_or, length, refl, sym, ap, subst, ◌∙◌, append-nil, append_assoc}
+use Rattle.std.specs.Option.{option_map}
+use Rattle.std.specs.Arc.{arc_value}
+use Rattle.std.proofs.lemmas.List.{drop_more}
+use Rattle.units.specs.Limits.{LimitsOf}
+use Rattle.ucdfiles.specs.Tables.{TablesOf}
+use Rattle.bidtests.specs.Standing.{tables_of}
+use Rattle.bidtests.specs.declared.kind.Kind.{Kind}
+use Rattle.bidtests.specs.declared.kind.Kind.TheVariants.{Classes, Characters}
+use Rattle.report.specs.declared.wrong_case.WrongCase.{WrongCase}
+use Rattle.report.specs.FileReports.{FileReport, report_of, settled_cases}
+use Rattle.report.specs.Reporting.{Reports, report_at_end}
+use Rattle.report.specs.Standing.{StateOf, HasToldFor, TakesIn, ended_in, reporting}
+use Rattle.report.proofs.SettledCases.{told-settled}
+use Rattle.bidi_held.specs.declared.table_report.TableReport.{TableReport}
+use Rattle.report_held.specs.HeldReports.{HasCome, HasHanded, HandsOutAll, cases_known, left_in, report_with}
+use Rattle.report_held.specs.ToldReports.{counts_of, counts_told}
+use Rattle.report_held.specs.declared.told_counts.BidiCounts.{BidiCounts}
+use Rattle.report_held.specs.ReportCalls.{Ends, Hands, Takes}
+
+-- the report depends on the tables of its kind alone
+report-with : (limits : LimitsOf) (kind : Kind) (b : List ℕ) → report_of limits kind b ≡ report_with limits (tables_of kind) b
+report-with limits Classes b = refl
+report-with limits (Characters tables) b = refl
+
+settled-with : (limits : LimitsOf) (kind : Kind) (b : List ℕ) → settled_cases limits kind b ≡ cases_known limits (tables_of kind) false b
+settled-with limits Classes b = refl
+settled-with limits (Characters tables) b = refl
+
+-- files by these tables are of some kind
+kind_with : (tables : Option TablesOf) → (kind : Kind) × (tables_of kind ≡ tables)
+kind_with None = (Classes, refl)
+kind_with (Some tables) = (Characters (record { ref_ptr = (0, 0); now = tables }), refl)
+
+told-known : (limits : LimitsOf) (tables : Option TablesOf) (state : StateOf) (told : List WrongCase) (b : List ℕ)
+    → HasToldFor limits tables state told b → told ≡ cases_known limits tables false b
+told-known limits tables state told b h =
+    let kind = (kind_with tables).0 in
+    let same = (kind_with tables).1 in
+    let reports : Reports limits kind (reporting kind state) told b = record { of = refl; is = h kind same } in
+    told-settled limits kind (reporting kind state) told b reports ∙ settled-with limits kind b ∙ ap (λ t. cases_known limits t false b) same
+
+come-known : (limits : LimitsOf) (tables : Option TablesOf) (ended : Bool) (state : StateOf) (told : List WrongCase) (b : List ℕ)
+    → HasCome limits tables ended state told b → told ≡ cases_known limits tables ended b
+come-known limits tables false state told b h = told-known limits tables state told b h
+come-known limits tables true state told b h = sym (ap (λ (r : FileReport). r.wrong) h)
+
+-- what was handed out and what is left are all that is known
+pub hands-out-all : HandsOutAll
+hands-out-all limits tables ended report handed bytes h = come-known limits tables ended report.state (handed ++ left_in report) bytes h.so_far
+
+-- where nothing is left, what was handed out is what was told
+module _ (old : TableReport) (none : left_in old ≡ []) where
+  before : (limits : LimitsOf) (tables : Option TablesOf) (handed : List WrongCase) (bytes : List ℕ)
+      → HasHanded limits tables false old handed bytes → HasToldFor limits tables old.state handed bytes
+  before limits tables handed bytes h =
+      subst (λ (told : List WrongCase). HasToldFor limits tables old.state told bytes) (ap (λ ws. handed ++ ws) none ∙ append-nil handed) h.so_far
+
+  module _ (kind : Kind) (same : tables_of kind ≡ option_map arc_value old.tables) (state : StateOf) where
+    -- a piece, of which all wrong cases that are found then are left
+    pub takes-line : (piece : List ℕ) → TakesIn (tables_of kind) old.state piece state
+        → Takes old (record { tables = old.tables; state = state; handed = 0; ended = old.ended }) piece
+    takes-line piece takes = λ limits tables handed bytes h.
+        let by : tables_of kind ≡ tables = same ∙ h.by in
+        let told = subst (λ (t : Option TablesOf). TakesIn t old.state piece state) by takes in
+        record { by = h.by; ends = h.ends; so_far = told limits handed bytes (before limits tables handed bytes h) }
+
+    -- the end of the file
+    pub ends-file : (counts : BidiCounts) → counts ≡ counts_of state.lines.tally state.malformed
+        → ((limits : LimitsOf) (told : List WrongCase) (b : List ℕ) → HasToldFor limits (tables_of kind) old.state told b
+        → report_of limits kind b ≡ report_at_end told (ended_in state))
+        → Ends old (record { tables = old.tables; state = state; handed = 0; ended = true }) counts
+    ends-file counts is ends = λ limits tables handed bytes h.
+        let by : tables_of kind ≡ tables = same ∙ h.by in
+        let told = subst (λ (t : Option TablesOf). HasToldFor limits t old.state handed bytes) (sym by) (before limits tables handed bytes h) in
+        let whole : report_with limits tables bytes ≡ report_at_end handed (ended_in state) =
+        ap (λ t. report_with limits t bytes) (sym by) ∙ sym (report-with limits kind bytes) ∙ ends limits handed bytes told in
+        (record { by = h.by; ends = refl; so_far = whole }, is ∙ sym (ap counts_told whole))
+
+-- the next of the wrong cases that are left
+pub hands-next : (old : TableReport) (case : WrongCase) → old.handed < length old.state.lines.found → case ≡ get_or old.state.lines.found old.handed case
+    → Hands old (record { tables = old.tables; state = old.state; handed = old.handed + 1; ended = old.ended }) case
+hands-next old case within is = λ limits tables ended handed bytes h.
+    let found = old.state.lines.found in
+    let left : left_in old ≡ case ∷ drop (old.handed + 1) found = drop_more found old.handed case within ∙ ap (λ (w : WrongCase). w ∷ drop (old.handed + 1) found) (sym is) in
+    record {
+      by = h.by;
+      ends = h.ends;
+      so_far = subst (λ (told : List WrongCase). HasCome limits tables ended old.state told bytes)
+          (ap (λ ws. handed ++ ws) left ∙ sym (append_assoc handed (case ∷ []) (drop (old.handed + 1) found))) h.so_far;
+    }
+
+-- one piece behind the other
+pub takes-both : (old mid new : TableReport) (a b : List ℕ) → Takes old mid a → Takes mid new b → Takes old new (a ++ b)
+takes-both old mid new a b first second = λ limits tables handed bytes h.
+    subst (λ (bs : List ℕ). HasHanded limits tables false new handed bs) (append_assoc bytes a b) (second limits tables handed (bytes ++ a) (first limits tables handed bytes h))
+
+pub takes-nothing : (old : TableReport) → Takes old old []
+takes-nothing old = λ limits tables handed bytes h. subst (λ (bs : List ℕ). HasHanded limits tables false old handed bs) (sym (append-nil bytes)) h
