@@ -4,7 +4,7 @@
  * docs/C.md is the manual. The contracts of crates/bidi_c say what each call is proved to do.
  *
  * What a caller owes. Nothing checks it; each line says what goes wrong otherwise.
- *  - A handle (bidi_tables, bidi_room, bidi_judge) is BIDI_NONE before its first call, and only these calls change it.
+ *  - A handle (bidi_tables, bidi_room, bidi_judge, bidi_report) is BIDI_NONE before its first call, and only these calls change it.
  *    Else: a call follows a pointer that is none.
  *  - A handle that holds something is not copied; pass its address. Else: what it holds is used after it was freed.
  *    (bidi_tables_share makes another handle on the same tables.)
@@ -21,7 +21,8 @@
  *  - malloc, realloc and free are of one allocator, and align to 16 where the size allows it, as the C library's do.
  *
  * No call blocks, aborts, or keeps a pointer that it was passed. Layouts, the look-ups, bidi_judge_feed and
- * bidi_judge_finish take no memory; bidi_verdict_text gives back what it takes.
+ * bidi_judge_finish take no memory, nor do the calls by which a report that is made goes on; bidi_verdict_text gives
+ * back what it takes.
  */
 #ifndef BIDI_H
 #define BIDI_H
@@ -40,7 +41,8 @@
 extern "C" {
 #endif
 
-/* Handles, for tables, for room for texts with the layout of the last one, and for a judge of a test file. */
+/* Handles, for tables, for room for texts with the layout of the last one, and for a judge of a test file; that for a
+ * report on one stands below. */
 typedef struct { void *at; bool made; } bidi_tables;
 typedef struct { void *at; bool made; } bidi_room;
 typedef struct { void *at; bool made; } bidi_judge;
@@ -74,7 +76,10 @@ enum {
   BIDI_LINE_BEYOND_TEXT = 22,  /* it starts below its end, which is behind the text */
   BIDI_LINE_CROSSES = 23,      /* it is within the text, and goes on behind the end of a paragraph */
   BIDI_ILL_FORMED = 24,        /* place: offset of the first code unit that is no part of a character */
-  BIDI_BREAK_INSIDE = 25       /* place: index of the first break that stands inside a character */
+  BIDI_BREAK_INSIDE = 25,      /* place: index of the first break that stands inside a character */
+  BIDI_NO_REPORT = 26,         /* the handle holds no report, or one whose file has ended where it is handed more */
+  BIDI_NO_CASE = 27,           /* no wrong case is left of those that were found last */
+  BIDI_CASES_LEFT = 28         /* wrong cases are left of those that were found last */
 };
 
 /* Directions: that of all paragraphs, or of each by its first strong character (P2, P3); where it has none, BIDI_AUTO
@@ -286,6 +291,59 @@ uint32_t bidi_judge_finish(bidi_judge *judge, bidi_verdict *verdict);
  * BIDI_VERDICT_LINE bytes. */
 #define BIDI_VERDICT_LINE 72
 uint32_t bidi_verdict_text(const bidi_verdict *verdict, uint8_t *text, size_t place, size_t *length);
+
+/* A report on a test file: all of its wrong cases, up to its first malformed line, one by one, and their counts. It is
+ * made as a judge is made, and fed line by line:
+ *   for (size_t at = 0, used; at < n; at += used) {
+ *     if (bidi_report_feed(&report, bytes + at, n - at, &used)) return 1;
+ *     while (bidi_report_next(&report, &item) == BIDI_DONE) print(&item);
+ *   }
+ * Behind the last byte of the file come bidi_report_finish, and the wrong cases of a last line without LF in the same
+ * way. */
+typedef struct { void *at; bool made; } bidi_report;
+uint32_t bidi_report_new_classes(bidi_report *report);
+uint32_t bidi_report_new_classes_with(bidi_report *report, bidi_limits limits);
+uint32_t bidi_report_new_characters(bidi_tables *tables, bidi_report *report);
+uint32_t bidi_report_new_characters_with(bidi_tables *tables, bidi_report *report, bidi_limits limits);
+void bidi_report_free(bidi_report *report);
+/* The next bytes of the file, as many or as few as there are. It stops behind the first line that has wrong cases, or
+ * takes all: `used` says how many bytes that were. BIDI_NO_REPORT, or else BIDI_CASES_LEFT: bidi_report_next has not
+ * handed out all wrong cases that were found last. `used` stays as it was then. */
+uint32_t bidi_report_feed(bidi_report *report, const uint8_t *bytes, size_t n, size_t *used);
+
+/* What stands at a place of a row's claim, or of the layout of its text. */
+typedef struct { uint32_t kind; size_t value; } bidi_item;
+enum {
+  BIDI_ITEM_ENDED = 0,    /* nothing, the list ends before the place; value: 0 */
+  BIDI_ITEM_REMOVED = 1,  /* a position that X9 removes; value: 0 */
+  BIDI_ITEM_LEVEL = 2,    /* value: the level */
+  BIDI_ITEM_POSITION = 3  /* value: the position */
+};
+/* A row that is wrong under one of its directions, with the first place at which it is. */
+typedef struct {
+  uint64_t line;      /* the number of the line, from 1 */
+  uint32_t direction; /* the direction */
+  uint32_t place;     /* BIDI_WRONG_.. */
+  size_t index;       /* the index in the list of levels or of the order, from 0 */
+  bidi_item claimed;  /* what the row claims there */
+  bidi_item defined;  /* what P1 to L2 give there */
+} bidi_wrong_case;
+/* The next of the wrong cases that were found last, those of one line, in the order auto, LTR, RTL, auto-RTL.
+ * BIDI_NO_REPORT, or else BIDI_NO_CASE: none is left. `item` stays as it was then. */
+uint32_t bidi_report_next(bidi_report *report, bidi_wrong_case *item);
+
+/* The counts of a file, up to its first malformed line; each is at most 2^64 - 1. */
+typedef struct {
+  uint64_t rows, cases;                     /* a row has a case for each direction that it names */
+  uint64_t wrong_rows, wrong_cases;         /* rows with a wrong case */
+  uint64_t ltr, rtl, auto_ltr, auto_rtl;    /* the wrong cases by direction */
+  uint64_t para_level, levels, order;       /* the wrong cases by what differs first */
+  uint64_t malformed;                       /* the number of the first malformed line, from 1, or 0 */
+  uint32_t cause;                           /* BIDI_CAUSE_.., or 0 where no line is malformed */
+} bidi_counts;
+/* The end of the file, and the counts of all of it. The report takes no more bytes then, but bidi_report_next hands out
+ * the wrong cases of a last line that no LF ended. It is refused as bidi_report_feed is. */
+uint32_t bidi_report_finish(bidi_report *report, bidi_counts *counts);
 
 #ifdef __cplusplus
 }

@@ -506,6 +506,72 @@ static void lay_out_encoded(bidi_tables *tables) {
   bidi_room_free(&room);
 }
 
+/* Reports: each refusal, and what it leaves. */
+static void print_next(bidi_report *report) {
+  bidi_wrong_case w = { 99, 99, 99, 99, { 99, 99 }, { 99, 99 } };
+  uint32_t status = bidi_report_next(report, &w);
+  printf("  next %u: line %llu direction %u place %u index %zu claimed %u %zu defined %u %zu\n", status,
+         (unsigned long long)w.line, w.direction, w.place, w.index, w.claimed.kind, w.claimed.value, w.defined.kind,
+         w.defined.value);
+}
+
+static void feed_report(bidi_report *report, const char *text) {
+  size_t used = 99;
+  uint32_t status = bidi_report_feed(report, (const uint8_t *)text, strlen(text), &used);
+  printf("  fed %u, used %zu of %zu\n", status, used, strlen(text));
+}
+
+static void finish_report(bidi_report *report) {
+  bidi_counts c = { 99, 99, 99, 99, 99, 99, 99, 99, 99, 99, 99, 99, 99 };
+  uint32_t status = bidi_report_finish(report, &c);
+  const uint64_t counts[] = { c.rows, c.cases, c.wrong_rows, c.wrong_cases, c.ltr, c.rtl, c.auto_ltr, c.auto_rtl,
+                              c.para_level, c.levels, c.order, c.malformed };
+  printf("  finish %u:", status);
+  for (size_t i = 0; i < 12; i++) printf(" %llu", (unsigned long long)counts[i]);
+  printf(" cause %u, held %d\n", c.cause, report->made);
+}
+
+static void report_on(bidi_report *report, const char *first, const char *rest) {
+  feed_report(report, first);
+  feed_report(report, rest);
+  finish_report(report);
+  for (int i = 0; i < 3; i++) print_next(report);
+  feed_report(report, "");
+  feed_report(report, rest);
+  finish_report(report);
+  for (int i = 0; i < 2; i++) print_next(report);
+  finish_report(report);
+  feed_report(report, rest);
+  print_next(report);
+}
+
+static void report_on_files(bidi_tables *tables, bidi_room *room) {
+  const bidi_limits low = { 1, 63 }, deep = { 126, 64 }, wide = { 1, 64 };
+  bidi_report report = BIDI_NONE;
+  printf("no report\n");
+  report_on(&report, "", "L; 7\n");
+  printf("a room, and a judge\n");
+  report_on((bidi_report *)room, "", "L; 7\n");
+  bidi_judge judge = BIDI_NONE;
+  uint32_t status = bidi_judge_new_classes(&judge);
+  report_on((bidi_report *)&judge, "", "L; 7\n");
+  bidi_judge_free(&judge);
+  printf("report on classes %u\n", bidi_report_new_classes(&report));
+  report_on(&report, "@Levels: x 1\n@Reorder: 7\nRLE L; 11\n@Lev", "els: 0\n@Reorder: 0\nL; 2");
+  status = bidi_report_new_classes_with(&report, deep);
+  printf("by limits %u %u %u", status, bidi_report_new_classes_with(&report, wide),
+         bidi_report_new_characters_with(tables, &report, deep));
+  printf(" %u\n", bidi_report_new_classes_with(&report, low));
+  report_on(&report, "@Levels: x x 3\n@Reorder: 2\n", "RLE LRE R; 2\n\nR; 16\nR; 1");
+  printf("without tables %u\n", bidi_report_new_characters((bidi_tables *)room, &report));
+  status = bidi_report_new_characters(tables, &report);
+  printf("report on characters %u\n", status);
+  bidi_tables_free(tables);
+  report_on(&report, "0061 05D0;2;1;0 1;0 1\n05D0;0;0;1;0\n0061;", "3;0;0 0;0\n0061;2;0;1;0");
+  for (int i = 0; i < 2; i++) bidi_report_free(&report);
+  printf("freed: %d\n", report.made);
+}
+
 int main(int argc, char **argv) {
   bidi_tables tables = BIDI_NONE;
   bidi_room room = BIDI_NONE;
@@ -535,6 +601,7 @@ int main(int argc, char **argv) {
   use_standard_tables(&room);
   lay_out_encoded(&tables);
   print_texts();
+  report_on_files(&tables, &room);
   print_room(&room, 1000);
   print_room(&room, 16777217);
   status = bidi_judge_new_characters((bidi_tables *)&room, &held);

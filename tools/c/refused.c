@@ -22,6 +22,27 @@ static long wrong;
     } \
     k - 1; })
 
+static void report_refused(bidi_tables *tables) {
+  bidi_report report = BIDI_NONE;
+  const uint8_t row[] = "0061;2;1;0;0\n0061;2;0;0;1";
+  bidi_wrong_case item;
+  bidi_counts counts;
+  size_t used = 0, handed = 0;
+  printf("report: %ld refused\n", IN_TURN(bidi_report_new_classes(&report), !report.made));
+  printf("report by tables: %ld refused\n",
+         IN_TURN(bidi_report_new_characters(tables, &report), report.made && tables->made));
+  asked = 0; refused_at = 1;
+  uint32_t status = bidi_report_feed(&report, row, sizeof row - 1, &used);
+  while (bidi_report_next(&report, &item) == BIDI_DONE) handed++;
+  status += bidi_report_feed(&report, row + used, sizeof row - 1 - used, &used);
+  status += bidi_report_finish(&report, &counts);
+  while (bidi_report_next(&report, &item) == BIDI_DONE) handed++;
+  refused_at = 0;
+  printf("reported: status %u, handed %zu, wrong %llu, %ld asked\n", status, handed,
+         (unsigned long long)counts.wrong_cases, asked);
+  bidi_report_free(&report);
+}
+
 int main(int argc, char **argv) {
   const char *ucd = argc > 1 ? argv[1] : "ucd";
   size_t a, b, c;
@@ -72,6 +93,7 @@ int main(int argc, char **argv) {
   uint8_t line[BIDI_VERDICT_LINE];
   size_t length = 0;
   printf("text: %ld refused\n", IN_TURN(bidi_verdict_text(&verdict, line, sizeof line, &length), length == 0));
+  report_refused(&tables);
   bidi_room_free(&room); bidi_room_free(&encoded); bidi_tables_free(&tables); bidi_judge_free(&judge);
   free(classes); free(brackets); free(mirrors);
   printf("wrong: %ld\n", wrong);

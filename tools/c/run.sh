@@ -1,11 +1,11 @@
 #!/bin/bash
 # Builds the library that C links and the programs of this folder, and runs them: the demo, a typesetter, every call,
-# each refused allocation and threads that share tables against their stored output, the greatest sizes (in some 1.5 GB
+# each refused allocation, threads that share tables and reports against their stored output, the greatest sizes (in some 1.5 GB
 # of memory), a C++ program, and a program built as tools/c/install.sh installs the library; then, but for the sizes,
 # again under -fsanitize=address,undefined and under valgrind, and the
 # threads under -fsanitize=thread. Where the package unicode-data is installed it lays out and judges the official files
-# too. Where the command is built (`rt run -- --help` in crates/bidi), the lines that say verdicts are compared with what
-# it prints. It says what it leaves out because something isn't installed or built, without gcc all.
+# too. Where the command is built (`rt run -- --help` in crates/bidi), the lines that say verdicts and the reports are
+# compared with what it prints. It says what it leaves out because something isn't installed or built, without gcc all.
 #
 # usage: tools/c/run.sh [FOLDER]      (FOLDER, with the files of the Unicode database: /usr/share/unicode)
 #
@@ -61,6 +61,12 @@ expect() {
     fi
 }
 
+# says_no WORD..: whether a command ends with 1.
+says_no() {
+    "$@"
+    [ $? -eq 1 ]
+}
+
 # all LABEL WORD..: each program, begun by these words.
 all() {
     local label=$1
@@ -70,6 +76,10 @@ all() {
     expect "$label calls" "$here/calls.out" "$@" "$work/calls" "$here/ucd"
     expect "$label refused" "$here/refused.out" "$@" "$work/refused" "$here/ucd"
     expect "$label threads" "$here/threads.out" "$@" "$work/threads" "$here/ucd"
+    expect "$label report on classes" "$here/faults.out" says_no "$@" "$work/report" classes "$here/ucd" 7 \
+        < "$here/faults.txt"
+    expect "$label report on characters" "$here/character_faults.out" says_no "$@" "$work/report" characters \
+        "$here/ucd" 4096 < "$here/character_faults.txt"
 }
 
 build_all() {
@@ -78,6 +88,7 @@ build_all() {
     build calls "$@"
     build refused -Wl,--wrap=malloc,--wrap=realloc "$@"
     build threads -pthread "$@"
+    build report "$@"
 }
 
 # same_line KIND FILE: of this test file the library and the command say the same verdict.
@@ -90,6 +101,19 @@ same_line() {
     else
         diff "$work/said" "$work/printed" >> "$work/errors"
         fails "the line of a verdict"
+    fi
+}
+
+# same_report KIND FILE PIECE: the report on this test file, fed in pieces of so many bytes, is what the command prints.
+same_report() {
+    "$command" report --kind "$1" --tables "$here/ucd" --most 1000000 "$2" > "$work/said" 2> "$work/errors"
+    local status=$?
+    "$work/report" "$1" "$here/ucd" "$3" < "$2" > "$work/printed" 2>> "$work/errors"
+    if [ $? = $status ] && cmp -s "$work/printed" "$work/said"; then
+        echo "$1 in pieces of $3: the report of the command"
+    else
+        diff "$work/said" "$work/printed" >> "$work/errors"
+        fails "a report"
     fi
 }
 
@@ -107,8 +131,12 @@ if [ -x "$command" ]; then
     same_line characters "$work/file"
     printf '0061;2;0;0;0\n0061;2;0;0' > "$work/file"
     same_line characters "$work/file"
+    for piece in 1 7 4096; do
+        same_report classes "$here/faults.txt" $piece
+        same_report characters "$here/character_faults.txt" $piece
+    done
 else
-    echo "no command at $command: the lines of verdicts are not compared with its"
+    echo "no command at $command: the lines of verdicts and the reports are not compared with its"
 fi
 if command -v g++ > /dev/null; then
     g++ -O2 -Wall -Wextra -o "$work/header" "$here/header.cc" "$library" "$heap" 2> "$work/errors" || fails "g++ header"
