@@ -5,16 +5,17 @@ from .base import base_level, is_left_to_right
 from .errors import (
     BidiError, BracketFileFault, BracketsRefused, BreakInside, BreakNotRising, BreakOutOfRange, ClassFileFault,
     DepthRefused, FaultKind, IllFormed, LineBeyondText, LineCrossesParagraph, LineNotForward, MemoryRefused,
-    MirrorFileFault, NoCharacter, NoClass, NoJudge, NoLine, NoVerdict, PlacedError, RoomTooBig, StaleLayout, TableFault,
-    TextTooLong,
+    MirrorFileFault, NoCharacter, NoClass, NoJudge, NoLine, NoReport, NoVerdict, PlacedError, RoomTooBig, StaleLayout,
+    TableFault, TextTooLong,
 )
 from .judge import Answer, Cause, Judge, Verdict, Wrong, judge_characters, judge_classes
 from .layout import Direction, Layout, Limits, Line, LineAlone, Room, Run, display, lay_out, lay_out_classes
-from .library import HAS_STANDARD_TABLES, HAS_UTF8, SHARES_TABLES, version
+from .library import HAS_REPORTS, HAS_STANDARD_TABLES, HAS_UTF8, SHARES_TABLES, version
+from .report import ENDED, Counts, MalformedLine, Nothing, Report, WrongCase, report_characters, report_classes
 from .tables import Tables, edition
 from .utf8 import Utf8Layout, Utf8Line, Utf8Room, lay_out_utf8
 
 __version__ = "1.0.0"
 __all__ = [name for name in dir() if name[0].isupper() or name in (
     "base_level", "display", "edition", "is_left_to_right", "judge_characters", "judge_classes", "lay_out",
-    "lay_out_classes", "lay_out_utf8", "version")]
+    "lay_out_classes", "lay_out_utf8", "report_characters", "report_classes", "version")]

@@ -139,6 +139,13 @@ class BreakInside(PlacedError):
     status = 25
 
 
+class NoReport(BidiError, ValueError):
+    """The file of the report has ended, and it takes no more bytes."""
+
+    says = "The file of the report has ended, and it takes no more bytes"
+    status = 26
+
+
 class StaleLayout(BidiError):
     """The room has laid out another text since, or broken this one into other lines."""
 

@@ -9,7 +9,7 @@ SONAME = "libbidi_c.so.1"
 
 
 class Handle(ctypes.Structure):
-    """A handle on tables, a room or a judge: all zero before its first call."""
+    """A handle on tables, a room, a judge or a report: all zero before its first call."""
 
     _fields_ = [("at", c_void_p), ("made", c_bool)]
 
@@ -44,6 +44,32 @@ class Verdict(ctypes.Structure):
     _fields_ = [
         ("answer", c_uint32), ("reason", c_uint32), ("direction", c_uint32), ("line", c_uint64),
         ("index", c_size_t), ("rows", c_uint64), ("cases", c_uint64),
+    ]
+
+
+class Item(ctypes.Structure):
+    """What stands at a place of a row's claim, or of a layout."""
+
+    _fields_ = [("kind", c_uint32), ("value", c_size_t)]
+
+
+class WrongCase(ctypes.Structure):
+    """A wrong case of a test file."""
+
+    _fields_ = [
+        ("line", c_uint64), ("direction", c_uint32), ("place", c_uint32), ("index", c_size_t), ("claimed", Item),
+        ("defined", Item),
+    ]
+
+
+class Counts(ctypes.Structure):
+    """The counts of a report."""
+
+    _fields_ = [
+        *((name, c_uint64) for name in (
+            "rows", "cases", "wrong_rows", "wrong_cases", "ltr", "rtl", "auto_ltr", "auto_rtl", "para_level", "levels",
+            "order", "malformed")),
+        ("cause", c_uint32),
     ]
 
 
@@ -101,6 +127,15 @@ UTF8_CALLS = {
     "bidi_encoded_order": (c_size_t, [HANDLE, c_size_t, c_void_p, c_size_t]),
     "bidi_encoded_run": (c_uint32, [HANDLE, c_size_t, c_size_t, POINTER(Run)]),
 }
+# Those for reports on test files.
+REPORT_CALLS = {
+    "bidi_report_new_classes_with": (c_uint32, [HANDLE, Limits]),
+    "bidi_report_new_characters_with": (c_uint32, [HANDLE, HANDLE, Limits]),
+    "bidi_report_free": (None, [HANDLE]),
+    "bidi_report_feed": (c_uint32, [HANDLE, c_char_p, c_size_t, POINTER(c_size_t)]),
+    "bidi_report_next": (c_uint32, [HANDLE, POINTER(WrongCase)]),
+    "bidi_report_finish": (c_uint32, [HANDLE, POINTER(Counts)]),
+}
 # The greatest word.
 MOST = 2**64 - 1
 
@@ -131,7 +166,7 @@ def load():
 
 def declare(found):
     """Declares what the calls take and answer."""
-    newer = {**NEWER_CALLS, **UTF8_CALLS}
+    newer = {**NEWER_CALLS, **UTF8_CALLS, **REPORT_CALLS}
     known = {**CALLS, **{name: types for name, types in newer.items() if hasattr(found, name)}}
     for name, (result, words) in known.items():
         call = getattr(found, name)
@@ -150,6 +185,8 @@ HAS_LINE_OF = hasattr(CALL, "bidi_line_of")
 HAS_BASE_LEVEL = hasattr(CALL, "bidi_base_level") and hasattr(CALL, "bidi_is_left_to_right")
 # Whether it lays out texts in UTF-8, refused or read with U+FFFD where they are ill-formed, and breaks them anew.
 HAS_UTF8 = all(hasattr(CALL, name) for name in UTF8_CALLS)
+# Whether it reports on test files.
+HAS_REPORTS = all(hasattr(CALL, name) for name in REPORT_CALLS)
 
 
 def items(code, n):

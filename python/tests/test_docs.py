@@ -43,6 +43,9 @@ class Manual(unittest.TestCase):
     def test_example(self):
         self.runs("example.py")
 
+    def test_faults(self):
+        self.runs("faults.py")
+
     def test_cursor(self):
         self.runs("cursor.py")
 

@@ -150,6 +150,7 @@ class Statuses(unittest.TestCase):
 
     NEVER = {
         "BIDI_DONE", "BIDI_NO_DIRECTION", "BIDI_NO_ROOM", "BIDI_NO_TABLES", "BIDI_NO_PLACE", "BIDI_TOO_SMALL",
+        "BIDI_NO_CASE", "BIDI_CASES_LEFT",
     }
 
     def test_exceptions(self):

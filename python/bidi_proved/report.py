@@ -1,0 +1,190 @@
+"""Reports on the algorithm's two conformance files: all of their wrong cases, one by one, and their counts."""
+import ctypes
+import enum
+import threading
+import typing
+import weakref
+
+from . import library
+from .errors import BidiError, NoReport, refuse
+from .judge import Cause, Wrong, _pieces
+from .layout import Direction, Limits
+from .library import CALL, Handle
+
+NO_CASE = 27
+LEVEL, POSITION, REMOVED = 2, 3, 1
+WORDS = {Direction.LTR: "ltr", Direction.RTL: "rtl", Direction.AUTO: "auto", Direction.AUTO_RTL: "auto-rtl"}
+PLACES = {Wrong.PARA_LEVEL: "paragraph level", Wrong.LEVELS: "levels at {}", Wrong.ORDER: "order at {}"}
+
+
+class Nothing(enum.Enum):
+    """What stands behind the end of a list."""
+
+    ENDED = "nothing"
+
+
+ENDED = Nothing.ENDED
+# A level or a position, None where X9 removes the position, ENDED where the list ends before the place.
+Item = typing.Union[int, None, Nothing]
+
+
+def _words(item):
+    if item is ENDED:
+        return ENDED.value
+    return "x" if item is None else str(item)
+
+
+class WrongCase(typing.NamedTuple):
+    """A row of a test file that is wrong under one of its directions; `str` of it is the line that the command
+    `bidi report` prints.
+
+    `place` and `index` name the first place at which what the row claims differs from what the algorithm gives: `index`
+    counts in the list of levels or of the order, from 0, and is None for the paragraph's level. `line` counts from 1.
+    """
+
+    line: int
+    direction: Direction
+    place: Wrong
+    index: typing.Optional[int]
+    claimed: Item
+    defined: Item
+
+    def __str__(self):
+        place = PLACES[self.place].format(self.index)
+        differs = f"claimed {_words(self.claimed)}, defined {_words(self.defined)}"
+        return f"line {self.line}: {WORDS[self.direction]}: {place}: {differs}"
+
+
+class Counts(typing.NamedTuple):
+    """The counts of a test file up to its first malformed line, and that line with its cause, or None and None.
+
+    A row has a case for each direction that it names. `directions` has the number of wrong cases for each Direction,
+    `places` for each Wrong, by what differs first.
+    """
+
+    rows: int
+    cases: int
+    wrong_rows: int
+    wrong_cases: int
+    directions: typing.Dict[Direction, int]
+    places: typing.Dict[Wrong, int]
+    malformed: typing.Optional[int]
+    cause: typing.Optional[Cause]
+
+    def __bool__(self):
+        return self.wrong_cases == 0 and self.malformed is None
+
+
+class MalformedLine(BidiError, ValueError):
+    """A line of a test file is malformed: `line` is the first such line, from 1, and `cause` says why. What stands
+    behind it is not reported on."""
+
+    def __init__(self, line, cause):
+        super().__init__(f"line {line}: malformed: {Cause(cause).name}")
+        self.line, self.cause = line, Cause(cause)
+
+    def __reduce__(self):
+        return type(self), (self.line, self.cause)
+
+
+def _item_of(told):
+    if told.kind in (LEVEL, POSITION):
+        return told.value
+    return None if told.kind == REMOVED else ENDED
+
+
+def _case_of(told):
+    place = Wrong(told.place)
+    index = None if place == Wrong.PARA_LEVEL else told.index
+    return WrongCase(
+        told.line, Direction(told.direction), place, index, _item_of(told.claimed), _item_of(told.defined))
+
+
+def _counts_of(told):
+    directions = {
+        Direction.LTR: told.ltr, Direction.RTL: told.rtl, Direction.AUTO: told.auto_ltr,
+        Direction.AUTO_RTL: told.auto_rtl,
+    }
+    places = {Wrong.PARA_LEVEL: told.para_level, Wrong.LEVELS: told.levels, Wrong.ORDER: told.order}
+    malformed = (told.malformed, Cause(told.cause)) if told.cause else (None, None)
+    return Counts(told.rows, told.cases, told.wrong_rows, told.wrong_cases, directions, places, *malformed)
+
+
+class Report:
+    """A report on one file, which is handed over in pieces of any length."""
+
+    def __init__(self, tables=None, limits=Limits()):
+        """A report on a BidiCharacterTest.txt by tables, or on a BidiTest.txt where none are given."""
+        if not library.HAS_REPORTS:
+            raise NotImplementedError("this library has no reports")
+        self._handle = Handle()
+        self._lock = threading.Lock()
+        self._counts = None
+        limits = Limits(*limits)._for_call()
+        if tables is None:
+            refuse(CALL.bidi_report_new_classes_with(self._handle, limits))
+        else:
+            of_its_own = tables._another()
+            try:
+                refuse(CALL.bidi_report_new_characters_with(of_its_own, self._handle, limits))
+            finally:
+                CALL.bidi_tables_free(of_its_own)
+        weakref.finalize(self, CALL.bidi_report_free, self._handle)
+
+    def _next(self):
+        """The next of the wrong cases that were found last, or None where none is left."""
+        told = library.WrongCase()
+        status = CALL.bidi_report_next(self._handle, told)
+        if status == NO_CASE:
+            return None
+        refuse(status)
+        return _case_of(told)
+
+    def feed(self, piece):
+        """Hands over the next bytes of the file, and answers the list of the wrong cases on the lines that end in them.
+        NoReport: the file has ended."""
+        piece = bytes(memoryview(piece))
+        found, used = [], ctypes.c_size_t(0)
+        with self._lock:
+            if self._counts is not None:
+                raise NoReport(NoReport.says)
+            while piece:
+                refuse(CALL.bidi_report_feed(self._handle, piece, len(piece), used))
+                found.extend(iter(self._next, None))
+                piece = piece[used.value :]
+        return found
+
+    def finish(self):
+        """Hands over the end of the file, and answers the list of the wrong cases on a last line without LF. NoReport:
+        the file has ended before."""
+        told = library.Counts()
+        with self._lock:
+            refuse(CALL.bidi_report_finish(self._handle, told))
+            self._counts = _counts_of(told)
+            return list(iter(self._next, None))
+
+    @property
+    def counts(self):
+        """The counts of the file, or None where its end was not handed over."""
+        return self._counts
+
+
+def _reported(report, source):
+    for piece in _pieces(source):
+        yield from report.feed(piece)
+    yield from report.finish()
+    counts = report.counts
+    if counts.malformed is not None:
+        raise MalformedLine(counts.malformed, counts.cause)
+    return counts
+
+
+def report_classes(source, limits=Limits()):
+    """Yields the wrong cases of a BidiTest.txt, in its order: bytes, a file that is open for reading bytes, or what
+    yields bytes. MalformedLine is raised behind those before the first malformed line, if there is one."""
+    return _reported(Report(None, limits), source)
+
+
+def report_characters(source, tables, limits=Limits()):
+    """Yields the wrong cases of a BidiCharacterTest.txt by tables, in its order, as `report_classes` does."""
+    return _reported(Report(tables, limits), source)
