@@ -207,8 +207,8 @@ for form in nest brackets marks numbers isolates separators; do
     "$program" rows --form "$form" --kind characters --count 20 --length 300..900 > rows.txt 2> found_err
     is "status of rows of $form, of characters" 0 $?
     is "lines of rows of $form, of characters" 60 "$(wc -l < rows.txt)"
-    if [ -d /usr/share/unicode ]; then
-        ends 0 'yes: 60 rows, 60 cases' '' judge --kind characters --tables /usr/share/unicode rows.txt
+    if [ -f "$folder/BidiBrackets.txt" ]; then
+        ends 0 'yes: 60 rows, 60 cases' '' judge --kind characters --tables "$folder" rows.txt
     fi
 done
 ends 2 '' 'bidi: up is no direction' rows --form nest --length 1 --directions 'auto up'
