@@ -1,5 +1,5 @@
 pub mod OneCutting
-pub mod Places
+pub mod ExplicitAt
 pub mod Stretches
 pub mod WantedLevels
 pub mod Leveled

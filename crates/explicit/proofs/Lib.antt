@@ -2,3 +2,4 @@ pub mod Matched
 pub mod Holders
 pub mod StrongSides
 pub mod LevelsFound
+mod Stretched

@@ -5,19 +5,19 @@ use Rattle.units.specs.declared.class.Class.{Class}
 
 -- X1 to X9: these are the explicit levels, up to this depth, and the current classes of a paragraph with these classes,
 -- whose level is para_level
-pub record HoldsLevels (places : List (Option (ℕ × Class))) (depth : ℕ) (cs : List Class)
+pub record HoldsLevels (explicit : List (Option (ℕ × Class))) (depth : ℕ) (cs : List Class)
     (para_level : ℕ) : Type 0 where
-  pub enough : length cs ≤ length places
-  pub at : (p : ℕ) → p < length cs → slice_index_or places p None ≡ explicit_at depth cs para_level p
+  pub enough : length cs ≤ length explicit
+  pub at : (p : ℕ) → p < length cs → slice_index_or explicit p None ≡ explicit_at depth cs para_level p
 
--- X1 to X9: this is what p has in whatever paragraph the places are of
+-- X1 to X9: this is what p has in whatever paragraph these are of
 abbrev pub IsExplicitAt : List (Option (ℕ × Class)) → ℕ → Option (ℕ × Class) → Type 0
-IsExplicitAt places p place =
+IsExplicitAt explicit p leveled =
     (depth : ℕ) (cs : List Class) (para_level : ℕ)
-    → HoldsLevels places depth cs para_level → p < length cs → place ≡ explicit_at depth cs para_level p
+    → HoldsLevels explicit depth cs para_level → p < length cs → leveled ≡ explicit_at depth cs para_level p
 
 -- BD2: its level is not above the depth up to which they were found
 abbrev pub IsWithinDepth : List (Option (ℕ × Class)) → ℕ → Option (ℕ × Class) → Type 0
-IsWithinDepth places p place =
+IsWithinDepth explicit p leveled =
     (depth : ℕ) (cs : List Class) (para_level : ℕ)
-    → HoldsLevels places depth cs para_level → para_level ≤ depth → p < length cs → IfSome place (λ x. x.0 ≤ depth)
+    → HoldsLevels explicit depth cs para_level → para_level ≤ depth → p < length cs → IfSome leveled (λ x. x.0 ≤ depth)

@@ -20,4 +20,4 @@ EntriesAreFew depth cs para_level qs = length (entries_of depth cs para_level qs
 
 -- BD2: a position that has an explicit level has none above the depth
 abbrev pub HasNoLevelAboveDepth : ℕ → List Class → ℕ → ℕ → Type 0
-HasNoLevelAboveDepth depth cs para_level p = IfSome (explicit_at depth cs para_level p) (λ place. place.0 ≤ depth)
+HasNoLevelAboveDepth depth cs para_level p = IfSome (explicit_at depth cs para_level p) (λ leveled. leveled.0 ≤ depth)

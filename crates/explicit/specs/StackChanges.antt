@@ -3,7 +3,7 @@ use Rattle.std.specs.Prelude.{◌≡◌, ℕ, Bool, true, false, List, ◌∷◌
 use Rattle.units.specs.Classes.{class_at, is_isolate_initiator, is_removed, is_separator}
 use Rattle.units.specs.Explicit.{wants_odd}
 use Rattle.units.specs.declared.class.Class.{Class}
-use Rattle.explicit.specs.StatusStacks.{Represents, is_taken, entry_at, state_within, place_in}
+use Rattle.explicit.specs.StatusStacks.{Represents, is_taken, entry_at, state_within, leveled_in}
 use Rattle.explicit.specs.declared.status.Status.{Status}
 use Rattle.explicit.specs.declared.status.StatusStack.{StatusStack}
 
@@ -41,14 +41,14 @@ IsInnermost stack status =
     × (status.override_class ≡ (state_within depth cs para_level qs).override)
 
 -- X5a to X6a: the level and the current class of a position of this class, which is neither removed nor a separator
-abbrev pub GivesPlaceInside : StatusStack → Class → ℕ × Class → Type 0
-GivesPlaceInside stack class place =
+abbrev pub GivesLeveledInside : StatusStack → Class → ℕ × Class → Type 0
+GivesLeveledInside stack class leveled =
     (depth : ℕ) (cs : List Class) (para_level : ℕ) (qs : List ℕ)
     → is_removed class ≡ false → is_separator class ≡ false → Represents depth cs para_level qs stack
-    → Some place ≡ place_in (state_within depth cs para_level qs) para_level class
+    → Some leveled ≡ leveled_in (state_within depth cs para_level qs) para_level class
 
 -- X5a to X9: the level and the current class of a position of this class, or none where it is removed
-abbrev pub GivesPlace : StatusStack → ℕ → Class → Option (ℕ × Class) → Type 0
-GivesPlace stack para_level class place =
+abbrev pub GivesLeveled : StatusStack → ℕ → Class → Option (ℕ × Class) → Type 0
+GivesLeveled stack para_level class leveled =
     (depth : ℕ) (cs : List Class) (qs : List ℕ)
-    → Represents depth cs para_level qs stack → place ≡ place_in (state_within depth cs para_level qs) para_level class
+    → Represents depth cs para_level qs stack → leveled ≡ leveled_in (state_within depth cs para_level qs) para_level class

@@ -85,8 +85,8 @@ abbrev pub is_ordinary : Class → Bool
 is_ordinary c = not (is_initiator c || (is_pdi c || (is_removed c || is_separator c)))
 
 -- X5a to X9: the level and the current class of a position of this class in this state, or none where it is removed
-abbrev pub place_in : State → ℕ → Class → Option (ℕ × Class)
-place_in s para_level own =
+abbrev pub leveled_in : State → ℕ → Class → Option (ℕ × Class)
+leveled_in s para_level own =
     if is_removed own then None
     else if is_separator own then Some (para_level, own)
     else Some (s.level, unwrap_or s.override own)

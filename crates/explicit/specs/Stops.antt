@@ -1,7 +1,8 @@
 -- BD9, P2: where the walk that finds isolates stops, and what it passes.
-use Rattle.std.specs.Prelude.{◌≡◌, ℕ, zero, suc, ◌+◌, ◌<◌, ◌≤◌, Bool, true, false, ◌||◌, ◌&&◌, not, List, length, Option, None, slice_set}
+use Rattle.std.specs.Prelude.{◌≡◌, ℕ, ◌<◌, ◌≤◌, Bool, true, false, ◌||◌, ◌&&◌, not, List, length, Option, None}
 use Rattle.units.specs.Classes.{class_at, is_isolate_formatting, is_strong}
 use Rattle.units.specs.declared.class.Class.{Class}
+use Rattle.explicit.specs.Stretches.{with_stretch}
 
 -- no isolate begins or ends at a position from this one on, before the end
 abbrev pub HasNoFormatting : List Class → ℕ → ℕ → Type 0
@@ -22,7 +23,6 @@ pub record IsNextStop (sought : Bool) (cs : List Class) (from p : ℕ) : Type 0 
   pub stops : is_passed sought (class_at cs p) ≡ false
   pub first : ArePassed sought cs from p
 
--- the partners, with none at so many positions from this one on
+-- the partners, with none at the positions from this one on, before the end
 abbrev pub without_partners : ℕ → ℕ → List (Option ℕ) → List (Option ℕ)
-without_partners from zero partners = partners
-without_partners from (suc n) partners = slice_set (without_partners from n partners) (from + n) None
+without_partners from end partners = with_stretch from end (λ p. None) partners

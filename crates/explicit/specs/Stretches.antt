@@ -1,6 +1,7 @@
 -- What the walks over a paragraph pass at once: positions that follow one another, and what is written to them.
-use Rattle.std.specs.Prelude.{◌≡◌, ℕ, zero, suc, ◌+◌, ◌<◌, ◌≤◌, Bool, true, false, List, length, Option, Some, unwrap_or, slice_set}
+use Rattle.std.specs.Prelude.{◌≡◌, ℕ, ◌<◌, ◌≤◌, Bool, true, false, ◌&&◌, if◌then◌else◌, nat_le, nat_lt, List, length, map, Option, None, Some, unwrap_or, slice_index_or}
 use Rattle.units.specs.Classes.{class_at}
+use Rattle.units.specs.Positions.{positions_of}
 use Rattle.units.specs.declared.class.Class.{Class}
 use Rattle.explicit.specs.declared.status.Status.{Status}
 
@@ -13,11 +14,14 @@ pub record IsStretch (test : Class → Bool) (cs : List Class) (from end : ℕ) 
 
 -- X5a to X6a: where this status holds, the level and the current class of a position of this class, which is neither
 -- removed nor a separator
-abbrev pub place_by : Status → Class → ℕ × Class
-place_by status class = (status.level, unwrap_or status.override_class class)
+abbrev pub leveled_by_status : Status → Class → ℕ × Class
+leveled_by_status status class = (status.level, unwrap_or status.override_class class)
 
--- the places, with those by this status at so many positions from this one on
-abbrev pub with_places : Status → List Class → ℕ → ℕ → List (Option (ℕ × Class)) → List (Option (ℕ × Class))
-with_places status cs from zero places = places
-with_places status cs from (suc n) places =
-    slice_set (with_places status cs from n places) (from + n) (Some (place_by status (class_at cs (from + n))))
+-- a list, with these values at the positions from this one on, before the end
+abbrev pub with_stretch : {X : Type 0} → ℕ → ℕ → (ℕ → Option X) → List (Option X) → List (Option X)
+with_stretch from end value xs =
+    map (λ p. if nat_le from p && nat_lt p end then value p else slice_index_or xs p None) (positions_of xs)
+
+-- the explicit levels and classes, with those by this status at the positions from this one on, before the end
+abbrev pub with_leveled : Status → List Class → ℕ → ℕ → List (Option (ℕ × Class)) → List (Option (ℕ × Class))
+with_leveled status cs from end explicit = with_stretch from end (λ p. Some (leveled_by_status status (class_at cs p))) explicit

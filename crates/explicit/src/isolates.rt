@@ -169,7 +169,7 @@ fn clear<L: Ledger>(
 )
     requires order { from ≤ end }
     requires within { end ≤ length partners.old }
-    ensures partners { partners.new ≡ without_partners from (end - from) partners.old }
+    ensures partners { partners.new ≡ without_partners from end partners.old }
     ensures steps { steps.new + from ≡ steps.old + end }
 {
     steps.add(end - from);
@@ -178,8 +178,8 @@ fn clear<L: Ledger>(
     }
 }
 
-// Passes positions from this one on at which no isolate begins or ends, four at a time, where no strong class is sought,
-// and writes that they have no partners. Answers the position behind them. Each is a step.
+// Passes positions from this one on at which no isolate begins or ends, four at a time, where no strong class is
+// sought, and writes that they have no partners. Answers the position behind them. Each is a step.
 fn pass_fours<L: Ledger>(
     para: &[Unit],
     from: usize,
@@ -193,7 +193,7 @@ fn pass_fours<L: Ledger>(
     ensures within { result ≤ length para.now }
     ensures passed { HasNoFormatting (classes_of para.now) from result }
     ensures seeks { sought ≡ true → result ≡ from }
-    ensures partners { partners.new ≡ without_partners from (result - from) partners.old }
+    ensures partners { partners.new ≡ without_partners from result partners.old }
     ensures steps { steps.new + from ≡ steps.old + result }
 {
     let mut p = from;
@@ -217,9 +217,8 @@ fn next_stop<L: Ledger>(
     requires room { length para.now ≤ length partners.old }
     ensures found { IfSome result (λ p. IsNextStop sought (classes_of para.now) from p) }
     ensures none { IsNone result → ArePassed sought (classes_of para.now) from (length para.now) }
-    ensures partners { IfSome result (λ p. partners.new ≡ without_partners from (p + 1 - from) partners.old) }
-    ensures all_partners { IsNone result
-        → partners.new ≡ without_partners from (length para.now - from) partners.old }
+    ensures partners { IfSome result (λ p. partners.new ≡ without_partners from (p + 1) partners.old) }
+    ensures all_partners { IsNone result → partners.new ≡ without_partners from (length para.now) partners.old }
     ensures steps { IfSome result (λ p. steps.new + from ≡ steps.old + (p + 1)) }
     ensures all_steps { IsNone result → steps.new + from ≡ steps.old + length para.now }
 {

@@ -7,7 +7,7 @@ ghost use Rattle.units.specs.declared.class.Class.TheVariants.{BN};
 ghost use Rattle.explicit.specs.IsolateMaps.{IsFilledFrom};
 ghost use Rattle.explicit.specs.ExplicitLevels.{HoldsLevels, IsExplicitAt, IsWithinDepth};
 ghost use Rattle.explicit.specs.StatusStacks.{entry_count, is_ordinary};
-ghost use Rattle.explicit.specs.Stretches.{IsStretch, with_places};
+ghost use Rattle.explicit.specs.Stretches.{IsStretch, with_leveled};
 ghost use Rattle.explicit.specs.WantedLevels.{IsOddWanted};
 
 use crate::isolates::IsolateMap;
@@ -28,7 +28,7 @@ use units::steps::Steps;
 /// statuses, which is empty between calls.
 #[derive(Drop)]
 pub struct Explicit {
-    places: BoxedSlice<Option<(Level, Class)>>,
+    column: BoxedSlice<Option<(Level, Class)>>,
     stack: StatusStack,
 }
 
@@ -40,7 +40,7 @@ impl Model for Explicit {
 
     ghost Value = { List (Option (ℕ × Class)) };
 
-    ghost view = { λ explicit. boxed_slice_items explicit.places };
+    ghost view = { λ explicit. boxed_slice_items explicit.column };
 
     ghost invariant = { λ explicit. entry_count explicit.stack ≡ 0 };
 }
@@ -54,9 +54,9 @@ impl Explicit {
         if n >= u32::MAX as usize {
             return Err(Memory);
         }
-        let places = vec![in alloc; None; n]?.into_boxed_slice();
+        let column = vec![in alloc; None; n]?.into_boxed_slice();
         Ok(Explicit {
-            places,
+            column,
             stack: StatusStack::empty(),
         })
     }
@@ -69,7 +69,7 @@ impl Explicit {
         ensures found { IsExplicitAt self.now p result }
         ensures within { IsWithinDepth self.now p result }
     {
-        self.places[p]
+        self.column[p]
     }
 
     /// X1 to X9: the current class of the position `p`, BN where it is removed. `p` is a position of the paragraph that
@@ -96,61 +96,61 @@ fn asks_odd(class: Class, right_to_left: bool) -> bool
     }
 }
 
-// X5a to X6a: writes the places of the positions from this one on, inside this status, up to the next one whose class is
-// not ordinary, or to the end. Answers that position. Each that is written is a step.
-fn place_ordinary<L: Ledger>(
+// X5a to X6a: writes the level and the class of each position from this one on, inside this status, up to the next one
+// whose class is not ordinary, or to the end. Answers that position. Each that is written is a step.
+fn level_ordinary<L: Ledger>(
     para: &[Unit],
     from: usize,
     status: Status,
-    places: &mut [Option<(Level, Class)>],
+    explicit: &mut [Option<(Level, Class)>],
     steps: &mut Steps<L>,
 ) -> usize
     requires from { from ≤ length para.now }
-    requires room { length para.now ≤ length places.old }
+    requires room { length para.now ≤ length explicit.old }
     ensures stretch { IsStretch is_ordinary (classes_of para.now) from result }
-    ensures places { places.new ≡ with_places status (classes_of para.now) from (result - from) places.old }
+    ensures explicit { explicit.new ≡ with_leveled status (classes_of para.now) from result explicit.old }
     ensures steps { steps.new + from ≡ steps.old + result }
 {
     let mut p = from;
     while p < para.len() && is_ordinary(para[p].class) {
         steps.tick();
-        places[p] = Some(status.place(para[p].class));
+        explicit[p] = Some(status.leveled(para[p].class));
         p += 1;
     }
     p
 }
 
-// X1 to X9: finds the level and the current class of each position, from one that begins or ends something or is removed
-// to the next. The stack is empty before and after.
-fn find_places<L: Ledger>(
+// X1 to X9: finds the level and the current class of each position, from one that begins or ends something or is
+// removed to the next. The stack is empty before and after.
+fn find_explicit<L: Ledger>(
     para: &[Unit],
     map: &IsolateMap,
     base: Level,
     depth: u8,
     stack: &mut StatusStack,
-    places: &mut [Option<(Level, Class)>],
+    explicit: &mut [Option<(Level, Class)>],
     steps: &mut Steps<L>,
 )
     requires base { base ≤ 1 }
     requires within { depth ≤ 125 }
-    requires room { length para.now ≤ length places.old }
+    requires room { length para.now ≤ length explicit.old }
     requires filled { IsFilledFrom map.now (classes_of para.now) }
     requires empty { entry_count stack.old ≡ 0 }
-    ensures found { HoldsLevels places.new depth (classes_of para.now) base }
+    ensures found { HoldsLevels explicit.new depth (classes_of para.now) base }
     ensures empty { entry_count stack.new ≡ 0 }
     ensures least_steps { steps.old + length para.now ≤ steps.new }
     ensures most_steps { steps.new ≤ steps.old + (2 * length para.now + 1) }
 {
     stack.begin(base);
-    let mut p = place_ordinary(para, 0, stack.inside(), places, steps);
+    let mut p = level_ordinary(para, 0, stack.inside(), explicit, steps);
     while p < para.len() {
         steps.tick();
         let class = para[p].class;
         stack.close(class, steps);
-        places[p] = stack.place(class, base);
+        explicit[p] = stack.leveled(class, base);
         let odd = asks_odd(class, map.is_right_to_left(p));
         stack.open(class, odd, depth);
-        p = place_ordinary(para, p + 1, stack.inside(), places, steps);
+        p = level_ordinary(para, p + 1, stack.inside(), explicit, steps);
     }
     stack.clear(steps);
 }
@@ -173,13 +173,13 @@ pub fn explicit_levels<L: Ledger>(
     ensures least_steps { steps.old + length para.now ≤ steps.new }
     ensures most_steps { steps.new ≤ steps.old + (2 * length para.now + 1) }
 {
-    find_places(
+    find_explicit(
         para,
         map,
         level.level(),
         limits.depth(),
         &mut out.stack,
-        &mut out.places,
+        &mut out.column,
         steps,
     );
 }

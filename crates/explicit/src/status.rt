@@ -5,8 +5,8 @@ ghost use Rattle.units.specs.Explicit.{next_odd, next_even, override_of};
 ghost use Rattle.units.specs.declared.class.Class.{Class};
 ghost use Rattle.explicit.specs.OpenInitiators.{after_pdi, after_pdf, left_open, opened};
 ghost use Rattle.explicit.specs.StatusStacks.{Represents, IsKept, before_isolate, entry_count, is_ordinary};
-ghost use Rattle.explicit.specs.StackChanges.{Closes, Opens, TakesInitiator, RefusesInitiator, IsInnermost, GivesPlaceInside, GivesPlace};
-ghost use Rattle.explicit.specs.Stretches.{place_by};
+ghost use Rattle.explicit.specs.StackChanges.{Closes, Opens, TakesInitiator, RefusesInitiator, IsInnermost, GivesLeveledInside, GivesLeveled};
+ghost use Rattle.explicit.specs.Stretches.{leveled_by_status};
 
 use arrayvec::ArrayVec;
 use std::sync::ledger::Ledger;
@@ -25,8 +25,8 @@ pub struct Status {
 impl Status {
     /// X5a to X6a: where this holds, the level and the current class of a position of this class, which is neither
     /// removed nor a separator.
-    pub fn place(&self, class: Class) -> (Level, Class)
-        ensures { result ≡ place_by self.now class }
+    pub fn leveled(&self, class: Class) -> (Level, Class)
+        ensures { result ≡ leveled_by_status self.now class }
     {
         (self.level, self.override_class.unwrap_or(class))
     }
@@ -154,18 +154,18 @@ impl StatusStack {
 
     // X5a to X6a: the level and the current class of a position of this class, which is neither removed nor a
     // separator.
-    fn place_inside(&self, class: Class) -> (Level, Class)
+    fn leveled_inside(&self, class: Class) -> (Level, Class)
         requires { IsKept self.now }
-        ensures { GivesPlaceInside self.now class result }
+        ensures { GivesLeveledInside self.now class result }
     {
         let current = self.current();
         (current.level, current.override_class.unwrap_or(class))
     }
 
     /// X5a to X9: the level and the current class of a position of this class, or none where it is removed.
-    pub fn place(&self, class: Class, base: Level) -> Option<(Level, Class)>
+    pub fn leveled(&self, class: Class, base: Level) -> Option<(Level, Class)>
         requires { IsKept self.now }
-        ensures { GivesPlace self.now base class result }
+        ensures { GivesLeveled self.now base class result }
     {
         if class.is_removed() {
             return None;
@@ -173,7 +173,7 @@ impl StatusStack {
         if class.is_separator() {
             return Some((base, class));
         }
-        Some(self.place_inside(class))
+        Some(self.leveled_inside(class))
     }
 
     // X6a: drops the entries from the last isolate's on.

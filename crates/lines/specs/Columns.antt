@@ -4,7 +4,7 @@ use Rattle.std.specs.Box.{boxed_slice_items}
 use Rattle.units.specs.Layout.{LineLayout, longest_text}
 use Rattle.units.specs.declared.level.ParaLevel.{ParaLevel}
 use Rattle.lines.specs.Bounds.{lines_in}
-use Rattle.lines.specs.Room.{places_in}
+use Rattle.lines.specs.Room.{items_in}
 use Rattle.lines.specs.declared.bounds.Bound.{Bound}
 use Rattle.lines.specs.declared.columns.LineColumns.{LineColumns}
 use Rattle.lines.specs.declared.columns.TextColumns.{TextColumns}
@@ -46,44 +46,44 @@ bounds_filled filled columns = take (filled.lines + 1) (bounds_in columns)
 abbrev pub lines_filled : Filled → LineColumns → List LineLayout
 lines_filled filled columns = lines_in (orders_filled filled columns) (bounds_filled filled columns)
 
--- these are columns for a text of so many units: each has a place for each unit
+-- these are columns for a text of so many units: each has an item for each unit
 pub record IsTextRoom (columns : TextColumns) (units : ℕ) : Type 0 where
-  pub paras : places_in columns.paras ≡ units
-  pub para_ends : places_in columns.para_ends ≡ units
-  pub levels : places_in columns.levels ≡ units
-  pub resolved : places_in columns.resolved ≡ units
+  pub paras : items_in columns.paras ≡ units
+  pub para_ends : items_in columns.para_ends ≡ units
+  pub levels : items_in columns.levels ≡ units
+  pub resolved : items_in columns.resolved ≡ units
 
--- these are columns for its lines: the bounds have one place more
+-- these are columns for its lines: the bounds have one item more
 pub record IsLineRoom (columns : LineColumns) (units : ℕ) : Type 0 where
-  pub runs : places_in columns.runs ≡ units
-  pub orders : places_in columns.orders ≡ units
-  pub bounds : places_in columns.bounds ≡ units + 1
+  pub runs : items_in columns.runs ≡ units
+  pub orders : items_in columns.orders ≡ units
+  pub bounds : items_in columns.bounds ≡ units + 1
 
 -- there is room for a text of so many units
 pub record HasTextRoom (columns : TextColumns) (units : ℕ) : Type 0 where
-  pub paras : units ≤ places_in columns.paras
-  pub para_ends : units ≤ places_in columns.para_ends
-  pub levels : units ≤ places_in columns.levels
-  pub resolved : units ≤ places_in columns.resolved
+  pub paras : units ≤ items_in columns.paras
+  pub para_ends : units ≤ items_in columns.para_ends
+  pub levels : units ≤ items_in columns.levels
+  pub resolved : units ≤ items_in columns.resolved
 
 -- there is room for the lines of such a text
 pub record HasLineRoom (columns : LineColumns) (units : ℕ) : Type 0 where
-  pub runs : units ≤ places_in columns.runs
-  pub orders : units ≤ places_in columns.orders
-  pub bounds : units < places_in columns.bounds
+  pub runs : units ≤ items_in columns.runs
+  pub orders : units ≤ items_in columns.orders
+  pub bounds : units < items_in columns.bounds
 
 -- columns don't grow
 pub record KeepsTextRoom (old new : TextColumns) : Type 0 where
-  pub paras : places_in new.paras ≡ places_in old.paras
-  pub para_ends : places_in new.para_ends ≡ places_in old.para_ends
-  pub levels : places_in new.levels ≡ places_in old.levels
-  pub resolved : places_in new.resolved ≡ places_in old.resolved
+  pub paras : items_in new.paras ≡ items_in old.paras
+  pub para_ends : items_in new.para_ends ≡ items_in old.para_ends
+  pub levels : items_in new.levels ≡ items_in old.levels
+  pub resolved : items_in new.resolved ≡ items_in old.resolved
 
 -- columns don't grow
 pub record KeepsLineRoom (old new : LineColumns) : Type 0 where
-  pub runs : places_in new.runs ≡ places_in old.runs
-  pub orders : places_in new.orders ≡ places_in old.orders
-  pub bounds : places_in new.bounds ≡ places_in old.bounds
+  pub runs : items_in new.runs ≡ items_in old.runs
+  pub orders : items_in new.orders ≡ items_in old.orders
+  pub bounds : items_in new.bounds ≡ items_in old.bounds
 
 -- all columns are made for texts of so many units, and that is no more than any may have
 pub record HaveRoom (room for_paragraphs : ℕ) (text : TextColumns) (lines : LineColumns) : Type 0 where

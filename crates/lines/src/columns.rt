@@ -1,6 +1,6 @@
-//! Columns: boxed slices, which don't grow, with a place for each unit of room.
+//! Columns: boxed slices, which don't grow, with an item for each unit of room.
 ghost use Rattle.std.specs.Prelude.{◌≡◌, ◌≤◌, ◌+◌, IfOk, length, take};
-ghost use Rattle.lines.specs.Room.{places_in};
+ghost use Rattle.lines.specs.Room.{items_in};
 
 use crate::bounds::Bound;
 use crate::runs::Run;
@@ -11,9 +11,9 @@ use units::level::{Level, ParaLevel};
 use units::memory::Memory;
 use units::steps::Steps;
 
-/// A column of `n` places, all with this value.
+/// A column of `n` items, all with this value.
 fn column<T: Copy>(alloc: Global, value: T, n: usize) -> Result<BoxedSlice<T>, Memory>
-    ensures { IfOk result (λ column. places_in column ≡ n) }
+    ensures { IfOk result (λ column. items_in column ≡ n) }
 {
     Ok(vec![in alloc; value; n]?.into_boxed_slice())
 }
@@ -32,8 +32,8 @@ fn copy_levels<L: Ledger>(
     column[..levels.len()].copy_from_slice(levels);
 }
 
-/// The columns of a text: the levels of its paragraphs and where they end, and the levels of its positions, after L1 and
-/// before it. Those before it are kept apart only where L1 may change some.
+/// The columns of a text: the levels of its paragraphs and where they end, and the levels of its positions, after L1
+/// and before it. Those before it are kept apart only where L1 may change some.
 #[derive(Drop)]
 pub(crate) struct TextColumns {
     pub(crate) paras: BoxedSlice<ParaLevel>,
@@ -47,7 +47,7 @@ impl TextColumns {
     ghost use Rattle.lines.specs.Columns.{levels_filled, resolved_column, resolved_filled};
     ghost use Rattle.lines.specs.Columns.{HasTextRoom, IsTextRoom, KeepsTextRoom};
 
-    /// Columns of `n` places.
+    /// Columns of `n` items.
     pub(crate) fn with_room(alloc: Global, n: usize) -> Result<TextColumns, Memory>
         ensures { IfOk result (λ columns. IsTextRoom columns n) }
     {

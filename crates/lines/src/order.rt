@@ -116,8 +116,8 @@ fn write_run<L: Ledger>(run: LineSpan<'_>, order: &mut [usize], steps: &mut Step
     }
 }
 
-/// Writes the positions of a run behind the first `count` places of `order`, a step for each. It answers how many
-/// places are written then.
+/// Writes the positions of a run behind the first `count` items of `order`, a step for each. It answers how many
+/// items are written then.
 fn append_run<L: Ledger>(
     run: LineSpan<'_>,
     order: &mut [usize],
@@ -174,8 +174,8 @@ fn write_runs<L: Ledger>(
 /// Writes the order of a line (L2) to the front of `order`: its positions that were not removed, from left to right.
 /// It answers how many they are.
 ///
-/// `order` needs a place for each unit of the line; those behind the answered ones hold anything. `runs` needs a
-/// place for each unit of the text up to the line's end. `uniform` is the level that all remaining positions of the
+/// `order` needs an item for each unit of the line; those behind the answered ones hold anything. `runs` needs an
+/// item for each unit of the text up to the line's end. `uniform` is the level that all remaining positions of the
 /// line have, where that is known. It takes between n and `6 * n` steps on a line of n positions, and where that level
 /// is known at most `2 * n`.
 // Inlined, a short text takes fewer instructions.

@@ -21,7 +21,7 @@ pub(crate) fn all_remain<L: Ledger>(levels: &[Option<Level>], steps: &mut Steps<
     !removed
 }
 
-/// Writes the positions from `start` on, rising, a step for each place.
+/// Writes the positions from `start` on, rising, a step for each.
 pub(crate) fn count_up<L: Ledger>(start: usize, places: &mut [usize], steps: &mut Steps<L>)
     requires { start + length places.old < 2 ^ 64 }
     ensures order { places.new ≡ positions_from start (length places.old) }
@@ -33,7 +33,7 @@ pub(crate) fn count_up<L: Ledger>(start: usize, places: &mut [usize], steps: &mu
     }
 }
 
-/// Writes the positions before `end`, falling, a step for each place.
+/// Writes the positions before `end`, falling, a step for each.
 pub(crate) fn count_down<L: Ledger>(end: usize, places: &mut [usize], steps: &mut Steps<L>)
     requires { length places.old ≤ end }
     ensures order { places.new ≡ reverse (positions_from (end - length places.old) (length places.old)) }

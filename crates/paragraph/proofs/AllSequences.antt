@@ -90,13 +90,13 @@ levels_are_resolved limits us para levels n has =
     has i (omega arith) ∙ ap found (sym at) ∙ sym (get_or-map found (positions_of us) i 0 None (omega arith)))
 
 -- of a paragraph whose explicit levels were found
-module _ (limits : LimitsOf) (us : List BidiUnit) (para : ℕ) (places : List (Option (ℕ × Class))) (holds : HoldsLevels places limits.depth (classes_of us) para) where
-  front : current_of (take (length us) places) ≡ current_of (explicit_of limits.depth (classes_of us) para)
+module _ (limits : LimitsOf) (us : List BidiUnit) (para : ℕ) (explicit : List (Option (ℕ × Class))) (holds : HoldsLevels explicit limits.depth (classes_of us) para) where
+  front : current_of (take (length us) explicit) ≡ current_of (explicit_of limits.depth (classes_of us) para)
   front = grind (arith, length-map, found_front)
 
-  pub found_own : (ps : List ℕ) → AreOwn ps us (current_of (take (length us) places))
+  pub found_own : (ps : List ℕ) → AreOwn ps us (current_of (take (length us) explicit))
   found_own ps = subst (AreOwn ps us) (sym front) (classes_are_kept limits.depth us para ps)
 
   pub found_levels : (all : List SequenceView) (levels : List (Option ℕ)) → all ≡ sequences_of (leveled_of limits.depth (classes_of us) para) → length levels ≡ length us →
-      HasLevelsBy limits.brackets us (current_of (take (length us) places)) all levels → levels ≡ resolved_levels limits us para
+      HasLevelsBy limits.brackets us (current_of (take (length us) explicit)) all levels → levels ≡ resolved_levels limits us para
   found_levels all levels e n has = grind (arith, levels_are_resolved, front)

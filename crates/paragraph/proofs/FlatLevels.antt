@@ -57,16 +57,16 @@ flat_levels limits us para all levels flat are n has =
     ∙ sym (resolved_levels-flat limits us para flat)
 
 -- what the sequences give by the classes before W1, in a flat paragraph and in any other
-pub own_before : (limits : LimitsOf) (us : List BidiUnit) (para : ℕ) (places : List (Option (ℕ × Class))) (flat : Bool) → (flat ≡ false → HoldsLevels places limits.depth (classes_of us) para) →
-    (ps : List ℕ) → AreOwn ps us (classes_before flat us places)
-own_before limits us para places true holds ps = λ p stands free. refl
-own_before limits us para places false holds ps = found_own limits us para places (holds refl) ps
+pub own_before : (limits : LimitsOf) (us : List BidiUnit) (para : ℕ) (explicit : List (Option (ℕ × Class))) (flat : Bool) → (flat ≡ false → HoldsLevels explicit limits.depth (classes_of us) para) →
+    (ps : List ℕ) → AreOwn ps us (classes_before flat us explicit)
+own_before limits us para explicit true holds ps = λ p stands free. refl
+own_before limits us para explicit false holds ps = found_own limits us para explicit (holds refl) ps
 
-pub levels_before : (limits : LimitsOf) (us : List BidiUnit) (para : ℕ) (places : List (Option (ℕ × Class))) (flat : Bool) → (flat ≡ true → IsFlat (classes_of us)) →
-    (flat ≡ false → HoldsLevels places limits.depth (classes_of us) para) → (all : List SequenceView) (levels : List (Option ℕ)) → all ≡ sequences_of (leveled_of limits.depth (classes_of us) para) →
-    length levels ≡ length us → HasLevelsBy limits.brackets us (classes_before flat us places) all levels → levels ≡ resolved_levels limits us para
-levels_before limits us para places true is holds all levels are n has = flat_levels limits us para all levels (is refl) are n has
-levels_before limits us para places false is holds all levels are n has = found_levels limits us para places (holds refl) all levels are n has
+pub levels_before : (limits : LimitsOf) (us : List BidiUnit) (para : ℕ) (explicit : List (Option (ℕ × Class))) (flat : Bool) → (flat ≡ true → IsFlat (classes_of us)) →
+    (flat ≡ false → HoldsLevels explicit limits.depth (classes_of us) para) → (all : List SequenceView) (levels : List (Option ℕ)) → all ≡ sequences_of (leveled_of limits.depth (classes_of us) para) →
+    length levels ≡ length us → HasLevelsBy limits.brackets us (classes_before flat us explicit) all levels → levels ≡ resolved_levels limits us para
+levels_before limits us para explicit true is holds all levels are n has = flat_levels limits us para all levels (is refl) are n has
+levels_before limits us para explicit false is holds all levels are n has = found_levels limits us para explicit (holds refl) all levels are n has
 
 -- what is removed nowhere is not removed here
 pub unit_kept : (us : List BidiUnit) (p : ℕ) → p < length us → HasNone is_removed (classes_of us) → is_removed (get_or us p no_unit).class ≡ false

@@ -17,7 +17,7 @@ use Rattle.units.specs.declared.class.Class.{Class}
 use Rattle.units.proofs.Lengths.{length-levels_of_sequence}
 use Rattle.explicit.proofs.LevelsFound.InsideIsolates.{nested}
 use Rattle.explicit.proofs.LevelsFound.Leveled.{leveled, level-read, size-is}
-use Rattle.explicit.proofs.LevelsFound.Places.{explicit-none}
+use Rattle.explicit.proofs.LevelsFound.ExplicitAt.{explicit-none}
 use Rattle.units.proofs.Positions.{length-positions_from, get_or-positions_from}
 use Rattle.sequences.specs.Once.{times}
 use Rattle.sequences.proofs.Once.{sequences_hold_once, times-append}
@@ -41,7 +41,7 @@ module _ (most_open : ℕ) (us : List BidiUnit) (before : List Class) where
             ap is_none (found-append (levels_in most_open us before s) later p (zip_none s.positions values p (omega arith))) ∙ found_held all p (omega arith)
       ]
 
-some-map : (place : Option (ℕ × Class)) → is_some (option_map (λ x. x.0) place) ≡ not (is_none place)
+some-map : (leveled : Option (ℕ × Class)) → is_some (option_map (λ x. x.0) leveled) ≡ not (is_none leveled)
 some-map None = refl
 some-map (Some x) = refl
 

@@ -6,7 +6,7 @@ use Rattle.units.specs.declared.class.Class.{Class}
 use Rattle.units.specs.declared.class.Class.TheVariants.{L, R, AL, EN, ES, ET, AN, CS, NSM, BN, B, S, WS, ON, LRE, LRO, RLE, RLO, PDF, LRI, RLI, FSI, PDI}
 use Rattle.paragraph.specs.declared.class_set.ClassSet.{ClassSet}
 
--- the place of a class among the 23
+-- the number of a class among the 23
 abbrev pub class_number : Class → ℕ
 class_number L = 0
 class_number R = 1

@@ -11,7 +11,7 @@ use Rattle.resolve.specs.Raised.{resolved_at}
 
 -- X1 to X8: the classes before W1: the own ones of a flat paragraph, and else those that were found
 abbrev pub classes_before : Bool → List BidiUnit → List (Option (ℕ × Class)) → List Class
-classes_before flat us places = if flat then classes_of us else current_of (take (length us) places)
+classes_before flat us explicit = if flat then classes_of us else current_of (take (length us) explicit)
 
 -- the positions of these sequences, sequence by sequence
 abbrev pub positions_in : List SequenceView → List ℕ

@@ -61,9 +61,9 @@ pub fn weak_rules_are_idle()
     ensures { (sos : Class) → (cs : List Class) → list_any may_weaken cs ≡ false → after_weak sos cs ≡ cs }
 {}
 
-/// W1 to I2: `weak`, `bracket_pairs`, `paired`, `neutral` and `implicit`, called one after another, leave the levels, the
-/// classes and the pairs of the sequence that `resolve_sequence` leaves, and other positions' levels and classes as they
-/// were.
+/// W1 to I2: `weak`, `bracket_pairs`, `paired`, `neutral` and `implicit`, called one after another, leave the levels,
+/// the classes and the pairs of the sequence that `resolve_sequence` leaves, and other positions' levels and classes as
+/// they were.
 pub fn rules_in_order()
     ensures { (most_open : ℕ) (s : SequenceView) (us : List BidiUnit) (before old_classes : List Class)
         (old_levels : List (Option ℕ)) (after : AfterEach)

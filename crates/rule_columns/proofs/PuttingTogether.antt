@@ -36,16 +36,16 @@ with_parts explicit classes shown = record {
 }
 
 module _ (us : List BidiUnit) (direction : Direction) (explicit : ExplicitOf) (current : List Class) (is : explicit ≡ explicit_part us direction)
-    (long : length explicit.places ≡ length us) (front : current ≡ current_of (take (length us) explicit.places)) where
-  whole : current ≡ current_of explicit.places
-  whole = front ∙ ap current_of (take_all (length us) explicit.places (omega arith))
+    (long : length explicit.leveled ≡ length us) (front : current ≡ current_of (take (length us) explicit.leveled)) where
+  whole : current ≡ current_of explicit.leveled
+  whole = front ∙ ap current_of (take_all (length us) explicit.leveled (omega arith))
 
   -- but for overrides and what is removed, the classes before W1 are the own ones
   pub own_from : (ps : List ℕ) → AreOwn ps us current
   own_from ps =
       let cs : List Class = classes_of us in
       let kept : AreOwn ps us (current_of (explicit_of standard.depth cs (para_level_of cs direction))) = classes_are_kept standard.depth us (para_level_of cs direction) ps in
-      subst (AreOwn ps us) (sym (whole ∙ ap (λ (x : ExplicitOf). current_of x.places) is)) kept
+      subst (AreOwn ps us) (sym (whole ∙ ap (λ (x : ExplicitOf). current_of x.leveled) is)) kept
 
   pub columns_from : (classes : ClassesOf) (shown : ShownOf) → classes ≡ classes_part explicit.sequences us current → shown ≡ shown_part us direction →
       with_parts explicit classes shown ≡ columns_of us direction
@@ -70,11 +70,11 @@ unfolding implicit_of
 length-implicit_of all cs = length-map (positions_of cs) _ ∙ length-positions_from 0 (length cs)
 
 module _ (us : List BidiUnit) (direction : Direction) where
-  length-places : length (explicit_part us direction).places ≡ length us
-  length-places = grind (arith, length-of_positions, length-map)
+  length-leveled : length (explicit_part us direction).leveled ≡ length us
+  length-leveled = grind (arith, length-of_positions, length-map)
 
-  length-current : length (current_of (explicit_part us direction).places) ≡ length us
-  length-current = length-map (explicit_part us direction).places _ ∙ length-places
+  length-current : length (current_of (explicit_part us direction).leveled) ≡ length us
+  length-current = length-map (explicit_part us direction).leveled _ ∙ length-leveled
 
   length-columns : (rule : Rule) → length (column_after (columns_of us direction) rule) ≡ length us
   unfolding columns_of
@@ -93,7 +93,7 @@ module _ (us : List BidiUnit) (direction : Direction) where
   pub columns_fit : HaveLength (columns_of us direction) (length us)
   unfolding columns_of
   columns_fit = record {
-    places = length-places;
+    leveled = length-leveled;
     classes = length-columns;
     closers = length-closers_of _ us _;
     implicit = length-implicit_of _ _ ∙ length-columns rule.N2;

@@ -43,7 +43,7 @@ pub record BracketOf : Type 0 where
 pub record ExplicitOf : Type 0 where
   pub para_level : ℕ
   pub first_strong : Option ℕ
-  pub places : List (Option (ℕ × Class))
+  pub leveled : List (Option (ℕ × Class))
   pub sequences : List SequenceView
 
 -- the same of what is kept of it
@@ -51,7 +51,7 @@ abbrev pub explicit_view : ExplicitPart → ExplicitOf
 explicit_view part = record {
   para_level = level_of_para part.para_level;
   first_strong = part.first_strong;
-  places = part.places;
+  leveled = part.leveled;
   sequences = part.sequences.all;
 }
 
@@ -101,7 +101,7 @@ explicit_part us direction =
     record {
       para_level = para_level;
       first_strong = first_strong cs None;
-      places = explicit_of standard.depth cs para_level;
+      leveled = explicit_of standard.depth cs para_level;
       sequences = sequences_of (leveled_of standard.depth cs para_level);
     }
 
@@ -145,7 +145,7 @@ shown_part us direction =
 unfoldable pub columns_of : List BidiUnit → Direction → ColumnsOf
 columns_of us direction =
     let explicit = explicit_part us direction in
-    let classes = classes_part explicit.sequences us (current_of explicit.places) in
+    let classes = classes_part explicit.sequences us (current_of explicit.leveled) in
     record {
       explicit = explicit;
       current = classes.current;
@@ -158,7 +158,7 @@ columns_of us direction =
 
 -- each column has an item for each of so many positions
 pub record HaveLength (columns : ColumnsOf) (size : ℕ) : Type 0 where
-  pub places : length columns.explicit.places ≡ size
+  pub leveled : length columns.explicit.leveled ≡ size
   pub classes : (rule : Rule) → length (column_after columns rule) ≡ size
   pub closers : length columns.closers ≡ size
   pub implicit : length columns.implicit ≡ size

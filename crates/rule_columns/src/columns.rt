@@ -58,11 +58,11 @@ impl Columns {
     }
 
     /// X1 to X9: the explicit level and the class of the position `p`, or none where it is removed.
-    pub fn place(&self, p: usize) -> Option<(Level, Class)>
-        requires { p < length self.now.explicit.places }
-        ensures { result ≡ slice_index_or self.now.explicit.places p None }
+    pub fn leveled(&self, p: usize) -> Option<(Level, Class)>
+        requires { p < length self.now.explicit.leveled }
+        ensures { result ≡ slice_index_or self.now.explicit.leveled p None }
     {
-        self.explicit.places.at(p)
+        self.explicit.leveled.at(p)
     }
 
     /// The classes after a rule, by position; BN where a position is removed.
@@ -138,7 +138,7 @@ fn columns_with<L: Ledger>(
     let mut steps = Steps::<L>::new(blank);
     let shown = ShownPart::of(alloc, para, direction, &mut steps)?;
     let explicit = ExplicitPart::of(alloc, para, direction, &mut steps)?;
-    let current = current_classes(alloc, &explicit.places, para.len())?;
+    let current = current_classes(alloc, &explicit.leveled, para.len())?;
     let classes = ClassesPart::of(alloc, &explicit.sequences, para, current, &mut steps)?;
     Ok(Columns {
         explicit,

@@ -8,13 +8,13 @@ use units::class::Class;
 use units::memory::Memory;
 
 /// The classes after X1 to X9 of the first `n` positions that were filled. The error is refused memory.
-pub fn current_classes(alloc: Global, places: &Explicit, n: usize) -> Result<Vec<Class>, Memory>
-    requires { n ≤ length places.now }
-    ensures { IfOk result (λ classes. classes.items ≡ current_of (take n places.now)) }
+pub fn current_classes(alloc: Global, explicit: &Explicit, n: usize) -> Result<Vec<Class>, Memory>
+    requires { n ≤ length explicit.now }
+    ensures { IfOk result (λ classes. classes.items ≡ current_of (take n explicit.now)) }
 {
     let mut classes = Vec::with_capacity(alloc, n)?;
     for p in 0..n {
-        match classes.push(places.class_at(p)) {
+        match classes.push(explicit.class_at(p)) {
             Ok(()) => {}
             Err(_) => return Err(Memory),
         }

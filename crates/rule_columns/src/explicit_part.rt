@@ -24,7 +24,7 @@ use units::steps::Steps;
 pub struct ExplicitPart {
     pub(crate) para_level: ParaLevel,
     pub(crate) first_strong: Option<usize>,
-    pub(crate) places: Explicit,
+    pub(crate) leveled: Explicit,
     pub(crate) sequences: Sequences,
 }
 
@@ -42,10 +42,10 @@ impl ExplicitPart {
         ensures value { IfOk result (λ part. explicit_view part ≡ explicit_part para.now direction) }
         ensures extent { IfOk result (λ part. part.sequences.extent ≡ length para.now) }
         ensures apart { IfOk result (λ part. AreDisjoint (length para.now) part.sequences.all) }
-        ensures length { IfOk result (λ part. length part.places ≡ length para.now) }
+        ensures length { IfOk result (λ part. length part.leveled ≡ length para.now) }
     {
         let limits = Limits::standard();
-        let mut places = Explicit::with_room(alloc, para.len())?;
+        let mut leveled = Explicit::with_room(alloc, para.len())?;
         let mut sequences = Sequences::with_room(alloc, para.len())?;
 
         // P2, P3.
@@ -53,12 +53,12 @@ impl ExplicitPart {
         let first_strong = first_strong(para, isolates);
 
         // X1 to X10.
-        explicit_levels(para, isolates, level, limits, &mut places, steps);
-        sequences.fill(para, isolates, &places, level, steps);
+        explicit_levels(para, isolates, level, limits, &mut leveled, steps);
+        sequences.fill(para, isolates, &leveled, level, steps);
         Ok(ExplicitPart {
             para_level: level,
             first_strong,
-            places,
+            leveled,
             sequences,
         })
     }
@@ -74,7 +74,7 @@ impl ExplicitPart {
         ensures value { IfOk result (λ part. explicit_view part ≡ explicit_part para.now direction) }
         ensures extent { IfOk result (λ part. part.sequences.extent ≡ length para.now) }
         ensures apart { IfOk result (λ part. AreDisjoint (length para.now) part.sequences.all) }
-        ensures length { IfOk result (λ part. length part.places ≡ length para.now) }
+        ensures length { IfOk result (λ part. length part.leveled ≡ length para.now) }
     {
         // BD9.
         let mut isolates = IsolateMap::with_room(alloc, para.len())?;

@@ -34,27 +34,27 @@ no_separator (u ∷ []) e = tt
 no_separator (u ∷ v ∷ us) e = grind (arith, or_parts, no_separator (v ∷ us))
 
 -- the front of what was found is what the rules give
-pub found_front : (depth : ℕ) (places : List (Option (ℕ × Class))) (cs : List Class) (para : ℕ) → HoldsLevels places depth cs para → take (length cs) places ≡ explicit_of depth cs para
-found_front depth places cs para holds =
+pub found_front : (depth : ℕ) (explicit : List (Option (ℕ × Class))) (cs : List Class) (para : ℕ) → HoldsLevels explicit depth cs para → take (length cs) explicit ≡ explicit_of depth cs para
+found_front depth explicit cs para holds =
     let n : length (explicit_of depth cs para) ≡ length cs = length-of_positions cs (explicit_at depth cs para) in
-    let m : length (take (length cs) places) ≡ length cs = length-take-le (length cs) places holds.enough in
-    ext_get_or None (take (length cs) places) (explicit_of depth cs para) (m ∙ sym n)
-    (λ i h. get_or-take (length cs) places i None (omega arith) ∙ holds.at i (omega arith) ∙ sym (get_or-of_positions cs (explicit_at depth cs para) i None (omega arith)))
+    let m : length (take (length cs) explicit) ≡ length cs = length-take-le (length cs) explicit holds.enough in
+    ext_get_or None (take (length cs) explicit) (explicit_of depth cs para) (m ∙ sym n)
+    (λ i h. get_or-take (length cs) explicit i None (omega arith) ∙ holds.at i (omega arith) ∙ sym (get_or-of_positions cs (explicit_at depth cs para) i None (omega arith)))
 
 -- with what X1 to X9 give up to a depth, the paragraph is that of this depth
-pub leveled_by-is : (depth : ℕ) (places : List (Option (ℕ × Class))) (cs : List Class) (para : ℕ) → HoldsLevels places depth cs para → leveled_by places cs para ≡ leveled_of depth cs para
-leveled_by-is depth places cs para holds = grind (arith, found_front)
+pub leveled_by-is : (depth : ℕ) (explicit : List (Option (ℕ × Class))) (cs : List Class) (para : ℕ) → HoldsLevels explicit depth cs para → leveled_by explicit cs para ≡ leveled_of depth cs para
+leveled_by-is depth explicit cs para holds = grind (arith, found_front)
 
 -- the paragraph has as many positions as units
-pub size-of_paragraph : (places : List (Option (ℕ × Class))) (units : List BidiUnit) (para : ℕ) → AreExplicitLevels places (classes_of units) para → size_of (leveled_by places (classes_of units) para) ≡ length units
-size-of_paragraph places units para levels =
-    ap size_of (leveled_by-is levels.depth places (classes_of units) para levels.found) ∙ size-is levels.depth (classes_of units) para ∙ length-classes_of units
+pub size-of_paragraph : (explicit : List (Option (ℕ × Class))) (units : List BidiUnit) (para : ℕ) → AreExplicitLevels explicit (classes_of units) para → size_of (leveled_by explicit (classes_of units) para) ≡ length units
+size-of_paragraph explicit units para levels =
+    ap size_of (leveled_by-is levels.depth explicit (classes_of units) para levels.found) ∙ size-is levels.depth (classes_of units) para ∙ length-classes_of units
 
 -- what was found of a paragraph
-pub found_of : (units : List BidiUnit) (isolates : Isolates) (places : List (Option (ℕ × Class))) (base : ℕ) → SeparatorOnlyLast units → IsFilledFrom isolates (classes_of units) → AreExplicitLevels places (classes_of units) base →
-    base ≤ 1 → AreOfParagraph units isolates places base
-found_of units isolates places base only matched levels low =
-    let e = leveled_by-is levels.depth places (classes_of units) base levels.found in
+pub found_of : (units : List BidiUnit) (isolates : Isolates) (explicit : List (Option (ℕ × Class))) (base : ℕ) → SeparatorOnlyLast units → IsFilledFrom isolates (classes_of units) → AreExplicitLevels explicit (classes_of units) base →
+    base ≤ 1 → AreOfParagraph units isolates explicit base
+found_of units isolates explicit base only matched levels low =
+    let e = leveled_by-is levels.depth explicit (classes_of units) base levels.found in
     record {
       matched = matched;
       enough = levels.found.enough;
@@ -62,20 +62,20 @@ found_of units isolates places base only matched levels low =
       nested = subst IsNested (sym e) (nested levels.depth units base only);
     }
 
-module _ {units : List BidiUnit} {isolates : Isolates} {places : List (Option (ℕ × Class))} {base : ℕ} {t : LeveledView}
-    (a : AreOfParagraph units isolates places base) (e : leveled_by places (classes_of units) base ≡ t) (p : ℕ) (h : p < size_of t) where
+module _ {units : List BidiUnit} {isolates : Isolates} {explicit : List (Option (ℕ × Class))} {base : ℕ} {t : LeveledView}
+    (a : AreOfParagraph units isolates explicit base) (e : leveled_by explicit (classes_of units) base ≡ t) (p : ℕ) (h : p < size_of t) where
   pub within_classes : p < length (classes_of units)
   within_classes = omega (arith, a.leveled.classes_fit, ap size_of e)
 
   pub within_units : p < length units
   within_units = omega (arith, within_classes, length-classes_of units)
 
-  pub within_places : p < length places
-  within_places = omega (arith, within_classes, a.enough)
+  pub within_explicit : p < length explicit
+  within_explicit = omega (arith, within_classes, a.enough)
 
-  -- a position's level is that of its place
-  pub level-place : level_of t p ≡ option_map (λ place. place.0) (slice_index_or places p None)
-  level-place = grind (arith, length-take-le, get_or-map, get_or-take)
+  -- a position's level is its explicit one
+  pub level-explicit : level_of t p ≡ option_map (λ leveled. leveled.0) (slice_index_or explicit p None)
+  level-explicit = grind (arith, length-take-le, get_or-map, get_or-take)
 
   -- the matching PDI of an initiator is its partner
   pub matched-partner : is_isolate_initiator (class_at t.classes p) ≡ true → matched_pdi t p ≡ partner_of (classes_of units) p

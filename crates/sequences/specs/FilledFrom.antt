@@ -11,26 +11,26 @@ use Rattle.explicit.specs.IsolateMaps.{Isolates, IsFilledFrom}
 use Rattle.explicit.specs.ExplicitLevels.{HoldsLevels}
 use Rattle.explicit.specs.Leveled.{IsLeveled, IsNested}
 
--- a paragraph of this level with the explicit levels at these places, and the partners of BD9
+-- a paragraph of this level with these explicit levels, and the partners of BD9
 abbrev pub leveled_by : List (Option (ℕ × Class)) → List Class → ℕ → LeveledView
-leveled_by places cs para_level = record {
+leveled_by explicit cs para_level = record {
   classes = cs;
-  levels = map (option_map (λ place. place.0)) (take (length cs) places);
+  levels = map (option_map (λ leveled. leveled.0)) (take (length cs) explicit);
   partners = map (partner_of cs) (positions_of cs);
   base = para_level;
 }
 
 -- X1 to X9: these are the explicit levels, up to some depth that is allowed (BD2), and the current classes of a
 -- paragraph with these classes, whose level is para_level
-pub record AreExplicitLevels (places : List (Option (ℕ × Class))) (cs : List Class) (para_level : ℕ) : Type 0 where
+pub record AreExplicitLevels (explicit : List (Option (ℕ × Class))) (cs : List Class) (para_level : ℕ) : Type 0 where
   pub depth : ℕ
   pub within : depth ≤ 125
-  pub found : HoldsLevels places depth cs para_level
+  pub found : HoldsLevels explicit depth cs para_level
 
 -- these are the isolates (BD9) and the explicit levels (X1 to X9) of a paragraph of this level
-pub record AreOfParagraph (units : List BidiUnit) (isolates : Isolates) (places : List (Option (ℕ × Class)))
+pub record AreOfParagraph (units : List BidiUnit) (isolates : Isolates) (explicit : List (Option (ℕ × Class)))
     (base : ℕ) : Type 0 where
   pub matched : IsFilledFrom isolates (classes_of units)
-  pub enough : length (classes_of units) ≤ length places
-  pub leveled : IsLeveled (leveled_by places (classes_of units) base)
-  pub nested : IsNested (leveled_by places (classes_of units) base)
+  pub enough : length (classes_of units) ≤ length explicit
+  pub leveled : IsLeveled (leveled_by explicit (classes_of units) base)
+  pub nested : IsNested (leveled_by explicit (classes_of units) base)

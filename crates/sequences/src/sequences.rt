@@ -80,7 +80,7 @@ fn fill_columns<L: Ledger>(
     fill_heads(t, links, ends, joined, heads, column, steps)
 }
 
-/// A column of `n` places, all with this value.
+/// A column of `n` items, all with this value.
 fn column<T: Copy>(alloc: Global, value: T, n: usize) -> Result<BoxedSlice<T>, Memory>
     ensures { IfOk result (λ column. boxed_slice_len column ≡ n) }
 {

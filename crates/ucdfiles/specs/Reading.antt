@@ -3,8 +3,8 @@ use Rattle.std.specs.Prelude.{Option, ℕ, ◌≡◌, ◌≢◌, ◌<◌, ◌⊎
 use Rattle.units.specs.Text.{lines_of, settled_lines}
 use Rattle.units.specs.LineCutting.{Cutting, StandsFor}
 use Rattle.units.specs.Lines.{CutsInto}
-use Rattle.units.specs.declared.line_cut.Step.{Step}
-use Rattle.units.specs.declared.line_cut.Step.TheVariants.{More, Line, TooLong}
+use Rattle.units.specs.declared.line_cut.Cut.{Cut}
+use Rattle.units.specs.declared.line_cut.Cut.TheVariants.{More, Line, TooLong}
 use Rattle.ucdfiles.specs.declared.fault.Fault.{Fault}
 use Rattle.ucdfiles.specs.declared.fault.TableFault.{TableFault}
 use Rattle.ucdfiles.specs.declared.fault.TableFault.TheVariants.{Read, Memory, LineTooLong}
@@ -28,14 +28,14 @@ TakesLine before after fault line =
 abbrev pub IsLineRefusal : (List (List ℕ) → Type 0) → (List (List ℕ) → List ℕ → Option Fault) → ℕ → List ℕ → TableFault → Type 0
 IsLineRefusal before fault number line e = (lines : List (List ℕ)) → before lines → RefusesAt number (fault lines line) e
 
--- what a step does to a table
-abbrev pub IsStep : (List (List ℕ) → Type 0) → (List (List ℕ) → Type 0) → (List (List ℕ) → List ℕ → Option Fault) → Step → Type 0
-IsStep before after fault More = (lines : List (List ℕ)) → before lines → after lines
-IsStep before after fault (Line number text) = TakesLine before after fault text.now
-IsStep before after fault (TooLong number) = ⊥
+-- what a line that was cut does to a table
+abbrev pub IsCut : (List (List ℕ) → Type 0) → (List (List ℕ) → Type 0) → (List (List ℕ) → List ℕ → Option Fault) → Cut → Type 0
+IsCut before after fault More = (lines : List (List ℕ)) → before lines → after lines
+IsCut before after fault (Line number text) = TakesLine before after fault text.now
+IsCut before after fault (TooLong number) = ⊥
 
--- why a step is refused
-abbrev pub IsRefusal : (List (List ℕ) → Type 0) → (List (List ℕ) → List ℕ → Option Fault) → Step → TableFault → Type 0
+-- why a line that was cut is refused
+abbrev pub IsRefusal : (List (List ℕ) → Type 0) → (List (List ℕ) → List ℕ → Option Fault) → Cut → TableFault → Type 0
 IsRefusal before fault More e = ⊥
 IsRefusal before fault (Line number text) e = IsLineRefusal before fault number text.now e
 IsRefusal before fault (TooLong number) e = e ≡ LineTooLong number

@@ -3,12 +3,12 @@ ghost use Rattle.std.specs.Prelude.{◌≡◌, ◌≢◌, ℕ, ◌<◌, ◌↔�
 ghost use Rattle.std.specs.Prelude.{OnOk};
 ghost use Rattle.ucdfiles.specs.Faults.{over_long_line};
 ghost use Rattle.units.specs.Text.{longest_line};
-ghost use Rattle.ucdfiles.specs.Reading.{Reads, ReadsOn, TakesLine, IsLineRefusal, EndsFaultless, EndsFaulty, IsStep};
+ghost use Rattle.ucdfiles.specs.Reading.{Reads, ReadsOn, TakesLine, IsLineRefusal, EndsFaultless, EndsFaulty, IsCut};
 ghost use Rattle.ucdfiles.specs.Reading.{IsRefusal, RefusesBytes, IsOutcome, OfBytes};
 ghost use Rattle.ucdfiles.specs.declared.fault.Fault.{Fault as FaultKind};
 
 use crate::fault::TableFault;
-use units::line_cut::{LineCut, Step};
+use units::line_cut::{Cut, LineCut};
 use units::source::ByteSource;
 
 /// What is made of a file line by line.
@@ -29,15 +29,15 @@ pub trait LineTable {
         → fault lines line ≡ Some over_long_line };
 }
 
-fn take_step<T: LineTable>(table: &mut T, step: Step<'_>) -> Result<(), TableFault>
-    ensures ok { OnOk result (IsStep (T.stands table.old) (T.stands table.new) T.fault step.entry) }
-    ensures err { IfErr result (IsRefusal (T.stands table.old) T.fault step.entry) }
+fn take_cut<T: LineTable>(table: &mut T, taken: Cut<'_>) -> Result<(), TableFault>
+    ensures ok { OnOk result (IsCut (T.stands table.old) (T.stands table.new) T.fault taken.entry) }
+    ensures err { IfErr result (IsRefusal (T.stands table.old) T.fault taken.entry) }
     ensures not_read { IfErr result (λ e. e ≢ TableFault.Read) }
 {
-    match step {
-        Step::More => Ok(()),
-        Step::Line { number, text } => table.add(text, number),
-        Step::TooLong { number } => Err(TableFault::LineTooLong(number)),
+    match taken {
+        Cut::More => Ok(()),
+        Cut::Line { number, text } => table.add(text, number),
+        Cut::TooLong { number } => Err(TableFault::LineTooLong(number)),
     }
 }
 
@@ -50,8 +50,8 @@ fn feed<T: LineTable>(table: &mut T, cutter: &mut LineCut, piece: &[u8]) -> Resu
 {
     let mut at = 0;
     while at < piece.len() {
-        let (used, step) = cutter.take(&piece[at..]);
-        take_step(table, step)?;
+        let (used, taken) = cutter.take(&piece[at..]);
+        take_cut(table, taken)?;
         at += used;
     }
     Ok(())

@@ -12,7 +12,7 @@ use Rattle.units.specs.LineAnswers.{AnswersPiece}
 use Rattle.units.proofs.LineReading.{empty_line, never_both}
 use Rattle.units.proofs.LineAppending.{ended_lines-free, ended_lines-line}
 use Rattle.std.specs.Borrow.{Bor}
-use Rattle.units.specs.declared.line_cut.Step.TheVariants.{More, Line, TooLong}
+use Rattle.units.specs.declared.line_cut.Cut.TheVariants.{More, Line, TooLong}
 use Rattle.units.specs.declared.line_cut.Phase.{Phase}
 use Rattle.units.specs.declared.line_cut.Phase.TheVariants.{Within, Ended, Failed}
 

@@ -3,11 +3,11 @@ use Rattle.std.specs.Prelude.{◌≡◌, ℕ, ◌+◌, ◌<◌, ◌≤◌, List,
 use Rattle.std.specs.Borrow.{Bor}
 use Rattle.units.specs.Text.{longest_line}
 use Rattle.units.specs.Lines.{HasNoFeed, EndsAtFeed, CutsInto, IsTooLongAfter, saturated, ended_lines}
-use Rattle.units.specs.declared.line_cut.Step.{Step}
-use Rattle.units.specs.declared.line_cut.Step.TheVariants.{More, Line, TooLong}
+use Rattle.units.specs.declared.line_cut.Cut.{Cut}
+use Rattle.units.specs.declared.line_cut.Cut.TheVariants.{More, Line, TooLong}
 
 -- the answer to a piece of which so many bytes were used, after these bytes
-abbrev pub AnswersPiece : List ℕ → List ℕ → ℕ → Step → Type 0
+abbrev pub AnswersPiece : List ℕ → List ℕ → ℕ → Cut → Type 0
 AnswersPiece bytes piece used More =
     HasNoFeed piece × (used ≡ length piece) × (ended_lines (bytes ++ take used piece) ≡ ended_lines bytes)
     × ((lines : List (List ℕ)) × (rest : List ℕ) × CutsInto (bytes ++ piece) lines rest)
@@ -26,8 +26,8 @@ Finishes bytes (Some last) =
     (0 < length last.1.now)
     × ((lines : List (List ℕ)) × CutsInto bytes lines last.1.now × (last.0 ≡ saturated (length lines + 1)))
 
--- the line that a step ends is not over-long
-abbrev pub StepIsShort : Step → Type 0
-StepIsShort More = Unit {0}
-StepIsShort (Line number text) = length text.now ≤ longest_line
-StepIsShort (TooLong number) = Unit {0}
+-- the line that a cut ends is not over-long
+abbrev pub CutIsShort : Cut → Type 0
+CutIsShort More = Unit {0}
+CutIsShort (Line number text) = length text.now ≤ longest_line
+CutIsShort (TooLong number) = Unit {0}

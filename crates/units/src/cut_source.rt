@@ -46,7 +46,7 @@ impl ByteSource for CutSource<'_> {
 
     ghost failures = { λ s. failures_when s.has_failed };
 
-    ghost room = { λ s. length s.left };
+    ghost most_left = { λ s. length s.left };
 
     ghost gives_nothing = { λ s. refl };
 
@@ -69,7 +69,7 @@ impl ByteSource for CutSource<'_> {
         if self.has_failed { 1 } else { 0 }
     }
 
-    fn room(&self) -> u64 {
+    fn most_left(&self) -> u64 {
         self.left.len() as u64
     }
 }

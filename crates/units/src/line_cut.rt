@@ -22,7 +22,7 @@ pub enum Phase {
 
 /// What a piece brought.
 #[derive(Debug, Clone, Copy, PartialEq, Eq)]
-pub enum Step<'c> {
+pub enum Cut<'c> {
     /// The piece is used up, and the line has not ended.
     More,
     /// A line has ended: its number, from 1 and at most 2^64 - 1, and its bytes without the LF.
@@ -64,7 +64,7 @@ fn put(buffer: &mut [u8], at: usize, bytes: &[u8])
 
 impl LineCut {
     ghost use Rattle.units.specs.LineCutting.{Cutting, StandsFor, GoesOn, IfCut, IfTooLong, Reaches};
-    ghost use Rattle.units.specs.LineAnswers.{AnswersPiece, Finishes, StepIsShort};
+    ghost use Rattle.units.specs.LineAnswers.{AnswersPiece, Finishes, CutIsShort};
     ghost use Rattle.units.specs.contracts.line_cut.LineCut.{the_row};
     ghost use Rattle.std.specs.Borrow.{sem};
     ghost use Rattle.std.specs.Io.BufRead.{Rests};
@@ -156,27 +156,27 @@ impl LineCut {
     /// Takes the piece through its first LF, or whole where it has none, and answers how many of its bytes were used
     /// and what they brought. Once a line has been over-long, each piece is used whole and the same `TooLong` is
     /// answered.
-    pub fn take(&mut self, piece: &[u8]) -> (usize, Step<'_>)
+    pub fn take(&mut self, piece: &[u8]) -> (usize, Cut<'_>)
         ensures used { result.0 ≤ length piece.now }
         ensures some { 0 < length piece.now → 0 < result.0 }
         ensures through { IfCut self.old (EndsByFeed result.0 piece.now) }
         ensures line { IfCut self.old (UsesOneLine result.0 piece.now) }
         ensures whole { IfTooLong self.old (result.0 ≡ length piece.now) }
-        ensures short { StepIsShort result.1 }
+        ensures short { CutIsShort result.1 }
         ensures answer { (b : List ℕ) → StandsFor self.old b → AnswersPiece b piece.now result.0 result.1 }
         ensures* after { sem 𝓛 (Rests the_row self.entry (GoesOn self.old (take result.0 piece.now))) }
     {
         let used = self.advance(piece);
         let done = self.done;
         match self.phase {
-            Phase::Within => (used, Step::More),
+            Phase::Within => (used, Cut::More),
             Phase::Ended => {
                 let text = self.text();
-                (used, Step::Line { number: done, text })
+                (used, Cut::Line { number: done, text })
             }
             Phase::Failed => {
                 let number = done.saturating_add(1);
-                (used, Step::TooLong { number })
+                (used, Cut::TooLong { number })
             }
         }
     }

@@ -73,7 +73,7 @@ impl<R: Read + Drop> ByteSource for ReaderSource<R> {
 
     ghost failures = { λ s. failures_of s.state };
 
-    ghost room = { λ s. s.left };
+    ghost most_left = { λ s. s.left };
 
     ghost gives_nothing = { λ s. HandsOut-nothing s.remaining s.left s.state };
 
@@ -112,7 +112,7 @@ impl<R: Read + Drop> ByteSource for ReaderSource<R> {
         }
     }
 
-    fn room(&self) -> u64 {
+    fn most_left(&self) -> u64 {
         self.left
     }
 }

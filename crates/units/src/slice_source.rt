@@ -33,7 +33,7 @@ impl ByteSource for SliceSource<'_> {
 
     ghost failures = { λ _. 0 };
 
-    ghost room = { length };
+    ghost most_left = { length };
 
     ghost gives_nothing = { λ s. refl };
 
@@ -52,7 +52,7 @@ impl ByteSource for SliceSource<'_> {
         0
     }
 
-    fn room(&self) -> u64 {
+    fn most_left(&self) -> u64 {
         self.left.len() as u64
     }
 }

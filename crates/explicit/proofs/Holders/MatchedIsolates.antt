@@ -11,7 +11,7 @@ use Rattle.units.specs.declared.class.Class.{Class}
 use Rattle.units.specs.declared.class.Class.TheVariants.{LRI, RLI, FSI, PDI}
 use Rattle.explicit.proofs.Holders.Taken.{level-bound}
 use Rattle.explicit.specs.OpenInitiators.{is_isolate, opened, past_isolate, left_open}
-use Rattle.explicit.specs.StatusStacks.{state_within, place_in}
+use Rattle.explicit.specs.StatusStacks.{state_within, leveled_in}
 use Rattle.explicit.proofs.Matched.Matching.{matching_pdi_opens}
 use Rattle.explicit.proofs.Matched.Nesting.{match_bounds, match_is_pdi}
 use Rattle.explicit.proofs.Matched.StillOpen.{bit}
@@ -20,7 +20,7 @@ use Rattle.explicit.proofs.Holders.Open.{below, holders}
 use Rattle.explicit.proofs.Holders.OpenIsolates.{AllBelow, OpenIsolates, OpenIsolates-next, holds-open_isolate}
 use Rattle.explicit.proofs.Holders.IsolateStep.{left_open-keeps}
 use Rattle.explicit.proofs.Holders.HoldersStep.{holders-are_open, holders-step}
-use Rattle.explicit.proofs.LevelsFound.Places.{explicit-place_in}
+use Rattle.explicit.proofs.LevelsFound.ExplicitAt.{explicit-leveled_in}
 
 -- behind each stand the initiators that hold it
 abbrev pub Stacked : List Class → List ℕ → Type 0
@@ -104,8 +104,8 @@ pub holders-matched : (cs : List Class) (i j : ℕ) → matching_pdi cs i ≡ So
 holders-matched cs i zero h = absurd (let b = match_bounds cs i 0 h in omega (arith, b.0))
 holders-matched cs i (suc y) h = closed cs i y h (role (class_at cs (suc y)))
 
-pub level-place_in : (depth : ℕ) (cs : List Class) (para p : ℕ) → is_removed (class_at cs p) ≡ false → is_separator (class_at cs p) ≡ false → option_map (λ x. x.0) (explicit_at depth cs para p) ≡ Some (state_within depth cs para (holders cs p)).level
-level-place_in depth cs para p r s = ap (option_map (λ x. x.0)) (sym (explicit-place_in depth cs para p)) ∙ rw (r, s) refl
+pub level-leveled_in : (depth : ℕ) (cs : List Class) (para p : ℕ) → is_removed (class_at cs p) ≡ false → is_separator (class_at cs p) ≡ false → option_map (λ x. x.0) (explicit_at depth cs para p) ≡ Some (state_within depth cs para (holders cs p)).level
+level-leveled_in depth cs para p r s = ap (option_map (λ x. x.0)) (sym (explicit-leveled_in depth cs para p)) ∙ rw (r, s) refl
 
 isolate-remains : (c : Class) → is_isolate_initiator c ≡ true → (is_removed c ≡ false) × (is_separator c ≡ false)
 isolate-remains LRI h = (refl, refl)
@@ -119,18 +119,18 @@ pdi-remains c h = absurd (cc)
 
 -- an isolate initiator has the level of what holds it
 pub level-of_isolate : (depth : ℕ) (cs : List Class) (para i : ℕ) → is_isolate cs i ≡ true → option_map (λ x. x.0) (explicit_at depth cs para i) ≡ Some (state_within depth cs para (holders cs i)).level
-level-of_isolate depth cs para i h = let a = isolate-remains (class_at cs i) h in level-place_in depth cs para i a.0 a.1
+level-of_isolate depth cs para i h = let a = isolate-remains (class_at cs i) h in level-leveled_in depth cs para i a.0 a.1
 
 -- so their levels are equal
 pub levels-matched : (depth : ℕ) (cs : List Class) (para i j : ℕ) → matching_pdi cs i ≡ Some j → option_map (λ x. x.0) (explicit_at depth cs para i) ≡ option_map (λ x. x.0) (explicit_at depth cs para j)
 levels-matched depth cs para i j h =
-    grind (arith, pdi-remains, match_is_pdi, level-of_isolate, matching_pdi_opens, holders-matched, level-place_in)
+    grind (arith, pdi-remains, match_is_pdi, level-of_isolate, matching_pdi_opens, holders-matched, level-leveled_in)
 
-place_in-bounded : (s : State) (para : ℕ) (own : Class) (most : ℕ) → s.level ≤ most → para ≤ most → IfSome (place_in s para own) (λ place. place.0 ≤ most)
-place_in-bounded s para own most a b = grind arith
+leveled_in-bounded : (s : State) (para : ℕ) (own : Class) (most : ℕ) → s.level ≤ most → para ≤ most → IfSome (leveled_in s para own) (λ leveled. leveled.0 ≤ most)
+leveled_in-bounded s para own most a b = grind arith
 
 -- no level is above what neither the depth nor the paragraph's level is above
-pub level-at_most : (depth : ℕ) (cs : List Class) (para p most : ℕ) → depth ≤ most → para ≤ most → IfSome (explicit_at depth cs para p) (λ place. place.0 ≤ most)
+pub level-at_most : (depth : ℕ) (cs : List Class) (para p most : ℕ) → depth ≤ most → para ≤ most → IfSome (explicit_at depth cs para p) (λ leveled. leveled.0 ≤ most)
 level-at_most depth cs para p most d b =
-    let P : Option (ℕ × Class) → Type 0 = λ o. IfSome o (λ place. place.0 ≤ most) in
-    subst P (explicit-place_in depth cs para p) (place_in-bounded (state_within depth cs para (holders cs p)) para (class_at cs p) most (level-bound depth cs para (holders cs p) most d b) b)
+    let P : Option (ℕ × Class) → Type 0 = λ o. IfSome o (λ leveled. leveled.0 ≤ most) in
+    subst P (explicit-leveled_in depth cs para p) (leveled_in-bounded (state_within depth cs para (holders cs p)) para (class_at cs p) most (level-bound depth cs para (holders cs p) most d b) b)

@@ -9,7 +9,7 @@ use Rattle.units.specs.Explicit.{wants_odd, next_odd, next_even, override_of}
 use Rattle.units.specs.Classes.{class_at, is_isolate_initiator, is_removed, is_separator}
 use Rattle.units.specs.declared.class.Class.{Class}
 use Rattle.explicit.specs.OpenInitiators.{after_pdi, after_pdf}
-use Rattle.explicit.specs.StatusStacks.{state_within, is_taken, entry_of, entry_at, entries_of, refused_isolates, refused_embeddings, before_isolate, Represents, IsKept, place_in}
+use Rattle.explicit.specs.StatusStacks.{state_within, is_taken, entry_of, entry_at, entries_of, refused_isolates, refused_embeddings, before_isolate, Represents, IsKept, leveled_in}
 use Rattle.explicit.specs.declared.status.Status.{Status}
 use Rattle.explicit.specs.declared.status.StatusStack.{StatusStack}
 use Rattle.explicit.proofs.Holders.Taken.{level-bound, entries-few, last_entry, refused_isolates-few, refused_embeddings-few, taken_isolates-few, taken_is, state-taken, asked, none_refused, some_refused}
@@ -113,7 +113,7 @@ entry-is depth cs para qs p class level override_class isolate t k l f i = grind
 pub taken-by : (depth : ℕ) (cs : List Class) (para : ℕ) (qs : List ℕ) (p : ℕ) (n : StatusStack) (level : ℕ) (answer : Bool) → Represents depth cs para qs n → level ≡ asked depth cs para p qs → answer ≡ ((n.overflow_isolates == 0 && n.overflow_embeddings == 0) && nat_le level depth) → is_taken depth cs para p qs ≡ answer
 taken-by depth cs para qs p n level answer r l a = takes-is_taken depth cs para qs p n r ∙ ap (λ x. (n.overflow_isolates == 0 && n.overflow_embeddings == 0) && nat_le x depth) (sym l) ∙ sym a
 
-pub place_in-by : (depth : ℕ) (cs : List Class) (para : ℕ) (qs : List ℕ) (n : StatusStack) (class : Class) (entry : Status) → Represents depth cs para qs n → is_removed class ≡ false → is_separator class ≡ false → entry ≡ last_of n.entries.items entry → Some (entry.level, unwrap_or entry.override_class class) ≡ place_in (state_within depth cs para qs) para class
-place_in-by depth cs para qs n class entry r u v e =
+pub leveled_in-by : (depth : ℕ) (cs : List Class) (para : ℕ) (qs : List ℕ) (n : StatusStack) (class : Class) (entry : Status) → Represents depth cs para qs n → is_removed class ≡ false → is_separator class ≡ false → entry ≡ last_of n.entries.items entry → Some (entry.level, unwrap_or entry.override_class class) ≡ leveled_in (state_within depth cs para qs) para class
+leveled_in-by depth cs para qs n class entry r u v e =
     let s = last-is depth cs para qs n entry r in
     rw (u, v) (ap (λ x. Some (x.level, unwrap_or x.override_class class)) (e ∙ s.1))

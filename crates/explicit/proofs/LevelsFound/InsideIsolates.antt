@@ -18,7 +18,7 @@ use Rattle.explicit.proofs.Holders.Open.{holders, holds}
 use Rattle.explicit.proofs.Holders.Taken.{next-above, state-taken, state-refused, taken-outer}
 use Rattle.explicit.proofs.Matched.Nesting.{match_bounds, match_injective}
 use Rattle.explicit.proofs.Matched.Matching.{matching_pdi_opens}
-use Rattle.explicit.proofs.Holders.MatchedIsolates.{Stacked, holders-stacked, is_among, among-filtered, holds-before, level-place_in, level-of_isolate, levels-matched}
+use Rattle.explicit.proofs.Holders.MatchedIsolates.{Stacked, holders-stacked, is_among, among-filtered, holds-before, level-leveled_in, level-of_isolate, levels-matched}
 use Rattle.explicit.proofs.LevelsFound.Leveled.{level-read, matched-is}
 
 -- inside further initiators the level does not fall
@@ -59,7 +59,7 @@ same_inside : (depth : ℕ) (cs : List Class) (para i : ℕ) (xs ys : List ℕ) 
 same_inside depth cs para i xs ys same = grind (arith, levels-rise, next-above, state-taken, stuck, state-refused)
 
 -- what remains is not removed
-remains-kept : (depth : ℕ) (cs : List Class) (para p : ℕ) → is_some (option_map (λ place. place.0) (explicit_at depth cs para p)) ≡ true → is_removed (class_at cs p) ≡ false
+remains-kept : (depth : ℕ) (cs : List Class) (para p : ℕ) → is_some (option_map (λ leveled. leveled.0) (explicit_at depth cs para p)) ≡ true → is_removed (class_at cs p) ≡ false
 unfolding explicit_at
 remains-kept depth cs para p h = grind (arith, false≢true)
 
@@ -76,7 +76,7 @@ level-inside depth units para r p only low high left =
     let n : length (classes_of units) ≡ length units = length-map _ _ in
     let read = level-read depth (classes_of units) para p (omega arith) in
     let kept = remains-kept depth (classes_of units) para p (ap is_some (sym read) ∙ left) in
-    read ∙ level-place_in depth (classes_of units) para p kept (not_separator units p only (omega (arith, n)))
+    read ∙ level-leveled_in depth (classes_of units) para p kept (not_separator units p only (omega (arith, n)))
 
 pub nested : (depth : ℕ) (units : List BidiUnit) (para : ℕ) → SeparatorOnlyLast units → IsNested (leveled_of depth (classes_of units) para)
 nested depth units para only = record {

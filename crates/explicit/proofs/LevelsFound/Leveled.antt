@@ -28,13 +28,13 @@ pub length-of_positions : {A : Type 0} (cs : List Class) (f : ℕ → A) → len
 length-of_positions cs f = length-map (positions_of cs) f ∙ length-positions_from 0 (length cs)
 
 -- the level that the sequences see
-pub level-read : (depth : ℕ) (cs : List Class) (para p : ℕ) → p < length cs → level_of (leveled_of depth cs para) p ≡ option_map (λ place. place.0) (explicit_at depth cs para p)
+pub level-read : (depth : ℕ) (cs : List Class) (para p : ℕ) → p < length cs → level_of (leveled_of depth cs para) p ≡ option_map (λ leveled. leveled.0) (explicit_at depth cs para p)
 level-read depth cs para p h =
     let n : length (explicit_of depth cs para) ≡ length cs = length-of_positions cs (explicit_at depth cs para) in
-    get_or-map (option_map (λ place. place.0)) (explicit_of depth cs para) p None None (omega (arith, n)) ∙ ap (option_map (λ place. place.0)) (get_or-of_positions cs (explicit_at depth cs para) p None h)
+    get_or-map (option_map (λ leveled. leveled.0)) (explicit_of depth cs para) p None None (omega (arith, n)) ∙ ap (option_map (λ leveled. leveled.0)) (get_or-of_positions cs (explicit_at depth cs para) p None h)
 
 pub size-is : (depth : ℕ) (cs : List Class) (para : ℕ) → size_of (leveled_of depth cs para) ≡ length cs
-size-is depth cs para = length-map (explicit_of depth cs para) (option_map (λ place. place.0)) ∙ length-of_positions cs (explicit_at depth cs para)
+size-is depth cs para = length-map (explicit_of depth cs para) (option_map (λ leveled. leveled.0)) ∙ length-of_positions cs (explicit_at depth cs para)
 
 -- past the end stands no initiator
 pub opener_within : (cs : List Class) (i : ℕ) → is_isolate_initiator (class_at cs i) ≡ true → i < length cs
@@ -45,7 +45,7 @@ pub matched-is : (depth : ℕ) (cs : List Class) (para i : ℕ) → matched_pdi 
 matched-is depth cs para i =
     grind (arith, get_or-of_positions, opener_within, partner_of_other, opener_is_no_pdi, matching_pdi_none)
 
-if_some_level : (place : Option (ℕ × Class)) → IfSome place (λ x. x.0 ≤ 125) → IfSome (option_map (λ x. x.0) place) (λ l. l ≤ 125)
+if_some_level : (leveled : Option (ℕ × Class)) → IfSome leveled (λ x. x.0 ≤ 125) → IfSome (option_map (λ x. x.0) leveled) (λ l. l ≤ 125)
 if_some_level None h = tt
 if_some_level (Some x) h = h
 

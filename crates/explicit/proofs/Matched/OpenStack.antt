@@ -39,7 +39,7 @@ unlevel_at_opening o c k m s stack ok ck a h = let d = does_opening o c k ok ck 
 pub unlevel_at_closing : (o c : ℕ → Bool) (k n : ℕ) (s : ℕ → ℕ) → IsStack o c k (suc n) s → o k ≡ false → c k ≡ true → (a : ℕ) → a < n → as_many o c (s a) k ≡ false
 unlevel_at_closing o c k n s stack ok ck a h = let d = does_closing o c k ok ck in open_unlevel o c k (suc n - a) (n - a - 1) (s a) (stack.before a (omega arith)) (stack.still a (omega arith)) (omega (arith, d.opens_is, d.closes_is))
 
--- an open position as the place moves on, with n more
+-- an open position as the position moves on, with n more
 still_next : (o c : ℕ → Bool) (k m n n' q : ℕ) → q < k → IsOpenAt o c k m q → bit (o k) + m ≡ bit (c k) + n → n ≡ suc n' → IsOpenAt o c (k + 1) n q
 still_next o c k m n n' q lt h e some =
     let next : k + 1 ≡ suc k = omega arith in

@@ -1,4 +1,4 @@
--- A position that opened and has no match yet, from one place to the next, for any two tests of positions.
+-- A position that opened and has no match yet, from one position to the next, for any two tests of positions.
 use Rattle.std.proofs.Common.{◌≡◌, ℕ, suc, ◌+◌, ◌<◌, Bool, true, false, cond, Some, None, refl, arith}
 use Rattle.std.proofs.lemmas.Bool.{lt-ltb, le-ltb}
 use Rattle.units.specs.Positions.{as_many, is_before}

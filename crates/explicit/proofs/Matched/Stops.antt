@@ -1,41 +1,27 @@
 -- What the walk that finds isolates passes: partners are none there, and nothing is opened or closed.
-use Rattle.std.proofs.Common.{◌≡◌, ℕ, zero, suc, ◌+◌, ◌-◌, ◌≤◌, Bool, true, false, List, length, set, Option, None, inl, inr, refl, sym, ap, subst, ◌∙◌, arith}
+use Rattle.std.proofs.Common.{◌≡◌, ℕ, zero, suc, ◌+◌, ◌-◌, ◌≤◌, Bool, true, false, List, length, set, Option, None, inl, inr, refl, sym, subst, ◌∙◌, arith}
 use Rattle.std.proofs.lemmas.Bool.{cases_eq, cases_lt}
-use Rattle.std.proofs.lemmas.List.{length-set}
 use Rattle.std.specs.Prelude.{not, ◌||◌, ◌&&◌}
 use Rattle.units.specs.Classes.{class_at, is_isolate_formatting, is_isolate_initiator, is_pdi, is_strong}
 use Rattle.units.specs.declared.class.Class.{Class}
 use Rattle.explicit.specs.Stops.{HasNoFormatting, ArePassed, is_passed, without_partners}
 use Rattle.explicit.proofs.Matched.Filling.{IsFilling, filling_other}
+use Rattle.explicit.proofs.Stretched.{stretched_further, stretched_length, stretched_next, stretched_none}
+
+-- no position
+pub cleared_none : (from : ℕ) (partners : List (Option ℕ)) → without_partners from from partners ≡ partners
+cleared_none from partners = stretched_none (λ _. None) from partners
 
 -- one position more
-pub cleared_next : (from p : ℕ) (partners : List (Option ℕ)) → from ≤ p → set (without_partners from (p - from) partners) p None ≡ without_partners from (p + 1 - from) partners
-cleared_next from p partners low =
-    let e : p + 1 - from ≡ suc (p - from) = omega arith in
-    let at : from + (p - from) ≡ p = omega arith in
-    sym (ap (λ (n : ℕ). without_partners from n partners) e ∙ ap (λ (q : ℕ). set (without_partners from (p - from) partners) q None) at)
+pub cleared_next : (from p : ℕ) (partners : List (Option ℕ)) → from ≤ p → set (without_partners from p partners) p None ≡ without_partners from (p + 1) partners
+cleared_next from p partners low = stretched_next (λ _. None) from p partners low
 
 -- and many more
-cleared_both : (from m n : ℕ) (partners : List (Option ℕ)) → without_partners (from + m) n (without_partners from m partners) ≡ without_partners from (m + n) partners
-cleared_both from m zero partners = let e : m ≡ m + 0 = omega arith in ap (λ (k : ℕ). without_partners from k partners) e
-cleared_both from m (suc n) partners =
-    let e : suc (m + n) ≡ m + suc n = omega arith in
-    let at : from + m + n ≡ from + (m + n) = omega arith in
-    ap (λ (xs : List (Option ℕ)). set xs (from + m + n) None) (cleared_both from m n partners)
-    ∙ ap (λ (q : ℕ). set (without_partners from (m + n) partners) q None) at
-    ∙ ap (λ (k : ℕ). without_partners from k partners) e
+pub cleared_further : (from p end : ℕ) (partners : List (Option ℕ)) → from ≤ p → p ≤ end → without_partners p end (without_partners from p partners) ≡ without_partners from end partners
+cleared_further from p end partners low high = stretched_further (λ _. None) from p end partners low high
 
-pub cleared_further : (from p end : ℕ) (partners : List (Option ℕ)) → from ≤ p → p ≤ end → without_partners p (end - p) (without_partners from (p - from) partners) ≡ without_partners from (end - from) partners
-cleared_further from p end partners low high =
-    let at : p ≡ from + (p - from) = omega arith in
-    let all : p - from + (end - p) ≡ end - from = omega arith in
-    ap (λ (q : ℕ). without_partners q (end - p) (without_partners from (p - from) partners)) at
-    ∙ cleared_both from (p - from) (end - p) partners
-    ∙ ap (λ (k : ℕ). without_partners from k partners) all
-
-pub cleared_length : (from n : ℕ) (partners : List (Option ℕ)) → length (without_partners from n partners) ≡ length partners
-cleared_length from zero partners = refl
-cleared_length from (suc n) partners = length-set (without_partners from n partners) (from + n) None ∙ cleared_length from n partners
+pub cleared_length : (from end : ℕ) (partners : List (Option ℕ)) → length (without_partners from end partners) ≡ length partners
+cleared_length from end partners = stretched_length (λ _. None) from end partners
 
 -- no isolate begins or ends at either stretch
 pub no_formatting_both : (cs : List Class) (from p end : ℕ) → HasNoFormatting cs from p → HasNoFormatting cs p end → HasNoFormatting cs from end
@@ -91,14 +77,16 @@ no_stop sought c h =
     record { initiator_is = parts.0; pdi_is = parts.1; strong_is = parts.2 }
 
 -- after what is passed
-pub filling_passed : (cs : List Class) (sought : Bool) (from end depth room : ℕ) (partners : List (Option ℕ)) (openers : List ℕ) → IsFilling cs from depth room partners openers → ArePassed sought cs from end → end ≤ length cs → (n : ℕ) → from + n ≤ end → IsFilling cs (from + n) depth room (without_partners from n partners) openers
-filling_passed cs sought from end depth room partners openers now passed inside zero h = let e : from + 0 ≡ from = omega arith in rw e now
+pub filling_passed : (cs : List Class) (sought : Bool) (from end depth room : ℕ) (partners : List (Option ℕ)) (openers : List ℕ) → IsFilling cs from depth room partners openers → ArePassed sought cs from end → end ≤ length cs → (n : ℕ) → from + n ≤ end → IsFilling cs (from + n) depth room (without_partners from (from + n) partners) openers
+filling_passed cs sought from end depth room partners openers now passed inside zero h =
+    let e : from + 0 ≡ from = omega arith in
+    rw (e, cleared_none from partners) now
 filling_passed cs sought from end depth room partners openers now passed inside (suc n) h =
     let e : from + suc n ≡ from + n + 1 = omega arith in
     let no = no_stop sought (class_at cs (from + n)) (passed (from + n) (omega arith) (omega arith)) in
-    rw e (filling_other cs (from + n) depth room (without_partners from n partners) openers (filling_passed cs sought from end depth room partners openers now passed inside n (omega arith)) (omega arith) no.initiator_is no.pdi_is)
+    rw (e, sym (cleared_next from (from + n) partners (omega arith))) (filling_other cs (from + n) depth room (without_partners from (from + n) partners) openers (filling_passed cs sought from end depth room partners openers now passed inside n (omega arith)) (omega arith) no.initiator_is no.pdi_is)
 
-pub filling_passed_all : (cs : List Class) (sought : Bool) (from end depth room : ℕ) (partners : List (Option ℕ)) (openers : List ℕ) → IsFilling cs from depth room partners openers → ArePassed sought cs from end → end ≤ length cs → from ≤ end → IsFilling cs end depth room (without_partners from (end - from) partners) openers
+pub filling_passed_all : (cs : List Class) (sought : Bool) (from end depth room : ℕ) (partners : List (Option ℕ)) (openers : List ℕ) → IsFilling cs from depth room partners openers → ArePassed sought cs from end → end ≤ length cs → from ≤ end → IsFilling cs end depth room (without_partners from end partners) openers
 filling_passed_all cs sought from end depth room partners openers now passed inside low =
     let whole : from + (end - from) ≡ end = omega arith in
     rw whole at (filling_passed cs sought from end depth room partners openers now passed inside (end - from) (omega arith))

@@ -76,7 +76,7 @@ found_strong depth s class sides new outside found none some within = record {
 
 -- what is known at the next stop
 pub at_stop : (cs : List Class) (sought : Bool) (from p depth room : ℕ) (partners : List (Option ℕ)) (openers : List ℕ) (sides : List Side) (outside : Side) → IsFilling cs from depth room partners openers → length sides ≡ room → (sought ≡ false → IsFound depth (λ a. get_or openers a 0) sides outside) → AreNoted cs from sides outside → IsNextStop sought cs from p →
-    IsFilling cs p depth room (without_partners from (p - from) partners) openers × AreNoted cs p sides outside
+    IsFilling cs p depth room (without_partners from p partners) openers × AreNoted cs p sides outside
 at_stop cs sought from p depth room partners openers sides outside now fit found noted' stop =
     let inside = stop.within in (
       filling_passed_all cs sought from p depth room partners openers now stop.first (omega (arith, inside)) stop.later,

@@ -1,6 +1,12 @@
-use Rattle.std.proofs.Common.{◌≤◌, ℕ, List, Option, None, set, arith, ap, ◌∙◌}
-use Rattle.explicit.proofs.Matched.Stops.{cleared_next}
+use Rattle.std.proofs.Common.{◌≤◌, ℕ, List, Option, None, set, arith, ap, sym, ◌∙◌}
+use Rattle.explicit.proofs.Matched.Stops.{cleared_next, cleared_none}
 use Rattle.explicit.proofs.isolates.clear.Goals as goal
+
+pub loop-k-init : goal.loop-k-init
+loop-k-init g c = record {
+  later = omega arith;
+  cleared = sym (cleared_none c.args.from c.args.partners.now);
+}
 
 pub loop-k-preserved : goal.loop-k-preserved
 loop-k-preserved g c =

@@ -1,4 +1,4 @@
-use Rattle.std.proofs.Common.{◌≡◌, ◌-◌, ◌<◌, ◌≤◌, ℕ, List, None, length, set, true, arith, ap, sym, subst, ◌∙◌, inl, inr}
+use Rattle.std.proofs.Common.{◌≡◌, ◌<◌, ◌≤◌, ℕ, List, None, length, set, true, arith, ap, sym, subst, ◌∙◌, inl, inr}
 use Rattle.std.specs.Prelude.{Option}
 use Rattle.std.proofs.lemmas.Bool.{cases_eq}
 use Rattle.std.proofs.lemmas.List.{length-set}
@@ -13,7 +13,7 @@ pub loop-p-init : goal.loop-p-init
 loop-p-init g c = record {
   later = omega (arith, c.pass_fours-start.ensures.later);
   passed = passed_by_fours c.args.sought (classes_of c.args.para.now) c.args.from c.pass_fours-start.result c.pass_fours-start.ensures.passed c.pass_fours-start.ensures.seeks;
-  room = ap length c.pass_fours-start.ensures.partners ∙ cleared_length c.args.from (c.pass_fours-start.result - c.args.from) c.args.partners.now;
+  room = ap length c.pass_fours-start.ensures.partners ∙ cleared_length c.args.from c.pass_fours-start.result c.args.partners.now;
   cleared = c.pass_fours-start.ensures.partners;
   taken = omega (arith, c.pass_fours-start.ensures.steps);
 }
@@ -35,3 +35,9 @@ loop-p-preserved g c =
       cleared = rw c.none.ensures (ap (λ (xs : List (Option ℕ)). set xs l.p None) l.invariant.cleared ∙ cleared_next c.args.from l.p c.args.partners.now low);
       taken = omega (arith, c.tick.ensures, l.invariant.taken);
     }
+
+pub returns-then-not-is_passed-clause-partners : goal.returns-then-not-is_passed-clause-partners
+returns-then-not-is_passed-clause-partners g c =
+    let l = c.loop-p in
+    let low : c.args.from ≤ l.p = l.invariant.later in
+    rw c.none.ensures (ap (λ (xs : List (Option ℕ)). set xs l.p None) l.invariant.cleared ∙ cleared_next c.args.from l.p c.args.partners.now low)

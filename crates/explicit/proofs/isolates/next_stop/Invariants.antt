@@ -1,4 +1,4 @@
-use Rattle.std.proofs.Common.{◌≡◌, ◌+◌, ◌-◌, ◌≤◌, length}
+use Rattle.std.proofs.Common.{◌≡◌, ◌+◌, ◌≤◌, length}
 use Rattle.units.specs.Classes.{classes_of}
 use Rattle.explicit.specs.Stops.{ArePassed, without_partners}
 use Rattle.explicit.proofs.isolates.next_stop.Given as goal
@@ -8,6 +8,6 @@ invariant-loop-p g l = record {
   later : l.from ≤ l.p;
   passed : ArePassed l.sought (classes_of l.para) l.from l.p;
   room : length l.partners ≡ length l.fn.partners;
-  cleared : l.partners ≡ without_partners l.from (l.p - l.from) l.fn.partners;
+  cleared : l.partners ≡ without_partners l.from l.p l.fn.partners;
   taken : l.steps + l.from ≡ l.fn.steps + l.p;
 }

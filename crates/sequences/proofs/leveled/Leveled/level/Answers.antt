@@ -1,19 +1,19 @@
 use Rattle.std.proofs.Common.{◌∙◌, ◌≤◌, ℕ, Option, ap, subst, sym}
 use Rattle.std.specs.Prelude.{IfSome}
 use Rattle.std.specs.Option.{option_map}
-use Rattle.sequences.proofs.FilledFrom.{within_places, level-place, level-within}
+use Rattle.sequences.proofs.FilledFrom.{within_explicit, level-explicit, level-within}
 use Rattle.sequences.proofs.leveled.Leveled.level.Goals as goal
 
 pub at-requires : goal.at-requires
-at-requires c = within_places c.self.invariant c.self.view_is c.args.p c.requires
+at-requires c = within_explicit c.self.invariant c.self.view_is c.args.p c.requires
 
 pub returns-in_err-level-clause-value : goal.returns-in_err-level-clause-value
 returns-in_err-level-clause-value c =
-    c.from_residual.ensures ∙ sym (level-place c.self.invariant c.self.view_is c.args.p c.requires ∙ ap (option_map (λ place. place.0)) (sym c.at.ensures.kept ∙ c.in_err-level.was))
+    c.from_residual.ensures ∙ sym (level-explicit c.self.invariant c.self.view_is c.args.p c.requires ∙ ap (option_map (λ leveled. leveled.0)) (sym c.at.ensures.kept ∙ c.in_err-level.was))
 
 pub returns-clause-value : goal.returns-clause-value
 returns-clause-value c =
-    sym (level-place c.self.invariant c.self.view_is c.args.p c.requires ∙ ap (option_map (λ place. place.0)) (sym c.at.ensures.kept ∙ c.in_ok-level.was))
+    sym (level-explicit c.self.invariant c.self.view_is c.args.p c.requires ∙ ap (option_map (λ leveled. leveled.0)) (sym c.at.ensures.kept ∙ c.in_ok-level.was))
 
 pub returns-clause-within : goal.returns-clause-within
 returns-clause-within c =

@@ -3,15 +3,15 @@ use Rattle.std.specs.Prelude.{None}
 use Rattle.units.specs.Classes.{classes_of}
 use Rattle.units.specs.Explicit.{explicit_at}
 use Rattle.explicit.specs.StatusStacks.{Represents, entry_count}
-use Rattle.explicit.proofs.LevelsFound.Places.{open_before}
-use Rattle.explicit.proofs.levels.find_places.Given as goal
+use Rattle.explicit.proofs.LevelsFound.ExplicitAt.{open_before}
+use Rattle.explicit.proofs.levels.find_explicit.Given as goal
 
 abbrev pub invariant-loop-p : goal.invariant-loop-p
 invariant-loop-p g l = record {
   within : l.p ≤ length l.para;
   keeps : Represents l.depth (classes_of l.para) l.base (open_before (classes_of l.para) l.p) l.stack;
-  filled : (k : ℕ) → k < l.p → get_or l.places k None ≡ explicit_at l.depth (classes_of l.para) l.base k;
-  room : length l.places ≡ length l.fn.places;
+  filled : (k : ℕ) → k < l.p → get_or l.explicit k None ≡ explicit_at l.depth (classes_of l.para) l.base k;
+  room : length l.explicit ≡ length l.fn.explicit;
   least : l.fn.steps + l.p ≤ l.steps;
   most : l.steps + entry_count l.stack ≤ l.fn.steps + (2 * l.p + 1);
 }

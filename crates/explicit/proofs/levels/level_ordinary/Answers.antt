@@ -1,13 +1,22 @@
-use Rattle.std.proofs.Common.{◌≡◌, ◌-◌, ◌<◌, ◌≤◌, ℕ, List, length, set, true, arith, sym, ap, ◌∙◌, subst, inl, inr}
+use Rattle.std.proofs.Common.{◌≡◌, ◌<◌, ◌≤◌, ℕ, List, length, set, true, arith, sym, ap, ◌∙◌, subst, inl, inr}
 use Rattle.std.specs.Prelude.{Option, Some}
 use Rattle.std.proofs.lemmas.Bool.{cases_eq}
 use Rattle.units.specs.Classes.{class_at, classes_of}
 use Rattle.units.specs.declared.class.Class.{Class}
 use Rattle.explicit.specs.StatusStacks.{is_ordinary}
-use Rattle.explicit.specs.Stretches.{place_by, with_places}
+use Rattle.explicit.specs.Stretches.{leveled_by_status, with_leveled}
 use Rattle.explicit.proofs.Holders.Roles.{class_read}
-use Rattle.explicit.proofs.LevelsFound.Stretches.{places-next}
-use Rattle.explicit.proofs.levels.place_ordinary.Goals as goal
+use Rattle.explicit.proofs.LevelsFound.Stretches.{explicit-next, explicit-none}
+use Rattle.explicit.proofs.levels.level_ordinary.Goals as goal
+
+pub loop-p-init : goal.loop-p-init
+loop-p-init g c = record {
+  later = omega arith;
+  within = omega (arith, c.requires.from);
+  passed = λ k from to. absurd (omega arith);
+  placed = sym (explicit-none c.args.status (classes_of c.args.para.now) c.args.from c.args.explicit.now);
+  taken = omega arith;
+}
 
 pub loop-p-preserved : goal.loop-p-preserved
 loop-p-preserved g c =
@@ -24,8 +33,8 @@ loop-p-preserved g c =
         | inl e ↦ subst (λ (q : ℕ). is_ordinary (class_at cs q) ≡ true) (sym e) ordinary
         | inr ne ↦ l.invariant.passed k from (omega arith)
       ];
-      placed = ap (λ (xs : List (Option (ℕ × Class))). set xs l.p (Some c.place.result)) l.invariant.placed
-          ∙ ap (λ (x : ℕ × Class). set (with_places c.args.status cs c.args.from (l.p - c.args.from) c.args.places.now) l.p (Some x)) (c.place.ensures ∙ ap (place_by c.args.status) (sym read))
-          ∙ places-next c.args.status cs c.args.from l.p c.args.places.now low;
+      placed = ap (λ (xs : List (Option (ℕ × Class))). set xs l.p (Some c.leveled.result)) l.invariant.placed
+          ∙ ap (λ (x : ℕ × Class). set (with_leveled c.args.status cs c.args.from l.p c.args.explicit.now) l.p (Some x)) (c.leveled.ensures ∙ ap (leveled_by_status c.args.status) (sym read))
+          ∙ explicit-next c.args.status cs c.args.from l.p c.args.explicit.now low;
       taken = omega (arith, c.tick.ensures, l.invariant.taken);
     }

@@ -1,15 +1,15 @@
 use Rattle.std.proofs.Common.{◌≡◌, ℕ, ◌+◌, ◌-◌, ◌<◌, ◌≤◌, length, true}
 use Rattle.units.specs.Classes.{class_at, classes_of}
 use Rattle.explicit.specs.StatusStacks.{is_ordinary}
-use Rattle.explicit.specs.Stretches.{with_places}
-use Rattle.explicit.proofs.levels.place_ordinary.Given as goal
+use Rattle.explicit.specs.Stretches.{with_leveled}
+use Rattle.explicit.proofs.levels.level_ordinary.Given as goal
 
 abbrev pub invariant-loop-p : goal.invariant-loop-p
 invariant-loop-p g l = record {
   later : l.from ≤ l.p;
   within : l.p ≤ length l.para;
   passed : (k : ℕ) → l.from ≤ k → k < l.p → is_ordinary (class_at (classes_of l.para) k) ≡ true;
-  placed : l.places ≡ with_places l.status (classes_of l.para) l.from (l.p - l.from) l.fn.places;
+  placed : l.explicit ≡ with_leveled l.status (classes_of l.para) l.from l.p l.fn.explicit;
   taken : l.steps + l.from ≡ l.fn.steps + l.p;
 }
 

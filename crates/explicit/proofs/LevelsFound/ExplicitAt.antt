@@ -11,7 +11,7 @@ use Rattle.units.specs.Explicit.{State, entered, state_of, chain, explicit_at}
 use Rattle.units.specs.declared.class.Class.{Class}
 use Rattle.explicit.specs.OpenInitiators.{opened, left_open}
 use Rattle.units.specs.declared.class.Class.TheVariants.{L, R, AL, EN, ES, ET, AN, CS, NSM, S, WS, ON}
-use Rattle.explicit.specs.StatusStacks.{state_within, place_in, is_ordinary, Represents, IsKept}
+use Rattle.explicit.specs.StatusStacks.{state_within, leveled_in, is_ordinary, Represents, IsKept}
 use Rattle.explicit.specs.declared.status.StatusStack.{StatusStack}
 use Rattle.units.proofs.Positions.{positions_from-next}
 use Rattle.explicit.proofs.Holders.Open.{below, holders, holds}
@@ -59,9 +59,9 @@ unfolding chain
 state-of_chain depth cs para p = within-filtered depth cs para (holds cs p) p
 
 -- the level and the class at p by what holds inside the initiators that hold it
-pub explicit-place_in : (depth : ℕ) (cs : List Class) (para p : ℕ) → place_in (state_within depth cs para (holders cs p)) para (class_at cs p) ≡ explicit_at depth cs para p
+pub explicit-leveled_in : (depth : ℕ) (cs : List Class) (para p : ℕ) → leveled_in (state_within depth cs para (holders cs p)) para (class_at cs p) ≡ explicit_at depth cs para p
 unfolding explicit_at
-explicit-place_in depth cs para p = ap (λ s. place_in s para (class_at cs p)) (sym (state-of_chain depth cs para p))
+explicit-leveled_in depth cs para p = ap (λ s. leveled_in s para (class_at cs p)) (sym (state-of_chain depth cs para p))
 
 -- what the pass keeps when it comes to p
 pub is-kept : (depth : ℕ) (para : List Unit) (base p : ℕ) (n : StatusStack) → depth ≤ 125 → base ≤ 1 → p < 2 ^ 63 → Represents depth (classes_of para) base (holders (classes_of para) p) n → IsKept n
@@ -90,9 +90,9 @@ chain-reversed cs p = chain-filtered (holds cs p) p
 pub kept-at : (depth : ℕ) (para : List Unit) (base p : ℕ) (class : Class) (n : StatusStack) → depth ≤ 125 → base ≤ 1 → p < length para → p < 2 ^ 63 → class ≡ class_at (classes_of para) p → Represents depth (classes_of para) base (left_open (classes_of para) class (open_before (classes_of para) p)) n → IsKept n
 kept-at depth para base p class n d b l s e r = is-kept depth para base p n d b s (left-is depth (classes_of para) base p class n (omega (arith, length-map para (λ unit. unit.class))) e r)
 
--- the places that are found, one more
-pub places-more : (depth : ℕ) (cs : List Class) (base p : ℕ) (places : List (Option (ℕ × Class))) (place : Option (ℕ × Class)) → p < length places → place ≡ explicit_at depth cs base p → ((k : ℕ) → k < p → get_or places k None ≡ explicit_at depth cs base k) → (k : ℕ) → k < p + 1 → get_or (set places p place) k None ≡ explicit_at depth cs base k
-places-more depth cs base p places place room found below k h = grind (arith, get_or-set_same, get_or-set_other)
+-- what is found of the positions, one more
+pub explicit-more : (depth : ℕ) (cs : List Class) (base p : ℕ) (explicit : List (Option (ℕ × Class))) (leveled : Option (ℕ × Class)) → p < length explicit → leveled ≡ explicit_at depth cs base p → ((k : ℕ) → k < p → get_or explicit k None ≡ explicit_at depth cs base k) → (k : ℕ) → k < p + 1 → get_or (set explicit p leveled) k None ≡ explicit_at depth cs base k
+explicit-more depth cs base p explicit leveled room found below k h = grind (arith, get_or-set_same, get_or-set_other)
 
 -- X6: what an ordinary class leaves as it was
 pub record IsPassedOver (c : Class) : Type 0 where
@@ -127,8 +127,8 @@ pub ordinary_opened : (cs : List Class) (p : ℕ) (qs : List ℕ) → is_ordinar
 ordinary_opened cs p qs h = let o = ordinary_is (class_at cs p) h in rw o.initiator_is refl
 
 -- X9: none stands exactly where the position is removed
-place_in-none : (s : State) (para : ℕ) (own : Class) → is_none (place_in s para own) ≡ is_removed own
-place_in-none s para own = grind arith
+leveled_in-none : (s : State) (para : ℕ) (own : Class) → is_none (leveled_in s para own) ≡ is_removed own
+leveled_in-none s para own = grind arith
 
 pub explicit-none : (depth : ℕ) (cs : List Class) (para p : ℕ) → is_none (explicit_at depth cs para p) ≡ is_removed (class_at cs p)
-explicit-none depth cs para p = ap is_none (sym (explicit-place_in depth cs para p)) ∙ place_in-none (state_within depth cs para (holders cs p)) para (class_at cs p)
+explicit-none depth cs para p = ap is_none (sym (explicit-leveled_in depth cs para p)) ∙ leveled_in-none (state_within depth cs para (holders cs p)) para (class_at cs p)
