@@ -9,8 +9,8 @@ use crate::putting::put;
 use bidi_held::base::{base_level_held, is_left_to_right_held};
 use bidi_held::refusal::{Refusal, answer};
 
-/// The level of the first paragraph of a text of code points under a direction (P1 to P3), without a layout. Where there
-/// are no tables, or the number is no direction, or a code point is no scalar value, `level` stays as it was.
+/// The level of the first paragraph of a text of code points under a direction (P1 to P3), without a layout. Where
+/// there are no tables, or the number is no direction, or a code point is no scalar value, `level` stays as it was.
 #[unsafe(no_mangle)]
 #[tactic(auto, using(crate::proofs::NothingHeld::no_tables_named))]
 pub extern "C" fn bidi_base_level(

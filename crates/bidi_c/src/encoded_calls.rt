@@ -5,6 +5,7 @@ ghost use Rattle.bidi_held.specs.Holdings.{encoded_in, RefusesRoom};
 ghost use Rattle.bidi_held.specs.Statuses.{Answers, Puts};
 ghost use Rattle.encoded_held.specs.EncodedTexts.{IsNewEncodedRoom};
 ghost use Rattle.encoded_held.specs.InCodeUnits.{byte_of_character, IsEncodedRun, IsIndexAt, OfItsText, RefusesEncodedLine, RefusesEncodedRun, TellsEncodedLine, WritesEncodedLevels, WritesEncodedOrder};
+ghost use Rattle.runs_held.specs.HeldRuns.{WritesEncodedRunsHeld};
 ghost use Rattle.bidi_c.specs.HeldAt.{held_at};
 
 use crate::bidi_handle::BidiHandle;
@@ -19,6 +20,7 @@ use encoded_held::lookups::{
     index_held, level_held, offset_held, tell_encoded_line, write_encoded_order,
 };
 use encoded_held::runs::encoded_run_of;
+use runs_held::encoded_runs::write_encoded_runs_held;
 use std::alloc::Global;
 
 fn make_encoded_room(alloc: Global, n: usize, room: &mut BidiHandle) -> Result<(), Refusal>
@@ -125,8 +127,8 @@ pub extern "C" fn bidi_encoded_order(room: &mut BidiHandle, k: usize, order: &mu
     }
 }
 
-/// The run of the line with the number `k` that begins at the place `from`, as `bidi_run` tells of it, but with where it
-/// begins and how long it is in code units.
+/// The run of the line with the number `k` that begins at the place `from`, as `bidi_run` tells of it, but with where
+/// it begins and how long it is in code units.
 #[unsafe(no_mangle)]
 #[tactic(auto, using(crate::proofs::NothingHeld::no_room))]
 pub extern "C" fn bidi_encoded_run(
@@ -142,5 +144,19 @@ pub extern "C" fn bidi_encoded_run(
     match room.held() {
         Some(held) => status(put(encoded_run_of(held, k, from), run)),
         None => status(Err(Refusal::NoRoom)),
+    }
+}
+
+/// How many visual runs the line with the number `k` has, 0 without such a line or a room for code units. They are
+/// written to `runs` as `bidi_runs` writes them, but with where they begin and how long they are in code units.
+#[unsafe(no_mangle)]
+pub extern "C" fn bidi_encoded_runs(room: &mut BidiHandle, k: usize, runs: &mut [BidiRun]) -> usize
+    ensures room { held_at room.new ≡ held_at room.old }
+    ensures none { encoded_in (held_at room.old) ≡ None → (result ≡ 0) × (runs.new ≡ runs.old) }
+    ensures runs { WritesEncodedRunsHeld (held_at room.old) k result runs.old runs.new }
+{
+    match room.held() {
+        Some(held) => write_encoded_runs_held(held, k, runs),
+        None => 0,
     }
 }

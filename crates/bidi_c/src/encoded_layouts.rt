@@ -256,8 +256,8 @@ fn set_encoded_lines(room: &mut BidiHandle, breaks: &[usize]) -> Result<(), Refu
 }
 
 /// Breaks the text in code units that the room holds into lines anew (L1, L2), at offsets: its levels before L1, its
-/// direction and its limits stay. Where the breaks are refused, the room holds the lines that it held, and `place` names
-/// the break.
+/// direction and its limits stay. Where the breaks are refused, the room holds the lines that it held, and `place`
+/// names the break.
 #[unsafe(no_mangle)]
 pub extern "C" fn bidi_encoded_set_lines(
     room: &mut BidiHandle,

@@ -162,8 +162,8 @@ pub extern "C" fn bidi_report_next(report: &mut BidiHandle, case: &mut BidiWrong
     }
 }
 
-/// Hands over the end of the file, and tells the counts of all of it. The wrong cases of a last line that no LF ends are
-/// handed out then. It takes no memory. Where the file has ended before, or wrong cases are left of those that were
+/// Hands over the end of the file, and tells the counts of all of it. The wrong cases of a last line that no LF ends
+/// are handed out then. It takes no memory. Where the file has ended before, or wrong cases are left of those that were
 /// found last, it is refused.
 #[unsafe(no_mangle)]
 #[tactic(auto, using(crate::proofs::NoReport::no_report_ended))]

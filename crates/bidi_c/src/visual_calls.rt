@@ -2,12 +2,14 @@
 ghost use Rattle.std.specs.Prelude.{◌≡◌};
 ghost use Rattle.bidi_held.specs.Statuses.{Answers, Puts};
 ghost use Rattle.bidi_held.specs.Visual.{IsVisualRun, RefusesRun, WritesPlaces, WritesShown, shown_held};
+ghost use Rattle.runs_held.specs.HeldRuns.{WritesRunsHeld};
 ghost use Rattle.bidi_c.specs.HeldAt.{held_at, layout_at, line_of_room};
 
 use crate::bidi_handle::BidiHandle;
 use crate::putting::put;
 use bidi_held::refusal::{Refusal, status};
 use bidi_held::visual_lines::{BidiRun, run_of, show, write_places_of};
+use runs_held::line_runs::write_runs_held;
 
 /// How many positions the line with the number `k` has, 0 where there is no such line. The place of each in the order
 /// of the line is written to `places`, if all fit there: `SIZE_MAX` where a position was removed (X9). The
@@ -42,6 +44,20 @@ pub extern "C" fn bidi_run(room: &mut BidiHandle, k: usize, from: usize, run: &m
     match held.layout() {
         Some(layout) => status(put(run_of(&layout, k, from), run)),
         None => status(Err(Refusal::NoRoom)),
+    }
+}
+
+/// How many visual runs the line with the number `k` has, 0 where there is no such line. They are written to `runs`, if
+/// all fit there, from left to right (L2): each position of the line is in one of them, removed ones too (X9).
+#[unsafe(no_mangle)]
+#[tactic(auto, using(runs_held::proofs::LinesHeld::no_line))]
+pub extern "C" fn bidi_runs(room: &mut BidiHandle, k: usize, runs: &mut [BidiRun]) -> usize
+    ensures room { held_at room.new ≡ held_at room.old }
+    ensures runs { WritesRunsHeld (held_at room.old) k result runs.old runs.new }
+{
+    match room.held() {
+        Some(held) => write_runs_held(held, k, runs),
+        None => 0,
     }
 }
 

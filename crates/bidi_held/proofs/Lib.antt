@@ -3,3 +3,4 @@ mod BaseWalk
 mod FileRefusals
 mod VerdictsBy
 mod LineLengths
+mod LinesInOrder

@@ -3,6 +3,7 @@ pub mod BaseLevels
 pub mod Statuses
 pub mod Texts
 pub mod Holdings
+pub mod HeldParagraphs
 pub mod LimitsGiven
 pub mod Refusals
 pub mod RoomTexts

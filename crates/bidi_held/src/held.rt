@@ -1,8 +1,9 @@
 // What a handle may hold.
-ghost use Rattle.std.specs.Prelude.{◌≡◌, Some, None, MatchOption, IfErr, IfOk};
+ghost use Rattle.std.specs.Prelude.{◌≡◌, ◌≤◌, Some, None, MatchOption, IfErr, IfOk, length};
 ghost use Rattle.std.specs.Arc.{arc_value};
 ghost use Rattle.lines.specs.Layouts.{view_of};
 ghost use Rattle.bidi_held.specs.Holdings.{capacity_in, encoded_in, tables_in, layout_if_held, layout_held, RefusesSharing};
+ghost use Rattle.bidi_held.specs.HeldParagraphs.{HasParaLevelHeld};
 
 use crate::judge::TableJudge;
 use crate::refusal::Refusal;
@@ -13,6 +14,7 @@ use lines::layout::Layout;
 use std::alloc::Global;
 use std::sync::Arc;
 use ucdfiles::tables::Tables;
+use units::level::ParaLevel;
 
 /// What a handle may hold.
 #[derive(Drop)]
@@ -49,6 +51,23 @@ impl Held {
         match self {
             Held::Room(room) => Some(room.scratch.layout()),
             Held::Encoded(room) => Some(room.layout()),
+            _ => None,
+        }
+    }
+
+    /// The level of the paragraph (P2, P3) in which a position lies, if this is a room of either kind and its text has
+    /// that position; of a text in code units it is the index of a character.
+    pub fn para_level_at(&self, position: usize) -> Option<ParaLevel>
+        ensures { MatchOption result (length (layout_held (Some self.now)).levels ≤ position)
+            (HasParaLevelHeld (Some self.now) position) }
+    {
+        match self {
+            Held::Room(room) if position < room.scratch.text_len() => {
+                Some(room.para_level_at(position))
+            }
+            Held::Encoded(room) if position < room.characters() => {
+                Some(room.para_level_at(position))
+            }
             _ => None,
         }
     }

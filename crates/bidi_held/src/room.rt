@@ -6,8 +6,9 @@ ghost use Rattle.units.specs.Layout.{layout_of};
 ghost use Rattle.units.specs.Limits.{standard};
 ghost use Rattle.units.specs.declared.level.Direction.TheVariants.{Auto};
 ghost use Rattle.lines.specs.LineBreaks.{AreBreaksOf};
-ghost use Rattle.lines.specs.Scratches.{room_of, text_len_of, layout_in, HoldsText, IsFilled};
+ghost use Rattle.lines.specs.Scratches.{room_of, text_len_of, layout_in, HoldsSomeLayoutOf, HoldsText, IsBrokenAnew, IsFilled, StillHoldsText};
 ghost use Rattle.bidi_held.specs.Texts.{class_numbered, unit_numbered, units_numbered};
+ghost use Rattle.encoded.specs.OrderedLines.{LinesHaveOrder};
 ghost use Rattle.ucdfiles.specs.Tables.{units_by};
 ghost use Rattle.bidi_held.specs.Refusals.{IsClassNumber, RefusesBreaks, RefusesCodes, RefusesNumbered};
 
@@ -21,7 +22,7 @@ use std::boxed::BoxedSlice;
 use ucdfiles::tables::Tables;
 use units::bracket::{Bracket, Unit};
 use units::class::Class;
-use units::level::{Direction, Level};
+use units::level::{Direction, Level, ParaLevel};
 use units::limits::Limits;
 
 /// Room for a text's units and its layout, and for the levels of one line alone. It holds a text and its layout at all
@@ -37,6 +38,7 @@ pub struct Room {
     ghost line_fits: { length (boxed_slice_items line) ≡ room_of scratch },
     ghost filled: { IsFilled scratch },
     ghost holds: { HoldsText limits (take (text_len_of scratch) (boxed_slice_items units)) direction scratch },
+    ghost in_order: { LinesHaveOrder (layout_in scratch) },
 }
 
 /// Whether all these numbers are scalar values. It looks at all of them whatever it finds, so that several are looked
@@ -168,7 +170,7 @@ fn breaks_of(at: &[usize], n: usize) -> Result<Breaks<'_>, Refusal>
     }
 }
 
-/// A column of `n` places, all with this value.
+/// A column of `n` items, all with this value.
 fn column<T: Copy>(alloc: Global, value: T, n: usize) -> Result<BoxedSlice<T>, RoomFault>
     ensures made { IfOk result (λ column. length (boxed_slice_items column) ≡ n) }
     ensures refused { IfErr result (λ fault. fault ≡ RoomFault.Memory) }
@@ -193,8 +195,22 @@ fn lay_out_units(
     ensures filled { IsFilled scratch.new }
     ensures laid_out { layout_in scratch.new ≡ layout_of limits text.now direction breaks.now.positions }
     ensures holds { HoldsText limits text.now direction scratch.new }
+    ensures in_order { LinesHaveOrder (layout_in scratch.new) }
 {
     let _done = lay_out_into_with(scratch, text, direction, breaks, limits);
+}
+
+/// Breaks the text that the scratch holds into lines anew.
+fn break_units(scratch: &mut Scratch, text: &[Unit], breaks: &Breaks)
+    requires len { breaks.now.len ≡ length text.now }
+    requires holds { HoldsSomeLayoutOf text.now scratch.old }
+    ensures room { room_of scratch.new ≡ room_of scratch.old }
+    ensures filled { IsFilled scratch.new }
+    ensures laid_out { IsBrokenAnew text.now breaks.now.positions scratch.old (layout_in scratch.new) }
+    ensures holds { StillHoldsText text.now scratch.old scratch.new }
+    ensures in_order { LinesHaveOrder (layout_in scratch.new) }
+{
+    break_anew_into(scratch, text, breaks);
 }
 
 /// Lays out an empty text, which any scratch has room for.
@@ -203,6 +219,7 @@ fn lay_out_nothing(scratch: &mut Scratch)
     ensures filled { IsFilled scratch.new }
     ensures empty { layout_in scratch.new ≡ layout_of standard [] Auto [] }
     ensures holds { HoldsText standard [] Auto scratch.new }
+    ensures in_order { LinesHaveOrder (layout_in scratch.new) }
 {
     if let Ok(breaks) = Breaks::new(&[], 0) {
         lay_out_units(scratch, &[], Direction::Auto, &breaks, Limits::standard());
@@ -217,6 +234,7 @@ impl Room {
     ghost use Rattle.units.specs.declared.level.Direction.TheVariants.{Auto};
     ghost use Rattle.ucdfiles.specs.Tables.{units_by};
     ghost use Rattle.lines.specs.LineBreaks.{AreBreaks};
+    ghost use Rattle.lines.specs.ParaLevels.{HasParaLevelAt};
     ghost use Rattle.lines.specs.Scratches.{room_of, text_len_of, layout_in};
     ghost use Rattle.bidi_held.specs.LineAlone.{RefusesLineAlone, WritesLineAlone};
     ghost use Rattle.bidi_held.specs.Refusals.{IsClassNumber, Refuses, RefusesBreaks, RefusesCodes, RefusesNumbered, Takes};
@@ -248,6 +266,15 @@ impl Room {
             direction: Direction::Auto,
             limits: Limits::standard(),
         })
+    }
+
+    /// The level of the paragraph (P2, P3) in which a position lies of the text that it holds, found by a search
+    /// through the ends of the paragraphs.
+    pub(crate) fn para_level_at(&self, position: usize) -> ParaLevel
+        requires { position < text_len_of self.now.scratch }
+        ensures { HasParaLevelAt (text_held self.now).units self.now.direction position result }
+    {
+        self.scratch.para_level_at(position)
     }
 
     /// Lays out the text of these code points by these limits. Its length is looked at first, then the breaks, then
@@ -329,13 +356,13 @@ impl Room {
     {
         let len = self.scratch.text_len();
         let breaks = breaks_of(at, len)?;
-        break_anew_into(&mut self.scratch, &self.units[..len], &breaks);
+        break_units(&mut self.scratch, &self.units[..len], &breaks);
         Ok(())
     }
 
     /// Lays out one line alone of the text that it holds, from `start` up to `end` (L1, L2), at the cost of that line,
     /// and writes its levels and its order to the fronts of two lists; what the room holds stays. It answers how many
-    /// positions the order has. A place for each position of the line is looked for first in both lists, and then
+    /// positions the order has. An item for each position of the line is looked for first in both lists, and then
     /// whether it is a line of the text; where the line is refused nothing is written.
     pub fn line_alone(
         &mut self,

@@ -166,8 +166,8 @@ impl Room {
         self.scratch.layout()
     }
 
-    /// The level of the paragraph (P2, P3) in which the character with an index lies, found by a search through the ends
-    /// of the paragraphs.
+    /// The level of the paragraph (P2, P3) in which the character with an index lies, found by a search through the
+    /// ends of the paragraphs.
     pub fn para_level_at(&self, index: usize) -> ParaLevel
         requires { index < characters_in self.now }
         ensures { HasParaLevelAt (units_held self.now).units self.now.direction index result }
@@ -175,7 +175,8 @@ impl Room {
         self.scratch.para_level_at(index)
     }
 
-    /// Lays out the first `count` of the spare units, at breaks that are found; their offsets stand in the spare column.
+    /// Lays out the first `count` of the spare units, at breaks that are found; their offsets stand in the spare
+    /// column.
     fn lay_out_found(&mut self, count: usize, found: usize, direction: Direction, limits: Limits)
         requires fits { count ≤ room_for self.old }
         requires offsets { AreOffsets count (boxed_slice_items self.old.spare) }

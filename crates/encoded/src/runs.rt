@@ -1,5 +1,5 @@
 //! The visual runs of a line, told by offsets of code units.
-ghost use Rattle.std.specs.Prelude.{◌≡◌, ◌<◌, ◌+◌, ◌++◌, ◌∷◌, [], length, take};
+ghost use Rattle.std.specs.Prelude.{◌≡◌, ◌<◌, length};
 ghost use Rattle.lines.specs.Layouts.{view_of};
 ghost use Rattle.visual.specs.VisualRuns.{IsInOrder};
 ghost use Rattle.encoded.specs.EncodedRuns.{IsOrderedLine};
@@ -9,7 +9,7 @@ use crate::room::Room;
 use lines::layout::Layout;
 use units::level::{Level, ParaLevel};
 use visual::line::OrderedLine;
-use visual::line_runs::Runs;
+use visual::line_runs::{Runs, put};
 use visual::runs::VisualRun;
 
 /// A visual run of a line, in code units: characters of one level that follow one another in the text, and stand side
@@ -39,16 +39,6 @@ pub fn ordered_line<'a>(layout: &'a Layout<'_>, k: usize, para_level: ParaLevel)
         end: line.end,
         order: line.order,
         para_level,
-    }
-}
-
-/// Writes a run to its place, if there is one.
-fn put(out: &mut [EncodedRun], count: usize, run: EncodedRun)
-    ensures len { length out.new ≡ length out.old }
-    ensures put { count < length out.old → take (count + 1) out.new ≡ take count out.old ++ run ∷ [] }
-{
-    if count < out.len() {
-        out[count] = run;
     }
 }
 
@@ -88,8 +78,8 @@ impl Room {
         count
     }
 
-    /// Writes the runs of the line with the number `k`, counted from 0, from left to right to the front of `out`, if all
-    /// fit there; `para_level` is the level of the paragraph in which it lies. It answers how many they are.
+    /// Writes the runs of the line with the number `k`, counted from 0, from left to right to the front of `out`, if
+    /// all fit there; `para_level` is the level of the paragraph in which it lies. It answers how many they are.
     ///
     /// The runs have each code unit of the line once, those of removed characters included (`visual::line_runs`).
     pub fn write_runs(&self, k: usize, para_level: ParaLevel, out: &mut [EncodedRun]) -> usize

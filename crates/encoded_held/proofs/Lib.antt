@@ -1,5 +1,5 @@
 -- What the proofs share.
 mod HeldLines
-mod HeldRooms
+pub mod HeldRooms
 pub mod HeldTexts
 mod LevelWalk

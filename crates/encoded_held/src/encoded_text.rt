@@ -1,6 +1,7 @@
 //! A text in code units, as a caller has it.
 
-/// A text in UTF-8 or UTF-16, and what becomes of what is ill-formed in it: the text is refused, or U+FFFD is read there.
+/// A text in UTF-8 or UTF-16, and what becomes of what is ill-formed in it: the text is refused, or U+FFFD is read
+/// there.
 #[derive(Clone, Copy)]
 pub enum EncodedText<'t> {
     /// Bytes, refused where they are no UTF-8.

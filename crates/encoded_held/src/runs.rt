@@ -10,7 +10,7 @@ use bidi_held::visual_lines::{BidiRun, run_of};
 use encoded::room::Room;
 
 /// A run of characters, told in offsets.
-fn in_offsets(room: &Room, run: BidiRun) -> BidiRun
+pub fn in_offsets(room: &Room, run: BidiRun) -> BidiRun
     requires { run.start + run.length ≤ characters_in room.now }
     ensures start { (text : List Spelled) → Holds room.now text → result.start ≡ offset_of text run.start }
     ensures end { (text : List Spelled) → Holds room.now text
@@ -28,8 +28,8 @@ fn in_offsets(room: &Room, run: BidiRun) -> BidiRun
     }
 }
 
-/// The run of the line with the number `k` that begins at a place, told in offsets, if this is a room for code units and
-/// there are such a line and place.
+/// The run of the line with the number `k` that begins at a place, told in offsets, if this is a room for code units
+/// and there are such a line and place.
 pub fn encoded_run_of(room: &Held, k: usize, from: usize) -> Result<BidiRun, Refusal>
     ensures run { IfOk result (IsEncodedRun (Some room.now) k from) }
     ensures refused { IfErr result (RefusesEncodedRun (Some room.now) k from) }

@@ -83,13 +83,13 @@ impl<'a> Iterator for Runs<'a> {
     }
 }
 
-/// Writes a run to its place, if there is one.
-fn put(out: &mut [VisualRun], count: usize, run: VisualRun)
+/// Writes what is told of a run behind so many others, if there is a place for it.
+pub fn put<T: Copy>(out: &mut [T], count: usize, told: T)
     ensures len { length out.new ≡ length out.old }
-    ensures put { count < length out.old → take (count + 1) out.new ≡ take count out.old ++ run ∷ [] }
+    ensures put { count < length out.old → take (count + 1) out.new ≡ take count out.old ++ told ∷ [] }
 {
     if count < out.len() {
-        out[count] = run;
+        out[count] = told;
     }
 }
 

@@ -1,0 +1,4 @@
+-- What the proofs share.
+mod RunLists
+pub mod LinesHeld
+mod EncodedRunLists
