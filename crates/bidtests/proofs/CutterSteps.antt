@@ -1,4 +1,4 @@
--- What a step of the cutter does to what a judge stands for.
+-- What a cut of the cutter does to what a judge stands for.
 use Rattle.std.proofs.Common.{◌≡◌, ◌≢◌, ℕ, ◌<◌, ◌≤◌, Option, None, Some, List, [], ◌∷◌, ◌++◌, length, take, refl, sym, ap, subst, ◌∙◌, arith, append_assoc, append-nil, length-append, inl, inr, is_some, true, drop}
 use Rattle.std.specs.Prelude.{Result, Ok, Err, OnOk}
 use Rattle.std.specs.Result.{result_err}
@@ -10,8 +10,8 @@ use Rattle.units.specs.LineCutting.{Cutting, StandsFor}
 use Rattle.units.specs.Limits.{LimitsOf}
 use Rattle.units.specs.Lines.{EndsByFeed, IsLine, CutsInto, IsTooLongAfter, line_number, ended_lines}
 use Rattle.units.specs.LineAnswers.{AnswersPiece, Finishes}
-use Rattle.units.specs.declared.line_cut.Step.{Step}
-use Rattle.units.specs.declared.line_cut.Step.TheVariants.{More, Line, TooLong}
+use Rattle.units.specs.declared.line_cut.Cut.{Cut}
+use Rattle.units.specs.declared.line_cut.Cut.TheVariants.{More, Line, TooLong}
 use Rattle.units.proofs.LineReading.{never_both}
 use Rattle.units.proofs.LineAppending.{ended_lines-CutsInto}
 use Rattle.units.proofs.LineRunning.{lines-before}
@@ -25,7 +25,7 @@ use Rattle.bidtests.specs.declared.kind.Kind.TheVariants.{Classes, Characters}
 use Rattle.bidtests.specs.ClassesFile.{classes_line, classes_verdict}
 use Rattle.bidtests.specs.CharactersFile.{characters_line, characters_verdict}
 use Rattle.bidtests.specs.FileKinds.{findings_by, verdict_of}
-use Rattle.bidtests.specs.Carried.{Carried, at_start, IsBehind, no_at, no_by, after_line, after_step, no_or_yes, verdict_behind}
+use Rattle.bidtests.specs.Carried.{Carried, at_start, IsBehind, no_at, no_by, after_line, after_cut, no_or_yes, verdict_behind}
 use Rattle.bidtests.specs.Standing.{Judging, Judges, IsOpen, JudgesBy}
 use Rattle.bidtests.proofs.LineByLine.{verdict-fault, verdict-yes, behind-line, behind-none}
 use Rattle.units.proofs.FirstItem.{some_bytes}
@@ -78,8 +78,8 @@ module _ (limits : LimitsOf) (kind : Kind) (old new : Cutting) (s t : Carried) (
   abbrev ended-old : ended_lines b ≡ o.lines
   ended-old = ended_lines-CutsInto b o.lines o.rest o.cut
 
-  pub judges-on : (step : Step) → AnswersPiece b piece used step → (no_by kind s step ≡ None → t ≡ after_step kind step s)
-      → JudgesBy limits kind (no_by kind s step) new t (b ++ take used piece)
+  pub judges-on : (taken : Cut) → AnswersPiece b piece used taken → (no_by kind s taken ≡ None → t ≡ after_cut kind taken s)
+      → JudgesBy limits kind (no_by kind s taken) new t (b ++ take used piece)
   judges-on More a after = grind (arith, take_all, ended_lines-CutsInto)
   judges-on (Line number text) a after = grind (arith, ended_lines-CutsInto, same_count, ends-line)
   judges-on (TooLong number) a after = λ more.
@@ -151,12 +151,12 @@ pub if-no-error : {T E : Type 0} (P : Type 0) (r : Result T E) → result_err r 
 if-no-error P (Ok x) none holds = holds
 if-no-error P (Err e) none holds = absurd cc
 
-module _ (j : Judging) (new : Cutting) (t : Carried) (decided : Option Verdict) (rest : List ℕ) (used : ℕ) (step : Step)
+module _ (j : Judging) (new : Cutting) (t : Carried) (decided : Option Verdict) (rest : List ℕ) (used : ℕ) (taken : Cut)
     (undecided : j.decided ≡ None) (within : used ≤ length rest)
     (through : (b : List ℕ) (lines : List (List ℕ)) (r : List ℕ) → StandsFor j.cutting b → CutsInto b lines r → EndsByFeed used rest)
-    (answers : (b : List ℕ) → StandsFor j.cutting b → AnswersPiece b rest used step)
+    (answers : (b : List ℕ) → StandsFor j.cutting b → AnswersPiece b rest used taken)
     (stands : (b : List ℕ) → StandsFor j.cutting b → StandsFor new (b ++ take used rest))
-    (fault : decided ≡ no_by j.kind j.carried step) (after : decided ≡ None → t ≡ after_step j.kind step j.carried) where
+    (fault : decided ≡ no_by j.kind j.carried taken) (after : decided ≡ None → t ≡ after_cut j.kind taken j.carried) where
   -- a judge that has decided nothing, after what the cutter used
   pub feeds-on : (limits : LimitsOf) (kind : Kind) (b : List ℕ) → Judges limits kind j b → Judges limits kind (record { kind = j.kind; cutting = new; carried = t; decided = decided }) (b ++ take used rest)
   feeds-on limits kind b judges =
@@ -164,7 +164,7 @@ module _ (j : Judging) (new : Cutting) (t : Carried) (decided : Option Verdict) 
       let o : IsOpen limits j.kind j.cutting j.carried b = subst P undecided (kind-is limits kind j b judges) in
       let Q : Option Verdict → Type 0 = λ d. JudgesBy limits j.kind d new t (b ++ take used rest) in
       let by : JudgesBy limits j.kind decided new t (b ++ take used rest) =
-      subst Q (sym fault) (judges-on limits j.kind j.cutting new j.carried t b rest used o within (through b o.lines o.rest o.cutter o.cut) (stands b o.cutter) step (answers b o.cutter)
+      subst Q (sym fault) (judges-on limits j.kind j.cutting new j.carried t b rest used o within (through b o.lines o.rest o.cutter o.cut) (stands b o.cutter) taken (answers b o.cutter)
       (λ e. after (fault ∙ e))) in
       let R : Kind → Type 0 = λ k. JudgesBy limits k decided new t (b ++ take used rest) in
       record { of = judges.of; is = subst R judges.of by }

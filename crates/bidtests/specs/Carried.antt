@@ -3,8 +3,8 @@ use Rattle.std.specs.Prelude.{◌≡◌, Option, Some, None, ℕ, ◌+◌, List,
 use Rattle.std.specs.Borrow.{Bor}
 use Rattle.units.specs.Limits.{LimitsOf}
 use Rattle.units.specs.Lines.{saturated}
-use Rattle.units.specs.declared.line_cut.Step.{Step}
-use Rattle.units.specs.declared.line_cut.Step.TheVariants.{More, Line, TooLong}
+use Rattle.units.specs.declared.line_cut.Cut.{Cut}
+use Rattle.units.specs.declared.line_cut.Cut.TheVariants.{More, Line, TooLong}
 use Rattle.ucdfiles.specs.Tables.{unit_by}
 use Rattle.bidtests.specs.declared.kind.Kind.{Kind}
 use Rattle.bidtests.specs.declared.kind.Kind.TheVariants.{Classes, Characters}
@@ -96,17 +96,17 @@ pub record IsBehind (limits : LimitsOf) (kind : Kind) (s : Carried) (lines : Lis
 abbrev pub no_at : Kind → Carried → ℕ → List ℕ → Option Verdict
 no_at kind s number line = no_of s.limits number (comes_to_behind kind s line)
 
--- the no that a step of the cutter gives
-abbrev pub no_by : Kind → Carried → Step → Option Verdict
+-- the no that a cut of the cutter gives
+abbrev pub no_by : Kind → Carried → Cut → Option Verdict
 no_by kind s More = None
 no_by kind s (Line number text) = no_at kind s number text.now
 no_by kind s (TooLong number) = Some (Malformed number LineTooLong)
 
--- what is carried behind a step that ends no such line
-abbrev pub after_step : Kind → Step → Carried → Carried
-after_step kind More s = s
-after_step kind (Line number text) s = after_line kind text.now s
-after_step kind (TooLong number) s = s
+-- what is carried behind a cut that ends no such line
+abbrev pub after_cut : Kind → Cut → Carried → Carried
+after_cut kind More s = s
+after_cut kind (Line number text) s = after_line kind text.now s
+after_cut kind (TooLong number) s = s
 
 -- the no that is given, or else yes with the counts that are carried
 abbrev pub no_or_yes : Option Verdict → Carried → Verdict

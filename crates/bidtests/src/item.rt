@@ -1,4 +1,4 @@
-// Items of lists, and lists read into reserved room.
+//! Items of lists, and lists read into reserved room.
 ghost use Rattle.std.specs.Prelude.{◌≡◌, ◌+◌, ◌*◌, ◌≤◌, Option, List, ℕ, length, vec_capacity};
 ghost use Rattle.units.specs.Text.{items_of, each_read};
 ghost use Rattle.ucdfiles.specs.PairFiles.{char_of};
@@ -74,7 +74,8 @@ pub struct CharacterItems<'t> {
     pub tables: &'t Tables,
 }
 
-fn character(item: &[u8]) -> Option<char>
+/// A code point that is no surrogate.
+pub fn character(item: &[u8]) -> Option<char>
     ensures { result ≡ char_of item.now }
 {
     char::from_u32(code_point(item)?)

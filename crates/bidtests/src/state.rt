@@ -1,12 +1,12 @@
 //! What a judge has come to, apart from the tables that it borrows.
 ghost use Rattle.std.specs.Prelude.{◌≡◌, ◌≤◌, ℕ, List, [], Option, IfOk, IfSome, OnOk, length};
 ghost use Rattle.std.specs.Result.{result_err};
-ghost use Rattle.units.specs.LineAnswers.{StepIsShort};
+ghost use Rattle.units.specs.LineAnswers.{CutIsShort};
 ghost use Rattle.units.specs.Limits.{LimitsOf};
 ghost use Rattle.units.specs.Text.{longest_line};
 ghost use Rattle.ucdfiles.specs.Tables.{TablesOf};
 ghost use Rattle.bidtests.specs.FileKinds.{verdict_of};
-ghost use Rattle.bidtests.specs.Carried.{no_by, after_step, verdict_behind};
+ghost use Rattle.bidtests.specs.Carried.{no_by, after_cut, verdict_behind};
 ghost use Rattle.bidtests.specs.Standing.{HoldsFor, HasTakenIn, tables_of};
 
 use crate::kind::Kind;
@@ -15,7 +15,7 @@ use crate::verdict::{Cause, Verdict};
 use std::alloc::Global;
 use std::marker::Model;
 use units::limits::Limits;
-use units::line_cut::{LineCut, Step};
+use units::line_cut::{Cut, LineCut};
 use units::memory::Memory;
 
 /// What a judge has come to, for a caller that keeps it while it borrows no tables: each call is handed the kind of
@@ -36,17 +36,17 @@ impl Model for JudgeState {
     ghost view = { λ s. record { cutting = s.cutter; carried = s.line_judge; decided = s.decided } };
 }
 
-/// Judges the line that a step ends, if it ends one. The error is the no that it gives.
-fn judge_step(kind: Kind<'_>, line_judge: &mut LineJudge, step: Step<'_>) -> Result<(), Verdict>
-    requires { StepIsShort step }
-    ensures no { result_err result ≡ no_by kind.entry line_judge.old step.entry }
+/// Judges the line that a cut ends, if it ends one. The error is the no that it gives.
+fn judge_cut(kind: Kind<'_>, line_judge: &mut LineJudge, taken: Cut<'_>) -> Result<(), Verdict>
+    requires { CutIsShort taken }
+    ensures no { result_err result ≡ no_by kind.entry line_judge.old taken.entry }
     ensures carried { OnOk result (line_judge.new
-        ≡ after_step kind.entry step.entry line_judge.old) }
+        ≡ after_cut kind.entry taken.entry line_judge.old) }
 {
-    match step {
-        Step::More => Ok(()),
-        Step::Line { number, text } => line_judge.judge_line(kind, number, text),
-        Step::TooLong { number } => Err(Verdict::Malformed {
+    match taken {
+        Cut::More => Ok(()),
+        Cut::Line { number, text } => line_judge.judge_line(kind, number, text),
+        Cut::TooLong { number } => Err(Verdict::Malformed {
             line: number,
             cause: Cause::LineTooLong,
         }),
@@ -89,8 +89,8 @@ impl JudgeState {
             if self.decided.is_some() {
                 return;
             }
-            let (used, step) = self.cutter.take(&piece[at..]);
-            self.decided = judge_step(kind, &mut self.line_judge, step).err();
+            let (used, taken) = self.cutter.take(&piece[at..]);
+            self.decided = judge_cut(kind, &mut self.line_judge, taken).err();
             at += used;
         }
     }

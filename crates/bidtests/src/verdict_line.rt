@@ -9,7 +9,7 @@ use std::io::Write;
 use units::level::Direction;
 
 /// The name of a cause, as it is printed.
-fn name_of_cause(cause: Cause) -> &'static str
+pub fn name_of_cause(cause: Cause) -> &'static str
     ensures { result.now ≡ cause_name cause }
 {
     match cause {

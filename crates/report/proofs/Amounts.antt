@@ -13,6 +13,7 @@ use Rattle.bidtests.specs.declared.verdict.Verdict.TheVariants.{Malformed, Wrong
 use Rattle.bidtests.specs.Headline.{layout_under}
 use Rattle.bidtests.specs.Verdicts.{Claim, Finding, Silent, Row, Faulty, wrong_place_under, wrong_case, with_place, wrong_at, first_no, or_yes, rows_in, cases_in, verdict_on}
 use Rattle.report.specs.declared.wrong_case.WrongCase.{WrongCase}
+use Rattle.report.specs.ReadClaims.{read_under, strict_terms}
 use Rattle.report.specs.WrongCases.{wrong_case_at, wrong_cases_under, wrong_cases_from, sound_lines}
 use Rattle.report.proofs.LineSteps.{all-sound}
 use Rattle.report.specs.FileReports.{first_malformed, report_on, verdict_from, verdict_by}
@@ -38,19 +39,20 @@ one-more n claim d layout ws (Some place) rest e = refl
 
 module _ (limits : LimitsOf) where
   -- the first wrong case of a row
-  first-under : (n : ℕ) (claim : Claim) (ds : List Direction) → wrong_at n (wrong_case limits claim ds) ≡ no_of_first (wrong_cases_under limits n claim ds)
+  first-under : (n : ℕ) (claim : Claim) (ds : List Direction) → wrong_at n (wrong_case limits claim ds) ≡ no_of_first (wrong_cases_under (strict_terms limits) n claim ds)
   first-under n claim [] = refl
   first-under n claim (d ∷ ds) =
-      one-more n claim d (layout_under limits claim d) (wrong_cases_under limits n claim ds) (wrong_place_under limits claim d) (wrong_case limits claim ds) (first-under n claim ds)
+      one-more n (read_under (strict_terms limits) claim d) d (layout_under limits claim d) (wrong_cases_under (strict_terms limits) n claim ds) (wrong_place_under limits claim d)
+      (wrong_case limits claim ds) (first-under n claim ds)
 
   -- the first no of these lines
-  first-from : (k : ℕ) (fs : List Finding) → first_no limits k fs ≡ option_or (no_of_first (wrong_cases_from limits k (sound_lines fs))) (no_of_malformed (first_malformed k fs))
+  first-from : (k : ℕ) (fs : List Finding) → first_no limits k fs ≡ option_or (no_of_first (wrong_cases_from (strict_terms limits) k (sound_lines fs))) (no_of_malformed (first_malformed k fs))
   first-from k [] = refl
   first-from k (Silent ∷ fs) = first-from (k + 1) fs
   first-from k (Faulty cause ∷ fs) = refl
   first-from k (Row claim ∷ fs) =
-      let here = wrong_cases_under limits (line_number k) claim claim.directions in
-      let behind = wrong_cases_from limits (k + 1) (sound_lines fs) in
+      let here = wrong_cases_under (strict_terms limits) (line_number k) claim claim.directions in
+      let behind = wrong_cases_from (strict_terms limits) (k + 1) (sound_lines fs) in
       let malformed = no_of_malformed (first_malformed (k + 1) fs) in
       ap (λ o. option_or o (first_no limits (k + 1) fs)) (first-under (line_number k) claim claim.directions)
       ∙ ap (λ o. option_or (no_of_first here) o) (first-from (k + 1) fs)
@@ -63,8 +65,8 @@ module _ (limits : LimitsOf) where
   by-first fs [] (Some m) sound = refl
   by-first fs [] None sound = rw (sound refl) refl
 
-  pub amounts : (fs : List Finding) → verdict_on limits fs ≡ verdict_by (report_on limits fs)
+  pub amounts : (fs : List Finding) → verdict_on limits fs ≡ verdict_by (report_on (strict_terms limits) fs)
   unfolding verdict_on
   amounts fs =
       ap (or_yes fs) (first-from 0 fs)
-      ∙ by-first fs (wrong_cases_from limits 0 (sound_lines fs)) (first_malformed 0 fs) (all-sound 0 fs)
+      ∙ by-first fs (wrong_cases_from (strict_terms limits) 0 (sound_lines fs)) (first_malformed 0 fs) (all-sound 0 fs)

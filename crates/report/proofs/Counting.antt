@@ -1,17 +1,19 @@
 -- What is counted grows line by line.
-use Rattle.std.proofs.Common.{◌≡◌, ℕ, ◌+◌, min, Bool, false, Option, None, Some, List, [], ◌∷◌, ◌++◌, length, refl, sym, ap, ◌∙◌, arith, append_assoc, append-nil, count_by, sum_by, cond, length-append, is_some}
+use Rattle.std.proofs.Common.{◌≡◌, ℕ, ◌+◌, ◌||◌, min, Bool, false, Option, None, Some, List, [], ◌∷◌, ◌++◌, length, refl, sym, ap, ◌∙◌, arith, append_assoc, append-nil, count_by, sum_by, cond, length-append, is_some}
 use Rattle.std.proofs.lemmas.List.Sums.{sum_by-append}
-use Rattle.std.specs.Option.{option_or, option_map, option_to_list}
-use Rattle.units.specs.Limits.{LimitsOf}
+use Rattle.std.specs.List.{list_any}
+use Rattle.std.specs.Option.{option_map, option_to_list}
+use Rattle.report.specs.declared.terms.Terms.{Terms}
 use Rattle.units.specs.Lines.{line_number, saturated}
 use Rattle.units.specs.Layout.{TextLayout}
 use Rattle.units.specs.declared.level.Direction.{Direction}
 use Rattle.units.specs.declared.level.Direction.TheVariants.{Auto, Ltr, Rtl, AutoRtl}
 use Rattle.bidtests.specs.declared.verdict.Place.{Place}
 use Rattle.bidtests.specs.Headline.{layout_under}
-use Rattle.bidtests.specs.Verdicts.{Claim, Finding, Silent, Row, is_row, cases_of, rows_in, cases_in, wrong_place_under, wrong_case, with_place}
+use Rattle.bidtests.specs.Verdicts.{Claim, Finding, Silent, Row, is_row, cases_of, rows_in, cases_in}
 use Rattle.report.specs.declared.wrong_case.WrongCase.{WrongCase}
 use Rattle.report.specs.declared.tally.Part.TheVariants.{ParaLevel, Levels, Order}
+use Rattle.report.specs.ReadClaims.{place_under, read_under}
 use Rattle.report.specs.WrongCases.{wrong_case_at, wrong_cases_in, wrong_cases_under, wrong_cases_from}
 use Rattle.report.specs.Tallies.{is_under, is_of, is_wrong_row, counted_by, tally_by_direction, tally_by_part, tally_of, more_by_direction, more_by_part, with_row}
 
@@ -31,31 +33,32 @@ by-direction-append ws vs = rw (counted-append (is_under Auto) ws vs, counted-ap
 by-part-append : (ws vs : List WrongCase) → tally_by_part (ws ++ vs) ≡ more_by_part vs (tally_by_part ws)
 by-part-append ws vs = rw (counted-append (is_of ParaLevel) ws vs, counted-append (is_of Levels) ws vs, counted-append (is_of Order) ws vs) refl
 
-one-case : (n : ℕ) (claim : Claim) (d : Direction) (layout : TextLayout) (ws : List WrongCase) (o : Option Place) (rest : Option (Direction × Place))
-    → cond (is_some rest) 1 0 ≡ min (length ws) 1
-    → cond (is_some (option_or (with_place d o) rest)) 1 0 ≡ min (length (option_to_list (option_map (wrong_case_at n claim d layout) o) ++ ws)) 1
+one-case : (n : ℕ) (claim : Claim) (d : Direction) (layout : TextLayout) (ws : List WrongCase) (o : Option Place) (rest : Bool)
+    → cond rest 1 0 ≡ min (length ws) 1
+    → cond (is_some o || rest) 1 0 ≡ min (length (option_to_list (option_map (wrong_case_at n claim d layout) o) ++ ws)) 1
 one-case n claim d layout ws None rest e = e
 one-case n claim d layout ws (Some place) rest e = omega arith
 
-module _ (limits : LimitsOf) where
+module _ (terms : Terms) where
   -- a row is wrong where it has a wrong case
-  some-case : (n : ℕ) (claim : Claim) (ds : List Direction) → cond (is_some (wrong_case limits claim ds)) 1 0 ≡ min (length (wrong_cases_under limits n claim ds)) 1
+  some-case : (n : ℕ) (claim : Claim) (ds : List Direction) → cond (list_any (λ d. is_some (place_under terms claim d)) ds) 1 0 ≡ min (length (wrong_cases_under terms n claim ds)) 1
   some-case n claim [] = refl
   some-case n claim (d ∷ ds) =
-      one-case n claim d (layout_under limits claim d) (wrong_cases_under limits n claim ds) (wrong_place_under limits claim d) (wrong_case limits claim ds) (some-case n claim ds)
+      one-case n (read_under terms claim d) d (layout_under terms.limits claim d) (wrong_cases_under terms n claim ds) (place_under terms claim d)
+      (list_any (λ e. is_some (place_under terms claim e)) ds) (some-case n claim ds)
 
-  from-append : (k : ℕ) (a b : List Finding) → wrong_cases_from limits k (a ++ b) ≡ wrong_cases_from limits k a ++ wrong_cases_from limits (k + length a) b
-  from-append k [] b = ap (λ n. wrong_cases_from limits n b) (omega arith)
+  from-append : (k : ℕ) (a b : List Finding) → wrong_cases_from terms k (a ++ b) ≡ wrong_cases_from terms k a ++ wrong_cases_from terms (k + length a) b
+  from-append k [] b = ap (λ n. wrong_cases_from terms n b) (omega arith)
   from-append k (f ∷ a) b =
-      let here = wrong_cases_in limits (line_number k) f in
-      ap (λ ws. here ++ ws) (from-append (k + 1) a b ∙ ap (λ n. wrong_cases_from limits (k + 1) a ++ wrong_cases_from limits n b) (omega arith))
-      ∙ sym (append_assoc here (wrong_cases_from limits (k + 1) a) (wrong_cases_from limits (k + length (f ∷ a)) b))
+      let here = wrong_cases_in terms (line_number k) f in
+      ap (λ ws. here ++ ws) (from-append (k + 1) a b ∙ ap (λ n. wrong_cases_from terms (k + 1) a ++ wrong_cases_from terms n b) (omega arith))
+      ∙ sym (append_assoc here (wrong_cases_from terms (k + 1) a) (wrong_cases_from terms (k + length (f ∷ a)) b))
 
   -- the wrong cases with those of one line more
-  pub from-push : (fs : List Finding) (f : Finding) → wrong_cases_from limits 0 (fs ++ f ∷ []) ≡ wrong_cases_from limits 0 fs ++ wrong_cases_in limits (line_number (length fs)) f
+  pub from-push : (fs : List Finding) (f : Finding) → wrong_cases_from terms 0 (fs ++ f ∷ []) ≡ wrong_cases_from terms 0 fs ++ wrong_cases_in terms (line_number (length fs)) f
   from-push fs f =
       from-append 0 fs (f ∷ [])
-      ∙ ap (λ ws. wrong_cases_from limits 0 fs ++ ws) (append-nil (wrong_cases_in limits (line_number (0 + length fs)) f) ∙ ap (λ n. wrong_cases_in limits (line_number n) f) (omega arith))
+      ∙ ap (λ ws. wrong_cases_from terms 0 fs ++ ws) (append-nil (wrong_cases_in terms (line_number (0 + length fs)) f) ∙ ap (λ n. wrong_cases_in terms (line_number n) f) (omega arith))
 
   pub rows-push : (fs : List Finding) (claim : Claim) → rows_in (fs ++ Row claim ∷ []) ≡ saturated (rows_in fs + 1)
   rows-push fs claim = more (count_by is_row fs) 1 _ (count-append is_row fs (Row claim ∷ []))
@@ -64,21 +67,21 @@ module _ (limits : LimitsOf) where
   cases-push fs claim = more (sum_by cases_of fs) (length claim.directions) _ (sum_by-append cases_of fs (Row claim ∷ []) ∙ omega arith)
 
   wrong-rows-push : (fs : List Finding) (claim : Claim) (n : ℕ)
-      → saturated (count_by (is_wrong_row limits) (fs ++ Row claim ∷ []))
-      ≡ saturated (saturated (count_by (is_wrong_row limits) fs) + min (length (wrong_cases_under limits n claim claim.directions)) 1)
+      → saturated (count_by (is_wrong_row terms) (fs ++ Row claim ∷ []))
+      ≡ saturated (saturated (count_by (is_wrong_row terms) fs) + min (length (wrong_cases_under terms n claim claim.directions)) 1)
   wrong-rows-push fs claim n =
-      more (count_by (is_wrong_row limits) fs) (min (length (wrong_cases_under limits n claim claim.directions)) 1) _
-      (count-append (is_wrong_row limits) fs (Row claim ∷ []) ∙ omega (arith, some-case n claim claim.directions))
+      more (count_by (is_wrong_row terms) fs) (min (length (wrong_cases_under terms n claim claim.directions)) 1) _
+      (count-append (is_wrong_row terms) fs (Row claim ∷ []) ∙ omega (arith, some-case n claim claim.directions))
 
   wrong-cases-push : (ws vs : List WrongCase) → saturated (length (ws ++ vs)) ≡ saturated (saturated (length ws) + length vs)
   wrong-cases-push ws vs = more (length ws) (length vs) _ (length-append ws vs)
 
   -- the counts with a row more
   pub tally-row : (fs : List Finding) (claim : Claim)
-      → tally_of limits (fs ++ Row claim ∷ []) ≡ with_row (length claim.directions) (wrong_cases_in limits (line_number (length fs)) (Row claim)) (tally_of limits fs)
+      → tally_of terms (fs ++ Row claim ∷ []) ≡ with_row (length claim.directions) (wrong_cases_in terms (line_number (length fs)) (Row claim)) (tally_of terms fs)
   tally-row fs claim =
-      let ws = wrong_cases_from limits 0 fs in
-      let vs = wrong_cases_in limits (line_number (length fs)) (Row claim) in
+      let ws = wrong_cases_from terms 0 fs in
+      let vs = wrong_cases_in terms (line_number (length fs)) (Row claim) in
       rw (from-push fs (Row claim), rows-push fs claim, cases-push fs claim, wrong-rows-push fs claim (line_number (length fs)), wrong-cases-push ws vs, by-direction-append ws vs, by-part-append ws vs) refl
 
   none-more : {A : Type 0} (p : A → Bool) (xs : List A) (x : A) → p x ≡ false → count_by p (xs ++ x ∷ []) ≡ count_by p xs
@@ -87,8 +90,8 @@ module _ (limits : LimitsOf) where
       count-append p xs (x ∷ []) ∙ omega (arith, zero)
 
   -- a line that says nothing counts nothing
-  pub tally-silent : (fs : List Finding) → tally_of limits (fs ++ Silent ∷ []) ≡ tally_of limits fs
+  pub tally-silent : (fs : List Finding) → tally_of terms (fs ++ Silent ∷ []) ≡ tally_of terms fs
   tally-silent fs =
       let cases : sum_by cases_of (fs ++ Silent ∷ []) ≡ sum_by cases_of fs = sum_by-append cases_of fs (Silent ∷ []) ∙ omega arith in
-      let ws : wrong_cases_from limits 0 (fs ++ Silent ∷ []) ≡ wrong_cases_from limits 0 fs = from-push fs Silent ∙ append-nil (wrong_cases_from limits 0 fs) in
-      rw (ws, none-more is_row fs Silent refl, cases, none-more (is_wrong_row limits) fs Silent refl) refl
+      let ws : wrong_cases_from terms 0 (fs ++ Silent ∷ []) ≡ wrong_cases_from terms 0 fs = from-push fs Silent ∙ append-nil (wrong_cases_from terms 0 fs) in
+      rw (ws, none-more is_row fs Silent refl, cases, none-more (is_wrong_row terms) fs Silent refl) refl

@@ -4,16 +4,17 @@ use Rattle.std.specs.List.{Contains}
 use Rattle.std.specs.Option.{option_map, option_to_list}
 use Rattle.std.proofs.lemmas.List.Elements.{Contains-append_left, Contains-append_right, Contains-append_cases}
 use Rattle.std.proofs.lemmas.Option.{none-some, same_Some}
-use Rattle.units.specs.Limits.{LimitsOf}
+use Rattle.report.specs.declared.terms.Terms.{Terms}
 use Rattle.units.specs.Lines.{line_number}
 use Rattle.units.specs.declared.level.Direction.{Direction}
 use Rattle.bidtests.specs.declared.verdict.Cause.{Cause}
 use Rattle.bidtests.specs.declared.verdict.Place.{Place}
 use Rattle.bidtests.specs.Headline.{layout_under, IsMalformed, IsRow, IsWrongAt}
-use Rattle.bidtests.specs.Verdicts.{Claim, Finding, Silent, Row, Faulty, wrong_place_under}
+use Rattle.bidtests.specs.Verdicts.{Claim, Finding, Silent, Row, Faulty}
 use Rattle.bidtests.proofs.Places.{CaseIs, case-is, right-wrong, place-unique}
 use Rattle.report.specs.declared.wrong_case.WrongCase.{WrongCase}
 use Rattle.report.specs.FileReports.{IsWrongCase}
+use Rattle.report.specs.ReadClaims.{place_under, read_under}
 use Rattle.report.specs.WrongCases.{claimed_at, defined_at, wrong_case_at, wrong_case_under, wrong_cases_under, wrong_cases_in, wrong_cases_from, sound_lines}
 
 none-in : {A : Type 0} (x : A) → Contains [] x → ⊥
@@ -28,56 +29,60 @@ one-in x y h = by h.0 h.1 h.2 where
 in-one : {A : Type 0} (x y : A) → x ≡ y → Contains (x ∷ []) y
 in-one x y e = (0, omega arith, e)
 
-module _ (limits : LimitsOf) where
+module _ (terms : Terms) where
   -- the case is that of the claim, on the line of this number, under its direction
   record IsCase (n : ℕ) (claim : Claim) (w : WrongCase) : Type 0 where
     line : w.line ≡ n
-    wrong : IsWrongAt limits claim w.direction w.place
-    claimed : w.claimed ≡ claimed_at claim w.place
-    defined : w.defined ≡ defined_at (layout_under limits claim w.direction) w.place
+    wrong : IsWrongAt terms.limits (read_under terms claim w.direction) w.direction w.place
+    claimed : w.claimed ≡ claimed_at (read_under terms claim w.direction) w.place
+    defined : w.defined ≡ defined_at (layout_under terms.limits claim w.direction) w.place
 
   module _ (n : ℕ) (claim : Claim) where
-    case-in : (d : Direction) (o : Option Place) → CaseIs limits claim d o → (w : WrongCase)
-        → Contains (option_to_list (option_map (wrong_case_at n claim d (layout_under limits claim d)) o)) w → (w.direction ≡ d) × IsCase n claim w
+    -- the case under the direction at a place
+    abbrev case-at : Direction → Place → WrongCase
+    case-at d = wrong_case_at n (read_under terms claim d) d (layout_under terms.limits claim d)
+
+    case-in : (d : Direction) (o : Option Place) → CaseIs terms.limits (read_under terms claim d) d o → (w : WrongCase)
+        → Contains (option_to_list (option_map (case-at d) o)) w → (w.direction ≡ d) × IsCase n claim w
     case-in d None right w h = absurd (none-in w h)
     case-in d (Some place) wrong w h =
         let P : WrongCase → Type 0 = λ v. (v.direction ≡ d) × IsCase n claim v in
-        subst P (one-in (wrong_case_at n claim d (layout_under limits claim d) place) w h)
+        subst P (one-in (case-at d place) w h)
         (refl, record { line = refl; wrong = wrong; claimed = refl; defined = refl })
 
-    in-case : (o : Option Place) (w : WrongCase) → CaseIs limits claim w.direction o → IsCase n claim w
-        → Contains (option_to_list (option_map (wrong_case_at n claim w.direction (layout_under limits claim w.direction)) o)) w
-    in-case None w right c = absurd (right-wrong limits claim w.direction w.place right c.wrong)
+    in-case : (o : Option Place) (w : WrongCase) → CaseIs terms.limits (read_under terms claim w.direction) w.direction o → IsCase n claim w
+        → Contains (option_to_list (option_map (case-at w.direction) o)) w
+    in-case None w right c = absurd (right-wrong terms.limits (read_under terms claim w.direction) w.direction w.place right c.wrong)
     in-case (Some place) w wrong c =
-        let same : place ≡ w.place = place-unique limits claim w.direction place w.place wrong c.wrong in
+        let same : place ≡ w.place = place-unique terms.limits (read_under terms claim w.direction) w.direction place w.place wrong c.wrong in
         let line = c.line in
         let claimed = c.claimed in
         let defined = c.defined in
-        in-one (wrong_case_at n claim w.direction (layout_under limits claim w.direction) place) w (rw (same, ← c.line, ← c.claimed, ← c.defined) refl)
+        in-one (case-at w.direction place) w (rw (same, ← c.line, ← c.claimed, ← c.defined) refl)
 
-    cases-in : (ds : List Direction) (w : WrongCase) → Contains (wrong_cases_under limits n claim ds) w → Contains ds w.direction × IsCase n claim w
+    cases-in : (ds : List Direction) (w : WrongCase) → Contains (wrong_cases_under terms n claim ds) w → Contains ds w.direction × IsCase n claim w
     cases-in [] w h = absurd (none-in w h)
     cases-in (d ∷ ds) w h =
-        elim (Contains-append_cases (option_to_list (wrong_case_under limits n claim d)) (wrong_cases_under limits n claim ds) w h) [
+        elim (Contains-append_cases (option_to_list (wrong_case_under terms n claim d)) (wrong_cases_under terms n claim ds) w h) [
           | inl here ↦
-              let c = case-in d (wrong_place_under limits claim d) (case-is limits claim d) w here in
+              let c = case-in d (place_under terms claim d) (case-is terms.limits (read_under terms claim d) d) w here in
               (Contains-append_left (d ∷ []) ds w.direction (in-one d w.direction (sym c.0)), c.1)
           | inr there ↦
               let c = cases-in ds w there in
               (Contains-append_right (d ∷ []) ds w.direction c.0, c.1)
         ]
 
-    in-cases : (ds : List Direction) (w : WrongCase) → Contains ds w.direction → IsCase n claim w → Contains (wrong_cases_under limits n claim ds) w
+    in-cases : (ds : List Direction) (w : WrongCase) → Contains ds w.direction → IsCase n claim w → Contains (wrong_cases_under terms n claim ds) w
     in-cases [] w named c = absurd (none-in w.direction named)
     in-cases (d ∷ ds) w named c =
         elim (Contains-append_cases (d ∷ []) ds w.direction named) [
           | inl here ↦
               let same : d ≡ w.direction = one-in d w.direction here in
-              let P : Direction → Type 0 = λ e. Contains (option_to_list (wrong_case_under limits n claim e)) w in
-              Contains-append_left (option_to_list (wrong_case_under limits n claim d)) (wrong_cases_under limits n claim ds) w
-              (subst P (sym same) (in-case (wrong_place_under limits claim w.direction) w (case-is limits claim w.direction) c))
+              let P : Direction → Type 0 = λ e. Contains (option_to_list (wrong_case_under terms n claim e)) w in
+              Contains-append_left (option_to_list (wrong_case_under terms n claim d)) (wrong_cases_under terms n claim ds) w
+              (subst P (sym same) (in-case (place_under terms claim w.direction) w (case-is terms.limits (read_under terms claim w.direction) w.direction) c))
           | inr there ↦
-              Contains-append_right (option_to_list (wrong_case_under limits n claim d)) (wrong_cases_under limits n claim ds) w (in-cases ds w there c)
+              Contains-append_right (option_to_list (wrong_case_under terms n claim d)) (wrong_cases_under terms n claim ds) w (in-cases ds w there c)
         ]
 
   -- the line at this index is a row that has the case, and no line up to it is malformed
@@ -111,12 +116,12 @@ module _ (limits : LimitsOf) where
         formed zero cause le = not-row (Row claim) fs cause (λ e. absurd cc)
         formed (suc i) cause le = absurd (omega arith)
 
-  lines-in : (k : ℕ) (fs : List Finding) (w : WrongCase) → Contains (wrong_cases_from limits k (sound_lines fs)) w → IsAt k fs w
+  lines-in : (k : ℕ) (fs : List Finding) (w : WrongCase) → Contains (wrong_cases_from terms k (sound_lines fs)) w → IsAt k fs w
   lines-in k [] w h = absurd (none-in w h)
   lines-in k (Silent ∷ fs) w h = later k Silent fs w (λ cause e. absurd cc) (lines-in (k + 1) fs w h)
   lines-in k (Faulty cause ∷ fs) w h = absurd (none-in w h)
   lines-in k (Row claim ∷ fs) w h =
-      elim (Contains-append_cases (wrong_cases_in limits (line_number k) (Row claim)) (wrong_cases_from limits (k + 1) (sound_lines fs)) w h) [
+      elim (Contains-append_cases (wrong_cases_in terms (line_number k) (Row claim)) (wrong_cases_from terms (k + 1) (sound_lines fs)) w h) [
         | inl here ↦ let c = cases-in (line_number k) claim claim.directions w here in first k claim fs w c.0 c.1
         | inr there ↦ later k (Row claim) fs w (λ cause e. absurd cc) (lines-in (k + 1) fs w there)
       ]
@@ -125,7 +130,7 @@ module _ (limits : LimitsOf) where
   same-claim a b e = cc
 
   in-lines : (k j : ℕ) (fs : List Finding) (w : WrongCase) (claim : Claim) → ((i : ℕ) (cause : Cause) → i ≤ j → ¬ IsMalformed fs i cause) → IsRow fs j claim
-      → Contains claim.directions w.direction → IsCase (line_number (k + j)) claim w → Contains (wrong_cases_from limits k (sound_lines fs)) w
+      → Contains claim.directions w.direction → IsCase (line_number (k + j)) claim w → Contains (wrong_cases_from terms k (sound_lines fs)) w
   in-lines k j [] w claim formed row named c = absurd (none-some _ row)
   in-lines k zero (Silent ∷ fs) w claim formed row named c = absurd cc
   in-lines k zero (Faulty cause ∷ fs) w claim formed row named c = absurd (formed 0 cause (omega arith) refl)
@@ -135,7 +140,7 @@ module _ (limits : LimitsOf) where
       let P : Claim → Type 0 = λ x. Contains x.directions w.direction × IsCase (line_number k) x w in
       let Q : ℕ → Type 0 = λ n. IsCase (line_number n) claim w in
       let both = subst P same (named, subst Q at c) in
-      Contains-append_left (wrong_cases_in limits (line_number k) (Row other)) (wrong_cases_from limits (k + 1) (sound_lines fs)) w
+      Contains-append_left (wrong_cases_in terms (line_number k) (Row other)) (wrong_cases_from terms (k + 1) (sound_lines fs)) w
       (in-cases (line_number k) other other.directions w both.0 both.1)
   in-lines k (suc j) (Silent ∷ fs) w claim formed row named c =
       let at : k + suc j ≡ k + 1 + j = omega arith in
@@ -145,11 +150,11 @@ module _ (limits : LimitsOf) where
   in-lines k (suc j) (Row other ∷ fs) w claim formed row named c =
       let at : k + suc j ≡ k + 1 + j = omega arith in
       let Q : ℕ → Type 0 = λ n. IsCase (line_number n) claim w in
-      Contains-append_right (wrong_cases_in limits (line_number k) (Row other)) (wrong_cases_from limits (k + 1) (sound_lines fs)) w
+      Contains-append_right (wrong_cases_in terms (line_number k) (Row other)) (wrong_cases_from terms (k + 1) (sound_lines fs)) w
       (in-lines (k + 1) j fs w claim (λ i cause le. formed (suc i) cause (omega arith)) row named (subst Q at c))
 
   -- a report holds exactly the wrong cases of its lines
-  pub holds : (fs : List Finding) (w : WrongCase) → Contains (wrong_cases_from limits 0 (sound_lines fs)) w ↔ IsWrongCase limits fs w
+  pub holds : (fs : List Finding) (w : WrongCase) → Contains (wrong_cases_from terms 0 (sound_lines fs)) w ↔ IsWrongCase terms fs w
   holds fs w = (
     (λ h.
         let a = lines-in 0 fs w h in

@@ -4,6 +4,9 @@ pub mod LineSteps
 pub mod ByteSteps
 pub mod SameReports
 pub mod Joined
+pub mod ReadOrders
+pub mod ReadLevels
+pub mod LineOrders
 pub mod Holding
 pub mod Printing
 pub mod SettledCases

@@ -1,7 +1,8 @@
 -- What a line does to a report.
 use Rattle.std.proofs.Common.{◌≡◌, ℕ, ◌+◌, ◌<◌, None, Some, List, [], ◌∷◌, ◌++◌, length, refl, sym, ap, ◌∙◌, arith}
 use Rattle.std.proofs.lemmas.Bool.{lt-ltb}
-use Rattle.units.specs.Limits.{LimitsOf, standard}
+use Rattle.units.specs.Limits.{standard}
+use Rattle.report.specs.declared.terms.Terms.{Terms}
 use Rattle.units.specs.Lines.{line_number}
 use Rattle.units.specs.Text.{longest_line}
 use Rattle.bidtests.specs.declared.kind.Kind.{Kind}
@@ -24,19 +25,19 @@ use Rattle.report.specs.WrongCases.{wrong_cases_in, wrong_cases_from, sound_line
 use Rattle.report.proofs.Counting.{from-push, tally-row, tally-silent}
 
 -- a line that has a cause is malformed for it
-is-faulty : (f : Finding) (cause : Cause) → cause_of f ≡ Some cause → f ≡ Faulty cause
+pub is-faulty : (f : Finding) (cause : Cause) → cause_of f ≡ Some cause → f ≡ Faulty cause
 is-faulty Silent cause e = absurd cc
 is-faulty (Faulty other) cause e = cc
 is-faulty (Row claim) cause e = absurd cc
 
 -- behind lines none of which is malformed
-malformed-behind : (k : ℕ) (fs gs : List Finding) → first_malformed k fs ≡ None → first_malformed k (fs ++ gs) ≡ first_malformed (k + length fs) gs
+pub malformed-behind : (k : ℕ) (fs gs : List Finding) → first_malformed k fs ≡ None → first_malformed k (fs ++ gs) ≡ first_malformed (k + length fs) gs
 malformed-behind k [] gs e = ap (λ n. first_malformed n gs) (omega arith)
 malformed-behind k (Silent ∷ fs) gs e = malformed-behind (k + 1) fs gs e ∙ ap (λ n. first_malformed n gs) (omega arith)
 malformed-behind k (Faulty cause ∷ fs) gs e = absurd cc
 malformed-behind k (Row claim ∷ fs) gs e = malformed-behind (k + 1) fs gs e ∙ ap (λ n. first_malformed n gs) (omega arith)
 
-one-sound : (k : ℕ) (f : Finding) → cause_of f ≡ None → first_malformed k (f ∷ []) ≡ None
+pub one-sound : (k : ℕ) (f : Finding) → cause_of f ≡ None → first_malformed k (f ∷ []) ≡ None
 one-sound k Silent e = refl
 one-sound k (Faulty cause) e = absurd cc
 one-sound k (Row claim) e = refl
@@ -55,16 +56,16 @@ all-sound k (Faulty cause ∷ fs) e = absurd cc
 all-sound k (Row claim ∷ fs) e = ap (λ hs. Row claim ∷ hs) (all-sound (k + 1) fs e)
 
 -- the lists in force behind one line more
-lists-after : (kind : Kind) (before after : LineReading) (lines : List (List ℕ)) (line : List ℕ) → AreInForce kind (levels_in before) (order_in before) lines
+pub lists-after : (kind : Kind) (before after : LineReading) (lines : List (List ℕ)) (line : List ℕ) → AreInForce kind (levels_in before) (order_in before) lines
     → IsBehindLine kind line before after → AreInForce kind (levels_in after) (order_in after) (lines ++ line ∷ [])
 lists-after Classes before after lines line h b = rw (b.levels, b.order) (in-force Classes (carried_by standard 0 0 before) lines line h)
 lists-after (Characters tables) before after lines line h b = tt
 
-tally-push : (limits : LimitsOf) (fs : List Finding) (f : Finding) → cause_of f ≡ None
-    → tally_behind f (wrong_cases_in limits (line_number (length fs)) f) (tally_of limits fs) ≡ tally_of limits (fs ++ f ∷ [])
-tally-push limits fs Silent e = sym (tally-silent limits fs)
-tally-push limits fs (Faulty cause) e = absurd cc
-tally-push limits fs (Row claim) e = sym (tally-row limits fs claim)
+tally-push : (terms : Terms) (fs : List Finding) (f : Finding) → cause_of f ≡ None
+    → tally_behind f (wrong_cases_in terms (line_number (length fs)) f) (tally_of terms fs) ≡ tally_of terms (fs ++ f ∷ [])
+tally-push terms fs Silent e = sym (tally-silent terms fs)
+tally-push terms fs (Faulty cause) e = absurd cc
+tally-push terms fs (Row claim) e = sym (tally-row terms fs claim)
 
 pub over-long : (kind : Kind) (reading : LineReading) (line : List ℕ) → longest_line < length line → cause_of (finding_behind kind reading line) ≡ Some LineTooLong
 unfolding classes_line characters_line
@@ -72,11 +73,11 @@ over-long Classes reading line long = rw (lt-ltb longest_line (length line) long
 over-long (Characters tables) reading line long = rw (lt-ltb longest_line (length line) long) refl
 
 -- before the first line
-pub report-start : (limits : LimitsOf) (kind : Kind) (s : LineReporting) → IsAtStart limits s → IsReportBehind limits kind s [] []
-report-start limits Classes s h = record { under = h.under; sound = refl; lists = (h.lists.levels, h.lists.order); tally = h.tally; cases = refl }
-report-start limits (Characters tables) s h = record { under = h.under; sound = refl; lists = tt; tally = h.tally; cases = refl }
+pub report-start : (terms : Terms) (kind : Kind) (s : LineReporting) → IsAtStart terms s → IsReportBehind terms kind s [] []
+report-start terms Classes s h = record { under = h.under; sound = refl; lists = (h.lists.levels, h.lists.order); tally = h.tally; cases = refl }
+report-start terms (Characters tables) s h = record { under = h.under; sound = refl; lists = tt; tally = h.tally; cases = refl }
 
-module _ (limits : LimitsOf) (kind : Kind) (s : LineReporting) (told : List WrongCase) (lines : List (List ℕ)) (h : IsReportBehind limits kind s told lines) where
+module _ (terms : Terms) (kind : Kind) (s : LineReporting) (told : List WrongCase) (lines : List (List ℕ)) (h : IsReportBehind terms kind s told lines) where
   abbrev said : List ℕ → Finding
   said line = finding_behind kind s.reading line
 
@@ -85,47 +86,47 @@ module _ (limits : LimitsOf) (kind : Kind) (s : LineReporting) (told : List Wron
 
   findings-push : (line : List ℕ) → findings_by kind (lines ++ line ∷ []) ≡ before ++ said line ∷ []
   findings-push line =
-      findings-last kind (carried_by limits 0 0 s.reading) lines line h.lists
-      ∙ ap (λ f. before ++ f ∷ []) (comes-alike kind limits 0 0 s.reading line)
+      findings-last kind (carried_by terms.limits 0 0 s.reading) lines line h.lists
+      ∙ ap (λ f. before ++ f ∷ []) (comes-alike kind terms.limits 0 0 s.reading line)
 
   found-is : (line : List ℕ) (after : LineReporting) → IsAfterLine kind (line_number (length lines)) line s after
-      → after.found ≡ wrong_cases_in limits (line_number (length before)) (said line)
+      → after.found ≡ wrong_cases_in terms (line_number (length before)) (said line)
   found-is line after a =
       a.found ∙ ap (λ l. wrong_cases_in l (line_number (length lines)) (said line)) h.under
-      ∙ ap (λ n. wrong_cases_in limits (line_number n) (said line)) (sym (length-findings kind lines))
+      ∙ ap (λ n. wrong_cases_in terms (line_number n) (said line)) (sym (length-findings kind lines))
 
   -- behind a line that is not malformed
   pub report-behind : (line : List ℕ) (after : LineReporting) → IsAfterLine kind (line_number (length lines)) line s after
-      → cause_of (finding_behind kind s.reading line) ≡ None → IsReportBehind limits kind after (told ++ after.found) (lines ++ line ∷ [])
+      → cause_of (finding_behind kind s.reading line) ≡ None → IsReportBehind terms kind after (told ++ after.found) (lines ++ line ∷ [])
   report-behind line after a none =
       let found = found-is line after a in
-      let tally : after.tally ≡ tally_of limits (before ++ said line ∷ []) =
+      let tally : after.tally ≡ tally_of terms (before ++ said line ∷ []) =
       a.tally ∙ ap (λ ws. tally_behind (said line) ws s.tally) found
-      ∙ ap (λ t. tally_behind (said line) (wrong_cases_in limits (line_number (length before)) (said line)) t) h.tally
-      ∙ tally-push limits before (said line) none in
-      let all : told ++ after.found ≡ wrong_cases_from limits 0 (before ++ said line ∷ []) =
-      ap (λ ws. told ++ ws) found ∙ ap (λ ws. ws ++ wrong_cases_in limits (line_number (length before)) (said line)) h.cases
-      ∙ sym (from-push limits before (said line)) in
+      ∙ ap (λ t. tally_behind (said line) (wrong_cases_in terms (line_number (length before)) (said line)) t) h.tally
+      ∙ tally-push terms before (said line) none in
+      let all : told ++ after.found ≡ wrong_cases_from terms 0 (before ++ said line ∷ []) =
+      ap (λ ws. told ++ ws) found ∙ ap (λ ws. ws ++ wrong_cases_in terms (line_number (length before)) (said line)) h.cases
+      ∙ sym (from-push terms before (said line)) in
       record {
-        under = a.limits ∙ h.under;
+        under = a.terms ∙ h.under;
         sound = ap (first_malformed 0) (findings-push line) ∙ malformed-behind 0 before (said line ∷ []) h.sound ∙ one-sound (0 + length before) (said line) none;
         lists = lists-after kind s.reading after.reading lines line h.lists a.lists;
-        tally = tally ∙ ap (tally_of limits) (sym (findings-push line));
-        cases = all ∙ ap (wrong_cases_from limits 0) (sym (findings-push line));
+        tally = tally ∙ ap (tally_of terms) (sym (findings-push line));
+        cases = all ∙ ap (wrong_cases_from terms 0) (sym (findings-push line));
       }
 
   -- a malformed line ends the report, whatever stands behind it
   pub report-ends : (line : List ℕ) (cause : Cause) → cause_of (finding_behind kind s.reading line) ≡ Some cause → (others : List (List ℕ))
-      → report_on limits (findings_by kind (lines ++ line ∷ others)) ≡ record { wrong = told; tally = s.tally; malformed = Some (line_number (length lines), cause) }
+      → report_on terms (findings_by kind (lines ++ line ∷ others)) ≡ record { wrong = told; tally = s.tally; malformed = Some (line_number (length lines), cause) }
   report-ends line cause e others =
-      let f = findings-line kind (carried_by limits 0 0 s.reading) lines line others h.lists in
+      let f = findings-line kind (carried_by terms.limits 0 0 s.reading) lines line others h.lists in
       let faulty : findings_by kind (lines ++ line ∷ others) ≡ before ++ Faulty cause ∷ f.0 =
-      f.1 ∙ ap (λ x. before ++ x ∷ f.0) (comes-alike kind limits 0 0 s.reading line ∙ is-faulty (said line) cause e) in
+      f.1 ∙ ap (λ x. before ++ x ∷ f.0) (comes-alike kind terms.limits 0 0 s.reading line ∙ is-faulty (said line) cause e) in
       let at : line_number (0 + length before) ≡ line_number (length lines) = ap (λ n. line_number n) (omega (arith, length-findings kind lines)) in
       let first : first_malformed 0 (before ++ Faulty cause ∷ f.0) ≡ Some (line_number (length lines), cause) =
       malformed-behind 0 before (Faulty cause ∷ f.0) h.sound ∙ ap (λ n. Some (n, cause)) at in
       rw (faulty, sound-before 0 before f.0 cause h.sound, first, h.cases, h.tally) refl
 
   -- at the end of a file no line of which is malformed
-  pub report-whole : report_on limits (findings_by kind lines) ≡ record { wrong = told; tally = s.tally; malformed = None }
+  pub report-whole : report_on terms (findings_by kind lines) ≡ record { wrong = told; tally = s.tally; malformed = None }
   report-whole = rw (all-sound 0 before h.sound, h.sound, h.cases, h.tally) refl

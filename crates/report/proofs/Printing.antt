@@ -4,7 +4,7 @@ use Rattle.std.specs.Io.KnownBytes.{Appends}
 use Rattle.std.specs.List.{flat_map}
 use Rattle.std.proofs.lemmas.Grind.{flat_map-append}
 use Rattle.std.proofs.lemmas.List.{take-append-drop}
-use Rattle.units.specs.Limits.{LimitsOf}
+use Rattle.report.specs.declared.terms.Terms.{Terms}
 use Rattle.bidtests.specs.declared.kind.Kind.{Kind}
 use Rattle.bidtests.specs.declared.verdict.Cause.{Cause}
 use Rattle.printing.proofs.Appending.{Appends-to, Appends-joined, Appends-nothing}
@@ -51,12 +51,12 @@ written-more most left rest ws vs a b c h g = record {
 
 -- nothing is told of no bytes
 pub nothing-told : (r : Reporting) → HasTold r [] [] r
-nothing-told r limits kind told b s = rw (append-nil told, append-nil b) s
+nothing-told r terms kind told b s = rw (append-nil told, append-nil b) s
 
 -- what is told of bytes, behind what is told of those before
 pub told-more : (r s t : Reporting) (ws vs : List WrongCase) (xs ys : List ℕ) → HasTold r ws xs s → HasTold s vs ys t → HasTold r (ws ++ vs) (xs ++ ys) t
-told-more r s t ws vs xs ys f g limits kind told b h =
-    rw (← append_assoc told ws vs, ← append_assoc b xs ys) (g limits kind (told ++ ws) (b ++ xs) (f limits kind told b h))
+told-more r s t ws vs xs ys f g terms kind told b h =
+    rw (← append_assoc told ws vs, ← append_assoc b xs ys) (g terms kind (told ++ ws) (b ++ xs) (f terms kind told b h))
 
 -- a part of a piece is handed over, and the first cases told are written
 pub record HasGone (before after : Reporting) (most left : ℕ) (a b : Option (List ℕ)) (piece rest : List ℕ) : Type 0 where
@@ -69,8 +69,8 @@ pub record HasGone (before after : Reporting) (most left : ℕ) (a b : Option (L
 -- where a report breaks off, the cases that it told are those of the settled lines
 pub settled-written : (r s : Reporting) (most left : ℕ) (ws : List WrongCase) (a b : Option (List ℕ)) (xs ys : List ℕ) → ys ≡ xs → HasTold r ws xs s
     → HasWrittenFirst most ws a b left → PrintsSettled r most ys a b
-settled-written r s most left ws a b xs ys e told written limits kind just =
-    let is : ws ≡ settled_cases limits kind ys = told-settled limits kind s ws xs (told limits kind [] [] just) ∙ ap (settled_cases limits kind) (sym e) in
+settled-written r s most left ws a b xs ys e told written terms kind just =
+    let is : ws ≡ settled_cases terms kind ys = told-settled terms kind s ws xs (told terms kind [] [] just) ∙ ap (settled_cases terms kind) (sym e) in
     Appends-to a b _ _ (ap (first_cases_text most) is) written.lines
 
 -- where a write failed, these bytes were given
@@ -82,17 +82,17 @@ write-fails Failed r most a b Gave given gave (Err fault) e = (given, gave, subs
 -- the text of a whole report: the cases told before the end and those of a last line, and the foot
 pub whole-printed : (r s : Reporting) (e : EndedReport) (most left further : ℕ) (ws found : List WrongCase) (given : List ℕ) (a b c d : Option (List ℕ))
     (malformed : Option (ℕ × Cause)) (tally : Tally) (right : Bool) → HasTold r ws given s → HasWrittenFirst most ws a b left
-    → ((limits : LimitsOf) (kind : Kind) (told : List WrongCase) (bs : List ℕ) → Reports limits kind s told bs → report_of limits kind bs ≡ report_at_end told e)
+    → ((terms : Terms) (kind : Kind) (told : List WrongCase) (bs : List ℕ) → Reports terms kind s told bs → report_of terms kind bs ≡ report_at_end told e)
     → found ≡ e.found → HasWrittenFirst left found b c further → malformed ≡ e.malformed → tally ≡ e.tally → Appends c d (foot_text malformed tally)
-    → ((limits : LimitsOf) (kind : Kind) (told : List WrongCase) (bs : List ℕ) → report_of limits kind bs ≡ report_at_end told e → right ≡ is_right (report_of limits kind bs))
+    → ((terms : Terms) (kind : Kind) (told : List WrongCase) (bs : List ℕ) → report_of terms kind bs ≡ report_at_end told e → right ≡ is_right (report_of terms kind bs))
     → Prints r most given a d right
-whole-printed r s e most left further ws found given a b c d malformed tally right told written ends found-is last malformed-is tally-is foot answers limits kind just =
-    let is : report_of limits kind given ≡ report_at_end ws e = ends limits kind ws given (told limits kind [] [] just) in
+whole-printed r s e most left further ws found given a b c d malformed tally right told written ends found-is last malformed-is tally-is foot answers terms kind just =
+    let is : report_of terms kind given ≡ report_at_end ws e = ends terms kind ws given (told terms kind [] [] just) in
     let cases = written-more most left further ws found a b c written last in
     let text : first_cases_text most (ws ++ found) ++ foot_text malformed tally ≡ report_text most (report_at_end ws e) = rw (found-is, malformed-is, tally-is) refl in
     record {
       text = Appends-to a d _ _ (text ∙ ap (report_text most) (sym is)) (Appends-joined a c d _ _ cases.lines foot);
-      answer = answers limits kind ws given is;
+      answer = answers terms kind ws given is;
     }
 
 module _ (before : Reporting) (most : ℕ) (a : Option (List ℕ)) (piece : List ℕ) where

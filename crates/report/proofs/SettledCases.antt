@@ -1,6 +1,7 @@
 -- The wrong cases that were told are those of the lines that are settled.
 use Rattle.std.proofs.Common.{◌≡◌, ◌⊎◌, ℕ, ◌+◌, true, false, Bool, Option, None, Some, List, [], ◌∷◌, ◌++◌, reverse, map, refl, sym, ap, ◌∙◌, append-nil, inl, inr}
-use Rattle.units.specs.Limits.{LimitsOf, standard}
+use Rattle.units.specs.Limits.{standard}
+use Rattle.report.specs.declared.terms.Terms.{Terms}
 use Rattle.units.specs.LineCutting.{Cutting}
 use Rattle.units.specs.Text.{lines_with, lines_of, settled_lines, has_bytes, is_over_long}
 use Rattle.units.proofs.Ranges.{cut_at-some}
@@ -72,16 +73,16 @@ sound-settled kind lines settled m (inr last) malformed =
     let all : findings_by kind lines ≡ findings_by kind settled ++ f.0 ∷ [] = ap (findings_by kind) last.1 ∙ f.1 in
     ap sound_lines all ∙ last-unsound 0 (findings_by kind settled) f.0 m (sym (ap (first_malformed 0) all) ∙ malformed)
 
-told-settled-by : (limits : LimitsOf) (kind : Kind) (m : Option (ℕ × Cause)) (cutting : Cutting) (s : LineReporting) (told : List WrongCase) (b : List ℕ)
-    → ReportsBy limits kind m cutting s told b → told ≡ settled_cases limits kind b
-told-settled-by limits kind None cutting s told b o =
+told-settled-by : (terms : Terms) (kind : Kind) (m : Option (ℕ × Cause)) (cutting : Cutting) (s : LineReporting) (told : List WrongCase) (b : List ℕ)
+    → ReportsBy terms kind m cutting s told b → told ≡ settled_cases terms kind b
+told-settled-by terms kind None cutting s told b o =
     let lines : settled_lines b ≡ o.lines = settled-whole b o.lines o.rest o.cut in
-    o.behind.cases ∙ sym (ap (λ ls. wrong_cases_from limits 0 (sound_lines (findings_by kind ls))) lines
-    ∙ ap (wrong_cases_from limits 0) (all-sound 0 (findings_by kind o.lines) o.behind.sound))
-told-settled-by limits kind (Some m) cutting s told b r =
-    let whole = ap (report_of limits kind) (sym (append-nil b)) ∙ r [] in
+    o.behind.cases ∙ sym (ap (λ ls. wrong_cases_from terms 0 (sound_lines (findings_by kind ls))) lines
+    ∙ ap (wrong_cases_from terms 0) (all-sound 0 (findings_by kind o.lines) o.behind.sound))
+told-settled-by terms kind (Some m) cutting s told b r =
+    let whole = ap (report_of terms kind) (sym (append-nil b)) ∙ r [] in
     sym (ap (λ (report : FileReport). report.wrong) whole)
-    ∙ ap (wrong_cases_from limits 0) (sound-settled kind (lines_of b) (settled_lines b) m (lines-settled b) (ap (λ (report : FileReport). report.malformed) whole))
+    ∙ ap (wrong_cases_from terms 0) (sound-settled kind (lines_of b) (settled_lines b) m (lines-settled b) (ap (λ (report : FileReport). report.malformed) whole))
 
-pub told-settled : (limits : LimitsOf) (kind : Kind) (r : Reporting) (told : List WrongCase) (b : List ℕ) → Reports limits kind r told b → told ≡ settled_cases limits kind b
-told-settled limits kind r told b h = told-settled-by limits kind r.malformed r.cutting r.lines told b h.is
+pub told-settled : (terms : Terms) (kind : Kind) (r : Reporting) (told : List WrongCase) (b : List ℕ) → Reports terms kind r told b → told ≡ settled_cases terms kind b
+told-settled terms kind r told b h = told-settled-by terms kind r.malformed r.cutting r.lines told b h.is

@@ -2,6 +2,7 @@
 use Rattle.std.specs.Prelude.{◌≡◌, ◌≤◌, ◌↔◌, Option, Some, None, ℕ, ◌+◌, Bool, true, false, List, [], ◌∷◌}
 use Rattle.std.specs.List.{Contains}
 use Rattle.units.specs.Limits.{LimitsOf}
+use Rattle.report.specs.declared.terms.Terms.{Terms}
 use Rattle.units.specs.Lines.{line_number}
 use Rattle.units.specs.Text.{lines_of, settled_lines}
 use Rattle.bidtests.specs.declared.kind.Kind.{Kind}
@@ -13,6 +14,7 @@ use Rattle.bidtests.specs.FileKinds.{findings_by, verdict_of}
 use Rattle.bidtests.specs.Headline.{layout_under, IsMalformed, IsRow, IsWrongAt}
 use Rattle.report.specs.declared.tally.Tally.{Tally}
 use Rattle.report.specs.declared.wrong_case.WrongCase.{WrongCase}
+use Rattle.report.specs.ReadClaims.{read_under, strict_terms}
 use Rattle.report.specs.Tallies.{tally_of}
 use Rattle.report.specs.WrongCases.{wrong_cases_from, sound_lines, claimed_at, defined_at}
 
@@ -29,20 +31,20 @@ pub record FileReport : Type 0 where
   pub malformed : Option (ℕ × Cause)
 
 -- the report on a file whose lines come to these: of those before the first malformed one
-abbrev pub report_on : LimitsOf → List Finding → FileReport
-report_on limits fs = record {
-  wrong = wrong_cases_from limits 0 (sound_lines fs);
-  tally = tally_of limits (sound_lines fs);
+abbrev pub report_on : Terms → List Finding → FileReport
+report_on terms fs = record {
+  wrong = wrong_cases_from terms 0 (sound_lines fs);
+  tally = tally_of terms (sound_lines fs);
   malformed = first_malformed 0 fs;
 }
 
--- the report on the bytes of a file of this kind, by these limits
-abbrev pub report_of : LimitsOf → Kind → List ℕ → FileReport
-report_of limits kind bytes = report_on limits (findings_by kind (lines_of bytes))
+-- the report on the bytes of a file of this kind, by these terms
+abbrev pub report_of : Terms → Kind → List ℕ → FileReport
+report_of terms kind bytes = report_on terms (findings_by kind (lines_of bytes))
 
 -- the wrong cases of the lines that stay as they are whatever bytes follow these, up to the first malformed one
-abbrev pub settled_cases : LimitsOf → Kind → List ℕ → List WrongCase
-settled_cases limits kind bytes = wrong_cases_from limits 0 (sound_lines (findings_by kind (settled_lines bytes)))
+abbrev pub settled_cases : Terms → Kind → List ℕ → List WrongCase
+settled_cases terms kind bytes = wrong_cases_from terms 0 (sound_lines (findings_by kind (settled_lines bytes)))
 
 -- no case is wrong, and no line malformed
 abbrev pub right_with : List WrongCase → Option (ℕ × Cause) → Bool
@@ -63,24 +65,24 @@ verdict_from [] None rows cases = Yes rows cases
 abbrev pub verdict_by : FileReport → Verdict
 verdict_by report = verdict_from report.wrong report.malformed report.tally.rows report.tally.cases
 
--- line k is a row of which this is a wrong case, with what is claimed and defined at the first place that differs, and
--- no line before it is malformed
-pub record IsWrongCase (limits : LimitsOf) (found : List Finding) (w : WrongCase) : Type 0 where
+-- line k is a row of which this is a wrong case, with what is claimed and defined at the first place at which its claim
+-- differs as it is read, and no line before it is malformed
+pub record IsWrongCase (terms : Terms) (found : List Finding) (w : WrongCase) : Type 0 where
   pub k : ℕ
   pub numbered : w.line ≡ line_number k
   pub well_formed : (j : ℕ) (cause : Cause) → j ≤ k → ¬ IsMalformed found j cause
   pub claim : Claim
   pub row : IsRow found k claim
   pub names : Contains claim.directions w.direction
-  pub wrong : IsWrongAt limits claim w.direction w.place
-  pub claimed : w.claimed ≡ claimed_at claim w.place
-  pub defined : w.defined ≡ defined_at (layout_under limits claim w.direction) w.place
+  pub wrong : IsWrongAt terms.limits (read_under terms claim w.direction) w.direction w.place
+  pub claimed : w.claimed ≡ claimed_at (read_under terms claim w.direction) w.place
+  pub defined : w.defined ≡ defined_at (layout_under terms.limits claim w.direction) w.place
 
--- the verdict on each file is the one that its report amounts to
+-- the verdict on each file is the one that its report amounts to, in which all that is claimed is compared
 abbrev pub AmountsToVerdict : LimitsOf → Kind → List ℕ → Type 0
-AmountsToVerdict limits kind b = verdict_of limits kind b ≡ verdict_by (report_of limits kind b)
+AmountsToVerdict limits kind b = verdict_of limits kind b ≡ verdict_by (report_of (strict_terms limits) kind b)
 
 -- a report holds exactly the wrong cases of the file's lines
-abbrev pub HoldsWrongCases : LimitsOf → Kind → List ℕ → Type 0
-HoldsWrongCases limits kind b = (w : WrongCase)
-    → Contains (report_of limits kind b).wrong w ↔ IsWrongCase limits (findings_by kind (lines_of b)) w
+abbrev pub HoldsWrongCases : Terms → Kind → List ℕ → Type 0
+HoldsWrongCases terms kind b = (w : WrongCase)
+    → Contains (report_of terms kind b).wrong w ↔ IsWrongCase terms (findings_by kind (lines_of b)) w

@@ -1,3 +1,6 @@
+pub mod ReadClaims
+pub mod ReadRows
+pub mod Comparing
 pub mod WrongCases
 pub mod Tallies
 pub mod FileReports

@@ -1,7 +1,7 @@
 -- What is printed of a report while its file is read.
 use Rattle.std.specs.Prelude.{◌≡◌, Option, ℕ, ◌+◌, Bool, List, [], ◌++◌, length, take}
 use Rattle.std.specs.Io.KnownBytes.{Appends}
-use Rattle.units.specs.Limits.{LimitsOf}
+use Rattle.report.specs.declared.terms.Terms.{Terms}
 use Rattle.bidtests.specs.declared.kind.Kind.{Kind}
 use Rattle.report.specs.declared.print.ReportFault.{ReportFault}
 use Rattle.report.specs.declared.print.ReportFault.TheVariants.{Read, Write}
@@ -13,8 +13,8 @@ use Rattle.report.specs.ReportText.{first_cases_text, report_text}
 -- the report told these wrong cases while it was handed these bytes
 abbrev pub HasTold : Reporting → List WrongCase → List ℕ → Reporting → Type 0
 HasTold before ws bytes after =
-    (limits : LimitsOf) (kind : Kind) (told : List WrongCase) (b : List ℕ)
-    → Reports limits kind before told b → Reports limits kind after (told ++ ws) (b ++ bytes)
+    (terms : Terms) (kind : Kind) (told : List WrongCase) (b : List ℕ)
+    → Reports terms kind before told b → Reports terms kind after (told ++ ws) (b ++ bytes)
 
 -- known bytes grew by the lines of the first of these wrong cases, at most so many, and so many more may follow
 pub record HasWrittenFirst (most : ℕ) (ws : List WrongCase) (before after : Option (List ℕ)) (left : ℕ) : Type 0 where
@@ -29,14 +29,14 @@ pub record IsPrinted (most : ℕ) (report : FileReport) (before after : Option (
 -- the report, which was just begun, is printed on these bytes as its whole file
 abbrev pub Prints : Reporting → ℕ → List ℕ → Option (List ℕ) → Option (List ℕ) → Bool → Type 0
 Prints report most bytes before after right =
-    (limits : LimitsOf) (kind : Kind) → Reports limits kind report [] []
-    → IsPrinted most (report_of limits kind bytes) before after right
+    (terms : Terms) (kind : Kind) → Reports terms kind report [] []
+    → IsPrinted most (report_of terms kind bytes) before after right
 
 -- the lines of the wrong cases are printed that stand on the lines which these bytes settle
 abbrev pub PrintsSettled : Reporting → ℕ → List ℕ → Option (List ℕ) → Option (List ℕ) → Type 0
 PrintsSettled report most bytes before after =
-    (limits : LimitsOf) (kind : Kind) → Reports limits kind report [] []
-    → Appends before after (first_cases_text most (settled_cases limits kind bytes))
+    (terms : Terms) (kind : Kind) → Reports terms kind report [] []
+    → Appends before after (first_cases_text most (settled_cases terms kind bytes))
 
 -- the report, which was just begun, breaks off behind these bytes: the source failed, and the wrong cases so far are
 -- printed, or a write failed

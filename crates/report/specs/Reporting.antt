@@ -2,10 +2,10 @@
 use Rattle.std.specs.Borrow.{Bor}
 use Rattle.std.specs.Prelude.{◌≡◌, Option, Some, None, ℕ, List, [], ◌++◌, length, ⊤}
 use Rattle.units.specs.LineCutting.{Cutting, StandsFor}
-use Rattle.units.specs.Limits.{LimitsOf}
+use Rattle.report.specs.declared.terms.Terms.{Terms}
 use Rattle.units.specs.Lines.{CutsInto}
-use Rattle.units.specs.declared.line_cut.Step.{Step}
-use Rattle.units.specs.declared.line_cut.Step.TheVariants.{More, Line, TooLong}
+use Rattle.units.specs.declared.line_cut.Cut.{Cut}
+use Rattle.units.specs.declared.line_cut.Cut.TheVariants.{More, Line, TooLong}
 use Rattle.bidtests.specs.declared.kind.Kind.{Kind}
 use Rattle.bidtests.specs.declared.verdict.Cause.{Cause}
 use Rattle.bidtests.specs.declared.verdict.Cause.TheVariants.{LineTooLong}
@@ -19,24 +19,24 @@ use Rattle.report.specs.FileReports.{FileReport, report_of, first_malformed}
 use Rattle.report.specs.Tallies.{tally_of, nothing_counted, with_row}
 use Rattle.report.specs.WrongCases.{wrong_cases_in, wrong_cases_from}
 
--- what is kept from line to line: the limits, what the reader of lines holds, the counts, and the wrong cases of the
+-- what is kept from line to line: the terms, what the reader of lines holds, the counts, and the wrong cases of the
 -- line that was read last
 pub record LineReporting : Type 0 where
-  pub limits : LimitsOf
+  pub terms : Terms
   pub reading : LineReading
   pub tally : Tally
   pub found : List WrongCase
 
 -- before the first line
-pub record IsAtStart (limits : LimitsOf) (s : LineReporting) : Type 0 where
-  pub under : s.limits ≡ limits
+pub record IsAtStart (terms : Terms) (s : LineReporting) : Type 0 where
+  pub under : s.terms ≡ terms
   pub lists : HasNoList s.reading
   pub tally : s.tally ≡ nothing_counted
   pub found : s.found ≡ []
 
 -- the same with no case found
 abbrev pub forgotten : LineReporting → LineReporting
-forgotten s = record { limits = s.limits; reading = s.reading; tally = s.tally; found = [] }
+forgotten s = record { terms = s.terms; reading = s.reading; tally = s.tally; found = [] }
 
 -- why a line is malformed that comes to this, if it is
 abbrev pub cause_of : Finding → Option Cause
@@ -52,9 +52,9 @@ tally_behind (Row claim) ws t = with_row (length claim.directions) ws t
 
 -- what is kept behind the line of this number, which is not malformed
 pub record IsAfterLine (kind : Kind) (number : ℕ) (line : List ℕ) (before after : LineReporting) : Type 0 where
-  pub limits : after.limits ≡ before.limits
+  pub terms : after.terms ≡ before.terms
   pub lists : IsBehindLine kind line before.reading after.reading
-  pub found : after.found ≡ wrong_cases_in before.limits number (finding_behind kind before.reading line)
+  pub found : after.found ≡ wrong_cases_in before.terms number (finding_behind kind before.reading line)
   pub tally : after.tally ≡ tally_behind (finding_behind kind before.reading line) after.found before.tally
 
 -- nothing more was found or counted
@@ -67,25 +67,25 @@ abbrev pub malformed_at : ℕ → Option Cause → Option (ℕ × Cause)
 malformed_at number None = None
 malformed_at number (Some cause) = Some (number, cause)
 
--- the malformed line that a step of the cutter ends, if it ends one
-abbrev pub malformed_by : Kind → LineReporting → Step → Option (ℕ × Cause)
+-- the malformed line that a cut of the cutter ends, if it ends one
+abbrev pub malformed_by : Kind → LineReporting → Cut → Option (ℕ × Cause)
 malformed_by kind s More = None
 malformed_by kind s (Line number text) = malformed_at number (cause_of (finding_behind kind s.reading text.now))
 malformed_by kind s (TooLong number) = Some (number, LineTooLong)
 
--- what is kept behind a step that ends no malformed line
-abbrev pub IsAfterStep : Kind → Step → LineReporting → LineReporting → Type 0
-IsAfterStep kind More before after = after ≡ before
-IsAfterStep kind (Line number text) before after = IsAfterLine kind number text.now before after
-IsAfterStep kind (TooLong number) before after = ⊤
+-- what is kept behind a cut that ends no malformed line
+abbrev pub IsAfterCut : Kind → Cut → LineReporting → LineReporting → Type 0
+IsAfterCut kind More before after = after ≡ before
+IsAfterCut kind (Line number text) before after = IsAfterLine kind number text.now before after
+IsAfterCut kind (TooLong number) before after = ⊤
 
 -- this is kept behind these lines, none of which is malformed, and these are all of their wrong cases
-pub record IsReportBehind (limits : LimitsOf) (kind : Kind) (s : LineReporting) (told : List WrongCase) (lines : List (List ℕ)) : Type 0 where
-  pub under : s.limits ≡ limits
+pub record IsReportBehind (terms : Terms) (kind : Kind) (s : LineReporting) (told : List WrongCase) (lines : List (List ℕ)) : Type 0 where
+  pub under : s.terms ≡ terms
   pub sound : first_malformed 0 (findings_by kind lines) ≡ None
   pub lists : AreInForce kind (levels_in s.reading) (order_in s.reading) lines
-  pub tally : s.tally ≡ tally_of limits (findings_by kind lines)
-  pub cases : told ≡ wrong_cases_from limits 0 (findings_by kind lines)
+  pub tally : s.tally ≡ tally_of terms (findings_by kind lines)
+  pub cases : told ≡ wrong_cases_from terms 0 (findings_by kind lines)
 
 -- what a report keeps: the kind of its file, where its cutter stands in a line, what is kept between lines, and the
 -- malformed line at which it has ended
@@ -96,24 +96,24 @@ pub record Reporting : Type 0 where
   pub malformed : Option (ℕ × Cause)
 
 -- no line that has ended is malformed
-pub record GoesOn (limits : LimitsOf) (kind : Kind) (cutting : Cutting) (s : LineReporting) (told : List WrongCase) (bytes : List ℕ) : Type 0 where
+pub record GoesOn (terms : Terms) (kind : Kind) (cutting : Cutting) (s : LineReporting) (told : List WrongCase) (bytes : List ℕ) : Type 0 where
   pub cutter : StandsFor cutting bytes
   pub lines : List (List ℕ)
   pub rest : List ℕ
   pub cut : CutsInto bytes lines rest
-  pub behind : IsReportBehind limits kind s told lines
+  pub behind : IsReportBehind terms kind s told lines
 
 -- what holds of the bytes that were handed over and of the wrong cases that were told: with no malformed line those are
 -- of the lines so far, else each file that begins so has this report
-abbrev pub ReportsBy : LimitsOf → Kind → Option (ℕ × Cause) → Cutting → LineReporting → List WrongCase → List ℕ → Type 0
-ReportsBy limits kind None cutting s told bytes = GoesOn limits kind cutting s told bytes
-ReportsBy limits kind (Some malformed) cutting s told bytes =
-    (more : List ℕ) → report_of limits kind (bytes ++ more) ≡ record { wrong = told; tally = s.tally; malformed = Some malformed }
+abbrev pub ReportsBy : Terms → Kind → Option (ℕ × Cause) → Cutting → LineReporting → List WrongCase → List ℕ → Type 0
+ReportsBy terms kind None cutting s told bytes = GoesOn terms kind cutting s told bytes
+ReportsBy terms kind (Some malformed) cutting s told bytes =
+    (more : List ℕ) → report_of terms kind (bytes ++ more) ≡ record { wrong = told; tally = s.tally; malformed = Some malformed }
 
--- the report is on a file of this kind by these limits, was handed these bytes, in any pieces, and told these wrong cases
-pub record Reports (limits : LimitsOf) (kind : Kind) (report : Reporting) (told : List WrongCase) (bytes : List ℕ) : Type 0 where
+-- the report is on a file of this kind by these terms, was handed these bytes in any pieces, and told these wrong cases
+pub record Reports (terms : Terms) (kind : Kind) (report : Reporting) (told : List WrongCase) (bytes : List ℕ) : Type 0 where
   pub of : report.kind ≡ kind
-  pub is : ReportsBy limits kind report.malformed report.cutting report.lines told bytes
+  pub is : ReportsBy terms kind report.malformed report.cutting report.lines told bytes
 
 -- the malformed line that the end of a file ends, if one has begun
 abbrev pub malformed_last : Kind → LineReporting → Option (ℕ × Bor (List ℕ)) → Option (ℕ × Cause)

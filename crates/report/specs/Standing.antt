@@ -1,7 +1,7 @@
 -- What a report has come to, apart from the tables by which it lays out.
 use Rattle.std.specs.Prelude.{◌≡◌, Option, ℕ, List, ◌++◌}
 use Rattle.units.specs.LineCutting.{Cutting}
-use Rattle.units.specs.Limits.{LimitsOf}
+use Rattle.report.specs.declared.terms.Terms.{Terms}
 use Rattle.ucdfiles.specs.Tables.{TablesOf}
 use Rattle.bidtests.specs.declared.kind.Kind.{Kind}
 use Rattle.bidtests.specs.declared.verdict.Cause.{Cause}
@@ -19,17 +19,17 @@ pub record StateOf : Type 0 where
 abbrev pub reporting : Kind → StateOf → Reporting
 reporting kind state = record { kind = kind; cutting = state.cutting; lines = state.lines; malformed = state.malformed }
 
--- so far a report has come that was handed these bytes, in any pieces, told these wrong cases, and lays out by these
--- limits and tables, or without tables
-abbrev pub HasToldFor : LimitsOf → Option TablesOf → StateOf → List WrongCase → List ℕ → Type 0
-HasToldFor limits tables state told bytes =
-    (kind : Kind) → tables_of kind ≡ tables → ReportsBy limits kind state.malformed state.cutting state.lines told bytes
+-- so far a report has come that was handed these bytes, in any pieces, told these wrong cases, and reports by these
+-- terms and tables, or without tables
+abbrev pub HasToldFor : Terms → Option TablesOf → StateOf → List WrongCase → List ℕ → Type 0
+HasToldFor terms tables state told bytes =
+    (kind : Kind) → tables_of kind ≡ tables → ReportsBy terms kind state.malformed state.cutting state.lines told bytes
 
 -- a report that has come to the one comes to the other when it is handed this piece too, and tells what it found then
 abbrev pub TakesIn : Option TablesOf → StateOf → List ℕ → StateOf → Type 0
 TakesIn tables before piece after =
-    (limits : LimitsOf) (told : List WrongCase) (b : List ℕ)
-    → HasToldFor limits tables before told b → HasToldFor limits tables after (told ++ after.lines.found) (b ++ piece)
+    (terms : Terms) (told : List WrongCase) (b : List ℕ)
+    → HasToldFor terms tables before told b → HasToldFor terms tables after (told ++ after.lines.found) (b ++ piece)
 
 -- what it comes to with the end of its file
 abbrev pub ended_in : StateOf → EndedReport

@@ -1,20 +1,21 @@
 -- The counts of a report.
 use Rattle.std.specs.Prelude.{ℕ, ◌+◌, min, Bool, true, false, List, length}
 use Rattle.std.specs.Option.{is_some}
-use Rattle.std.specs.List.{count_by}
-use Rattle.units.specs.Limits.{LimitsOf}
+use Rattle.std.specs.List.{count_by, list_any}
+use Rattle.report.specs.declared.terms.Terms.{Terms}
 use Rattle.units.specs.Lines.{saturated}
 use Rattle.units.specs.declared.level.Direction.{Direction}
 use Rattle.units.specs.declared.level.Direction.TheVariants.{Auto, Ltr, Rtl, AutoRtl}
 use Rattle.bidtests.specs.declared.verdict.Place.{Place}
 use Rattle.bidtests.specs.declared.verdict.Place.TheVariants.{ParaLevel as AtParaLevel, Levels as AtLevels, Order as AtOrder}
-use Rattle.bidtests.specs.Verdicts.{Finding, Silent, Row, Faulty, rows_in, cases_in, wrong_case}
+use Rattle.bidtests.specs.Verdicts.{Finding, Silent, Row, Faulty, rows_in, cases_in}
 use Rattle.report.specs.declared.wrong_case.WrongCase.{WrongCase}
 use Rattle.report.specs.declared.tally.ByDirection.{ByDirection}
 use Rattle.report.specs.declared.tally.ByPart.{ByPart}
 use Rattle.report.specs.declared.tally.Part.{Part}
 use Rattle.report.specs.declared.tally.Part.TheVariants.{ParaLevel, Levels, Order}
 use Rattle.report.specs.declared.tally.Tally.{Tally}
+use Rattle.report.specs.ReadClaims.{place_under}
 use Rattle.report.specs.WrongCases.{wrong_cases_from}
 
 -- the directions are one
@@ -47,10 +48,10 @@ abbrev pub is_of : Part → WrongCase → Bool
 is_of part w = same_part (part_of w.place) part
 
 -- the line is a row that is wrong under at least one of its directions
-abbrev pub is_wrong_row : LimitsOf → Finding → Bool
-is_wrong_row limits Silent = false
-is_wrong_row limits (Faulty cause) = false
-is_wrong_row limits (Row claim) = is_some (wrong_case limits claim claim.directions)
+abbrev pub is_wrong_row : Terms → Finding → Bool
+is_wrong_row terms Silent = false
+is_wrong_row terms (Faulty cause) = false
+is_wrong_row terms (Row claim) = list_any (λ d. is_some (place_under terms claim d)) claim.directions
 
 -- how many of these hold it, counted up to 2^64 - 1
 abbrev pub counted_by : (WrongCase → Bool) → List WrongCase → ℕ
@@ -74,14 +75,14 @@ tally_by_part ws = record {
 }
 
 -- the counts of these lines, none of which is malformed
-abbrev pub tally_of : LimitsOf → List Finding → Tally
-tally_of limits fs = record {
+abbrev pub tally_of : Terms → List Finding → Tally
+tally_of terms fs = record {
   rows = rows_in fs;
   cases = cases_in fs;
-  wrong_rows = saturated (count_by (is_wrong_row limits) fs);
-  wrong_cases = saturated (length (wrong_cases_from limits 0 fs));
-  by_direction = tally_by_direction (wrong_cases_from limits 0 fs);
-  by_part = tally_by_part (wrong_cases_from limits 0 fs);
+  wrong_rows = saturated (count_by (is_wrong_row terms) fs);
+  wrong_cases = saturated (length (wrong_cases_from terms 0 fs));
+  by_direction = tally_by_direction (wrong_cases_from terms 0 fs);
+  by_part = tally_by_part (wrong_cases_from terms 0 fs);
 }
 
 -- before the first row

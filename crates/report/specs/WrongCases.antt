@@ -3,16 +3,18 @@ use Rattle.std.specs.Prelude.{Option, Some, None, ℕ, ◌+◌, List, [], ◌∷
 use Rattle.std.specs.List.{slice_get, flat_map}
 use Rattle.std.specs.Option.{option_map, option_to_list}
 use Rattle.units.specs.Layout.{TextLayout, all_orders}
-use Rattle.units.specs.Limits.{LimitsOf}
+use Rattle.report.specs.declared.terms.Terms.{Terms}
 use Rattle.units.specs.Lines.{line_number}
 use Rattle.units.specs.declared.level.Direction.{Direction}
 use Rattle.bidtests.specs.declared.verdict.Place.{Place}
 use Rattle.bidtests.specs.declared.verdict.Place.TheVariants.{ParaLevel, Levels, Order}
-use Rattle.bidtests.specs.Verdicts.{Claim, Finding, Silent, Row, Faulty, wrong_place_under}
+use Rattle.bidtests.specs.Verdicts.{Claim, Finding, Silent, Row, Faulty}
 use Rattle.bidtests.specs.Headline.{layout_under}
+use Rattle.report.specs.declared.terms.Leniency.{Leniency}
 use Rattle.report.specs.declared.wrong_case.Item.{Item}
 use Rattle.report.specs.declared.wrong_case.Item.TheVariants.{Ended, Removed, Level, Position}
 use Rattle.report.specs.declared.wrong_case.WrongCase.{WrongCase}
+use Rattle.report.specs.ReadClaims.{place_in, read_claim}
 
 -- what stands at an index of a list of levels
 abbrev pub level_item : Option (Option ℕ) → Item
@@ -52,25 +54,30 @@ wrong_case_at number claim d layout place = record {
   defined = defined_at layout place;
 }
 
--- the case of a row under the direction, if it is wrong
-abbrev pub wrong_case_under : LimitsOf → ℕ → Claim → Direction → Option WrongCase
-wrong_case_under limits number claim d =
-    option_map (wrong_case_at number claim d (layout_under limits claim d)) (wrong_place_under limits claim d)
+-- the case of a row under the direction, if its claim, as it is read, differs from this layout
+abbrev pub wrong_case_in : Leniency → ℕ → Claim → Direction → TextLayout → Option WrongCase
+wrong_case_in leniency number claim d layout =
+    let read = read_claim leniency layout claim in
+    option_map (wrong_case_at number read d layout) (place_in layout read)
+
+-- the same of the layout under the direction
+abbrev pub wrong_case_under : Terms → ℕ → Claim → Direction → Option WrongCase
+wrong_case_under terms number claim d = wrong_case_in terms.leniency number claim d (layout_under terms.limits claim d)
 
 -- the wrong cases of a row under these directions
-abbrev pub wrong_cases_under : LimitsOf → ℕ → Claim → List Direction → List WrongCase
-wrong_cases_under limits number claim ds = flat_map (λ d. option_to_list (wrong_case_under limits number claim d)) ds
+abbrev pub wrong_cases_under : Terms → ℕ → Claim → List Direction → List WrongCase
+wrong_cases_under terms number claim ds = flat_map (λ d. option_to_list (wrong_case_under terms number claim d)) ds
 
 -- the wrong cases of the line of this number
-abbrev pub wrong_cases_in : LimitsOf → ℕ → Finding → List WrongCase
-wrong_cases_in limits number Silent = []
-wrong_cases_in limits number (Faulty cause) = []
-wrong_cases_in limits number (Row claim) = wrong_cases_under limits number claim claim.directions
+abbrev pub wrong_cases_in : Terms → ℕ → Finding → List WrongCase
+wrong_cases_in terms number Silent = []
+wrong_cases_in terms number (Faulty cause) = []
+wrong_cases_in terms number (Row claim) = wrong_cases_under terms number claim claim.directions
 
 -- the wrong cases of these lines, where k lines stand before them
-abbrev pub wrong_cases_from : LimitsOf → ℕ → List Finding → List WrongCase
-wrong_cases_from limits k [] = []
-wrong_cases_from limits k (f ∷ fs) = wrong_cases_in limits (line_number k) f ++ wrong_cases_from limits (k + 1) fs
+abbrev pub wrong_cases_from : Terms → ℕ → List Finding → List WrongCase
+wrong_cases_from terms k [] = []
+wrong_cases_from terms k (f ∷ fs) = wrong_cases_in terms (line_number k) f ++ wrong_cases_from terms (k + 1) fs
 
 -- the lines before the first one that is malformed: what stands behind it may rest on what it was to say
 abbrev pub sound_lines : List Finding → List Finding

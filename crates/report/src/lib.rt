@@ -5,12 +5,15 @@
 //! judge, takes its room when it is made, and no memory after that.
 #![tactic(auto)]
 
+mod comparing;
 pub mod laws;
 mod line_report;
 pub mod print;
+mod read_order;
 pub mod report;
 pub mod report_text;
 mod row_cases;
 pub mod state;
 pub mod tally;
+pub mod terms;
 pub mod wrong_case;

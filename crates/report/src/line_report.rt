@@ -7,6 +7,7 @@ ghost use Rattle.bidtests.specs.declared.line_reader.TheConstants.{MOST_UNITS};
 
 use crate::row_cases::find_wrong_cases;
 use crate::tally::Tally;
+use crate::terms::Terms;
 use crate::wrong_case::WrongCase;
 use bidtests::kind::Kind;
 use bidtests::line_reader::{LineReader, MOST_UNITS};
@@ -14,17 +15,16 @@ use bidtests::verdict::Cause;
 use lines::scratch::Scratch;
 use std::alloc::Global;
 use std::marker::Model;
-use units::limits::Limits;
 use units::memory::Memory;
 
 /// The wrong cases that a row can have: one for each direction.
 const MOST_FOUND: usize = 4;
 
-/// Reports on lines, one behind the other: the limits and the room for layouts, what reads the lines, the counts, and
+/// Reports on lines, one behind the other: the terms and the room for layouts, what reads the lines, the counts, and
 /// the wrong cases of the line that was read last.
 #[derive(Drop)]
 pub struct LineReport {
-    limits: Limits,
+    terms: Terms,
     scratch: Scratch,
     reader: LineReader,
     tally: Tally,
@@ -41,7 +41,7 @@ impl Model for LineReport {
     ghost Value = { LineReporting };
 
     ghost view = { λ s. record {
-      limits = s.limits;
+      terms = s.terms;
       reading = s.reader;
       tally = s.tally;
       found = s.found.items;
@@ -70,14 +70,14 @@ impl LineReport {
     ghost use Rattle.report.specs.Reporting.{IsAtStart, IsAfterLine, HasNothingNew, cause_of, forgotten};
 
     /// Before the first line.
-    pub fn new(alloc: Global, limits: Limits) -> Result<Self, Memory>
-        ensures { IfOk result (IsAtStart limits) }
+    pub fn new(alloc: Global, terms: Terms) -> Result<Self, Memory>
+        ensures { IfOk result (IsAtStart terms) }
     {
         let reader = LineReader::new(alloc)?;
         let found = list(alloc)?;
         let scratch = scratch(alloc)?;
         Ok(LineReport {
-            limits,
+            terms,
             scratch,
             reader,
             tally: Tally::new(),
@@ -123,7 +123,7 @@ impl LineReport {
             &mut self.scratch,
             number,
             claim,
-            self.limits,
+            &self.terms,
             &mut self.found,
         );
         self.tally = self.tally.with_row(asked.directions.len(), &self.found);

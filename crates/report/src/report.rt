@@ -1,6 +1,6 @@
 //! The report on a test file of either kind.
 ghost use Rattle.std.specs.Prelude.{◌≡◌, ◌≤◌, ◌<◌, ℕ, List, [], ◌++◌, IfOk, length, take};
-ghost use Rattle.units.specs.Limits.{LimitsOf};
+ghost use Rattle.report.specs.declared.terms.Terms.{Terms as TermsOf};
 ghost use Rattle.bidtests.specs.declared.kind.Kind.{Kind as FileKind};
 ghost use Rattle.report.specs.declared.wrong_case.WrongCase.{WrongCase as Told};
 ghost use Rattle.report.specs.FileReports.{is_right, report_of};
@@ -8,17 +8,17 @@ ghost use Rattle.report.specs.Reporting.{Reports, report_at_end};
 
 use crate::state::ReportState;
 use crate::tally::Tally;
+use crate::terms::Terms;
 use crate::wrong_case::WrongCase;
 use bidtests::kind::Kind;
 use bidtests::verdict::Cause;
 use std::alloc::Global;
 use std::marker::Model;
-use units::limits::Limits;
 use units::memory::Memory;
 
 /// Reports on the bytes of a test file, in whatever pieces they come: its wrong cases, line by line, and their counts.
 /// It holds one line, one row's text, the lists in force and the wrong cases of one row, and ends at the first
-/// malformed line. Contracts say by which limits it lays out, which bytes it stands for (those that were handed over,
+/// malformed line. Contracts say by which terms it reports, which bytes it stands for (those that were handed over,
 /// joined), and which wrong cases it has told.
 #[derive(Drop)]
 pub struct Report<'t> {
@@ -36,13 +36,13 @@ impl<'t> Model for Report<'t> {
 }
 
 impl<'t> Report<'t> {
-    /// A report on a file of this kind, before its first byte, that lays out by these limits. All memory is taken
+    /// A report on a file of this kind, before its first byte, by these terms. All memory is taken
     /// here: `Memory` is answered where some of it was refused.
-    pub fn new(alloc: Global, kind: Kind<'t>, limits: Limits) -> Result<Report<'t>, Memory>
-        ensures stands { IfOk result (λ report. Reports limits kind.entry report [] []) }
+    pub fn new(alloc: Global, kind: Kind<'t>, terms: Terms) -> Result<Report<'t>, Memory>
+        ensures stands { IfOk result (λ report. Reports terms kind.entry report [] []) }
         ensures none { IfOk result (λ report. report.lines.found ≡ []) }
     {
-        let state = ReportState::new(alloc, limits)?;
+        let state = ReportState::new(alloc, terms)?;
         Ok(Report { kind, state })
     }
 
@@ -52,9 +52,9 @@ impl<'t> Report<'t> {
     pub fn take(&mut self, piece: &[u8]) -> usize
         ensures used { result ≤ length piece.now }
         ensures some { 0 < length piece.now → 0 < result }
-        ensures reports { (limits : LimitsOf) (kind : FileKind) (told : List Told) (b : List ℕ)
-            → Reports limits kind self.old told b
-            → Reports limits kind self.new (told ++ self.new.lines.found) (b ++ take result piece.now) }
+        ensures reports { (terms : TermsOf) (kind : FileKind) (told : List Told) (b : List ℕ)
+            → Reports terms kind self.old told b
+            → Reports terms kind self.new (told ++ self.new.lines.found) (b ++ take result piece.now) }
     {
         self.state.take(self.kind, piece)
     }
@@ -68,8 +68,8 @@ impl<'t> Report<'t> {
 
     /// Takes the end of the file: the line that has begun ends too. It takes no memory and always succeeds.
     pub fn finish(self) -> Ended
-        ensures { (limits : LimitsOf) (kind : FileKind) (told : List Told) (b : List ℕ)
-            → Reports limits kind self.entry told b → report_of limits kind b ≡ report_at_end told result }
+        ensures { (terms : TermsOf) (kind : FileKind) (told : List Told) (b : List ℕ)
+            → Reports terms kind self.entry told b → report_of terms kind b ≡ report_at_end told result }
     {
         let Report { kind, mut state } = self;
         state.finish(kind);
@@ -109,8 +109,8 @@ impl Ended {
 
     /// Whether the file is right: no line is malformed, and no case wrong.
     pub fn is_right(&self) -> bool
-        ensures { (limits : LimitsOf) (kind : FileKind) (told : List Told) (b : List ℕ)
-            → report_of limits kind b ≡ report_at_end told self.now → result ≡ is_right (report_of limits kind b) }
+        ensures { (terms : TermsOf) (kind : FileKind) (told : List Told) (b : List ℕ)
+            → report_of terms kind b ≡ report_at_end told self.now → result ≡ is_right (report_of terms kind b) }
     {
         self.state.tally().wrong_cases == 0 && self.state.malformed().is_none()
     }

@@ -1,26 +1,28 @@
 // The wrong cases of a row.
-ghost use Rattle.std.specs.Prelude.{◌≡◌, ◌<◌, ◌≤◌, [], ◌++◌, length, map, vec_capacity};
+ghost use Rattle.std.specs.Prelude.{◌≡◌, ◌<◌, ◌≤◌, Some, [], ◌++◌, length, map, vec_capacity};
 ghost use Rattle.std.specs.List.{slice_get};
 ghost use Rattle.std.specs.Option.{option_map, option_to_list};
 ghost use Rattle.units.specs.Isolates.{level_of_para};
-ghost use Rattle.units.specs.Layout.{all_orders, layout_of};
-ghost use Rattle.units.specs.Limits.{LimitsOf};
+ghost use Rattle.units.specs.Layout.{all_orders};
 ghost use Rattle.lines.specs.Layouts.{view_of};
 ghost use Rattle.lines.specs.Scratches.{room_of};
 ghost use Rattle.bidtests.specs.Readings.{claim_of};
+ghost use Rattle.report.specs.Comparing.{order_left};
+ghost use Rattle.report.specs.ReadClaims.{place_in, read_claim};
 ghost use Rattle.report.specs.WrongCases.{claimed_at, defined_at, level_item, para_item, position_item};
-ghost use Rattle.report.specs.WrongCases.{wrong_case_under, wrong_cases_under};
+ghost use Rattle.report.specs.WrongCases.{wrong_case_in, wrong_case_under, wrong_cases_under};
 
+use crate::comparing::wrong_place;
+use crate::read_order::ReadOrder;
+use crate::terms::{Leniency, Terms};
 use crate::wrong_case::{Item, WrongCase};
 use bidtests::claim::Claim;
-use bidtests::compare::{Comparison, compare_with};
 use bidtests::verdict::Place;
 use lines::breaks::Breaks;
 use lines::lay_out::lay_out_into_with;
 use lines::layout::Layout;
 use lines::scratch::Scratch;
 use units::level::{Direction, Level, ParaLevel};
-use units::limits::Limits;
 
 /// What stands at an index of a list of levels.
 fn level_at(levels: &[Option<Level>], index: usize) -> Item
@@ -33,13 +35,13 @@ fn level_at(levels: &[Option<Level>], index: usize) -> Item
     }
 }
 
-/// What stands at an index of an order.
-fn position_at(order: &[usize], index: usize) -> Item
-    ensures { result ≡ position_item (slice_get order.now index) }
+/// What stands at an index of what is left of an order.
+fn position_at(mut order: ReadOrder<'_>, index: usize) -> Item
+    ensures { result ≡ position_item (slice_get (order_left order.entry) index) }
 {
-    match order.get(index) {
+    match order.nth(index) {
         None => Item::Ended,
-        Some(position) => Item::Position(*position),
+        Some(position) => Item::Position(position),
     }
 }
 
@@ -78,14 +80,19 @@ fn position_in(layout: &Layout<'_>, index: usize) -> Item
     Item::Ended
 }
 
-/// What is claimed at a place.
-fn item_claimed(claim: Claim<'_>, place: Place) -> Item
-    ensures { result ≡ claimed_at (claim_of claim.entry) place }
+/// What is claimed at the first place at which the claim, as it is read, differs from the layout.
+fn item_claimed(leniency: Leniency, claim: Claim<'_>, layout: &Layout<'_>, place: Place) -> Item
+    requires { place_in (view_of layout.now) (read_claim leniency (view_of layout.now) (claim_of claim))
+        ≡ Some place }
+    ensures { result ≡ claimed_at (read_claim leniency (view_of layout.now) (claim_of claim.entry)) place }
 {
     match place {
         Place::ParaLevel => claimed_level(claim.para_level),
         Place::Levels(index) => level_at(claim.levels, index),
-        Place::Order(index) => position_at(claim.order, index),
+        Place::Order(index) => {
+            let order = ReadOrder::new(leniency.positions, layout.levels(), claim.order);
+            position_at(order, index)
+        }
     }
 }
 
@@ -100,26 +107,24 @@ fn item_defined(layout: &Layout<'_>, place: Place) -> Item
     }
 }
 
-/// The case of the claim, if it differs from this layout, which is that of its text under the direction.
+/// The case of the claim, if it differs, as it is read, from this layout of its text under the direction.
 fn wrong_case(
     line: u64,
     claim: Claim<'_>,
     direction: Direction,
+    leniency: Leniency,
     layout: &Layout<'_>,
 ) -> Option<WrongCase>
-    ensures { (limits : LimitsOf) → view_of layout.now ≡ layout_of limits (claim_of claim.entry).text direction []
-        → result ≡ wrong_case_under limits line (claim_of claim.entry) direction }
+    ensures { result ≡ wrong_case_in leniency line (claim_of claim.entry) direction (view_of layout.now) }
 {
-    match compare_with(claim, layout) {
-        Comparison::Agrees { .. } => None,
-        Comparison::Differs(place) => Some(WrongCase {
-            line,
-            direction,
-            place,
-            claimed: item_claimed(claim, place),
-            defined: item_defined(layout, place),
-        }),
-    }
+    let place = wrong_place(leniency, claim, layout)?;
+    Some(WrongCase {
+        line,
+        direction,
+        place,
+        claimed: item_claimed(leniency, claim, layout, place),
+        defined: item_defined(layout, place),
+    })
 }
 
 /// The case of the claim under the direction, if it is wrong.
@@ -128,15 +133,15 @@ fn case_under(
     line: u64,
     claim: Claim<'_>,
     direction: Direction,
-    limits: Limits,
+    terms: &Terms,
 ) -> Option<WrongCase>
     requires { length claim.text.now ≤ room_of scratch.old }
-    ensures case { result ≡ wrong_case_under limits line (claim_of claim.entry) direction }
+    ensures case { result ≡ wrong_case_under terms.now line (claim_of claim.entry) direction }
     ensures room { room_of scratch.new ≡ room_of scratch.old }
 {
     let breaks = Breaks::new(&[], claim.text.len()).unwrap();
-    lay_out_into_with(scratch, claim.text, direction, &breaks, limits).unwrap();
-    wrong_case(line, claim, direction, &scratch.layout())
+    lay_out_into_with(scratch, claim.text, direction, &breaks, terms.limits).unwrap();
+    wrong_case(line, claim, direction, terms.leniency, &scratch.layout())
 }
 
 /// Puts the item at the end of the list, if there is one.
@@ -155,19 +160,19 @@ pub fn find_wrong_cases(
     scratch: &mut Scratch,
     line: u64,
     claim: Claim<'_>,
-    limits: Limits,
+    terms: &Terms,
     found: &mut Vec<WrongCase>,
 )
     requires fits { length claim.text.now ≤ room_of scratch.old }
     requires none { found.old.items ≡ [] }
     requires room { length claim.directions.now ≤ vec_capacity found.old }
     ensures found { found.new.items
-        ≡ wrong_cases_under limits line (claim_of claim.entry) claim.entry.directions.now }
+        ≡ wrong_cases_under terms.now line (claim_of claim.entry) claim.entry.directions.now }
     ensures room { room_of scratch.new ≡ room_of scratch.old }
     ensures capacity { vec_capacity found.new ≡ vec_capacity found.old }
 {
     for direction in claim.directions {
-        let case = case_under(scratch, line, claim, *direction, limits);
+        let case = case_under(scratch, line, claim, *direction, terms);
         put(found, case);
     }
 }

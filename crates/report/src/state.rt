@@ -1,31 +1,31 @@
 //! What a report has come to, apart from the tables that it borrows.
 ghost use Rattle.std.specs.Prelude.{◌≡◌, ◌≤◌, ◌<◌, ℕ, List, [], Option, IfOk, IfSome, OnErr, OnOk, length, take};
 ghost use Rattle.std.specs.Result.{result_err};
-ghost use Rattle.units.specs.LineAnswers.{StepIsShort};
-ghost use Rattle.units.specs.Limits.{LimitsOf};
+ghost use Rattle.units.specs.LineAnswers.{CutIsShort};
+ghost use Rattle.report.specs.declared.terms.Terms.{Terms as TermsOf};
 ghost use Rattle.units.specs.Text.{longest_line};
 ghost use Rattle.ucdfiles.specs.Tables.{TablesOf};
 ghost use Rattle.bidtests.specs.Standing.{tables_of};
 ghost use Rattle.report.specs.declared.wrong_case.WrongCase.{WrongCase as Told};
 ghost use Rattle.report.specs.FileReports.{report_of};
-ghost use Rattle.report.specs.Reporting.{IsAfterLast, IsAfterStep, HasNothingNew};
+ghost use Rattle.report.specs.Reporting.{IsAfterLast, IsAfterCut, HasNothingNew};
 ghost use Rattle.report.specs.Reporting.{malformed_by, malformed_last, report_at_end};
 ghost use Rattle.report.specs.Standing.{HasToldFor, TakesIn, ended_in};
 
 use crate::line_report::LineReport;
 use crate::tally::Tally;
+use crate::terms::Terms;
 use crate::wrong_case::WrongCase;
 use bidtests::kind::Kind;
 use bidtests::verdict::Cause;
 use std::alloc::Global;
 use std::marker::Model;
-use units::limits::Limits;
-use units::line_cut::{LineCut, Step};
+use units::line_cut::{Cut, LineCut};
 use units::memory::Memory;
 
 /// What a report has come to, for a caller that keeps it while it borrows no tables: each call is handed the kind of
 /// file again, with the same tables. It holds one line, one row's text, the lists in force and the wrong cases of one
-/// row. Contracts say by which limits it lays out, which bytes it stands for (those that were handed over, joined), and
+/// row. Contracts say by which terms it reports, which bytes it stands for (those that were handed over, joined), and
 /// which wrong cases it has told.
 #[derive(Drop)]
 pub struct ReportState {
@@ -42,20 +42,20 @@ impl Model for ReportState {
     ghost view = { λ s. record { cutting = s.cutter; lines = s.lines; malformed = s.malformed } };
 }
 
-/// Reports on the line that a step ends, if it ends one. The error is its number and cause if it is malformed.
-fn report_step(kind: Kind<'_>, lines: &mut LineReport, step: Step<'_>) -> Result<(), (u64, Cause)>
-    requires short { StepIsShort step }
+/// Reports on the line that a cut ends, if it ends one. The error is its number and cause if it is malformed.
+fn report_cut(kind: Kind<'_>, lines: &mut LineReport, taken: Cut<'_>) -> Result<(), (u64, Cause)>
+    requires short { CutIsShort taken }
     requires none { lines.old.found ≡ [] }
-    ensures malformed { result_err result ≡ malformed_by kind.entry lines.old step.entry }
-    ensures after { OnOk result (IsAfterStep kind.entry step.entry lines.old lines.new) }
+    ensures malformed { result_err result ≡ malformed_by kind.entry lines.old taken.entry }
+    ensures after { OnOk result (IsAfterCut kind.entry taken.entry lines.old lines.new) }
     ensures ended { OnErr result (HasNothingNew lines.old lines.new) }
 {
-    match step {
-        Step::More => Ok(()),
-        Step::Line { number, text } => lines
+    match taken {
+        Cut::More => Ok(()),
+        Cut::Line { number, text } => lines
             .report_line(kind, number, text)
             .map_err(|cause| (number, cause)),
-        Step::TooLong { number } => Err((number, Cause::LineTooLong)),
+        Cut::TooLong { number } => Err((number, Cause::LineTooLong)),
     }
 }
 
@@ -81,13 +81,13 @@ fn report_last(
 }
 
 impl ReportState {
-    /// Before the first byte of a file of either kind, to lay out by these limits. All memory is taken here: `Memory`
+    /// Before the first byte of a file of either kind, to report by these terms. All memory is taken here: `Memory`
     /// is answered where some of it was refused.
-    pub fn new(alloc: Global, limits: Limits) -> Result<ReportState, Memory>
-        ensures stands { IfOk result (λ state. (tables : Option TablesOf) → HasToldFor limits tables state [] []) }
+    pub fn new(alloc: Global, terms: Terms) -> Result<ReportState, Memory>
+        ensures stands { IfOk result (λ state. (tables : Option TablesOf) → HasToldFor terms tables state [] []) }
         ensures none { IfOk result (λ state. state.lines.found ≡ []) }
     {
-        let lines = LineReport::new(alloc, limits)?;
+        let lines = LineReport::new(alloc, terms)?;
         Ok(ReportState {
             cutter: LineCut::new(),
             lines,
@@ -107,8 +107,8 @@ impl ReportState {
         if self.malformed.is_some() {
             return piece.len();
         }
-        let (used, step) = self.cutter.take(piece);
-        self.malformed = report_step(kind, &mut self.lines, step).err();
+        let (used, taken) = self.cutter.take(piece);
+        self.malformed = report_cut(kind, &mut self.lines, taken).err();
         used
     }
 
@@ -124,9 +124,9 @@ impl ReportState {
     /// a last line that no LF ends, the counts of the file, and its first malformed line. It takes no memory and always
     /// succeeds. Which bytes the state stands for afterwards isn't said.
     pub fn finish(&mut self, kind: Kind<'_>)
-        ensures { (limits : LimitsOf) (told : List Told) (b : List ℕ)
-            → HasToldFor limits (tables_of kind.entry) self.old told b
-            → report_of limits kind.entry b ≡ report_at_end told (ended_in self.new) }
+        ensures { (terms : TermsOf) (told : List Told) (b : List ℕ)
+            → HasToldFor terms (tables_of kind.entry) self.old told b
+            → report_of terms kind.entry b ≡ report_at_end told (ended_in self.new) }
     {
         self.lines.forget();
         if self.malformed.is_none() {

@@ -23,7 +23,8 @@ pub struct WrongCase {
     pub line: u64,
     /// The direction.
     pub direction: Direction,
-    /// The first place at which the claim differs from the layout under that direction.
+    /// The first place at which the claim, as it is read, differs from the layout under that direction; of an order in
+    /// which not all positions are compared, its index counts those that are.
     pub place: Place,
     /// What is claimed there.
     pub claimed: Item,

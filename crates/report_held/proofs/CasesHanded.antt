@@ -10,6 +10,8 @@ use Rattle.bidtests.specs.declared.kind.Kind.{Kind}
 use Rattle.bidtests.specs.declared.kind.Kind.TheVariants.{Classes, Characters}
 use Rattle.report.specs.declared.wrong_case.WrongCase.{WrongCase}
 use Rattle.report.specs.FileReports.{FileReport, report_of, settled_cases}
+use Rattle.report.specs.declared.terms.Terms.{Terms}
+use Rattle.report.specs.ReadClaims.{strict_terms}
 use Rattle.report.specs.Reporting.{Reports, report_at_end}
 use Rattle.report.specs.Standing.{StateOf, HasToldFor, TakesIn, ended_in, reporting}
 use Rattle.report.proofs.SettledCases.{told-settled}
@@ -20,11 +22,11 @@ use Rattle.report_held.specs.declared.told_counts.BidiCounts.{BidiCounts}
 use Rattle.report_held.specs.ReportCalls.{Ends, Hands, Takes}
 
 -- the report depends on the tables of its kind alone
-report-with : (limits : LimitsOf) (kind : Kind) (b : List ℕ) → report_of limits kind b ≡ report_with limits (tables_of kind) b
+report-with : (limits : LimitsOf) (kind : Kind) (b : List ℕ) → report_of (strict_terms limits) kind b ≡ report_with limits (tables_of kind) b
 report-with limits Classes b = refl
 report-with limits (Characters tables) b = refl
 
-settled-with : (limits : LimitsOf) (kind : Kind) (b : List ℕ) → settled_cases limits kind b ≡ cases_known limits (tables_of kind) false b
+settled-with : (limits : LimitsOf) (kind : Kind) (b : List ℕ) → settled_cases (strict_terms limits) kind b ≡ cases_known limits (tables_of kind) false b
 settled-with limits Classes b = refl
 settled-with limits (Characters tables) b = refl
 
@@ -34,12 +36,12 @@ kind_with None = (Classes, refl)
 kind_with (Some tables) = (Characters (record { ref_ptr = (0, 0); now = tables }), refl)
 
 told-known : (limits : LimitsOf) (tables : Option TablesOf) (state : StateOf) (told : List WrongCase) (b : List ℕ)
-    → HasToldFor limits tables state told b → told ≡ cases_known limits tables false b
+    → HasToldFor (strict_terms limits) tables state told b → told ≡ cases_known limits tables false b
 told-known limits tables state told b h =
     let kind = (kind_with tables).0 in
     let same = (kind_with tables).1 in
-    let reports : Reports limits kind (reporting kind state) told b = record { of = refl; is = h kind same } in
-    told-settled limits kind (reporting kind state) told b reports ∙ settled-with limits kind b ∙ ap (λ t. cases_known limits t false b) same
+    let reports : Reports (strict_terms limits) kind (reporting kind state) told b = record { of = refl; is = h kind same } in
+    told-settled (strict_terms limits) kind (reporting kind state) told b reports ∙ settled-with limits kind b ∙ ap (λ t. cases_known limits t false b) same
 
 come-known : (limits : LimitsOf) (tables : Option TablesOf) (ended : Bool) (state : StateOf) (told : List WrongCase) (b : List ℕ)
     → HasCome limits tables ended state told b → told ≡ cases_known limits tables ended b
@@ -53,9 +55,9 @@ hands-out-all limits tables ended report handed bytes h = come-known limits tabl
 -- where nothing is left, what was handed out is what was told
 module _ (old : TableReport) (none : left_in old ≡ []) where
   before : (limits : LimitsOf) (tables : Option TablesOf) (handed : List WrongCase) (bytes : List ℕ)
-      → HasHanded limits tables false old handed bytes → HasToldFor limits tables old.state handed bytes
+      → HasHanded limits tables false old handed bytes → HasToldFor (strict_terms limits) tables old.state handed bytes
   before limits tables handed bytes h =
-      subst (λ (told : List WrongCase). HasToldFor limits tables old.state told bytes) (ap (λ ws. handed ++ ws) none ∙ append-nil handed) h.so_far
+      subst (λ (told : List WrongCase). HasToldFor (strict_terms limits) tables old.state told bytes) (ap (λ ws. handed ++ ws) none ∙ append-nil handed) h.so_far
 
   module _ (kind : Kind) (same : tables_of kind ≡ option_map arc_value old.tables) (state : StateOf) where
     -- a piece, of which all wrong cases that are found then are left
@@ -64,18 +66,18 @@ module _ (old : TableReport) (none : left_in old ≡ []) where
     takes-line piece takes = λ limits tables handed bytes h.
         let by : tables_of kind ≡ tables = same ∙ h.by in
         let told = subst (λ (t : Option TablesOf). TakesIn t old.state piece state) by takes in
-        record { by = h.by; ends = h.ends; so_far = told limits handed bytes (before limits tables handed bytes h) }
+        record { by = h.by; ends = h.ends; so_far = told (strict_terms limits) handed bytes (before limits tables handed bytes h) }
 
     -- the end of the file
     pub ends-file : (counts : BidiCounts) → counts ≡ counts_of state.lines.tally state.malformed
-        → ((limits : LimitsOf) (told : List WrongCase) (b : List ℕ) → HasToldFor limits (tables_of kind) old.state told b
-        → report_of limits kind b ≡ report_at_end told (ended_in state))
+        → ((terms : Terms) (told : List WrongCase) (b : List ℕ) → HasToldFor terms (tables_of kind) old.state told b
+        → report_of terms kind b ≡ report_at_end told (ended_in state))
         → Ends old (record { tables = old.tables; state = state; handed = 0; ended = true }) counts
     ends-file counts is ends = λ limits tables handed bytes h.
         let by : tables_of kind ≡ tables = same ∙ h.by in
-        let told = subst (λ (t : Option TablesOf). HasToldFor limits t old.state handed bytes) (sym by) (before limits tables handed bytes h) in
+        let told = subst (λ (t : Option TablesOf). HasToldFor (strict_terms limits) t old.state handed bytes) (sym by) (before limits tables handed bytes h) in
         let whole : report_with limits tables bytes ≡ report_at_end handed (ended_in state) =
-        ap (λ t. report_with limits t bytes) (sym by) ∙ sym (report-with limits kind bytes) ∙ ends limits handed bytes told in
+        ap (λ t. report_with limits t bytes) (sym by) ∙ sym (report-with limits kind bytes) ∙ ends (strict_terms limits) handed bytes told in
         (record { by = h.by; ends = refl; so_far = whole }, is ∙ sym (ap counts_told whole))
 
 -- the next of the wrong cases that are left

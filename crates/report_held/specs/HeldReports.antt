@@ -10,6 +10,7 @@ use Rattle.bidtests.specs.CharactersFile.{characters_findings}
 use Rattle.bidtests.specs.Verdicts.{Finding}
 use Rattle.report.specs.declared.wrong_case.WrongCase.{WrongCase}
 use Rattle.report.specs.FileReports.{FileReport, report_on}
+use Rattle.report.specs.ReadClaims.{strict_terms}
 use Rattle.report.specs.Standing.{StateOf, HasToldFor}
 use Rattle.report.specs.WrongCases.{wrong_cases_from, sound_lines}
 use Rattle.bidi_held.specs.declared.held.Held.{Held}
@@ -23,12 +24,12 @@ findings_with (Some tables) lines = characters_findings (unit_by tables) lines
 
 -- the report on the bytes of such a file, by these limits
 abbrev pub report_with : LimitsOf → Option TablesOf → List ℕ → FileReport
-report_with limits tables bytes = report_on limits (findings_with tables (lines_of bytes))
+report_with limits tables bytes = report_on (strict_terms limits) (findings_with tables (lines_of bytes))
 
 -- the wrong cases that such a file has which begins with these bytes, before its end is known, or that end with it: of
 -- the lines that stay as they are whatever follows, or of all; each up to the first malformed line
 abbrev pub cases_known : LimitsOf → Option TablesOf → Bool → List ℕ → List WrongCase
-cases_known limits tables false bytes = wrong_cases_from limits 0 (sound_lines (findings_with tables (settled_lines bytes)))
+cases_known limits tables false bytes = wrong_cases_from (strict_terms limits) 0 (sound_lines (findings_with tables (settled_lines bytes)))
 cases_known limits tables true bytes = (report_with limits tables bytes).wrong
 
 -- the wrong cases that were found last and are left to be handed out
@@ -38,7 +39,7 @@ left_in report = drop report.handed report.state.lines.found
 -- a report has come so far by these limits and tables that was handed these bytes, and told these wrong cases: before the
 -- end of its file, or with it
 abbrev pub HasCome : LimitsOf → Option TablesOf → Bool → StateOf → List WrongCase → List ℕ → Type 0
-HasCome limits tables false state told bytes = HasToldFor limits tables state told bytes
+HasCome limits tables false state told bytes = HasToldFor (strict_terms limits) tables state told bytes
 HasCome limits tables true state told bytes =
     report_with limits tables bytes ≡ record { wrong = told; tally = state.lines.tally; malformed = state.malformed }
 

@@ -10,6 +10,7 @@ use bidi_held::held::Held;
 use bidi_held::refusal::Refusal;
 use bidi_held::table_report::TableReport;
 use report::state::ReportState;
+use report::terms::Terms;
 use std::alloc::Global;
 use std::sync::Arc;
 use ucdfiles::tables::Tables;
@@ -25,7 +26,7 @@ fn report_by(
     ensures made { IfOk result (λ report. HasHandedOut limits (option_map arc_value tables) false (Some report) [] []) }
     ensures refused { IfErr result RefusesReport }
 {
-    let Ok(state) = ReportState::new(alloc, limits) else {
+    let Ok(state) = ReportState::new(alloc, Terms::strict(limits)) else {
         return Err(Refusal::Memory);
     };
     let report = TableReport {

@@ -7,7 +7,7 @@ use Rattle.report.proofs.Holding.{holds}
 use Rattle.report.proofs.laws.report_law.Goals as goal
 
 pub returns-clause-cases : goal.returns-clause-cases
-returns-clause-cases c = λ limits kind b w. holds limits (findings_by kind (lines_of b)) w
+returns-clause-cases c = λ terms kind b w. holds terms (findings_by kind (lines_of b)) w
 
 pub returns-clause-verdict : goal.returns-clause-verdict
 returns-clause-verdict c = λ limits kind b. verdict-of limits kind b ∙ amounts limits (findings_by kind (lines_of b))

@@ -11,4 +11,4 @@ invariant-loop-n g l =
     × HasWrittenFirst l.most told (g.W.Write.contents l.initial.w) (g.W.Write.contents l.w) l.left
 
 abbrev pub decreases-loop-n : goal.decreases-loop-n
-decreases-loop-n g l = g.S.ByteSource.room l.source
+decreases-loop-n g l = g.S.ByteSource.most_left l.source

@@ -6,8 +6,8 @@ use Rattle.report.proofs.row_cases.find_wrong_cases.Given as goal
 
 abbrev pub invariant-loop-direction : goal.invariant-loop-direction
 invariant-loop-direction l = record {
-  rest : wrong_cases_under l.limits l.line (claim_of l.claim) l.claim.directions.now
-      ≡ l.found.items ++ wrong_cases_under l.limits l.line (claim_of l.claim) (drop l.direction-index l.claim.directions.now);
+  rest : wrong_cases_under l.terms l.line (claim_of l.claim) l.claim.directions.now
+      ≡ l.found.items ++ wrong_cases_under l.terms l.line (claim_of l.claim) (drop l.direction-index l.claim.directions.now);
   few : length l.found.items ≤ l.direction-index;
   capacity : vec_capacity l.found ≡ vec_capacity l.fn.found;
   room : room_of l.scratch ≡ room_of l.fn.scratch;

@@ -24,7 +24,7 @@ loop-at-preserved c =
     let rest = take (length piece - at) (drop at piece) in
     let self = c.loop-at.self-inside in
     let state : StateOf = record { cutting = self.cutter; carried = self.line_judge; decided = self.decided } in
-    let line_judge = c.judge_step.new.line_judge in
+    let line_judge = c.judge_cut.new.line_judge in
     let decided = c.err-self-inside.result in
     let next : StateOf = record { cutting = c.take.follows.lender-at-none; carried = line_judge; decided = decided } in
     record {
@@ -34,7 +34,7 @@ loop-at-preserved c =
           (holds-for limits kind next ((b ++ take at piece) ++ take used rest)
           (feeds-on (judging kind state) c.take.follows.lender-at-none line_judge decided rest used c.take.result.1
           (is_some_false self.decided (sym c.is_some.ensures ∙ c.if-is_some.false)) c.take.ensures.used c.take.ensures.through c.take.ensures.answer c.take.follows.holds-at-none
-          (c.err-self-inside.ensures.value ∙ c.judge_step.ensures.no)
-          (λ none. if-no-error _ c.judge_step.result (sym c.err-self-inside.ensures.value ∙ none) c.judge_step.ensures.carried) limits kind (b ++ take at piece)
+          (c.err-self-inside.ensures.value ∙ c.judge_cut.ensures.no)
+          (λ none. if-no-error _ c.judge_cut.result (sym c.err-self-inside.ensures.value ∙ none) c.judge_cut.ensures.carried) limits kind (b ++ take at piece)
           (record { of = refl; is = c.loop-at.invariant.holds limits b h kind refl })).is);
     }

@@ -9,5 +9,5 @@ returns-clause-stands c = λ tables kind by. record {
   lines = [];
   rest = [];
   cut = nothing;
-  behind = report-start c.args.limits kind c.in_ok-lines.lines c.in_ok-lines.ensures;
+  behind = report-start c.args.terms kind c.in_ok-lines.lines c.in_ok-lines.ensures;
 }

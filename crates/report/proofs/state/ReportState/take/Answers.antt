@@ -9,33 +9,33 @@ use Rattle.report.proofs.SameReports.{told-for}
 use Rattle.report.proofs.state.ReportState.take.Goals as goal
 
 pub returns-then-is_some-clause-reports : goal.returns-then-is_some-clause-reports
-returns-then-is_some-clause-reports c = λ limits told b h.
+returns-then-is_some-clause-reports c = λ terms told b h.
     let kind = c.args.kind in
     let piece = c.args.piece.now in
     let inside = c.self.inside in
     let lines = c.forget.new.self in
     let state : StateOf = record { cutting = inside.cutter; lines = inside.lines; malformed = inside.malformed } in
     let next : StateOf = record { cutting = inside.cutter; lines = lines; malformed = inside.malformed } in
-    let P : StateOf → Type 0 = λ s. ReportsBy limits kind s.malformed s.cutting s.lines told b in
-    let before : Reports limits kind (reporting kind state) told b = record { of = refl; is = subst P (sym c.self.view_is) (h kind refl) } in
+    let P : StateOf → Type 0 = λ s. ReportsBy terms kind s.malformed s.cutting s.lines told b in
+    let before : Reports terms kind (reporting kind state) told b = record { of = refl; is = subst P (sym c.self.view_is) (h kind refl) } in
     let all : take (length piece) piece ≡ piece = take_all (length piece) piece (omega arith) in
-    rw all (told-for limits kind next (told ++ lines.found) (b ++ piece)
-    (takes-ended (reporting kind state) lines lines c.forget.ensures inside.cutter piece (sym c.is_some.ensures ∙ c.if-is_some.true) limits kind told b before).is)
+    rw all (told-for terms kind next (told ++ lines.found) (b ++ piece)
+    (takes-ended (reporting kind state) lines lines c.forget.ensures inside.cutter piece (sym c.is_some.ensures ∙ c.if-is_some.true) terms kind told b before).is)
 
 pub returns-clause-reports : goal.returns-clause-reports
-returns-clause-reports c = λ limits told b h.
+returns-clause-reports c = λ terms told b h.
     let kind = c.args.kind in
     let piece = c.args.piece.now in
     let inside = c.self.inside in
-    let lines = c.report_step.new.lines in
+    let lines = c.report_cut.new.lines in
     let state : StateOf = record { cutting = inside.cutter; lines = inside.lines; malformed = inside.malformed } in
     let next : StateOf = record { cutting = c.take.follows.lender-at-none; lines = lines; malformed = c.err-self-inside.result } in
-    let P : StateOf → Type 0 = λ s. ReportsBy limits kind s.malformed s.cutting s.lines told b in
-    let before : Reports limits kind (reporting kind state) told b = record { of = refl; is = subst P (sym c.self.view_is) (h kind refl) } in
-    told-for limits kind next (told ++ lines.found) (b ++ take c.take.result.0 piece)
+    let P : StateOf → Type 0 = λ s. ReportsBy terms kind s.malformed s.cutting s.lines told b in
+    let before : Reports terms kind (reporting kind state) told b = record { of = refl; is = subst P (sym c.self.view_is) (h kind refl) } in
+    told-for terms kind next (told ++ lines.found) (b ++ take c.take.result.0 piece)
     (takes (reporting kind state) c.forget.new.self lines c.forget.ensures (is_some_false inside.malformed (sym c.is_some.ensures ∙ c.if-is_some.false))
     c.take.follows.lender-at-none c.err-self-inside.result piece c.take.result.0 c.take.result.1 c.take.ensures.used c.take.ensures.through c.take.ensures.answer
-    c.take.follows.holds-at-none (c.err-self-inside.ensures.value ∙ c.report_step.ensures.malformed)
-    (λ none. if-no-error _ c.report_step.result (sym c.err-self-inside.ensures.value ∙ none) c.report_step.ensures.after)
-    (λ m some. if-error _ c.report_step.result m (sym c.err-self-inside.ensures.value ∙ some) c.report_step.ensures.ended)
-    limits kind told b before).is
+    c.take.follows.holds-at-none (c.err-self-inside.ensures.value ∙ c.report_cut.ensures.malformed)
+    (λ none. if-no-error _ c.report_cut.result (sym c.err-self-inside.ensures.value ∙ none) c.report_cut.ensures.after)
+    (λ m some. if-error _ c.report_cut.result m (sym c.err-self-inside.ensures.value ∙ some) c.report_cut.ensures.ended)
+    terms kind told b before).is

@@ -1,0 +1,127 @@
+// Claims, as they are read, compared with layouts.
+ghost use Rattle.std.specs.Prelude.{◌≡◌, ◌&&◌, map, nat_eq, not, MatchOption};
+ghost use Rattle.std.specs.Option.{option_map};
+ghost use Rattle.units.specs.Isolates.{level_of_para};
+ghost use Rattle.units.specs.Layout.{all_orders};
+ghost use Rattle.units.specs.Positions.{same_position};
+ghost use Rattle.lines.specs.Layouts.{view_of};
+ghost use Rattle.bidtests.specs.Comparisons.{DiffersAt};
+ghost use Rattle.bidtests.specs.declared.verdict.Place.TheVariants.{Order};
+ghost use Rattle.bidtests.specs.Readings.{claim_of};
+ghost use Rattle.bidtests.specs.Verdicts.{agrees, first_difference, first_of, placed_in};
+ghost use Rattle.report.specs.Comparing.{PassesLine, order_left};
+ghost use Rattle.report.specs.ReadClaims.{all_parts_at, is_compared, levels_read, order_read};
+ghost use Rattle.report.specs.ReadClaims.{place_in, read_claim};
+ghost use Rattle.report.specs.declared.terms.Parts.TheVariants as parts_of;
+
+use crate::read_order::ReadOrder;
+use crate::terms::{Leniency, Parts, Positions};
+use bidtests::claim::Claim;
+use bidtests::verdict::Place;
+use lines::layout::Layout;
+use units::level::{Level, ParaLevel};
+
+/// Whether no level is claimed, or that of the first paragraph.
+fn is_para_right(claimed: Option<ParaLevel>, defined: &[ParaLevel]) -> bool
+    ensures { result ≡ agrees (option_map level_of_para claimed) (first_of (map level_of_para defined.now)) }
+{
+    match (claimed, defined.first()) {
+        (None, _) => true,
+        (Some(_), None) => false,
+        (Some(claimed), Some(first)) => claimed == *first,
+    }
+}
+
+/// Whether the level that is claimed of a position is another one than it has, and compared.
+fn is_other(compared: Positions, claimed: Option<Level>, defined: Option<Level>) -> bool
+    ensures { result ≡ is_compared compared defined && not (same_position claimed defined) }
+{
+    compared.has(defined) && claimed != defined
+}
+
+/// The first index at which the lists differ, of the positions that are compared, or one of them ends.
+fn differing_level(
+    compared: Positions,
+    claimed: &[Option<Level>],
+    defined: &[Option<Level>],
+) -> Option<usize>
+    ensures { result
+        ≡ first_difference same_position (levels_read parts_of.All compared defined.now claimed.now) defined.now 0 }
+{
+    let shorter = claimed.len().min(defined.len());
+    for i in 0..shorter {
+        if is_other(compared, claimed[i], defined[i]) {
+            return Some(i);
+        }
+    }
+    if claimed.len() == defined.len() {
+        None
+    } else {
+        Some(shorter)
+    }
+}
+
+/// The first index of the line's order at which what is left of the claimed one differs or ends; what stands behind it
+/// is left.
+fn differing_position(claimed: &mut ReadOrder<'_>, line: &[usize]) -> Option<usize>
+    ensures { MatchOption result (PassesLine line.now (order_left claimed.old) (order_left claimed.new))
+        (DiffersAt (order_left claimed.old) line.now) }
+{
+    for i in 0..line.len() {
+        if claimed.next() != Some(line[i]) {
+            return Some(i);
+        }
+    }
+    None
+}
+
+/// The first index at which the claimed order, as it is read, and the orders of all lines, joined, differ or one of
+/// them ends.
+fn differing_order(compared: Positions, claimed: &[usize], layout: &Layout<'_>) -> Option<usize>
+    ensures { result ≡ first_difference nat_eq
+        (order_read compared (view_of layout.now).levels claimed.now) (all_orders (view_of layout.now)) 0 }
+{
+    let mut left = ReadOrder::new(compared, layout.levels(), claimed);
+    let mut at = 0;
+    for k in 0..layout.line_count() {
+        let order = layout.line(k).order;
+        if let Some(i) = differing_position(&mut left, order) {
+            return Some(at + i);
+        }
+        at += order.len();
+    }
+    left.next().map(|_| at)
+}
+
+/// The first place of the claimed order, as it is read, at which it differs from the layout.
+fn wrong_order(compared: Positions, claim: Claim<'_>, layout: &Layout<'_>) -> Option<Place>
+    ensures { result ≡ placed_in Order (first_difference nat_eq
+        (order_read compared (view_of layout.now).levels claim.entry.order.now) (all_orders (view_of layout.now)) 0) }
+{
+    differing_order(compared, claim.order, layout).map(Place::Order)
+}
+
+/// The first place at which the claim differs from the layout, if all of its parts are compared.
+fn wrong_part(compared: Positions, claim: Claim<'_>, layout: &Layout<'_>) -> Option<Place>
+    ensures { result ≡ place_in (view_of layout.now)
+        (read_claim (all_parts_at compared) (view_of layout.now) (claim_of claim.entry)) }
+{
+    if !is_para_right(claim.para_level, layout.para_levels()) {
+        return Some(Place::ParaLevel);
+    }
+    match differing_level(compared, claim.levels, layout.levels()) {
+        Some(i) => Some(Place::Levels(i)),
+        None => wrong_order(compared, claim, layout),
+    }
+}
+
+/// The first place at which the claim, as it is read, differs from the layout.
+pub fn wrong_place(leniency: Leniency, claim: Claim<'_>, layout: &Layout<'_>) -> Option<Place>
+    ensures { result
+        ≡ place_in (view_of layout.now) (read_claim leniency (view_of layout.now) (claim_of claim.entry)) }
+{
+    match leniency.parts {
+        Parts::All => wrong_part(leniency.positions, claim, layout),
+        Parts::OrderAlone => wrong_order(leniency.positions, claim, layout),
+    }
+}

@@ -1,0 +1,69 @@
+// A claimed order as it is read.
+ghost use Rattle.std.specs.Prelude.{◌≡◌, MatchOption};
+ghost use Rattle.std.specs.List.{position};
+ghost use Rattle.report.specs.ReadClaims.{is_read as is_read_by, order_read};
+
+use crate::terms::Positions;
+use units::level::Level;
+
+/// What is left of a claimed order: of the positions that are compared.
+#[derive(Drop)]
+pub struct ReadOrder<'a> {
+    compared: Positions,
+    levels: &'a [Option<Level>],
+    order: &'a [usize],
+}
+
+/// Whether the position of a text of these levels is read.
+fn is_read(compared: Positions, levels: &[Option<Level>], position: usize) -> bool
+    ensures { result ≡ is_read_by compared levels.now position }
+{
+    match levels.get(position) {
+        Some(level) => compared.has(*level),
+        None => true,
+    }
+}
+
+/// Where the first position stands that is read.
+fn first_read(compared: Positions, levels: &[Option<Level>], order: &[usize]) -> Option<usize>
+    ensures { result ≡ position (is_read_by compared levels.now) order.now }
+{
+    order.iter().position(|p| is_read(compared, levels, *p))
+}
+
+impl<'a> ReadOrder<'a> {
+    ghost use Rattle.report.specs.Comparing.{order_left};
+
+    /// The order that is claimed of a text of these levels.
+    pub fn new(
+        compared: Positions,
+        levels: &'a [Option<Level>],
+        order: &'a [usize],
+    ) -> ReadOrder<'a>
+        ensures { order_left result ≡ order_read compared levels.now order.now }
+    {
+        ReadOrder {
+            compared,
+            levels,
+            order,
+        }
+    }
+}
+
+impl<'a> Iterator for ReadOrder<'a> {
+    ghost use Rattle.std.specs.Iterator.{YieldsFirst, item_count};
+    ghost use Rattle.report.specs.Comparing.{order_left};
+
+    type Item = usize;
+
+    ghost next_gives = { YieldsFirst order_left };
+
+    ghost remaining = { item_count order_left };
+
+    fn next(&mut self) -> Option<usize> {
+        let at = first_read(self.compared, self.levels, self.order)?;
+        let position = self.order[at];
+        self.order = &self.order[at + 1..];
+        Some(position)
+    }
+}
