@@ -1,4 +1,4 @@
--- What `explain` prints of a text, as bytes: of each paragraph its head, a row for each position, and its foot.
+-- What `explain` prints of a text, as bytes: of each paragraph its heading, a row for each position, and its foot.
 use Rattle.std.specs.Prelude.{Option, ℕ, ◌+◌, List, [], ◌∷◌, ◌++◌, length, map, take, sum_by, Some, None, slice_get, slice_index_or}
 use Rattle.std.specs.Option.{option_map}
 use Rattle.units.specs.Classes.{class_at}
@@ -15,7 +15,7 @@ use Rattle.resolve.specs.Pairs.{closer_in}
 use Rattle.printing.specs.LevelsText.{printed}
 use Rattle.rule_columns.specs.Columns.{ColumnsOf, column_after, columns_of}
 use Rattle.explain.specs.Feet.{sequence_text, pair_text, order_text}
-use Rattle.explain.specs.Heads.{head_text, decider_of}
+use Rattle.explain.specs.Headings.{heading_text, decider_of}
 use Rattle.explain.specs.RowText.{row_text}
 use Rattle.explain.specs.declared.row.RowLevels.{RowLevels}
 use Rattle.rule_columns.specs.declared.rule.Rule.{Rule}
@@ -34,7 +34,7 @@ classes_through columns para p =
 -- a position's levels: after X1 to X9, after I1 and I2, after L1
 abbrev pub levels_through : ColumnsOf → ℕ → RowLevels
 levels_through columns p = record {
-  explicit = option_map (λ place. place.0) (slice_index_or columns.explicit.places p None);
+  explicit = option_map (λ x. x.0) (slice_index_or columns.explicit.leveled p None);
   implicit = slice_index_or columns.implicit p None;
   line = slice_index_or columns.shown.levels p None;
 }
@@ -71,7 +71,7 @@ foot_text columns start size =
 -- a paragraph with the number k that begins at start of the text
 abbrev pub paragraph_explained : List ℕ → List BidiUnit → ColumnsOf → Direction → ℕ → ℕ → List ℕ
 paragraph_explained chars para columns direction start k =
-    head_text k columns.explicit.para_level (decider_of direction para start columns.explicit.first_strong)
+    heading_text k columns.explicit.para_level (decider_of direction para start columns.explicit.first_strong)
     ++ printed (row_at chars para columns start) 0 (length para)
     ++ foot_text columns start (length para)
 

@@ -7,7 +7,7 @@ use Rattle.units.specs.declared.level.Direction.TheVariants.{Auto, Ltr, Rtl}
 use Rattle.printing.specs.LevelsText.{code_text}
 use Rattle.rule_columns.specs.Columns.{columns_of}
 use Rattle.explain.specs.Explained.{explained_classes, explained_units}
-use Rattle.explain.specs.Heads.{columns_text}
+use Rattle.explain.specs.Headings.{columns_text}
 use Rattle.rule_columns.specs.Passes.{rewritten, implicit_of, closers_of}
 
 -- an embedding cuts the text into three sequences, of which the last one's number follows L (W7)

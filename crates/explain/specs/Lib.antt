@@ -2,5 +2,5 @@ pub mod Cells
 pub mod Explained
 pub mod ExplainedRows
 pub mod Feet
-pub mod Heads
+pub mod Headings
 pub mod RowText

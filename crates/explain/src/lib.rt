@@ -4,7 +4,7 @@
 mod cell;
 mod code;
 mod foot;
-mod head;
+mod heading;
 mod paragraph_text;
 pub mod print;
 mod row;

@@ -9,7 +9,7 @@ ghost use Rattle.rule_columns.specs.Inside.{NamesInside};
 ghost use Rattle.explain.specs.Explained.{classes_through, foot_text, levels_through, pair_at, pair_if, paragraph_explained, row_at, sequence_line};
 
 use crate::foot::{print_order, print_pair, print_sequence};
-use crate::head::{decider_of, print_head};
+use crate::heading::{decider_of, print_heading};
 use crate::row::{RowLevels, print_row};
 use rule_columns::columns::Columns;
 use rule_columns::rule::Rule;
@@ -58,7 +58,7 @@ fn levels_through(columns: &Columns, p: usize, size: usize) -> RowLevels
     ensures { result ≡ levels_through columns.now p }
 {
     RowLevels {
-        explicit: columns.place(p).map(|place| place.0),
+        explicit: columns.leveled(p).map(|leveled| leveled.0),
         implicit: columns.implicit()[p],
         line: columns.levels()[p],
     }
@@ -173,8 +173,8 @@ fn print_foot<W: Write>(w: &mut W, columns: &Columns, start: usize, size: usize)
     print_order(w, start, columns.order())
 }
 
-/// Writes the text of a paragraph, by what the rules leave of it: its head, the rows of its positions, its foot. It has
-/// the number `number`, counted from 0, and begins at `start` of the text, whose characters are these, if they are
+/// Writes the text of a paragraph, by what the rules leave of it: its heading, the rows of its positions, its foot. It
+/// has the number `number`, counted from 0, and begins at `start` of the text, whose characters are these, if they are
 /// known.
 pub fn print_paragraph<W: Write>(
     w: &mut W,
@@ -193,7 +193,7 @@ pub fn print_paragraph<W: Write>(
         (paragraph_explained chars.now para.now columns.now direction start number)) }
 {
     let decider = decider_of(direction, para, start, columns.first_strong());
-    print_head(w, number, columns.para_level(), decider)?;
+    print_heading(w, number, columns.para_level(), decider)?;
     print_rows(w, chars, para, columns, start)?;
     print_foot(w, columns, start, para.len())
 }

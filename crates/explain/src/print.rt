@@ -65,9 +65,9 @@ fn explain_paragraph<W: Write>(
     written(print_paragraph(w, chars, para, &columns, direction, start, number))
 }
 
-/// Writes what the rules make of each paragraph of a text of these units, whose characters are these, if they are
-/// known.
-fn print_units<W: Write>(
+/// Writes what `print_explained` does of a text of these units, whose characters are these, if they are known: where
+/// they are not, each row has `-` in place of a code point. There may be 16,777,216 units. The faults are the same.
+pub fn print_units<W: Write>(
     alloc: Global,
     w: &mut W,
     chars: &[char],
@@ -86,10 +86,11 @@ fn print_units<W: Write>(
     Ok(())
 }
 
-/// Writes what the algorithm does with a text, rule by rule: for each paragraph (P1) a head, a row for each position,
-/// and a foot. Positions are those of the whole text, from 0; each line ends with LF, and one blank parts its items.
+/// Writes what the algorithm does with a text, rule by rule: for each paragraph (P1) a heading, a row for each
+/// position, and a foot. Positions are those of the whole text, from 0; each line ends with LF, and one blank parts its
+/// items.
 ///
-/// The head says the paragraph's number, from 0, its level, and what decided it: the class and the position of its
+/// The heading says the paragraph's number, from 0, its level, and what decided it: the class and the position of its
 /// first strong character outside of all isolates (P2), that there is none (P3), or that the direction gave it. Its
 /// second line names the columns. A row says the position, the code point, the own class, the level after X1 to X9, or
 /// `x` where the position is removed, the class after X1 to X9, after each of W1 to W7, N0, N1 and N2, the level after

@@ -9,7 +9,9 @@ pub mod HeadOrders
 pub mod HeadPrinted
 pub mod HeadResets
 pub mod HeadTexts
+pub mod HeldLemmas
 pub mod Passing
 pub mod Printing
+pub mod ReadSources
 pub mod Showing
 pub mod UnderWay

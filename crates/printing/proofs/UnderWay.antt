@@ -1,16 +1,19 @@
 -- A text that is printed paragraph by paragraph, character by character.
-use Rattle.std.proofs.Common.{◌≡◌, ℕ, ◌<◌, ◌≤◌, true, false, Option, List, [], ◌∷◌, ◌++◌, length, refl, sym, ap, ◌∙◌, subst, arith, append_assoc, append-nil}
+use Rattle.std.proofs.Common.{◌≡◌, ℕ, ◌≤◌, Bool, true, false, Option, List, [], ◌∷◌, ◌++◌, length, refl, sym, ap, ◌∙◌, subst, arith, append_assoc, append-nil, length-append}
 use Rattle.std.specs.Io.KnownBytes.{Appends}
 use Rattle.units.specs.Classes.{is_separator}
 use Rattle.units.specs.Paragraphs.{EndsWithSeparator, SeparatorOnlyLast}
 use Rattle.units.specs.declared.bracket.Unit.{Unit as BidiUnit}
 use Rattle.units.specs.declared.level.Direction.{Direction}
 use Rattle.ucdfiles.specs.Tables.{TablesOf, unit_by, units_by}
+use Rattle.std.specs.List.{list_any}
+use Rattle.std.proofs.lemmas.Bool.{or_from, or_left, or_right}
 use Rattle.std.proofs.lemmas.List.{map-append}
 use Rattle.std.proofs.lemmas.Str.{encodes-chars, length-le-encodes}
 use Rattle.std.specs.Str.{IsUtf8, chars}
 use Rattle.printing.specs.Behind.{printed_as, printed_behind, printed_units}
-use Rattle.printing.specs.UnderWay.{ArePlain, Follows, PrintsOn}
+use Rattle.printing.specs.EndedParagraphs.{ended_paragraphs, separates, up_to_separator}
+use Rattle.printing.specs.UnderWay.{ArePlain, Follows, IsBegun, PrintsOn}
 use Rattle.printing.specs.declared.begun.Begun.{Begun}
 use Rattle.printing.specs.declared.form.Form.{Form}
 use Rattle.printing.specs.declared.passed.Passed.{Passed}
@@ -57,56 +60,103 @@ pub nothing_left : (form : Form) (passed : Passed) (tables : TablesOf) (chars : 
 nothing_left form passed tables chars direction a e =
     Appends-to a a [] _ (sym (ap (λ cs. printed_behind form passed tables cs direction) e ∙ nothing_behind form passed tables direction)) (Appends-nothing a)
 
-module _ (form : Form) (tables : TablesOf) (direction : Direction) where
-  pub nothing_came : (a : Option (List ℕ)) (begun : Begun) → PrintsOn form tables direction [] a a begun begun
-  nothing_came a begun = record { done = []; said = Appends-nothing a; left = λ rest. refl }
+-- a separator ends all that stands before it
+has_separator : (separates : ℕ → Bool) (cs rest : List ℕ) (c : ℕ) → separates c ≡ true → list_any separates ((cs ++ c ∷ []) ++ rest) ≡ true
+has_separator separates [] rest c e = or_left (separates c) (list_any separates rest) e
+has_separator separates (x ∷ cs) rest c e = or_right (separates x) _ (has_separator separates cs rest c e)
 
-  pub more_came : (xs ys : List ℕ) (a b c : Option (List ℕ)) (old begun new : Begun) → PrintsOn form tables direction xs a b old begun → PrintsOn form tables direction ys b c begun new → PrintsOn form tables direction (xs ++ ys) a c old new
-  more_came xs ys a b c old begun new f g = record {
-    done = f.done ++ g.done;
-    said = Appends-joined a b c f.done g.done f.said g.said;
-    left = λ rest.
-        ap (λ cs. printed_behind form old.passed tables (old.chars.items ++ cs) direction) (append_assoc xs ys rest)
-        ∙ f.left (ys ++ rest) ∙ ap (λ v. f.done ++ v) (g.left rest)
-        ∙ sym (append_assoc f.done g.done (printed_behind form new.passed tables (new.chars.items ++ rest) direction));
+ended_then : (separates : ℕ → Bool) (cs rest : List ℕ) (c : ℕ) → separates c ≡ true
+    → up_to_separator separates ((cs ++ c ∷ []) ++ rest) ≡ (cs ++ c ∷ []) ++ up_to_separator separates rest
+ended_then separates [] rest c e = rw (has_separator separates [] rest c e) refl
+ended_then separates (x ∷ cs) rest c e =
+    rw (has_separator separates (x ∷ cs) rest c e) (ap (λ xs. x ∷ xs) (ended_then separates cs rest c e))
+
+-- and without one none has ended
+no_separator : (tables : TablesOf) (cs : List ℕ) → ArePlain (units_by tables cs) → list_any (separates tables) cs ≡ false
+no_separator tables [] plain = refl
+no_separator tables (c ∷ cs) plain = or_from _ _ plain.0 (no_separator tables cs plain.1)
+
+none_ended : (tables : TablesOf) (cs : List ℕ) → ArePlain (units_by tables cs) → ended_paragraphs tables cs ≡ []
+none_ended tables [] plain = refl
+none_ended tables (c ∷ cs) plain = rw (no_separator tables (c ∷ cs) plain) refl
+
+module _ (form : Form) (tables : TablesOf) (direction : Direction) where
+  none_came : (a b : Option (List ℕ)) (more : List ℕ) (old new : Begun) → new.passed ≡ old.passed → new.chars.items ≡ old.chars.items ++ more → b ≡ a → PrintsOn form tables direction more a b old new
+  none_came a b more old new e f g = record {
+    ended = [];
+    joined = f;
+    whole = λ rest. refl;
+    said = subst (λ k. Appends a k (printed_behind form old.passed tables [] direction)) (sym g)
+        (nothing_left form old.passed tables [] direction a refl);
+    behind = λ rest.
+        ap (λ p. printed_behind form p tables rest direction) (sym e)
+        ∙ sym (ap (λ v. v ++ printed_behind form new.passed tables rest direction) (nothing_behind form old.passed tables direction));
   }
+
+  pub nothing_came : (a : Option (List ℕ)) (begun : Begun) → PrintsOn form tables direction [] a a begun begun
+  nothing_came a begun = none_came a a [] begun begun refl (sym (append-nil begun.chars.items)) refl
 
   -- a character that ends no paragraph
   pub one_came : (c : ℕ) (a b : Option (List ℕ)) (old new : Begun) → new.passed ≡ old.passed → new.chars.items ≡ old.chars.items ++ c ∷ [] → b ≡ a → PrintsOn form tables direction (c ∷ []) a b old new
-  one_came c a b old new e f g = record {
-    done = [];
-    said = subst (λ k. Appends a k []) (sym g) (Appends-nothing a);
-    left = λ rest.
-        sym (ap (λ p. printed_behind form p tables (new.chars.items ++ rest) direction) e
-        ∙ ap (λ cs. printed_behind form old.passed tables (cs ++ rest) direction) f
-        ∙ ap (λ cs. printed_behind form old.passed tables cs direction) (append_assoc old.chars.items (c ∷ []) rest));
+  one_came c a b old new e f g = none_came a b (c ∷ []) old new e f g
+
+  pub more_came : (xs ys : List ℕ) (a b c : Option (List ℕ)) (old begun new : Begun) → PrintsOn form tables direction xs a b old begun → PrintsOn form tables direction ys b c begun new → PrintsOn form tables direction (xs ++ ys) a c old new
+  more_came xs ys a b c old begun new f g = record {
+    ended = f.ended ++ g.ended;
+    joined = append_assoc f.ended g.ended new.chars.items ∙ ap (λ cs. f.ended ++ cs) g.joined
+        ∙ sym (append_assoc f.ended begun.chars.items ys) ∙ ap (λ cs. cs ++ ys) f.joined ∙ append_assoc old.chars.items xs ys;
+    whole = λ rest.
+        ap (ended_paragraphs tables) (append_assoc f.ended g.ended rest) ∙ f.whole (g.ended ++ rest)
+        ∙ ap (λ cs. f.ended ++ cs) (g.whole rest) ∙ sym (append_assoc f.ended g.ended (ended_paragraphs tables rest));
+    said = Appends-to a c _ _ (sym (f.behind g.ended)) (Appends-joined a b c _ _ f.said g.said);
+    behind = λ rest.
+        ap (λ cs. printed_behind form old.passed tables cs direction) (append_assoc f.ended g.ended rest)
+        ∙ f.behind (g.ended ++ rest)
+        ∙ ap (λ v. printed_behind form old.passed tables f.ended direction ++ v) (g.behind rest)
+        ∙ sym (append_assoc (printed_behind form old.passed tables f.ended direction) (printed_behind form begun.passed tables g.ended direction) (printed_behind form new.passed tables rest direction))
+        ∙ ap (λ v. v ++ printed_behind form new.passed tables rest direction) (sym (f.behind g.ended));
   }
 
   -- a character that ends one
-  pub last_came : (c : ℕ) (us : List BidiUnit) (u : BidiUnit) (a b : Option (List ℕ)) (old begun new : Begun) → begun.passed ≡ old.passed → begun.chars.items ≡ old.chars.items ++ c ∷ []
-      → units_by tables begun.chars.items ≡ us ++ u ∷ [] → ArePlain us → is_separator u.class ≡ true → new.chars.items ≡ [] → Follows begun.passed (length begun.chars.items) new.passed
-      → 0 < length begun.chars.items → Appends a b (printed_behind form begun.passed tables begun.chars.items direction) → PrintsOn form tables direction (c ∷ []) a b old new
-  last_came c us u a b old begun new e f units plain separates empty follows some said = record {
-    done = printed_behind form begun.passed tables begun.chars.items direction;
-    said = said;
-    left = λ rest.
-        sym (ap (λ p. printed_behind form p tables (begun.chars.items ++ rest) direction) e
-        ∙ ap (λ cs. printed_behind form old.passed tables (cs ++ rest) direction) f
-        ∙ ap (λ cs. printed_behind form old.passed tables cs direction) (append_assoc old.chars.items (c ∷ []) rest))
-        ∙ paragraph_follows form begun.passed new.passed tables begun.chars.items rest direction
-        (subst SeparatorOnlyLast (sym units) (plain_then us u plain)) (subst EndsWithSeparator (sym units) (ends_then us u separates)) some follows
-        ∙ sym (ap (λ cs. printed_behind form begun.passed tables begun.chars.items direction ++ printed_behind form new.passed tables (cs ++ rest) direction) empty);
-  }
+  pub last_came : (c : ℕ) (a b : Option (List ℕ)) (old begun new : Begun) → begun.passed ≡ old.passed → begun.chars.items ≡ old.chars.items ++ c ∷ []
+      → ArePlain (units_by tables old.chars.items) → separates tables c ≡ true → new.chars.items ≡ [] → Follows begun.passed (length begun.chars.items) new.passed
+      → Appends a b (printed_behind form begun.passed tables begun.chars.items direction) → PrintsOn form tables direction (c ∷ []) a b old new
+  last_came c a b old begun new e f plain ends empty follows said =
+      let text = old.chars.items ++ c ∷ [] in
+      let units : units_by tables text ≡ units_by tables old.chars.items ++ unit_by tables c ∷ [] = map-append (unit_by tables) old.chars.items (c ∷ []) in
+      let follows_old : Follows old.passed (length text) new.passed = subst (λ p. Follows p (length text) new.passed) e (subst (λ cs. Follows begun.passed (length cs) new.passed) f follows) in
+      record {
+        ended = text;
+        joined = ap (λ cs. text ++ cs) empty ∙ append-nil text;
+        whole = λ rest. ended_then (separates tables) old.chars.items rest c ends;
+        said = subst (λ p. Appends a b (printed_behind form p tables text direction)) e (subst (λ cs. Appends a b (printed_behind form begun.passed tables cs direction)) f said);
+        behind = λ rest.
+            paragraph_follows form old.passed new.passed tables text rest direction
+            (subst SeparatorOnlyLast (sym units) (plain_then (units_by tables old.chars.items) (unit_by tables c) plain)) (subst EndsWithSeparator (sym units) (ends_then (units_by tables old.chars.items) (unit_by tables c) ends))
+            (omega (arith, length-append old.chars.items (c ∷ []))) follows_old;
+      }
+
+  -- what is printed behind nothing
+  whole_behind : (first : Begun) (text : List ℕ) → (let start : Passed = record { paragraphs = 0; characters = 0 } in first.passed ≡ start)
+      → printed_behind form first.passed tables text direction ≡ printed_as form tables text direction
+  whole_behind first text start =
+      printed_whole form first.passed tables text direction (ap (λ (p : Passed). p.paragraphs) start) (ap (λ (p : Passed). p.characters) start)
+
+  -- the paragraphs that have ended came
+  pub ended_came : (text : List ℕ) (a b : Option (List ℕ)) (first begun : Begun) → first.chars.items ≡ [] → (let start : Passed = record { paragraphs = 0; characters = 0 } in first.passed ≡ start)
+      → IsBegun tables begun → PrintsOn form tables direction text a b first begun → Appends a b (printed_as form tables (ended_paragraphs tables text) direction)
+  ended_came text a b first begun empty start is f =
+      let joined : f.ended ++ begun.chars.items ≡ text = f.joined ∙ ap (λ cs. cs ++ text) empty in
+      let plain : ArePlain (units_by tables begun.chars.items) = subst ArePlain is.units is.plain in
+      let ended : ended_paragraphs tables text ≡ f.ended =
+      ap (ended_paragraphs tables) (sym joined) ∙ f.whole begun.chars.items ∙ ap (λ cs. f.ended ++ cs) (none_ended tables begun.chars.items plain) ∙ append-nil f.ended in
+      Appends-to a b _ _ (whole_behind first f.ended start ∙ ap (λ cs. printed_as form tables cs direction) (sym ended)) f.said
 
   -- all came
   pub all_came : (text : List ℕ) (a b c : Option (List ℕ)) (first begun : Begun) → first.chars.items ≡ [] → (let start : Passed = record { paragraphs = 0; characters = 0 } in first.passed ≡ start)
       → PrintsOn form tables direction text a b first begun → Appends b c (printed_behind form begun.passed tables begun.chars.items direction) → Appends a c (printed_as form tables text direction)
   all_came text a b c first begun empty start f said =
-      let whole : printed_behind form first.passed tables text direction ≡ printed_as form tables text direction =
-      printed_whole form first.passed tables text direction (ap (λ (p : Passed). p.paragraphs) start) (ap (λ (p : Passed). p.characters) start) in
-      let left : f.done ++ printed_behind form begun.passed tables begun.chars.items direction ≡ printed_behind form first.passed tables text direction =
-      ap (λ cs. f.done ++ printed_behind form begun.passed tables cs direction) (sym (append-nil begun.chars.items))
-      ∙ sym (f.left [])
-      ∙ ap (λ cs. printed_behind form first.passed tables (cs ++ (text ++ [])) direction) empty
-      ∙ ap (λ cs. printed_behind form first.passed tables cs direction) (append-nil text) in
-      Appends-to a c _ _ (left ∙ whole) (Appends-joined a b c f.done _ f.said said)
+      let joined : f.ended ++ begun.chars.items ≡ text = f.joined ∙ ap (λ cs. cs ++ text) empty in
+      Appends-to a c _ _
+      (sym (f.behind begun.chars.items) ∙ ap (λ cs. printed_behind form first.passed tables cs direction) joined ∙ whole_behind first text start)
+      (Appends-joined a b c _ _ f.said said)

@@ -1,7 +1,11 @@
 pub mod Behind
 pub mod Columns
+pub mod EndedParagraphs
+pub mod HeldBytes
 pub mod LevelsText
 pub mod PrintedTexts
+pub mod ReadTexts
 pub mod ReorderText
 pub mod UnderWay
+pub mod EndedRows
 pub mod PrintedRows

@@ -6,6 +6,7 @@ use Rattle.units.specs.declared.bracket.Unit.{Unit as BidiUnit}
 use Rattle.units.specs.declared.level.Direction.{Direction}
 use Rattle.ucdfiles.specs.Tables.{TablesOf, units_by}
 use Rattle.printing.specs.Behind.{printed_behind}
+use Rattle.printing.specs.EndedParagraphs.{ended_paragraphs}
 use Rattle.printing.specs.declared.form.Form.{Form}
 use Rattle.printing.specs.declared.begun.Begun.{Begun}
 use Rattle.printing.specs.declared.passed.Passed.{Passed}
@@ -30,10 +31,12 @@ pub record Follows (passed : Passed) (characters : ℕ) (next : Passed) : Type 0
   pub paragraphs : next.paragraphs ≡ passed.paragraphs + 1
   pub characters_are : next.characters ≡ passed.characters + characters
 
--- further characters came, and known bytes grew by what is printed of the text from the paragraph that had begun on,
--- whatever comes behind them, up to the one that has begun now
+-- further characters came, and known bytes grew by what is printed of the paragraphs that ended with them, the one that
+-- had begun first; behind these stands the one that has begun now, and whatever comes is printed behind them
 pub record PrintsOn (form : Form) (tables : TablesOf) (direction : Direction) (more : List ℕ) (before after : Option (List ℕ)) (old new : Begun) : Type 0 where
-  pub done : List ℕ
-  pub said : Appends before after done
-  pub left : (rest : List ℕ) → printed_behind form old.passed tables (old.chars.items ++ (more ++ rest)) direction
-      ≡ done ++ printed_behind form new.passed tables (new.chars.items ++ rest) direction
+  pub ended : List ℕ
+  pub joined : ended ++ new.chars.items ≡ old.chars.items ++ more
+  pub whole : (rest : List ℕ) → ended_paragraphs tables (ended ++ rest) ≡ ended ++ ended_paragraphs tables rest
+  pub said : Appends before after (printed_behind form old.passed tables ended direction)
+  pub behind : (rest : List ℕ) → printed_behind form old.passed tables (ended ++ rest) direction
+      ≡ printed_behind form old.passed tables ended direction ++ printed_behind form new.passed tables rest direction

@@ -3,6 +3,7 @@
 
 mod begun;
 mod columns;
+mod cutting;
 pub mod fault;
 pub mod form;
 mod layout_text;
@@ -10,5 +11,6 @@ mod paragraphs;
 mod passed;
 mod position_line;
 pub mod print;
+pub mod reading;
 mod reorder_text;
 pub mod text_units;

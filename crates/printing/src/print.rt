@@ -1,7 +1,6 @@
 //! What `levels` and `reorder` print of a text.
 ghost use Rattle.std.specs.Prelude.{◌≡◌, ◌≤◌, length, OnOk};
 ghost use Rattle.std.specs.Io.KnownBytes.{Appends};
-ghost use Rattle.std.specs.Str.{chars};
 ghost use Rattle.units.specs.Layout.{longest_text};
 ghost use Rattle.printing.specs.Behind.{printed_as};
 ghost use Rattle.printing.specs.PrintedTexts.{printed_levels, printed_reorder};
@@ -17,29 +16,7 @@ use ucdfiles::tables::Tables;
 use units::level::Direction;
 
 /// Writes a text in this form, as `print_levels` and `print_reorder` say, paragraph by paragraph: a paragraph's
-/// characters are looked up and laid out where it ends, and written before the next one is looked at. The memory that
-/// is taken, some 80 bytes a character, is that of the longest paragraph. The text may have 16,777,216 bytes. The
-/// faults are those of these two.
-pub fn print_utf8<W: Write>(
-    alloc: Global,
-    w: &mut W,
-    tables: &Tables,
-    text: &str,
-    direction: Direction,
-    form: Form,
-) -> Result<(), PrintFault>
-    requires { length text.now ≤ longest_text }
-    ensures { OnOk result (Appends (W.contents w.old) (W.contents w.new)
-        (printed_as form tables.now (chars text.now) direction)) }
-{
-    let mut begun = Begun::new(alloc)?;
-    for character in text.chars() {
-        take_character(alloc, w, tables, direction, form, &mut begun, character)?;
-    }
-    print_last(alloc, w, tables, direction, form, &mut begun)
-}
-
-/// What `print_utf8` does, of a text in a list of characters.
+/// characters are looked up and laid out where it ends, and written before the next one is looked at.
 fn print_chars<W: Write>(
     alloc: Global,
     w: &mut W,

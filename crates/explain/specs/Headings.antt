@@ -1,4 +1,4 @@
--- The head of a paragraph: its level, what decided it, and the names of the columns, as bytes.
+-- The heading of a paragraph: its level, what decided it, and the names of the columns, as bytes.
 use Rattle.std.specs.Prelude.{Option, ℕ, ◌+◌, Some, None, slice_index_or, List, [], ◌∷◌, ◌++◌, codes}
 use Rattle.std.specs.List.{concat}
 use Rattle.std.specs.Fmt.{decimal}
@@ -8,8 +8,8 @@ use Rattle.units.specs.declared.bracket.Unit.{Unit as BidiUnit}
 use Rattle.units.specs.declared.level.Direction.{Direction}
 use Rattle.units.specs.declared.level.Direction.TheVariants.{Auto, Ltr, Rtl, AutoRtl}
 use Rattle.printing.specs.LevelsText.{line_feed}
-use Rattle.explain.specs.declared.head.Decider.{Decider}
-use Rattle.explain.specs.declared.head.Decider.TheVariants.{Given, NoStrong, Strong}
+use Rattle.explain.specs.declared.heading.Decider.{Decider}
+use Rattle.explain.specs.declared.heading.Decider.TheVariants.{Given, NoStrong, Strong}
 
 -- what decided a paragraph's level
 abbrev pub decider_text : Decider → List ℕ
@@ -34,7 +34,7 @@ abbrev pub columns_text : List ℕ
 columns_text = codes "position code class level X W1 W2 W3 W4 W5 W6 W7 N0 N1 N2 I L1\n"
 
 -- a paragraph's number, counted from 0, its level and what decided it, and the names of the columns
-abbrev pub head_text : ℕ → ℕ → Decider → List ℕ
-head_text number level decider =
+abbrev pub heading_text : ℕ → ℕ → Decider → List ℕ
+heading_text number level decider =
     concat (codes "paragraph " ∷ decimal number ∷ codes " level " ∷ decimal level ∷ codes ": " ∷ decider_text decider ∷ line_feed ∷ [])
     ++ columns_text

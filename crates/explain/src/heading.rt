@@ -1,9 +1,9 @@
-// The head of a paragraph: its level, what decided it, and the names of the columns.
+// The heading of a paragraph: its level, what decided it, and the names of the columns.
 ghost use Rattle.std.specs.Prelude.{◌≡◌, ◌<◌, ◌≤◌, length, OnOk, IfSome, Some};
 ghost use Rattle.std.specs.Io.KnownBytes.{Appends};
 ghost use Rattle.units.specs.Isolates.{level_of_para};
 ghost use Rattle.units.specs.Layout.{longest_text};
-ghost use Rattle.explain.specs.Heads.{decider_by, decider_of, decider_text, head_text};
+ghost use Rattle.explain.specs.Headings.{decider_by, decider_of, decider_text, heading_text};
 
 use std::io::Write;
 use std::{fmt, io};
@@ -66,16 +66,16 @@ pub fn decider_of(
     }
 }
 
-/// Writes the head of a paragraph: its number, counted from 0, its level and what decided it, and the line that names
-/// the columns of its rows.
-pub fn print_head<W: Write>(
+/// Writes the heading of a paragraph: its number, counted from 0, its level and what decided it, and the line that
+/// names the columns of its rows.
+pub fn print_heading<W: Write>(
     w: &mut W,
     number: usize,
     level: ParaLevel,
     decider: Decider,
 ) -> io::Result<()>
     ensures { OnOk result (Appends (W.contents w.old) (W.contents w.new)
-        (head_text number (level_of_para level) decider)) }
+        (heading_text number (level_of_para level) decider)) }
 {
     let level = level.level().get();
     writeln!(w, "paragraph {number} level {level}: {decider}")?;

@@ -1,0 +1,17 @@
+use Rattle.std.proofs.Common.{rules, ◌≡◌, [], OnOk, ap, subst, ◌∙◌}
+use Rattle.std.specs.Io.KnownBytes.{Appends}
+use Rattle.units.specs.Layout.{TextLayout, layout_of}
+use Rattle.units.specs.Limits.{LimitsOf}
+use Rattle.lines.specs.Layouts.{view_of}
+use Rattle.bidtests.specs.Readings.{claim_of}
+use Rattle.explain_row.specs.RowTexts.{claim_text}
+use Rattle.explain_row.proofs.print.print_beside.Goals as goal
+
+pub returns-clause-text : goal.returns-clause-text
+returns-clause-text g c =
+    let text = c.args.claim.text.now in
+    let d = c.args.direction in
+    let laid : view_of c.layout.result ≡ layout_of c.standard.result text d [] = search rules in
+    let is = laid ∙ ap (λ (limits : LimitsOf). layout_of limits text d []) c.standard.ensures in
+    subst (λ (layout : TextLayout). OnOk c.print_claim.result (Appends (g.W.Write.contents c.args.w.now) (g.W.Write.contents c.print_claim.new.w) (claim_text (claim_of c.args.claim) layout)))
+    is c.print_claim.ensures

@@ -1,0 +1,4 @@
+pub mod SoughtRows
+pub mod Searching
+pub mod RowTexts
+pub mod WorkedRows

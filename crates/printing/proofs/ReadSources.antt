@@ -1,0 +1,127 @@
+-- A text that is printed while its source is read.
+use Rattle.std.proofs.Common.{◌≡◌, ℕ, ◌+◌, ◌≤◌, Option, List, [], ◌++◌, Result, Ok, Err, IfErr, IsErrAnd, length, take, drop, sym, ap, subst, ◌∙◌, arith, length-append}
+use Rattle.std.proofs.lemmas.List.{length-take}
+use Rattle.std.proofs.lemmas.Str.{chars-append, chars-nil}
+use Rattle.std.specs.Io.KnownBytes.{Appends}
+use Rattle.std.specs.Str.{IsUtf8, chars}
+use Rattle.std.specs.Str.Lossy.{utf8_valid_len}
+use Rattle.units.specs.Layout.{longest_text}
+use Rattle.units.specs.declared.level.Direction.{Direction}
+use Rattle.ucdfiles.specs.Tables.{TablesOf}
+use Rattle.printing.specs.Behind.{printed_as, printed_behind}
+use Rattle.printing.specs.EndedParagraphs.{ended_paragraphs}
+use Rattle.printing.specs.HeldBytes.{IsReadTo}
+use Rattle.printing.specs.ReadTexts.{BreaksOff, IsPrinted, printed_ended, utf8_front}
+use Rattle.printing.specs.UnderWay.{IsBegun, PrintsOn, handed_in}
+use Rattle.printing.specs.declared.begun.Begun.{Begun}
+use Rattle.printing.specs.declared.fault.PrintFault.{PrintFault}
+use Rattle.printing.specs.declared.form.Form.{Form}
+use Rattle.printing.specs.declared.passed.Passed.{Passed}
+use Rattle.printing.specs.declared.reading.TextFault.{TextFault}
+use Rattle.printing.specs.declared.reading.TextFault.TheVariants.{Print}
+use Rattle.printing.proofs.HeldLemmas.{front_cut, length_front, more_cut, nothing_cut, whole_cut}
+use Rattle.printing.proofs.UnderWay.{all_came, chars_le, ended_came, more_came, nothing_came}
+
+-- where a write failed or memory was refused, these bytes were given
+pub print_fails : {A : Type 0} (Failed Ended : Type 0) (form : Form) (tables : TablesOf) (direction : Direction) (a b : Option (List ℕ)) (Gave : List ℕ → Type 0) (given : List ℕ)
+    → Gave given → (result : Result A TextFault) (fault : PrintFault) → IsErrAnd result (λ e. e ≡ Print fault)
+    → IfErr result (λ e. (xs : List ℕ) × Gave xs × BreaksOff Failed Ended form tables direction xs a b e)
+print_fails Failed Ended form tables direction a b Gave given gave (Ok x) fault e = tt
+print_fails Failed Ended form tables direction a b Gave given gave (Err found) fault e =
+    (given, gave, subst (BreaksOff Failed Ended form tables direction given a b) (sym e) tt)
+
+-- what a source handed out, of which these bytes are held, and what was printed of it
+pub record HasRead {S : Type 0} (gives : S → List ℕ → S → Type 0) (room : S → ℕ) (form : Form) (tables : TablesOf) (direction : Direction)
+    (start now : S) (before after : Option (List ℕ)) (first begun : Begun) (held : List ℕ) : Type 0 where
+  pub bytes : List ℕ
+  pub front : List ℕ
+  pub given : gives start bytes now
+  pub cut : IsReadTo bytes front held
+  pub bound : length bytes + room now ≤ longest_text
+  pub is : IsBegun tables begun
+  pub handed : handed_in begun ≡ length (chars front)
+  pub printed : PrintsOn form tables direction (chars front) before after first begun
+
+module _ {S : Type 0} (gives : S → List ℕ → S → Type 0) (room : S → ℕ) (form : Form) (tables : TablesOf) (direction : Direction)
+    (start : S) (before : Option (List ℕ)) (first : Begun) where
+  pub nothing_read : gives start [] start → room start ≤ longest_text → IsBegun tables first → first.chars.items ≡ []
+      → (let none : Passed = record { paragraphs = 0; characters = 0 } in first.passed ≡ none)
+      → HasRead gives room form tables direction start start before before first first []
+  nothing_read given small is empty none = record {
+    bytes = [];
+    front = [];
+    given = given;
+    cut = nothing_cut;
+    bound = omega arith;
+    is = is;
+    handed = omega (arith, ap (λ (p : Passed). p.characters) none, ap length empty, ap length chars-nil);
+    printed = subst (λ xs. PrintsOn form tables direction xs before before first first) (sym chars-nil) (nothing_came form tables direction before first);
+  }
+
+  module _ (now next : S) (after later : Option (List ℕ)) (begun then : Begun) (held more : List ℕ)
+      (read : HasRead gives room form tables direction start now before after first begun held) (falls : room next + length more ≤ room now) where
+    -- what has come fits
+    pub more_fits : handed_in begun + length (held ++ more) ≤ longest_text
+    more_fits =
+        let cut = read.cut in
+        omega (
+          arith,
+          falls,
+          read.bound,
+          read.handed,
+          chars_le read.front cut.utf8,
+          ap length cut.joined,
+          length-append read.front cut.left,
+          ap length cut.first,
+          length-take 4 cut.left,
+          length-append held more,
+        )
+
+    more_read : gives start (read.bytes ++ more) next → IsBegun tables then → handed_in then ≡ handed_in begun + length (chars (utf8_front (held ++ more)))
+        → PrintsOn form tables direction (chars (utf8_front (held ++ more))) after later begun then
+        → HasRead gives room form tables direction start next before later first then (take 4 (drop (utf8_valid_len (held ++ more)) (held ++ more)))
+    more_read given is handed printed =
+        let both : chars (read.front ++ utf8_front (held ++ more)) ≡ chars read.front ++ chars (utf8_front (held ++ more)) =
+        chars-append read.front (utf8_front (held ++ more)) read.cut.utf8 in
+        record {
+          bytes = read.bytes ++ more;
+          front = read.front ++ utf8_front (held ++ more);
+          given = given;
+          cut = more_cut read.bytes read.front held more read.cut;
+          bound = omega (arith, falls, read.bound, length-append read.bytes more);
+          is = is;
+          handed = omega (arith, handed, read.handed, ap length both, length-append (chars read.front) (chars (utf8_front (held ++ more))));
+          printed = subst (λ xs. PrintsOn form tables direction xs before later first then) (sym both)
+              (more_came form tables direction _ _ _ _ _ _ _ _ read.printed printed);
+        }
+
+    -- the same of a buffer that holds both, of which so many bytes were taken
+    pub read_more : (bs kept : List ℕ) (taken : ℕ) → bs ≡ held ++ more → taken ≡ length (utf8_front bs) → kept ≡ take 4 (drop taken bs)
+        → gives start (read.bytes ++ more) next → IsBegun tables then → handed_in then ≡ handed_in begun + length (chars (utf8_front bs))
+        → PrintsOn form tables direction (chars (utf8_front bs)) after later begun then
+        → HasRead gives room form tables direction start next before later first then kept
+    read_more bs kept taken both front left given is handed printed =
+        let same : kept ≡ take 4 (drop (utf8_valid_len (held ++ more)) (held ++ more)) =
+        left ∙ ap (λ n. take 4 (drop n bs)) (front ∙ length_front bs) ∙ ap (λ xs. take 4 (drop (utf8_valid_len xs) xs)) both in
+        subst (HasRead gives room form tables direction start next before later first then) (sym same)
+        (more_read given is (subst (λ xs. handed_in then ≡ handed_in begun + length (chars (utf8_front xs))) both handed)
+        (subst (λ xs. PrintsOn form tables direction (chars (utf8_front xs)) after later begun then) both printed))
+
+  module _ (now : S) (after : Option (List ℕ)) (begun : Begun) (held : List ℕ)
+      (read : HasRead gives room form tables direction start now before after first begun held)
+      (empty : first.chars.items ≡ []) (none : let nothing : Passed = record { paragraphs = 0; characters = 0 } in first.passed ≡ nothing) where
+    -- the paragraphs that have ended are printed
+    pub ended_read : Appends before after (printed_ended form tables read.bytes direction)
+    ended_read = subst (λ xs. Appends before after (printed_as form tables (ended_paragraphs tables (chars xs)) direction))
+        (sym (front_cut read.bytes read.front held read.cut)) (ended_came form tables direction (chars read.front) before after first begun empty none read.is read.printed)
+
+    -- and where none is held all are, once the last one is
+    pub whole_read : length held ≡ 0 → (last : Option (List ℕ)) → Appends after last (printed_behind form begun.passed tables begun.chars.items direction)
+        → IsPrinted form tables direction read.bytes before last
+    whole_read all last said =
+        let whole : read.front ≡ read.bytes = whole_cut read.bytes read.front held read.cut all in
+        record {
+          utf8 = subst IsUtf8 whole read.cut.utf8;
+          said = subst (λ xs. Appends before last (printed_as form tables (chars xs) direction)) whole
+              (all_came form tables direction (chars read.front) before after last first begun empty none read.printed said);
+        }

@@ -1,0 +1,30 @@
+// Bytes cut behind the characters that have come whole.
+ghost use Rattle.std.specs.Prelude.{◌≡◌, ◌≤◌, drop, length, take};
+ghost use Rattle.printing.specs.ReadTexts.{utf8_front};
+
+/// The most bytes that a character takes in UTF-8.
+const LONGEST_CHARACTER: usize = 4;
+
+/// The text in the longest front of these bytes that is UTF-8.
+pub(crate) fn utf8_front(bytes: &[u8]) -> &str
+    ensures { result.now ≡ utf8_front bytes.now }
+{
+    match bytes.utf8_chunks().next() {
+        Some(chunk) => chunk.valid(),
+        None => "",
+    }
+}
+
+/// Moves the first of the bytes behind those that were taken to the front of the buffer, as many as a character may
+/// have, and answers how many there are.
+pub(crate) fn hold(buffer: &mut [u8], taken: usize, filled: usize) -> usize
+    requires taken { taken ≤ filled }
+    requires filled { filled ≤ length buffer.old }
+    ensures len { length buffer.new ≡ length buffer.old }
+    ensures few { result ≤ 4 }
+    ensures held { take result buffer.new ≡ take 4 (drop taken (take filled buffer.old)) }
+{
+    let held = LONGEST_CHARACTER.min(filled - taken);
+    buffer.copy_within(taken..taken + held, 0);
+    held
+}
