@@ -1,9 +1,9 @@
 -- Items with a blank between each two, read back.
-use Rattle.std.proofs.Common.{◌≡◌, ◌≢◌, ℕ, ◌+◌, ◌-◌, ◌*◌, ◌<◌, ◌≤◌, false, List, [], ◌∷◌, ◌++◌, length, map, get_or, refl, arith}
+use Rattle.std.proofs.Common.{◌≡◌, ℕ, ◌+◌, ◌*◌, ◌≤◌, List, [], ◌∷◌, ◌++◌, length, map, get_or, refl, arith}
 use Rattle.std.specs.List.{All}
 use Rattle.std.proofs.lemmas.List.{length-append}
 use Rattle.std.proofs.lemmas.List.Elements.{All-nil, All-head, All-tail, All-append, All-weaker}
-use Rattle.units.specs.Text.{is_blank, items_of, trimmed}
+use Rattle.units.specs.Text.{items_of, trimmed}
 use Rattle.rows.specs.RowTexts.{behind_blanks, between_blanks}
 use Rattle.rows.proofs.Contents.{trimmed-whole}
 use Rattle.rows.proofs.Items.{IsItem, IsItemByte, items-first, no-blank}

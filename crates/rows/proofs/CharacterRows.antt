@@ -1,20 +1,19 @@
 -- The row of a case in a file of characters, read back by the grammar.
-use Rattle.std.proofs.Common.{◌≡◌, ◌≢◌, ℕ, zero, suc, ◌+◌, ◌-◌, ◌*◌, ◌<◌, ◌≤◌, true, false, cond, Option, Some, List, [], ◌∷◌, ◌++◌, length, map, get_or, refl, sym, ap, ◌∙◌, subst, arith}
-use Rattle.std.specs.Prelude.{codes, nat_lt}
+use Rattle.std.proofs.Common.{◌≡◌, ◌≢◌, ℕ, zero, suc, ◌*◌, ◌<◌, ◌≤◌, true, false, cond, Option, Some, List, [], ◌∷◌, ◌++◌, length, map, get_or, refl, sym, ap, ◌∙◌, subst, arith}
+use Rattle.std.specs.Prelude.{nat_lt}
 use Rattle.std.specs.Borrow.{Bor}
 use Rattle.std.specs.Fmt.{decimal}
 use Rattle.std.specs.List.{All}
-use Rattle.std.proofs.Math.Nat.{mul-le-mul}
 use Rattle.std.proofs.lemmas.Bool.Decides.{nat_tests}
 use Rattle.std.proofs.lemmas.Fmt.{decimal_digit}
 use Rattle.std.proofs.lemmas.List.{get_or_append_left, length-append, length-map}
 use Rattle.std.proofs.lemmas.List.Elements.{All-nil, All-cons, All-weaker}
 use Rattle.units.specs.Classes.{classes_of, is_separator}
 use Rattle.units.specs.Isolates.{level_of_para, para_level_of}
-use Rattle.units.specs.Layout.{TextLayout, all_orders, layout_of}
+use Rattle.units.specs.Layout.{all_orders, layout_of}
 use Rattle.units.specs.Limits.{LimitsOf}
 use Rattle.units.specs.Paragraphs.{begin_with, paragraphs_of}
-use Rattle.units.specs.Text.{each_read, fields_of, is_blank, items_of, longest_line}
+use Rattle.units.specs.Text.{each_read, fields_of, longest_line}
 use Rattle.units.specs.declared.bracket.Unit.{Unit as BidiUnit}
 use Rattle.units.specs.declared.level.Direction.{Direction}
 use Rattle.units.specs.declared.level.Direction.TheVariants.{Auto, Ltr, Rtl, AutoRtl}
@@ -24,15 +23,15 @@ use Rattle.ucdfiles.specs.Tables.{TablesOf, unit_by}
 use Rattle.lines.proofs.Lengths.{length-levels}
 use Rattle.lines.proofs.RemovedLevels.{para_level-low}
 use Rattle.printing.specs.LevelsText.{level_text}
-use Rattle.bidtests.specs.CharactersFile.{character_item, characters_content, characters_line, characters_row_as_read, characters_row_by, characters_row_of_items, direction_field, para_field}
+use Rattle.bidtests.specs.CharactersFile.{character_item, characters_content, characters_line, characters_row_by, characters_row_of_items, direction_field, para_field}
 use Rattle.bidtests.specs.ClassesFile.{level_item, order_item}
-use Rattle.bidtests.specs.Verdicts.{Claim, Finding, Row}
+use Rattle.bidtests.specs.Verdicts.{Claim, Row}
 use Rattle.bidtests.specs.declared.kind.Kind.TheVariants.{Characters}
 use Rattle.rows.specs.Letters.{IsLetterOf, letter_name, unit_of, units_of}
 use Rattle.rows.specs.RowTexts.{Case, IsRowText, between_blanks, direction_text, fields_with_layout, in_fields, layout_of_case, para_text}
 use Rattle.rows.specs.declared.letter.Letter.{Letter}
 use Rattle.rows.proofs.Between.{IsField, between-field, between-first, between-ends, between-items, item-field, length-between}
-use Rattle.rows.proofs.Contents.{HasNoBlankEnds, content-whole}
+use Rattle.rows.proofs.Contents.{content-whole}
 use Rattle.rows.proofs.FieldTexts.{fields-bytes, fields-read}
 use Rattle.rows.proofs.Items.{IsItem, IsItemByte, each-read, each-read-as, no-blank}
 use Rattle.rows.proofs.ItemTexts.{character-read, level-few, level-item, level-read, name-few, name-item, position-few, position-item, position-read}

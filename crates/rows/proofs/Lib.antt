@@ -19,3 +19,5 @@ pub mod DrawnText
 pub mod Looked
 pub mod Placed
 pub mod RoomsKept
+pub mod TextCuts
+pub mod LineLists

@@ -1,9 +1,9 @@
--- Each text over an alphabet, enumerated or drawn, is one that a row can have.
-use Rattle.std.proofs.Common.{◌≡◌, ℕ, ◌+◌, ◌-◌, ◌/◌, ◌%◌, ◌^◌, ◌<◌, ◌≤◌, List, length, map, get_or, refl, ◌∙◌, arith}
+-- Each text over an alphabet, enumerated or drawn, is one that a row can have; and what the judge says of such texts.
+use Rattle.std.proofs.Common.{◌≡◌, ℕ, ◌+◌, ◌-◌, ◌/◌, ◌%◌, ◌^◌, ◌<◌, ◌≤◌, List, length, map, get_or, ◌∙◌, arith}
 use Rattle.std.specs.List.{All}
 use Rattle.std.proofs.Math.Nat.{mod-lt, pow-le-pow_right}
 use Rattle.std.proofs.lemmas.List.{length-map}
-use Rattle.std.proofs.lemmas.List.Elements.{All-map, All-from_get_or}
+use Rattle.std.proofs.lemmas.List.Elements.{All-map, All-from_get_or, All-weaker}
 use Rattle.rand_pcg.specs.Pcg.{pcg32}
 use Rattle.units.specs.Positions.{positions_from}
 use Rattle.units.specs.Limits.{standard}
@@ -14,10 +14,13 @@ use Rattle.rows.specs.Letters.{IsLetterOf, no_letter}
 use Rattle.rows.specs.RowTexts.{Case, IsRowText, longest_row}
 use Rattle.rows.specs.Exhaustive.{CanBeCounted, ExhaustiveOf, cases_between, cases_in, cases_of_length, cases_of_number, letter_in_text, text_of_number, block, under_each}
 use Rattle.rows.specs.Random.{CanBeDrawn, RandomOf, cases_drawn, cases_of_draw, letter_drawn, length_drawn, generator_of, text_of_draw, word_behind}
+use Rattle.rows.specs.TextLines.{cases_of_line, cases_of_text, kind_of, letter_named, row_lines}
 use Rattle.rows.specs.Judged.{JudgeSaysYes}
+use Rattle.rows.specs.declared.naming.Naming.{Naming}
 use Rattle.rows.specs.declared.letter.Letter.{Letter}
 use Rattle.rows.proofs.Judged.{judged-yes}
 use Rattle.rows.proofs.LevelBounds.{All-flat_map}
+use Rattle.rows.proofs.LineLists.{IsRowLine}
 use Rattle.rows.proofs.Items.{all-of-every}
 
 pub length-text_of_number : (alphabet : List Letter) (len number : ℕ) → length (text_of_number alphabet len number) ≡ len
@@ -93,3 +96,13 @@ drawn-right kind r directions can are =
     (is-row_text kind (λ place. letter_drawn r.alphabet (word_behind g place)) (length_drawn r number)
     (λ place. are (word_behind g place % length r.alphabet) no_letter (mod-lt (word_behind g place) can.letters))
     (omega (arith, can.some, within.0)) (omega (arith, can.short, within.1)))))
+
+-- the lines of a text, each of which as letters is a text of a row
+pub lines-right : (naming : Naming) (directions : List Direction) (text : List ℕ) → All (IsRowLine naming) (row_lines text)
+    → JudgeSaysYes standard (kind_of naming) (cases_of_text naming directions text)
+lines-right naming directions text are =
+    let kind : Kind = kind_of naming in
+    judged-yes standard kind (cases_of_text naming directions text) (omega arith)
+    (All-flat_map (IsRow kind) (cases_of_line naming directions) (row_lines text)
+    (All-weaker (IsRowLine naming) (λ line. All (IsRow kind) (cases_of_line naming directions line))
+    (λ line is. rows-under kind (map (letter_named naming) line) directions is) (row_lines text) are))

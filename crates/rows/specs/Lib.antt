@@ -6,3 +6,5 @@ pub mod Exhaustive
 pub mod Judged
 pub mod Random
 pub mod Forms
+pub mod TextLines
+pub mod TextLineRows

@@ -1,4 +1,4 @@
-// The lines of a case in a file of classes, by its layout.
+//! The lines of a case in a file of classes, by its layout.
 ghost use Rattle.std.specs.Prelude.{◌≡◌, ◌++◌, codes, OnOk};
 ghost use Rattle.std.specs.Fmt.{decimal};
 ghost use Rattle.std.specs.Io.KnownBytes.{Appends};
@@ -48,7 +48,7 @@ pub fn print_positions<W: Write>(w: &mut W, order: &[usize]) -> io::Result<()>
 }
 
 /// Writes the orders of all lines, one behind another.
-fn print_orders<W: Write>(w: &mut W, layout: &Layout<'_>) -> io::Result<()>
+pub fn print_orders<W: Write>(w: &mut W, layout: &Layout<'_>) -> io::Result<()>
     ensures { OnOk result (Appends (W.contents w.old) (W.contents w.new)
         (behind_blanks decimal (all_orders (view_of layout.now)))) }
 {

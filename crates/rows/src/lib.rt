@@ -1,7 +1,8 @@
-//! Test files of hard rows with right answers: texts that are enumerated or drawn, with what the rules give of them.
+//! Test files with right answers: hard texts that are enumerated or drawn, or the lines of a text, with what the rules
+//! give of them.
 #![tactic(auto)]
 
-mod case_text;
+pub mod case_text;
 mod character_text;
 mod drawn;
 pub mod exhaustive;
@@ -10,9 +11,12 @@ pub mod form;
 pub mod laws;
 pub mod letter;
 pub mod letters;
+pub mod naming;
 mod numbered;
 pub mod print;
+pub mod print_lines;
 pub mod print_random;
 pub mod random;
 mod room;
+pub mod text_lines;
 mod under_directions;

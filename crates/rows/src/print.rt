@@ -91,10 +91,10 @@ fn print_lengths<W: Write>(
 
 /// Writes a test file of this kind: each of the texts, the shorter ones first, under each of these directions in their
 /// order, with the levels and the order that the rules give by the standard limits (P1 to L2). A text under a direction
-/// is in the form of BidiTest.txt three lines, `@Levels:`, `@Reorder:` and a row that names this direction alone, and in
-/// that of BidiCharacterTest.txt one row. The judge says yes of what is written, if the letters are of this kind. The
-/// memory is that of one text of the greatest length, and is taken before the first write. The fault is `Write` where
-/// the writer fails, when it is not known how much it took, and `Memory` where memory is refused.
+/// is in the form of BidiTest.txt three lines, `@Levels:`, `@Reorder:` and a row that names this direction alone, and
+/// in that of BidiCharacterTest.txt one row. The judge says yes of what is written, if the letters are of this kind.
+/// The memory is that of one text of the greatest length, and is taken before the first write. The fault is `Write`
+/// where the writer fails, when it is not known how much it took, and `Memory` where memory is refused.
 pub fn print_exhaustive<W: Write>(
     alloc: Global,
     w: &mut W,

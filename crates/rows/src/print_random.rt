@@ -64,9 +64,9 @@ fn print_draws<W: Write>(
 
 /// Writes a test file of this kind: each of the texts that are drawn, by their numbers, under each of these directions
 /// in their order, with the levels and the order that the rules give by the standard limits (P1 to L2), in lines as
-/// `print_exhaustive` writes them. The judge says yes of what is written, if the letters are of this kind. The memory is
-/// that of one text of the greatest length, and is taken before the first write. The fault is `Write` where the writer
-/// fails, when it is not known how much it took, and `Memory` where memory is refused.
+/// `print_exhaustive` writes them. The judge says yes of what is written, if the letters are of this kind. The memory
+/// is that of one text of the greatest length, and is taken before the first write. The fault is `Write` where the
+/// writer fails, when it is not known how much it took, and `Memory` where memory is refused.
 pub fn print_random<W: Write>(
     alloc: Global,
     w: &mut W,

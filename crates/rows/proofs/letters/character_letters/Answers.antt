@@ -1,4 +1,4 @@
-use Rattle.std.proofs.Common.{◌≡◌, ◌∙◌, ◌++◌, ◌∷◌, ◌+◌, [], List, ap, get_or, subst, sym}
+use Rattle.std.proofs.Common.{◌≡◌, ◌∙◌, ◌++◌, ◌∷◌, ◌+◌, [], ap, get_or, subst, sym}
 use Rattle.std.proofs.lemmas.List.{get_or_default}
 use Rattle.rows.specs.Letters.{IsCharacterBy, letter_by}
 use Rattle.rows.specs.declared.letter.Letter.{Letter}

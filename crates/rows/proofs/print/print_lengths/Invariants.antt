@@ -1,4 +1,4 @@
-use Rattle.std.proofs.Common.{◌≡◌, ◌≤◌, ◌+◌}
+use Rattle.std.proofs.Common.{◌≤◌, ◌+◌}
 use Rattle.std.specs.Prelude.{max}
 use Rattle.units.specs.Limits.{standard}
 use Rattle.printing.proofs.Printing.{HasPrinted}

@@ -1,0 +1,59 @@
+-- Lines of a text: those that have a character, and that none is too long for a row.
+use Rattle.std.proofs.Common.{◌≡◌, ℕ, ◌+◌, ◌<◌, ◌≤◌, Bool, true, false, Option, Some, None, if◌then◌else◌, List, [], ◌∷◌, length, map, refl, ap, subst, arith}
+use Rattle.std.specs.Prelude.{filter, nat_lt}
+use Rattle.std.specs.Borrow.{Bor}
+use Rattle.std.specs.List.{All}
+use Rattle.std.proofs.lemmas.Bool.{ltb-false}
+use Rattle.std.proofs.lemmas.List.Elements.{All-nil, All-cons, All-head, All-tail}
+use Rattle.units.specs.Cuts.{pieces_behind}
+use Rattle.printing.proofs.Passing.{HasPassed}
+use Rattle.rows.specs.Placing.{has_some}
+use Rattle.rows.specs.RowTexts.{IsRowText, longest_row}
+use Rattle.rows.specs.TextLines.{first_longer, kind_of, letter_named}
+use Rattle.rows.specs.declared.naming.Naming.{Naming}
+
+-- the lines that are to come, where this is left of a text
+abbrev pub lines_left : Option (Bor (List ℕ)) → List (List ℕ)
+lines_left left = pieces_behind 10 left
+
+-- how much that is: its characters and one more, while a line is to come
+abbrev pub size_left : Option (Bor (List ℕ)) → ℕ
+size_left None = 0
+size_left (Some rest) = length rest.now + 1
+
+-- a line's letters are a text of a row
+abbrev pub IsRowLine : Naming → List ℕ → Type 0
+IsRowLine naming line = IsRowText (kind_of naming) (map (letter_named naming) line)
+
+-- a line is no longer than a row
+abbrev pub IsShort : List ℕ → Type 0
+IsShort line = length line ≤ longest_row
+
+behind-none : (b : Bool) (number : ℕ) (later : Option ℕ) → (if b then Some number else later) ≡ None → (b ≡ false) × (later ≡ None)
+behind-none true number later e = absurd (cc)
+behind-none false number later e = (refl, e)
+
+pub none-longer : (number : ℕ) (lines : List (List ℕ)) → first_longer number lines ≡ None → All IsShort lines
+none-longer number [] e = All-nil IsShort
+none-longer number (line ∷ lines) e =
+    let none = behind-none (nat_lt longest_row (length line)) number (first_longer (number + 1) lines) e in
+    All-cons IsShort line lines (ltb-false longest_row (length line) none.0) (none-longer (number + 1) lines none.1)
+
+pub some-line : (line : List ℕ) (lines more : List (List ℕ)) → lines ≡ line ∷ more → 0 < length line → filter has_some lines ≡ line ∷ filter has_some more
+some-line [] lines more e some = absurd (omega (arith, some))
+some-line (code ∷ line) lines more e some = ap (filter has_some) e
+
+pub empty-line : (line : List ℕ) (lines more : List (List ℕ)) → lines ≡ line ∷ more → length line ≡ 0 → filter has_some lines ≡ filter has_some more
+empty-line [] lines more e none = ap (filter has_some) e
+empty-line (code ∷ line) lines more e none = absurd (omega (arith, none))
+
+-- the first of the lines that are to come is short, and so are the others
+pub short-first : (line : List ℕ) (lines more : List (List ℕ)) → lines ≡ line ∷ more → All IsShort lines → IsShort line × All IsShort more
+short-first line lines more e short =
+    let both : All IsShort (line ∷ more) = subst (All IsShort) e short in
+    (All-head IsShort line more both, All-tail IsShort line more both)
+
+-- what was printed by then is that of the lines before the same ones
+pub same-passed : (text : List ℕ → List ℕ) (old new : Option (List ℕ)) (whole rest others : List (List ℕ)) → rest ≡ others
+    → HasPassed old new text whole rest → HasPassed old new text whole others
+same-passed text old new whole rest others e passed = subst (HasPassed old new text whole) e passed

@@ -1,0 +1,28 @@
+-- Worked rows: lines of texts, worked by hand.
+use Rattle.std.specs.Prelude.{◌≡◌, [], ◌∷◌, Some, None, refl, replicate}
+use Rattle.rows.specs.TextLines.{first_longer, row_lines, text_lines}
+
+-- a line ends at LF, which is no part of it, and a CR before that is
+pub two_lines : row_lines (97 ∷ 13 ∷ 10 ∷ 98 ∷ []) ≡ (97 ∷ 13 ∷ []) ∷ (98 ∷ []) ∷ []
+two_lines = refl
+
+-- the last line needs no LF, and one at the text's end begins no further line with a character
+pub ended_line : row_lines (97 ∷ 10 ∷ []) ≡ (97 ∷ []) ∷ []
+ended_line = refl
+
+-- lines without a character make no row, and are counted
+pub empty_lines : row_lines (10 ∷ 10 ∷ 97 ∷ []) ≡ (97 ∷ []) ∷ []
+empty_lines = refl
+
+pub lines_counted : text_lines (10 ∷ 10 ∷ 97 ∷ []) ≡ [] ∷ [] ∷ (97 ∷ []) ∷ []
+lines_counted = refl
+
+pub no_line : row_lines [] ≡ []
+no_line = refl
+
+-- 4,095 characters fit, and one more does not; lines are numbered from 1
+pub second_longer : first_longer 1 (replicate 4095 97 ∷ replicate 4096 97 ∷ []) ≡ Some 2
+second_longer = refl
+
+pub none_longer : first_longer 1 (replicate 4095 97 ∷ [] ∷ []) ≡ None
+none_longer = refl
