@@ -1,6 +1,6 @@
 -- The command line, as it is read: the command with its subcommands and arguments, and the request that the values of a
 -- subcommand make.
-use Rattle.std.specs.Prelude.{◌≡◌, ◌≢◌, ◌⊎◌, ℕ, List, [], ◌∷◌, Option, None, Some, Result, Ok, Err, IfOk, codes, map, option_map, unwrap_or, pos, true, false, if◌then◌else◌}
+use Rattle.std.specs.Prelude.{◌≡◌, ◌≢◌, ◌⊎◌, ℕ, List, [], ◌∷◌, Option, None, Some, Result, Ok, Err, IfOk, codes, map, option_map, unwrap_or, pos, Bool, true, false, if◌then◌else◌}
 use Rattle.std.specs.Borrow.{Bor}
 use Rattle.std.specs.declared.num.NonZeroU16.{NonZeroU16}
 use Rattle.std.specs.declared.num.ParseIntError.{ParseIntError}
@@ -16,15 +16,20 @@ use Rattle.clap.specs.declared.error.Error.{Error}
 use Rattle.clap.specs.declared.error.kind.ErrorKind.{ErrorKind}
 use Rattle.clap.specs.declared.error.kind.ErrorKind.TheVariants.{OutOfMemory}
 use Rattle.clap.specs.declared.builder.value_parser.ValueParser.TheVariants as parser
+use Rattle.clap.specs.declared.builder.action.ArgAction.TheVariants.{SetTrue}
+use Rattle.report.specs.declared.terms.Leniency.{Leniency}
+use Rattle.report.specs.declared.terms.Parts.TheVariants as parts
+use Rattle.report.specs.declared.terms.Positions.TheVariants as positions
 use Rattle.rows.specs.declared.form.Form.{Form}
 use Rattle.rows.specs.declared.form.Form.TheVariants.{Nest, Brackets, Marks, Numbers, Isolates, Separators}
 use Rattle.units.specs.declared.level.Direction.{Direction}
 use Rattle.units.specs.declared.level.Direction.TheVariants.{Auto, Ltr, Rtl, AutoRtl}
 use Rattle.bidtests.specs.VerdictText.{direction_word}
-use Rattle.command.specs.Refusals.{is_over_alphabet, refusal_without_request}
+use Rattle.command.specs.Refusals.{has_form_words, is_over_alphabet, refusal_without_request}
 use Rattle.command.specs.declared.refusal.NoRequest.{NoRequest}
 use Rattle.command.specs.declared.refusal.WordsFault.{WordsFault}
 use Rattle.command.specs.declared.refusal.WordsFault.TheVariants as fault
+use Rattle.requests.specs.declared.request.AskedLines.{AskedLines}
 use Rattle.requests.specs.declared.request.AskedRows.{AskedRows}
 use Rattle.requests.specs.declared.request.FileKind.{FileKind}
 use Rattle.requests.specs.declared.request.FileKind.TheVariants.{Classes, Characters}
@@ -81,16 +86,17 @@ codes_rule = option_rule (codes "codes")
 abbrev pub kind_rule : Choice → Rule
 kind_rule choice = record (option_rule (codes "kind")) { required = true; parser = Some (parser.Names choice) }
 
--- --kind of the file that rows make, which is `classes` where it is not given
+-- --kind of the file that rows make
 abbrev pub rows_kind_rule : Choice → Rule
-rows_kind_rule choice = record (option_rule (codes "kind")) {
-  defaults = codes "classes" ∷ [];
-  parser = Some (parser.Names choice);
-}
+rows_kind_rule choice = record (option_rule (codes "kind")) { parser = Some (parser.Names choice) }
 
 -- --form
 abbrev pub form_rule : Choice → Rule
-form_rule choice = record (option_rule (codes "form")) { required = true; parser = Some (parser.Names choice) }
+form_rule choice = record (option_rule (codes "form")) { parser = Some (parser.Names choice) }
+
+-- --of
+abbrev pub of_rule : Rule
+of_rule = option_rule (codes "of")
 
 -- --alphabet
 abbrev pub alphabet_rule : Rule
@@ -98,7 +104,7 @@ alphabet_rule = option_rule (codes "alphabet")
 
 -- --length
 abbrev pub length_rule : Rule
-length_rule = record (option_rule (codes "length")) { required = true }
+length_rule = option_rule (codes "length")
 
 -- --directions, which are `auto`, `ltr` and `rtl` where they are not given
 abbrev pub directions_rule : Rule
@@ -107,6 +113,10 @@ directions_rule = record (option_rule (codes "directions")) { defaults = codes "
 -- --most, --seed and --count, numbers of 64 bits
 abbrev pub number_rule : Text → Rule
 number_rule name = record (option_rule name) { parser = Some (parser.Unsigned 0 18446744073709551615) }
+
+-- --order and --shown, flags, which take no value
+abbrev pub flag_rule : Text → Rule
+flag_rule name = record (new_rule name) { long = Some name; action = Some SetTrue }
 
 abbrev pub not_required : Rule → Rule
 not_required rule = record rule { required = false }
@@ -125,9 +135,13 @@ explain_app directions =
 abbrev pub judge_app : Choice → App
 judge_app kinds = with_rule (with_rule (with_rule (new_app (codes "judge")) (kind_rule kinds)) tables_rule) file_rule
 
+-- with the flags that say what of a claim is compared
+abbrev pub with_leniency : App → App
+with_leniency app = with_rule (with_rule app (flag_rule (codes "order"))) (flag_rule (codes "shown"))
+
 abbrev pub report_app : Choice → App
 report_app kinds =
-    with_rule (with_rule (with_rule (with_rule (new_app (codes "report")) (kind_rule kinds)) tables_rule) (number_rule (codes "most"))) file_rule
+    with_rule (with_leniency (with_rule (with_rule (with_rule (new_app (codes "report")) (kind_rule kinds)) tables_rule) (number_rule (codes "most")))) file_rule
 
 -- the choices of `rows`: of forms, of kinds
 pub record RowChoices : Type 0 where
@@ -142,9 +156,12 @@ with_rows_kind c app = with_rule (with_rule (with_rule app (form_rule c.forms)) 
 abbrev pub with_rows_texts : App → App
 with_rows_texts app = with_rule (with_rule (with_rule app alphabet_rule) length_rule) directions_rule
 
+-- with which of them are drawn, and the text that may stand in the place of all these
+abbrev pub with_rows_which : App → App
+with_rows_which app = with_rule (with_rule (with_rule app (number_rule (codes "seed"))) (number_rule (codes "count"))) of_rule
+
 abbrev pub rows_app : RowChoices → App
-rows_app c =
-    with_rule (with_rule (with_rows_texts (with_rows_kind c (new_app (codes "rows")))) (number_rule (codes "seed"))) (number_rule (codes "count"))
+rows_app c = with_rows_which (with_rows_texts (with_rows_kind c (new_app (codes "rows"))))
 
 -- the words that name directions, kinds and forms
 abbrev pub direction_words : List Text
@@ -236,6 +253,18 @@ abbrev pub NumberIs : ℕ → Option Text → ℕ → Type 0
 NumberIs default None n = n ≡ default
 NumberIs default (Some text) n = (read : Option ℕ) × ReadsOne ReadsNumber text read × (n ≡ unwrap_or read default)
 
+-- a flag is given, by its value
+abbrev pub is_given : Option Text → Bool
+is_given None = false
+is_given (Some word) = bytes_eq word (codes "true")
+
+-- what of a claim a report compares: the order alone with --order, what is shown with --shown
+abbrev pub leniency_in : List Row → Leniency
+leniency_in rows = record {
+  parts = if is_given (first_of (codes "order") rows) then parts.OrderAlone else parts.All;
+  positions = if is_given (first_of (codes "shown") rows) then positions.Shown else positions.All;
+}
+
 -- the folder that tables come from, if they come from one
 abbrev pub folder_of : TableSource → Option Text
 folder_of (Folder folder) = Some folder.now
@@ -262,13 +291,27 @@ abbrev pub LettersAre : List Row → RowLetters → Type 0
 LettersAre rows (Alphabet word) = (is_over_alphabet (first_of (codes "form") rows) ≡ true) × (first_of (codes "alphabet") rows ≡ Some word.now)
 LettersAre rows (OfForm form) = (first_of (codes "form") rows ≡ Some (form_word form)) × (first_of (codes "alphabet") rows ≡ None)
 
--- the rows that the values ask for
+-- the kind of the file of rows: the one that the values name, or where they name none this one
+abbrev pub rows_kind : FileKind → List Row → FileKind
+rows_kind default rows = unwrap_or (kind_named (first_of (codes "kind") rows)) default
+
+-- the rows that the values ask for, of classes where no kind is named
 pub record AsksForRows (rows : List Row) (asked : AskedRows) : Type 0 where
-  pub kind : kind_named (first_of (codes "kind") rows) ≡ Some asked.kind
+  pub of : first_of (codes "of") rows ≡ None
+  pub kind : asked.kind ≡ rows_kind Classes rows
   pub tables : first_of (codes "tables") rows ≡ folder_of asked.tables
   pub letters : LettersAre rows asked.letters
   pub form : FormIs rows asked.form
   pub lengths : first_of (codes "length") rows ≡ Some asked.lengths.now
+  pub directions : first_of (codes "directions") rows ≡ Some asked.directions.now
+
+-- the text whose lines the values ask for as rows, of characters where no kind is named, and nothing that says texts of a
+-- form
+pub record AsksForLines (rows : List Row) (asked : AskedLines) : Type 0 where
+  pub of : first_of (codes "of") rows ≡ Some asked.file.now
+  pub alone : has_form_words rows ≡ false
+  pub kind : asked.kind ≡ rows_kind Characters rows
+  pub tables : first_of (codes "tables") rows ≡ folder_of asked.tables
   pub directions : first_of (codes "directions") rows ≡ Some asked.directions.now
 
 -- the subcommand of this name prints this of a text, by these values
@@ -291,10 +334,12 @@ AsksFor name rows (requested.ExplainCodes said tables direction) = (name ≡ cod
 AsksFor name rows (requested.Judge kind tables file) = (name ≡ codes "judge")
     × (kind_named (first_of (codes "kind") rows) ≡ Some kind) × (first_of (codes "tables") rows ≡ option_map (λ folder. folder.now) tables)
     × (first_of (codes "file") rows ≡ Some file.now)
-AsksFor name rows (requested.Report kind tables file most) = (name ≡ codes "report")
+AsksFor name rows (requested.Report kind tables file options) = (name ≡ codes "report")
     × (kind_named (first_of (codes "kind") rows) ≡ Some kind) × (first_of (codes "tables") rows ≡ option_map (λ folder. folder.now) tables)
-    × (first_of (codes "file") rows ≡ Some file.now) × NumberIs 20 (one_of (codes "most") rows) most
+    × (first_of (codes "file") rows ≡ Some file.now) × NumberIs 20 (one_of (codes "most") rows) options.most
+    × (options.leniency ≡ leniency_in rows)
 AsksFor name rows (requested.Rows asked) = (name ≡ codes "rows") × AsksForRows rows asked
+AsksFor name rows (requested.RowsOf asked) = (name ≡ codes "rows") × AsksForLines rows asked
 
 -- the subcommand that was met makes this request
 abbrev pub IsAskedBy : Option (Text × List Row) → Request → Type 0

@@ -1,11 +1,11 @@
 -- Why words that `clap` lets pass make no request, and what a user is told then.
-use Rattle.std.specs.Prelude.{◌&&◌, ◌||◌, Bool, false, ℕ, List, [], ◌∷◌, Option, None, Some, is_some, codes, if◌then◌else◌}
+use Rattle.std.specs.Prelude.{◌&&◌, ◌||◌, Bool, false, ℕ, List, [], ◌∷◌, Option, None, Some, is_some, not, codes, if◌then◌else◌}
 use Rattle.std.specs.List.{concat}
 use Rattle.std.specs.Str.{bytes_eq}
 use Rattle.clap.specs.Walk.{Row, Text, first_of}
 use Rattle.command.specs.declared.help.TheConstants.{BIDI_USAGE, EXPLAIN_USAGE, ROWS_USAGE}
 use Rattle.command.specs.declared.refusal.NoRequest.{NoRequest}
-use Rattle.command.specs.declared.refusal.NoRequest.TheVariants.{ClassesAndText, CodesAndText, NoText, NoAlphabet, AlphabetAndForm, NoSubcommand}
+use Rattle.command.specs.declared.refusal.NoRequest.TheVariants.{ClassesAndText, CodesAndText, NoText, TextAndForm, NoForm, NoLength, NoAlphabet, AlphabetAndForm, NoSubcommand}
 
 -- classes are given, and a text or tables beside them
 abbrev pub has_classes_and_text : List Row → Bool
@@ -31,9 +31,23 @@ abbrev pub is_over_alphabet : Option Text → Bool
 is_over_alphabet None = false
 is_over_alphabet (Some form) = takes_alphabet form
 
--- of `rows`: an alphabet is required where the form takes one, and excluded where it does not
+-- something is given that says which texts of a form rows have
+abbrev pub has_form_words : List Row → Bool
+has_form_words rows =
+    is_some (first_of (codes "form") rows) || (is_some (first_of (codes "alphabet") rows) || (is_some (first_of (codes "length") rows)
+    || (is_some (first_of (codes "seed") rows) || is_some (first_of (codes "count") rows))))
+
+-- of `rows` with a form: lengths are required, and an alphabet is where the form takes one, and excluded where it does not
+abbrev pub form_refusal : List Row → NoRequest
+form_refusal rows =
+    if not (is_some (first_of (codes "length") rows)) then NoLength
+    else (if is_over_alphabet (first_of (codes "form") rows) then NoAlphabet else AlphabetAndForm)
+
+-- of `rows`: a text and what says texts of a form exclude each other, and a text or a form is required
 abbrev pub rows_refusal : List Row → NoRequest
-rows_refusal rows = if is_over_alphabet (first_of (codes "form") rows) then NoAlphabet else AlphabetAndForm
+rows_refusal rows =
+    if is_some (first_of (codes "of") rows) then TextAndForm
+    else (if is_some (first_of (codes "form") rows) then form_refusal rows else NoForm)
 
 -- where the subcommand of this name makes no request of these values
 abbrev pub refusal_in_subcommand : Text → List Row → NoRequest
@@ -50,6 +64,9 @@ abbrev pub words_without_request : NoRequest → List ℕ
 words_without_request ClassesAndText = codes "the argument '--classes <CLASSES>' cannot be used with '--tables <DIR>' or '<FILE>'"
 words_without_request CodesAndText = codes "the argument '--codes <CODES>' cannot be used with '--classes <CLASSES>' or '<FILE>'"
 words_without_request NoText = codes "'<FILE>' is required, or '--codes <CODES>', or '--classes <CLASSES>'"
+words_without_request TextAndForm = codes "the argument '--of <FILE>' cannot be used with '--form <FORM>', '--alphabet <LETTERS>', '--length <LENGTHS>', '--seed <N>' or '--count <N>'"
+words_without_request NoForm = codes "'--form <FORM>' is required, or '--of <FILE>'"
+words_without_request NoLength = codes "the argument '--length <LENGTHS>' is required with '--form <FORM>'"
 words_without_request NoAlphabet = codes "the argument '--alphabet <LETTERS>' is required with '--form exhaustive' and '--form random'"
 words_without_request AlphabetAndForm = codes "the argument '--alphabet <LETTERS>' can be used only with '--form exhaustive' and '--form random'"
 words_without_request NoSubcommand = codes "a subcommand is needed"
@@ -59,6 +76,9 @@ abbrev pub usage_without_request : NoRequest → List ℕ
 usage_without_request ClassesAndText = EXPLAIN_USAGE.now
 usage_without_request CodesAndText = EXPLAIN_USAGE.now
 usage_without_request NoText = EXPLAIN_USAGE.now
+usage_without_request TextAndForm = ROWS_USAGE.now
+usage_without_request NoForm = ROWS_USAGE.now
+usage_without_request NoLength = ROWS_USAGE.now
 usage_without_request NoAlphabet = ROWS_USAGE.now
 usage_without_request AlphabetAndForm = ROWS_USAGE.now
 usage_without_request NoSubcommand = BIDI_USAGE.now

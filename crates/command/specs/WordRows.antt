@@ -4,14 +4,17 @@ use Rattle.clap.proofs.OnLiterals.{clap_on_literals}
 use Rattle.clap.specs.Faults.{fault_of}
 use Rattle.clap.specs.Simple.{subcommand_of}
 use Rattle.clap.specs.Walk.{Row, Text, first_of, one_of}
-use Rattle.clap.specs.declared.error.kind.ErrorKind.TheVariants.{DisplayVersion, InvalidValue}
+use Rattle.clap.specs.declared.error.kind.ErrorKind.TheVariants.{DisplayVersion, InvalidValue, TooManyValues}
+use Rattle.report.specs.ReadClaims.{strict}
+use Rattle.report.specs.declared.terms.Parts.TheVariants as parts
+use Rattle.report.specs.declared.terms.Positions.TheVariants as positions
 use Rattle.units.specs.declared.level.Direction.{Direction}
 use Rattle.units.specs.declared.level.Direction.TheVariants.{Auto, Rtl}
-use Rattle.command.specs.CommandLine.{Choices, bidi_app, direction_named, kind_named}
+use Rattle.command.specs.CommandLine.{Choices, bidi_app, direction_named, kind_named, leniency_in, rows_kind}
 use Rattle.command.specs.Refusals.{refusal_without_request}
-use Rattle.command.specs.declared.refusal.NoRequest.TheVariants.{AlphabetAndForm, ClassesAndText, CodesAndText, NoAlphabet, NoText}
+use Rattle.command.specs.declared.refusal.NoRequest.TheVariants.{AlphabetAndForm, ClassesAndText, CodesAndText, NoAlphabet, NoForm, NoLength, NoText, TextAndForm}
 use Rattle.requests.specs.declared.request.FileKind.{FileKind}
-use Rattle.requests.specs.declared.request.FileKind.TheVariants.{Classes, Characters}
+use Rattle.requests.specs.declared.request.FileKind.TheVariants.{Characters}
 
 -- a subcommand, with its folder, classes, code points, direction, text of columns, kind and file
 pub record Met : Type 0 where
@@ -138,6 +141,24 @@ pub report_default_words : (c : Choices) → option_map report_met (subcommand_o
 unfolding clap_on_literals
 report_default_words c = refl
 
+-- what of each claim is compared: all of it where no flag is given, and with two flags the order of what is shown
+pub report_strict_words : (c : Choices) → option_map (λ p. leniency_in p.1) (subcommand_of (bidi_app c)
+    (codes "bidi" ∷ codes "report" ∷ codes "--kind" ∷ codes "classes" ∷ codes "FILE" ∷ [])) ≡ Some strict
+unfolding clap_on_literals
+report_strict_words c = refl
+
+pub report_lenient_words : (c : Choices) → option_map (λ p. leniency_in p.1) (subcommand_of (bidi_app c)
+    (codes "bidi" ∷ codes "report" ∷ codes "--shown" ∷ codes "--kind" ∷ codes "classes" ∷ codes "--order" ∷ codes "FILE" ∷ []))
+    ≡ Some (record { parts = parts.OrderAlone; positions = positions.Shown })
+unfolding clap_on_literals
+report_lenient_words c = refl
+
+-- a flag takes no value
+pub report_flag_value_words : (c : Choices) → fault_of (bidi_app c)
+    (codes "bidi" ∷ codes "report" ∷ codes "--kind" ∷ codes "classes" ∷ codes "--order=true" ∷ codes "FILE" ∷ []) ≡ TooManyValues ∷ []
+unfolding clap_on_literals
+report_flag_value_words c = refl
+
 -- what is explained of a text by tables of a folder
 pub explain_words : (c : Choices) → option_map met (subcommand_of (bidi_app c)
     (codes "bidi" ∷ codes "explain" ∷ codes "--tables" ∷ codes "t" ∷ codes "FILE" ∷ [])) ≡ Some (record {
@@ -214,7 +235,7 @@ pub explain_codes_and_classes_words : (c : Choices) → refusal_without_request 
 unfolding clap_on_literals
 explain_codes_and_classes_words c = refl
 
--- rows: their form, kind, alphabet, lengths and directions; they are of classes under three directions where none are given
+-- rows: their form, kind, alphabet, lengths and directions, which are three where none are given
 pub record RowsMet : Type 0 where
   pub form : Option Text
   pub kind : Option FileKind
@@ -234,7 +255,7 @@ rows_met p = record {
 pub rows_words : (c : Choices) → option_map rows_met (subcommand_of (bidi_app c)
     (codes "bidi" ∷ codes "rows" ∷ codes "--form" ∷ codes "exhaustive" ∷ codes "--alphabet" ∷ codes "R ON L" ∷ codes "--length=1..3" ∷ [])) ≡ Some (record {
       form = Some (codes "exhaustive");
-      kind = Some Classes;
+      kind = None;
       alphabet = Some (codes "R ON L");
       lengths = Some (codes "1..3");
       directions = Some (codes "auto ltr rtl");
@@ -264,3 +285,29 @@ pub rows_with_two_letters_words : (c : Choices) → refusal_without_request (sub
     (codes "bidi" ∷ codes "rows" ∷ codes "--form" ∷ codes "nest" ∷ codes "--alphabet" ∷ codes "L" ∷ codes "--length" ∷ codes "1" ∷ [])) ≡ AlphabetAndForm
 unfolding clap_on_literals
 rows_with_two_letters_words c = refl
+
+-- rows of the lines of a text, and the kind that they are of where none is named
+pub text_rows_words : (c : Choices) → option_map (λ p. first_of (codes "of") p.1) (subcommand_of (bidi_app c)
+    (codes "bidi" ∷ codes "rows" ∷ codes "--of" ∷ codes "-" ∷ [])) ≡ Some (Some (codes "-"))
+unfolding clap_on_literals
+text_rows_words c = refl
+
+pub text_rows_kind : (c : Choices) → option_map (λ p. rows_kind Characters p.1) (subcommand_of (bidi_app c)
+    (codes "bidi" ∷ codes "rows" ∷ codes "--of" ∷ codes "-" ∷ [])) ≡ Some Characters
+unfolding clap_on_literals
+text_rows_kind c = refl
+
+-- a text beside a form, neither of them, and a form without lengths: no request, and the reason for that
+pub rows_of_text_and_form_words : (c : Choices) → refusal_without_request (subcommand_of (bidi_app c)
+    (codes "bidi" ∷ codes "rows" ∷ codes "--of" ∷ codes "t" ∷ codes "--seed" ∷ codes "1" ∷ [])) ≡ TextAndForm
+unfolding clap_on_literals
+rows_of_text_and_form_words c = refl
+
+pub rows_of_nothing_words : (c : Choices) → refusal_without_request (subcommand_of (bidi_app c) (codes "bidi" ∷ codes "rows" ∷ [])) ≡ NoForm
+unfolding clap_on_literals
+rows_of_nothing_words c = refl
+
+pub rows_without_length_words : (c : Choices) → refusal_without_request (subcommand_of (bidi_app c)
+    (codes "bidi" ∷ codes "rows" ∷ codes "--form" ∷ codes "nest" ∷ [])) ≡ NoLength
+unfolding clap_on_literals
+rows_without_length_words c = refl

@@ -2,11 +2,12 @@
 ghost use Rattle.std.specs.Prelude.{◌≡◌, false};
 ghost use Rattle.clap.specs.Walk.{rule_of};
 ghost use Rattle.command.specs.CommandLine.{Choice, alphabet_rule, classes_rule, codes_rule, columns_rule, direction_rule};
-ghost use Rattle.command.specs.CommandLine.{direction_words, directions_rule, file_rule, form_rule, form_words, kind_rule};
-ghost use Rattle.command.specs.CommandLine.{kind_words, length_rule, number_rule, rows_kind_rule, tables_rule, words_of};
+ghost use Rattle.command.specs.CommandLine.{direction_words, directions_rule, file_rule, flag_rule, form_rule};
+ghost use Rattle.command.specs.CommandLine.{form_words, kind_rule, kind_words, length_rule, number_rule, of_rule};
+ghost use Rattle.command.specs.CommandLine.{rows_kind_rule, tables_rule, words_of};
 
-use clap::Arg;
 use clap::builder::ValueParser;
+use clap::{Arg, ArgAction};
 use std::alloc::Global;
 
 const DIRECTIONS: [&str; 4] = ["auto", "ltr", "rtl", "auto-rtl"];
@@ -98,7 +99,7 @@ pub fn codes_argument<'a>(alloc: Global) -> Arg<'a>
         .help("Code points in hex digits, with blanks between them, in the place of a text")
 }
 
-/// `--form`, which is required.
+/// `--form`, which may be left out.
 pub fn form_argument<'a>(alloc: Global) -> Arg<'a>
     ensures rule { (choice : Choice) × (words_of choice ≡ form_words)
         × (rule_of result ≡ form_rule choice) }
@@ -107,13 +108,22 @@ pub fn form_argument<'a>(alloc: Global) -> Arg<'a>
     Arg::new(alloc, "form")
         .long("form")
         .value_name("FORM")
-        .required(true)
         .value_parser(FORMS.as_slice())
         .help(
             "Which texts the rows have: with `exhaustive` all of these lengths over the alphabet, \
              with `random` as many as --count says, drawn from it by --seed; with each other form \
              as many, drawn from letters of its own",
         )
+}
+
+/// `--of FILE`, which may be left out.
+pub fn of_argument<'a>(alloc: Global) -> Arg<'a>
+    ensures rule { rule_of result ≡ of_rule }
+    ensures local { result.global ≡ false }
+{
+    Arg::new(alloc, "of").long("of").value_name("FILE").help(
+        "The text whose lines the rows have, or `-` for standard input, in the place of texts of a form",
+    )
 }
 
 /// `--alphabet LETTERS`, which may be left out.
@@ -130,7 +140,7 @@ pub fn alphabet_argument<'a>(alloc: Global) -> Arg<'a>
         )
 }
 
-/// `--length LENGTHS`, which is required.
+/// `--length LENGTHS`, which may be left out.
 pub fn length_argument<'a>(alloc: Global) -> Arg<'a>
     ensures rule { rule_of result ≡ length_rule }
     ensures local { result.global ≡ false }
@@ -138,7 +148,6 @@ pub fn length_argument<'a>(alloc: Global) -> Arg<'a>
     Arg::new(alloc, "length")
         .long("length")
         .value_name("LENGTHS")
-        .required(true)
         .help("The lengths of the texts, 1 to 4095: `N`, or `A..B` for all from A up to B")
 }
 
@@ -168,6 +177,17 @@ pub fn number_argument<'a>(alloc: Global, name: &'a str, help: &'a str) -> Arg<'
         .help(help)
 }
 
+/// A flag of this name, with this help.
+pub fn flag_argument<'a>(alloc: Global, name: &'a str, help: &'a str) -> Arg<'a>
+    ensures rule { rule_of result ≡ flag_rule name.now }
+    ensures local { result.global ≡ false }
+{
+    Arg::new(alloc, name)
+        .long(name)
+        .action(ArgAction::SetTrue)
+        .help(help)
+}
+
 /// `--kind`, which is required.
 pub fn kind_argument<'a>(alloc: Global) -> Arg<'a>
     ensures rule { (choice : Choice) × (words_of choice ≡ kind_words)
@@ -184,7 +204,7 @@ pub fn kind_argument<'a>(alloc: Global) -> Arg<'a>
         )
 }
 
-/// `--kind` of the file that rows make, which is `classes` where it is left out.
+/// `--kind` of the file that rows make, which may be left out.
 pub fn rows_kind_argument<'a>(alloc: Global) -> Arg<'a>
     ensures rule { (choice : Choice) × (words_of choice ≡ kind_words)
         × (rule_of result ≡ rows_kind_rule choice) }
@@ -193,7 +213,9 @@ pub fn rows_kind_argument<'a>(alloc: Global) -> Arg<'a>
     Arg::new(alloc, "kind")
         .long("kind")
         .value_name("KIND")
-        .default_value("classes")
         .value_parser(KINDS.as_slice())
-        .help("The file's form: that of BidiTest.txt, or that of BidiCharacterTest.txt")
+        .help(
+            "The file's form: that of BidiTest.txt, or that of BidiCharacterTest.txt, which holds with --of \
+             where it is left out",
+        )
 }

@@ -9,8 +9,8 @@ ghost use Rattle.command.specs.CommandLine.{rows_app, words_of};
 
 use crate::arguments::{
     alphabet_argument, classes_argument, codes_argument, columns_argument, direction_argument,
-    directions_argument, file_argument, form_argument, kind_argument, length_argument,
-    number_argument, rows_kind_argument, tables_argument,
+    directions_argument, file_argument, flag_argument, form_argument, kind_argument,
+    length_argument, number_argument, of_argument, rows_kind_argument, tables_argument,
 };
 use crate::help;
 use clap::Command;
@@ -90,17 +90,20 @@ fn report_command<'a>(alloc: Global) -> Result<Command<'a>, AllocError>
         .arg(kind_argument(alloc))?
         .arg(tables_argument(alloc, help::JUDGE_TABLES_HELP))?
         .arg(number_argument(alloc, "most", help::REPORT_MOST_HELP))?
+        .arg(flag_argument(alloc, "order", help::REPORT_ORDER_HELP))?
+        .arg(flag_argument(alloc, "shown", help::REPORT_SHOWN_HELP))?
         .arg(file_argument(alloc))
 }
 
-/// The subcommand `rows`. By `clap` alone the alphabet may be left out: which forms take one is told by these.
+/// The subcommand `rows`. By `clap` alone all of its arguments may be left out or stand together: which of them make a
+/// request is told by these.
 fn rows_command<'a>(alloc: Global) -> Result<Command<'a>, AllocError>
     ensures app { IfOk result (λ command. (choices : RowChoices) × HasRowWords choices
         × (app_of command ≡ rows_app choices)) }
     ensures local { IfOk result (λ command. (fields_of command).has_globals ≡ false) }
 {
     Command::new(alloc, "rows")
-        .about("Prints a conformance file of hard texts, with right answers")
+        .about("Prints a conformance file of hard texts or of a text's lines, with right answers")
         .long_about(help::ROWS_LONG_ABOUT)
         .after_help(help::ROWS_EXAMPLE)
         .override_usage(help::ROWS_USAGE)
@@ -111,7 +114,8 @@ fn rows_command<'a>(alloc: Global) -> Result<Command<'a>, AllocError>
         .arg(length_argument(alloc))?
         .arg(directions_argument(alloc))?
         .arg(number_argument(alloc, "seed", help::ROWS_SEED_HELP))?
-        .arg(number_argument(alloc, "count", help::ROWS_COUNT_HELP))
+        .arg(number_argument(alloc, "count", help::ROWS_COUNT_HELP))?
+        .arg(of_argument(alloc))
 }
 
 /// The command `bidi` without its subcommands, of which one is needed.

@@ -120,17 +120,28 @@ place that differs, and what is claimed and what is defined there. It goes on up
 end of the file or the first malformed line, which it names as judge does, and then prints
 how many rows and cases there are, and how many are wrong, by direction and by place.
 
-Ends with status 0 where judge says yes, 1 where it says no, 2 where the command line is
-refused or `--tables` is needed, and 3 where a file can't be read, a line of a table is
-faulty, a write fails or memory is refused.";
+With --order or --shown less of each claim is compared, for an engine that says no levels,
+or one that keeps the positions that X9 removes, as the standard allows (UAX #9, 5.2).
+
+Ends with status 0 where no line is malformed and no case wrong, as judge says yes, 1 where
+one is, 2 where the command line is refused or `--tables` is needed, and 3 where a file
+can't be read, a line of a table is faulty, a write fails or memory is refused.";
 
 /// What `--most` says.
 pub const REPORT_MOST_HELP: &str =
     "How many wrong cases are printed at most, 20 where it is left out; all are counted";
 
+/// What `--order` says.
+pub const REPORT_ORDER_HELP: &str = "Compares the order alone: no paragraph level, and no levels";
+
+/// What `--shown` says.
+pub const REPORT_SHOWN_HELP: &str =
+    "Compares what is shown: levels and order without the positions that X9 removes";
+
 /// What stands at the end of the help of `report`.
 pub const REPORT_EXAMPLE: &str = "Examples:
   bidi report --kind classes --most 100 rows.txt
+  bidi report --kind classes --shown --order rows.txt
   bidi report --kind characters --tables ucd BidiCharacterTest.txt";
 
 /// What `rows` prints, and with which status it ends.
@@ -145,6 +156,10 @@ isolates, `numbers` numbers and what stands between them, `isolates` isolates, `
 separators and white space. A long text of `nest` passes the greatest depth, and one of
 `brackets` the most that can be open.
 
+With --of its texts are the lines of a text, in UTF-8: a line ends at LF, which is no part
+of it, and one without a character makes no row. They are rows of characters, unless
+`--kind classes` is given, which loses the brackets.
+
 Each text stands under each of the directions. With `--kind classes` it is three lines there,
 its levels, its order, and a row that names this direction, with `--kind characters` one row.
 
@@ -152,12 +167,14 @@ Ends with status 0, 2 where the command line is refused, --alphabet has a name o
 an item that is no code point, there is no letter, --length is no range of lengths,
 --directions names none or what is none, all texts are asked for and there are 2^64 of a
 length or more, or texts are to be drawn and --length ends before it begins, and 3 where a
-file can't be read, a line of a table is faulty, a write fails or memory is refused.";
+file can't be read, a line of a table is faulty, the text is not UTF-8 or has a line of more
+than 4095 characters, a write fails or memory is refused.";
 
 /// How `rows` is called.
 pub const ROWS_USAGE: &str =
     "bidi rows [OPTIONS] --form exhaustive|random --alphabet <LETTERS> --length <LENGTHS>
-       bidi rows [OPTIONS] --form <FORM> --length <LENGTHS>";
+       bidi rows [OPTIONS] --form <FORM> --length <LENGTHS>
+       bidi rows [OPTIONS] --of <FILE>";
 
 /// What `--seed` says, and of which rows.
 pub const ROWS_SEED_HELP: &str = "The seed by which texts are drawn, 0 where it is left out";
@@ -170,4 +187,5 @@ pub const ROWS_EXAMPLE: &str = "Examples:
   bidi rows --form exhaustive --alphabet 'LRO RLE L PDF PDI RLO' --length 1..4
   bidi rows --form random --seed 1 --count 5000 --alphabet 'L R AL AN NSM' --length 1..40
   bidi rows --form nest --length 1..600 --directions 'ltr rtl'
-  bidi rows --form brackets --kind characters --length 1..900";
+  bidi rows --form brackets --kind characters --length 1..900
+  bidi rows --of text.txt --directions 'ltr rtl'";

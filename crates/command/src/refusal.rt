@@ -15,6 +15,12 @@ pub enum NoRequest {
     CodesAndText,
     /// `explain` is given neither a text nor code points nor classes.
     NoText,
+    /// `rows` is given a text, and beside it what says texts of a form.
+    TextAndForm,
+    /// `rows` is given neither a form nor a text.
+    NoForm,
+    /// `rows` is given a form and no lengths.
+    NoLength,
     /// `rows` is given no alphabet, and its form takes one.
     NoAlphabet,
     /// `rows` is given an alphabet, and its form has letters of its own.
@@ -37,6 +43,14 @@ impl NoRequest {
             }
             NoRequest::NoText =>
                 "'<FILE>' is required, or '--codes <CODES>', or '--classes <CLASSES>'",
+            NoRequest::TextAndForm => {
+                "the argument '--of <FILE>' cannot be used with '--form <FORM>', '--alphabet <LETTERS>', \
+                 '--length <LENGTHS>', '--seed <N>' or '--count <N>'"
+            }
+            NoRequest::NoForm => "'--form <FORM>' is required, or '--of <FILE>'",
+            NoRequest::NoLength => {
+                "the argument '--length <LENGTHS>' is required with '--form <FORM>'"
+            }
             NoRequest::NoAlphabet => {
                 "the argument '--alphabet <LETTERS>' is required with '--form exhaustive' and '--form random'"
             }
@@ -55,6 +69,7 @@ impl NoRequest {
             NoRequest::ClassesAndText | NoRequest::CodesAndText | NoRequest::NoText => {
                 EXPLAIN_USAGE
             }
+            NoRequest::TextAndForm | NoRequest::NoForm | NoRequest::NoLength => ROWS_USAGE,
             NoRequest::NoAlphabet | NoRequest::AlphabetAndForm => ROWS_USAGE,
             NoRequest::NoSubcommand => BIDI_USAGE,
         }

@@ -1,13 +1,16 @@
 // What the words of a command line ask for.
-ghost use Rattle.std.specs.Prelude.{◌≡◌, ◌≢◌, codes, option_map, IfOk, IfErr, IfSome, IfNone, is_some};
+ghost use Rattle.std.specs.Prelude.{◌≡◌, ◌≢◌, codes, option_map, IfOk, IfErr, IfSome, IfNone, None, Some, is_some};
 ghost use Rattle.clap.specs.Matches.{found_of};
 ghost use Rattle.clap.specs.Simple.{subcommand_rows_of};
 ghost use Rattle.clap.specs.Walk.{first_of, one_of, rows_of, texts};
 ghost use Rattle.command.specs.CommandLine.{AsksFor, ColumnsAre, HasMet, IsAskedBy, IsReadAs, IsRefusedByClap, MakesNone};
 ghost use Rattle.command.specs.CommandLine.{FormIs, LettersAre, NumberIs, direction_named, folder_of, form_word};
-ghost use Rattle.command.specs.CommandLine.{kind_named};
+ghost use Rattle.command.specs.CommandLine.{AsksForLines, AsksForRows, is_given, kind_named, leniency_in, rows_kind};
 ghost use Rattle.command.specs.Refusals.{explain_refusal, has_classes_and_text, has_codes_and_text, is_over_alphabet};
-ghost use Rattle.command.specs.Refusals.{refusal_in_subcommand, refusal_without_request, rows_refusal};
+ghost use Rattle.command.specs.Refusals.{form_refusal, has_form_words, refusal_in_subcommand, refusal_without_request};
+ghost use Rattle.command.specs.Refusals.{rows_refusal};
+ghost use Rattle.requests.specs.declared.request.AskedLines.{AskedLines as AskedLinesOf};
+ghost use Rattle.requests.specs.declared.request.AskedRows.{AskedRows as AskedRowsOf};
 ghost use Rattle.requests.specs.declared.request.Request.{Request as RequestOf};
 ghost use Rattle.requests.specs.declared.request.RowLetters.{RowLetters as LettersOf};
 ghost use Rattle.rows.specs.declared.form.Form.{Form as HardForm};
@@ -15,7 +18,11 @@ ghost use Rattle.rows.specs.declared.form.Form.{Form as HardForm};
 use crate::command_line::bidi_command;
 use crate::refusal::{NoRequest, WordsFault};
 use clap::{ArgMatches, Error};
-use requests::request::{AskedRows, FileKind, Print, Request, RowLetters, RowsForm, TableSource};
+use report::terms::{Leniency, Parts, Positions};
+use requests::request::{
+    AskedLines, AskedRows, FileKind, Print, ReportOptions, Request, RowLetters, RowsForm,
+    TableSource,
+};
 use rows::form::Form;
 use std::alloc::Global;
 use std::num::NonZeroU16;
@@ -150,18 +157,49 @@ fn judge_in<'a>(matches: &ArgMatches<'a>) -> Option<Request<'a>>
     })
 }
 
+/// Whether a flag is given.
+fn has_flag(matches: &ArgMatches<'_>, id: &str) -> bool
+    ensures { result ≡ is_given (first_of id.now (rows_of (found_of matches.now))) }
+{
+    match text_of(matches, id) {
+        Some("true") => true,
+        _ => false,
+    }
+}
+
+/// What of a claim `report` compares.
+fn leniency_in(matches: &ArgMatches<'_>) -> Leniency
+    ensures { result ≡ leniency_in (rows_of (found_of matches.now)) }
+{
+    Leniency {
+        parts: if has_flag(matches, "order") {
+            Parts::OrderAlone
+        } else {
+            Parts::All
+        },
+        positions: if has_flag(matches, "shown") {
+            Positions::Shown
+        } else {
+            Positions::All
+        },
+    }
+}
+
 /// What `report` asks for, by its arguments.
 fn report_in<'a>(matches: &ArgMatches<'a>) -> Option<Request<'a>>
     ensures some { IfSome result (AsksFor (codes "report") (rows_of (found_of matches.now))) }
     ensures none { IfNone result ((request : RequestOf)
         → ¬ (AsksFor (codes "report") (rows_of (found_of matches.now)) request)) }
 {
-    let most = number_in(matches, "most", 20);
+    let options = ReportOptions {
+        most: number_in(matches, "most", 20),
+        leniency: leniency_in(matches),
+    };
     Some(Request::Report {
         kind: kind_in(matches)?,
         tables: text_of(matches, "tables"),
         file: text_of(matches, "file")?,
-        most,
+        options,
     })
 }
 
@@ -217,20 +255,67 @@ fn letters_in<'a>(matches: &ArgMatches<'a>) -> Option<RowLetters<'a>>
     }
 }
 
-/// What `rows` asks for, by its arguments.
-fn rows_in<'a>(matches: &ArgMatches<'a>) -> Option<Request<'a>>
-    ensures some { IfSome result (AsksFor (codes "rows") (rows_of (found_of matches.now))) }
-    ensures none { IfNone result ((request : RequestOf)
-        → ¬ (AsksFor (codes "rows") (rows_of (found_of matches.now)) request)) }
+/// The kind of the file that rows make: the one that is named, or else this one.
+fn rows_kind_in(matches: &ArgMatches<'_>, default: FileKind) -> FileKind
+    ensures { result ≡ rows_kind default (rows_of (found_of matches.now)) }
 {
-    Some(Request::Rows(AskedRows {
-        kind: kind_in(matches)?,
+    kind_in(matches).unwrap_or(default)
+}
+
+/// The rows of a form that `rows` asks for, by its arguments.
+fn form_rows_in<'a>(matches: &ArgMatches<'a>) -> Option<AskedRows<'a>>
+    requires { first_of (codes "of") (rows_of (found_of matches.now)) ≡ None }
+    ensures some { IfSome result (AsksForRows (rows_of (found_of matches.now))) }
+    ensures none { IfNone result ((asked : AskedRowsOf) → ¬ (AsksForRows (rows_of (found_of matches.now)) asked)) }
+{
+    Some(AskedRows {
+        kind: rows_kind_in(matches, FileKind::Classes),
         tables: tables_in(matches),
         letters: letters_in(matches)?,
         form: form_in(matches),
         lengths: text_of(matches, "length")?,
         directions: text_of(matches, "directions")?,
-    }))
+    })
+}
+
+/// Whether `rows` is given something that says which texts of a form it is to print.
+fn has_form_words(matches: &ArgMatches<'_>) -> bool
+    ensures { result ≡ has_form_words (rows_of (found_of matches.now)) }
+{
+    has_value(matches, "form")
+        || has_value(matches, "alphabet")
+        || has_value(matches, "length")
+        || has_value(matches, "seed")
+        || has_value(matches, "count")
+}
+
+/// The lines of a text that `rows` asks for, by its arguments.
+fn text_rows_in<'a>(matches: &ArgMatches<'a>, file: &'a str) -> Option<AskedLines<'a>>
+    requires { first_of (codes "of") (rows_of (found_of matches.now)) ≡ Some file.now }
+    ensures some { IfSome result (AsksForLines (rows_of (found_of matches.now))) }
+    ensures none { IfNone result ((asked : AskedLinesOf) → ¬ (AsksForLines (rows_of (found_of matches.now)) asked)) }
+{
+    if has_form_words(matches) {
+        return None;
+    }
+    Some(AskedLines {
+        kind: rows_kind_in(matches, FileKind::Characters),
+        tables: tables_in(matches),
+        file,
+        directions: text_of(matches, "directions")?,
+    })
+}
+
+/// What `rows` asks for, by its arguments: the lines of a text, or rows of a form.
+fn rows_in<'a>(matches: &ArgMatches<'a>) -> Option<Request<'a>>
+    ensures some { IfSome result (AsksFor (codes "rows") (rows_of (found_of matches.now))) }
+    ensures none { IfNone result ((request : RequestOf)
+        → ¬ (AsksFor (codes "rows") (rows_of (found_of matches.now)) request)) }
+{
+    match text_of(matches, "of") {
+        Some(file) => Some(Request::RowsOf(text_rows_in(matches, file)?)),
+        None => Some(Request::Rows(form_rows_in(matches)?)),
+    }
 }
 
 /// What a subcommand of this name asks for, by its arguments.
@@ -287,14 +372,29 @@ fn explain_refusal(matches: &ArgMatches<'_>) -> NoRequest
     }
 }
 
+/// Why `rows` makes no request of its arguments, with a form.
+fn form_refusal(matches: &ArgMatches<'_>) -> NoRequest
+    ensures { result ≡ form_refusal (rows_of (found_of matches.now)) }
+{
+    if !has_value(matches, "length") {
+        NoRequest::NoLength
+    } else if is_over_alphabet(text_of(matches, "form")) {
+        NoRequest::NoAlphabet
+    } else {
+        NoRequest::AlphabetAndForm
+    }
+}
+
 /// Why `rows` makes no request of its arguments.
 fn rows_refusal(matches: &ArgMatches<'_>) -> NoRequest
     ensures { result ≡ rows_refusal (rows_of (found_of matches.now)) }
 {
-    if is_over_alphabet(text_of(matches, "form")) {
-        NoRequest::NoAlphabet
+    if has_value(matches, "of") {
+        NoRequest::TextAndForm
+    } else if has_value(matches, "form") {
+        form_refusal(matches)
     } else {
-        NoRequest::AlphabetAndForm
+        NoRequest::NoForm
     }
 }
 

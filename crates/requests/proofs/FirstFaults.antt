@@ -1,20 +1,23 @@
--- The fault of the first step that fails, where steps are joined; and what ends a step.
+-- The fault of the first step that fails, where parts are joined; and what ends a part.
 use Rattle.std.proofs.Common.{◌≡◌, ℕ, List, [], ◌∷◌, ◌++◌, ◌≤◌, length, Option, None, Some, Result, Ok, Err, IfErr, IsErrAnd, inl, inr, subst, sym}
 use Rattle.std.specs.Io.KnownBytes.{Appends}
 use Rattle.std.specs.Str.{IsUtf8, chars}
 use Rattle.units.specs.Text.{lines_of}
+use Rattle.units.specs.declared.level.Direction.{Direction}
 use Rattle.ucdfiles.specs.ClassFile.{class_fault, class_file_fault}
 use Rattle.ucdfiles.specs.Faults.{first_fault}
 use Rattle.ucdfiles.specs.PairFiles.{bracket_fault, bracket_file_fault, mirror_fault, mirror_file_fault}
 use Rattle.ucdfiles.specs.Tables.{TablesOf}
 use Rattle.bidtests.specs.declared.kind.Kind.{Kind}
+use Rattle.rows.specs.TextLines.{first_long_line}
 use Rattle.requests.specs.ReadFiles.{AreTables, FileFacts, most_file_bytes, origin_of}
 use Rattle.requests.specs.TableSources.{AreTablesBy}
 use Rattle.requests.specs.FaultText.{EndsOpening, print_fault}
 use Rattle.requests.specs.Outcomes.{IsDone}
 use Rattle.requests.specs.CodeWords.{codes_said}
-use Rattle.requests.specs.Printed.{HasPrinted, most_text_bytes}
-use Rattle.requests.specs.Steps.{AreDone, EndsFile, EndsWriting, FailsIn, IsFirstFault, RequestStep, alphabet_steps, codes_steps, explaining_steps, file_step, kind_steps, opening_step, printing_steps, rows_steps, source_steps, steps_of, table_steps, text_steps, texts_step}
+use Rattle.requests.specs.Printed.{HasPrinted, HoldsText, most_text_bytes}
+use Rattle.requests.specs.Parts.{AreDone, EndsFile, EndsWriting, FailsIn, IsFirstFault, RequestPart, alphabet_parts, codes_parts, explaining_parts, file_part, kind_parts, lines_parts, opening_part, printing_parts, row_text_parts, rows_parts, source_parts, parts_of, table_parts, text_parts, texts_part}
+use Rattle.requests.specs.DirectionWords.{SaysDirections}
 use Rattle.requests.specs.PrintedRows.{HasPrintedRows, HasRowsOf}
 use Rattle.requests.proofs.AskedLetters.{alphabet_done}
 use Rattle.requests.specs.declared.request.FileKind.{FileKind}
@@ -22,30 +25,31 @@ use Rattle.requests.specs.declared.request.FileKind.TheVariants.{Classes, Charac
 use Rattle.requests.specs.declared.request.TableSource.{TableSource}
 use Rattle.requests.specs.declared.request.TableSource.TheVariants.{Folder, BuiltIn}
 use Rattle.requests.specs.declared.request.Request.{Request}
-use Rattle.requests.specs.declared.request.Request.TheVariants.{Text, ExplainClasses, ExplainCodes, Judge, Report, Rows}
+use Rattle.requests.specs.declared.request.Request.TheVariants.{Text, ExplainClasses, ExplainCodes, Judge, Report, Rows, RowsOf}
+use Rattle.requests.specs.declared.request.AskedLines.{AskedLines}
 use Rattle.requests.specs.declared.request.AskedRows.{AskedRows}
 use Rattle.requests.specs.declared.fault.Fault.{Fault}
-use Rattle.requests.specs.declared.fault.Fault.TheVariants.{WordNotUtf8, TablesNeeded, ClassesTooLong, CodesTooLong, NoClass, NoCodePoint, NoLengths, NoDirection, NoDirections, NoRows, CannotRead, FaultyLine, NotUtf8, CannotWrite, OutOfMemory}
+use Rattle.requests.specs.declared.fault.Fault.TheVariants.{WordNotUtf8, TablesNeeded, ClassesTooLong, CodesTooLong, NoClass, NoCodePoint, NoLengths, NoDirection, NoDirections, NoRows, CannotRead, FaultyLine, NotUtf8, LongLine, CannotWrite, OutOfMemory}
 use Rattle.printing.specs.declared.fault.PrintFault.{PrintFault}
 use Rattle.printing.specs.declared.fault.PrintFault.TheVariants.{Write, Memory}
 use Rattle.requests.specs.declared.outcome.Outcome.{Outcome}
 use Rattle.requests.specs.declared.outcome.Outcome.TheVariants.{Judged, Printed}
 
-pub first_of_all : (xs ys : List RequestStep) (fault : Fault) → IsFirstFault xs fault → IsFirstFault (xs ++ ys) fault
+pub first_of_all : (xs ys : List RequestPart) (fault : Fault) → IsFirstFault xs fault → IsFirstFault (xs ++ ys) fault
 first_of_all [] ys fault h = absurd h
 first_of_all (x ∷ xs) ys fault (inl here) = inl here
 first_of_all (x ∷ xs) ys fault (inr later) = inr (later.0, first_of_all xs ys fault later.1)
 
-pub first_behind : (xs ys : List RequestStep) (fault : Fault) → AreDone xs → IsFirstFault ys fault → IsFirstFault (xs ++ ys) fault
+pub first_behind : (xs ys : List RequestPart) (fault : Fault) → AreDone xs → IsFirstFault ys fault → IsFirstFault (xs ++ ys) fault
 first_behind [] ys fault done h = h
 first_behind (x ∷ xs) ys fault done h = inr (done.0, first_behind xs ys fault done.1 h)
 
-pub all_done : (xs ys : List RequestStep) → AreDone xs → AreDone ys → AreDone (xs ++ ys)
+pub all_done : (xs ys : List RequestPart) → AreDone xs → AreDone ys → AreDone (xs ++ ys)
 all_done [] ys done rest = rest
 all_done (x ∷ xs) ys done rest = (done.0, all_done xs ys done.1 rest)
 
--- behind steps that are done, what ends the rest ends all
-pub FailsIn-behind : (xs ys : List RequestStep) (before after : Option (List ℕ)) (fault : Fault) → AreDone xs → FailsIn ys before after fault
+-- behind parts that are done, what ends the rest ends all
+pub FailsIn-behind : (xs ys : List RequestPart) (before after : Option (List ℕ)) (fault : Fault) → AreDone xs → FailsIn ys before after fault
     → FailsIn (xs ++ ys) before after fault
 FailsIn-behind xs ys before after fault done (inl h) = inl (first_behind xs ys fault done h.0, h.1)
 FailsIn-behind xs ys before after fault done (inr h) = inr (all_done xs ys done h.0, h.1)
@@ -67,6 +71,7 @@ opening_ends files most file NoDirections h = absurd h
 opening_ends files most file (NoRows refusal) h = absurd h
 opening_ends files most file (FaultyLine name line e) h = absurd h
 opening_ends files most file (NotUtf8 name) h = absurd h
+opening_ends files most file (LongLine name line) h = absurd h
 opening_ends files most file CannotWrite h = absurd h
 
 -- the tables that were read state no fault
@@ -82,7 +87,7 @@ pub mirror_faultless : (bytes : List ℕ) → mirror_file_fault bytes ≡ None �
 unfolding mirror_file_fault
 mirror_faultless bytes h = h
 
-pub tables_done : (files : FileFacts) (folder : List ℕ) (tables : TablesOf) → AreTables files folder tables → AreDone (table_steps files folder)
+pub tables_done : (files : FileFacts) (folder : List ℕ) (tables : TablesOf) → AreTables files folder tables → AreDone (table_parts files folder)
 tables_done files folder tables h = (
   (h.class_path, h.class_found, (h.class_bytes, h.class_file, class_faultless h.class_bytes h.classes.faultless)),
   (
@@ -91,33 +96,33 @@ tables_done files folder tables h = (
   ),
 )
 
-pub source_done : (files : FileFacts) (source : TableSource) (tables : TablesOf) → AreTablesBy files source tables → AreDone (source_steps files source)
+pub source_done : (files : FileFacts) (source : TableSource) (tables : TablesOf) → AreTablesBy files source tables → AreDone (source_parts files source)
 source_done files (Folder folder) tables h = tables_done files folder.now tables h
 source_done files BuiltIn tables h = ((tables, h), tt)
 
--- and so are all steps of the printing of a text
+-- and so are all parts of the printing of a text
 pub text_done : (files : FileFacts) (source : TableSource) (file : List ℕ) (tables : TablesOf) → AreTablesBy files source tables
-    → (bytes : List ℕ) → files.Holds (origin_of file) most_text_bytes bytes → IsUtf8 bytes → AreDone (printing_steps files source file)
-unfolding printing_steps
+    → (bytes : List ℕ) → files.Holds (origin_of file) most_text_bytes bytes → IsUtf8 bytes → AreDone (printing_parts files source file)
+unfolding printing_parts
 text_done files source file tables h bytes whole utf8 =
-    all_done (source_steps files source) (text_steps files file) (source_done files source tables h) ((bytes, whole), ((bytes, whole, utf8), tt))
+    all_done (source_parts files source) (text_parts files file) (source_done files source tables h) ((bytes, whole), ((bytes, whole, utf8), tt))
 
--- and all steps of the explaining of code points
+-- and all parts of the explaining of code points
 pub codes_done : (files : FileFacts) (word : List ℕ) (source : TableSource) (tables : TablesOf) → AreTablesBy files source tables
-    → length word ≤ most_text_bytes → (chars : List ℕ) → codes_said word ≡ Some chars → AreDone (explaining_steps files word source)
-unfolding explaining_steps
+    → length word ≤ most_text_bytes → (chars : List ℕ) → codes_said word ≡ Some chars → AreDone (explaining_parts files word source)
+unfolding explaining_parts
 codes_done files word source tables h short chars said =
-    all_done (codes_steps word) (source_steps files source) (short, ((chars, said), tt)) (source_done files source tables h)
+    all_done (codes_parts word) (source_parts files source) (short, ((chars, said), tt)) (source_done files source tables h)
 
 writing_ends : (f : PrintFault) → EndsWriting (print_fault f)
 writing_ends Write = tt
 writing_ends Memory = tt
 
 -- where all was read, a fault of printing is one of writing
-pub printing_fails : {A : Type 0} (steps : List RequestStep) (before after : Option (List ℕ)) (r : Result A Fault) (f : PrintFault) → AreDone steps
-    → IsErrAnd r (λ fault. fault ≡ print_fault f) → IfErr r (FailsIn steps before after)
-printing_fails steps before after (Ok x) f done h = tt
-printing_fails steps before after (Err fault) f done h = inr (done, subst EndsWriting (sym h) (writing_ends f))
+pub printing_fails : {A : Type 0} (parts : List RequestPart) (before after : Option (List ℕ)) (r : Result A Fault) (f : PrintFault) → AreDone parts
+    → IsErrAnd r (λ fault. fault ≡ print_fault f) → IfErr r (FailsIn parts before after)
+printing_fails parts before after (Ok x) f done h = tt
+printing_fails parts before after (Err fault) f done h = inr (done, subst EndsWriting (sym h) (writing_ends f))
 
 -- what was printed by the tables and of the text that were read is what FILE holds
 pub has_printed : (files : FileFacts) (printed : TablesOf → List ℕ → List ℕ) (source : TableSource) (file : List ℕ) (tables : TablesOf) (text : List ℕ)
@@ -134,27 +139,38 @@ has_printed files printed source file tables text before after stated read said 
 }
 
 -- what rows hold was read
-pub kind_done : (files : FileFacts) (k : FileKind) (source : TableSource) (kind : Kind) → HasRowsOf files k source kind → AreDone (kind_steps files k source)
+pub kind_done : (files : FileFacts) (k : FileKind) (source : TableSource) (kind : Kind) → HasRowsOf files k source kind → AreDone (kind_parts files k source)
 kind_done files Classes source kind h = tt
 kind_done files Characters source kind h = source_done files source h.0.now h.1
 
 -- what is asked of rows that were printed says them
-rows_done : (files : FileFacts) (asked : AskedRows) (before after : Option (List ℕ)) → HasPrintedRows files asked before after → AreDone (rows_steps files asked)
-unfolding rows_steps
+rows_done : (files : FileFacts) (asked : AskedRows) (before after : Option (List ℕ)) → HasPrintedRows files asked before after → AreDone (rows_parts files asked)
+unfolding rows_parts
 rows_done files asked before after h = (
   ((h.texts.least, h.texts.greatest), h.are.ends),
   (
     (h.directions, h.named),
-    all_done (alphabet_steps asked.kind asked.letters) (kind_steps files asked.kind asked.tables ++ texts_step files asked ∷ [])
+    all_done (alphabet_parts asked.kind asked.letters) (kind_parts files asked.kind asked.tables ++ texts_part files asked ∷ [])
         (alphabet_done files asked.kind asked.tables h.kind asked.letters h.texts.alphabet h.is h.are.letters)
-        (all_done (kind_steps files asked.kind asked.tables) (texts_step files asked ∷ [])
+        (all_done (kind_parts files asked.kind asked.tables) (texts_part files asked ∷ [])
         (kind_done files asked.kind asked.tables h.kind h.is) ((h.kind, h.is, h.texts, h.are, h.made.some), tt)),
   ),
 )
 
+-- and so are all parts of the printing of a text's lines
+pub lines_done : (files : FileFacts) (asked : AskedLines) (directions : List Direction) → SaysDirections asked.directions.now directions
+    → (tables : TablesOf) → AreTablesBy files asked.tables tables
+    → (text : List ℕ) → HoldsText files asked.file.now text → first_long_line text ≡ None → AreDone (lines_parts files asked)
+unfolding lines_parts
+lines_done files asked directions says tables h text read short = (
+  (directions, says),
+  all_done (source_parts files asked.tables) (row_text_parts files asked.file.now) (source_done files asked.tables tables h)
+      ((read.0, read.1), ((read.0, read.1, read.2), ((text, read, short), tt))),
+)
+
 -- what was done was read before
 pub request_done : (files : FileFacts) (before after : Option (List ℕ)) (request : Request) (outcome : Outcome)
-    → IsDone files before after request outcome → AreDone (steps_of files request)
+    → IsDone files before after request outcome → AreDone (parts_of files request)
 request_done files before after (Text source direction file print) Printed h =
     text_done files source file.now h.tables h.stated h.bytes h.read h.utf8
 request_done files before after (ExplainClasses word direction) Printed h = (h.short, ((h.classes, h.named), tt))
@@ -162,15 +178,16 @@ request_done files before after (ExplainCodes word source direction) Printed h =
     codes_done files word.now source h.tables h.stated h.short h.chars h.said_by
 request_done files before after (Judge Classes tables file) (Judged status) h = ((h.bytes, h.read), tt)
 request_done files before after (Judge Characters (Some folder) file) (Judged status) h =
-    all_done (table_steps files folder.now) (file_step files most_file_bytes file.now ∷ [])
+    all_done (table_parts files folder.now) (file_part files most_file_bytes file.now ∷ [])
     (tables_done files folder.now h.is.0 h.is.1) ((h.bytes, h.read), tt)
-request_done files before after (Report Classes tables file most) (Judged status) h = ((h.2.bytes, h.2.begins), tt)
-request_done files before after (Report Characters (Some folder) file most) (Judged status) h =
+request_done files before after (Report Classes tables file options) (Judged status) h = ((h.2.bytes, h.2.begins), tt)
+request_done files before after (Report Characters (Some folder) file options) (Judged status) h =
     let read = h.1 in
-    all_done (table_steps files folder.now) (opening_step files most_file_bytes file.now ∷ [])
+    all_done (table_parts files folder.now) (opening_part files most_file_bytes file.now ∷ [])
     (tables_done files folder.now read.0.now read.1) ((h.2.bytes, h.2.begins), tt)
-request_done files before after (Report Characters None file most) (Judged status) h = absurd h.1
+request_done files before after (Report Characters None file options) (Judged status) h = absurd h.1
 request_done files before after (Rows asked) Printed h = rows_done files asked before after h
+request_done files before after (RowsOf asked) Printed h = lines_done files asked h.directions h.named h.tables.now h.stated h.text h.read h.made.short
 request_done files before after (Text source direction file print) (Judged status) h = absurd h
 request_done files before after (ExplainClasses word direction) (Judged status) h = absurd h
 request_done files before after (ExplainCodes word source direction) (Judged status) h = absurd h
@@ -178,7 +195,8 @@ request_done files before after (Judge Classes tables file) Printed h = absurd h
 request_done files before after (Judge Characters (Some folder) file) Printed h = absurd h
 request_done files before after (Judge Characters None file) (Judged status) h = absurd h
 request_done files before after (Judge Characters None file) Printed h = absurd h
-request_done files before after (Report Classes tables file most) Printed h = absurd h
-request_done files before after (Report Characters (Some folder) file most) Printed h = absurd h
-request_done files before after (Report Characters None file most) Printed h = absurd h
+request_done files before after (Report Classes tables file options) Printed h = absurd h
+request_done files before after (Report Characters (Some folder) file options) Printed h = absurd h
+request_done files before after (Report Characters None file options) Printed h = absurd h
 request_done files before after (Rows asked) (Judged status) h = absurd h
+request_done files before after (RowsOf asked) (Judged status) h = absurd h

@@ -14,7 +14,7 @@ use Rattle.requests.specs.DirectionWords.{EndsDirections, SaysDirections}
 use Rattle.requests.specs.PrintedRows.{HasRowsOf, chars_asked, letters_asked}
 use Rattle.requests.specs.ReadFiles.{FileFacts}
 use Rattle.requests.specs.RowWords.{EndsLengths, lengths_named}
-use Rattle.requests.specs.Steps.{AreDone, FailsIn, IsFirstFault, RequestStep, alphabet_steps, directions_step, kind_steps, lengths_step, making_step, rows_steps, source_steps, texts_step}
+use Rattle.requests.specs.Parts.{AreDone, FailsIn, IsFirstFault, RequestPart, alphabet_parts, directions_part, kind_parts, lengths_part, making_part, rows_parts, source_parts, texts_part}
 use Rattle.requests.specs.TableSources.{AreTablesBy}
 use Rattle.requests.specs.declared.fault.Fault.{Fault}
 use Rattle.requests.specs.declared.fault.Fault.TheVariants.{OutOfMemory}
@@ -26,65 +26,65 @@ use Rattle.requests.specs.declared.request.RowsForm.{RowsForm}
 use Rattle.requests.proofs.AskedLetters.{alphabet_done, chars_read}
 use Rattle.requests.proofs.FirstFaults.{FailsIn-behind, first_behind, first_of_all, kind_done}
 
--- what ends a step before all else ends the request, and nothing is written
-pub first_fails : (steps : List RequestStep) (known : Option (List ℕ)) {T : Type 0} (r : Result T Fault) (e : Fault) → IsErrAnd r (λ given. given ≡ e)
-    → IsFirstFault steps e → IfErr r (FailsIn steps known known)
-first_fails steps known (Ok x) e same h = tt
-first_fails steps known (Err given) e same h = inl (subst (IsFirstFault steps) (sym same) h, refl)
+-- what ends a part before all else ends the request, and nothing is written
+pub first_fails : (parts : List RequestPart) (known : Option (List ℕ)) {T : Type 0} (r : Result T Fault) (e : Fault) → IsErrAnd r (λ given. given ≡ e)
+    → IsFirstFault parts e → IfErr r (FailsIn parts known known)
+first_fails parts known (Ok x) e same h = tt
+first_fails parts known (Err given) e same h = inl (subst (IsFirstFault parts) (sym same) h, refl)
 
 -- refused memory ends the making of texts
 pub memory_fails : (form : RowsForm) (texts : ExhaustiveOf) (known : Option (List ℕ)) {T : Type 0} (r : Result T Fault)
-    → IsErrAnd r (λ given. given ≡ OutOfMemory) → IfErr r (FailsIn (making_step form texts ∷ []) known known)
-memory_fails form texts known r same = first_fails (making_step form texts ∷ []) known r OutOfMemory same (inl tt)
+    → IsErrAnd r (λ given. given ≡ OutOfMemory) → IfErr r (FailsIn (making_part form texts ∷ []) known known)
+memory_fails form texts known r same = first_fails (making_part form texts ∷ []) known r OutOfMemory same (inl tt)
 
 module _ (files : FileFacts) (asked : AskedRows) where
   -- the words for the lengths and for the directions
-  abbrev word_steps : List RequestStep
-  word_steps = lengths_step asked.lengths.now ∷ directions_step asked.directions.now ∷ []
+  abbrev word_parts : List RequestPart
+  word_parts = lengths_part asked.lengths.now ∷ directions_part asked.directions.now ∷ []
 
   -- what is read behind them
-  abbrev letter_steps : List RequestStep
-  letter_steps = alphabet_steps asked.kind asked.letters ++ (kind_steps files asked.kind asked.tables ++ texts_step files asked ∷ [])
+  abbrev letter_parts : List RequestPart
+  letter_parts = alphabet_parts asked.kind asked.letters ++ (kind_parts files asked.kind asked.tables ++ texts_part files asked ∷ [])
 
-  pub lengths_fail : (fault : Fault) → EndsLengths asked.lengths.now fault → IsFirstFault (rows_steps files asked) fault
-  unfolding rows_steps
+  pub lengths_fail : (fault : Fault) → EndsLengths asked.lengths.now fault → IsFirstFault (rows_parts files asked) fault
+  unfolding rows_parts
   lengths_fail fault h = inl h
 
   pub directions_fail : (ends : ℕ × ℕ) (fault : Fault) → lengths_named asked.lengths.now ≡ Some ends → EndsDirections asked.directions.now fault
-      → IsFirstFault (rows_steps files asked) fault
-  unfolding rows_steps
+      → IsFirstFault (rows_parts files asked) fault
+  unfolding rows_parts
   directions_fail ends fault e h = inr ((ends, e), inl h)
 
   -- behind the words that say lengths and directions
   module _ (least greatest : ℕ) (directions : List Direction) (e : lengths_named asked.lengths.now ≡ Some (least, greatest)) (says : SaysDirections asked.directions.now directions) where
-    words_done : AreDone word_steps
+    words_done : AreDone word_parts
     words_done = (((least, greatest), e), ((directions, says), tt))
 
-    letters_fail : (fault : Fault) → IsFirstFault letter_steps fault → IsFirstFault (rows_steps files asked) fault
-    unfolding rows_steps
-    letters_fail fault h = first_behind word_steps letter_steps fault words_done h
+    letters_fail : (fault : Fault) → IsFirstFault letter_parts fault → IsFirstFault (rows_parts files asked) fault
+    unfolding rows_parts
+    letters_fail fault h = first_behind word_parts letter_parts fault words_done h
 
     -- what is read for the letters, in a file of this kind
-    abbrev steps_in : FileKind → List RequestStep
-    steps_in k = alphabet_steps k asked.letters ++ (kind_steps files k asked.tables ++ texts_step files asked ∷ [])
+    abbrev steps_in : FileKind → List RequestPart
+    steps_in k = alphabet_parts k asked.letters ++ (kind_parts files k asked.tables ++ texts_part files asked ∷ [])
 
-    in_kind : (k : FileKind) (fault : Fault) → asked.kind ≡ k → IsFirstFault (steps_in k) fault → IsFirstFault (rows_steps files asked) fault
+    in_kind : (k : FileKind) (fault : Fault) → asked.kind ≡ k → IsFirstFault (steps_in k) fault → IsFirstFault (rows_parts files asked) fault
     in_kind k fault is h = letters_fail fault (subst (λ (f : FileKind). IsFirstFault (steps_in f) fault) (sym is) h)
 
-    pub classes_fail : (fault : Fault) → asked.kind ≡ Classes → IsFirstFault (alphabet_steps Classes asked.letters) fault
-        → IsFirstFault (rows_steps files asked) fault
+    pub classes_fail : (fault : Fault) → asked.kind ≡ Classes → IsFirstFault (alphabet_parts Classes asked.letters) fault
+        → IsFirstFault (rows_parts files asked) fault
     classes_fail fault k h =
-        in_kind Classes fault k (first_of_all (alphabet_steps Classes asked.letters) (kind_steps files Classes asked.tables ++ texts_step files asked ∷ []) fault h)
+        in_kind Classes fault k (first_of_all (alphabet_parts Classes asked.letters) (kind_parts files Classes asked.tables ++ texts_part files asked ∷ []) fault h)
 
     pub codes_fail : (word : Bor (List ℕ)) (fault : Fault) → asked.kind ≡ Characters → asked.letters ≡ Alphabet word → EndsCodes word.now fault
-        → IsFirstFault (rows_steps files asked) fault
+        → IsFirstFault (rows_parts files asked) fault
     codes_fail word fault k l h = letters_fail fault (rw (k, l) (inl h))
 
     pub tables_fail : (chars : List ℕ) (fault : Fault) → asked.kind ≡ Characters → chars_asked asked.letters ≡ Some chars
-        → IsFirstFault (source_steps files asked.tables) fault → IsFirstFault (rows_steps files asked) fault
+        → IsFirstFault (source_parts files asked.tables) fault → IsFirstFault (rows_parts files asked) fault
     tables_fail chars fault k read h =
-        in_kind Characters fault k (first_behind (alphabet_steps Characters asked.letters) (source_steps files asked.tables ++ texts_step files asked ∷ []) fault
-        (chars_read asked.letters chars read) (first_of_all (source_steps files asked.tables) (texts_step files asked ∷ []) fault h))
+        in_kind Characters fault k (first_behind (alphabet_parts Characters asked.letters) (source_parts files asked.tables ++ texts_part files asked ∷ []) fault
+        (chars_read asked.letters chars read) (first_of_all (source_parts files asked.tables) (texts_part files asked ∷ []) fault h))
 
     -- the texts over these letters
     abbrev texts_over : List Letter → ExhaustiveOf
@@ -92,38 +92,38 @@ module _ (files : FileFacts) (asked : AskedRows) where
 
     module _ (before after : Option (List ℕ)) (letters : List Letter) where
       module _ (kind : Kind) (is : HasRowsOf files asked.kind asked.tables kind) (are : letters_asked kind asked.letters ≡ Some letters) where
-        texts_fail : (fault : Fault) → FailsIn (making_step asked.form (texts_over letters) ∷ []) before after fault
-            → FailsIn (texts_step files asked ∷ []) before after fault
+        texts_fail : (fault : Fault) → FailsIn (making_part asked.form (texts_over letters) ∷ []) before after fault
+            → FailsIn (texts_part files asked ∷ []) before after fault
         texts_fail fault (inl (inl ended, same)) = inl (inl (kind, is, texts_over letters, record { letters = are; ends = e }, ended), same)
         texts_fail fault (inl (inr (done, more), same)) = absurd more
         texts_fail fault (inr (done, ended)) = inr (((kind, is, texts_over letters, record { letters = are; ends = e }, done.0), tt), ended)
 
-        rows_fail : (fault : Fault) → FailsIn (making_step asked.form (texts_over letters) ∷ []) before after fault → FailsIn (rows_steps files asked) before after fault
-        unfolding rows_steps
+        rows_fail : (fault : Fault) → FailsIn (making_part asked.form (texts_over letters) ∷ []) before after fault → FailsIn (rows_parts files asked) before after fault
+        unfolding rows_parts
         rows_fail fault h =
-            let behind_tables = FailsIn-behind (kind_steps files asked.kind asked.tables) (texts_step files asked ∷ []) before after fault
+            let behind_tables = FailsIn-behind (kind_parts files asked.kind asked.tables) (texts_part files asked ∷ []) before after fault
             (kind_done files asked.kind asked.tables kind is) (texts_fail fault h) in
-            let behind_letters = FailsIn-behind (alphabet_steps asked.kind asked.letters) (kind_steps files asked.kind asked.tables ++ texts_step files asked ∷ [])
+            let behind_letters = FailsIn-behind (alphabet_parts asked.kind asked.letters) (kind_parts files asked.kind asked.tables ++ texts_part files asked ∷ [])
             before after fault (alphabet_done files asked.kind asked.tables kind asked.letters letters is are) behind_tables in
-            FailsIn-behind word_steps letter_steps before after fault words_done behind_letters
+            FailsIn-behind word_parts letter_parts before after fault words_done behind_letters
 
-        rows_fail_if : {T : Type 0} (r : Result T Fault) → IfErr r (FailsIn (making_step asked.form (texts_over letters) ∷ []) before after)
-            → IfErr r (FailsIn (rows_steps files asked) before after)
+        rows_fail_if : {T : Type 0} (r : Result T Fault) → IfErr r (FailsIn (making_part asked.form (texts_over letters) ∷ []) before after)
+            → IfErr r (FailsIn (rows_parts files asked) before after)
         rows_fail_if (Ok x) h = h
         rows_fail_if (Err fault) h = rows_fail fault h
 
       -- what ends the making of texts of classes
       pub of_classes_fail : asked.kind ≡ Classes → letters_asked file.Classes asked.letters ≡ Some letters
-          → {T : Type 0} (r : Result T Fault) → IfErr r (FailsIn (making_step asked.form (texts_over letters) ∷ []) before after)
-          → IfErr r (FailsIn (rows_steps files asked) before after)
+          → {T : Type 0} (r : Result T Fault) → IfErr r (FailsIn (making_part asked.form (texts_over letters) ∷ []) before after)
+          → IfErr r (FailsIn (rows_parts files asked) before after)
       of_classes_fail k are r h =
           rows_fail_if file.Classes (subst (λ (f : FileKind). HasRowsOf files f asked.tables file.Classes) (sym k) refl) are r h
 
       -- and of characters, by these tables
       pub of_characters_fail : (tables : TablesOf) (chars : List ℕ) → asked.kind ≡ Characters → AreTablesBy files asked.tables tables
           → chars_asked asked.letters ≡ Some chars → letters ≡ map (letter_by tables) chars
-          → {T : Type 0} (r : Result T Fault) → IfErr r (FailsIn (making_step asked.form (texts_over letters) ∷ []) before after)
-          → IfErr r (FailsIn (rows_steps files asked) before after)
+          → {T : Type 0} (r : Result T Fault) → IfErr r (FailsIn (making_part asked.form (texts_over letters) ∷ []) before after)
+          → IfErr r (FailsIn (rows_parts files asked) before after)
       of_characters_fail tables chars k stated read same r h =
           let borrowed : Bor TablesOf = record { ref_ptr = (0, 0); now = tables } in
           let is = subst (λ (f : FileKind). HasRowsOf files f asked.tables (file.Characters borrowed)) (sym k) (borrowed, stated, refl) in

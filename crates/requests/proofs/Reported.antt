@@ -12,13 +12,15 @@ use Rattle.bidtests.proofs.CutterSteps.{verdict-of}
 use Rattle.report.specs.FileReports.{is_right, report_of, right_with, verdict_by, verdict_from}
 use Rattle.report.specs.declared.wrong_case.WrongCase.{WrongCase}
 use Rattle.report.proofs.Amounts.{amounts}
+use Rattle.report.specs.ReadClaims.{strict_terms}
 use Rattle.requests.specs.JudgedFiles.{verdict_status}
 use Rattle.requests.specs.Outcomes.{Fails}
 use Rattle.requests.specs.ReadFiles.{AreTables, FileFacts, most_file_bytes}
 use Rattle.requests.specs.ReportedFiles.{FailsAs, report_status}
-use Rattle.requests.specs.Steps.{FailsIn, IsFirstFault, opening_step, steps_of, table_steps}
+use Rattle.requests.specs.Parts.{FailsIn, IsFirstFault, opening_part, parts_of, table_parts}
 use Rattle.requests.specs.declared.fault.Fault.{Fault}
 use Rattle.requests.specs.declared.request.FileKind.TheVariants.{Classes, Characters}
+use Rattle.requests.specs.declared.request.ReportOptions.{ReportOptions}
 use Rattle.requests.specs.declared.request.Request.{Request}
 use Rattle.requests.specs.declared.request.Request.TheVariants.{Report}
 use Rattle.requests.proofs.FirstFaults.{FailsIn-behind, first_of_all, tables_done}
@@ -31,45 +33,45 @@ status_from (w ∷ ws) m rows cases = refl
 
 -- the status of a report is that of the verdict on the file
 pub status_of_report : (rows : Kind) (bytes : List ℕ)
-    → report_status (is_right (report_of standard rows bytes)) ≡ verdict_status (verdict_of standard rows bytes)
+    → report_status (is_right (report_of (strict_terms standard) rows bytes)) ≡ verdict_status (verdict_of standard rows bytes)
 status_of_report rows bytes =
-    let report = report_of standard rows bytes in
+    let report = report_of (strict_terms standard) rows bytes in
     status_from report.wrong report.malformed report.tally.rows report.tally.cases
     ∙ sym (ap verdict_status (verdict-of standard rows bytes ∙ amounts standard (findings_by rows (lines_of bytes))))
 
 module _ (files : FileFacts) (before after : Option (List ℕ)) where
-  -- what ends a step of a request ends it
-  pub steps_fail : (request : Request) {T : Type 0} (r : Result T Fault) → IfErr r (FailsIn (steps_of files request) before after)
+  -- what ends a part of a request ends it
+  pub steps_fail : (request : Request) {T : Type 0} (r : Result T Fault) → IfErr r (FailsIn (parts_of files request) before after)
       → IfErr r (Fails files before after request)
   steps_fail request (Ok x) h = h
   steps_fail request (Err fault) h = inl h
 
   -- and what is handed on of that
   pub handed_fail : (request : Request) {T : Type 0} (r : Result T Fault) (e : Fault) → IsErrAnd r (λ given. given ≡ e)
-      → FailsIn (steps_of files request) before after e → IfErr r (Fails files before after request)
+      → FailsIn (parts_of files request) before after e → IfErr r (Fails files before after request)
   handed_fail request (Ok x) e same h = tt
-  handed_fail request (Err given) e same h = inl (subst (FailsIn (steps_of files request) before after) (sym same) h)
+  handed_fail request (Err given) e same h = inl (subst (FailsIn (parts_of files request) before after) (sym same) h)
 
-  module _ (file : Bor (List ℕ)) (most : ℕ) where
+  module _ (file : Bor (List ℕ)) (options : ReportOptions) where
     -- what ends a report on a file of classes ends its request
     pub classes_fail : (folder : Option (Bor (List ℕ))) {T : Type 0} (r : Result T Fault)
-        → IfErr r (FailsAs files rows_of.Classes file.now most before after) → IfErr r (Fails files before after (Report Classes folder file most))
+        → IfErr r (FailsAs files rows_of.Classes file.now options before after) → IfErr r (Fails files before after (Report Classes folder file options))
     classes_fail folder (Ok x) h = h
     classes_fail folder (Err fault) (inl h) = inl h
     classes_fail folder (Err fault) (inr h) = inr (rows_of.Classes, refl, h)
 
     -- what ends the reading of the tables of one of characters
-    pub tables_fail : (folder : Bor (List ℕ)) (fault : Fault) → IsFirstFault (table_steps files folder.now) fault → after ≡ before
-        → Fails files before after (Report Characters (Some folder) file most) fault
+    pub tables_fail : (folder : Bor (List ℕ)) (fault : Fault) → IsFirstFault (table_parts files folder.now) fault → after ≡ before
+        → Fails files before after (Report Characters (Some folder) file options) fault
     tables_fail folder fault h same =
-        inl (inl (first_of_all (table_steps files folder.now) (opening_step files most_file_bytes file.now ∷ []) fault h, same))
+        inl (inl (first_of_all (table_parts files folder.now) (opening_part files most_file_bytes file.now ∷ []) fault h, same))
 
     -- and what ends it behind them
     pub characters_fail : (folder : Bor (List ℕ)) (tables : Bor TablesOf) {T : Type 0} (r : Result T Fault) → AreTables files folder.now tables.now
-        → IfErr r (FailsAs files (rows_of.Characters tables) file.now most before after)
-        → IfErr r (Fails files before after (Report Characters (Some folder) file most))
+        → IfErr r (FailsAs files (rows_of.Characters tables) file.now options before after)
+        → IfErr r (Fails files before after (Report Characters (Some folder) file options))
     characters_fail folder tables (Ok x) are h = h
     characters_fail folder tables (Err fault) are (inl h) =
-        inl (FailsIn-behind (table_steps files folder.now) (opening_step files most_file_bytes file.now ∷ []) before after fault
+        inl (FailsIn-behind (table_parts files folder.now) (opening_part files most_file_bytes file.now ∷ []) before after fault
         (tables_done files folder.now tables.now are) h)
     characters_fail folder tables (Err fault) are (inr h) = inr (rows_of.Characters tables, (tables, are, refl), h)

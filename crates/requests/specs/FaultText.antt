@@ -11,7 +11,7 @@ use Rattle.printing.specs.declared.fault.PrintFault.{PrintFault}
 use Rattle.printing.specs.declared.fault.PrintFault.TheVariants.{Write, Memory}
 use Rattle.requests.specs.declared.fault.Fault.{Fault}
 use Rattle.requests.specs.declared.outcome.Ended.{Ended}
-use Rattle.requests.specs.declared.fault.Fault.TheVariants.{WordNotUtf8, TablesNeeded, ClassesTooLong, CodesTooLong, NoClass, NoCodePoint, NoLengths, NoDirection, NoDirections, NoRows, CannotRead, FaultyLine, NotUtf8, CannotWrite, OutOfMemory}
+use Rattle.requests.specs.declared.fault.Fault.TheVariants.{WordNotUtf8, TablesNeeded, ClassesTooLong, CodesTooLong, NoClass, NoCodePoint, NoLengths, NoDirection, NoDirections, NoRows, CannotRead, FaultyLine, NotUtf8, LongLine, CannotWrite, OutOfMemory}
 use Rattle.printing.specs.LevelsText.{line_feed}
 use Rattle.rows.specs.declared.fault.RowsFault.{RowsFault}
 use Rattle.rows.specs.declared.fault.RowsFault.TheVariants as refused
@@ -66,6 +66,11 @@ unread_text name unread = unread_line name (unread_words unread)
 abbrev pub not_utf8_text : List ℕ → List ℕ
 not_utf8_text name = concat (codes "bidi: " ∷ name ∷ codes ": not UTF-8" ∷ line_feed ∷ [])
 
+-- the line that says that a line of the text in the file of this name, by its number from 1, is too long for a row
+abbrev pub long_line_text : List ℕ → ℕ → List ℕ
+long_line_text name line =
+    concat (codes "bidi: " ∷ name ∷ codes ": line " ∷ decimal line ∷ codes ": too long" ∷ line_feed ∷ [])
+
 -- what known bytes grew by says this fault
 abbrev pub SaysFault : Option (List ℕ) → Option (List ℕ) → Fault → Type 0
 SaysFault before after WordNotUtf8 = Appends before after (concat (codes "bidi: a word is not UTF-8" ∷ line_feed ∷ []))
@@ -83,6 +88,7 @@ SaysFault before after (NoRows fault) = Appends before after (no_rows_text fault
 SaysFault before after (CannotRead name unread) = Appends before after (unread_text name.now unread)
 SaysFault before after (FaultyLine name line fault) = Appends before after (faulty_line_text name.now line fault)
 SaysFault before after (NotUtf8 name) = Appends before after (not_utf8_text name.now)
+SaysFault before after (LongLine name line) = Appends before after (long_line_text name.now line)
 SaysFault before after CannotWrite = Appends before after (concat (codes "bidi: cannot write" ∷ line_feed ∷ []))
 SaysFault before after OutOfMemory = Appends before after (concat (codes "bidi: out of memory" ∷ line_feed ∷ []))
 
@@ -102,6 +108,7 @@ fault_status (NoRows fault) = 2
 fault_status (CannotRead name unread) = 3
 fault_status (FaultyLine name line fault) = 3
 fault_status (NotUtf8 name) = 3
+fault_status (LongLine name line) = 3
 fault_status CannotWrite = 3
 fault_status OutOfMemory = 3
 

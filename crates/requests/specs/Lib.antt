@@ -6,11 +6,12 @@ pub mod ItemWords
 pub mod JudgedFiles
 pub mod Outcomes
 pub mod Printed
+pub mod PrintedLines
 pub mod PrintedRows
 pub mod ReadFiles
 pub mod ReportedFiles
 pub mod RowWords
-pub mod Steps
+pub mod Parts
 pub mod SystemFiles
 pub mod TableFaults
 pub mod TableSources

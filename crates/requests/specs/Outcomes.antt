@@ -2,7 +2,7 @@
 use Rattle.std.specs.Prelude.{◌≡◌, ◌⊎◌, ℕ, List, Option, Some, Result, Ok, Err, true}
 use Rattle.requests.specs.declared.request.FileKind.TheVariants.{Classes, Characters}
 use Rattle.requests.specs.declared.request.Request.{Request}
-use Rattle.requests.specs.declared.request.Request.TheVariants.{Text, ExplainClasses, ExplainCodes, Judge, Report, Rows}
+use Rattle.requests.specs.declared.request.Request.TheVariants.{Text, ExplainClasses, ExplainCodes, Judge, Report, Rows, RowsOf}
 use Rattle.requests.specs.declared.fault.Fault.{Fault}
 use Rattle.requests.specs.declared.outcome.Ended.{Ended}
 use Rattle.requests.specs.declared.outcome.Outcome.{Outcome}
@@ -10,10 +10,11 @@ use Rattle.requests.specs.declared.outcome.Outcome.TheVariants.{Judged, Printed}
 use Rattle.requests.specs.FaultText.{EndsBy}
 use Rattle.requests.specs.JudgedFiles.{HasJudged, HasJudgedBy, IsClassesVerdict}
 use Rattle.requests.specs.Printed.{HasExplained, HasExplainedCodes, HasPrinted, printed_text}
+use Rattle.requests.specs.PrintedLines.{HasPrintedLines}
 use Rattle.requests.specs.PrintedRows.{HasPrintedRows}
 use Rattle.requests.specs.ReadFiles.{FileFacts}
 use Rattle.requests.specs.ReportedFiles.{HasReported, HasBrokenOff}
-use Rattle.requests.specs.Steps.{FailsIn, steps_of}
+use Rattle.requests.specs.Parts.{FailsIn, parts_of}
 
 -- the exit status: that of the verdict, and 0 after a text or rows
 abbrev pub outcome_status : Outcome → ℕ
@@ -32,20 +33,21 @@ IsDone files before after (Judge Classes tables file) (Judged status) =
     HasJudged files IsClassesVerdict file.now before after status
 IsDone files before after (Judge Characters (Some folder) file) (Judged status) =
     HasJudgedBy files folder.now file.now before after status
-IsDone files before after (Report kind tables file most) (Judged status) =
-    HasReported files kind tables file.now most before after status
+IsDone files before after (Report kind tables file options) (Judged status) =
+    HasReported files kind tables file.now options before after status
 IsDone files before after (Rows asked) Printed = HasPrintedRows files asked before after
+IsDone files before after (RowsOf asked) Printed = HasPrintedLines files asked before after
 IsDone files before after _ _ = ⊥
 
 -- a report breaks off where a read of its file fails, behind what it printed by then; no other request prints anything
 -- before all is read
 abbrev pub BreaksOff : FileFacts → Option (List ℕ) → Option (List ℕ) → Request → Fault → Type 0
-BreaksOff files before after (Report kind tables file most) fault = HasBrokenOff files kind tables file.now most before after fault
+BreaksOff files before after (Report kind tables file options) fault = HasBrokenOff files kind tables file.now options before after fault
 BreaksOff files before after _ fault = ⊥
 
--- a request fails: in a step, or as a report that breaks off
+-- a request fails: in a part, or as a report that breaks off
 abbrev pub Fails : FileFacts → Option (List ℕ) → Option (List ℕ) → Request → Fault → Type 0
-Fails files before after request fault = FailsIn (steps_of files request) before after fault ⊎ BreaksOff files before after request fault
+Fails files before after request fault = FailsIn (parts_of files request) before after fault ⊎ BreaksOff files before after request fault
 
 -- a request comes to what it asks for, or fails
 abbrev pub ComesTo : FileFacts → Option (List ℕ) → Option (List ℕ) → Request → Result Outcome Fault → Type 0

@@ -8,20 +8,28 @@ use Rattle.ucdfiles.specs.Tables.{TablesOf}
 use Rattle.bidtests.specs.FileKinds.{verdict_of}
 use Rattle.bidtests.specs.declared.kind.Kind.{Kind}
 use Rattle.bidtests.specs.declared.kind.Kind.TheVariants as rows_of
-use Rattle.report.specs.FileReports.{report_of, settled_cases}
+use Rattle.report.specs.FileReports.{is_right, report_of, settled_cases}
+use Rattle.report.specs.ReadClaims.{strict}
 use Rattle.report.specs.ReportText.{first_cases_text, report_text}
 use Rattle.requests.specs.JudgedFiles.{verdict_status}
 use Rattle.requests.specs.ReadFiles.{FileFacts, AreTables, most_file_bytes, origin_of}
-use Rattle.requests.specs.Steps.{FailsIn, opening_step}
+use Rattle.requests.specs.Parts.{FailsIn, opening_part}
 use Rattle.requests.specs.declared.fault.Fault.{Fault}
 use Rattle.requests.specs.declared.fault.Fault.TheVariants.{CannotRead}
+use Rattle.report.specs.declared.terms.Leniency.{Leniency}
+use Rattle.report.specs.declared.terms.Terms.{Terms}
 use Rattle.requests.specs.declared.request.FileKind.{FileKind}
 use Rattle.requests.specs.declared.request.FileKind.TheVariants.{Classes, Characters}
+use Rattle.requests.specs.declared.request.ReportOptions.{ReportOptions}
 
 -- the exit status after a report: 0 where the file is right, 1 where it is not
 abbrev pub report_status : Bool → ℕ
 report_status true = 0
 report_status false = 1
+
+-- the terms of a report: the limits of the standard, and what of each claim is compared
+abbrev pub terms_by : Leniency → Terms
+terms_by leniency = record { limits = standard; leniency = leniency }
 
 -- what the rows of a file hold, of this kind and by the tables of this folder, which were read where they are needed
 abbrev pub HasRows : FileFacts → FileKind → Option (Bor (List ℕ)) → Kind → Type 0
@@ -31,38 +39,40 @@ HasRows files Characters (Some folder) rows =
 HasRows files Characters None rows = ⊥
 
 -- what FILE names was read whole, as a file of such rows, what known bytes grew by is the text of the report on its
--- bytes, with at most so many wrong cases, and the exit status is that of the verdict on them
-pub record HasReportedAs (files : FileFacts) (rows : Kind) (file : List ℕ) (most : ℕ) (before after : Option (List ℕ)) (status : ℕ) : Type 0 where
+-- bytes, with at most so many wrong cases, and the exit status says whether that is right; where all that is claimed is
+-- compared it is the status of the verdict on these bytes
+pub record HasReportedAs (files : FileFacts) (rows : Kind) (file : List ℕ) (options : ReportOptions) (before after : Option (List ℕ)) (status : ℕ) : Type 0 where
   pub bytes : List ℕ
   pub begins : files.Begins (origin_of file) most_file_bytes bytes
   pub read : files.Holds (origin_of file) most_file_bytes bytes
-  pub said : Appends before after (report_text most (report_of standard rows bytes))
-  pub status_is : status ≡ verdict_status (verdict_of standard rows bytes)
+  pub said : Appends before after (report_text options.most (report_of (terms_by options.leniency) rows bytes))
+  pub status_is : status ≡ report_status (is_right (report_of (terms_by options.leniency) rows bytes))
+  pub as_judged : options.leniency ≡ strict → status ≡ verdict_status (verdict_of standard rows bytes)
 
 -- a read of what FILE names failed behind these bytes, for this reason, and what known bytes grew by are the lines of the
 -- first wrong cases, at most so many, on the lines that the bytes settle
-pub record ReadFailsAs (files : FileFacts) (rows : Kind) (file : List ℕ) (most : ℕ) (before after : Option (List ℕ)) (unread : Unread) : Type 0 where
+pub record ReadFailsAs (files : FileFacts) (rows : Kind) (file : List ℕ) (options : ReportOptions) (before after : Option (List ℕ)) (unread : Unread) : Type 0 where
   pub bytes : List ℕ
   pub failed : files.Fails (origin_of file) most_file_bytes bytes unread
-  pub said : Appends before after (first_cases_text most (settled_cases standard rows bytes))
+  pub said : Appends before after (first_cases_text options.most (settled_cases (terms_by options.leniency) rows bytes))
 
 -- when a fault breaks off a report on a file of such rows: a read fails, for the reason that is said
-abbrev pub BreaksOffAs : FileFacts → Kind → List ℕ → ℕ → Option (List ℕ) → Option (List ℕ) → Fault → Type 0
-BreaksOffAs files rows file most before after (CannotRead said unread) =
-    (said.now ≡ file) × ReadFailsAs files rows file most before after unread
-BreaksOffAs files rows file most before after _ = ⊥
+abbrev pub BreaksOffAs : FileFacts → Kind → List ℕ → ReportOptions → Option (List ℕ) → Option (List ℕ) → Fault → Type 0
+BreaksOffAs files rows file options before after (CannotRead said unread) =
+    (said.now ≡ file) × ReadFailsAs files rows file options before after unread
+BreaksOffAs files rows file options before after _ = ⊥
 
 -- the report on a file of such rows fails: the file can't be opened, or a write fails, or the report breaks off
-abbrev pub FailsAs : FileFacts → Kind → List ℕ → ℕ → Option (List ℕ) → Option (List ℕ) → Fault → Type 0
-FailsAs files rows file most before after fault =
-    FailsIn (opening_step files most_file_bytes file ∷ []) before after fault ⊎ BreaksOffAs files rows file most before after fault
+abbrev pub FailsAs : FileFacts → Kind → List ℕ → ReportOptions → Option (List ℕ) → Option (List ℕ) → Fault → Type 0
+FailsAs files rows file options before after fault =
+    FailsIn (opening_part files most_file_bytes file ∷ []) before after fault ⊎ BreaksOffAs files rows file options before after fault
 
 -- the file is reported on, by the tables of the folder where they are needed
-abbrev pub HasReported : FileFacts → FileKind → Option (Bor (List ℕ)) → List ℕ → ℕ → Option (List ℕ) → Option (List ℕ) → ℕ → Type 0
-HasReported files kind folder file most before after status =
-    (rows : Kind) × HasRows files kind folder rows × HasReportedAs files rows file most before after status
+abbrev pub HasReported : FileFacts → FileKind → Option (Bor (List ℕ)) → List ℕ → ReportOptions → Option (List ℕ) → Option (List ℕ) → ℕ → Type 0
+HasReported files kind folder file options before after status =
+    (rows : Kind) × HasRows files kind folder rows × HasReportedAs files rows file options before after status
 
 -- the report on it breaks off by this fault
-abbrev pub HasBrokenOff : FileFacts → FileKind → Option (Bor (List ℕ)) → List ℕ → ℕ → Option (List ℕ) → Option (List ℕ) → Fault → Type 0
-HasBrokenOff files kind folder file most before after fault =
-    (rows : Kind) × HasRows files kind folder rows × BreaksOffAs files rows file most before after fault
+abbrev pub HasBrokenOff : FileFacts → FileKind → Option (Bor (List ℕ)) → List ℕ → ReportOptions → Option (List ℕ) → Option (List ℕ) → Fault → Type 0
+HasBrokenOff files kind folder file options before after fault =
+    (rows : Kind) × HasRows files kind folder rows × BreaksOffAs files rows file options before after fault

@@ -3,7 +3,7 @@ ghost use Rattle.std.specs.Prelude.{◌≡◌, ◌≤◌, length, Some, IfOk, If
 ghost use Rattle.units.specs.Layout.{longest_text};
 ghost use Rattle.requests.specs.ClassWords.{EndsNames, classes_named};
 ghost use Rattle.requests.specs.Printed.{most_text_bytes};
-ghost use Rattle.requests.specs.Steps.{IsFirstFault, classes_steps};
+ghost use Rattle.requests.specs.Parts.{IsFirstFault, classes_parts};
 
 use crate::fault::Fault;
 use crate::items::{ItemFault, ReadsItem, read_all};
@@ -44,7 +44,7 @@ pub fn classes_in<'a>(alloc: Global, word: &'a str) -> Result<Vec<Class>, Fault<
     ensures classes { IfOk result (λ classes. classes_named word.now ≡ Some classes.items) }
     ensures bound { IfOk result (λ classes. length classes.items ≤ longest_text) }
     ensures short { OnOk result (length word.now ≤ most_text_bytes) }
-    ensures fault { IfErr result (IsFirstFault (classes_steps word.now)) }
+    ensures fault { IfErr result (IsFirstFault (classes_parts word.now)) }
 {
     if word.len() as u64 > MOST_TEXT_BYTES {
         return Err(Fault::ClassesTooLong);

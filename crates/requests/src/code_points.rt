@@ -3,7 +3,7 @@ ghost use Rattle.std.specs.Prelude.{◌≡◌, ◌≤◌, length, Some, IfOk, If
 ghost use Rattle.units.specs.Layout.{longest_text};
 ghost use Rattle.requests.specs.CodeWords.{EndsCodes, codes_said};
 ghost use Rattle.requests.specs.Printed.{most_text_bytes};
-ghost use Rattle.requests.specs.Steps.{IsFirstFault, codes_steps};
+ghost use Rattle.requests.specs.Parts.{IsFirstFault, codes_parts};
 
 use crate::fault::Fault;
 use crate::items::{ItemFault, ReadsItem, read_all};
@@ -44,7 +44,7 @@ pub fn chars_in<'a>(alloc: Global, word: &'a str) -> Result<Vec<char>, Fault<'a>
     ensures chars { IfOk result (λ chars. codes_said word.now ≡ Some chars.items) }
     ensures bound { IfOk result (λ chars. length chars.items ≤ longest_text) }
     ensures short { OnOk result (length word.now ≤ most_text_bytes) }
-    ensures fault { IfErr result (IsFirstFault (codes_steps word.now)) }
+    ensures fault { IfErr result (IsFirstFault (codes_parts word.now)) }
 {
     if word.len() as u64 > MOST_TEXT_BYTES {
         return Err(Fault::CodesTooLong);

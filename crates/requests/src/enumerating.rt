@@ -7,7 +7,7 @@ ghost use Rattle.requests.specs.DirectionWords.{SaysDirections};
 ghost use Rattle.requests.specs.declared.request.RowsForm.TheVariants as form_of;
 ghost use Rattle.requests.specs.PrintedRows.{HasPrintedRows, HasPrintedTexts, chars_asked, letters_asked};
 ghost use Rattle.requests.specs.RowWords.{lengths_named};
-ghost use Rattle.requests.specs.Steps.{FailsIn, IsFirstFault, alphabet_steps, making_step, rows_steps};
+ghost use Rattle.requests.specs.Parts.{FailsIn, IsFirstFault, alphabet_parts, making_part, rows_parts};
 
 use crate::class_names::classes_of_names;
 use crate::code_points::chars_of_items;
@@ -40,7 +40,7 @@ fn print_all<'a, W: Write>(
     requires { All (IsLetterOf kind) letters.now }
     ensures printed { OnOk result (HasPrintedTexts kind.entry form_of.Exhaustive directions.now
         (record { alphabet = letters.now; least = lengths.least; greatest = lengths.greatest }) (W.contents out.old) (W.contents out.new)) }
-    ensures fault { IfErr result (FailsIn (making_step form_of.Exhaustive
+    ensures fault { IfErr result (FailsIn (making_part form_of.Exhaustive
         (record { alphabet = letters.now; least = lengths.least; greatest = lengths.greatest }) ∷ []) (W.contents out.old) (W.contents out.new)) }
 {
     let texts = match Exhaustive::new(letters, lengths.least, lengths.greatest) {
@@ -65,7 +65,7 @@ fn print_drawn<'a, W: Write>(
     requires { All (IsLetterOf kind) letters.now }
     ensures printed { OnOk result (HasPrintedTexts kind.entry (form_of.Random seed count) directions.now
         (record { alphabet = letters.now; least = lengths.least; greatest = lengths.greatest }) (W.contents out.old) (W.contents out.new)) }
-    ensures fault { IfErr result (FailsIn (making_step (form_of.Random seed count)
+    ensures fault { IfErr result (FailsIn (making_part (form_of.Random seed count)
         (record { alphabet = letters.now; least = lengths.least; greatest = lengths.greatest }) ∷ []) (W.contents out.old) (W.contents out.new)) }
 {
     let texts = match Random::new(
@@ -95,7 +95,7 @@ fn print_form<'a, W: Write>(
     requires { All (IsLetterOf kind) letters.now }
     ensures printed { OnOk result (HasPrintedTexts kind.entry form directions.now
         (record { alphabet = letters.now; least = lengths.least; greatest = lengths.greatest }) (W.contents out.old) (W.contents out.new)) }
-    ensures fault { IfErr result (FailsIn (making_step form
+    ensures fault { IfErr result (FailsIn (making_part form
         (record { alphabet = letters.now; least = lengths.least; greatest = lengths.greatest }) ∷ []) (W.contents out.old) (W.contents out.new)) }
 {
     match form {
@@ -110,7 +110,7 @@ fn print_form<'a, W: Write>(
 fn letters_of_classes<'a>(alloc: Global, letters: RowLetters<'a>) -> Result<Vec<Letter>, Fault<'a>>
     ensures letters { IfOk result (λ made. letters_asked file.Classes letters.entry ≡ Some made.items) }
     ensures kind { IfOk result (λ made. All (IsLetterOf file.Classes) made.items) }
-    ensures fault { IfErr result (IsFirstFault (alphabet_steps FileKind.Classes letters.entry)) }
+    ensures fault { IfErr result (IsFirstFault (alphabet_parts FileKind.Classes letters.entry)) }
 {
     match letters {
         RowLetters::Alphabet(names) => {
@@ -139,7 +139,7 @@ fn print_of_characters<'a, F: Files, W: Write>(
     ensures printed { OnOk result
         (HasPrintedRows (F.facts files.now) asked.entry (W.contents out.old) (W.contents out.new)) }
     ensures fault { IfErr result
-        (FailsIn (rows_steps (F.facts files.now) asked.entry) (W.contents out.old) (W.contents out.new)) }
+        (FailsIn (rows_parts (F.facts files.now) asked.entry) (W.contents out.old) (W.contents out.new)) }
 {
     let tables = tables_by(alloc, files, asked.tables)?;
     let letters = character_letters(alloc, &tables, characters)?;
@@ -169,7 +169,7 @@ fn print_rows_of_characters<'a, F: Files, W: Write>(
     ensures printed { OnOk result
         (HasPrintedRows (F.facts files.now) asked.entry (W.contents out.old) (W.contents out.new)) }
     ensures fault { IfErr result
-        (FailsIn (rows_steps (F.facts files.now) asked.entry) (W.contents out.old) (W.contents out.new)) }
+        (FailsIn (rows_parts (F.facts files.now) asked.entry) (W.contents out.old) (W.contents out.new)) }
 {
     match asked.letters {
         RowLetters::Alphabet(codes) => {
@@ -202,7 +202,7 @@ pub fn print_rows<'a, F: Files, W: Write>(
     ensures printed { OnOk result
         (HasPrintedRows (F.facts files.now) asked.entry (W.contents out.old) (W.contents out.new)) }
     ensures fault { IfErr result
-        (FailsIn (rows_steps (F.facts files.now) asked.entry) (W.contents out.old) (W.contents out.new)) }
+        (FailsIn (rows_parts (F.facts files.now) asked.entry) (W.contents out.old) (W.contents out.new)) }
 {
     let lengths = lengths_in(asked.lengths)?;
     let directions = directions_in(alloc, asked.directions)?;

@@ -4,8 +4,8 @@ ghost use Rattle.std.specs.List.{concat};
 ghost use Rattle.std.specs.Io.KnownBytes.{Appends};
 ghost use Rattle.printing.specs.LevelsText.{line_feed};
 ghost use Rattle.requests.specs.FaultText.{EndsBy, SaysFault, fault_status, faulty_line_text, no_class_text};
-ghost use Rattle.requests.specs.FaultText.{no_code_point_text, no_direction_text, no_rows_text, not_utf8_text, rows_refusal};
-ghost use Rattle.requests.specs.FaultText.{unread_text, unread_words};
+ghost use Rattle.requests.specs.FaultText.{long_line_text, no_code_point_text, no_direction_text, no_rows_text, not_utf8_text};
+ghost use Rattle.requests.specs.FaultText.{rows_refusal, unread_text, unread_words};
 
 use crate::outcome::Ended;
 use printing::fault::PrintFault;
@@ -54,6 +54,11 @@ pub enum Fault<'a> {
     },
     /// The text in the file of this name is not UTF-8.
     NotUtf8(&'a str),
+    /// This line of the text in the file of this name, counted from 1, is too long for a row.
+    LongLine {
+        name: &'a str,
+        line: usize,
+    },
     /// A write to the output, or its flush, failed.
     CannotWrite,
     /// Memory was refused.
@@ -157,6 +162,13 @@ fn print_faulty_line<E: Write>(
     writeln!(err, "bidi: {name}: line {line}: {fault}")
 }
 
+/// Writes the line that says that a line of a text is too long for a row.
+fn print_long_line<E: Write>(err: &mut E, name: &str, line: usize) -> io::Result<()>
+    ensures { OnOk result (Appends (E.contents err.old) (E.contents err.new) (long_line_text name.now line)) }
+{
+    writeln!(err, "bidi: {name}: line {line}: too long")
+}
+
 /// Writes the line that says that a name is that of no class.
 fn print_no_class<E: Write>(err: &mut E, name: &[u8]) -> io::Result<()>
     ensures { OnOk result (Appends (E.contents err.old) (E.contents err.new) (no_class_text name.now)) }
@@ -214,8 +226,8 @@ fn print_no_rows<E: Write>(err: &mut E, fault: RowsFault) -> io::Result<()>
 }
 
 impl Fault<'_> {
-    /// The exit status: 2 where the words of the command line are no text, name no tables, no classes, no code points, no
-    /// directions or no rows, else 3.
+    /// The exit status: 2 where the words of the command line are no text, name no tables, no classes, no code points,
+    /// no directions or no rows, else 3.
     fn status(&self) -> u8
         ensures { result ≡ fault_status self.now }
     {
@@ -246,6 +258,7 @@ impl Fault<'_> {
             Fault::CannotRead { name, unread } => print_unread(err, name, *unread),
             Fault::FaultyLine { name, line, fault } => print_faulty_line(err, name, *line, *fault),
             Fault::NotUtf8(name) => print_not_utf8(err, name),
+            Fault::LongLine { name, line } => print_long_line(err, name, *line),
             Fault::CannotWrite => print_line(err, "bidi: cannot write"),
             Fault::OutOfMemory => print_line(err, "bidi: out of memory"),
         }

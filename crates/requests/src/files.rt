@@ -52,7 +52,7 @@ pub trait Files {
     /// refused.
     fn file(&self, alloc: Global, name: &str, most: u64) -> Result<Self::Source, OpenFault>
         ensures opened { IfOk result (opens self.now (FileNamed name.now) most) }
-        ensures limit { IfOk result (λ source. Self.Source.room source ≤ most) }
+        ensures limit { IfOk result (λ source. Self.Source.most_left source ≤ most) }
         ensures cannot { IfErr result (λ fault. (unread : Unread) → fault ≡ OpenFault.Cannot unread
             → (facts self.now).Refuses (FileNamed name.now) most unread) };
 
@@ -60,7 +60,7 @@ pub trait Files {
     /// same.
     fn input(&self, alloc: Global, most: u64) -> Result<Self::Source, OpenFault>
         ensures opened { IfOk result (opens self.now StandardInput most) }
-        ensures limit { IfOk result (λ source. Self.Source.room source ≤ most) }
+        ensures limit { IfOk result (λ source. Self.Source.most_left source ≤ most) }
         ensures cannot { IfErr result (λ fault. (unread : Unread) → fault ≡ OpenFault.Cannot unread
             → (facts self.now).Refuses StandardInput most unread) };
 

@@ -4,7 +4,7 @@ ghost use Rattle.bidtests.specs.Standing.{IsVerdictBehind};
 ghost use Rattle.requests.specs.JudgedFiles.{HasJudged, HasJudgedBy, IsClassesVerdict, verdict_status};
 ghost use Rattle.requests.specs.Outcomes.{IsDone};
 ghost use Rattle.requests.specs.ReadFiles.{most_file_bytes, origin_of};
-ghost use Rattle.requests.specs.Steps.{EndsFile, FailsIn, characters_steps, file_step, steps_of};
+ghost use Rattle.requests.specs.Parts.{EndsFile, FailsIn, characters_parts, file_part, parts_of};
 ghost use Rattle.requests.specs.declared.request.Request.TheVariants.{Judge as JudgeOf};
 
 use crate::fault::Fault;
@@ -62,7 +62,7 @@ fn judge_file_by<'a, F: Files, W: Write>(
 ) -> Result<u8, Fault<'a>>
     ensures judged { IfOk result (HasJudged (F.facts files.now)
         (IsVerdictBehind judge.entry) file.now (W.contents out.old) (W.contents out.new)) }
-    ensures fault { IfErr result (FailsIn (file_step (F.facts files.now) most_file_bytes file.now ∷ [])
+    ensures fault { IfErr result (FailsIn (file_part (F.facts files.now) most_file_bytes file.now ∷ [])
         (W.contents out.old) (W.contents out.new)) }
 {
     let verdict = verdict_on(alloc, judge, file, files)?;
@@ -79,7 +79,7 @@ fn judge_file_of_classes<'a, F: Files, W: Write>(
 ) -> Result<u8, Fault<'a>>
     ensures judged { IfOk result (HasJudged (F.facts files.now)
         IsClassesVerdict file.now (W.contents out.old) (W.contents out.new)) }
-    ensures fault { IfErr result (FailsIn (file_step (F.facts files.now) most_file_bytes file.now ∷ [])
+    ensures fault { IfErr result (FailsIn (file_part (F.facts files.now) most_file_bytes file.now ∷ [])
         (W.contents out.old) (W.contents out.new)) }
 {
     let judge = Judge::for_classes(alloc)?;
@@ -97,7 +97,7 @@ fn judge_file_of_characters<'a, F: Files, W: Write>(
 ) -> Result<u8, Fault<'a>>
     ensures judged { IfOk result (HasJudgedBy (F.facts files.now) folder.now
         file.now (W.contents out.old) (W.contents out.new)) }
-    ensures fault { IfErr result (FailsIn (characters_steps (F.facts files.now) folder.now file.now)
+    ensures fault { IfErr result (FailsIn (characters_parts (F.facts files.now) folder.now file.now)
         (W.contents out.old) (W.contents out.new)) }
 {
     let tables = read_tables(alloc, files, folder)?;
@@ -116,7 +116,7 @@ pub fn judge_file<'a, F: Files, W: Write>(
 ) -> Result<Outcome, Fault<'a>>
     ensures done { IfOk result (IsDone (F.facts files.now)
         (W.contents out.old) (W.contents out.new) (JudgeOf kind tables.entry file.entry)) }
-    ensures fault { IfErr result (FailsIn (steps_of (F.facts files.now) (JudgeOf kind tables.entry file.entry))
+    ensures fault { IfErr result (FailsIn (parts_of (F.facts files.now) (JudgeOf kind tables.entry file.entry))
         (W.contents out.old) (W.contents out.new)) }
 {
     let status = match (kind, tables) {

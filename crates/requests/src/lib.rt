@@ -21,4 +21,5 @@ pub mod request;
 pub mod run;
 mod table_files;
 mod table_source;
+mod text_rows;
 pub mod verdict_line;

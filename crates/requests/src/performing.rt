@@ -6,7 +6,7 @@ ghost use Rattle.requests.specs.CodeWords.{codes_said};
 ghost use Rattle.requests.specs.Outcomes.{Fails, IsDone};
 ghost use Rattle.requests.specs.Printed.{HasExplained, HasExplainedCodes, HasPrinted, HoldsText, most_text_bytes};
 ghost use Rattle.requests.specs.Printed.{printed_text};
-ghost use Rattle.requests.specs.Steps.{FailsIn, IsFirstFault, classes_steps, explaining_steps, printing_steps};
+ghost use Rattle.requests.specs.Parts.{FailsIn, IsFirstFault, classes_parts, explaining_parts, printing_parts};
 ghost use Rattle.requests.specs.TableSources.{AreTablesBy};
 
 use crate::class_names::classes_in;
@@ -20,6 +20,7 @@ use crate::reading::text_in_file;
 use crate::reporting::report_file;
 use crate::request::{Print, Request, TableSource};
 use crate::table_source::tables_by;
+use crate::text_rows::print_text_rows;
 use explain::print::{print_explained, print_explained_classes};
 use printing::fault::PrintFault;
 use printing::print::{print_levels, print_reorder};
@@ -46,7 +47,7 @@ fn text_with_tables<'a, F: Files>(
     ensures text { IfOk result (λ read. HoldsText (F.facts files.now) file.now read.text.items) }
     ensures bound { IfOk result (λ read. length read.text.items ≤ longest_text) }
     ensures fault { IfErr result
-        (IsFirstFault (printing_steps (F.facts files.now) source.entry file.now)) }
+        (IsFirstFault (printing_parts (F.facts files.now) source.entry file.now)) }
 {
     let tables = tables_by(alloc, files, source)?;
     let text = text_in_file(alloc, file, files)?;
@@ -85,7 +86,7 @@ fn print_file<'a, F: Files, W: Write>(
 ) -> Result<(), Fault<'a>>
     ensures printed { OnOk result (HasPrinted (F.facts files.now) (printed_text print direction)
         source.entry file.now (W.contents out.old) (W.contents out.new)) }
-    ensures fault { IfErr result (FailsIn (printing_steps (F.facts files.now) source.entry file.now)
+    ensures fault { IfErr result (FailsIn (printing_parts (F.facts files.now) source.entry file.now)
         (W.contents out.old) (W.contents out.new)) }
 {
     let read = text_with_tables(alloc, source, file, files)?;
@@ -102,7 +103,7 @@ fn explain_classes<'a, W: Write>(
 ) -> Result<(), Fault<'a>>
     ensures printed { OnOk result (HasExplained word.now direction (W.contents out.old) (W.contents out.new)) }
     ensures fault { IfErr result
-        (FailsIn (classes_steps word.now) (W.contents out.old) (W.contents out.new)) }
+        (FailsIn (classes_parts word.now) (W.contents out.old) (W.contents out.new)) }
 {
     let classes = classes_in(alloc, word)?;
     print_explained_classes(alloc, out, &classes, direction)?;
@@ -121,7 +122,7 @@ fn chars_with_tables<'a, F: Files>(
     ensures short { OnOk result (length word.now ≤ most_text_bytes) }
     ensures bound { IfOk result (λ read. length read.text.items ≤ longest_text) }
     ensures fault { IfErr result
-        (IsFirstFault (explaining_steps (F.facts files.now) word.now source.entry)) }
+        (IsFirstFault (explaining_parts (F.facts files.now) word.now source.entry)) }
 {
     let text = chars_in(alloc, word)?;
     let tables = tables_by(alloc, files, source)?;
@@ -140,7 +141,7 @@ fn explain_codes<'a, F: Files, W: Write>(
 ) -> Result<(), Fault<'a>>
     ensures printed { OnOk result (HasExplainedCodes (F.facts files.now) word.now source.entry direction
         (W.contents out.old) (W.contents out.new)) }
-    ensures fault { IfErr result (FailsIn (explaining_steps (F.facts files.now) word.now source.entry)
+    ensures fault { IfErr result (FailsIn (explaining_parts (F.facts files.now) word.now source.entry)
         (W.contents out.old) (W.contents out.new)) }
 {
     let read = chars_with_tables(alloc, word, source, files)?;
@@ -182,9 +183,10 @@ pub fn perform<'a, F: Files, W: Write>(
             kind,
             tables,
             file,
-            most,
-        } => return report_file(alloc, kind, tables, file, most, files, out),
+            options,
+        } => return report_file(alloc, kind, tables, file, options, files, out),
         Request::Rows(asked) => print_rows(alloc, asked, files, out)?,
+        Request::RowsOf(asked) => print_text_rows(alloc, asked, files, out)?,
     }
     Ok(Outcome::Printed)
 }

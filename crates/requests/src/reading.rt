@@ -3,7 +3,7 @@ ghost use Rattle.std.specs.Prelude.{◌≤◌, length, IfOk, IfErr};
 ghost use Rattle.units.specs.Layout.{longest_text};
 ghost use Rattle.requests.specs.Printed.{HoldsText, most_text_bytes};
 ghost use Rattle.requests.specs.ReadFiles.{origin_of};
-ghost use Rattle.requests.specs.Steps.{EndsFile, IsFirstFault, text_steps};
+ghost use Rattle.requests.specs.Parts.{EndsFile, IsFirstFault, text_parts};
 
 use crate::fault::Fault;
 use crate::files::Files;
@@ -46,7 +46,7 @@ pub fn text_in_file<'a, F: Files>(
     ensures text { IfOk result (λ text. HoldsText (F.facts files.now) file.now text.items) }
     ensures bound { IfOk result (λ text. length text.items ≤ longest_text) }
     ensures fault { IfErr result
-        (IsFirstFault (text_steps (F.facts files.now) file.now)) }
+        (IsFirstFault (text_parts (F.facts files.now) file.now)) }
 {
     let bytes = bytes_in_file(alloc, file, files)?;
     match str::from_utf8(&bytes) {

@@ -9,11 +9,12 @@ use crate::fault::Fault;
 use crate::files::Files;
 use crate::opening::{MOST_FILE_BYTES, open};
 use crate::outcome::Outcome;
-use crate::request::FileKind;
+use crate::request::{FileKind, ReportOptions};
 use crate::table_files::read_tables;
 use bidtests::kind::Kind;
 use report::print::{ReportFault, print_report};
 use report::report::Report;
+use report::terms::Terms;
 use std::alloc::Global;
 use std::io::Write;
 use units::limits::Limits;
@@ -25,24 +26,28 @@ fn status_of(right: bool) -> u8
     if right { 0 } else { 1 }
 }
 
-/// Reports on what FILE names, as a file of such rows: prints the first wrong cases, at most so many, while it is read,
+/// Reports on what FILE names, as a file of such rows, by these options: prints the first wrong cases while it is read,
 /// and then the counts. Answers the exit status.
 fn report_as<'a, F: Files, W: Write>(
     alloc: Global,
     rows: Kind<'_>,
     file: &'a str,
-    most: u64,
+    options: ReportOptions,
     files: &F,
     out: &mut W,
 ) -> Result<u8, Fault<'a>>
     ensures reported { IfOk result (HasReportedAs (F.facts files.now)
-        rows.entry file.now most (W.contents out.old) (W.contents out.new)) }
+        rows.entry file.now options (W.contents out.old) (W.contents out.new)) }
     ensures fault { IfErr result (FailsAs (F.facts files.now)
-        rows.entry file.now most (W.contents out.old) (W.contents out.new)) }
+        rows.entry file.now options (W.contents out.old) (W.contents out.new)) }
 {
-    let report = Report::new(alloc, rows, Limits::standard())?;
+    let terms = Terms {
+        limits: Limits::standard(),
+        leniency: options.leniency,
+    };
+    let report = Report::new(alloc, rows, terms)?;
     let mut source = open(alloc, files, file, MOST_FILE_BYTES)?;
-    match print_report(out, report, &mut source, most) {
+    match print_report(out, report, &mut source, options.most) {
         Ok(right) => Ok(status_of(right)),
         Err(ReportFault::Write) => Err(Fault::CannotWrite),
         Err(ReportFault::Read) => {
@@ -58,17 +63,17 @@ fn report_on_characters<'a, F: Files, W: Write>(
     alloc: Global,
     folder: &'a str,
     file: &'a str,
-    most: u64,
+    options: ReportOptions,
     files: &F,
     out: &mut W,
 ) -> Result<u8, Fault<'a>>
     ensures reported { IfOk result (HasReported (F.facts files.now) FileKind.Characters (Some folder.entry)
-        file.now most (W.contents out.old) (W.contents out.new)) }
+        file.now options (W.contents out.old) (W.contents out.new)) }
     ensures fault { IfErr result (Fails (F.facts files.now) (W.contents out.old) (W.contents out.new)
-        (ReportOf FileKind.Characters (Some folder.entry) file.entry most)) }
+        (ReportOf FileKind.Characters (Some folder.entry) file.entry options)) }
 {
     let tables = read_tables(alloc, files, folder)?;
-    report_as(alloc, Kind::Characters(&tables), file, most, files, out)
+    report_as(alloc, Kind::Characters(&tables), file, options, files, out)
 }
 
 /// Reports on what FILE names, as a file of this kind. Where tables are needed and none are named, nothing is opened.
@@ -77,19 +82,19 @@ pub fn report_file<'a, F: Files, W: Write>(
     kind: FileKind,
     tables: Option<&'a str>,
     file: &'a str,
-    most: u64,
+    options: ReportOptions,
     files: &F,
     out: &mut W,
 ) -> Result<Outcome, Fault<'a>>
     ensures done { IfOk result (IsDone (F.facts files.now)
-        (W.contents out.old) (W.contents out.new) (ReportOf kind tables.entry file.entry most)) }
+        (W.contents out.old) (W.contents out.new) (ReportOf kind tables.entry file.entry options)) }
     ensures fault { IfErr result (Fails (F.facts files.now)
-        (W.contents out.old) (W.contents out.new) (ReportOf kind tables.entry file.entry most)) }
+        (W.contents out.old) (W.contents out.new) (ReportOf kind tables.entry file.entry options)) }
 {
     let status = match (kind, tables) {
-        (FileKind::Classes, _) => report_as(alloc, Kind::Classes, file, most, files, out)?,
+        (FileKind::Classes, _) => report_as(alloc, Kind::Classes, file, options, files, out)?,
         (FileKind::Characters, Some(folder)) => {
-            report_on_characters(alloc, folder, file, most, files, out)?
+            report_on_characters(alloc, folder, file, options, files, out)?
         }
         (FileKind::Characters, None) => return Err(Fault::TablesNeeded),
     };

@@ -1,5 +1,6 @@
 // What may be asked for.
 
+use report::terms::Leniency;
 use rows::form::Form;
 use std::num::NonZeroU16;
 use units::level::Direction;
@@ -66,6 +67,27 @@ pub struct AskedRows<'a> {
     pub directions: &'a str,
 }
 
+/// Which text is asked for as rows.
+#[derive(Clone, Copy, Debug, PartialEq, Eq)]
+pub struct AskedLines<'a> {
+    /// The kind of the file that its lines make.
+    pub kind: FileKind,
+    /// The tables that say what its characters are.
+    pub tables: TableSource<'a>,
+    pub file: &'a str,
+    /// The word for the directions under which each line stands.
+    pub directions: &'a str,
+}
+
+/// How a conformance file is reported on.
+#[derive(Clone, Copy, Debug, PartialEq, Eq)]
+pub struct ReportOptions {
+    /// How many wrong cases are printed at most.
+    pub most: u64,
+    /// What of each claim is compared.
+    pub leniency: Leniency,
+}
+
 /// What is asked for. Files and folders are named as they were given.
 #[derive(Clone, Copy, Debug, PartialEq, Eq)]
 pub enum Request<'a> {
@@ -99,8 +121,10 @@ pub enum Request<'a> {
         kind: FileKind,
         tables: Option<&'a str>,
         file: &'a str,
-        most: u64,
+        options: ReportOptions,
     },
     /// Print these rows, as a conformance file of which a judge says yes.
     Rows(AskedRows<'a>),
+    /// Print the lines of this text so.
+    RowsOf(AskedLines<'a>),
 }

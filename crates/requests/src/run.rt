@@ -53,7 +53,7 @@ pub fn run_request<'a, F: Files, W: Write, E: Write>(
 ) -> Ended
     ensures status { result.status ≤ 3 }
 
-    // The status is that of what was done, or of the fault of the first step that failed, whose line is written.
+    // The status is that of what was done, or of the fault of the first part that failed, whose line is written.
     ensures ended { HasEnded (F.facts files.now) (W.contents out.old) (W.contents out.new)
         (E.contents err.old) (E.contents err.new) request.entry result }
 

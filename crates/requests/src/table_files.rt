@@ -7,7 +7,7 @@ ghost use Rattle.ucdfiles.specs.Tables.{class_by, bracket_by, glyph_by};
 ghost use Rattle.requests.specs.FaultText.{EndsOpening};
 ghost use Rattle.requests.specs.ReadFiles.{AreTables, CannotOpen, FileNamed, HoldsClasses, HoldsTable, IsClassPath};
 ghost use Rattle.requests.specs.ReadFiles.{bracket_name, class_name, extracted_name, in_folder, mirror_name, most_file_bytes};
-ghost use Rattle.requests.specs.Steps.{IsFirstFault, table_steps};
+ghost use Rattle.requests.specs.Parts.{IsFirstFault, table_parts};
 ghost use Rattle.requests.specs.TableFaults.{CannotOpenClasses, EndsClasses, EndsTable, table_fault};
 
 use crate::fault::Fault;
@@ -21,13 +21,16 @@ use ucdfiles::mirror_table::MirrorTable;
 use ucdfiles::tables::Tables;
 use units::unread::Unread;
 
+/// The file of the classes in the folder of the tables.
 pub const CLASSES: &str = "DerivedBidiClass.txt";
 
 /// The file of the classes, from the folder in which Unicode publishes the other two.
 const EXTRACTED_CLASSES: &str = "extracted/DerivedBidiClass.txt";
 
+/// The file of the bracket pairs.
 pub const BRACKETS: &str = "BidiBrackets.txt";
 
+/// The file of the mirror images.
 pub const MIRRORS: &str = "BidiMirroring.txt";
 
 /// Opens the file of this name in the folder.
@@ -175,7 +178,7 @@ pub fn read_tables<F: Files>(
 ) -> Result<Tables, Fault<'static>>
     ensures tables { IfOk result (AreTables (F.facts files.now) folder.now) }
     ensures fault { IfErr result
-        (IsFirstFault (table_steps (F.facts files.now) folder.now)) }
+        (IsFirstFault (table_parts (F.facts files.now) folder.now)) }
 {
     let classes = read_classes(alloc, files, folder)?;
     let brackets = read_brackets(alloc, files, folder)?;

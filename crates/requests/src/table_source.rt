@@ -1,6 +1,6 @@
 // The tables of a request: those of a folder, or those that are built in.
 ghost use Rattle.std.specs.Prelude.{IfOk, IfErr};
-ghost use Rattle.requests.specs.Steps.{IsFirstFault, source_steps};
+ghost use Rattle.requests.specs.Parts.{IsFirstFault, source_parts};
 ghost use Rattle.requests.specs.TableSources.{AreBuiltIn, AreTablesBy, EndsBuiltIn};
 
 use crate::fault::Fault;
@@ -34,7 +34,7 @@ pub fn tables_by<F: Files>(
     source: TableSource<'_>,
 ) -> Result<Tables, Fault<'static>>
     ensures tables { IfOk result (AreTablesBy (F.facts files.now) source.entry) }
-    ensures fault { IfErr result (IsFirstFault (source_steps (F.facts files.now) source.entry)) }
+    ensures fault { IfErr result (IsFirstFault (source_parts (F.facts files.now) source.entry)) }
 {
     match source {
         TableSource::Folder(folder) => read_tables(alloc, files, folder),

@@ -12,11 +12,13 @@ returns-clause-app c =
     let with_kind = c.in_ok-arg.ensures.shape c.kind_argument.ensures.local ∙ ap₂ with_rule plain kind.2 in
     let with_tables = c.in_ok-arg-2.ensures.shape c.tables_argument.ensures.local ∙ ap₂ with_rule with_kind c.tables_argument.ensures.rule in
     let with_most = c.in_ok-arg-3.ensures.shape c.number_argument.ensures.local ∙ ap₂ with_rule with_tables c.number_argument.ensures.rule in
-    IfOk-weaker c.arg-4.result _ _ (λ command h. (
+    let with_order = c.in_ok-arg-4.ensures.shape c.flag_argument.ensures.local ∙ ap₂ with_rule with_most c.flag_argument.ensures.rule in
+    let with_shown = c.in_ok-arg-5.ensures.shape c.flag_argument-2.ensures.local ∙ ap₂ with_rule with_order c.flag_argument-2.ensures.rule in
+    IfOk-weaker c.arg-6.result _ _ (λ command h. (
       kind.0,
       kind.1,
-      h.shape c.file_argument.ensures.local ∙ ap₂ with_rule with_most c.file_argument.ensures.rule,
-    )) c.arg-4.ensures
+      h.shape c.file_argument.ensures.local ∙ ap₂ with_rule with_shown c.file_argument.ensures.rule,
+    )) c.arg-6.ensures
 
 pub returns-clause-local : goal.returns-clause-local
 returns-clause-local c =
@@ -25,4 +27,6 @@ returns-clause-local c =
     let with_kind = c.in_ok-arg.ensures.globals ∙ ap₂ ◌||◌ plain c.kind_argument.ensures.local in
     let with_tables = c.in_ok-arg-2.ensures.globals ∙ ap₂ ◌||◌ with_kind c.tables_argument.ensures.local in
     let with_most = c.in_ok-arg-3.ensures.globals ∙ ap₂ ◌||◌ with_tables c.number_argument.ensures.local in
-    IfOk-weaker c.arg-4.result _ _ (λ command h. h.globals ∙ ap₂ ◌||◌ with_most c.file_argument.ensures.local) c.arg-4.ensures
+    let with_order = c.in_ok-arg-4.ensures.globals ∙ ap₂ ◌||◌ with_most c.flag_argument.ensures.local in
+    let with_shown = c.in_ok-arg-5.ensures.globals ∙ ap₂ ◌||◌ with_order c.flag_argument-2.ensures.local in
+    IfOk-weaker c.arg-6.result _ _ (λ command h. h.globals ∙ ap₂ ◌||◌ with_shown c.file_argument.ensures.local) c.arg-6.ensures

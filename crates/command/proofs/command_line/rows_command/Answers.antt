@@ -18,11 +18,12 @@ returns-clause-app c =
     let with_length = c.in_ok-arg-5.ensures.shape c.length_argument.ensures.local ∙ ap₂ with_rule with_alphabet c.length_argument.ensures.rule in
     let with_directions = c.in_ok-arg-6.ensures.shape c.directions_argument.ensures.local ∙ ap₂ with_rule with_length c.directions_argument.ensures.rule in
     let with_seed = c.in_ok-arg-7.ensures.shape c.number_argument.ensures.local ∙ ap₂ with_rule with_directions c.number_argument.ensures.rule in
-    IfOk-weaker c.arg-8.result _ _ (λ command h. (
+    let with_count = c.in_ok-arg-8.ensures.shape c.number_argument-2.ensures.local ∙ ap₂ with_rule with_seed c.number_argument-2.ensures.rule in
+    IfOk-weaker c.arg-9.result _ _ (λ command h. (
       record { forms = form.0; kinds = kind.0 },
       record { forms = form.1; kinds = kind.1 },
-      h.shape c.number_argument-2.ensures.local ∙ ap₂ with_rule with_seed c.number_argument-2.ensures.rule,
-    )) c.arg-8.ensures
+      h.shape c.of_argument.ensures.local ∙ ap₂ with_rule with_count c.of_argument.ensures.rule,
+    )) c.arg-9.ensures
 
 pub returns-clause-local : goal.returns-clause-local
 returns-clause-local c =
@@ -36,4 +37,5 @@ returns-clause-local c =
     let with_length = c.in_ok-arg-5.ensures.globals ∙ ap₂ ◌||◌ with_alphabet c.length_argument.ensures.local in
     let with_directions = c.in_ok-arg-6.ensures.globals ∙ ap₂ ◌||◌ with_length c.directions_argument.ensures.local in
     let with_seed = c.in_ok-arg-7.ensures.globals ∙ ap₂ ◌||◌ with_directions c.number_argument.ensures.local in
-    IfOk-weaker c.arg-8.result _ _ (λ command h. h.globals ∙ ap₂ ◌||◌ with_seed c.number_argument-2.ensures.local) c.arg-8.ensures
+    let with_count = c.in_ok-arg-8.ensures.globals ∙ ap₂ ◌||◌ with_seed c.number_argument-2.ensures.local in
+    IfOk-weaker c.arg-9.result _ _ (λ command h. h.globals ∙ ap₂ ◌||◌ with_count c.of_argument.ensures.local) c.arg-9.ensures

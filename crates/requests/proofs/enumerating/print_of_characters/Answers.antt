@@ -1,6 +1,6 @@
 use Rattle.std.proofs.Common.{◌≡◌, map, refl, rules}
 use Rattle.rows.specs.Letters.{letter_by}
-use Rattle.requests.specs.Steps.{rows_steps}
+use Rattle.requests.specs.Parts.{rows_parts}
 use Rattle.requests.proofs.MadeRows.{first_fails, memory_fails, of_characters_fail, tables_fail}
 use Rattle.requests.proofs.enumerating.print_of_characters.Goals as goal
 
@@ -9,7 +9,7 @@ returns-in_err-tables-clause-fault g c =
     let files = g.F.Files.facts c.args.files.now in
     let first = tables_fail files c.args.asked c.args.lengths.least c.args.lengths.greatest c.args.directions.now
     c.requires.lengths c.requires.directions c.args.characters.now _ c.requires.kind c.requires.characters c.in_err-tables.ensures.fault in
-    first_fails (rows_steps files c.args.asked) _ c.from_residual.result _ c.from_residual.ensures.1 first
+    first_fails (rows_parts files c.args.asked) _ c.from_residual.result _ c.from_residual.ensures.1 first
 
 pub returns-in_err-letters-clause-fault : goal.returns-in_err-letters-clause-fault
 returns-in_err-letters-clause-fault g c =

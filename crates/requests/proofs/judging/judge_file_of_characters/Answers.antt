@@ -3,7 +3,7 @@ use Rattle.std.proofs.lemmas.Result.{IfErr-weaker, IfOk-weaker}
 use Rattle.units.specs.Limits.{standard}
 use Rattle.requests.proofs.FirstFaults.{FailsIn-behind, tables_done}
 use Rattle.requests.specs.ReadFiles.{most_file_bytes}
-use Rattle.requests.specs.Steps.{file_step, table_steps}
+use Rattle.requests.specs.Parts.{file_part, table_parts}
 use Rattle.requests.proofs.judging.judge_file_of_characters.Goals as goal
 
 pub returns-clause-judged : goal.returns-clause-judged
@@ -22,5 +22,5 @@ returns-clause-fault g c =
     let files = g.F.Files.facts c.args.files.now in
     let file = c.args.file.now in
     IfErr-weaker c.judge_file_by.result _ _
-    (λ fault h. FailsIn-behind (table_steps files c.args.folder.now) (file_step files most_file_bytes file ∷ []) _ _ fault done h)
+    (λ fault h. FailsIn-behind (table_parts files c.args.folder.now) (file_part files most_file_bytes file ∷ []) _ _ fault done h)
     c.judge_file_by.ensures.fault

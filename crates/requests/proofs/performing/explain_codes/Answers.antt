@@ -2,7 +2,7 @@ use Rattle.std.proofs.Common.{rules}
 use Rattle.std.specs.Io.KnownBytes.{Appends}
 use Rattle.explain.specs.Explained.{explained}
 use Rattle.requests.proofs.FirstFaults.{codes_done, printing_fails}
-use Rattle.requests.specs.Steps.{explaining_steps}
+use Rattle.requests.specs.Parts.{explaining_parts}
 use Rattle.requests.proofs.performing.explain_codes.Goals as goal
 
 pub returns-in_err-print_text-clause-fault : goal.returns-in_err-print_text-clause-fault
@@ -10,7 +10,7 @@ returns-in_err-print_text-clause-fault g c =
     let files = g.F.Files.facts c.args.files.now in
     let read = c.in_ok-read.ensures in
     let done = codes_done files c.args.word.now c.args.source _ read.tables read.short _ read.text in
-    printing_fails (explaining_steps files c.args.word.now c.args.source) _ _ _ _ done c.from_residual-in_err-print_text.ensures.1
+    printing_fails (explaining_parts files c.args.word.now c.args.source) _ _ _ _ done c.from_residual-in_err-print_text.ensures.1
 
 pub returns-clause-printed : goal.returns-clause-printed
 returns-clause-printed g c =

@@ -24,3 +24,9 @@ returns-in_err-print_rows-in-Rows-clause-fault g c =
     rw c.in-Rows.is (handed_fail (g.F.Files.facts c.args.files.now) (g.W.Write.contents c.args.out.now) (g.W.Write.contents c.print_rows.new.out)
     (requested.Rows c.in-Rows.asked) _ _
     c.from_residual-in_err-print_rows-in-Rows.ensures.1 c.in_err-print_rows-in-Rows.ensures.fault)
+
+pub returns-in_err-print_text_rows-in-RowsOf-clause-fault : goal.returns-in_err-print_text_rows-in-RowsOf-clause-fault
+returns-in_err-print_text_rows-in-RowsOf-clause-fault g c =
+    rw c.in-RowsOf.is (handed_fail (g.F.Files.facts c.args.files.now) (g.W.Write.contents c.args.out.now) (g.W.Write.contents c.print_text_rows.new.out)
+    (requested.RowsOf c.in-RowsOf.asked) _ _
+    c.from_residual-in_err-print_text_rows-in-RowsOf.ensures.1 c.in_err-print_text_rows-in-RowsOf.ensures.fault)

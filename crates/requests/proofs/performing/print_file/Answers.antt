@@ -2,7 +2,7 @@ use Rattle.std.proofs.Common.{rules}
 use Rattle.std.specs.Io.KnownBytes.{Appends}
 use Rattle.requests.proofs.FirstFaults.{has_printed, printing_fails, text_done}
 use Rattle.requests.specs.Printed.{printed_text}
-use Rattle.requests.specs.Steps.{printing_steps}
+use Rattle.requests.specs.Parts.{printing_parts}
 use Rattle.requests.proofs.performing.print_file.Goals as goal
 
 pub returns-in_err-print_text-clause-fault : goal.returns-in_err-print_text-clause-fault
@@ -10,7 +10,7 @@ returns-in_err-print_text-clause-fault g c =
     let files = g.F.Files.facts c.args.files.now in
     let text = c.in_ok-read.ensures.text in
     let done = text_done files c.args.source c.args.file.now _ c.in_ok-read.ensures.tables text.0 text.1 text.2 in
-    printing_fails (printing_steps files c.args.source c.args.file.now) _ _ _ _ done c.from_residual-in_err-print_text.ensures.1
+    printing_fails (printing_parts files c.args.source c.args.file.now) _ _ _ _ done c.from_residual-in_err-print_text.ensures.1
 
 pub returns-clause-printed : goal.returns-clause-printed
 returns-clause-printed g c =

@@ -13,7 +13,7 @@ pub record HandedOut {S : Type 0} (Opens : S → Type 0) (gives : S → List ℕ
 abbrev pub invariant-loop-source : goal.invariant-loop-source
 invariant-loop-source g l =
     HandedOut (g.F.Files.opens l.files (origin_of l.file) most_text_bytes) g.F.Source.ByteSource.gives
-    g.F.Source.ByteSource.room l.source l.bytes.items
+    g.F.Source.ByteSource.most_left l.source l.bytes.items
 
 abbrev pub decreases-loop-source : goal.decreases-loop-source
-decreases-loop-source g l = g.F.Source.ByteSource.room l.source
+decreases-loop-source g l = g.F.Source.ByteSource.most_left l.source

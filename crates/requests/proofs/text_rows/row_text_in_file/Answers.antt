@@ -1,0 +1,23 @@
+use Rattle.std.proofs.Common.{◌≡◌, [], ◌∷◌, Some, inl, refl, rules}
+use Rattle.rows.specs.TextLines.{first_long_line}
+use Rattle.requests.proofs.FirstFaults.{first_behind, first_of_all}
+use Rattle.requests.specs.Parts.{AreDone, EndsLines, lines_part, text_parts}
+use Rattle.requests.specs.declared.fault.Fault.{Fault}
+use Rattle.requests.specs.declared.fault.Fault.TheVariants.{LongLine}
+use Rattle.requests.proofs.text_rows.row_text_in_file.Goals as goal
+
+pub returns-in_err-text-clause-fault : goal.returns-in_err-text-clause-fault
+returns-in_err-text-clause-fault g c =
+    let files = g.F.Files.facts c.args.files.now in
+    let ends = first_of_all (text_parts files c.args.file.now) (lines_part files c.args.file.now ∷ []) _ c.in_err-text.ensures.fault in
+    search rules
+
+pub returns-in-Some-clause-fault : goal.returns-in-Some-clause-fault
+returns-in-Some-clause-fault g c =
+    let files = g.F.Files.facts c.args.files.now in
+    let read = c.in_ok-text.ensures.text in
+    let done : AreDone (text_parts files c.args.file.now) = ((read.0, read.1), ((read.0, read.1, read.2), tt)) in
+    let long : first_long_line c.in_ok-text.text.items ≡ Some c.in-Some.line = search rules in
+    let fault : Fault = LongLine c.args.file c.in-Some.line in
+    let ends : EndsLines files c.args.file.now fault = (refl, c.in_ok-text.text.items, read, long) in
+    first_behind (text_parts files c.args.file.now) (lines_part files c.args.file.now ∷ []) fault done (inl ends)

@@ -1,0 +1,266 @@
+-- The parts in which a request is done, in their order, and the fault of the first that fails.
+use Rattle.std.specs.Prelude.{◌≡◌, ◌<◌, ◌≤◌, ◌⊎◌, ℕ, List, [], ◌∷◌, ◌++◌, length, Option, Some, None}
+use Rattle.std.specs.Str.{IsUtf8}
+use Rattle.ucdfiles.specs.ClassFile.{class_fault}
+use Rattle.ucdfiles.specs.PairFiles.{bracket_fault, mirror_fault}
+use Rattle.ucdfiles.specs.declared.fault.Fault.{Fault as LineFault}
+use Rattle.ucdfiles.specs.Tables.{TablesOf}
+use Rattle.units.specs.declared.class.Class.{Class}
+use Rattle.rows.specs.Exhaustive.{ExhaustiveOf}
+use Rattle.rows.specs.TextLines.{first_long_line}
+use Rattle.units.specs.declared.level.Direction.{Direction}
+use Rattle.requests.specs.ClassWords.{EndsNames, classes_named}
+use Rattle.requests.specs.CodeWords.{EndsCodes, codes_said}
+use Rattle.requests.specs.DirectionWords.{EndsDirections, SaysDirections}
+use Rattle.requests.specs.declared.request.AskedLines.{AskedLines}
+use Rattle.requests.specs.declared.request.AskedRows.{AskedRows}
+use Rattle.requests.specs.declared.request.FileKind.{FileKind}
+use Rattle.requests.specs.declared.request.FileKind.TheVariants.{Classes, Characters}
+use Rattle.requests.specs.declared.request.RowLetters.{RowLetters}
+use Rattle.requests.specs.declared.request.RowLetters.TheVariants.{Alphabet, OfForm}
+use Rattle.requests.specs.declared.request.TableSource.{TableSource}
+use Rattle.requests.specs.declared.request.TableSource.TheVariants.{Folder, BuiltIn}
+use Rattle.requests.specs.declared.request.Request.{Request}
+use Rattle.requests.specs.declared.request.RowsForm.{RowsForm}
+use Rattle.requests.specs.declared.request.Request.TheVariants.{Text, ExplainClasses, ExplainCodes, Judge, Report, Rows, RowsOf}
+use Rattle.requests.specs.declared.fault.Fault.{Fault}
+use Rattle.requests.specs.declared.fault.Fault.TheVariants.{TablesNeeded, ClassesTooLong, CodesTooLong, CannotRead, NotUtf8, LongLine, CannotWrite, OutOfMemory}
+use Rattle.requests.specs.FaultText.{EndsOpening}
+use Rattle.requests.specs.Printed.{HoldsText, most_text_bytes}
+use Rattle.requests.specs.PrintedRows.{CanBeMade, EndsMaking, EndsTexts, refusal_in}
+use Rattle.requests.specs.RowWords.{EndsLengths, lengths_named}
+use Rattle.requests.specs.ReadFiles.{FileFacts, IsClassPath, bracket_name, mirror_name, in_folder, most_file_bytes, origin_of}
+use Rattle.requests.specs.TableFaults.{EndsClasses, EndsTable, IsFaultless}
+use Rattle.requests.specs.TableSources.{AreBuiltIn, EndsBuiltIn}
+
+-- a part: that it is done, and the faults that end it
+pub record RequestPart : Type 1 where
+  pub Done : Type 0
+  pub EndsBy : Fault → Type 0
+
+-- all of these parts are done
+abbrev pub AreDone : List RequestPart → Type 0
+AreDone [] = Unit {0}
+AreDone (part ∷ parts) = part.Done × AreDone parts
+
+-- the fault ends one of these parts, and all earlier ones are done
+abbrev pub IsFirstFault : List RequestPart → Fault → Type 0
+IsFirstFault [] fault = ⊥
+IsFirstFault (part ∷ parts) fault = part.EndsBy fault ⊎ (part.Done × IsFirstFault parts fault)
+
+-- the folder of the tables, where none is named
+abbrev pub EndsUnnamed : Fault → Type 0
+EndsUnnamed fault = fault ≡ TablesNeeded
+
+-- when a fault ends the reading of what FILE names: it can't be opened or a read of it fails, for the reason that is
+-- said, or memory was refused
+abbrev pub EndsFile : FileFacts → ℕ → List ℕ → Fault → Type 0
+EndsFile files most file (CannotRead said unread) = (said.now ≡ file)
+    × (files.Refuses (origin_of file) most unread ⊎ ((bytes : List ℕ) × files.Fails (origin_of file) most bytes unread))
+EndsFile files most file OutOfMemory = Unit {0}
+EndsFile files most file _ = ⊥
+
+-- when a fault ends the reading of the characters of what FILE names: its bytes are not UTF-8, or memory was refused
+abbrev pub EndsText : FileFacts → List ℕ → Fault → Type 0
+EndsText files file (NotUtf8 named) = (named.now ≡ file) × (bytes : List ℕ) × files.Holds (origin_of file) most_text_bytes bytes × ¬ (IsUtf8 bytes)
+EndsText files file OutOfMemory = Unit {0}
+EndsText files file _ = ⊥
+
+-- when a fault ends the look at its lines: this one is the first that is too long for a row
+abbrev pub EndsLines : FileFacts → List ℕ → Fault → Type 0
+EndsLines files file (LongLine named line) = (named.now ≡ file) × (text : List ℕ) × HoldsText files file text × (first_long_line text ≡ Some line)
+EndsLines files file _ = ⊥
+
+-- that a word has no more bytes than a text may have, which this fault says
+abbrev pub length_part : Fault → List ℕ → RequestPart
+length_part too_long word = record {
+  Done = length word ≤ most_text_bytes;
+  EndsBy = λ fault. (fault ≡ too_long) × (most_text_bytes < length word);
+}
+
+-- the reading of the names in it
+abbrev pub names_part : List ℕ → RequestPart
+names_part word = record {
+  Done = (classes : List Class) × (classes_named word ≡ Some classes);
+  EndsBy = EndsNames word;
+}
+
+-- what is read of a word for classes
+abbrev pub classes_parts : List ℕ → List RequestPart
+classes_parts word = length_part ClassesTooLong word ∷ names_part word ∷ []
+
+-- the reading of the code points in it
+abbrev pub codes_part : List ℕ → RequestPart
+codes_part word = record {
+  Done = (chars : List ℕ) × (codes_said word ≡ Some chars);
+  EndsBy = EndsCodes word;
+}
+
+-- what is read of a word for code points
+abbrev pub codes_parts : List ℕ → List RequestPart
+codes_parts word = length_part CodesTooLong word ∷ codes_part word ∷ []
+
+-- the reading of a word for lengths
+abbrev pub lengths_part : List ℕ → RequestPart
+lengths_part word = record {
+  Done = (ends : ℕ × ℕ) × (lengths_named word ≡ Some ends);
+  EndsBy = EndsLengths word;
+}
+
+-- that there is a file of this form of texts
+abbrev pub making_part : RowsForm → ExhaustiveOf → RequestPart
+making_part form texts = record {
+  Done = refusal_in form texts ≡ None;
+  EndsBy = EndsMaking form texts;
+}
+
+-- the reading of a word for directions
+abbrev pub directions_part : List ℕ → RequestPart
+directions_part word = record {
+  Done = (directions : List Direction) × SaysDirections word directions;
+  EndsBy = EndsDirections word;
+}
+
+-- that there is memory
+abbrev pub memory_part : RequestPart
+memory_part = record {
+  Done = Unit {0};
+  EndsBy = λ fault. fault ≡ OutOfMemory;
+}
+
+-- what is read for the letters of a file of this kind: the names or the code points in their word, if there is one; the
+-- classes of a form are letters without tables
+abbrev pub alphabet_parts : FileKind → RowLetters → List RequestPart
+alphabet_parts Classes (Alphabet word) = names_part word.now ∷ []
+alphabet_parts Characters (Alphabet word) = codes_part word.now ∷ []
+alphabet_parts Classes (OfForm form) = memory_part ∷ []
+alphabet_parts Characters (OfForm form) = []
+
+-- the making of the tables that are built in
+abbrev pub built_in_part : RequestPart
+built_in_part = record {
+  Done = (tables : TablesOf) × AreBuiltIn tables;
+  EndsBy = EndsBuiltIn;
+}
+
+-- when a fault ends the writing: a write failed, or memory was refused
+abbrev pub EndsWriting : Fault → Type 0
+EndsWriting CannotWrite = Unit {0}
+EndsWriting OutOfMemory = Unit {0}
+EndsWriting _ = ⊥
+
+-- the fault is that of the first part of reading that fails, and nothing is written; or all is read, and a write or
+-- memory failed
+abbrev pub FailsIn : List RequestPart → Option (List ℕ) → Option (List ℕ) → Fault → Type 0
+FailsIn parts before after fault = (IsFirstFault parts fault × (after ≡ before)) ⊎ (AreDone parts × EndsWriting fault)
+
+module _ (files : FileFacts) where
+  -- the reading of the folder's table of this name, by the fault of a line behind others
+  abbrev pub table_part : (List (List ℕ) → List ℕ → Option LineFault) → List ℕ → List ℕ → RequestPart
+  table_part fault folder name = record {
+    Done = IsFaultless files fault (in_folder folder name);
+    EndsBy = EndsTable files fault folder name;
+  }
+
+  -- the reading of its classes
+  abbrev pub class_part : List ℕ → RequestPart
+  class_part folder = record {
+    Done = (path : List ℕ) × IsClassPath files folder path × IsFaultless files class_fault path;
+    EndsBy = EndsClasses files folder;
+  }
+
+  -- the classes, the brackets, the mirror images
+  abbrev pub table_parts : List ℕ → List RequestPart
+  table_parts folder =
+      class_part folder ∷ table_part bracket_fault folder bracket_name ∷ table_part mirror_fault folder mirror_name ∷ []
+
+  -- what is read for the tables of this source
+  abbrev pub source_parts : TableSource → List RequestPart
+  source_parts (Folder folder) = table_parts folder.now
+  source_parts BuiltIn = built_in_part ∷ []
+
+  -- what is read for the tables of rows of this kind
+  abbrev pub kind_parts : FileKind → TableSource → List RequestPart
+  kind_parts Classes source = []
+  kind_parts Characters source = source_parts source
+
+  -- that the texts which are asked for can be enumerated or drawn
+  abbrev pub texts_part : AskedRows → RequestPart
+  texts_part asked = record {
+    Done = CanBeMade files asked;
+    EndsBy = EndsTexts files asked;
+  }
+
+  -- what is read to print rows
+  unfoldable pub rows_parts : AskedRows → List RequestPart
+  rows_parts asked = lengths_part asked.lengths.now ∷ directions_part asked.directions.now
+      ∷ (alphabet_parts asked.kind asked.letters ++ (kind_parts asked.kind asked.tables ++ texts_part asked ∷ []))
+
+  -- the reading of what FILE names to its end
+  abbrev pub file_part : ℕ → List ℕ → RequestPart
+  file_part most file = record {
+    Done = (bytes : List ℕ) × files.Holds (origin_of file) most bytes;
+    EndsBy = EndsFile files most file;
+  }
+
+  -- the opening of what FILE names, of which a part was read then
+  abbrev pub opening_part : ℕ → List ℕ → RequestPart
+  opening_part most file = record {
+    Done = (bytes : List ℕ) × files.Begins (origin_of file) most bytes;
+    EndsBy = EndsOpening (files.Refuses (origin_of file) most) file;
+  }
+
+  -- the reading of its characters
+  abbrev pub characters_part : List ℕ → RequestPart
+  characters_part file = record {
+    Done = (bytes : List ℕ) × files.Holds (origin_of file) most_text_bytes bytes × IsUtf8 bytes;
+    EndsBy = EndsText files file;
+  }
+
+  abbrev pub text_parts : List ℕ → List RequestPart
+  text_parts file = file_part most_text_bytes file ∷ characters_part file ∷ []
+
+  -- that no line of its text is too long for a row
+  abbrev pub lines_part : List ℕ → RequestPart
+  lines_part file = record {
+    Done = (text : List ℕ) × HoldsText files file text × (first_long_line text ≡ None);
+    EndsBy = EndsLines files file;
+  }
+
+  -- what is read of a text for its rows
+  abbrev pub row_text_parts : List ℕ → List RequestPart
+  row_text_parts file = text_parts file ++ lines_part file ∷ []
+
+  -- what is read to print the lines of a text as rows
+  unfoldable pub lines_parts : AskedLines → List RequestPart
+  lines_parts asked = directions_part asked.directions.now ∷ (source_parts asked.tables ++ row_text_parts asked.file.now)
+
+  -- what is read to print a text
+  unfoldable pub printing_parts : TableSource → List ℕ → List RequestPart
+  printing_parts source file = source_parts source ++ text_parts file
+
+  -- what is read to explain code points
+  unfoldable pub explaining_parts : List ℕ → TableSource → List RequestPart
+  explaining_parts word source = codes_parts word ++ source_parts source
+
+  -- what is read to judge a file of characters
+  abbrev pub characters_parts : List ℕ → List ℕ → List RequestPart
+  characters_parts folder file = table_parts folder ++ file_part most_file_bytes file ∷ []
+
+  -- what is read to report on a file of characters, before its first byte
+  abbrev pub opening_parts : List ℕ → List ℕ → List RequestPart
+  opening_parts folder file = table_parts folder ++ opening_part most_file_bytes file ∷ []
+
+  -- what is read for a request, in this order
+  abbrev pub parts_of : Request → List RequestPart
+  parts_of (Text source direction file print) = printing_parts source file.now
+  parts_of (ExplainClasses word direction) = classes_parts word.now
+  parts_of (ExplainCodes word source direction) = explaining_parts word.now source
+  parts_of (Judge Classes tables file) = file_part most_file_bytes file.now ∷ []
+  parts_of (Judge Characters (Some folder) file) = characters_parts folder.now file.now
+  parts_of (Judge Characters None file) = record { Done = ⊥; EndsBy = EndsUnnamed } ∷ []
+  parts_of (Report Classes tables file options) = opening_part most_file_bytes file.now ∷ []
+  parts_of (Report Characters (Some folder) file options) = opening_parts folder.now file.now
+  parts_of (Report Characters None file options) = record { Done = ⊥; EndsBy = EndsUnnamed } ∷ []
+  parts_of (Rows asked) = rows_parts asked
+  parts_of (RowsOf asked) = lines_parts asked
