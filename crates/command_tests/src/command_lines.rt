@@ -1,16 +1,24 @@
 //! Command lines that many tests run with.
+
+/// `levels` of a text, by the tables of a folder.
 pub const LEVELS: [&str; 5] = ["bidi", "levels", "--tables", "t", "FILE"];
 
+/// `reorder` of a text.
 pub const REORDER: [&str; 5] = ["bidi", "reorder", "--tables", "t", "FILE"];
 
+/// `explain` of a text.
 pub const EXPLAIN: [&str; 5] = ["bidi", "explain", "--tables", "t", "FILE"];
 
+/// `explain` of classes.
 pub const EXPLAIN_CLASSES: [&str; 4] = ["bidi", "explain", "--classes", "R ON LRE L"];
 
+/// `explain` of code points.
 pub const EXPLAIN_CODES: [&str; 6] = ["bidi", "explain", "--tables", "t", "--codes", "05D0 0028"];
 
+/// `judge` of a file of classes.
 pub const JUDGE_CLASSES: [&str; 5] = ["bidi", "judge", "--kind", "classes", "FILE"];
 
+/// `rows`: all texts of one class.
 pub const ROWS: [&str; 8] = [
     "bidi",
     "rows",
@@ -22,6 +30,7 @@ pub const ROWS: [&str; 8] = [
     "1",
 ];
 
+/// `judge` of a file of characters.
 pub const JUDGE_CHARACTERS: [&str; 7] = [
     "bidi",
     "judge",
@@ -32,8 +41,10 @@ pub const JUDGE_CHARACTERS: [&str; 7] = [
     "FILE",
 ];
 
+/// `report` on a file of classes.
 pub const REPORT_CLASSES: [&str; 5] = ["bidi", "report", "--kind", "classes", "FILE"];
 
+/// `report` on a file of characters.
 pub const REPORT_CHARACTERS: [&str; 7] = [
     "bidi",
     "report",

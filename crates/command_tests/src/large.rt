@@ -1,6 +1,7 @@
-//! Texts at the limit of their files' bytes.
-use crate::command_lines::REORDER;
+//! Texts at the limit of their files' bytes, and rows at that of their lines'.
+use crate::command_lines::{JUDGE_CHARACTERS, REORDER, REPORT_CHARACTERS};
 use crate::memory_files::{MemoryFiles, tables_and};
+use crate::runs::{Ending, assert_run};
 use crate::writers::FixedWriter;
 use command::run::run;
 use std::alloc::Global;
@@ -59,5 +60,73 @@ fn a_text_of_as_many_bytes_as_allowed_is_read(rt: HostRuntime) -> Result<(), Fai
         b"bidi: cannot read FILE: too large\n",
     );
     assert!(rt; out.is_empty());
+    Ok(())
+}
+
+/// A row of this code point, so many times, under left-to-right. For each it claims this level, and it claims no order.
+fn row_of(alloc: Global, code: &[u8], count: usize, level: &[u8]) -> Result<Vec<u8>, Fail> {
+    let mut row = Vec::with_capacity(alloc, 65_537)?;
+    for _ in 0..count {
+        row.extend_from_slice(code)?;
+    }
+    row.extend_from_slice(b";0;0;")?;
+    for _ in 0..count {
+        row.extend_from_slice(level)?;
+    }
+    row.extend_from_slice(b";\n")?;
+    Ok(row)
+}
+
+/// Runs `judge` and `report` over a file of characters, and compares the status and what each prints.
+fn assert_judged(
+    rt: &impl Abort,
+    alloc: Global,
+    row: &[u8],
+    status: u8,
+    verdict: &[u8],
+    report: &[u8],
+) {
+    let files = tables_and(row);
+    let judged = Ending::prints(status, verdict);
+    assert_run(rt, alloc, &JUDGE_CHARACTERS, &files, judged);
+    let reported = Ending::prints(status, report);
+    assert_run(rt, alloc, &REPORT_CHARACTERS, &files, reported);
+}
+
+/// As many LREs, which X9 removes, as a line of 65,536 bytes has place for with their levels.
+#[test]
+fn a_right_row_on_the_longest_line_is_judged(rt: HostRuntime) -> Result<(), Fail> {
+    let alloc = rt.alloc();
+    let row = row_of(alloc, b"202A ", 9361, b"x ")?;
+    let verdict = b"yes: 1 rows, 1 cases\n";
+    let report = b"1 rows, 0 wrong; 1 cases, 0 wrong
+wrong by direction: auto 0, ltr 0, rtl 0, auto-rtl 0
+wrong by place: paragraph level 0, levels 0, order 0
+";
+    assert_judged(&rt, alloc, &row, 0, verdict, report);
+    Ok(())
+}
+
+/// As many Hebrew letters as such a line has place for without their levels, and one more, with which it is too long.
+#[test]
+fn a_wrong_row_on_the_longest_line_is_judged(rt: HostRuntime) -> Result<(), Fail> {
+    let alloc = rt.alloc();
+    let row = row_of(alloc, b"05D0 ", 13_106, b"")?;
+    let verdict = b"no: line 1: ltr: levels at 0\n";
+    let report = b"line 1: ltr: levels at 0: claimed nothing, defined 1
+1 rows, 1 wrong; 1 cases, 1 wrong
+wrong by direction: auto 0, ltr 1, rtl 0, auto-rtl 0
+wrong by place: paragraph level 0, levels 1, order 0
+";
+    assert_judged(&rt, alloc, &row, 1, verdict, report);
+
+    let row = row_of(alloc, b"05D0 ", 13_107, b"")?;
+    let verdict = b"no: line 1: malformed: LineTooLong\n";
+    let report = b"no: line 1: malformed: LineTooLong
+0 rows, 0 wrong; 0 cases, 0 wrong
+wrong by direction: auto 0, ltr 0, rtl 0, auto-rtl 0
+wrong by place: paragraph level 0, levels 0, order 0
+";
+    assert_judged(&rt, alloc, &row, 1, verdict, report);
     Ok(())
 }

@@ -47,6 +47,8 @@ mod runs;
 #[cfg(test)]
 mod table_faults;
 #[cfg(test)]
+mod text_rows;
+#[cfg(test)]
 mod unread;
 #[cfg(test)]
 mod words;

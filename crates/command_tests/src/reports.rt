@@ -100,6 +100,118 @@ wrong by place: paragraph level 1, levels 2, order 1
     );
 }
 
+/// Rows of an engine that keeps the positions that X9 removes, and of one that tells an order and no levels.
+const KEPT: &[u8] = b"@Levels: 0 1 1
+@Reorder: 0 2 1
+RLE R PDF; 2
+@Levels: 1
+@Reorder: 0
+L; 2
+";
+
+#[test]
+fn compares_all_that_is_claimed_where_nothing_else_is_said(rt: HostRuntime) {
+    let text = b"line 3: ltr: levels at 0: claimed 0, defined x
+line 6: ltr: levels at 0: claimed 1, defined 0
+2 rows, 2 wrong; 2 cases, 2 wrong
+wrong by direction: auto 0, ltr 2, rtl 0, auto-rtl 0
+wrong by place: paragraph level 0, levels 2, order 0
+";
+    let files = [whole("FILE", KEPT)];
+    let ending = Ending::prints(1, text);
+    assert_run(&rt, rt.alloc(), &REPORT_CLASSES, &files, ending);
+}
+
+#[test]
+fn compares_what_is_asked_for(rt: HostRuntime) {
+    let rows: [(&[&str], u8, &[u8]); 3] = [
+        (
+            &["bidi", "report", "--kind", "classes", "--shown", "FILE"],
+            1,
+            b"line 6: ltr: levels at 0: claimed 1, defined 0
+2 rows, 1 wrong; 2 cases, 1 wrong
+wrong by direction: auto 0, ltr 1, rtl 0, auto-rtl 0
+wrong by place: paragraph level 0, levels 1, order 0
+",
+        ),
+        (
+            &["bidi", "report", "--kind", "classes", "--order", "FILE"],
+            1,
+            b"line 3: ltr: order at 0: claimed 0, defined 1
+2 rows, 1 wrong; 2 cases, 1 wrong
+wrong by direction: auto 0, ltr 1, rtl 0, auto-rtl 0
+wrong by place: paragraph level 0, levels 0, order 1
+",
+        ),
+        (
+            &[
+                "bidi", "report", "--order", "--kind", "classes", "--shown", "FILE",
+            ],
+            0,
+            b"2 rows, 0 wrong; 2 cases, 0 wrong
+wrong by direction: auto 0, ltr 0, rtl 0, auto-rtl 0
+wrong by place: paragraph level 0, levels 0, order 0
+",
+        ),
+    ];
+    for (words, status, text) in rows {
+        let files = [whole("FILE", KEPT)];
+        assert_run(&rt, rt.alloc(), words, &files, Ending::prints(status, text));
+    }
+}
+
+#[test]
+fn tells_places_of_what_is_shown(rt: HostRuntime) {
+    let bytes = b"@Levels: 9 1 9
+@Reorder: 0 2
+RLE R PDF; 2
+@Reorder: 2 1 0 7
+RLE R PDF; 2
+@Levels: 9 2 9
+RLE R PDF; 2
+@Levels: 9 1
+RLE R PDF; 2
+@Levels: x 1 x 0
+RLE R PDF; 2
+";
+    let text = b"line 3: ltr: order at 0: claimed nothing, defined 1
+line 5: ltr: order at 1: claimed 7, defined nothing
+line 7: ltr: levels at 1: claimed 2, defined 1
+line 9: ltr: levels at 2: claimed nothing, defined x
+line 11: ltr: levels at 3: claimed 0, defined nothing
+5 rows, 5 wrong; 5 cases, 5 wrong
+wrong by direction: auto 0, ltr 5, rtl 0, auto-rtl 0
+wrong by place: paragraph level 0, levels 3, order 2
+";
+    let words = ["bidi", "report", "--kind", "classes", "--shown", "FILE"];
+    let files = [whole("FILE", bytes)];
+    assert_run(&rt, rt.alloc(), &words, &files, Ending::prints(1, text));
+}
+
+#[test]
+fn passes_over_the_paragraph_level_beside_the_order_alone(rt: HostRuntime) {
+    let bytes = b"0061;0;1;0;0
+0061 05D0;1;0;7 7 7;0 1
+";
+    let text = b"line 2: rtl: order at 0: claimed 0, defined 1
+2 rows, 1 wrong; 2 cases, 1 wrong
+wrong by direction: auto 0, ltr 0, rtl 1, auto-rtl 0
+wrong by place: paragraph level 0, levels 0, order 1
+";
+    let words = [
+        "bidi",
+        "report",
+        "--kind",
+        "characters",
+        "--tables",
+        "t",
+        "--order",
+        "FILE",
+    ];
+    let ending = Ending::prints(1, text);
+    assert_run(&rt, rt.alloc(), &words, &tables_and(bytes), ending);
+}
+
 #[test]
 fn prints_twenty_wrong_cases_where_it_is_not_said_how_many(rt: HostRuntime) {
     let bytes = b"@Levels: 1\n@Reorder: 0\nL;3\nL;3\nL;3\nL;3\nL;3\nL;3\nL;3\nL;3\nL;3\nL;3\nL;3\n";

@@ -150,9 +150,9 @@ fn says_why_nothing_is_explained(rt: HostRuntime) {
 #[test]
 fn says_why_there_are_no_rows(rt: HostRuntime) {
     let none: &[u8] =
-        b"error: the argument '--alphabet <LETTERS>' is required with '--form exhaustive' and '--form random'\n\nUsage: bidi rows [OPTIONS] --form exhaustive|random --alphabet <LETTERS> --length <LENGTHS>\n       bidi rows [OPTIONS] --form <FORM> --length <LENGTHS>\n\nFor more information, try '--help'.\n";
+        b"error: the argument '--alphabet <LETTERS>' is required with '--form exhaustive' and '--form random'\n\nUsage: bidi rows [OPTIONS] --form exhaustive|random --alphabet <LETTERS> --length <LENGTHS>\n       bidi rows [OPTIONS] --form <FORM> --length <LENGTHS>\n       bidi rows [OPTIONS] --of <FILE>\n\nFor more information, try '--help'.\n";
     let both: &[u8] =
-        b"error: the argument '--alphabet <LETTERS>' can be used only with '--form exhaustive' and '--form random'\n\nUsage: bidi rows [OPTIONS] --form exhaustive|random --alphabet <LETTERS> --length <LENGTHS>\n       bidi rows [OPTIONS] --form <FORM> --length <LENGTHS>\n\nFor more information, try '--help'.\n";
+        b"error: the argument '--alphabet <LETTERS>' can be used only with '--form exhaustive' and '--form random'\n\nUsage: bidi rows [OPTIONS] --form exhaustive|random --alphabet <LETTERS> --length <LENGTHS>\n       bidi rows [OPTIONS] --form <FORM> --length <LENGTHS>\n       bidi rows [OPTIONS] --of <FILE>\n\nFor more information, try '--help'.\n";
     for form in ["exhaustive", "random"] {
         let words = ["bidi", "rows", "--form", form, "--length", "1"];
         assert_run(&rt, rt.alloc(), &words, &[], Ending::fails(2, none));
@@ -176,6 +176,29 @@ fn says_why_there_are_no_rows(rt: HostRuntime) {
             "1",
         ];
         assert_run(&rt, rt.alloc(), &words, &[], Ending::fails(2, both));
+    }
+}
+
+#[test]
+fn says_why_there_are_no_rows_of_a_text(rt: HostRuntime) {
+    let both: &[u8] =
+        b"error: the argument '--of <FILE>' cannot be used with '--form <FORM>', '--alphabet <LETTERS>', '--length <LENGTHS>', '--seed <N>' or '--count <N>'\n\nUsage: bidi rows [OPTIONS] --form exhaustive|random --alphabet <LETTERS> --length <LENGTHS>\n       bidi rows [OPTIONS] --form <FORM> --length <LENGTHS>\n       bidi rows [OPTIONS] --of <FILE>\n\nFor more information, try '--help'.\n";
+    let neither: &[u8] =
+        b"error: '--form <FORM>' is required, or '--of <FILE>'\n\nUsage: bidi rows [OPTIONS] --form exhaustive|random --alphabet <LETTERS> --length <LENGTHS>\n       bidi rows [OPTIONS] --form <FORM> --length <LENGTHS>\n       bidi rows [OPTIONS] --of <FILE>\n\nFor more information, try '--help'.\n";
+    let no_length: &[u8] =
+        b"error: the argument '--length <LENGTHS>' is required with '--form <FORM>'\n\nUsage: bidi rows [OPTIONS] --form exhaustive|random --alphabet <LETTERS> --length <LENGTHS>\n       bidi rows [OPTIONS] --form <FORM> --length <LENGTHS>\n       bidi rows [OPTIONS] --of <FILE>\n\nFor more information, try '--help'.\n";
+    let rows: [(&[&str], &[u8]); 8] = [
+        (&["bidi", "rows", "--of", "FILE", "--form", "nest"], both),
+        (&["bidi", "rows", "--of", "FILE", "--alphabet", "L"], both),
+        (&["bidi", "rows", "--of", "FILE", "--length", "1"], both),
+        (&["bidi", "rows", "--of", "FILE", "--seed", "1"], both),
+        (&["bidi", "rows", "--of", "FILE", "--count", "1"], both),
+        (&["bidi", "rows"], neither),
+        (&["bidi", "rows", "--length", "1"], neither),
+        (&["bidi", "rows", "--form", "nest"], no_length),
+    ];
+    for (words, text) in rows {
+        assert_run(&rt, rt.alloc(), words, &[], Ending::fails(2, text));
     }
 }
 

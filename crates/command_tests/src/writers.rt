@@ -38,6 +38,7 @@ pub struct FixedWriter {
 }
 
 impl FixedWriter {
+    /// A writer to which nothing was written.
     pub fn new() -> Self {
         FixedWriter {
             bytes: [0; MOST_WRITTEN],
@@ -45,6 +46,7 @@ impl FixedWriter {
         }
     }
 
+    /// What was written to it.
     pub fn written(&self) -> &[u8] {
         &self.bytes[..self.len.min(MOST_WRITTEN)]
     }

@@ -1,4 +1,5 @@
-//! Lays out a text by the tables that are built in, and prints the level of each character and each line as it is shown.
+//! Lays out a text by the tables that are built in, and prints the level of each character and each line as it is
+//! shown.
 #![tactic(auto)]
 
 use std::error::Error;

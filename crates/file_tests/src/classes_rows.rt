@@ -10,8 +10,10 @@ use units::level::Direction;
 use units::limits::Limits;
 use units::memory::Memory;
 
+/// A file of classes whose row is wrong under `rtl`.
 pub const WRONG_UNDER_RTL: &[u8] = b"@Levels: 0\n@Reorder: 0\nL; 7\n";
 
+/// The verdict on it.
 pub const WRONG_UNDER_RTL_VERDICT: Verdict = Verdict::Wrong {
     line: 3,
     direction: Direction::Rtl,

@@ -1,5 +1,5 @@
-//! Tests of test files of both kinds and their judges, and of sources of bytes. They stand here, and not beside what they
-//! test, so that no crate is proved a second time with its tests.
+//! Tests of test files of both kinds and their judges, and of sources of bytes. They stand here, and not beside what
+//! they test, so that no crate is proved a second time with its tests.
 #![tactic(auto)]
 
 #[cfg(test)]

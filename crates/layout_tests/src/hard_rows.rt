@@ -1,4 +1,4 @@
-//! Small texts at which engines have gone wrong and which no line of the official test files holds, each with the rule
+//! Small texts at which engines have gone wrong and which no line of BidiCharacterTest.txt holds, each with the rule
 //! that it shows, by the tables that are built in.
 use crate::given::{levels, numbers, shows_in_room, units_by};
 use std::alloc::Global;
@@ -16,7 +16,7 @@ struct Row {
     order: &'static str,
 }
 
-const ROWS: [Row; 12] = [
+const ROWS: [Row; 15] = [
     // I1: a number alone has level 2 on a line at level 0
     Row {
         text: "\u{661}",
@@ -93,6 +93,27 @@ const ROWS: [Row; 12] = [
         direction: Direction::Ltr,
         levels: "1 2 0",
         order: "1 0 2",
+    },
+    // N0 b: both brackets of a pair take the direction that stands inside
+    Row {
+        text: "(a)a",
+        direction: Direction::Rtl,
+        levels: "1 2 1 2",
+        order: "3 2 1 0",
+    },
+    // BD13: what X9 removes parts no level run
+    Row {
+        text: "a\u{202C}\u{2069}a",
+        direction: Direction::Rtl,
+        levels: "2 x 2 2",
+        order: "0 2 3",
+    },
+    // L2: positions are put in order by the levels after L1
+    Row {
+        text: "\u{202D}a\u{2069}",
+        direction: Direction::Rtl,
+        levels: "x 2 1",
+        order: "2 1",
     },
     // X5a: an isolate initiator under an override is overridden
     Row {

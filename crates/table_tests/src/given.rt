@@ -32,6 +32,7 @@ pub enum TableKind {
     Mirrors,
 }
 
+/// All kinds of tables, in the order in which they are read.
 pub const TABLE_KINDS: [TableKind; 3] = [
     TableKind::Classes,
     TableKind::Brackets,

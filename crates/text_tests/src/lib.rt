@@ -1,5 +1,5 @@
-//! Tests of texts: laid out in UTF-8 and UTF-16, printed, and explained. They stand here, and not beside what they test,
-//! so that no crate is proved a second time with its tests.
+//! Tests of texts: laid out in UTF-8 and UTF-16, printed, and explained. They stand here, and not beside what they
+//! test, so that no crate is proved a second time with its tests.
 #![tactic(auto)]
 
 #[cfg(test)]
@@ -17,6 +17,6 @@ mod printed_refused;
 #[cfg(test)]
 mod printed_reorder;
 #[cfg(test)]
-mod printed_utf8;
+mod printed_source;
 #[cfg(test)]
 mod text_rows;
