@@ -68,6 +68,7 @@ ends 2 '' 'bidi: --tables is needed' judge --kind characters characters.txt
 ends 0 $'@Levels: 1\n@Reorder: 0\nR; 1\n@Levels: 1\n@Reorder: 0\nR; 2\n@Levels: 1\n@Reorder: 0\nR; 4' '' \
     rows --form exhaustive --alphabet R --length 1
 ends 2 '' 'bidi: 1-2 is no range of lengths' rows --form exhaustive --alphabet R --length 1-2
+ends 0 '05D0 0020 0028 0061;1;1;1 1 1 2;3 2 1 0' '' rows --of text.txt --directions rtl
 ends 0 $'paragraph 0 level 1\n0 05D0 R 1\n1 0020 WS 1\n2 0028 ON 1\n3 0061 L 2' '' levels --tables t text.txt
 ends 0 $'paragraph 0 level 0\n0 05D0 R 1\n1 0020 WS 0\n2 0028 ON 0\n3 0061 L 0' '' \
     levels --tables t --direction ltr text.txt
@@ -195,6 +196,14 @@ is 'status of rows of the longest text' 0 $?
 is 'lines of rows of the longest text' 9 "$(wc -l < rows.txt)"
 ends 0 'yes: 3 rows, 3 cases' '' judge --kind classes rows.txt
 ends 2 '' 'bidi: --length ends above 4095' rows --form exhaustive --alphabet R --length 4096
+
+# The longest line that is a row, and one character more.
+head -c 4095 /dev/zero | tr '\0' x > line.txt
+"$program" rows --of line.txt --tables t > rows.txt 2> found_err
+is 'status of rows of the longest line' 0 $?
+ends 0 'yes: 3 rows, 3 cases' '' judge --kind characters --tables t rows.txt
+printf x >> line.txt
+ends 3 '' 'bidi: line.txt: line 1: too long' rows --of line.txt
 
 # Rows of each form of hard texts and of each kind, by the tables that are built in, which the judge says yes to by those
 # of Unicode 15.0, where they are installed. Among 20 texts some pass the greatest depth, and the most open brackets.

@@ -1,7 +1,9 @@
 """Texts laid out: levels, lines, runs, and what is shown."""
 import array
+import bisect
 import contextlib
 import enum
+import functools
 import itertools
 import threading
 import typing
@@ -40,8 +42,10 @@ class Limits(typing.NamedTuple):
 
 
 class Run(typing.NamedTuple):
-    """A visual run: positions [start, start + length) of one level, removed ones between them included, of which
-    `shown` are shown, side by side."""
+    """A visual run: positions [start, start + length) of one level, of which `shown` are shown, side by side. One that
+    X9 removes has the level of the next one of its line that is shown, and that of the paragraph where none is. Such
+    ones alone are a run at a line's end, where the last one before them has another level: the leftmost where the
+    paragraph's level is 1, else the rightmost."""
 
     start: int
     length: int
@@ -133,7 +137,7 @@ class Room(AnyRoom):
         def call(*words):
             return CALL.bidi_lay_out_classes_with(self._handle, numbers, len(numbers), *words)
 
-        return self._hold(call, lambda *held: Layout(*held, None, None), direction, breaks, limits)
+        return self._hold(call, lambda *held: Layout(*held, None, numbers), direction, breaks, limits)
 
 
 class AnyLayout:
@@ -165,14 +169,15 @@ class AnyLayout:
         with self._held() as handle:
             return copied(code, lambda at, place: call(handle, *words, at, place))
 
-    def _runs(self, call, number):
-        """The visual runs of a line from left to right, as the call tells of them."""
-        found, run, at = [], library.Run(), 0
+    def _runs(self, name, number):
+        """The visual runs of a line from left to right, as the call with this name tells them."""
+        if not library.HAS_RUNS:
+            raise NotImplementedError("this library does not tell all runs of a line")
+        call = getattr(CALL, name)
         with self._held() as handle:
-            while call(handle, number, at, run) == 0:
-                found.append(Run(run.start, run.length, run.shown, run.level))
-                at += run.shown
-        return found
+            found = (library.Run * call(handle, number, None, 0))()
+            call(handle, number, found, len(found))
+        return [Run(run.start, run.length, run.shown, run.level) for run in found]
 
     @contextlib.contextmanager
     def _held(self):
@@ -187,6 +192,7 @@ class Layout(AnyLayout):
     """What a room laid out: levels, paragraphs and lines. Places of lines are counted from the left."""
 
     def __init__(self, room, number, lent, text, codes):
+        """The text is None where it is one of classes; `codes` are their numbers then."""
         super().__init__(room, number, lent)
         self._text, self._codes = text, codes
 
@@ -234,6 +240,19 @@ class Layout(AnyLayout):
             raise ValueError("a text of classes has no characters")
         return self._text
 
+    @functools.cached_property
+    def _paragraphs(self):
+        """The positions of the paragraph separators, and the level of each paragraph."""
+        separates = NUMBERS["B"].__eq__ if self._text is None else self._lent.tables._separates
+        items = self._codes if self._text is None else self._text
+        separators = {item for item in set(items) if separates(item)}
+        return [at for at, item in enumerate(items) if item in separators], self.paragraph_levels
+
+    def _paragraph_level(self, at):
+        """The level of the paragraph in which a position lies."""
+        separators, levels = self._paragraphs
+        return levels[bisect.bisect_left(separators, at)]
+
     def _displayed(self, line):
         """What one of its lines shows, without a paragraph separator."""
         shown, last = line.shown, line.end - 1
@@ -266,8 +285,9 @@ class Line:
 
     @property
     def runs(self):
-        """Its visual runs from left to right."""
-        return self._layout._runs(CALL.bidi_run, self._number)
+        """Its visual runs from left to right; each of its positions is in one of them. NotImplementedError: the library
+        is an older one."""
+        return self._layout._runs("bidi_runs", self._number)
 
     @property
     def shown(self):
@@ -303,6 +323,8 @@ class LineAlone:
             refuse(CALL.bidi_line_of(handle, start, end, address(levels), n, address(order), n, shown))
         self.levels = [None if level == REMOVED else level for level in levels]
         self.order = order[: shown.value].tolist()
+        # Its paragraph's level, which only positions have that are removed at its end.
+        self._end_level = layout._paragraph_level(start) if self.levels[-1] is None else None
 
     @property
     def places(self):
@@ -312,13 +334,14 @@ class LineAlone:
 
     @property
     def runs(self):
-        """Its visual runs from left to right."""
-        found = []
-        for level, positions in itertools.groupby(self.order, self._level):
-            positions = list(positions)
-            first, last = min(positions), max(positions)
-            found.append(Run(first, last + 1 - first, len(positions), level))
-        return found
+        """Its visual runs from left to right; each of its positions is in one of them."""
+        kept, places, found = self._kept_levels(), self.places, []
+        for level, group in itertools.groupby(range(len(kept)), kept.__getitem__):
+            positions = list(group)
+            taken = [places[at] for at in positions if places[at] is not None]
+            first = min(taken, default=-1 if level % 2 else len(self.order))
+            found.append((first, Run(self.start + positions[0], len(positions), len(taken), level)))
+        return [run for _, run in sorted(found)]
 
     @property
     def shown(self):
@@ -330,6 +353,15 @@ class LineAlone:
     def display(self):
         """`shown` without a paragraph separator."""
         return self._layout._displayed(self)
+
+    def _kept_levels(self):
+        """The level of each of its positions: where X9 removes it, that of the next one that is shown, and the
+        paragraph's where none is."""
+        after, kept = self._end_level, []
+        for level in reversed(self.levels):
+            after = after if level is None else level
+            kept.append(after)
+        return kept[::-1]
 
     def _level(self, at):
         return self.levels[at - self.start]

@@ -78,6 +78,7 @@ TEXT = [HANDLE, HANDLE, c_void_p, c_size_t, c_uint32, c_void_p, c_size_t]
 CLASSES = [HANDLE, c_char_p, c_size_t, c_uint32, c_void_p, c_size_t]
 PLACE = POINTER(c_uint64)
 BYTE = POINTER(c_uint8)
+RUNS = [HANDLE, c_size_t, POINTER(Run), c_size_t]
 CALLS = {
     "bidi_tables_new": (c_uint32, [c_char_p, c_size_t] * 3 + [HANDLE, POINTER(Fault)]),
     "bidi_tables_free": (None, [HANDLE]),
@@ -92,7 +93,6 @@ CALLS = {
     "bidi_line": (c_uint32, [HANDLE, c_size_t, POINTER(Line)]),
     "bidi_order": (c_size_t, [HANDLE, c_size_t, c_void_p, c_size_t]),
     "bidi_places": (c_size_t, [HANDLE, c_size_t, c_void_p, c_size_t]),
-    "bidi_run": (c_uint32, [HANDLE, c_size_t, c_size_t, POINTER(Run)]),
     "bidi_shown": (c_size_t, [HANDLE, HANDLE, c_void_p, c_size_t, c_size_t, c_void_p, c_size_t]),
     "bidi_judge_new_classes_with": (c_uint32, [HANDLE, Limits]),
     "bidi_judge_new_characters_with": (c_uint32, [HANDLE, HANDLE, Limits]),
@@ -111,6 +111,8 @@ NEWER_CALLS = {
     "bidi_line_of": (c_uint32, [HANDLE, c_size_t, c_size_t, *[c_void_p, c_size_t] * 2, POINTER(c_size_t)]),
     "bidi_base_level": (c_uint32, [HANDLE, c_void_p, c_size_t, c_uint32, BYTE, PLACE]),
     "bidi_is_left_to_right": (c_uint32, [HANDLE, c_void_p, c_size_t, BYTE, PLACE]),
+    "bidi_runs": (c_size_t, RUNS),
+    "bidi_encoded_runs": (c_size_t, RUNS),
 }
 # Those for texts in UTF-8.
 UTF8_TEXT = [HANDLE, HANDLE, c_char_p, c_size_t, c_uint32, c_void_p, c_size_t, Limits, PLACE]
@@ -125,7 +127,6 @@ UTF8_CALLS = {
     "bidi_encoded_levels": (c_size_t, [HANDLE, c_void_p, c_size_t]),
     "bidi_encoded_line": (c_uint32, [HANDLE, c_size_t, POINTER(Line)]),
     "bidi_encoded_order": (c_size_t, [HANDLE, c_size_t, c_void_p, c_size_t]),
-    "bidi_encoded_run": (c_uint32, [HANDLE, c_size_t, c_size_t, POINTER(Run)]),
 }
 # Those for reports on test files.
 REPORT_CALLS = {
@@ -181,6 +182,8 @@ SHARES_TABLES = hasattr(CALL, "bidi_tables_share")
 SETS_LINES = hasattr(CALL, "bidi_set_lines")
 # Whether one line alone of such a text can be laid out.
 HAS_LINE_OF = hasattr(CALL, "bidi_line_of")
+# Whether it tells all visual runs of a line at once, removed positions included.
+HAS_RUNS = hasattr(CALL, "bidi_runs") and hasattr(CALL, "bidi_encoded_runs")
 # Whether it says of a text what is known without a layout.
 HAS_BASE_LEVEL = hasattr(CALL, "bidi_base_level") and hasattr(CALL, "bidi_is_left_to_right")
 # Whether it lays out texts in UTF-8, refused or read with U+FFFD where they are ill-formed, and breaks them anew.

@@ -100,8 +100,9 @@ class Utf8Line:
 
     @property
     def runs(self):
-        """Its visual runs from left to right, with `start` and `length` in bytes."""
-        return self._layout._runs(CALL.bidi_encoded_run, self._number)
+        """Its visual runs from left to right, with `start` and `length` in bytes; each of its bytes is in one of them.
+        NotImplementedError: the library is an older one."""
+        return self._layout._runs("bidi_encoded_runs", self._number)
 
 
 def lay_out_utf8(text, tables, direction=Direction.AUTO, breaks=(), limits=Limits(), errors="strict"):

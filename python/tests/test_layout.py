@@ -2,6 +2,7 @@
 import pickle
 import re
 import unittest
+import unittest.mock
 
 import bidi_proved as bidi
 from bidi_proved.errors import BY_STATUS
@@ -9,6 +10,7 @@ from bidi_proved.errors import BY_STATUS
 from . import PUBLISHED, TOP, all_tables, small_tables
 
 ALEF, BET, GIMEL, DALET = "\u05d0\u05d1\u05d2\u05d3"
+JOINER, BYTE_ORDER_MARK = "\u200d\ufeff"
 
 
 class Worked(unittest.TestCase):
@@ -96,6 +98,54 @@ class Worked(unittest.TestCase):
         self.assertEqual(second.levels, [1])
         with self.assertRaises(bidi.StaleLayout):
             first.levels  # pylint: disable=pointless-statement
+
+
+class Runs(unittest.TestCase):
+    """Runs with what X9 removes, of a line among others and of the same line alone."""
+
+    def check(self, layout, *expected):
+        expected = [[bidi.Run(*run) for run in runs] for runs in expected]
+        self.assertEqual([line.runs for line in layout.lines], expected)
+        alone = [layout.line_of(line.start, line.end) for line in layout.lines]
+        self.assertEqual([line.runs for line in alone], expected)
+
+    def lay_out(self, text, direction=bidi.Direction.AUTO, breaks=()):
+        return bidi.lay_out(text, all_tables(), direction, breaks)
+
+    def test_joiner_between_letters(self):
+        self.check(self.lay_out(f"a{ALEF}{JOINER}{BET} b"), [(0, 1, 1, 0), (1, 3, 2, 1), (4, 2, 2, 0)])
+        self.check(self.lay_out(f"{ALEF}{JOINER}a"), [(1, 2, 1, 2), (0, 1, 1, 1)])
+
+    def test_byte_order_mark(self):
+        self.check(self.lay_out(f"{BYTE_ORDER_MARK}{ALEF} a"), [(3, 1, 1, 2), (0, 3, 2, 1)])
+        self.check(self.lay_out(f"{BYTE_ORDER_MARK}a", breaks=[1]), [(0, 1, 0, 0)], [(1, 1, 1, 0)])
+
+    def test_joiner_at_an_end(self):
+        ltr, rtl = bidi.Direction.LTR, bidi.Direction.RTL
+        self.check(self.lay_out(f"a{ALEF}{JOINER}", ltr), [(0, 1, 1, 0), (1, 1, 1, 1), (2, 1, 0, 0)])
+        self.check(self.lay_out(f"a{ALEF}{JOINER}", rtl), [(1, 2, 1, 1), (0, 1, 1, 2)])
+        self.check(self.lay_out(f"{ALEF}a{JOINER * 2}", rtl), [(2, 2, 0, 1), (1, 1, 1, 2), (0, 1, 1, 1)])
+        self.check(self.lay_out(f"{ALEF}a{JOINER * 2}", ltr), [(0, 1, 1, 1), (1, 3, 1, 0)])
+        self.check(self.lay_out(JOINER * 3, bidi.Direction.AUTO_RTL), [(0, 3, 0, 1)])
+
+    def test_paragraphs(self):
+        text = f"a\r\n{ALEF}1{JOINER}\n{BET}{JOINER}c{JOINER}\na"
+        before = [[(0, 2, 2, 0)], [(2, 1, 1, 0)]]
+        whole = [[(5, 2, 1, 1), (4, 1, 1, 2), (3, 1, 1, 1)]]
+        parts = [[(5, 1, 0, 1), (4, 1, 1, 2), (3, 1, 1, 1)], [(6, 1, 1, 1)]]
+        behind = [[(10, 2, 1, 1), (8, 2, 1, 2), (7, 1, 1, 1)], [(12, 1, 1, 0)]]
+        self.check(self.lay_out(text), *before, *whole, *behind)
+        self.check(self.lay_out(text, breaks=[6]), *before, *parts, *behind)
+
+    def test_classes(self):
+        layout = bidi.lay_out_classes(["L", "BN", "B", "R", "EN", "BN"])
+        self.check(layout, [(0, 3, 2, 0)], [(5, 1, 0, 1), (4, 1, 1, 2), (3, 1, 1, 1)])
+        self.check(bidi.lay_out_classes(["BN", 2, "LRE"]), [(0, 3, 1, 1)])
+
+    def test_older_library(self):
+        (line,) = self.lay_out(JOINER).lines
+        with unittest.mock.patch("bidi_proved.library.HAS_RUNS", False), self.assertRaises(NotImplementedError):
+            line.runs  # pylint: disable=pointless-statement
 
 
 class Refused(unittest.TestCase):

@@ -9,7 +9,7 @@ from . import all_tables, small_tables
 
 ALEF, BET, PDF = "\u05d0\u05d1\u202c"
 TEXT = f"a b\nc {ALEF}{PDF} 1"
-WORDS = ["ab ", f"({ALEF}{BET}) ", "12, ", f"\u202b{BET}a\u202c ", f"{ALEF}-3 \n", "(x) "]
+WORDS = ["\ufeffab ", f"({ALEF}\u200d{BET}) ", "12,\u200d ", f"\u202b{BET}a\u202c ", f"{ALEF}-3 \n", "(x) "]
 LONG = "".join(WORDS[i * i % 11 % 6] for i in range(500))
 
 
@@ -42,7 +42,8 @@ class Worked(unittest.TestCase):
         self.assertEqual(line.runs, [bidi.Run(9, 1, 1, 2), bidi.Run(5, 4, 3, 1), bidi.Run(4, 1, 1, 2)])
         self.assertEqual(line.display(), f"1 {ALEF} c")
         alone = self.layout.line_of(7, 8)
-        self.assertEqual((alone.levels, alone.order, alone.places, alone.runs), ([None], [], [None], []))
+        self.assertEqual((alone.levels, alone.order, alone.places), ([None], [], [None]))
+        self.assertEqual(alone.runs, [bidi.Run(7, 1, 0, 1)])
         self.assertEqual(alone.display(), "")
 
     def test_mirror_images(self):
@@ -91,6 +92,8 @@ class BesideLines(unittest.TestCase):
                 alone = broken.line_of(line.start, line.end)
                 told = said(line, levels[line.start : line.end])
                 self.assertEqual(said(alone, alone.levels), told)
+                covered = [at for run in line.runs for at in range(run.start, run.start + run.length)]
+                self.assertEqual(sorted(covered), list(range(line.start, line.end)))
 
     def test_other_lines(self):
         """Wherever the lines that the room holds end."""

@@ -1,13 +1,14 @@
 """Texts in UTF-8, told of by offsets: worked ones, and many beside their characters."""
 import unittest
+import unittest.mock
 
 import bidi_proved as bidi
 
-from . import small_tables
+from . import all_tables, small_tables
 
 ALEF, BET = "\u05d0\u05d1"
-RLE, EMOJI = "\u202b", "\U0001f600"
-PARTS = ["ab ", f"{ALEF}{BET} ", "12, ", f"({ALEF}b) ", "x\n", f"{BET}-3 ", f"{RLE}a", EMOJI]
+RLE, EMOJI, JOINER, BYTE_ORDER_MARK = "\u202b\U0001f600\u200d\ufeff"
+PARTS = ["ab ", f"{ALEF}{JOINER}{BET} ", f"12,{JOINER} ", f"({ALEF}b) ", "x\n", f"{BET}-3 ", f"{RLE}a", EMOJI]
 FAULTS = [b"\xff", b"\xf0\x9f\x98", b"\xd7", b"\xed\xa0\x80", b"\xe2\x82"]
 TEXTS = ["".join(PARTS[(k * i) % 8] for i in range(k % 19)) for k in range(200)]
 
@@ -48,6 +49,17 @@ class Worked(unittest.TestCase):
         for asked in (layout.level_at, layout.index_of, layout.offset_of):
             with self.assertRaises(ValueError):
                 asked(-1)
+
+    def test_runs_of_removed(self):
+        text = f"{BYTE_ORDER_MARK}a{ALEF}{JOINER}"
+        for direction, expected in (
+            (bidi.Direction.LTR, [(0, 4, 1, 0), (4, 2, 1, 1), (6, 3, 0, 0)]),
+            (bidi.Direction.RTL, [(4, 5, 1, 1), (0, 4, 1, 2)]),
+        ):
+            (line,) = bidi.lay_out_utf8(text, all_tables(), direction).lines
+            self.assertEqual(line.runs, [bidi.Run(*run) for run in expected])
+        with unittest.mock.patch("bidi_proved.library.HAS_RUNS", False), self.assertRaises(NotImplementedError):
+            line.runs  # pylint: disable=pointless-statement
 
     def test_other_lines(self):
         whole = bidi.lay_out_utf8(self.text, self.tables, bidi.Direction.RTL)
@@ -101,7 +113,7 @@ class BesideCharacters(unittest.TestCase):
     """Of each text, what is told in offsets is what a layout of its characters says."""
 
     def setUp(self):
-        self.tables = small_tables()
+        self.tables = all_tables()
 
     def check(self, encoded, characters, starts, breaks, **named):
         layout = bidi.lay_out_utf8(encoded, self.tables, breaks=[starts[at] for at in breaks], **named)

@@ -71,7 +71,7 @@ enum {
   BIDI_DEPTH = 17,             /* the depth that is handed in is 0 or above 125 */
   BIDI_BRACKETS = 18,          /* the depth is allowed, and the number of brackets is above 63 */
   BIDI_NO_VERDICT = 19,        /* the numbers tell no verdict */
-  BIDI_TOO_SMALL = 20,         /* what is to be written has more items than there is place for */
+  BIDI_TOO_SMALL = 20,         /* what is to be written has more items than the array takes */
   BIDI_LINE_NOT_FORWARD = 21,  /* the line does not start below its end */
   BIDI_LINE_BEYOND_TEXT = 22,  /* it starts below its end, which is behind the text */
   BIDI_LINE_CROSSES = 23,      /* it is within the text, and goes on behind the end of a paragraph */
@@ -113,11 +113,11 @@ enum {
 uint32_t bidi_tables_new(const uint8_t *classes, size_t classes_len, const uint8_t *brackets, size_t brackets_len,
                          const uint8_t *mirrors, size_t mirrors_len, bidi_tables *tables, bidi_fault *fault);
 /* Tables of the edition of Unicode that is built in. How many bytes its number has, as 15.0.0, which are written to
- * `text` if they have place there, with no zero behind them. */
+ * `text` if they fit there, with no zero behind them. */
 uint32_t bidi_tables_standard(bidi_tables *tables);
-size_t bidi_edition(uint8_t *text, size_t place);
+size_t bidi_edition(uint8_t *text, size_t capacity);
 /* The version of the product, as 1.0.0, in the same way. */
-size_t bidi_version(uint8_t *text, size_t place);
+size_t bidi_version(uint8_t *text, size_t capacity);
 /* `shared` holds the same tables as `tables` from now on, for another thread or for longer; what it held before is
  * freed. The tables are freed with the last of the handles and judges that hold them. */
 uint32_t bidi_tables_share(bidi_tables *tables, bidi_tables *shared);
@@ -168,35 +168,41 @@ uint32_t bidi_set_lines(bidi_room *room, const size_t *breaks, size_t break_coun
 
 /* One line alone of that text, [start, end) (L1, L2), at the cost of that line, wherever its other lines end: the level
  * of each of its positions, its shown positions from left to right, those of the whole text, and how many these are.
- * Both arrays need place for end - start items. What the room holds stays, also its lines. BIDI_NO_ROOM,
+ * Both arrays have to take end - start items. What the room holds stays, also its lines. BIDI_NO_ROOM,
  * BIDI_TOO_SMALL, or else one of BIDI_LINE_..; nothing is written then. */
-uint32_t bidi_line_of(bidi_room *room, size_t start, size_t end, uint8_t *levels, size_t level_place, size_t *order,
-                      size_t order_place, size_t *shown);
+uint32_t bidi_line_of(bidi_room *room, size_t start, size_t end, uint8_t *levels, size_t level_capacity, size_t *order,
+                      size_t order_capacity, size_t *shown);
 
 /* Look-ups of what was laid out last. Each answers how many items there are, 0 where there is nothing of what is asked
- * for, and writes them only if all have place. */
-size_t bidi_levels(bidi_room *room, uint8_t *levels, size_t place);      /* after L1, one for each code point */
-size_t bidi_para_levels(bidi_room *room, uint8_t *levels, size_t place); /* P2, P3, one for each paragraph */
+ * for, and writes them only if all fit. */
+size_t bidi_levels(bidi_room *room, uint8_t *levels, size_t capacity);      /* after L1, one for each code point */
+size_t bidi_para_levels(bidi_room *room, uint8_t *levels, size_t capacity); /* P2, P3, one for each paragraph */
 size_t bidi_line_count(bidi_room *room);
 
 /* Line k, from 0: [start, end) of the text, and how many of its positions are shown (X9 removes the others). */
 typedef struct { size_t start, end, shown; } bidi_line_t;
 uint32_t bidi_line(bidi_room *room, size_t k, bidi_line_t *line);
 /* Its shown positions, those of the whole text, from left to right (L2): the map from places to positions. */
-size_t bidi_order(bidi_room *room, size_t k, size_t *order, size_t place);
+size_t bidi_order(bidi_room *room, size_t k, size_t *order, size_t capacity);
 /* The place from the left of each of its positions, from `start` on: the map from positions to places. */
-size_t bidi_places(bidi_room *room, size_t k, size_t *places, size_t place);
+size_t bidi_places(bidi_room *room, size_t k, size_t *places, size_t capacity);
 
 /* The visual run of line k that begins at the place `from`: positions [start, start + length), removed ones between
- * them included, of one level, which stand at the `shown` places from there. All runs of a line, from left to right:
+ * them included, but not beside them, of one level, which stand at the `shown` places from there. One after another:
  *   for (size_t at = 0; bidi_run(&room, k, at, &run) == BIDI_DONE; at += run.shown) */
 typedef struct { size_t start, length, shown; uint8_t level; } bidi_run_t;
 uint32_t bidi_run(bidi_room *room, size_t k, size_t from, bidi_run_t *run);
+/* All visual runs of line k from left to right, copied as bidi_order copies positions. They cover the line: each of its
+ * positions is in just one of them. One that X9 removes has the level of the next one of its line that remains, and
+ * that of the paragraph where none does, so a run may begin and end with such positions. Those at the line's end that
+ * join no run are one of their own, whose `shown` is 0: the leftmost where the paragraph's level is 1, else the
+ * rightmost. */
+size_t bidi_runs(bidi_room *room, size_t k, bidi_run_t *runs, size_t capacity);
 
 /* Line k as it is shown, from left to right, mirrored by the tables where the level is odd (L4). `codes` is the whole
  * text that was laid out; for one of another length the answer is 0. */
 size_t bidi_shown(bidi_room *room, bidi_tables *tables, const uint32_t *codes, size_t n, size_t k, uint32_t *shown,
-                  size_t place);
+                  size_t capacity);
 
 /* Texts in UTF-8 and UTF-16, told of in offsets: how many code units (bytes, or 16 bits) stand before something. */
 
@@ -244,15 +250,17 @@ size_t bidi_offset_of(bidi_room *room, size_t index);
 /* The level of the code unit at an offset, that of its character: BIDI_REMOVED where X9 removes it, and where there is
  * no such code unit; and the levels of all of them, copied as bidi_levels does those of characters. */
 uint8_t bidi_level_at(bidi_room *room, size_t offset);
-size_t bidi_encoded_levels(bidi_room *room, uint8_t *levels, size_t place);
+size_t bidi_encoded_levels(bidi_room *room, uint8_t *levels, size_t capacity);
 /* Line k as bidi_line tells of it, but with `start` and `end` in offsets. */
 uint32_t bidi_encoded_line(bidi_room *room, size_t k, bidi_line_t *line);
 /* The offsets at which the shown characters of line k begin, from left to right (L2), copied as bidi_order copies their
  * indices. */
-size_t bidi_encoded_order(bidi_room *room, size_t k, size_t *order, size_t place);
+size_t bidi_encoded_order(bidi_room *room, size_t k, size_t *order, size_t capacity);
 /* The visual run of line k that begins at the place `from`, as bidi_run tells of it, but with `start` and `length` in
  * code units. */
 uint32_t bidi_encoded_run(bidi_room *room, size_t k, size_t from, bidi_run_t *run);
+/* All visual runs of line k as bidi_runs tells them, but with `start` and `length` in code units. */
+size_t bidi_encoded_runs(bidi_room *room, size_t k, bidi_run_t *runs, size_t capacity);
 
 /* A judge of a BidiTest.txt. What `judge` held before is freed once it is made. */
 uint32_t bidi_judge_new_classes(bidi_judge *judge);
@@ -285,12 +293,12 @@ enum {
 uint32_t bidi_judge_finish(bidi_judge *judge, bidi_verdict *verdict);
 
 /* The line that says a verdict, as the command prints it, with its LF and no zero behind it. It is written to `text` if
- * it has place there, and `length` says how many bytes it has: behind BIDI_DONE, and behind BIDI_TOO_SMALL, where
- * nothing is written, as with a place of 0. BIDI_NO_VERDICT: a number is none of those above, or one that the verdict
+ * it fits there, and `length` says how many bytes it has: behind BIDI_DONE, and behind BIDI_TOO_SMALL, where
+ * nothing is written, as with a capacity of 0. BIDI_NO_VERDICT: a number is none of those above, or one that the verdict
  * doesn't name is not 0; `length` stays as it was then, and behind BIDI_MEMORY. No line has more than
  * BIDI_VERDICT_LINE bytes. */
 #define BIDI_VERDICT_LINE 72
-uint32_t bidi_verdict_text(const bidi_verdict *verdict, uint8_t *text, size_t place, size_t *length);
+uint32_t bidi_verdict_text(const bidi_verdict *verdict, uint8_t *text, size_t capacity, size_t *length);
 
 /* A report on a test file: all of its wrong cases, up to its first malformed line, one by one, and their counts. It is
  * made as a judge is made, and fed line by line:

@@ -110,6 +110,21 @@ static void refuse_files(bidi_tables *tables) {
   print_fault("mirrors", status, &fault, tables);
 }
 
+typedef uint32_t run_call(bidi_room *, size_t, size_t, bidi_run_t *);
+typedef size_t runs_call(bidi_room *, size_t, bidi_run_t *, size_t);
+
+/* The statuses of the runs of line 0 from the place behind its last and from one further on, and of the line behind the
+ * last, how many runs these two lines have, and whether what was there is left. */
+static void refuse_runs(const char *what, run_call run_of, runs_call runs_of, bidi_room *room) {
+  bidi_run_t run = { 77, 77, 77, 77 };
+  size_t lines = bidi_line_count(room), shown = lines ? bidi_order(room, 0, NULL, 0) : 0;
+  uint32_t behind = run_of(room, 0, shown, &run), further = run_of(room, 0, shown + 1, &run);
+  uint32_t no_line = run_of(room, lines, 0, &run);
+  size_t all = runs_of(room, 0, NULL, 0), none = runs_of(room, lines, &run, 1);
+  printf("%s behind %zu places: %u, one on %u, of no line %u, all %zu, of no line %zu, leaves %zu %zu %zu %u\n", what,
+         shown, behind, further, no_line, all, none, run.start, run.length, run.shown, run.level);
+}
+
 static void lay_out_texts(bidi_room *room, bidi_tables *tables) {
   const uint32_t mixed[] = { 'a', 'b', 'c', ' ', 0x5D0, 0x5D1, 0x5D2, ' ', '1', '2', '3' };
   const uint32_t paras[] = { 0x5D0, ' ', 0x202B, '(', 'a', ')', 0x202C, 0x2029, 'x', 0x5D1, '\n', 'z' };
@@ -127,6 +142,9 @@ static void lay_out_texts(bidi_room *room, bidi_tables *tables) {
   lay_out(room, tables, mixed, 5, 4, breaks, 0);
   const uint32_t surrogate[] = { 'a', 0xD800, 'b', 'c', 'd' };
   lay_out(room, tables, surrogate, 5, BIDI_AUTO, breaks, 0);
+  refuse_runs("run", bidi_run, bidi_runs, room);
+  lay_out(room, tables, (const uint32_t[]){ 0x202C }, 1, BIDI_AUTO, breaks, 0);
+  refuse_runs("run", bidi_run, bidi_runs, room);
   static const uint32_t longer[65];
   uint64_t place = 0;
   uint32_t status = bidi_lay_out(room, tables, longer, 65, BIDI_AUTO, breaks, 0, &place), one;
@@ -301,6 +319,32 @@ static void find_bases(bidi_tables *tables, bidi_room *room) {
   print_base((bidi_tables *)room, wrong, 3, 9);
 }
 
+/* All runs of a line, if there are so many places; else what was there. */
+static void print_runs(bidi_room *room, size_t k, size_t place) {
+  bidi_run_t runs[4] = { { 77, 77, 77, 77 } };
+  size_t n = bidi_runs(room, k, place ? runs : NULL, place);
+  printf(" | line %zu, %zu of %zu:", k, n, place);
+  for (size_t i = 0; i < (n <= place ? n : 1); i++)
+    printf(" %zu+%zu(%zu)@%u", runs[i].start, runs[i].length, runs[i].shown, runs[i].level);
+}
+
+/* Runs of texts with joiners and a mark of byte order, which cover their lines: a joiner between two letters, before
+ * another level, at the end of a line, and on a line of its own. */
+static void find_runs(bidi_tables *tables, bidi_room *room) {
+  const uint32_t joined[] = { 0xFEFF, 0x5D0, 0x200D, 0x5D1, ' ', 0x200D, 'a', 0x200D, 0x200D };
+  const size_t breaks[] = { 4, 8 };
+  uint64_t place = 99;
+  for (uint32_t direction = BIDI_LTR; direction <= BIDI_RTL; direction++) {
+    uint32_t status = bidi_lay_out(room, tables, joined, 9, direction, breaks, 2, &place);
+    printf("runs %u:", status);
+    for (size_t k = 0; k < 4; k++) print_runs(room, k, 4);
+    status = bidi_set_lines(room, NULL, 0, &place);
+    printf("\nof one line %u:", status);
+    for (size_t places = 0; places <= 4; places++) print_runs(room, 0, places);
+    printf("\n");
+  }
+}
+
 /* Null pointers where nothing is to be read or written. */
 static void pass_nulls(bidi_room *room, bidi_tables *tables) {
   uint64_t place = 99;
@@ -308,9 +352,10 @@ static void pass_nulls(bidi_room *room, bidi_tables *tables) {
   bidi_fault fault = { 0, 0 };
   bidi_judge judge = BIDI_NONE;
   uint32_t status = bidi_lay_out(room, tables, NULL, 0, BIDI_AUTO, NULL, 0, &place);
-  printf("nulls: %u, levels %zu, paragraphs %zu, lines %zu, order %zu, places %zu, shown %zu\n", status,
+  printf("nulls: %u, levels %zu, paragraphs %zu, lines %zu, order %zu, places %zu, runs %zu, shown %zu\n", status,
          bidi_levels(room, NULL, 0), bidi_para_levels(room, NULL, 0), bidi_line_count(room),
-         bidi_order(room, 0, NULL, 0), bidi_places(room, 0, NULL, 0), bidi_shown(room, tables, NULL, 0, 0, NULL, 0));
+         bidi_order(room, 0, NULL, 0), bidi_places(room, 0, NULL, 0), bidi_runs(room, 0, NULL, 0),
+         bidi_shown(room, tables, NULL, 0, 0, NULL, 0));
   status = bidi_lay_out_classes(room, NULL, 0, BIDI_RTL, NULL, 0, &place);
   printf("nulls: %u, breaks %u, edition %zu, version %zu\n", status, bidi_set_lines(room, NULL, 0, &place),
          bidi_edition(NULL, 0), bidi_version(NULL, 0));
@@ -338,6 +383,7 @@ static void use_standard_tables(bidi_room *room) {
   n = bidi_version(version, sizeof version);
   printf("version %s, of the header %s, bytes %zu\n", (char *)version, BIDI_VERSION, n);
   find_bases(&tables, room);
+  find_runs(&tables, room);
   pass_nulls(room, &tables);
   bidi_tables_free(&tables);
   print_properties(&tables, 'a');
@@ -356,6 +402,10 @@ static void print_encoded_line(bidi_room *room, size_t k) {
   printf(" runs");
   for (size_t at = 0; bidi_encoded_run(room, k, at, &run) == BIDI_DONE; at += run.shown)
     printf(" %zu+%zu(%zu)@%u", run.start, run.length, run.shown, run.level);
+  bidi_run_t all[16];
+  size_t n = bidi_encoded_runs(room, k, all, 16);
+  printf(" all");
+  for (size_t i = 0; i < n; i++) printf(" %zu+%zu(%zu)@%u", all[i].start, all[i].length, all[i].shown, all[i].level);
 }
 
 /* A text in code units: their levels, the characters that they belong to, and where these begin. */
@@ -490,11 +540,14 @@ static void lay_out_encoded(bidi_tables *tables) {
   lay_out_utf8(&room, tables, text, BIDI_AUTO, inside, 2);
   lay_out_utf8(&room, tables, text, 4, one, 0);
   lay_out_utf8(&room, &no_tables, text, BIDI_AUTO, one, 0);
+  refuse_runs("encoded run", bidi_encoded_run, bidi_encoded_runs, &room);
+  refuse_runs("run of characters", bidi_run, bidi_runs, &room);
   uint64_t place = 0;
   status = bidi_lay_out(&room, tables, letters, 2, BIDI_AUTO, one, 0, &place);
   printf("code points in it %u, lines %u, ", status, bidi_set_lines(&room, one, 0, &place));
   bidi_room_new(16, &codes);
   lay_out_utf8(&codes, tables, text, BIDI_AUTO, one, 0);
+  refuse_runs("encoded run of code points", bidi_encoded_run, bidi_encoded_runs, &codes);
   lay_out_utf16(&room, tables, paired, 5, one, 1);
   lay_out_utf16(&room, tables, paired, 5, two, 1);
   lay_out_utf16(&room, tables, lone, 4, one, 1);
@@ -581,6 +634,7 @@ int main(int argc, char **argv) {
   const size_t none[1] = { 0 };
   lay_out(&room, &tables, text, 1, BIDI_AUTO, none, 0);
   set_lines(&room, &tables, none, 0);
+  refuse_runs("run", bidi_run, bidi_runs, &room);
   print_room(&room, 64);
   lay_out(&room, &tables, text, 1, BIDI_AUTO, none, 0);
   refuse_files(&tables);

@@ -20,14 +20,29 @@ static size_t read_numbers(const char *field, int base, size_t *numbers) {
   return n;
 }
 
-/* Whether what was laid out has these levels and this order; SIZE_MAX for a paragraph level asks for none. */
+/* Whether the runs of all lines have so many positions, and, each read by its level, give this order. */
+static int run_through(const size_t *levels, size_t m, const size_t *order, size_t count) {
+  bidi_run_t runs[MOST];
+  size_t at = 0, covered = 0;
+  for (size_t k = 0, lines = bidi_line_count(&room); k < lines; k++)
+    for (size_t i = 0, n = bidi_runs(&room, k, runs, MOST); i < n; covered += runs[i++].length)
+      for (size_t j = 0; j < runs[i].length; j++) {
+        size_t p = runs[i].start + (runs[i].level % 2 ? runs[i].length - 1 - j : j);
+        if (levels[p] == BIDI_REMOVED) continue;
+        if (at == count || order[at++] != p || levels[p] != runs[i].level) return 0;
+      }
+  return covered == m && at == count;
+}
+
+/* Whether what was laid out has these levels and this order, also by its runs; SIZE_MAX for a paragraph level asks for
+ * none. */
 static void compare(size_t para, const size_t *levels, size_t m, const size_t *order, size_t count) {
   uint8_t found[MOST], paras[MOST];
   size_t shown[MOST], at = 0, bad = bidi_levels(&room, found, MOST) != m;
   for (size_t i = 0; i < m && !bad; i++) bad = found[i] != levels[i];
   bad |= bidi_para_levels(&room, paras, MOST) == 0 || (para != SIZE_MAX && paras[0] != para);
   for (size_t k = 0, lines = bidi_line_count(&room); k < lines; k++) at += bidi_order(&room, k, shown + at, MOST - at);
-  bad |= at != count || memcmp(shown, order, count * sizeof *order) != 0;
+  bad |= at != count || memcmp(shown, order, count * sizeof *order) != 0 || !run_through(levels, m, order, count);
   cases++;
   wrong += bad;
 }

@@ -62,7 +62,8 @@ int main(int argc, char **argv) {
   uint32_t status = bidi_lay_out(&room, &tables, text, 3, BIDI_AUTO, none, 0, &place);
   bidi_levels(&room, levels, 3); bidi_order(&room, 0, order, 3); bidi_places(&room, 0, order, 3);
   bidi_line_of(&room, 0, 2, levels, 3, order, 3, &n);
-  bidi_run(&room, 0, 0, &run); bidi_shown(&room, &tables, text, 3, 0, shown, 3); bidi_mirror(&tables, '(');
+  bidi_run(&room, 0, 0, &run); bidi_runs(&room, 0, &run, 1); bidi_shown(&room, &tables, text, 3, 0, shown, 3);
+  bidi_mirror(&tables, '(');
   bidi_class(&tables, '(', levels); bidi_bracket(&tables, '(', levels);
   bidi_base_level(&tables, text, 3, BIDI_AUTO, levels, &place); bidi_is_left_to_right(&tables, text, 3, levels, &place);
   const uint8_t bytes[] = { 'a', 0xD7, 0x90 }; const uint16_t units[] = { 'a', 0x5D0 }; bidi_line_t line_of;
@@ -74,7 +75,8 @@ int main(int argc, char **argv) {
   status += bidi_encoded_set_lines(&encoded, second, 1, &place);
   bidi_index_of(&encoded, 1); bidi_offset_of(&encoded, 1); bidi_level_at(&encoded, 1);
   bidi_encoded_levels(&encoded, levels, 3); bidi_encoded_line(&encoded, 0, &line_of);
-  bidi_encoded_run(&encoded, 0, 0, &run); bidi_encoded_order(&encoded, 0, order, 3);
+  bidi_encoded_run(&encoded, 0, 0, &run); bidi_encoded_runs(&encoded, 0, &run, 1);
+  bidi_encoded_order(&encoded, 0, order, 3);
   printf("layout and look-ups: status %u, %ld asked\n", status, asked);
   refused_at = 0;
   printf("judge: %ld refused\n", IN_TURN(bidi_judge_new_classes(&judge), !judge.made));

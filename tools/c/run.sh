@@ -2,10 +2,11 @@
 # Builds the library that C links and the programs of this folder, and runs them: the demo, a typesetter, every call,
 # each refused allocation, threads that share tables, and reports, against their stored output, the greatest sizes (in
 # some 1.5 GB of memory), a C++ program, and a program built as tools/c/install.sh installs the library; then, but for
-# the sizes, again under -fsanitize=address,undefined and under valgrind, and the
-# threads under -fsanitize=thread. Where the package unicode-data is installed it lays out and judges the official files
-# too. Where the command is built (`rt run -- --help` in crates/bidi), the lines that say verdicts and the reports are
-# compared with what it prints. It says what it leaves out because something isn't installed or built, without gcc all.
+# the sizes, again under -fsanitize=address,undefined and under valgrind, and the threads under -fsanitize=thread. Where
+# the package unicode-data is installed the sizes are taken with its property files, and the official files are laid out
+# and judged too. Where the command is built (`rt run -- --help` in crates/bidi), the lines that say verdicts and the
+# reports are compared with what it prints. It says what it leaves out because something isn't installed or built,
+# without gcc all.
 #
 # usage: tools/c/run.sh [FOLDER]      (FOLDER, with the files of the Unicode database: /usr/share/unicode)
 #
@@ -117,10 +118,17 @@ same_report() {
     fi
 }
 
+mkdir "$work/published"
+for name in DerivedBidiClass BidiBrackets BidiMirroring BidiTest BidiCharacterTest; do
+    found=$(find "$folder" -name "$name.txt" 2> /dev/null | sort | head -n 1)
+    [ -z "$found" ] || cp "$found" "$work/published/$name.txt"
+done
 build_all
 all plain
 build sizes
-expect "sizes" "$here/sizes.out" "$work/sizes" "$here/ucd"
+sized=$here/ucd
+[ ! -e "$work/published/BidiMirroring.txt" ] || sized=$work/published
+expect "sizes" "$here/sizes.out" "$work/sizes" "$sized"
 build verdict
 if [ -x "$command" ]; then
     printf '@Levels: 0\n@Reorder: 0\nL; 3\n' > "$work/file"
@@ -174,11 +182,6 @@ if echo 'int main(void) { return 0; }' | gcc -fsanitize=thread -x c -o "$work/sa
 else
     echo "no sanitizer of threads: the program with threads is not run under it"
 fi
-mkdir "$work/published"
-for name in DerivedBidiClass BidiBrackets BidiMirroring BidiTest BidiCharacterTest; do
-    found=$(find "$folder" -name "$name.txt" 2> /dev/null | sort | head -n 1)
-    [ -z "$found" ] || cp "$found" "$work/published/$name.txt"
-done
 if [ -e "$work/published/BidiCharacterTest.txt" ]; then
     build official
     build refused "${sanitizers[@]}" -Wl,--wrap=malloc,--wrap=realloc

@@ -1,5 +1,6 @@
 /* sizes UCD: the greatest sizes that calls take, where memory suffices: rooms of up to 16,777,216 code points that are
- * filled, and property files of more than a million bytes. Its output is stored in sizes.out. */
+ * filled, and property files of more than a million bytes. The output is stored in sizes.out, and is the same for the
+ * published files as for those of the folder ucd. */
 #include "bidi.h"
 #include "read_file.h"
 #include <string.h>
@@ -21,6 +22,28 @@ static void fill_room(bidi_tables *tables, size_t n) {
   printf("; one line: status %u, lines %zu\n", status, bidi_line_count(&room));
   bidi_room_free(&room);
   free(codes);
+}
+
+/* A room for n code points, and a text of pieces that fills it: how many positions have each level, how many stand in
+ * the order elsewhere than where L2 puts those of each piece, and how many runs there are, four of each piece. */
+static void fill_mixed(bidi_tables *tables, size_t n) {
+  static const uint32_t piece[] = { 'a', ' ', 0x5D0, '(', '1', ')', 0x202B, ' ', 0x202C, 0x5D1 };
+  static const size_t shown[] = { 0, 1, 9, 7, 5, 4, 3, 2 };
+  bidi_room room = BIDI_NONE;
+  uint64_t place = 0;
+  uint32_t *codes = malloc(n * sizeof *codes), status = bidi_room_new(n, &room);
+  uint8_t *levels = malloc(n);
+  size_t *order = malloc(n * sizeof *order), counts[256] = { 0 }, misplaced = 0;
+  if (!codes || !levels || !order) exit(2);
+  for (size_t i = 0; i < n; i++) codes[i] = piece[i % 10];
+  if (!status) status = bidi_lay_out(&room, tables, codes, n, BIDI_LTR, NULL, 0, &place);
+  size_t found = bidi_levels(&room, levels, n), remain = bidi_order(&room, 0, order, n);
+  for (size_t i = 0; i < found; i++) counts[levels[i]]++;
+  for (size_t i = 0; i < remain; i++) misplaced += order[i] != i / 8 * 10 + shown[i % 8];
+  printf("mixed text of %zu: status %u; level 0 %zu, 1 %zu, 2 %zu, removed %zu; misplaced %zu; runs %zu\n", n, status,
+         counts[0], counts[1], counts[2], counts[BIDI_REMOVED], misplaced, bidi_runs(&room, 0, NULL, 0));
+  bidi_room_free(&room);
+  free(codes); free(levels); free(order);
 }
 
 /* The bytes of a property file behind so many of comments. */
@@ -54,6 +77,7 @@ int main(int argc, char **argv) {
   read_long_files(argv[1], 1 << 22, &tables);
   fill_room(&tables, 4096);
   fill_room(&tables, 1000000);
+  fill_mixed(&tables, 1000000);
   fill_room(&tables, 4194305);
   fill_room(&tables, 16777216);
   bidi_tables_free(&tables);

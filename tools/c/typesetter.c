@@ -1,7 +1,7 @@
 /* typesetter COLUMNS.. < text: sets each paragraph of a text in lines of at most so many columns, for each width that
- * is named, as an editor does whose window is resized. A paragraph is laid out once; its runs are shaped by their
- * levels, which gives each character its advance; the lines are broken by these, and bidi_set_lines says then how
- * each is shown. For another width only lines are broken anew. */
+ * is named, as an editor does whose window is resized. A paragraph is laid out once; its runs are shaped, which gives
+ * each character its advance; the lines are broken by these, and bidi_set_lines says then how each is shown. For
+ * another width only lines are broken anew. */
 #include "bidi.h"
 #include <stdio.h>
 #include <stdlib.h>
@@ -10,6 +10,7 @@
 static size_t advances[MOST], breaks[MOST];
 static uint32_t codes[MOST], shown[MOST];
 static uint8_t levels[MOST];
+static bidi_run_t runs[MOST];
 
 static size_t read_line(void) { /* one paragraph of UTF-8, taken to be well formed, without its LF */
   size_t n = 0;
@@ -40,16 +41,14 @@ static void shape(size_t start, size_t end) {
   }
 }
 
-static size_t shape_runs(size_t n) { /* answers how many runs there are */
-  size_t runs = 0;
-  for (size_t start = 0, end; start < n; start = end, runs++) {
-    for (end = start + 1; end < n && levels[end] == levels[start]; end++) {}
-    shape(start, end);
-  }
-  return runs;
+static size_t shape_runs(bidi_room *room) { /* answers how many runs there are */
+  size_t all = 0;
+  for (size_t k = 0, n; (n = bidi_runs(room, k, runs, MOST)) > 0; k++, all += n)
+    for (size_t i = 0; i < n; i++) shape(runs[i].start, runs[i].start + runs[i].length);
+  return all;
 }
 
-static size_t break_lines(size_t n, size_t width) { /* behind the last space that still has place, or within a word */
+static size_t break_lines(size_t n, size_t width) { /* behind the last space that still fits, or within a word */
   size_t count = 0, column = 0, start = 0, space = 0;
   for (size_t i = 0; i < n; i++) {
     if (column + advances[i] > width && codes[i] != ' ') {
@@ -86,7 +85,7 @@ int main(int argc, char **argv) {
     uint32_t status = bidi_lay_out(&room, &tables, codes, n, BIDI_AUTO, breaks, 0, &place);
     if (status) { fprintf(stderr, "status %u at %llu\n", status, (unsigned long long)place); return 2; }
     bidi_levels(&room, levels, MOST);
-    printf("%zu characters, %zu runs\n", n, shape_runs(n));
+    printf("%zu characters, %zu runs\n", n, shape_runs(&room));
     for (int k = 1; k < argc; k++) {
       size_t width = strtoul(argv[k], NULL, 10);
       if (width == 0) return 2;
