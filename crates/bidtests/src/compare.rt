@@ -25,8 +25,8 @@ use lines::scratch::Scratch;
 use units::level::{Direction, Level, ParaLevel};
 use units::limits::Limits;
 
-/// No level is claimed, or that of the first paragraph.
-fn agrees_with(claimed: Option<ParaLevel>, defined: &[ParaLevel]) -> bool
+/// Whether no level is claimed, or that of the first paragraph.
+pub fn agrees_with(claimed: Option<ParaLevel>, defined: &[ParaLevel]) -> bool
     ensures { result ≡ agrees (option_map level_of_para claimed) (first_of (map level_of_para defined.now)) }
 {
     match (claimed, defined.first()) {
@@ -115,7 +115,7 @@ fn direction_by_level(paras: &[ParaLevel]) -> Option<Direction>
 }
 
 /// Compares a claim with a layout of its text, under whichever direction and by whichever limits it is.
-pub fn compare_with(claim: Claim<'_>, layout: &Layout<'_>) -> Comparison
+fn compare_with(claim: Claim<'_>, layout: &Layout<'_>) -> Comparison
     ensures { ComparesWith (view_of layout.now) result (claim_of claim.entry) }
 {
     if !agrees_with(claim.para_level, layout.para_levels()) {

@@ -1,14 +1,12 @@
 // Claims, as they are read, compared with layouts.
-ghost use Rattle.std.specs.Prelude.{◌≡◌, ◌&&◌, map, nat_eq, not, MatchOption};
-ghost use Rattle.std.specs.Option.{option_map};
-ghost use Rattle.units.specs.Isolates.{level_of_para};
+ghost use Rattle.std.specs.Prelude.{◌≡◌, ◌&&◌, nat_eq, not, MatchOption};
 ghost use Rattle.units.specs.Layout.{all_orders};
 ghost use Rattle.units.specs.Positions.{same_position};
 ghost use Rattle.lines.specs.Layouts.{view_of};
 ghost use Rattle.bidtests.specs.Comparisons.{DiffersAt};
 ghost use Rattle.bidtests.specs.declared.verdict.Place.TheVariants.{Order};
 ghost use Rattle.bidtests.specs.Readings.{claim_of};
-ghost use Rattle.bidtests.specs.Verdicts.{agrees, first_difference, first_of, placed_in};
+ghost use Rattle.bidtests.specs.Verdicts.{first_difference, placed_in};
 ghost use Rattle.report.specs.Comparing.{PassesLine, order_left};
 ghost use Rattle.report.specs.ReadClaims.{all_parts_at, is_compared, levels_read, order_read};
 ghost use Rattle.report.specs.ReadClaims.{place_in, read_claim};
@@ -17,20 +15,10 @@ ghost use Rattle.report.specs.declared.terms.Parts.TheVariants as parts_of;
 use crate::read_order::ReadOrder;
 use crate::terms::{Leniency, Parts, Positions};
 use bidtests::claim::Claim;
+use bidtests::compare::agrees_with;
 use bidtests::verdict::Place;
 use lines::layout::Layout;
-use units::level::{Level, ParaLevel};
-
-/// Whether no level is claimed, or that of the first paragraph.
-fn is_para_right(claimed: Option<ParaLevel>, defined: &[ParaLevel]) -> bool
-    ensures { result ≡ agrees (option_map level_of_para claimed) (first_of (map level_of_para defined.now)) }
-{
-    match (claimed, defined.first()) {
-        (None, _) => true,
-        (Some(_), None) => false,
-        (Some(claimed), Some(first)) => claimed == *first,
-    }
-}
+use units::level::Level;
 
 /// Whether the level that is claimed of a position is another one than it has, and compared.
 fn is_other(compared: Positions, claimed: Option<Level>, defined: Option<Level>) -> bool
@@ -106,7 +94,7 @@ fn wrong_part(compared: Positions, claim: Claim<'_>, layout: &Layout<'_>) -> Opt
     ensures { result ≡ place_in (view_of layout.now)
         (read_claim (all_parts_at compared) (view_of layout.now) (claim_of claim.entry)) }
 {
-    if !is_para_right(claim.para_level, layout.para_levels()) {
+    if !agrees_with(claim.para_level, layout.para_levels()) {
         return Some(Place::ParaLevel);
     }
     match differing_level(compared, claim.levels, layout.levels()) {

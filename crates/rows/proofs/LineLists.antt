@@ -1,15 +1,15 @@
 -- Lines of a text: those that have a character, and that none is too long for a row.
-use Rattle.std.proofs.Common.{◌≡◌, ℕ, ◌+◌, ◌<◌, ◌≤◌, Bool, true, false, Option, Some, None, if◌then◌else◌, List, [], ◌∷◌, length, map, refl, ap, subst, arith}
+use Rattle.std.proofs.Common.{◌≡◌, ℕ, ◌+◌, ◌<◌, ◌≤◌, Bool, true, false, Option, Some, None, cond, List, [], ◌∷◌, length, map, refl, ap, subst, arith}
 use Rattle.std.specs.Prelude.{filter, nat_lt}
 use Rattle.std.specs.Borrow.{Bor}
-use Rattle.std.specs.List.{All}
+use Rattle.std.specs.List.{All, position_from}
 use Rattle.std.proofs.lemmas.Bool.{ltb-false}
 use Rattle.std.proofs.lemmas.List.Elements.{All-nil, All-cons, All-head, All-tail}
 use Rattle.units.specs.Cuts.{pieces_behind}
 use Rattle.printing.proofs.Passing.{HasPassed}
 use Rattle.rows.specs.Placing.{has_some}
 use Rattle.rows.specs.RowTexts.{IsRowText, longest_row}
-use Rattle.rows.specs.TextLines.{first_longer, kind_of, letter_named}
+use Rattle.rows.specs.TextLines.{is_long, kind_of, letter_named}
 use Rattle.rows.specs.declared.naming.Naming.{Naming}
 
 -- the lines that are to come, where this is left of a text
@@ -29,14 +29,14 @@ IsRowLine naming line = IsRowText (kind_of naming) (map (letter_named naming) li
 abbrev pub IsShort : List ℕ → Type 0
 IsShort line = length line ≤ longest_row
 
-behind-none : (b : Bool) (number : ℕ) (later : Option ℕ) → (if b then Some number else later) ≡ None → (b ≡ false) × (later ≡ None)
+behind-none : (b : Bool) (number : ℕ) (later : Option ℕ) → cond b (Some number) later ≡ None → (b ≡ false) × (later ≡ None)
 behind-none true number later e = absurd (cc)
 behind-none false number later e = (refl, e)
 
-pub none-longer : (number : ℕ) (lines : List (List ℕ)) → first_longer number lines ≡ None → All IsShort lines
+pub none-longer : (number : ℕ) (lines : List (List ℕ)) → position_from is_long number lines ≡ None → All IsShort lines
 none-longer number [] e = All-nil IsShort
 none-longer number (line ∷ lines) e =
-    let none = behind-none (nat_lt longest_row (length line)) number (first_longer (number + 1) lines) e in
+    let none = behind-none (is_long line) number (position_from is_long (number + 1) lines) e in
     All-cons IsShort line lines (ltb-false longest_row (length line) none.0) (none-longer (number + 1) lines none.1)
 
 pub some-line : (line : List ℕ) (lines more : List (List ℕ)) → lines ≡ line ∷ more → 0 < length line → filter has_some lines ≡ line ∷ filter has_some more

@@ -1,6 +1,8 @@
--- The room in which the rows of texts are made.
-use Rattle.std.specs.Prelude.{◌≡◌, ◌≤◌, ℕ, length}
+-- The room in which the rows of texts are made, and what a refused one leaves.
+use Rattle.std.specs.Prelude.{◌≡◌, ◌≤◌, ℕ, List, Option, length}
 use Rattle.lines.specs.Scratches.{room_of}
+use Rattle.printing.specs.declared.fault.PrintFault.{PrintFault}
+use Rattle.printing.specs.declared.fault.PrintFault.TheVariants.{Memory, Write}
 use Rattle.rows.specs.declared.room.RowRoom.{RowRoom}
 
 -- there is room for a text of this length
@@ -12,3 +14,8 @@ pub record HasRowRoom (len : ℕ) (room : RowRoom) : Type 0 where
 pub record KeepsRowRoom (old new : RowRoom) : Type 0 where
   pub scratch : room_of new.scratch ≡ room_of old.scratch
   pub units : length new.units.items ≡ length old.units.items
+
+-- what a fault leaves of what was written before: where memory is refused, all of it and no more
+abbrev pub FailsToPrint : Option (List ℕ) → Option (List ℕ) → PrintFault → Type 0
+FailsToPrint before after Memory = after ≡ before
+FailsToPrint before after Write = Unit {0}

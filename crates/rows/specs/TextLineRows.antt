@@ -1,6 +1,7 @@
 -- Worked rows: lines of texts, worked by hand.
 use Rattle.std.specs.Prelude.{◌≡◌, [], ◌∷◌, Some, None, refl, replicate}
-use Rattle.rows.specs.TextLines.{first_longer, row_lines, text_lines}
+use Rattle.std.specs.List.{position_from}
+use Rattle.rows.specs.TextLines.{is_long, row_lines, text_lines}
 
 -- a line ends at LF, which is no part of it, and a CR before that is
 pub two_lines : row_lines (97 ∷ 13 ∷ 10 ∷ 98 ∷ []) ≡ (97 ∷ 13 ∷ []) ∷ (98 ∷ []) ∷ []
@@ -21,8 +22,8 @@ pub no_line : row_lines [] ≡ []
 no_line = refl
 
 -- 4,095 characters fit, and one more does not; lines are numbered from 1
-pub second_longer : first_longer 1 (replicate 4095 97 ∷ replicate 4096 97 ∷ []) ≡ Some 2
+pub second_longer : position_from is_long 1 (replicate 4095 97 ∷ replicate 4096 97 ∷ []) ≡ Some 2
 second_longer = refl
 
-pub none_longer : first_longer 1 (replicate 4095 97 ∷ [] ∷ []) ≡ None
+pub none_longer : position_from is_long 1 (replicate 4095 97 ∷ [] ∷ []) ≡ None
 none_longer = refl

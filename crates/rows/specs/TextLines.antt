@@ -1,6 +1,6 @@
 -- Rows of a text: each of its lines is one, by the classes or the code points of its characters.
-use Rattle.std.specs.Prelude.{Option, Some, None, ℕ, ◌+◌, nat_lt, if◌then◌else◌, List, [], ◌∷◌, length, map, filter}
-use Rattle.std.specs.List.{flat_map}
+use Rattle.std.specs.Prelude.{Bool, Option, ℕ, nat_lt, List, length, map, filter}
+use Rattle.std.specs.List.{flat_map, position_from}
 use Rattle.units.specs.Text.{cut_at}
 use Rattle.units.specs.declared.level.Direction.{Direction}
 use Rattle.ucdfiles.specs.Tables.{unit_by}
@@ -41,11 +41,10 @@ cases_of_line naming directions line = under_each directions (map (letter_named 
 abbrev pub cases_of_text : Naming → List Direction → List ℕ → List Case
 cases_of_text naming directions text = flat_map (cases_of_line naming directions) (row_lines text)
 
--- the number of the first of these lines that is longer than any row, where they are numbered from this one on
-abbrev pub first_longer : ℕ → List (List ℕ) → Option ℕ
-first_longer number [] = None
-first_longer number (line ∷ lines) = if nat_lt longest_row (length line) then Some number else first_longer (number + 1) lines
+-- a line is longer than any row
+abbrev pub is_long : List ℕ → Bool
+is_long line = nat_lt longest_row (length line)
 
 -- the number of the first line of a text that is too long for a row, from 1
 abbrev pub first_long_line : List ℕ → Option ℕ
-first_long_line text = first_longer 1 (text_lines text)
+first_long_line text = position_from is_long 1 (text_lines text)

@@ -1,11 +1,11 @@
 //! The file of all texts over an alphabet.
-ghost use Rattle.std.specs.Prelude.{◌≡◌, ◌<◌, ◌≤◌, ◌^◌, length, OnOk};
+ghost use Rattle.std.specs.Prelude.{◌≡◌, ◌<◌, ◌≤◌, ◌^◌, length, IfErr, OnOk};
 ghost use Rattle.std.specs.Io.KnownBytes.{Appends};
 ghost use Rattle.std.specs.List.{All};
 ghost use Rattle.units.specs.Limits.{standard};
 ghost use Rattle.rows.specs.Letters.{IsLetterOf};
 ghost use Rattle.rows.specs.RowTexts.{cases_text};
-ghost use Rattle.rows.specs.Rooms.{HasRowRoom, KeepsRowRoom};
+ghost use Rattle.rows.specs.Rooms.{FailsToPrint, HasRowRoom, KeepsRowRoom};
 ghost use Rattle.rows.specs.Exhaustive.{cases_in, cases_of_length, cases_of_number, CanBeCounted};
 ghost use Rattle.rows.specs.Judged.{JudgeSaysYes};
 
@@ -106,6 +106,7 @@ pub fn print_exhaustive<W: Write>(
         (cases_text standard kind.entry (cases_in texts.now directions.now))) }
     ensures right { All (IsLetterOf kind.entry) texts.now.alphabet
         → JudgeSaysYes standard kind.entry (cases_in texts.now directions.now) }
+    ensures fault { IfErr result (FailsToPrint (W.contents w.old) (W.contents w.new)) }
 {
     let mut room = room_for_rows(alloc, texts.greatest())?;
     let mut row = letters_for(alloc, texts.greatest())?;

@@ -1,11 +1,11 @@
 //! The file of the lines of a text.
-ghost use Rattle.std.specs.Prelude.{◌≡◌, ◌<◌, ◌≤◌, None, length, map, OnOk};
+ghost use Rattle.std.specs.Prelude.{◌≡◌, ◌<◌, ◌≤◌, None, length, map, IfErr, OnOk};
 ghost use Rattle.std.specs.Io.KnownBytes.{Appends};
 ghost use Rattle.std.specs.List.{All};
 ghost use Rattle.units.specs.Limits.{standard};
 ghost use Rattle.rows.specs.Letters.{IsLetterOf};
 ghost use Rattle.rows.specs.RowTexts.{IsRowText, cases_text, longest_row};
-ghost use Rattle.rows.specs.Rooms.{HasRowRoom, KeepsRowRoom};
+ghost use Rattle.rows.specs.Rooms.{FailsToPrint, HasRowRoom, KeepsRowRoom};
 ghost use Rattle.rows.specs.Judged.{JudgeSaysYes};
 ghost use Rattle.rows.specs.TextLines.{cases_of_line, cases_of_text, first_long_line, kind_of, letter_named};
 
@@ -101,6 +101,7 @@ pub fn print_lines<W: Write>(
         (cases_text standard (kind_of naming.entry) (cases_of_text naming.entry directions.now text.now))) }
     ensures right { OnOk result
         (JudgeSaysYes standard (kind_of naming.entry) (cases_of_text naming.entry directions.now text.now)) }
+    ensures fault { IfErr result (FailsToPrint (W.contents w.old) (W.contents w.new)) }
 {
     let mut room = room_for_rows(alloc, LONGEST_ROW)?;
     let mut row = letters_for(alloc, LONGEST_ROW)?;

@@ -1,11 +1,11 @@
 //! The file of texts that are drawn.
-ghost use Rattle.std.specs.Prelude.{◌≡◌, ◌≤◌, length, OnOk};
+ghost use Rattle.std.specs.Prelude.{◌≡◌, ◌≤◌, length, IfErr, OnOk};
 ghost use Rattle.std.specs.Io.KnownBytes.{Appends};
 ghost use Rattle.std.specs.List.{All};
 ghost use Rattle.units.specs.Limits.{standard};
 ghost use Rattle.rows.specs.Letters.{IsLetterOf};
 ghost use Rattle.rows.specs.RowTexts.{cases_text};
-ghost use Rattle.rows.specs.Rooms.{HasRowRoom, KeepsRowRoom};
+ghost use Rattle.rows.specs.Rooms.{FailsToPrint, HasRowRoom, KeepsRowRoom};
 ghost use Rattle.rows.specs.Random.{cases_drawn, cases_of_draw};
 ghost use Rattle.rows.specs.Judged.{JudgeSaysYes};
 
@@ -78,6 +78,7 @@ pub fn print_random<W: Write>(
         (cases_text standard kind.entry (cases_drawn texts.now directions.now))) }
     ensures right { All (IsLetterOf kind.entry) texts.now.alphabet
         → JudgeSaysYes standard kind.entry (cases_drawn texts.now directions.now) }
+    ensures fault { IfErr result (FailsToPrint (W.contents w.old) (W.contents w.new)) }
 {
     let mut room = room_for_rows(alloc, texts.greatest())?;
     let mut row = letters_for(alloc, texts.greatest())?;

@@ -7,3 +7,4 @@ pub mod Partition
 pub mod SameCount
 pub mod NextRuns
 pub mod Walked
+pub mod Told

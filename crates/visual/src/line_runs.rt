@@ -1,5 +1,5 @@
 //! All runs of a line, one after another.
-ghost use Rattle.std.specs.Prelude.{◌≡◌, ◌≤◌, ◌<◌, ◌+◌, ◌++◌, ◌∷◌, [], true, length, take};
+ghost use Rattle.std.specs.Prelude.{◌≡◌, ◌≤◌, ◌<◌, true, length, slice_set};
 ghost use Rattle.visual.specs.LineRuns.{WritesRuns};
 ghost use Rattle.visual.specs.Spans.{BeginsAt};
 ghost use Rattle.visual.specs.VisualRuns.{end_place};
@@ -85,8 +85,7 @@ impl<'a> Iterator for Runs<'a> {
 
 /// Writes what is told of a run behind so many others, if there is a place for it.
 pub fn put<T: Copy>(out: &mut [T], count: usize, told: T)
-    ensures len { length out.new ≡ length out.old }
-    ensures put { count < length out.old → take (count + 1) out.new ≡ take count out.old ++ told ∷ [] }
+    ensures { out.new ≡ slice_set out.old count told }
 {
     if count < out.len() {
         out[count] = told;

@@ -1,4 +1,5 @@
 use Rattle.std.proofs.Common.{◌++◌, ◌∷◌, [], arith, ◌∙◌}
+use Rattle.visual.proofs.Told.{told-behind, told-len}
 use Rattle.visual.proofs.Walked.{all_given, given_more, length_more}
 use Rattle.encoded.proofs.EncodedRunLists.{run_within}
 use Rattle.runs_held.proofs.RunLists.{told_more}
@@ -9,15 +10,17 @@ loop-run-preserved c =
     let i = c.loop-run.invariant in
     let runs = i.3.0 in
     let run = c.in-Some.run' in
-    let n = length_more runs run in (
+    let n = length_more runs run in
+    let len = told-len c.loop-run.out c.put.new.out c.loop-run.count c.told_run.result c.put.ensures in
+    let put = told-behind c.loop-run.out c.put.new.out c.loop-run.count c.told_run.result c.put.ensures in (
       tt,
       tt,
-      c.put.ensures.len ∙ i.2,
+      len ∙ i.2,
       (
         runs ++ run ∷ [],
         given_more c.args.line runs c.loop-run.run-iterator run c.next.new.self i.3.1 c.in-Some.ensures.steps,
         omega (arith, n, i.3.2),
-        told_more runs run c.loop-run.out c.put.new.out c.loop-run.count c.told_run.result c.put.ensures.len c.told_run.ensures c.put.ensures.put i.3.3,
+        told_more runs run c.loop-run.out c.put.new.out c.loop-run.count c.told_run.result len c.told_run.ensures put i.3.3,
       ),
     )
 

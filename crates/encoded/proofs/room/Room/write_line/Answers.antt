@@ -1,4 +1,5 @@
 use Rattle.std.proofs.Common.{◌++◌, ◌∷◌, [], arith, ◌∙◌}
+use Rattle.visual.proofs.Told.{told-behind, told-len}
 use Rattle.visual.proofs.Walked.{all_given, given_more, length_more}
 use Rattle.encoded.proofs.EncodedRunLists.{run_within, written_run}
 use Rattle.encoded.proofs.room.Room.write_line.Goals as goal
@@ -8,15 +9,17 @@ loop-run-preserved c =
     let i = c.loop-run.invariant in
     let runs = i.3.0 in
     let run = c.in-Some.run' in
-    let n = length_more runs run in (
+    let n = length_more runs run in
+    let len = told-len c.loop-run.out c.put.new.out c.loop-run.count c.in_code_units.result c.put.ensures in
+    let put = told-behind c.loop-run.out c.put.new.out c.loop-run.count c.in_code_units.result c.put.ensures in (
       tt,
       tt,
-      c.put.ensures.len ∙ i.2,
+      len ∙ i.2,
       (
         runs ++ run ∷ [],
         given_more c.args.line.now runs c.loop-run.run-iterator run c.next.new.self i.3.1 c.in-Some.ensures.steps,
         omega (arith, n, i.3.2),
-        λ text h. written_run text runs run c.loop-run.out c.put.new.out c.loop-run.count c.in_code_units.result i.3.2 c.put.ensures.len (c.in_code_units.ensures text h) c.put.ensures.put (i.3.3 text h),
+        λ text h. written_run text runs run c.loop-run.out c.put.new.out c.loop-run.count c.in_code_units.result i.3.2 len (c.in_code_units.ensures text h) put (i.3.3 text h),
       ),
     )
 
