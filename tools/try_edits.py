@@ -10,9 +10,9 @@ of which these functions are checked, and what they call, in one check. An edit 
 function that it changes is open, by a proof file of that function or by the check's own search. What was not refused
 so, as where the function waits for a wrong one that it calls, goes into a further round, and then is tried singly: in
 the same way, and at last over the whole crate, as rt ci does. A function that no edit of a round changes must be proved
-where it is checked, and at the end the right code of all functions that were changed, over what the rounds kept. All
-else is rt ci's to prove. For each edit a line is printed, and the last line is 'N passed, M failed'; the status is 1
-where one failed.
+where it is checked, and at the end the right code of what the last edit changed, over what all rounds kept: so what was
+refused was refused for its code. The right code of all else is rt ci's to prove. For each edit a line is printed, and
+the last line is 'N passed, M failed'; the status is 1 where one failed.
 
 A crate is checked over a copy of what rt check kept of it in out/, or from nothing. The libraries below are those that
 rt check or rt lib built, or those that rt ci left; where neither fit the files, rt builds them. As many crates are
@@ -38,7 +38,9 @@ OWNER = re.compile(r"(?:unsafe )?impl\b[^{;]*|(?:pub(?:\([a-z]+\))? )?trait \w+"
 OPEN = re.compile(r"^fn (\S+): (?:not proved|no proof)[^\n]*?did not prove (`[^`]*`)", re.M)
 PROOF_FILE = r"^(?:\./)?proofs/(\S+)/(?:Answers|Invariants|Proof|Send)\.antt"
 STUCK = re.compile(PROOF_FILE + r":\d+:\d+: error: (`[^`]*`): (.*)", re.M)
+NOTED = re.compile(r"^note: (?:\./)?(src/\S+?):(\d+):\d+: it is not proved that [^\n]*?\((`[^`]*`)\)", re.M)
 NAMES_GONE = re.compile(r"has no field|is not in scope|has no `|was not admitted")
+LOST = re.compile(PROOF_FILE + r":\d+:\d+: error: [^\n]*?(?:" + NAMES_GONE.pattern + ")", re.M)
 OF_PROOF = re.compile(r"`(?:invariant|decreases|ghosts)-")
 printing = threading.Lock()
 
@@ -167,12 +169,17 @@ def parts_of(path):
     return tuple(it.lstrip("+") for it in path if it != "fn")
 
 
-def open_goals(said):
+def open_goals(crate, texts, said):
     """Returns the functions with an open goal of their own, by path, and one such goal of each."""
     goals = {parts_of(path.split("::")[1:]): goal for path, goal in OPEN.findall(said) if not OF_PROOF.match(goal)}
     for folder, goal, why in STUCK.findall(said):
         if not NAMES_GONE.search(why) and not OF_PROOF.match(goal):
             goals.setdefault(parts_of(folder.split("/")), goal)
+    lost = {parts_of(folder.split("/")) for folder in LOST.findall(said)}
+    for path, row, goal in NOTED.findall(said):
+        function = function_at(crate, path, texts.get(path) or text_in(crate, path), int(row) - 1)
+        if function and function not in lost and not OF_PROOF.match(goal):
+            goals.setdefault(function, goal)
     return goals
 
 
@@ -210,7 +217,7 @@ def try_round(crate, edits, kept):
     status, said = check(crate, edits, kept)
     if status != 1:
         return {}, []
-    goals = open_goals(said)
+    goals = open_goals(crate, applied(crate, edits), said)
     changed = set().union(*(it.functions for it in edits))
     others = ["::".join(path) for path in goals if not is_part(path, changed)]
     return {it.label: own[0] for it in edits if (own := own_goals(it, goals))}, others
@@ -247,10 +254,10 @@ def try_joined(crate, edits, shared, tell):
     return alone
 
 
-def is_proved(crate, edits, kept):
-    """Returns whether the right code is proved over this kept work: that of what these edits change, where a check can
+def is_proved(crate, edit, kept):
+    """Returns whether the right code is proved over this kept work: that of what the edit changes, where a check can
     look at that alone, or of the whole crate."""
-    return any(rt.checked(crate, {}, words, kept).returncode == 0 for words in (words_of(edits), FLAGS))
+    return any(rt.checked(crate, {}, words, kept).returncode == 0 for words in (words_of([edit]), FLAGS))
 
 
 def try_edits(crate, files):
@@ -272,7 +279,7 @@ def try_edits(crate, files):
             with kept_work(crate, shared) as kept:
                 is_well, text = try_alone(crate, it, kept)
             tell(is_well, f"{it.label}: (singly) {text}")
-        if os.listdir(shared) and not is_proved(crate, tried, shared):
+        if os.listdir(shared) and not is_proved(crate, tried[-1], shared):
             tell(False, f"{crate.name}: NOT PROVED over what its rounds kept, so what they refused says nothing")
     return counts
 
@@ -283,7 +290,7 @@ def try_alone(crate, edit, kept):
         status, said = check(crate, [edit], kept)
         if status == 0:
             return False, "NOT REFUSED: what it changes is still proved"
-        if status == 1 and (own := own_goals(edit, open_goals(said))):
+        if status == 1 and (own := own_goals(edit, open_goals(crate, applied(crate, [edit]), said))):
             return True, f"refused, as it must be: {own[0]}"
     is_well, text = rt.must_fail(crate, edit.file, FLAGS, kept)
     is_by_contract = "only because a proof file names" not in text
