@@ -75,12 +75,13 @@ fn print_lengths<W: Write>(
     texts: &Exhaustive<'_>,
     directions: &[Direction],
     row: &mut [Letter],
-) -> io::Result<()>
+) -> Result<(), PrintFault>
     requires counted { CanBeCounted texts.now }
     requires room { HasRowRoom texts.now.greatest room.old }
     requires row { texts.now.greatest ≤ length row.old }
-    ensures { OnOk result (Appends (W.contents w.old) (W.contents w.new)
+    ensures printed { OnOk result (Appends (W.contents w.old) (W.contents w.new)
         (cases_text standard kind.entry (cases_in texts.now directions.now))) }
+    ensures fault { IfErr result (FailsToPrint (W.contents w.old) (W.contents w.new)) }
 {
     let alphabet = texts.alphabet();
     for len in texts.least()..texts.greatest() + 1 {
@@ -108,8 +109,7 @@ pub fn print_exhaustive<W: Write>(
         → JudgeSaysYes standard kind.entry (cases_in texts.now directions.now) }
     ensures fault { IfErr result (FailsToPrint (W.contents w.old) (W.contents w.new)) }
 {
-    let mut room = room_for_rows(alloc, texts.greatest())?;
     let mut row = letters_for(alloc, texts.greatest())?;
-    print_lengths(w, &mut room, kind, texts, directions, &mut row)?;
-    Ok(())
+    let mut room = room_for_rows(alloc, texts.greatest())?;
+    print_lengths(w, &mut room, kind, texts, directions, &mut row)
 }

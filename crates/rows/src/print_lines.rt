@@ -64,13 +64,15 @@ fn print_each_line<W: Write>(
     text: &[char],
     directions: &[Direction],
     row: &mut [Letter],
-) -> io::Result<()>
+) -> Result<(), PrintFault>
     requires short { first_long_line text.now ≡ None }
     requires room { HasRowRoom longest_row room.old }
     requires row { longest_row ≤ length row.old }
     ensures printed { OnOk result (Appends (W.contents w.old) (W.contents w.new)
         (cases_text standard (kind_of naming.entry) (cases_of_text naming.entry directions.now text.now))) }
-    ensures right { OnOk result (JudgeSaysYes standard (kind_of naming.entry) (cases_of_text naming.entry directions.now text.now)) }
+    ensures right { OnOk result
+        (JudgeSaysYes standard (kind_of naming.entry) (cases_of_text naming.entry directions.now text.now)) }
+    ensures fault { IfErr result (FailsToPrint (W.contents w.old) (W.contents w.new)) }
 {
     let mut left = Some(text);
     while let Some(lines) = left {
@@ -103,8 +105,7 @@ pub fn print_lines<W: Write>(
         (JudgeSaysYes standard (kind_of naming.entry) (cases_of_text naming.entry directions.now text.now)) }
     ensures fault { IfErr result (FailsToPrint (W.contents w.old) (W.contents w.new)) }
 {
-    let mut room = room_for_rows(alloc, LONGEST_ROW)?;
     let mut row = letters_for(alloc, LONGEST_ROW)?;
-    print_each_line(w, &mut room, naming, text, directions, &mut row)?;
-    Ok(())
+    let mut room = room_for_rows(alloc, LONGEST_ROW)?;
+    print_each_line(w, &mut room, naming, text, directions, &mut row)
 }

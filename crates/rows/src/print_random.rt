@@ -50,11 +50,12 @@ fn print_draws<W: Write>(
     texts: &Random<'_>,
     directions: &[Direction],
     row: &mut [Letter],
-) -> io::Result<()>
+) -> Result<(), PrintFault>
     requires room { HasRowRoom texts.now.greatest room.old }
     requires row { texts.now.greatest ≤ length row.old }
-    ensures { OnOk result (Appends (W.contents w.old) (W.contents w.new)
+    ensures printed { OnOk result (Appends (W.contents w.old) (W.contents w.new)
         (cases_text standard kind.entry (cases_drawn texts.now directions.now))) }
+    ensures fault { IfErr result (FailsToPrint (W.contents w.old) (W.contents w.new)) }
 {
     for number in 0..texts.count() {
         print_draw(w, room, kind, texts, directions, number, row)?;
@@ -80,8 +81,7 @@ pub fn print_random<W: Write>(
         → JudgeSaysYes standard kind.entry (cases_drawn texts.now directions.now) }
     ensures fault { IfErr result (FailsToPrint (W.contents w.old) (W.contents w.new)) }
 {
-    let mut room = room_for_rows(alloc, texts.greatest())?;
     let mut row = letters_for(alloc, texts.greatest())?;
-    print_draws(w, &mut room, kind, texts, directions, &mut row)?;
-    Ok(())
+    let mut room = room_for_rows(alloc, texts.greatest())?;
+    print_draws(w, &mut room, kind, texts, directions, &mut row)
 }

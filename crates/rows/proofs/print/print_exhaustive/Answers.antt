@@ -7,8 +7,5 @@ returns-in_err-room-clause-right g c = rows-right _ _ _ c.greatest.ensures.count
 pub returns-in_err-row-clause-right : goal.returns-in_err-row-clause-right
 returns-in_err-row-clause-right g c = rows-right _ _ _ c.greatest.ensures.counted
 
-pub returns-in_err-print_lengths-clause-right : goal.returns-in_err-print_lengths-clause-right
-returns-in_err-print_lengths-clause-right g c = rows-right _ _ _ c.greatest.ensures.counted
-
 pub returns-clause-right : goal.returns-clause-right
 returns-clause-right g c = rows-right _ _ _ c.greatest.ensures.counted

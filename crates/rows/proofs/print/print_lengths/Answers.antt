@@ -34,8 +34,8 @@ loop-len-preserved g c =
       room = room-still _ _ _ c.loop-len.invariant.room c.print_length.ensures.room;
     }
 
-pub returns : goal.returns
-returns g c =
+pub returns-clause-printed : goal.returns-clause-printed
+returns-clause-printed g c =
     let alphabet = c.alphabet-alphabet.result.now in
     let directions = c.args.directions.now in
     let least = c.args.texts.now.least in

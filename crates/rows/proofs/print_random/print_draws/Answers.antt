@@ -19,8 +19,8 @@ loop-number-preserved g c = record {
   size = c.print_draw.ensures.row ∙ c.loop-number.invariant.size;
 }
 
-pub returns : goal.returns
-returns g c =
+pub returns-clause-printed : goal.returns-clause-printed
+returns-clause-printed g c =
     let cases = cases_of_draw c.args.texts.now c.args.directions.now in
     let text = λ (n : ℕ). cases_text standard c.args.kind (cases n) in
     Appends-to _ _ _ _ (ap (printed text 0) (omega (arith, c.count-number-end.ensures)) ∙ text-between standard c.args.kind cases 0 _) c.loop-number.invariant.printed.grown

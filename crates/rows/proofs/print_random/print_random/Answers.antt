@@ -7,8 +7,5 @@ returns-in_err-room-clause-right g c = drawn-right _ _ _ c.greatest.ensures.draw
 pub returns-in_err-row-clause-right : goal.returns-in_err-row-clause-right
 returns-in_err-row-clause-right g c = drawn-right _ _ _ c.greatest.ensures.drawn
 
-pub returns-in_err-print_draws-clause-right : goal.returns-in_err-print_draws-clause-right
-returns-in_err-print_draws-clause-right g c = drawn-right _ _ _ c.greatest.ensures.drawn
-
 pub returns-clause-right : goal.returns-clause-right
 returns-clause-right g c = drawn-right _ _ _ c.greatest.ensures.drawn
