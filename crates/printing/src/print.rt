@@ -1,9 +1,10 @@
 //! What `levels` and `reorder` print of a text.
-ghost use Rattle.std.specs.Prelude.{◌≡◌, ◌≤◌, length, OnOk};
+ghost use Rattle.std.specs.Prelude.{◌≡◌, ◌≤◌, [], length, OnOk};
 ghost use Rattle.std.specs.Io.KnownBytes.{Appends};
 ghost use Rattle.units.specs.Layout.{longest_text};
 ghost use Rattle.printing.specs.Behind.{printed_as};
 ghost use Rattle.printing.specs.PrintedTexts.{printed_levels, printed_reorder};
+ghost use Rattle.printing.specs.UnderWay.{IsBegun};
 
 use crate::begun::Begun;
 use crate::fault::PrintFault;
@@ -14,6 +15,29 @@ use std::io::Write;
 use std::num::NonZeroU16;
 use ucdfiles::tables::Tables;
 use units::level::Direction;
+
+/// Writes a text in this form, of which nothing has come before: what `print_chars` does.
+fn print_each<W: Write>(
+    alloc: Global,
+    w: &mut W,
+    tables: &Tables,
+    text: &[char],
+    direction: Direction,
+    form: Form,
+    begun: &mut Begun,
+) -> Result<(), PrintFault>
+    requires small { length text.now ≤ longest_text }
+    requires begun { IsBegun tables.now begun.old }
+    requires empty { begun.old.chars.items ≡ [] }
+    requires first { begun.old.passed ≡ record { paragraphs = 0; characters = 0 } }
+    ensures { OnOk result (Appends (W.contents w.old) (W.contents w.new)
+        (printed_as form tables.now text.now direction)) }
+{
+    for k in 0..text.len() {
+        take_character(alloc, w, tables, direction, form, begun, text[k])?;
+    }
+    print_last(alloc, w, tables, direction, form, begun)
+}
 
 /// Writes a text in this form, as `print_levels` and `print_reorder` say, paragraph by paragraph: a paragraph's
 /// characters are looked up and laid out where it ends, and written before the next one is looked at.
@@ -30,10 +54,7 @@ fn print_chars<W: Write>(
         (printed_as form tables.now text.now direction)) }
 {
     let mut begun = Begun::new(alloc)?;
-    for k in 0..text.len() {
-        take_character(alloc, w, tables, direction, form, &mut begun, text[k])?;
-    }
-    print_last(alloc, w, tables, direction, form, &mut begun)
+    print_each(alloc, w, tables, text, direction, form, &mut begun)
 }
 
 /// Writes the levels of a text: for each paragraph a line with its number, counted from 0, and its level (P2, P3);

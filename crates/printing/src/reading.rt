@@ -1,5 +1,5 @@
 //! A text printed as it is read.
-ghost use Rattle.std.specs.Prelude.{◌≡◌, ◌≤◌, ◌+◌, ℕ, List, length, IfErr, IfOk, OnOk};
+ghost use Rattle.std.specs.Prelude.{◌≡◌, ◌≤◌, ◌+◌, ℕ, [], List, length, IfErr, IfOk, OnOk};
 ghost use Rattle.std.specs.Str.{chars};
 ghost use Rattle.units.specs.Layout.{longest_text};
 ghost use Rattle.printing.specs.ReadTexts.{BreaksOff, IsPrinted, utf8_front};
@@ -74,8 +74,8 @@ fn take_text<W: Write>(
     Ok(())
 }
 
-/// Takes the longest front of these bytes that is UTF-8, writes each paragraph that ends in it, and hands on what was
-/// written. Answers how many bytes it has.
+/// Takes the longest front of these bytes that is UTF-8 and writes each paragraph that ends in it; where one does, what
+/// was written is handed on. Answers how many bytes it has.
 fn take_front<W: Write>(
     alloc: Global,
     w: &mut W,
@@ -94,10 +94,56 @@ fn take_front<W: Write>(
     ensures printed { OnOk result (PrintsOn form tables.now direction (chars (utf8_front bytes.now))
         (W.contents w.old) (W.contents w.new) begun.old begun.new) }
 {
+    let passed = begun.passed.paragraphs;
     let front = utf8_front(bytes);
     take_text(alloc, w, tables, direction, form, begun, front)?;
-    w.flush()?;
+    if begun.passed.paragraphs > passed {
+        w.flush()?;
+    }
     Ok(front.len())
+}
+
+/// Reads the source to its end and writes the text that it hands out, of which nothing has come before: what
+/// `print_source` does, with its faults.
+fn read_text<S: ByteSource, W: Write>(
+    alloc: Global,
+    w: &mut W,
+    tables: &Tables,
+    source: &mut S,
+    direction: Direction,
+    form: Form,
+    begun: &mut Begun,
+) -> Result<(), TextFault>
+    requires bound { S.most_left source.old ≤ longest_text }
+    requires begun { IsBegun tables.now begun.old }
+    requires empty { begun.old.chars.items ≡ [] }
+    requires first { begun.old.passed ≡ record { paragraphs = 0; characters = 0 } }
+    ensures whole { OnOk result (S.ended source.new) }
+    ensures printed { OnOk result ((given : List ℕ) × S.gives source.old given source.new
+        × IsPrinted form tables.now direction given (W.contents w.old) (W.contents w.new)) }
+    ensures fault { IfErr result (λ fault. (given : List ℕ) × S.gives source.old given source.new
+        × BreaksOff (S.failures source.new ≡ 1) (S.ended source.new) form tables.now direction given
+        (W.contents w.old) (W.contents w.new) fault) }
+{
+    let mut buffer = [0; 4096];
+    let mut held = 0;
+    loop {
+        match source.read(&mut buffer[held..]) {
+            Err(_) => return Err(TextFault::Read),
+            Ok(0) => break,
+            Ok(n) => {
+                let filled = held + n;
+                let bytes = &buffer[..filled];
+                let taken = take_front(alloc, w, tables, direction, form, begun, bytes)?;
+                held = hold(&mut buffer, taken, filled);
+            }
+        }
+    }
+    if held > 0 {
+        return Err(TextFault::NotUtf8);
+    }
+    print_last(alloc, w, tables, direction, form, begun)?;
+    Ok(())
 }
 
 /// Reads the source to its end and writes the text that it hands out, in UTF-8, in this form (`printed_as`): each
@@ -126,23 +172,5 @@ pub fn print_source<S: ByteSource, W: Write>(
         (W.contents w.old) (W.contents w.new) fault) }
 {
     let mut begun = Begun::new(alloc)?;
-    let mut buffer = [0; 4096];
-    let mut held = 0;
-    loop {
-        match source.read(&mut buffer[held..]) {
-            Err(_) => return Err(TextFault::Read),
-            Ok(0) => break,
-            Ok(n) => {
-                let filled = held + n;
-                let bytes = &buffer[..filled];
-                let taken = take_front(alloc, w, tables, direction, form, &mut begun, bytes)?;
-                held = hold(&mut buffer, taken, filled);
-            }
-        }
-    }
-    if held > 0 {
-        return Err(TextFault::NotUtf8);
-    }
-    print_last(alloc, w, tables, direction, form, &mut begun)?;
-    Ok(())
+    read_text(alloc, w, tables, source, direction, form, &mut begun)
 }

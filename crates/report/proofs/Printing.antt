@@ -14,7 +14,7 @@ use Rattle.report.specs.declared.print.ReportFault.TheVariants.{Write}
 use Rattle.report.specs.declared.tally.Tally.{Tally}
 use Rattle.report.specs.FileReports.{is_right, report_of, settled_cases}
 use Rattle.report.specs.Reporting.{EndedReport, Reporting, Reports, report_at_end}
-use Rattle.report.specs.PrintedReports.{BreaksOff, HasTold, HasWrittenFirst, Prints, PrintsSettled}
+use Rattle.report.specs.PrintedReports.{BreaksOff, HasTold, HasWrittenFirst, Prints, PrintsEnd, PrintsSettled}
 use Rattle.report.specs.ReportText.{first_cases_text, foot_text, report_text, wrong_case_text}
 use Rattle.report.proofs.SettledCases.{told-settled}
 
@@ -79,20 +79,22 @@ pub write-fails : {A : Type 0} (Failed : Type 0) (r : Reporting) (most : ℕ) (a
 write-fails Failed r most a b Gave given gave (Ok x) e = absurd e
 write-fails Failed r most a b Gave given gave (Err fault) e = (given, gave, subst (BreaksOff Failed r most given a b) (sym e) tt)
 
+pub end-fails : {A : Type 0} (Failed : Type 0) (r : Reporting) (most : ℕ) (a b : Option (List ℕ)) (Gave : List ℕ → Type 0) (given : List ℕ) → Gave given
+    → (result : Result A ReportFault) → IfErr result (λ fault. fault ≡ Write) → IfErr result (λ fault. (xs : List ℕ) × Gave xs × BreaksOff Failed r most xs a b fault)
+end-fails Failed r most a b Gave given gave (Ok x) e = tt
+end-fails Failed r most a b Gave given gave (Err fault) e = (given, gave, subst (BreaksOff Failed r most given a b) (sym e) tt)
+
 -- the text of a whole report: the cases told before the end and those of a last line, and the foot
-pub whole-printed : (r s : Reporting) (e : EndedReport) (most left further : ℕ) (ws found : List WrongCase) (given : List ℕ) (a b c d : Option (List ℕ))
-    (malformed : Option (ℕ × Cause)) (tally : Tally) (right : Bool) → HasTold r ws given s → HasWrittenFirst most ws a b left
+pub whole-printed : (r s : Reporting) (e : EndedReport) (most left : ℕ) (ws : List WrongCase) (given : List ℕ) (a b d : Option (List ℕ)) (right : Bool)
+    → HasTold r ws given s → HasWrittenFirst most ws a b left
     → ((terms : Terms) (kind : Kind) (told : List WrongCase) (bs : List ℕ) → Reports terms kind s told bs → report_of terms kind bs ≡ report_at_end told e)
-    → found ≡ e.found → HasWrittenFirst left found b c further → malformed ≡ e.malformed → tally ≡ e.tally → Appends c d (foot_text malformed tally)
-    → ((terms : Terms) (kind : Kind) (told : List WrongCase) (bs : List ℕ) → report_of terms kind bs ≡ report_at_end told e → right ≡ is_right (report_of terms kind bs))
-    → Prints r most given a d right
-whole-printed r s e most left further ws found given a b c d malformed tally right told written ends found-is last malformed-is tally-is foot answers terms kind just =
+    → PrintsEnd left e b d right → Prints r most given a d right
+whole-printed r s e most left ws given a b d right told written ends end terms kind just =
     let is : report_of terms kind given ≡ report_at_end ws e = ends terms kind ws given (told terms kind [] [] just) in
-    let cases = written-more most left further ws found a b c written last in
-    let text : first_cases_text most (ws ++ found) ++ foot_text malformed tally ≡ report_text most (report_at_end ws e) = rw (found-is, malformed-is, tally-is) refl in
+    let cases = written-more most left end.left ws e.found a b end.between written end.cases in
     record {
-      text = Appends-to a d _ _ (text ∙ ap (report_text most) (sym is)) (Appends-joined a c d _ _ cases.lines foot);
-      answer = answers terms kind ws given is;
+      text = Appends-to a d _ _ (ap (report_text most) (sym is)) (Appends-joined a end.between d _ _ cases.lines end.foot);
+      answer = end.answer terms kind ws given is;
     }
 
 module _ (before : Reporting) (most : ℕ) (a : Option (List ℕ)) (piece : List ℕ) where

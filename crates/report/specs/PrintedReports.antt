@@ -7,8 +7,8 @@ use Rattle.report.specs.declared.print.ReportFault.{ReportFault}
 use Rattle.report.specs.declared.print.ReportFault.TheVariants.{Read, Write}
 use Rattle.report.specs.declared.wrong_case.WrongCase.{WrongCase}
 use Rattle.report.specs.FileReports.{FileReport, is_right, report_of, settled_cases}
-use Rattle.report.specs.Reporting.{Reporting, Reports}
-use Rattle.report.specs.ReportText.{first_cases_text, report_text}
+use Rattle.report.specs.Reporting.{EndedReport, Reporting, Reports, report_at_end}
+use Rattle.report.specs.ReportText.{first_cases_text, foot_text, report_text}
 
 -- the report told these wrong cases while it was handed these bytes
 abbrev pub HasTold : Reporting → List WrongCase → List ℕ → Reporting → Type 0
@@ -20,6 +20,16 @@ HasTold before ws bytes after =
 pub record HasWrittenFirst (most : ℕ) (ws : List WrongCase) (before after : Option (List ℕ)) (left : ℕ) : Type 0 where
   pub lines : Appends before after (first_cases_text most ws)
   pub more : left + length (take most ws) ≡ most
+
+-- behind the first wrong cases, an ended report is printed: those of its own that may follow, at most so many, and the
+-- foot; and the answer is whether the file is right
+pub record PrintsEnd (most : ℕ) (ended : EndedReport) (before after : Option (List ℕ)) (right : Bool) : Type 0 where
+  pub between : Option (List ℕ)
+  pub left : ℕ
+  pub cases : HasWrittenFirst most ended.found before between left
+  pub foot : Appends between after (foot_text ended.malformed ended.tally)
+  pub answer : (terms : Terms) (kind : Kind) (told : List WrongCase) (bytes : List ℕ)
+      → report_of terms kind bytes ≡ report_at_end told ended → right ≡ is_right (report_of terms kind bytes)
 
 -- what known bytes grew by is the text of the report, and the answer is whether the file is right
 pub record IsPrinted (most : ℕ) (report : FileReport) (before after : Option (List ℕ)) (right : Bool) : Type 0 where

@@ -2,10 +2,11 @@
 ghost use Rattle.std.specs.Prelude.{◌≡◌, ℕ, List, IfOk, IfErr, OnOk};
 ghost use Rattle.std.specs.Io.KnownBytes.{Appends};
 ghost use Rattle.report.specs.declared.wrong_case.WrongCase.{WrongCase as Told};
-ghost use Rattle.report.specs.PrintedReports.{BreaksOff, HasTold, HasWrittenFirst, Prints};
+ghost use Rattle.report.specs.declared.print.ReportFault.TheVariants as fault_of;
+ghost use Rattle.report.specs.PrintedReports.{BreaksOff, HasTold, HasWrittenFirst, Prints, PrintsEnd};
 ghost use Rattle.report.specs.ReportText.{wrong_cases_text};
 
-use crate::report::Report;
+use crate::report::{Ended, Report};
 use crate::report_text::{print_foot, print_wrong_case};
 use crate::wrong_case::WrongCase;
 use std::io;
@@ -99,6 +100,17 @@ fn print_source<S: ByteSource, W: Write>(
     }
 }
 
+/// Writes what an ended report still has to tell: the lines of the first of its wrong cases, at most `most`, and then
+/// the foot. Answers whether the file is right.
+fn print_end<W: Write>(w: &mut W, ended: &Ended, most: u64) -> Result<bool, ReportFault>
+    ensures printed { IfOk result (PrintsEnd most ended.now (W.contents w.old) (W.contents w.new)) }
+    ensures fault { IfErr result (λ fault. fault ≡ fault_of.Write) }
+{
+    print_first(w, ended.found(), most)?;
+    print_foot(w, ended.malformed(), &ended.tally())?;
+    Ok(ended.is_right())
+}
+
 /// Reads the source to its end and writes the report on what it handed out, the whole file as which the report was
 /// begun: a line for each of the first wrong cases, at most `most`, each as soon as its line is read, and then the foot
 /// (`report_text`). Answers whether the file is right: no line is malformed, and no case wrong.
@@ -121,7 +133,5 @@ pub fn print_report<S: ByteSource, W: Write>(
 {
     let left = print_source(w, &mut report, source, most)?;
     let ended = report.finish();
-    print_first(w, ended.found(), left)?;
-    print_foot(w, ended.malformed(), &ended.tally())?;
-    Ok(ended.is_right())
+    print_end(w, &ended, left)
 }

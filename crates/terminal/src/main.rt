@@ -61,17 +61,21 @@ fn print_bytes(rt: &HostRuntime, room: &Room, line: &str) -> anyhow::Result<()> 
     Ok(())
 }
 
-fn main(rt: HostRuntime) -> anyhow::Result<()> {
-    let tables = standard::tables(rt.alloc())?;
-    let mut room = Room::with_room(rt.alloc(), 80).map_err(|_| anyhow::Error::msg("no room"))?;
-    let line = "ab (\u{5D2}\u{5D3}) 12";
+/// Lays the line out, from right to left, and prints where the cursor goes in it.
+fn show(rt: &HostRuntime, room: &mut Room, tables: &Tables, line: &str) -> anyhow::Result<()> {
     room.lay_out_utf8(
-        &tables,
+        tables,
         line.as_bytes(),
         Direction::Rtl,
         &[],
         Limits::standard(),
     )?;
-    print_columns(&rt, &room, &tables, line)?;
-    print_bytes(&rt, &room, line)
+    print_columns(rt, room, tables, line)?;
+    print_bytes(rt, room, line)
+}
+
+fn main(rt: HostRuntime) -> anyhow::Result<()> {
+    let tables = standard::tables(rt.alloc())?;
+    let mut room = Room::with_room(rt.alloc(), 80).map_err(|_| anyhow::Error::msg("no room"))?;
+    show(&rt, &mut room, &tables, "ab (\u{5D2}\u{5D3}) 12")
 }

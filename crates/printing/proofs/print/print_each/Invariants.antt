@@ -1,6 +1,6 @@
 use Rattle.std.proofs.Common.{◌≡◌, take}
 use Rattle.printing.specs.UnderWay.{IsBegun, PrintsOn, handed_in}
-use Rattle.printing.proofs.print.print_chars.Given as goal
+use Rattle.printing.proofs.print.print_each.Given as goal
 
 abbrev pub invariant-loop-k : goal.invariant-loop-k
 invariant-loop-k g l = record {
