@@ -23,10 +23,15 @@ fn print_lines(rt: &HostRuntime, text: &Text<'_>) -> anyhow::Result<()> {
     Ok(())
 }
 
+/// Prints the text, character by character and line by line.
+fn print_text(rt: &HostRuntime, text: &Text<'_>) -> anyhow::Result<()> {
+    print_levels(rt, text)?;
+    print_lines(rt, text)
+}
+
 fn main(rt: HostRuntime) -> anyhow::Result<()> {
     let tables = standard::tables(rt.alloc())?;
     let words = "ab (\u{5D2}\u{5D3}) 12";
     let text = Text::lay_out(rt.alloc(), &tables, words, Direction::Rtl, &[])?;
-    print_levels(&rt, &text)?;
-    print_lines(&rt, &text)
+    print_text(&rt, &text)
 }

@@ -45,8 +45,8 @@ fn report_as<'a, F: Files, W: Write>(
         limits: Limits::standard(),
         leniency: options.leniency,
     };
-    let report = Report::new(alloc, rows, terms)?;
     let mut source = open(alloc, files, file, MOST_FILE_BYTES)?;
+    let report = Report::new(alloc, rows, terms)?;
     match print_report(out, report, &mut source, options.most) {
         Ok(right) => Ok(status_of(right)),
         Err(ReportFault::Write) => Err(Fault::CannotWrite),
