@@ -29,19 +29,43 @@ fn lay_out(room: &mut Room, tables: &Tables, bytes: &[u8], at: &[usize]) -> Opti
         .err()
 }
 
-/// Two lines, and the offsets of their characters.
-fn tells_offsets(rt: &impl Abort, room: &Room) {
-    has_levels(rt, room, &[1, 1, 0, 0]);
-    assert_eq!(rt; room.characters(), 3);
-    assert_eq!(rt; room.index_of(1), Some(0));
-    assert_eq!(rt; room.index_of(3), Some(2));
-    assert_eq!(rt; room.index_of(4), None);
-    assert_eq!(rt; room.level_at(4), None);
-    assert_eq!(rt; room.offset_of(1), 2);
-    assert_eq!(rt; room.offset_of(3), 4);
+/// Compares the characters that code units belong to, from the first one on.
+fn has_indices(rt: &impl Abort, room: &Room, characters: &[Option<usize>]) {
+    for (at, character) in characters.iter().enumerate() {
+        assert_eq!(rt; room.index_of(at), *character, "at {at}");
+    }
+}
+
+/// Compares where characters begin, from the first one on.
+fn has_offsets(rt: &impl Abort, room: &Room, starts: &[usize]) {
+    for (k, start) in starts.iter().enumerate() {
+        assert_eq!(rt; room.offset_of(k), *start, "of {k}");
+    }
+}
+
+/// The two lines of the text.
+fn has_two_lines(rt: &impl Abort, room: &Room) {
     assert_eq!(rt; room.layout().line_count(), 2);
     assert_eq!(rt; room.line(0), EncodedLine { start: 0, end: 2 });
     assert_eq!(rt; room.line(1), EncodedLine { start: 2, end: 4 });
+}
+
+/// Two lines, and the offsets of their characters.
+fn tells_offsets(rt: &impl Abort, room: &Room) {
+    has_levels(rt, room, &[1, 1, 0, 0]);
+    assert_eq!(rt; room.level_at(4), None);
+    assert_eq!(rt; room.characters(), 3);
+    has_indices(rt, room, &[Some(0), Some(0), Some(1), Some(2), None]);
+    has_offsets(rt, room, &[0, 2, 3, 4]);
+    has_two_lines(rt, room);
+}
+
+/// The only run of a line.
+fn has_run(rt: &impl Abort, room: &Room, k: usize, run: EncodedRun, other: EncodedRun) {
+    let mut out = [other];
+    assert!(rt; k < room.layout().line_count());
+    assert_eq!(rt; room.write_runs(k, ParaLevel::Zero, &mut out), 1);
+    assert_eq!(rt; out[0], run);
 }
 
 /// The runs of its lines, of one level each.
@@ -58,12 +82,8 @@ fn tells_runs(rt: &impl Abort, room: &Room) -> Option<()> {
         level: Level::new(0)?,
         shown: 2,
     };
-    let mut out = [others];
-    assert_eq!(rt; room.layout().line_count(), 2);
-    assert_eq!(rt; room.write_runs(0, ParaLevel::Zero, &mut out), 1);
-    assert_eq!(rt; out[0], letter);
-    assert_eq!(rt; room.write_runs(1, ParaLevel::Zero, &mut out), 1);
-    assert_eq!(rt; out[0], others);
+    has_run(rt, room, 0, letter, others);
+    has_run(rt, room, 1, others, letter);
     Some(())
 }
 
@@ -95,23 +115,28 @@ fn breaks_anew(rt: &impl Abort, room: &mut Room) -> Result<(), Fail> {
     Ok(())
 }
 
-/// Lays out the text, and then it is refused in several ways, each of which leaves what the room holds.
-fn holds_text(rt: &impl Abort, alloc: Global, tables: &Tables) -> Result<(), Fail> {
-    let mut room = Room::with_room(alloc, 4)?;
-    assert_eq!(rt; lay_out(&mut room, tables, UTF8, &[2]), None);
-    tells_offsets(rt, &room);
-    assert_eq!(rt; tells_runs(rt, &room), Some(()));
+/// Lays out what the room refuses, each time with what it holds left as it was.
+fn refuses(rt: &impl Abort, room: &mut Room, tables: &Tables) {
     for (bytes, at, fault) in REFUSED {
-        assert_eq!(rt; lay_out(&mut room, tables, bytes, at), Some(fault));
-        tells_offsets(rt, &room);
+        assert_eq!(rt; lay_out(room, tables, bytes, at), Some(fault));
+        tells_offsets(rt, room);
     }
-    breaks_anew(rt, &mut room)
+}
+
+/// Lays out the text, which stays what the room holds while it refuses others.
+fn holds_text(rt: &impl Abort, room: &mut Room, tables: &Tables) -> Result<(), Fail> {
+    assert_eq!(rt; lay_out(room, tables, UTF8, &[2]), None);
+    tells_offsets(rt, room);
+    assert_eq!(rt; tells_runs(rt, room), Some(()));
+    refuses(rt, room, tables);
+    breaks_anew(rt, room)
 }
 
 #[test]
 fn lays_out_utf8(rt: HostRuntime) -> Result<(), Fail> {
     let tables = tables(rt.alloc())?;
-    holds_text(&rt, rt.alloc(), &tables)
+    let mut room = Room::with_room(rt.alloc(), 4)?;
+    holds_text(&rt, &mut room, &tables)
 }
 
 /// Sequences that are cut short, the first row of the standard's table on U+FFFD (chapter 3), and where the characters
