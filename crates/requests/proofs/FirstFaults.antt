@@ -15,13 +15,14 @@ use Rattle.requests.specs.TableSources.{AreTablesBy}
 use Rattle.requests.specs.FaultText.{EndsOpening, print_fault}
 use Rattle.requests.specs.Outcomes.{IsDone}
 use Rattle.requests.specs.CodeWords.{codes_said}
-use Rattle.requests.specs.Printed.{HasPrinted, HoldsText, most_text_bytes}
-use Rattle.requests.specs.Parts.{AreDone, EndsFile, EndsWriting, FailsIn, IsFirstFault, RequestPart, alphabet_parts, codes_parts, explaining_parts, file_part, kind_parts, lines_parts, opening_part, printing_parts, row_text_parts, rows_parts, source_parts, parts_of, table_parts, text_parts, texts_part}
+use Rattle.requests.specs.Printed.{HoldsText, most_text_bytes}
+use Rattle.requests.specs.Parts.{AreDone, EndsFile, EndsWriting, FailsIn, IsFirstFault, RequestPart, alphabet_parts, codes_parts, explaining_parts, file_part, kind_parts, lines_part, lines_parts, opening_part, printing_parts, row_text_parts, rows_parts, source_parts, parts_of, table_parts, text_parts, texts_part, whole_parts}
 use Rattle.requests.specs.DirectionWords.{SaysDirections}
 use Rattle.requests.specs.PrintedRows.{HasPrintedRows, HasRowsOf}
 use Rattle.requests.proofs.AskedLetters.{alphabet_done}
 use Rattle.requests.specs.declared.request.FileKind.{FileKind}
 use Rattle.requests.specs.declared.request.FileKind.TheVariants.{Classes, Characters}
+use Rattle.requests.specs.declared.request.Print.TheVariants.{Levels, Reorder, Explained}
 use Rattle.requests.specs.declared.request.TableSource.{TableSource}
 use Rattle.requests.specs.declared.request.TableSource.TheVariants.{Folder, BuiltIn}
 use Rattle.requests.specs.declared.request.Request.{Request}
@@ -100,12 +101,22 @@ pub source_done : (files : FileFacts) (source : TableSource) (tables : TablesOf)
 source_done files (Folder folder) tables h = tables_done files folder.now tables h
 source_done files BuiltIn tables h = ((tables, h), tt)
 
--- and so are all parts of the printing of a text
-pub text_done : (files : FileFacts) (source : TableSource) (file : List ℕ) (tables : TablesOf) → AreTablesBy files source tables
-    → (bytes : List ℕ) → files.Holds (origin_of file) most_text_bytes bytes → IsUtf8 bytes → AreDone (printing_parts files source file)
+-- and so are all parts of what is read of a text that was read whole
+pub text_done : (files : FileFacts) (file text : List ℕ) → HoldsText files file text → AreDone (text_parts files file)
+text_done files file text h = ((h.bytes, h.read), ((h.bytes, h.read, h.utf8), tt))
+
+pub whole_done : (files : FileFacts) (source : TableSource) (file : List ℕ) (tables : TablesOf) → AreTablesBy files source tables
+    → (text : List ℕ) → HoldsText files file text → AreDone (whole_parts files source file)
+unfolding whole_parts
+whole_done files source file tables h text read =
+    all_done (source_parts files source) (text_parts files file) (source_done files source tables h) (text_done files file text read)
+
+-- and of one that is printed while it is read, before its first byte
+pub begun_done : (files : FileFacts) (source : TableSource) (file : List ℕ) (tables : TablesOf) → AreTablesBy files source tables
+    → (bytes : List ℕ) → files.Begins (origin_of file) most_text_bytes bytes → AreDone (printing_parts files source file)
 unfolding printing_parts
-text_done files source file tables h bytes whole utf8 =
-    all_done (source_parts files source) (text_parts files file) (source_done files source tables h) ((bytes, whole), ((bytes, whole, utf8), tt))
+begun_done files source file tables h bytes begins =
+    all_done (source_parts files source) (opening_part files most_text_bytes file ∷ []) (source_done files source tables h) ((bytes, begins), tt)
 
 -- and all parts of the explaining of code points
 pub codes_done : (files : FileFacts) (word : List ℕ) (source : TableSource) (tables : TablesOf) → AreTablesBy files source tables
@@ -114,7 +125,7 @@ unfolding explaining_parts
 codes_done files word source tables h short chars said =
     all_done (codes_parts word) (source_parts files source) (short, ((chars, said), tt)) (source_done files source tables h)
 
-writing_ends : (f : PrintFault) → EndsWriting (print_fault f)
+pub writing_ends : (f : PrintFault) → EndsWriting (print_fault f)
 writing_ends Write = tt
 writing_ends Memory = tt
 
@@ -123,20 +134,6 @@ pub printing_fails : {A : Type 0} (parts : List RequestPart) (before after : Opt
     → IsErrAnd r (λ fault. fault ≡ print_fault f) → IfErr r (FailsIn parts before after)
 printing_fails parts before after (Ok x) f done h = tt
 printing_fails parts before after (Err fault) f done h = inr (done, subst EndsWriting (sym h) (writing_ends f))
-
--- what was printed by the tables and of the text that were read is what FILE holds
-pub has_printed : (files : FileFacts) (printed : TablesOf → List ℕ → List ℕ) (source : TableSource) (file : List ℕ) (tables : TablesOf) (text : List ℕ)
-    (before after : Option (List ℕ)) → AreTablesBy files source tables
-    → ((bytes : List ℕ) × files.Holds (origin_of file) most_text_bytes bytes × IsUtf8 bytes × (text ≡ chars bytes))
-    → Appends before after (printed tables text) → HasPrinted files printed source file before after
-has_printed files printed source file tables text before after stated read said = record {
-  tables = tables;
-  stated = stated;
-  bytes = read.0;
-  read = read.1;
-  utf8 = read.2;
-  said = subst (λ (xs : List ℕ). Appends before after (printed tables xs)) read.3 said;
-}
 
 -- what rows hold was read
 pub kind_done : (files : FileFacts) (k : FileKind) (source : TableSource) (kind : Kind) → HasRowsOf files k source kind → AreDone (kind_parts files k source)
@@ -165,14 +162,18 @@ unfolding lines_parts
 lines_done files asked directions says tables h text read short = (
   (directions, says),
   all_done (source_parts files asked.tables) (row_text_parts files asked.file.now) (source_done files asked.tables tables h)
-      ((read.0, read.1), ((read.0, read.1, read.2), ((text, read, short), tt))),
+      (all_done (text_parts files asked.file.now) (lines_part files asked.file.now ∷ []) (text_done files asked.file.now text read) ((text, read, short), tt)),
 )
 
 -- what was done was read before
 pub request_done : (files : FileFacts) (before after : Option (List ℕ)) (request : Request) (outcome : Outcome)
     → IsDone files before after request outcome → AreDone (parts_of files request)
-request_done files before after (Text source direction file print) Printed h =
-    text_done files source file.now h.tables h.stated h.bytes h.read h.utf8
+request_done files before after (Text source direction file Levels) Printed h =
+    begun_done files source file.now h.tables h.stated h.read.bytes h.read.begins
+request_done files before after (Text source direction file (Reorder columns)) Printed h =
+    begun_done files source file.now h.tables h.stated h.read.bytes h.read.begins
+request_done files before after (Text source direction file Explained) Printed h =
+    whole_done files source file.now h.tables h.stated h.text h.read
 request_done files before after (ExplainClasses word direction) Printed h = (h.short, ((h.classes, h.named), tt))
 request_done files before after (ExplainCodes word source direction) Printed h =
     codes_done files word.now source h.tables h.stated h.short h.chars h.said_by

@@ -46,11 +46,15 @@ module _ (files : FileFacts) (before after : Option (List ℕ)) where
   steps_fail request (Ok x) h = h
   steps_fail request (Err fault) h = inl h
 
-  -- and what is handed on of that
+  -- and so does what is handed on of that, as of all that ends a request
+  pub failed_on : (request : Request) {T : Type 0} (r : Result T Fault) (e : Fault) → IsErrAnd r (λ given. given ≡ e)
+      → Fails files before after request e → IfErr r (Fails files before after request)
+  failed_on request (Ok x) e same h = tt
+  failed_on request (Err given) e same h = subst (Fails files before after request) (sym same) h
+
   pub handed_fail : (request : Request) {T : Type 0} (r : Result T Fault) (e : Fault) → IsErrAnd r (λ given. given ≡ e)
       → FailsIn (parts_of files request) before after e → IfErr r (Fails files before after request)
-  handed_fail request (Ok x) e same h = tt
-  handed_fail request (Err given) e same h = inl (subst (FailsIn (parts_of files request) before after) (sym same) h)
+  handed_fail request r e same h = failed_on request r e same (inl h)
 
   module _ (file : Bor (List ℕ)) (options : ReportOptions) where
     -- what ends a report on a file of classes ends its request

@@ -6,6 +6,7 @@ pub mod ItemWords
 pub mod JudgedFiles
 pub mod Outcomes
 pub mod Printed
+pub mod PrintedFiles
 pub mod PrintedLines
 pub mod PrintedRows
 pub mod ReadFiles

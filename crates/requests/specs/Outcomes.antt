@@ -1,6 +1,8 @@
 -- What a request comes to.
 use Rattle.std.specs.Prelude.{◌≡◌, ◌⊎◌, ℕ, List, Option, Some, Result, Ok, Err, true}
+use Rattle.printing.specs.declared.form.Form.TheVariants as form
 use Rattle.requests.specs.declared.request.FileKind.TheVariants.{Classes, Characters}
+use Rattle.requests.specs.declared.request.Print.TheVariants.{Levels, Reorder}
 use Rattle.requests.specs.declared.request.Request.{Request}
 use Rattle.requests.specs.declared.request.Request.TheVariants.{Text, ExplainClasses, ExplainCodes, Judge, Report, Rows, RowsOf}
 use Rattle.requests.specs.declared.fault.Fault.{Fault}
@@ -10,6 +12,7 @@ use Rattle.requests.specs.declared.outcome.Outcome.TheVariants.{Judged, Printed}
 use Rattle.requests.specs.FaultText.{EndsBy}
 use Rattle.requests.specs.JudgedFiles.{HasJudged, HasJudgedBy, IsClassesVerdict}
 use Rattle.requests.specs.Printed.{HasExplained, HasExplainedCodes, HasPrinted, printed_text}
+use Rattle.requests.specs.PrintedFiles.{TextBreaksOff}
 use Rattle.requests.specs.PrintedLines.{HasPrintedLines}
 use Rattle.requests.specs.PrintedRows.{HasPrintedRows}
 use Rattle.requests.specs.ReadFiles.{FileFacts}
@@ -39,13 +42,17 @@ IsDone files before after (Rows asked) Printed = HasPrintedRows files asked befo
 IsDone files before after (RowsOf asked) Printed = HasPrintedLines files asked before after
 IsDone files before after _ _ = ⊥
 
--- a report breaks off where a read of its file fails, behind what it printed by then; no other request prints anything
--- before all is read
+-- what is printed while a file is read breaks off, behind what was printed by then: a text where a read fails or where it
+-- is not UTF-8, a report where a read fails; no other request prints anything before all is read
 abbrev pub BreaksOff : FileFacts → Option (List ℕ) → Option (List ℕ) → Request → Fault → Type 0
+BreaksOff files before after (Text source direction file Levels) fault =
+    TextBreaksOff files form.Levels direction source file.now before after fault
+BreaksOff files before after (Text source direction file (Reorder columns)) fault =
+    TextBreaksOff files (form.Reorder columns) direction source file.now before after fault
 BreaksOff files before after (Report kind tables file options) fault = HasBrokenOff files kind tables file.now options before after fault
 BreaksOff files before after _ fault = ⊥
 
--- a request fails: in a part, or as a report that breaks off
+-- a request fails: in a part, or where what it prints breaks off
 abbrev pub Fails : FileFacts → Option (List ℕ) → Option (List ℕ) → Request → Fault → Type 0
 Fails files before after request fault = FailsIn (parts_of files request) before after fault ⊎ BreaksOff files before after request fault
 

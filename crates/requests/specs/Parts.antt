@@ -16,6 +16,7 @@ use Rattle.requests.specs.declared.request.AskedLines.{AskedLines}
 use Rattle.requests.specs.declared.request.AskedRows.{AskedRows}
 use Rattle.requests.specs.declared.request.FileKind.{FileKind}
 use Rattle.requests.specs.declared.request.FileKind.TheVariants.{Classes, Characters}
+use Rattle.requests.specs.declared.request.Print.TheVariants.{Levels, Reorder, Explained}
 use Rattle.requests.specs.declared.request.RowLetters.{RowLetters}
 use Rattle.requests.specs.declared.request.RowLetters.TheVariants.{Alphabet, OfForm}
 use Rattle.requests.specs.declared.request.TableSource.{TableSource}
@@ -235,9 +236,13 @@ module _ (files : FileFacts) where
   unfoldable pub lines_parts : AskedLines → List RequestPart
   lines_parts asked = directions_part asked.directions.now ∷ (source_parts asked.tables ++ row_text_parts asked.file.now)
 
-  -- what is read to print a text
+  -- what is read to explain a text
+  unfoldable pub whole_parts : TableSource → List ℕ → List RequestPart
+  whole_parts source file = source_parts source ++ text_parts file
+
+  -- what is read to print a text that is printed while it is read, before its first byte
   unfoldable pub printing_parts : TableSource → List ℕ → List RequestPart
-  printing_parts source file = source_parts source ++ text_parts file
+  printing_parts source file = source_parts source ++ opening_part most_text_bytes file ∷ []
 
   -- what is read to explain code points
   unfoldable pub explaining_parts : List ℕ → TableSource → List RequestPart
@@ -253,7 +258,9 @@ module _ (files : FileFacts) where
 
   -- what is read for a request, in this order
   abbrev pub parts_of : Request → List RequestPart
-  parts_of (Text source direction file print) = printing_parts source file.now
+  parts_of (Text source direction file Levels) = printing_parts source file.now
+  parts_of (Text source direction file (Reorder columns)) = printing_parts source file.now
+  parts_of (Text source direction file Explained) = whole_parts source file.now
   parts_of (ExplainClasses word direction) = classes_parts word.now
   parts_of (ExplainCodes word source direction) = explaining_parts word.now source
   parts_of (Judge Classes tables file) = file_part most_file_bytes file.now ∷ []

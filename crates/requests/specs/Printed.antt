@@ -26,19 +26,21 @@ abbrev pub most_text_bytes : ℕ
 most_text_bytes = 2 ^ 24
 
 -- what FILE names was read whole and is UTF-8, and this is the text of its characters
-abbrev pub HoldsText : FileFacts → List ℕ → List ℕ → Type 0
-HoldsText files file text =
-    (bytes : List ℕ) × files.Holds (origin_of file) most_text_bytes bytes × IsUtf8 bytes × (text ≡ chars bytes)
+pub record HoldsText (files : FileFacts) (file text : List ℕ) : Type 0 where
+  pub bytes : List ℕ
+  pub begins : files.Begins (origin_of file) most_text_bytes bytes
+  pub read : files.Holds (origin_of file) most_text_bytes bytes
+  pub utf8 : IsUtf8 bytes
+  pub text_is : text ≡ chars bytes
 
 -- what FILE names was read whole and is UTF-8, and what known bytes grew by is what is printed of its characters
 -- by the tables of this source
 pub record HasPrinted (files : FileFacts) (printed : TablesOf → List ℕ → List ℕ) (source : TableSource) (file : List ℕ) (before after : Option (List ℕ)) : Type 0 where
   pub tables : TablesOf
   pub stated : AreTablesBy files source tables
-  pub bytes : List ℕ
-  pub read : files.Holds (origin_of file) most_text_bytes bytes
-  pub utf8 : IsUtf8 bytes
-  pub said : Appends before after (printed tables (chars bytes))
+  pub text : List ℕ
+  pub read : HoldsText files file text
+  pub said : Appends before after (printed tables text)
 
 -- a word names classes, and what known bytes grew by is what `explain` prints of them
 pub record HasExplained (word : List ℕ) (direction : Direction) (before after : Option (List ℕ)) : Type 0 where

@@ -21,5 +21,6 @@ pub mod request;
 pub mod run;
 mod table_files;
 mod table_source;
+mod text_printing;
 mod text_rows;
 pub mod verdict_line;

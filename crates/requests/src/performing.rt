@@ -1,13 +1,13 @@
 // What a request asks for, done.
 ghost use Rattle.std.specs.Prelude.{◌≡◌, ◌≤◌, Some, length, IfOk, IfErr, OnOk};
-ghost use Rattle.std.specs.Io.KnownBytes.{Appends};
 ghost use Rattle.units.specs.Layout.{longest_text};
 ghost use Rattle.requests.specs.CodeWords.{codes_said};
 ghost use Rattle.requests.specs.Outcomes.{Fails, IsDone};
 ghost use Rattle.requests.specs.Printed.{HasExplained, HasExplainedCodes, HasPrinted, HoldsText, most_text_bytes};
 ghost use Rattle.requests.specs.Printed.{printed_text};
-ghost use Rattle.requests.specs.Parts.{FailsIn, IsFirstFault, classes_parts, explaining_parts, printing_parts};
+ghost use Rattle.requests.specs.Parts.{FailsIn, IsFirstFault, classes_parts, explaining_parts, whole_parts};
 ghost use Rattle.requests.specs.TableSources.{AreTablesBy};
+ghost use Rattle.requests.specs.declared.request.Request.TheVariants.{Text as TextOf};
 
 use crate::class_names::classes_in;
 use crate::code_points::chars_in;
@@ -20,10 +20,10 @@ use crate::reading::text_in_file;
 use crate::reporting::report_file;
 use crate::request::{Print, Request, TableSource};
 use crate::table_source::tables_by;
+use crate::text_printing::print_text;
 use crate::text_rows::print_text_rows;
 use explain::print::{print_explained, print_explained_classes};
-use printing::fault::PrintFault;
-use printing::print::{print_levels, print_reorder};
+use printing::form::Form;
 use std::alloc::Global;
 use std::io::Write;
 use ucdfiles::tables::Tables;
@@ -47,31 +47,30 @@ fn text_with_tables<'a, F: Files>(
     ensures text { IfOk result (λ read. HoldsText (F.facts files.now) file.now read.text.items) }
     ensures bound { IfOk result (λ read. length read.text.items ≤ longest_text) }
     ensures fault { IfErr result
-        (IsFirstFault (printing_parts (F.facts files.now) source.entry file.now)) }
+        (IsFirstFault (whole_parts (F.facts files.now) source.entry file.now)) }
 {
     let tables = tables_by(alloc, files, source)?;
     let text = text_in_file(alloc, file, files)?;
     Ok(TextWithTables { tables, text })
 }
 
-/// Prints this of a text, by its tables.
-fn print_text<W: Write>(
+/// Prints what each rule does to the text in what FILE names, by the tables of this source, which are read first.
+fn explain_file<'a, F: Files, W: Write>(
     alloc: Global,
-    read: &TextWithTables,
+    source: TableSource<'_>,
     direction: Direction,
-    print: Print,
+    file: &'a str,
+    files: &F,
     out: &mut W,
-) -> Result<(), PrintFault>
-    requires { length read.now.text.items ≤ longest_text }
-    ensures { OnOk result (Appends (W.contents out.old) (W.contents out.new)
-        (printed_text print direction read.now.tables read.now.text.items)) }
+) -> Result<(), Fault<'a>>
+    ensures printed { OnOk result (HasPrinted (F.facts files.now) (printed_text Print.Explained direction)
+        source.entry file.now (W.contents out.old) (W.contents out.new)) }
+    ensures fault { IfErr result (FailsIn (whole_parts (F.facts files.now) source.entry file.now)
+        (W.contents out.old) (W.contents out.new)) }
 {
-    let TextWithTables { tables, text } = read;
-    match print {
-        Print::Levels => print_levels(alloc, out, tables, text, direction),
-        Print::Reorder { columns } => print_reorder(alloc, out, tables, text, direction, columns),
-        Print::Explained => print_explained(alloc, out, tables, text, direction),
-    }
+    let read = text_with_tables(alloc, source, file, files)?;
+    print_explained(alloc, out, &read.tables, &read.text, direction)?;
+    Ok(())
 }
 
 /// Prints this of the text in what FILE names, by the tables of this source, which are read first.
@@ -86,12 +85,17 @@ fn print_file<'a, F: Files, W: Write>(
 ) -> Result<(), Fault<'a>>
     ensures printed { OnOk result (HasPrinted (F.facts files.now) (printed_text print direction)
         source.entry file.now (W.contents out.old) (W.contents out.new)) }
-    ensures fault { IfErr result (FailsIn (printing_parts (F.facts files.now) source.entry file.now)
-        (W.contents out.old) (W.contents out.new)) }
+    ensures fault { IfErr result (Fails (F.facts files.now)
+        (W.contents out.old) (W.contents out.new) (TextOf source.entry direction file.entry print)) }
 {
-    let read = text_with_tables(alloc, source, file, files)?;
-    print_text(alloc, &read, direction, print, out)?;
-    Ok(())
+    match print {
+        Print::Levels => print_text(alloc, source, direction, file, Form::Levels, files, out),
+        Print::Reorder { columns } => {
+            let form = Form::Reorder { columns };
+            print_text(alloc, source, direction, file, form, files, out)
+        }
+        Print::Explained => explain_file(alloc, source, direction, file, files, out),
+    }
 }
 
 /// Prints what each rule does to the classes that the word names.
@@ -145,7 +149,7 @@ fn explain_codes<'a, F: Files, W: Write>(
         (W.contents out.old) (W.contents out.new)) }
 {
     let read = chars_with_tables(alloc, word, source, files)?;
-    print_text(alloc, &read, direction, Print::Explained, out)?;
+    print_explained(alloc, out, &read.tables, &read.text, direction)?;
     Ok(())
 }
 

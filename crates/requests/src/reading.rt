@@ -17,6 +17,8 @@ fn bytes_in_file<'a, F: Files>(
     file: &'a str,
     files: &F,
 ) -> Result<Vec<u8>, Fault<'a>>
+    ensures begins { IfOk result (λ bytes.
+        (F.facts files.now).Begins (origin_of file.now) most_text_bytes bytes.items) }
     ensures bytes { IfOk result (λ bytes.
         (F.facts files.now).Holds (origin_of file.now) most_text_bytes bytes.items) }
     ensures bound { IfOk result (λ bytes. length bytes.items ≤ most_text_bytes) }

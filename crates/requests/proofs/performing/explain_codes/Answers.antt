@@ -5,16 +5,16 @@ use Rattle.requests.proofs.FirstFaults.{codes_done, printing_fails}
 use Rattle.requests.specs.Parts.{explaining_parts}
 use Rattle.requests.proofs.performing.explain_codes.Goals as goal
 
-pub returns-in_err-print_text-clause-fault : goal.returns-in_err-print_text-clause-fault
-returns-in_err-print_text-clause-fault g c =
+pub returns-in_err-print_explained-clause-fault : goal.returns-in_err-print_explained-clause-fault
+returns-in_err-print_explained-clause-fault g c =
     let files = g.F.Files.facts c.args.files.now in
     let read = c.in_ok-read.ensures in
     let done = codes_done files c.args.word.now c.args.source _ read.tables read.short _ read.text in
-    printing_fails (explaining_parts files c.args.word.now c.args.source) _ _ _ _ done c.from_residual-in_err-print_text.ensures.1
+    printing_fails (explaining_parts files c.args.word.now c.args.source) _ _ _ _ done c.from_residual-in_err-print_explained.ensures.1
 
 pub returns-clause-printed : goal.returns-clause-printed
 returns-clause-printed g c =
-    let said : Appends (g.W.Write.contents c.args.out.now) (g.W.Write.contents c.print_text.new.out)
+    let said : Appends (g.W.Write.contents c.args.out.now) (g.W.Write.contents c.print_explained.new.w)
     (explained c.in_ok-read.read.tables c.in_ok-read.read.text.items c.args.direction) = search rules in
     record {
       short = c.in_ok-read.ensures.short;

@@ -1,7 +1,7 @@
 use Rattle.std.proofs.Common.{◌≡◌, [], ◌∷◌, Some, inl, refl, rules}
 use Rattle.rows.specs.TextLines.{first_long_line}
-use Rattle.requests.proofs.FirstFaults.{first_behind, first_of_all}
-use Rattle.requests.specs.Parts.{AreDone, EndsLines, lines_part, text_parts}
+use Rattle.requests.proofs.FirstFaults.{first_behind, first_of_all, text_done}
+use Rattle.requests.specs.Parts.{EndsLines, lines_part, text_parts}
 use Rattle.requests.specs.declared.fault.Fault.{Fault}
 use Rattle.requests.specs.declared.fault.Fault.TheVariants.{LongLine}
 use Rattle.requests.proofs.text_rows.row_text_in_file.Goals as goal
@@ -16,7 +16,7 @@ pub returns-in-Some-clause-fault : goal.returns-in-Some-clause-fault
 returns-in-Some-clause-fault g c =
     let files = g.F.Files.facts c.args.files.now in
     let read = c.in_ok-text.ensures.text in
-    let done : AreDone (text_parts files c.args.file.now) = ((read.0, read.1), ((read.0, read.1, read.2), tt)) in
+    let done = text_done files c.args.file.now _ read in
     let long : first_long_line c.in_ok-text.text.items ≡ Some c.in-Some.line = search rules in
     let fault : Fault = LongLine c.args.file c.in-Some.line in
     let ends : EndsLines files c.args.file.now fault = (refl, c.in_ok-text.text.items, read, long) in

@@ -1,0 +1,48 @@
+// A text printed while it is read.
+ghost use Rattle.std.specs.Prelude.{IfErr, OnOk};
+ghost use Rattle.printing.specs.Behind.{printed_as};
+ghost use Rattle.requests.specs.Printed.{HasPrinted};
+ghost use Rattle.requests.specs.PrintedFiles.{FailsToPrint};
+
+use crate::fault::Fault;
+use crate::files::Files;
+use crate::opening::{MOST_TEXT_BYTES, open};
+use crate::request::TableSource;
+use crate::table_source::tables_by;
+use printing::form::Form;
+use printing::reading::{TextFault, print_source};
+use std::alloc::Global;
+use std::io::Write;
+use units::level::Direction;
+
+/// Prints the text in what FILE names in this form, by the tables of this source, which are read first: each paragraph
+/// is printed and handed on as soon as its end is read. The faults are those of `tables_by` and `open`, before anything
+/// is printed; that a read failed or that the text is not UTF-8, behind the paragraphs that have ended by then; refused
+/// memory, and a failed write.
+pub fn print_text<'a, F: Files, W: Write>(
+    alloc: Global,
+    source: TableSource<'_>,
+    direction: Direction,
+    file: &'a str,
+    form: Form,
+    files: &F,
+    out: &mut W,
+) -> Result<(), Fault<'a>>
+    ensures printed { OnOk result (HasPrinted (F.facts files.now)
+        (λ tables text. printed_as form tables text direction) source.entry file.now
+        (W.contents out.old) (W.contents out.new)) }
+    ensures fault { IfErr result (FailsToPrint (F.facts files.now) form direction source.entry
+        file.now (W.contents out.old) (W.contents out.new)) }
+{
+    let tables = tables_by(alloc, files, source)?;
+    let mut opened = open(alloc, files, file, MOST_TEXT_BYTES)?;
+    match print_source(alloc, out, &tables, &mut opened, direction, form) {
+        Ok(()) => Ok(()),
+        Err(TextFault::NotUtf8) => Err(Fault::NotUtf8(file)),
+        Err(TextFault::Print(fault)) => Err(Fault::from(fault)),
+        Err(TextFault::Read) => {
+            let unread = files.unread(&opened);
+            Err(Fault::CannotRead { name: file, unread })
+        }
+    }
+}
