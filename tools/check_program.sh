@@ -1,8 +1,10 @@
 #!/bin/bash
 # Runs the built program over files of the system, and compares its statuses and what it writes: a yes, a no, a missing
-# file, texts by tables, by those built in and from standard input, reports, one of them on a thousand faults that are
-# planted here, a full disk, a closed pipe. Where the package unicode-data is installed it reads the published property
-# files and judges and reports on the official test files too; else it says that it does not. It ends with 0 where all is as it is to be, with 1 where not, and with 2 where the program is missing.
+# file, texts by tables, by those built in, from standard input and in a pipe that shows the first line before the next
+# is written, reports, one of them on a thousand faults that are planted here, a full disk, a closed pipe. Where the
+# package unicode-data is installed it reads the published property files and judges and reports on the official test
+# files too; else it says that it does not. It ends with 0 where all is as it is to be, with 1 where not, and with 2
+# where the program is missing.
 #
 # usage: tools/check_program.sh [FOLDER]      (FOLDER, with the property and test files: /usr/share/unicode)
 #
@@ -167,6 +169,40 @@ ends 3 '' 'bidi: cannot read -: a folder' levels --tables t - < t
 cp text.txt ./-
 ends 0 'yes: 1 rows, 1 cases' '' judge --kind classes - < yes.txt
 ends 0 $'a) \xd7\x90' '' reorder --tables t ./- < yes.txt
+
+# Texts that are printed while they are read, up to where that breaks off.
+printf 'ab\nc\xff\nd\n' > broken.txt
+ends 3 ab 'bidi: broken.txt: not UTF-8' reorder broken.txt
+ends 3 $'paragraph 0 level 0\n0 0061 L 0\n1 0062 L 0\n2 000A B 0' 'bidi: -: not UTF-8' levels - < broken.txt
+ends 3 '' 'bidi: broken.txt: not UTF-8' explain broken.txt
+{ printf 'ab\n'; cat large.txt; } > broken.txt
+ends 3 ab 'bidi: cannot read broken.txt: too large' reorder broken.txt
+rm broken.txt
+"$program" reorder bytes.txt > /dev/full 2> found_err
+is 'status of bytes that are not UTF-8 to a full disk' 3 $?
+is 'standard error of bytes that are not UTF-8 to a full disk' 'bidi: bytes.txt: not UTF-8' "$(cat found_err)"
+
+# A pipe shows a line before the next one is written to the other pipe.
+mkfifo written shown
+for word in reorder levels; do
+    "$program" "$word" - < written > shown 2> found_err &
+    exec 3> written 4< shown
+    printf 'ab\n' >&3
+    IFS= read -r -t 20 first <&4
+    printf 'c\n' >&3
+    exec 3>&-
+    rest=$(cat <&4)
+    exec 4<&-
+    wait $!
+    is "status of $word in a pipe" 0 $?
+    case $word in
+        reorder) is 'the first line of reorder in a pipe' ab "$first"; is 'the rest of it' c "$rest" ;;
+        levels)
+            is 'the first line of levels in a pipe' 'paragraph 0 level 0' "$first"
+            is 'the last line of it' '4 000A B 0' "$(tail -n 1 <<< "$rest")"
+            ;;
+    esac
+done
 
 # Texts as long as a file can be, printed, with one of a quarter of that and one character more, and one of 1,048,576
 # characters explained.

@@ -112,8 +112,8 @@ pub levels_of_alef : (folder : Bor (List ℕ)) (before after : Option (List ℕ)
     → Appends before after (codes "paragraph 0 level 1\n0 05D0 R 1\n")
 levels_of_alef folder before after f h =
     let stated = subst (λ (name : List ℕ). AreTables (memory_facts alef_files) name h.tables) f h.stated in
-    let text : chars h.bytes ≡ 1488 ∷ [] = ap chars h.read.0 ∙ chars_row in
-    let printed : printed_levels h.tables (chars h.bytes) Auto ≡ codes "paragraph 0 level 1\n0 05D0 R 1\n" =
+    let text : h.text ≡ 1488 ∷ [] = h.read.text_is ∙ ap chars h.read.read.0 ∙ chars_row in
+    let printed : printed_levels h.tables h.text Auto ≡ codes "paragraph 0 level 1\n0 05D0 R 1\n" =
     ap (λ (cs : List ℕ). printed_levels h.tables cs Auto) text
     ∙ ap (λ (units : List BidiUnit). levels_text (1488 ∷ []) units (layout_of standard units Auto [])) (alef_units h.tables stated) ∙ levels_row in
     subst (λ (bytes : List ℕ). Appends before after bytes) printed h.said
@@ -127,10 +127,10 @@ pub line_of_alef : (folder : Bor (List ℕ)) (before after : Option (List ℕ)) 
     → Appends before after alef_line
 line_of_alef folder before after f h =
     let stated = subst (λ (name : List ℕ). AreTables (memory_facts alef_files) name h.tables) f h.stated in
-    let text : chars h.bytes ≡ 1488 ∷ [] = ap chars h.read.0 ∙ chars_row in
+    let text : h.text ≡ 1488 ∷ [] = h.read.text_is ∙ ap chars h.read.read.0 ∙ chars_row in
     let image : glyph_by h.tables.mirrors 1488 ≡ None =
     stated.mirrors.stated 1488 (lit≤ tt) ∙ ap (λ bytes. mirror_of bytes 1488) stated.mirror_file.0 ∙ mirror_row in
-    let printed : printed_reorder h.tables (chars h.bytes) Auto None ≡ alef_line =
+    let printed : printed_reorder h.tables h.text Auto None ≡ alef_line =
     ap (λ (cs : List ℕ). printed_reorder h.tables cs Auto None) text
     ∙ ap (λ (units : List BidiUnit). reorder_text (glyph_by h.tables.mirrors) (1488 ∷ []) units (layout_of standard units Auto []))
     (alef_units h.tables stated) ∙ line_row (glyph_by h.tables.mirrors) image in

@@ -3,6 +3,8 @@
 #![tactic(auto)]
 
 #[cfg(test)]
+mod broken_off;
+#[cfg(test)]
 mod built_in;
 #[cfg(test)]
 mod code_points;

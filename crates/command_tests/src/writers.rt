@@ -30,11 +30,12 @@ impl Write for ShortWriter {
 /// As many bytes as each text of the command has at most in these tests.
 const MOST_WRITTEN: usize = 4096;
 
-/// Holds what is written in an array, and takes no memory.
+/// Holds what is written in an array, and how much of it was handed on by a flush, and takes no memory.
 #[derive(Drop)]
 pub struct FixedWriter {
     bytes: [u8; MOST_WRITTEN],
     len: usize,
+    handed_on: usize,
 }
 
 impl FixedWriter {
@@ -43,12 +44,18 @@ impl FixedWriter {
         FixedWriter {
             bytes: [0; MOST_WRITTEN],
             len: 0,
+            handed_on: 0,
         }
     }
 
     /// What was written to it.
     pub fn written(&self) -> &[u8] {
         &self.bytes[..self.len.min(MOST_WRITTEN)]
+    }
+
+    /// What of that was handed on.
+    pub fn handed_on(&self) -> &[u8] {
+        &self.bytes[..self.handed_on.min(MOST_WRITTEN)]
     }
 }
 
@@ -62,6 +69,7 @@ impl Write for FixedWriter {
     }
 
     fn flush(&mut self) -> io::Result<()> {
+        self.handed_on = self.len;
         Ok(())
     }
 }
