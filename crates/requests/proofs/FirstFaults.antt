@@ -1,5 +1,6 @@
 -- The fault of the first step that fails, where parts are joined; and what ends a part.
 use Rattle.std.proofs.Common.{◌≡◌, ℕ, List, [], ◌∷◌, ◌++◌, ◌≤◌, length, Option, None, Some, Result, Ok, Err, IfErr, IsErrAnd, inl, inr, subst, sym}
+use Rattle.std.specs.Borrow.{Bor}
 use Rattle.std.specs.Io.KnownBytes.{Appends}
 use Rattle.std.specs.Str.{IsUtf8, chars}
 use Rattle.units.specs.Text.{lines_of}
@@ -10,13 +11,14 @@ use Rattle.ucdfiles.specs.PairFiles.{bracket_fault, bracket_file_fault, mirror_f
 use Rattle.ucdfiles.specs.Tables.{TablesOf}
 use Rattle.bidtests.specs.declared.kind.Kind.{Kind}
 use Rattle.rows.specs.TextLines.{first_long_line}
+use Rattle.requests.specs.FileRows.{HasRows}
 use Rattle.requests.specs.ReadFiles.{AreTables, FileFacts, most_file_bytes, origin_of}
 use Rattle.requests.specs.TableSources.{AreTablesBy}
 use Rattle.requests.specs.FaultText.{EndsOpening, print_fault}
 use Rattle.requests.specs.Outcomes.{IsDone}
 use Rattle.requests.specs.CodeWords.{codes_said}
 use Rattle.requests.specs.Printed.{HoldsText, most_text_bytes}
-use Rattle.requests.specs.Parts.{AreDone, EndsFile, EndsWriting, FailsIn, IsFirstFault, RequestPart, alphabet_parts, codes_parts, explaining_parts, file_part, kind_parts, lines_part, lines_parts, opening_part, printing_parts, row_text_parts, rows_parts, source_parts, parts_of, table_parts, text_parts, texts_part, whole_parts}
+use Rattle.requests.specs.Parts.{AreDone, EndsFile, EndsWriting, FailsIn, IsFirstFault, RequestPart, alphabet_parts, codes_parts, explaining_parts, file_part, kind_parts, lines_part, lines_parts, opening_part, printing_parts, row_parts_by, row_text_parts, rows_parts, sought_part, source_parts, parts_of, table_parts, text_parts, texts_part, whole_parts}
 use Rattle.requests.specs.DirectionWords.{SaysDirections}
 use Rattle.requests.specs.PrintedRows.{HasPrintedRows, HasRowsOf}
 use Rattle.requests.proofs.AskedLetters.{alphabet_done}
@@ -26,11 +28,12 @@ use Rattle.requests.specs.declared.request.Print.TheVariants.{Levels, Reorder, E
 use Rattle.requests.specs.declared.request.TableSource.{TableSource}
 use Rattle.requests.specs.declared.request.TableSource.TheVariants.{Folder, BuiltIn}
 use Rattle.requests.specs.declared.request.Request.{Request}
-use Rattle.requests.specs.declared.request.Request.TheVariants.{Text, ExplainClasses, ExplainCodes, Judge, Report, Rows, RowsOf}
+use Rattle.requests.specs.declared.request.Request.TheVariants.{Text, ExplainClasses, ExplainCodes, ExplainRow, Judge, Report, Rows, RowsOf}
 use Rattle.requests.specs.declared.request.AskedLines.{AskedLines}
 use Rattle.requests.specs.declared.request.AskedRows.{AskedRows}
+use Rattle.requests.specs.declared.request.SoughtRow.{SoughtRow}
 use Rattle.requests.specs.declared.fault.Fault.{Fault}
-use Rattle.requests.specs.declared.fault.Fault.TheVariants.{WordNotUtf8, TablesNeeded, ClassesTooLong, CodesTooLong, NoClass, NoCodePoint, NoLengths, NoDirection, NoDirections, NoRows, CannotRead, FaultyLine, NotUtf8, LongLine, CannotWrite, OutOfMemory}
+use Rattle.requests.specs.declared.fault.Fault.TheVariants.{WordNotUtf8, TablesNeeded, ClassesTooLong, CodesTooLong, NoClass, NoCodePoint, NoLengths, NoDirection, NoDirections, NoRows, LineIsNoRow, CannotRead, FaultyLine, NotUtf8, LongLine, MalformedLine, CannotWrite, OutOfMemory}
 use Rattle.printing.specs.declared.fault.PrintFault.{PrintFault}
 use Rattle.printing.specs.declared.fault.PrintFault.TheVariants.{Write, Memory}
 use Rattle.requests.specs.declared.outcome.Outcome.{Outcome}
@@ -70,9 +73,11 @@ opening_ends files most file (NoLengths word) h = absurd h
 opening_ends files most file (NoDirection item) h = absurd h
 opening_ends files most file NoDirections h = absurd h
 opening_ends files most file (NoRows refusal) h = absurd h
+opening_ends files most file (LineIsNoRow name line) h = absurd h
 opening_ends files most file (FaultyLine name line e) h = absurd h
 opening_ends files most file (NotUtf8 name) h = absurd h
 opening_ends files most file (LongLine name line) h = absurd h
+opening_ends files most file (MalformedLine name line cause) h = absurd h
 opening_ends files most file CannotWrite h = absurd h
 
 -- the tables that were read state no fault
@@ -165,6 +170,14 @@ lines_done files asked directions says tables h text read short = (
       (all_done (text_parts files asked.file.now) (lines_part files asked.file.now ∷ []) (text_done files asked.file.now text read) ((text, read, short), tt)),
 )
 
+-- what a row that was found holds was read, and so was the file up to it
+pub row_done : (files : FileFacts) (k : FileKind) (folder : Option (Bor (List ℕ))) (sought : SoughtRow) (rows : Kind)
+    → HasRows files k folder rows → (sought_part files sought).Done → AreDone (row_parts_by files k folder sought)
+row_done files Classes folder sought rows is found = (found, tt)
+row_done files Characters (Some folder) sought rows is found =
+    all_done (table_parts files folder.now) (sought_part files sought ∷ []) (tables_done files folder.now is.0.now is.1) (found, tt)
+row_done files Characters None sought rows is found = absurd is
+
 -- what was done was read before
 pub request_done : (files : FileFacts) (before after : Option (List ℕ)) (request : Request) (outcome : Outcome)
     → IsDone files before after request outcome → AreDone (parts_of files request)
@@ -177,6 +190,8 @@ request_done files before after (Text source direction file Explained) Printed h
 request_done files before after (ExplainClasses word direction) Printed h = (h.short, ((h.classes, h.named), tt))
 request_done files before after (ExplainCodes word source direction) Printed h =
     codes_done files word.now source h.tables h.stated h.short h.chars h.said_by
+request_done files before after (ExplainRow sought) Printed h =
+    row_done files sought.kind sought.tables sought h.rows h.is (h.rows, h.is, (h.row, h.found))
 request_done files before after (Judge Classes tables file) (Judged status) h = ((h.bytes, h.read), tt)
 request_done files before after (Judge Characters (Some folder) file) (Judged status) h =
     all_done (table_parts files folder.now) (file_part files most_file_bytes file.now ∷ [])
@@ -192,6 +207,7 @@ request_done files before after (RowsOf asked) Printed h = lines_done files aske
 request_done files before after (Text source direction file print) (Judged status) h = absurd h
 request_done files before after (ExplainClasses word direction) (Judged status) h = absurd h
 request_done files before after (ExplainCodes word source direction) (Judged status) h = absurd h
+request_done files before after (ExplainRow sought) (Judged status) h = absurd h
 request_done files before after (Judge Classes tables file) Printed h = absurd h
 request_done files before after (Judge Characters (Some folder) file) Printed h = absurd h
 request_done files before after (Judge Characters None file) (Judged status) h = absurd h

@@ -7,11 +7,13 @@ use Rattle.units.specs.declared.unread.Unread.{Unread}
 use Rattle.units.specs.declared.unread.Unread.TheVariants.{Missing, Forbidden, Folder, TooLarge, Other}
 use Rattle.ucdfiles.specs.declared.fault.TableFault.{TableFault}
 use Rattle.ucdfiles.specs.Faults.{name_of}
+use Rattle.bidtests.specs.VerdictText.{cause_name}
+use Rattle.bidtests.specs.declared.verdict.Cause.{Cause}
 use Rattle.printing.specs.declared.fault.PrintFault.{PrintFault}
 use Rattle.printing.specs.declared.fault.PrintFault.TheVariants.{Write, Memory}
 use Rattle.requests.specs.declared.fault.Fault.{Fault}
 use Rattle.requests.specs.declared.outcome.Ended.{Ended}
-use Rattle.requests.specs.declared.fault.Fault.TheVariants.{WordNotUtf8, TablesNeeded, ClassesTooLong, CodesTooLong, NoClass, NoCodePoint, NoLengths, NoDirection, NoDirections, NoRows, CannotRead, FaultyLine, NotUtf8, LongLine, CannotWrite, OutOfMemory}
+use Rattle.requests.specs.declared.fault.Fault.TheVariants.{WordNotUtf8, TablesNeeded, ClassesTooLong, CodesTooLong, NoClass, NoCodePoint, NoLengths, NoDirection, NoDirections, NoRows, LineIsNoRow, CannotRead, FaultyLine, NotUtf8, LongLine, MalformedLine, CannotWrite, OutOfMemory}
 use Rattle.printing.specs.LevelsText.{line_feed}
 use Rattle.rows.specs.declared.fault.RowsFault.{RowsFault}
 use Rattle.rows.specs.declared.fault.RowsFault.TheVariants as refused
@@ -71,6 +73,16 @@ abbrev pub long_line_text : List ℕ → ℕ → List ℕ
 long_line_text name line =
     concat (codes "bidi: " ∷ name ∷ codes ": line " ∷ decimal line ∷ codes ": too long" ∷ line_feed ∷ [])
 
+-- the line that says that a line of the conformance file of this name, by its number from 1, is no row
+abbrev pub no_row_text : List ℕ → ℕ → List ℕ
+no_row_text name line =
+    concat (codes "bidi: " ∷ name ∷ codes ": line " ∷ decimal line ∷ codes " is no row" ∷ line_feed ∷ [])
+
+-- the line that says why it is malformed
+abbrev pub malformed_line_text : List ℕ → ℕ → Cause → List ℕ
+malformed_line_text name line cause = concat
+    (codes "bidi: " ∷ name ∷ codes ": line " ∷ decimal line ∷ codes ": malformed: " ∷ cause_name cause ∷ line_feed ∷ [])
+
 -- what known bytes grew by says this fault
 abbrev pub SaysFault : Option (List ℕ) → Option (List ℕ) → Fault → Type 0
 SaysFault before after WordNotUtf8 = Appends before after (concat (codes "bidi: a word is not UTF-8" ∷ line_feed ∷ []))
@@ -85,15 +97,17 @@ SaysFault before after (NoDirection item) = Appends before after (no_direction_t
 SaysFault before after NoDirections =
     Appends before after (concat (codes "bidi: --directions has no direction" ∷ line_feed ∷ []))
 SaysFault before after (NoRows fault) = Appends before after (no_rows_text fault)
+SaysFault before after (LineIsNoRow name line) = Appends before after (no_row_text name.now line)
 SaysFault before after (CannotRead name unread) = Appends before after (unread_text name.now unread)
 SaysFault before after (FaultyLine name line fault) = Appends before after (faulty_line_text name.now line fault)
 SaysFault before after (NotUtf8 name) = Appends before after (not_utf8_text name.now)
 SaysFault before after (LongLine name line) = Appends before after (long_line_text name.now line)
+SaysFault before after (MalformedLine name line cause) = Appends before after (malformed_line_text name.now line cause)
 SaysFault before after CannotWrite = Appends before after (concat (codes "bidi: cannot write" ∷ line_feed ∷ []))
 SaysFault before after OutOfMemory = Appends before after (concat (codes "bidi: out of memory" ∷ line_feed ∷ []))
 
--- 2 where the words of the command line are no text, name no tables, no classes, no code points, no directions or no
--- rows, 3 where the run failed
+-- 2 where the words of the command line are no text, name no tables, no classes, no code points, no directions, no rows
+-- or a line that is none, 3 where the run failed
 abbrev pub fault_status : Fault → ℕ
 fault_status WordNotUtf8 = 2
 fault_status TablesNeeded = 2
@@ -105,10 +119,12 @@ fault_status (NoLengths word) = 2
 fault_status (NoDirection item) = 2
 fault_status NoDirections = 2
 fault_status (NoRows fault) = 2
+fault_status (LineIsNoRow name line) = 2
 fault_status (CannotRead name unread) = 3
 fault_status (FaultyLine name line fault) = 3
 fault_status (NotUtf8 name) = 3
 fault_status (LongLine name line) = 3
+fault_status (MalformedLine name line cause) = 3
 fault_status CannotWrite = 3
 fault_status OutOfMemory = 3
 

@@ -1,7 +1,9 @@
 pub mod ClassWords
 pub mod CodeWords
 pub mod DirectionWords
+pub mod ExplainedRows
 pub mod FaultText
+pub mod FileRows
 pub mod ItemWords
 pub mod JudgedFiles
 pub mod Outcomes

@@ -4,11 +4,12 @@ use Rattle.printing.specs.declared.form.Form.TheVariants as form
 use Rattle.requests.specs.declared.request.FileKind.TheVariants.{Classes, Characters}
 use Rattle.requests.specs.declared.request.Print.TheVariants.{Levels, Reorder}
 use Rattle.requests.specs.declared.request.Request.{Request}
-use Rattle.requests.specs.declared.request.Request.TheVariants.{Text, ExplainClasses, ExplainCodes, Judge, Report, Rows, RowsOf}
+use Rattle.requests.specs.declared.request.Request.TheVariants.{Text, ExplainClasses, ExplainCodes, ExplainRow, Judge, Report, Rows, RowsOf}
 use Rattle.requests.specs.declared.fault.Fault.{Fault}
 use Rattle.requests.specs.declared.outcome.Ended.{Ended}
 use Rattle.requests.specs.declared.outcome.Outcome.{Outcome}
 use Rattle.requests.specs.declared.outcome.Outcome.TheVariants.{Judged, Printed}
+use Rattle.requests.specs.ExplainedRows.{HasExplainedRow}
 use Rattle.requests.specs.FaultText.{EndsBy}
 use Rattle.requests.specs.JudgedFiles.{HasJudged, HasJudgedBy, IsClassesVerdict}
 use Rattle.requests.specs.Printed.{HasExplained, HasExplainedCodes, HasPrinted, printed_text}
@@ -24,14 +25,15 @@ abbrev pub outcome_status : Outcome → ℕ
 outcome_status (Judged status) = status
 outcome_status Printed = 0
 
--- what was asked for is done: what is to be printed of the text, of classes or of code points is printed, or the rows
--- are, or the file is judged or reported on, by the tables that are asked for
+-- what was asked for is done: what is to be printed of the text, of classes, of code points or of a row is printed, or
+-- the rows are, or the file is judged or reported on, by the tables that are asked for
 abbrev pub IsDone : FileFacts → Option (List ℕ) → Option (List ℕ) → Request → Outcome → Type 0
 IsDone files before after (Text source direction file print) Printed =
     HasPrinted files (printed_text print direction) source file.now before after
 IsDone files before after (ExplainClasses word direction) Printed = HasExplained word.now direction before after
 IsDone files before after (ExplainCodes word source direction) Printed =
     HasExplainedCodes files word.now source direction before after
+IsDone files before after (ExplainRow sought) Printed = HasExplainedRow files sought before after
 IsDone files before after (Judge Classes tables file) (Judged status) =
     HasJudged files IsClassesVerdict file.now before after status
 IsDone files before after (Judge Characters (Some folder) file) (Judged status) =

@@ -1,10 +1,13 @@
 -- The parts in which a request is done, in their order, and the fault of the first that fails.
-use Rattle.std.specs.Prelude.{◌≡◌, ◌<◌, ◌≤◌, ◌⊎◌, ℕ, List, [], ◌∷◌, ◌++◌, length, Option, Some, None}
+use Rattle.std.specs.Prelude.{◌≡◌, ◌<◌, ◌≤◌, ◌⊎◌, ℕ, List, [], ◌∷◌, ◌++◌, length, Option, Some, None, Ok}
+use Rattle.std.specs.Borrow.{Bor}
 use Rattle.std.specs.Str.{IsUtf8}
 use Rattle.ucdfiles.specs.ClassFile.{class_fault}
 use Rattle.ucdfiles.specs.PairFiles.{bracket_fault, mirror_fault}
 use Rattle.ucdfiles.specs.declared.fault.Fault.{Fault as LineFault}
 use Rattle.ucdfiles.specs.Tables.{TablesOf}
+use Rattle.bidtests.specs.declared.kind.Kind.{Kind}
+use Rattle.explain_row.specs.SoughtRows.{RowView}
 use Rattle.units.specs.declared.class.Class.{Class}
 use Rattle.rows.specs.Exhaustive.{ExhaustiveOf}
 use Rattle.rows.specs.TextLines.{first_long_line}
@@ -23,10 +26,13 @@ use Rattle.requests.specs.declared.request.TableSource.{TableSource}
 use Rattle.requests.specs.declared.request.TableSource.TheVariants.{Folder, BuiltIn}
 use Rattle.requests.specs.declared.request.Request.{Request}
 use Rattle.requests.specs.declared.request.RowsForm.{RowsForm}
-use Rattle.requests.specs.declared.request.Request.TheVariants.{Text, ExplainClasses, ExplainCodes, Judge, Report, Rows, RowsOf}
+use Rattle.requests.specs.declared.request.SoughtRow.{SoughtRow}
+use Rattle.requests.specs.declared.request.Request.TheVariants.{Text, ExplainClasses, ExplainCodes, ExplainRow, Judge, Report, Rows, RowsOf}
 use Rattle.requests.specs.declared.fault.Fault.{Fault}
 use Rattle.requests.specs.declared.fault.Fault.TheVariants.{TablesNeeded, ClassesTooLong, CodesTooLong, CannotRead, NotUtf8, LongLine, CannotWrite, OutOfMemory}
+use Rattle.requests.specs.ExplainedRows.{HasAtLine, SaysNoRow}
 use Rattle.requests.specs.FaultText.{EndsOpening}
+use Rattle.requests.specs.FileRows.{HasRows}
 use Rattle.requests.specs.Printed.{HoldsText, most_text_bytes}
 use Rattle.requests.specs.PrintedRows.{CanBeMade, EndsMaking, EndsTexts, refusal_in}
 use Rattle.requests.specs.RowWords.{EndsLengths, lengths_named}
@@ -60,6 +66,11 @@ EndsFile files most file (CannotRead said unread) = (said.now ≡ file)
     × (files.Refuses (origin_of file) most unread ⊎ ((bytes : List ℕ) × files.Fails (origin_of file) most bytes unread))
 EndsFile files most file OutOfMemory = Unit {0}
 EndsFile files most file _ = ⊥
+
+-- when a fault ends the search for the row at the line of this number, in what FILE names, as a file of such rows: the
+-- reading ends, or there is none
+abbrev pub EndsSearch : FileFacts → Kind → ℕ → List ℕ → Fault → Type 0
+EndsSearch files rows number file fault = EndsFile files most_file_bytes file fault ⊎ SaysNoRow files rows number file fault
 
 -- when a fault ends the reading of the characters of what FILE names: its bytes are not UTF-8, or memory was refused
 abbrev pub EndsText : FileFacts → List ℕ → Fault → Type 0
@@ -256,6 +267,24 @@ module _ (files : FileFacts) where
   abbrev pub opening_parts : List ℕ → List ℕ → List RequestPart
   opening_parts folder file = table_parts folder ++ opening_part most_file_bytes file ∷ []
 
+  -- the search for the row that is sought
+  abbrev pub sought_part : SoughtRow → RequestPart
+  sought_part sought = record {
+    Done = (rows : Kind) × HasRows files sought.kind sought.tables rows
+        × ((row : RowView) × HasAtLine files rows sought.line.value sought.file.now (Ok row));
+    EndsBy = λ fault. (rows : Kind) × HasRows files sought.kind sought.tables rows × EndsSearch files rows sought.line.value sought.file.now fault;
+  }
+
+  -- what is read to explain a row of a file of this kind, by the tables of this folder
+  abbrev pub row_parts_by : FileKind → Option (Bor (List ℕ)) → SoughtRow → List RequestPart
+  row_parts_by Classes tables sought = sought_part sought ∷ []
+  row_parts_by Characters (Some folder) sought = table_parts folder.now ++ sought_part sought ∷ []
+  row_parts_by Characters None sought = record { Done = ⊥; EndsBy = EndsUnnamed } ∷ []
+
+  -- what is read to explain a row
+  abbrev pub row_parts : SoughtRow → List RequestPart
+  row_parts sought = row_parts_by sought.kind sought.tables sought
+
   -- what is read for a request, in this order
   abbrev pub parts_of : Request → List RequestPart
   parts_of (Text source direction file Levels) = printing_parts source file.now
@@ -263,6 +292,7 @@ module _ (files : FileFacts) where
   parts_of (Text source direction file Explained) = whole_parts source file.now
   parts_of (ExplainClasses word direction) = classes_parts word.now
   parts_of (ExplainCodes word source direction) = explaining_parts word.now source
+  parts_of (ExplainRow sought) = row_parts sought
   parts_of (Judge Classes tables file) = file_part most_file_bytes file.now ∷ []
   parts_of (Judge Characters (Some folder) file) = characters_parts folder.now file.now
   parts_of (Judge Characters None file) = record { Done = ⊥; EndsBy = EndsUnnamed } ∷ []

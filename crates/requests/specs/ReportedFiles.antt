@@ -1,25 +1,23 @@
 -- What a file that is reported on leaves behind.
-use Rattle.std.specs.Prelude.{◌≡◌, ◌⊎◌, ℕ, List, [], ◌∷◌, Option, Some, None, Bool, true, false}
+use Rattle.std.specs.Prelude.{◌≡◌, ◌⊎◌, ℕ, List, [], ◌∷◌, Option, Bool, true, false}
 use Rattle.std.specs.Borrow.{Bor}
 use Rattle.std.specs.Io.KnownBytes.{Appends}
 use Rattle.units.specs.Limits.{standard}
 use Rattle.units.specs.declared.unread.Unread.{Unread}
-use Rattle.ucdfiles.specs.Tables.{TablesOf}
 use Rattle.bidtests.specs.FileKinds.{verdict_of}
 use Rattle.bidtests.specs.declared.kind.Kind.{Kind}
-use Rattle.bidtests.specs.declared.kind.Kind.TheVariants as rows_of
 use Rattle.report.specs.FileReports.{is_right, report_of, settled_cases}
 use Rattle.report.specs.ReadClaims.{strict}
 use Rattle.report.specs.ReportText.{first_cases_text, report_text}
+use Rattle.requests.specs.FileRows.{HasRows}
 use Rattle.requests.specs.JudgedFiles.{verdict_status}
-use Rattle.requests.specs.ReadFiles.{FileFacts, AreTables, most_file_bytes, origin_of}
+use Rattle.requests.specs.ReadFiles.{FileFacts, most_file_bytes, origin_of}
 use Rattle.requests.specs.Parts.{FailsIn, opening_part}
 use Rattle.requests.specs.declared.fault.Fault.{Fault}
 use Rattle.requests.specs.declared.fault.Fault.TheVariants.{CannotRead}
 use Rattle.report.specs.declared.terms.Leniency.{Leniency}
 use Rattle.report.specs.declared.terms.Terms.{Terms}
 use Rattle.requests.specs.declared.request.FileKind.{FileKind}
-use Rattle.requests.specs.declared.request.FileKind.TheVariants.{Classes, Characters}
 use Rattle.requests.specs.declared.request.ReportOptions.{ReportOptions}
 
 -- the exit status after a report: 0 where the file is right, 1 where it is not
@@ -30,13 +28,6 @@ report_status false = 1
 -- the terms of a report: the limits of the standard, and what of each claim is compared
 abbrev pub terms_by : Leniency → Terms
 terms_by leniency = record { limits = standard; leniency = leniency }
-
--- what the rows of a file hold, of this kind and by the tables of this folder, which were read where they are needed
-abbrev pub HasRows : FileFacts → FileKind → Option (Bor (List ℕ)) → Kind → Type 0
-HasRows files Classes folder rows = rows ≡ rows_of.Classes
-HasRows files Characters (Some folder) rows =
-    (tables : Bor TablesOf) × AreTables files folder.now tables.now × (rows ≡ rows_of.Characters tables)
-HasRows files Characters None rows = ⊥
 
 -- what FILE names was read whole, as a file of such rows, what known bytes grew by is the text of the report on its
 -- bytes, with at most so many wrong cases, and the exit status says whether that is right; where all that is claimed is

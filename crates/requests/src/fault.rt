@@ -4,10 +4,13 @@ ghost use Rattle.std.specs.List.{concat};
 ghost use Rattle.std.specs.Io.KnownBytes.{Appends};
 ghost use Rattle.printing.specs.LevelsText.{line_feed};
 ghost use Rattle.requests.specs.FaultText.{EndsBy, SaysFault, fault_status, faulty_line_text, no_class_text};
-ghost use Rattle.requests.specs.FaultText.{long_line_text, no_code_point_text, no_direction_text, no_rows_text, not_utf8_text};
+ghost use Rattle.requests.specs.FaultText.{long_line_text, malformed_line_text, no_code_point_text, no_direction_text};
+ghost use Rattle.requests.specs.FaultText.{no_row_text, no_rows_text, not_utf8_text};
 ghost use Rattle.requests.specs.FaultText.{rows_refusal, unread_text, unread_words};
 
 use crate::outcome::Ended;
+use bidtests::verdict::Cause;
+use bidtests::verdict_line::name_of_cause;
 use printing::fault::PrintFault;
 use rows::fault::RowsFault;
 use std::alloc::{AllocError, AllocFailed};
@@ -40,6 +43,11 @@ pub enum Fault<'a> {
     NoDirections,
     /// The texts over the letters, of the lengths, can't be enumerated or drawn.
     NoRows(RowsFault),
+    /// This line of the conformance file of this name, counted from 1, is no row.
+    LineIsNoRow {
+        name: &'a str,
+        line: u64,
+    },
     /// The file of this name can't be opened, a read of it failed, or it has more bytes than are allowed, for this
     /// reason.
     CannotRead {
@@ -58,6 +66,12 @@ pub enum Fault<'a> {
     LongLine {
         name: &'a str,
         line: usize,
+    },
+    /// This line of the conformance file of this name, counted from 1, is malformed.
+    MalformedLine {
+        name: &'a str,
+        line: u64,
+        cause: Cause,
     },
     /// A write to the output, or its flush, failed.
     CannotWrite,
@@ -169,6 +183,27 @@ fn print_long_line<E: Write>(err: &mut E, name: &str, line: usize) -> io::Result
     writeln!(err, "bidi: {name}: line {line}: too long")
 }
 
+/// Writes the line that says that a line of a conformance file is no row.
+fn print_no_row<E: Write>(err: &mut E, name: &str, line: u64) -> io::Result<()>
+    ensures { OnOk result (Appends (E.contents err.old) (E.contents err.new) (no_row_text name.now line)) }
+{
+    writeln!(err, "bidi: {name}: line {line} is no row")
+}
+
+/// Writes the line that says why a line of a conformance file is malformed.
+fn print_malformed_line<E: Write>(
+    err: &mut E,
+    name: &str,
+    line: u64,
+    cause: Cause,
+) -> io::Result<()>
+    ensures { OnOk result (Appends (E.contents err.old) (E.contents err.new)
+        (malformed_line_text name.now line cause)) }
+{
+    let cause = name_of_cause(cause);
+    writeln!(err, "bidi: {name}: line {line}: malformed: {cause}")
+}
+
 /// Writes the line that says that a name is that of no class.
 fn print_no_class<E: Write>(err: &mut E, name: &[u8]) -> io::Result<()>
     ensures { OnOk result (Appends (E.contents err.old) (E.contents err.new) (no_class_text name.now)) }
@@ -227,7 +262,7 @@ fn print_no_rows<E: Write>(err: &mut E, fault: RowsFault) -> io::Result<()>
 
 impl Fault<'_> {
     /// The exit status: 2 where the words of the command line are no text, name no tables, no classes, no code points,
-    /// no directions or no rows, else 3.
+    /// no directions, no rows or a line that is none, else 3.
     fn status(&self) -> u8
         ensures { result ≡ fault_status self.now }
     {
@@ -236,6 +271,7 @@ impl Fault<'_> {
             Fault::ClassesTooLong | Fault::CodesTooLong => 2,
             Fault::NoClass(_) | Fault::NoCodePoint(_) | Fault::NoLengths(_) => 2,
             Fault::NoDirection(_) | Fault::NoDirections | Fault::NoRows(_) => 2,
+            Fault::LineIsNoRow { .. } => 2,
             _ => 3,
         }
     }
@@ -255,10 +291,14 @@ impl Fault<'_> {
             Fault::NoDirection(item) => print_no_direction(err, item),
             Fault::NoDirections => print_line(err, "bidi: --directions has no direction"),
             Fault::NoRows(fault) => print_no_rows(err, *fault),
+            Fault::LineIsNoRow { name, line } => print_no_row(err, name, *line),
             Fault::CannotRead { name, unread } => print_unread(err, name, *unread),
             Fault::FaultyLine { name, line, fault } => print_faulty_line(err, name, *line, *fault),
             Fault::NotUtf8(name) => print_not_utf8(err, name),
             Fault::LongLine { name, line } => print_long_line(err, name, *line),
+            Fault::MalformedLine { name, line, cause } => {
+                print_malformed_line(err, name, *line, *cause)
+            }
             Fault::CannotWrite => print_line(err, "bidi: cannot write"),
             Fault::OutOfMemory => print_line(err, "bidi: out of memory"),
         }

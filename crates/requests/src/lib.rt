@@ -18,6 +18,7 @@ pub mod performing;
 mod reading;
 mod reporting;
 pub mod request;
+mod row_explaining;
 pub mod run;
 mod table_files;
 mod table_source;

@@ -19,6 +19,7 @@ use crate::outcome::Outcome;
 use crate::reading::text_in_file;
 use crate::reporting::report_file;
 use crate::request::{Print, Request, TableSource};
+use crate::row_explaining::explain_row;
 use crate::table_source::tables_by;
 use crate::text_printing::print_text;
 use crate::text_rows::print_text_rows;
@@ -180,6 +181,7 @@ pub fn perform<'a, F: Files, W: Write>(
             tables,
             direction,
         } => explain_codes(alloc, codes, tables, direction, files, out)?,
+        Request::ExplainRow(sought) => explain_row(alloc, sought, files, out)?,
         Request::Judge { kind, tables, file } => {
             return judge_file(alloc, kind, tables, file, files, out);
         }

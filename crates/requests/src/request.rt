@@ -2,7 +2,7 @@
 
 use report::terms::Leniency;
 use rows::form::Form;
-use std::num::NonZeroU16;
+use std::num::{NonZeroU16, NonZeroU64};
 use units::level::Direction;
 
 /// The kinds of conformance files.
@@ -79,6 +79,18 @@ pub struct AskedLines<'a> {
     pub directions: &'a str,
 }
 
+/// Which row of a conformance file is sought.
+#[derive(Clone, Copy, Debug, PartialEq, Eq)]
+pub struct SoughtRow<'a> {
+    /// The kind of the file.
+    pub kind: FileKind,
+    /// The folder of the tables, where it is given; it is needed for files of characters alone.
+    pub tables: Option<&'a str>,
+    /// The number of its line, counted from 1.
+    pub line: NonZeroU64,
+    pub file: &'a str,
+}
+
 /// How a conformance file is reported on.
 #[derive(Clone, Copy, Debug, PartialEq, Eq)]
 pub struct ReportOptions {
@@ -109,6 +121,9 @@ pub enum Request<'a> {
         tables: TableSource<'a>,
         direction: Direction,
     },
+    /// Print what each rule does to the text of this row, under each direction that it names, and what it claims beside
+    /// what is defined.
+    ExplainRow(SoughtRow<'a>),
     /// Judge a conformance file. The folder of the tables, where it is given, is needed for files of characters alone.
     Judge {
         kind: FileKind,

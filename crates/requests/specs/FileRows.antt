@@ -1,0 +1,16 @@
+-- What the rows of a conformance file hold.
+use Rattle.std.specs.Prelude.{◌≡◌, List, ℕ, Option, None, Some}
+use Rattle.std.specs.Borrow.{Bor}
+use Rattle.ucdfiles.specs.Tables.{TablesOf}
+use Rattle.bidtests.specs.declared.kind.Kind.{Kind}
+use Rattle.bidtests.specs.declared.kind.Kind.TheVariants as rows_of
+use Rattle.requests.specs.ReadFiles.{FileFacts, AreTables}
+use Rattle.requests.specs.declared.request.FileKind.{FileKind}
+use Rattle.requests.specs.declared.request.FileKind.TheVariants.{Classes, Characters}
+
+-- what the rows of a file hold, of this kind and by the tables of this folder, which were read where they are needed
+abbrev pub HasRows : FileFacts → FileKind → Option (Bor (List ℕ)) → Kind → Type 0
+HasRows files Classes folder rows = rows ≡ rows_of.Classes
+HasRows files Characters (Some folder) rows =
+    (tables : Bor TablesOf) × AreTables files folder.now tables.now × (rows ≡ rows_of.Characters tables)
+HasRows files Characters None rows = ⊥

@@ -1,0 +1,103 @@
+// A row of a conformance file explained.
+ghost use Rattle.std.specs.Prelude.{◌≡◌, [], ◌∷◌, Ok, IfErr, IfOk, OnOk};
+ghost use Rattle.requests.specs.ExplainedRows.{HasAtLine, HasExplainedRow, row_fault};
+ghost use Rattle.requests.specs.FileRows.{HasRows};
+ghost use Rattle.requests.specs.Parts.{EndsSearch, FailsIn, row_parts, sought_part};
+
+use crate::fault::Fault;
+use crate::files::Files;
+use crate::opening::{MOST_FILE_BYTES, open};
+use crate::request::{FileKind, SoughtRow};
+use crate::table_files::read_tables;
+use bidtests::kind::Kind;
+use explain_row::find::find_row;
+use explain_row::found_row::FoundRow;
+use explain_row::print::print_row;
+use explain_row::row_fault::{RowFault, SearchFault};
+use std::alloc::Global;
+use std::io::Write;
+use std::num::NonZeroU64;
+
+/// How it is said of a file why there is no row at a line.
+fn fault_of_row<'a>(file: &'a str, line: NonZeroU64, fault: RowFault) -> Fault<'a>
+    ensures { result ≡ row_fault file.entry line.value fault }
+{
+    match fault {
+        RowFault::Malformed { line, cause } => Fault::MalformedLine {
+            name: file,
+            line,
+            cause,
+        },
+        RowFault::NoRow => Fault::LineIsNoRow {
+            name: file,
+            line: line.get(),
+        },
+    }
+}
+
+/// The row at a line of what FILE names, as a file of such rows, which is read up to that line.
+fn row_in_file<'a, F: Files>(
+    alloc: Global,
+    rows: Kind<'_>,
+    line: NonZeroU64,
+    file: &'a str,
+    files: &F,
+) -> Result<FoundRow, Fault<'a>>
+    ensures row { IfOk result (λ row. HasAtLine (F.facts files.now) rows.entry line.value file.now (Ok row)) }
+    ensures fault { IfErr result (EndsSearch (F.facts files.now) rows.entry line.value file.now) }
+{
+    let mut source = open(alloc, files, file, MOST_FILE_BYTES)?;
+    match find_row(alloc, rows, line, &mut source) {
+        Ok(row) => Ok(row),
+        Err(SearchFault::OfRow(fault)) => Err(fault_of_row(file, line, fault)),
+        Err(SearchFault::Read) => {
+            let unread = files.unread(&source);
+            Err(Fault::CannotRead { name: file, unread })
+        }
+        Err(SearchFault::Memory) => Err(Fault::OutOfMemory),
+    }
+}
+
+/// Explains the row that is sought, of a file of such rows.
+fn explain_row_as<'a, F: Files, W: Write>(
+    alloc: Global,
+    rows: Kind<'_>,
+    sought: SoughtRow<'a>,
+    files: &F,
+    out: &mut W,
+) -> Result<(), Fault<'a>>
+    requires { HasRows (F.facts files.now) sought.kind sought.tables rows }
+    ensures printed { OnOk result
+        (HasExplainedRow (F.facts files.now) sought.entry (W.contents out.old) (W.contents out.new)) }
+    ensures fault { IfErr result (FailsIn (sought_part (F.facts files.now) sought.entry ∷ [])
+        (W.contents out.old) (W.contents out.new)) }
+{
+    let row = row_in_file(alloc, rows, sought.line, sought.file, files)?;
+    print_row(alloc, out, sought.line.get(), &row)?;
+    Ok(())
+}
+
+/// Explains the row that is sought: under each direction that it names, what each rule does to its text, and what it
+/// claims beside what is defined. Where tables are needed and none are named, nothing is opened. The faults are those of
+/// `read_tables`, that FILE can't be opened or read, that a line up to the one that is sought is malformed, that this is
+/// no row, refused memory, and a failed write.
+pub fn explain_row<'a, F: Files, W: Write>(
+    alloc: Global,
+    sought: SoughtRow<'a>,
+    files: &F,
+    out: &mut W,
+) -> Result<(), Fault<'a>>
+    ensures printed { OnOk result
+        (HasExplainedRow (F.facts files.now) sought.entry (W.contents out.old) (W.contents out.new)) }
+    ensures fault { IfErr result (FailsIn (row_parts (F.facts files.now) sought.entry)
+        (W.contents out.old) (W.contents out.new)) }
+{
+    match (sought.kind, sought.tables) {
+        (FileKind::Classes, _) => explain_row_as(alloc, Kind::Classes, sought, files, out),
+        (FileKind::Characters, Some(folder)) => {
+            let tables = read_tables(alloc, files, folder)?;
+            explain_row_as(alloc, Kind::Characters(&tables), sought, files, out)
+        }
+        (FileKind::Characters, None) => Err(Fault::TablesNeeded),
+    }
+}
