@@ -101,6 +101,25 @@ ends 2 '' 'bidi: X1 is no class' explain --classes 'ON X1 X2'
 ends 0 $'paragraph 0 level 1: R at 0\n'"$explained" '' explain --tables t --codes '05D0 0020 0028 0061'
 ends 0 $'paragraph 0 level 1: given\n'"$explained" '' explain --direction rtl --codes '05D0 0020 0028 0061'
 ends 2 '' 'bidi: 28 is no code point' explain --codes '05D0 28 x'
+# The row of a file that `report` names, of standard input too, a line that is no row, and one that is malformed.
+row=$'line 3: rtl
+paragraph 0 level 1: given
+position code class level X W1 W2 W3 W4 W5 W6 W7 N0 N1 N2 I L1
+0 - L 1 . . . . . . . . . . . 2 .
+sequence 0 level 1 sos R eos R: 0
+order 0
+claimed levels: 0
+defined levels: 2
+claimed order: 0
+defined order: 0'
+printf '@Levels: 0\n@Reorder: 0\nL; 4\nL; 16\n' > row.txt
+ends 0 "$row" '' explain --row 3 --kind classes row.txt
+"$program" explain --row 3 --kind classes - < row.txt > found_out 2> found_err
+is 'status of a row of standard input' 0 $?
+is 'a row of standard input' "$row" "$(cat found_out)"
+ends 2 '' 'bidi: row.txt: line 2 is no row' explain --row 2 --kind classes row.txt
+ends 3 '' 'bidi: row.txt: line 4: malformed: BitSet' explain --row 5 --kind classes row.txt
+ends 2 '' 'bidi: --tables is needed' explain --row 1 --kind characters characters.txt
 # Classes in a word of 131,071 bytes, the longest that Linux hands to a program.
 "$program" explain --classes "ON$(printf '%131069s' '')" > found_out 2> found_err
 is 'status of the longest word of classes' 0 $?
@@ -329,6 +348,7 @@ ends 0 $'bidi 1.0.0 (rules P1 to L2 and L4 of UAX #9, Unicode 15.0)\ntables of U
 for words in 'judge --kind classes yes.txt' 'judge --kind classes no.txt' 'report --kind classes yes.txt' \
     'report --kind classes --most 1000 wrong.txt' 'levels --tables t text.txt' \
     'reorder --tables t text.txt' 'explain --tables t text.txt' 'explain --classes R' 'explain --codes 05D0' \
+    'explain --row 3 --kind classes row.txt' \
     'rows --form exhaustive --alphabet R --length 1' '--help'; do
     # shellcheck disable=SC2086
     "$program" $words > /dev/full 2> found_err
@@ -367,6 +387,16 @@ if [ -n "$found" ]; then
         read -r _ rows _ cases _ <<< "$("$program" judge $words)"
         # shellcheck disable=SC2086
         ends 0 "$rows rows, 0 wrong; $cases cases, 0 wrong"$'\n'"$none" '' report $words
+    done
+    # Of the last row of each, what is claimed and what is defined are the same, under each of its directions.
+    for words in '--kind classes BidiTest.txt' '--kind characters --tables real BidiCharacterTest.txt'; do
+        last=$(grep -n -v '^[#@]' "${words##* }" | grep ';' | tail -n 1 | cut -d : -f 1)
+        # shellcheck disable=SC2086
+        "$program" explain --row "$last" $words > found_out 2> found_err
+        is "status of line $last, $words" 0 $?
+        is "line $last, $words" "line $last: " "$(grep -o -m 1 '^line [0-9]*: ' found_out)"
+        is "what is defined, $words" "$(grep '^claimed' found_out | sed 's/^claimed//')" \
+            "$(grep '^defined' found_out | sed 's/^defined//')"
     done
     ends 0 $'paragraph 0 level 1\n0 05D0 R 1\n1 0020 WS 1\n2 0028 ON 1\n3 0061 L 2' '' levels --tables real text.txt
     ends 0 $'a) \xd7\x90' '' reorder --tables real text.txt

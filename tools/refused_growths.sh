@@ -94,6 +94,8 @@ program_of_bidi() {
     rows 0 explain --tables "$work/t" "$work/text"
     rows 0 explain --classes 'R ON LRE L'
     rows 0 explain --tables "$work/t" --codes '05D0 0028'
+    rows 0 explain --row 3 --kind classes "$work/classes"
+    rows 0 explain --row 1 --kind characters --tables "$work/t" "$work/characters"
     rows 1 judge --kind classes "$work/classes"
     rows 1 report --kind classes "$work/classes"
     rows 0 judge --kind characters --tables "$work/t" "$work/characters"
@@ -104,6 +106,7 @@ program_of_bidi() {
     rows 2 levels
     rows 2 explain --classes 'R X'
     rows 2 explain --codes '05D0 X'
+    rows 2 explain --row 1 --kind classes "$work/classes"
     rows 0 --help
     echo "bidi: $growths growths refused, each in turn: the program, over files of the system"
 }

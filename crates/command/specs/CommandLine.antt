@@ -1,8 +1,9 @@
 -- The command line, as it is read: the command with its subcommands and arguments, and the request that the values of a
 -- subcommand make.
-use Rattle.std.specs.Prelude.{◌≡◌, ◌≢◌, ◌⊎◌, ℕ, List, [], ◌∷◌, Option, None, Some, Result, Ok, Err, IfOk, codes, map, option_map, unwrap_or, pos, Bool, true, false, if◌then◌else◌}
+use Rattle.std.specs.Prelude.{◌≡◌, ◌≢◌, ◌⊎◌, ℕ, List, [], ◌∷◌, Option, None, Some, Result, Ok, Err, IfOk, codes, map, option_map, unwrap_or, is_some, pos, Bool, true, false, if◌then◌else◌}
 use Rattle.std.specs.Borrow.{Bor}
 use Rattle.std.specs.declared.num.NonZeroU16.{NonZeroU16}
+use Rattle.std.specs.declared.num.NonZeroU64.{NonZeroU64}
 use Rattle.std.specs.declared.num.ParseIntError.{ParseIntError}
 use Rattle.std.specs.Str.{bytes_eq}
 use Rattle.std.specs.Str.Parse.{ParsesNonZeroUnsigned, ParsesUnsigned, digits_value, without_leading_plus}
@@ -25,7 +26,7 @@ use Rattle.rows.specs.declared.form.Form.TheVariants.{Nest, Brackets, Marks, Num
 use Rattle.units.specs.declared.level.Direction.{Direction}
 use Rattle.units.specs.declared.level.Direction.TheVariants.{Auto, Ltr, Rtl, AutoRtl}
 use Rattle.bidtests.specs.VerdictText.{direction_word}
-use Rattle.command.specs.Refusals.{has_form_words, is_over_alphabet, refusal_without_request}
+use Rattle.command.specs.Refusals.{has_form_words, has_row_words, has_text_words, is_over_alphabet, refusal_without_request}
 use Rattle.command.specs.declared.refusal.NoRequest.{NoRequest}
 use Rattle.command.specs.declared.refusal.WordsFault.{WordsFault}
 use Rattle.command.specs.declared.refusal.WordsFault.TheVariants as fault
@@ -40,6 +41,7 @@ use Rattle.requests.specs.declared.request.TableSource.TheVariants.{Folder, Buil
 use Rattle.requests.specs.declared.request.RowLetters.{RowLetters}
 use Rattle.requests.specs.declared.request.RowLetters.TheVariants.{Alphabet, OfForm}
 use Rattle.requests.specs.declared.request.RowsForm.{RowsForm}
+use Rattle.requests.specs.declared.request.SoughtRow.{SoughtRow}
 use Rattle.requests.specs.declared.request.RowsForm.TheVariants.{Exhaustive, Random}
 use Rattle.requests.specs.declared.request.Request.{Request}
 use Rattle.requests.specs.declared.request.Request.TheVariants as requested
@@ -63,12 +65,17 @@ file_rule = record (new_rule (codes "file")) { value_names = 1; required = true 
 abbrev pub tables_rule : Rule
 tables_rule = record (option_rule (codes "tables")) { parser = Some parser.NonEmptyString }
 
+-- --direction of what `explain` prints
+abbrev pub bare_direction_rule : Choice → Rule
+bare_direction_rule choice = record (option_rule (codes "direction")) { parser = Some (parser.Names choice) }
+
 -- --direction, which is `auto` where it is not given
 abbrev pub direction_rule : Choice → Rule
-direction_rule choice = record (option_rule (codes "direction")) {
-  defaults = codes "auto" ∷ [];
-  parser = Some (parser.Names choice);
-}
+direction_rule choice = record (bare_direction_rule choice) { defaults = codes "auto" ∷ [] }
+
+-- --row, 1 or more, of 64 bits
+abbrev pub row_rule : Rule
+row_rule = record (option_rule (codes "row")) { parser = Some (parser.Unsigned 1 18446744073709551615) }
 
 -- --columns, 1 to 65,535
 abbrev pub columns_rule : Rule
@@ -86,9 +93,9 @@ codes_rule = option_rule (codes "codes")
 abbrev pub kind_rule : Choice → Rule
 kind_rule choice = record (option_rule (codes "kind")) { required = true; parser = Some (parser.Names choice) }
 
--- --kind of the file that rows make
-abbrev pub rows_kind_rule : Choice → Rule
-rows_kind_rule choice = record (option_rule (codes "kind")) { parser = Some (parser.Names choice) }
+-- --kind of the file that has a row, or that rows make
+abbrev pub bare_kind_rule : Choice → Rule
+bare_kind_rule choice = record (option_rule (codes "kind")) { parser = Some (parser.Names choice) }
 
 -- --form
 abbrev pub form_rule : Choice → Rule
@@ -128,9 +135,18 @@ abbrev pub reorder_app : Choice → App
 reorder_app directions =
     with_rule (with_rule (with_rule (with_rule (new_app (codes "reorder")) tables_rule) (direction_rule directions)) columns_rule) file_rule
 
-abbrev pub explain_app : Choice → App
-explain_app directions =
-    with_rule (with_rule (with_rule (with_rule (with_rule (new_app (codes "explain")) tables_rule) classes_rule) codes_rule) (direction_rule directions)) (not_required file_rule)
+-- the choices of `explain`: of kinds, of directions
+pub record ExplainChoices : Type 0 where
+  pub kinds : Choice
+  pub directions : Choice
+
+-- with what may be explained in the place of a text: classes, code points, a row
+abbrev pub with_others : App → App
+with_others app = with_rule (with_rule (with_rule app classes_rule) codes_rule) row_rule
+
+abbrev pub explain_app : ExplainChoices → App
+explain_app c =
+    with_rule (with_rule (with_rule (with_others (with_rule (new_app (codes "explain")) tables_rule)) (bare_kind_rule c.kinds)) (bare_direction_rule c.directions)) (not_required file_rule)
 
 abbrev pub judge_app : Choice → App
 judge_app kinds = with_rule (with_rule (with_rule (new_app (codes "judge")) (kind_rule kinds)) tables_rule) file_rule
@@ -150,7 +166,7 @@ pub record RowChoices : Type 0 where
 
 -- with what the file of rows is: its form, its kind, and the tables by which it is right
 abbrev pub with_rows_kind : RowChoices → App → App
-with_rows_kind c app = with_rule (with_rule (with_rule app (form_rule c.forms)) (rows_kind_rule c.kinds)) tables_rule
+with_rows_kind c app = with_rule (with_rule (with_rule app (form_rule c.forms)) (bare_kind_rule c.kinds)) tables_rule
 
 -- with what its texts are: their letters, their lengths, and the directions under which they stand
 abbrev pub with_rows_texts : App → App
@@ -174,6 +190,11 @@ abbrev pub form_words : List Text
 form_words = codes "exhaustive" ∷ codes "random" ∷ codes "nest" ∷ codes "brackets" ∷ codes "marks" ∷ codes "numbers"
     ∷ codes "isolates" ∷ codes "separators" ∷ []
 
+-- the choices of `explain` are of these words
+pub record HasExplainWords (c : ExplainChoices) : Type 0 where
+  pub kinds : words_of c.kinds ≡ kind_words
+  pub directions : words_of c.directions ≡ direction_words
+
 -- the choices of `rows` are of these words
 pub record HasRowWords (c : RowChoices) : Type 0 where
   pub forms : words_of c.forms ≡ form_words
@@ -187,7 +208,7 @@ bidi_top = on_top (λ s. record s { has_version = true; subcommand_required = tr
 pub record Choices : Type 0 where
   pub of_levels : Choice
   pub of_reorder : Choice
-  pub of_explain : Choice
+  pub of_explain : ExplainChoices
   pub of_judge : Choice
   pub of_report : Choice
   pub of_rows : RowChoices
@@ -211,7 +232,7 @@ pub record IsBidi (app : App) : Type 0 where
   pub choices : Choices
   pub levels_words : words_of choices.of_levels ≡ direction_words
   pub reorder_words : words_of choices.of_reorder ≡ direction_words
-  pub explain_words : words_of choices.of_explain ≡ direction_words
+  pub explain_words : HasExplainWords choices.of_explain
   pub judge_words : words_of choices.of_judge ≡ kind_words
   pub report_words : words_of choices.of_report ≡ kind_words
   pub rows_words : HasRowWords choices.of_rows
@@ -243,6 +264,16 @@ ReadsColumns text r = IfOk r (λ n. n.value ≡ digits_value 10 (without_leading
 abbrev pub ColumnsAre : Option Text → Option NonZeroU16 → Type 0
 ColumnsAre None columns = columns ≡ None
 ColumnsAre (Some text) columns = ReadsOne ReadsColumns text columns
+
+-- a line as its text is read
+abbrev pub ReadsLine : Text → Result NonZeroU64 ParseIntError → Type 0
+ReadsLine text r = IfOk r (λ n. n.value ≡ digits_value 10 (without_leading_plus text)) × ParsesNonZeroUnsigned 64 text r
+
+-- a line by its text, if that is given, and else the first
+abbrev pub LineIs : Option Text → NonZeroU64 → Type 0
+LineIs None line = line.value ≡ 1
+LineIs (Some text) line =
+    (read : Option NonZeroU64) × ReadsOne ReadsLine text read × (line.value ≡ unwrap_or (option_map (λ n. n.value) read) 1)
 
 -- a number as its text is read
 abbrev pub ReadsNumber : Text → Result ℕ ParseIntError → Type 0
@@ -314,23 +345,34 @@ pub record AsksForLines (rows : List Row) (asked : AskedLines) : Type 0 where
   pub tables : first_of (codes "tables") rows ≡ folder_of asked.tables
   pub directions : first_of (codes "directions") rows ≡ Some asked.directions.now
 
+-- the row that the values ask for, and nothing that says another text or its direction
+pub record AsksForRow (rows : List Row) (sought : SoughtRow) : Type 0 where
+  pub given : is_some (first_of (codes "row") rows) ≡ true
+  pub alone : has_text_words rows ≡ false
+  pub kind : kind_named (first_of (codes "kind") rows) ≡ Some sought.kind
+  pub tables : first_of (codes "tables") rows ≡ option_map (λ folder. folder.now) sought.tables
+  pub line : LineIs (one_of (codes "row") rows) sought.line
+  pub file : first_of (codes "file") rows ≡ Some sought.file.now
+
 -- the subcommand of this name prints this of a text, by these values
 abbrev pub AsksToPrint : Text → List Row → Print → Type 0
 AsksToPrint name rows Levels = name ≡ codes "levels"
 AsksToPrint name rows (Reorder columns) = (name ≡ codes "reorder") × ColumnsAre (one_of (codes "columns") rows) columns
-AsksToPrint name rows Explained = (name ≡ codes "explain") × (first_of (codes "classes") rows ≡ None) × (first_of (codes "codes") rows ≡ None)
+AsksToPrint name rows Explained = (name ≡ codes "explain") × (has_row_words rows ≡ false)
+    × (first_of (codes "classes") rows ≡ None) × (first_of (codes "codes") rows ≡ None)
 
 -- the values of the subcommand of this name make this request
 abbrev pub AsksFor : Text → List Row → Request → Type 0
 AsksFor name rows (requested.Text tables direction file print) = AsksToPrint name rows print
     × (first_of (codes "tables") rows ≡ folder_of tables) × (direction ≡ direction_named (first_of (codes "direction") rows))
     × (first_of (codes "file") rows ≡ Some file.now)
-AsksFor name rows (requested.ExplainClasses classes direction) = (name ≡ codes "explain")
+AsksFor name rows (requested.ExplainClasses classes direction) = (name ≡ codes "explain") × (has_row_words rows ≡ false)
     × (first_of (codes "tables") rows ≡ None) × (first_of (codes "classes") rows ≡ Some classes.now) × (first_of (codes "codes") rows ≡ None)
     × (direction ≡ direction_named (first_of (codes "direction") rows)) × (first_of (codes "file") rows ≡ None)
-AsksFor name rows (requested.ExplainCodes said tables direction) = (name ≡ codes "explain")
+AsksFor name rows (requested.ExplainCodes said tables direction) = (name ≡ codes "explain") × (has_row_words rows ≡ false)
     × (first_of (codes "tables") rows ≡ folder_of tables) × (first_of (codes "classes") rows ≡ None) × (first_of (codes "codes") rows ≡ Some said.now)
     × (direction ≡ direction_named (first_of (codes "direction") rows)) × (first_of (codes "file") rows ≡ None)
+AsksFor name rows (requested.ExplainRow sought) = (name ≡ codes "explain") × AsksForRow rows sought
 AsksFor name rows (requested.Judge kind tables file) = (name ≡ codes "judge")
     × (kind_named (first_of (codes "kind") rows) ≡ Some kind) × (first_of (codes "tables") rows ≡ option_map (λ folder. folder.now) tables)
     × (first_of (codes "file") rows ≡ Some file.now)

@@ -5,7 +5,7 @@ use Rattle.std.specs.Str.{bytes_eq}
 use Rattle.clap.specs.Walk.{Row, Text, first_of}
 use Rattle.command.specs.declared.help.TheConstants.{BIDI_USAGE, EXPLAIN_USAGE, ROWS_USAGE}
 use Rattle.command.specs.declared.refusal.NoRequest.{NoRequest}
-use Rattle.command.specs.declared.refusal.NoRequest.TheVariants.{ClassesAndText, CodesAndText, NoText, TextAndForm, NoForm, NoLength, NoAlphabet, AlphabetAndForm, NoSubcommand}
+use Rattle.command.specs.declared.refusal.NoRequest.TheVariants.{ClassesAndText, CodesAndText, NoText, RowAndText, RowWithoutKind, RowWithoutFile, KindWithoutRow, TextAndForm, NoForm, NoLength, NoAlphabet, AlphabetAndForm, NoSubcommand}
 
 -- classes are given, and a text or tables beside them
 abbrev pub has_classes_and_text : List Row → Bool
@@ -17,10 +17,31 @@ abbrev pub has_codes_and_text : List Row → Bool
 has_codes_and_text rows =
     is_some (first_of (codes "codes") rows) && (is_some (first_of (codes "classes") rows) || is_some (first_of (codes "file") rows))
 
--- of `explain`: a text, code points and classes exclude each other, and one of them is required
+-- a row is given, or the kind of a file, which only a row has
+abbrev pub has_row_words : List Row → Bool
+has_row_words rows = is_some (first_of (codes "row") rows) || is_some (first_of (codes "kind") rows)
+
+-- classes, code points or a direction are given, none of which a row takes: it names its directions
+abbrev pub has_text_words : List Row → Bool
+has_text_words rows =
+    is_some (first_of (codes "classes") rows) || (is_some (first_of (codes "codes") rows) || is_some (first_of (codes "direction") rows))
+
+-- of `explain` with a row: it excludes these, and its kind and a file are required
+abbrev pub row_refusal : List Row → NoRequest
+row_refusal rows =
+    if has_text_words rows then RowAndText
+    else (if is_some (first_of (codes "kind") rows) then RowWithoutFile else RowWithoutKind)
+
+-- without one: a text, code points and classes exclude each other, and one of them is required
+abbrev pub text_refusal : List Row → NoRequest
+text_refusal rows =
+    if has_classes_and_text rows then ClassesAndText else (if has_codes_and_text rows then CodesAndText else NoText)
+
+-- of `explain`
 abbrev pub explain_refusal : List Row → NoRequest
 explain_refusal rows =
-    if has_classes_and_text rows then ClassesAndText else (if has_codes_and_text rows then CodesAndText else NoText)
+    if is_some (first_of (codes "row") rows) then row_refusal rows
+    else (if is_some (first_of (codes "kind") rows) then KindWithoutRow else text_refusal rows)
 
 -- the texts of this form are made of an alphabet: those of the other forms have letters of their own
 abbrev pub takes_alphabet : Text → Bool
@@ -64,6 +85,10 @@ abbrev pub words_without_request : NoRequest → List ℕ
 words_without_request ClassesAndText = codes "the argument '--classes <CLASSES>' cannot be used with '--tables <DIR>' or '<FILE>'"
 words_without_request CodesAndText = codes "the argument '--codes <CODES>' cannot be used with '--classes <CLASSES>' or '<FILE>'"
 words_without_request NoText = codes "'<FILE>' is required, or '--codes <CODES>', or '--classes <CLASSES>'"
+words_without_request RowAndText = codes "the argument '--row <LINE>' cannot be used with '--classes <CLASSES>', '--codes <CODES>' or '--direction <DIRECTION>'"
+words_without_request RowWithoutKind = codes "the argument '--kind <KIND>' is required with '--row <LINE>'"
+words_without_request RowWithoutFile = codes "'<FILE>' is required with '--row <LINE>'"
+words_without_request KindWithoutRow = codes "the argument '--kind <KIND>' can be used only with '--row <LINE>'"
 words_without_request TextAndForm = codes "the argument '--of <FILE>' cannot be used with '--form <FORM>', '--alphabet <LETTERS>', '--length <LENGTHS>', '--seed <N>' or '--count <N>'"
 words_without_request NoForm = codes "'--form <FORM>' is required, or '--of <FILE>'"
 words_without_request NoLength = codes "the argument '--length <LENGTHS>' is required with '--form <FORM>'"
@@ -76,6 +101,10 @@ abbrev pub usage_without_request : NoRequest → List ℕ
 usage_without_request ClassesAndText = EXPLAIN_USAGE.now
 usage_without_request CodesAndText = EXPLAIN_USAGE.now
 usage_without_request NoText = EXPLAIN_USAGE.now
+usage_without_request RowAndText = EXPLAIN_USAGE.now
+usage_without_request RowWithoutKind = EXPLAIN_USAGE.now
+usage_without_request RowWithoutFile = EXPLAIN_USAGE.now
+usage_without_request KindWithoutRow = EXPLAIN_USAGE.now
 usage_without_request TextAndForm = ROWS_USAGE.now
 usage_without_request NoForm = ROWS_USAGE.now
 usage_without_request NoLength = ROWS_USAGE.now

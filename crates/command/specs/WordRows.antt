@@ -4,7 +4,7 @@ use Rattle.clap.proofs.OnLiterals.{clap_on_literals}
 use Rattle.clap.specs.Faults.{fault_of}
 use Rattle.clap.specs.Simple.{subcommand_of}
 use Rattle.clap.specs.Walk.{Row, Text, first_of, one_of}
-use Rattle.clap.specs.declared.error.kind.ErrorKind.TheVariants.{DisplayVersion, InvalidValue, TooManyValues}
+use Rattle.clap.specs.declared.error.kind.ErrorKind.TheVariants.{DisplayVersion, InvalidValue, TooManyValues, ValueValidation}
 use Rattle.report.specs.ReadClaims.{strict}
 use Rattle.report.specs.declared.terms.Parts.TheVariants as parts
 use Rattle.report.specs.declared.terms.Positions.TheVariants as positions
@@ -12,7 +12,7 @@ use Rattle.units.specs.declared.level.Direction.{Direction}
 use Rattle.units.specs.declared.level.Direction.TheVariants.{Auto, Rtl}
 use Rattle.command.specs.CommandLine.{Choices, bidi_app, direction_named, kind_named, leniency_in, rows_kind}
 use Rattle.command.specs.Refusals.{refusal_without_request}
-use Rattle.command.specs.declared.refusal.NoRequest.TheVariants.{AlphabetAndForm, ClassesAndText, CodesAndText, NoAlphabet, NoForm, NoLength, NoText, TextAndForm}
+use Rattle.command.specs.declared.refusal.NoRequest.TheVariants.{AlphabetAndForm, ClassesAndText, CodesAndText, KindWithoutRow, NoAlphabet, NoForm, NoLength, NoText, RowAndText, RowWithoutFile, RowWithoutKind, TextAndForm}
 use Rattle.requests.specs.declared.request.FileKind.{FileKind}
 use Rattle.requests.specs.declared.request.FileKind.TheVariants.{Characters}
 
@@ -234,6 +234,43 @@ pub explain_codes_and_classes_words : (c : Choices) → refusal_without_request 
     (codes "bidi" ∷ codes "explain" ∷ codes "--classes" ∷ codes "R" ∷ codes "--codes" ∷ codes "05D0" ∷ [])) ≡ CodesAndText
 unfolding clap_on_literals
 explain_codes_and_classes_words c = refl
+
+-- a row of a file: its line, the file's kind, its folder and name
+abbrev row_met : Text × List Row → Option Text × Option FileKind × Option Text × Option Text
+row_met p = (one_of (codes "row") p.1, kind_named (first_of (codes "kind") p.1), first_of (codes "tables") p.1, first_of (codes "file") p.1)
+
+pub explain_row_words : (c : Choices) → option_map row_met (subcommand_of (bidi_app c)
+    (codes "bidi" ∷ codes "explain" ∷ codes "--row=12" ∷ codes "--kind" ∷ codes "characters" ∷ codes "FILE" ∷ codes "--tables" ∷ codes "t" ∷ []))
+    ≡ Some (Some (codes "12"), Some Characters, Some (codes "t"), Some (codes "FILE"))
+unfolding clap_on_literals
+explain_row_words c = refl
+
+-- no line has the number 0
+pub explain_no_row_words : (c : Choices) → fault_of (bidi_app c)
+    (codes "bidi" ∷ codes "explain" ∷ codes "--row" ∷ codes "0" ∷ codes "--kind" ∷ codes "classes" ∷ codes "FILE" ∷ []) ≡ ValueValidation ∷ []
+unfolding clap_on_literals
+explain_no_row_words c = refl
+
+-- a direction beside a row, a row without a kind or a file, and a kind without a row: no request, and the reason for that
+pub explain_row_and_direction_words : (c : Choices) → refusal_without_request (subcommand_of (bidi_app c)
+    (codes "bidi" ∷ codes "explain" ∷ codes "--row" ∷ codes "1" ∷ codes "--direction" ∷ codes "auto" ∷ codes "--kind" ∷ codes "classes" ∷ codes "FILE" ∷ [])) ≡ RowAndText
+unfolding clap_on_literals
+explain_row_and_direction_words c = refl
+
+pub explain_row_without_kind_words : (c : Choices) → refusal_without_request (subcommand_of (bidi_app c)
+    (codes "bidi" ∷ codes "explain" ∷ codes "--row" ∷ codes "1" ∷ codes "FILE" ∷ [])) ≡ RowWithoutKind
+unfolding clap_on_literals
+explain_row_without_kind_words c = refl
+
+pub explain_row_without_file_words : (c : Choices) → refusal_without_request (subcommand_of (bidi_app c)
+    (codes "bidi" ∷ codes "explain" ∷ codes "--row" ∷ codes "1" ∷ codes "--kind" ∷ codes "classes" ∷ [])) ≡ RowWithoutFile
+unfolding clap_on_literals
+explain_row_without_file_words c = refl
+
+pub explain_kind_without_row_words : (c : Choices) → refusal_without_request (subcommand_of (bidi_app c)
+    (codes "bidi" ∷ codes "explain" ∷ codes "--kind" ∷ codes "classes" ∷ codes "FILE" ∷ [])) ≡ KindWithoutRow
+unfolding clap_on_literals
+explain_kind_without_row_words c = refl
 
 -- rows: their form, kind, alphabet, lengths and directions, which are three where none are given
 pub record RowsMet : Type 0 where

@@ -1,10 +1,10 @@
 // The arguments of the subcommands.
 ghost use Rattle.std.specs.Prelude.{◌≡◌, false};
 ghost use Rattle.clap.specs.Walk.{rule_of};
-ghost use Rattle.command.specs.CommandLine.{Choice, alphabet_rule, classes_rule, codes_rule, columns_rule, direction_rule};
-ghost use Rattle.command.specs.CommandLine.{direction_words, directions_rule, file_rule, flag_rule, form_rule};
-ghost use Rattle.command.specs.CommandLine.{form_words, kind_rule, kind_words, length_rule, number_rule, of_rule};
-ghost use Rattle.command.specs.CommandLine.{rows_kind_rule, tables_rule, words_of};
+ghost use Rattle.command.specs.CommandLine.{Choice, alphabet_rule, bare_direction_rule, bare_kind_rule, classes_rule};
+ghost use Rattle.command.specs.CommandLine.{codes_rule, columns_rule, direction_rule, direction_words, directions_rule};
+ghost use Rattle.command.specs.CommandLine.{file_rule, flag_rule, form_rule, form_words, kind_rule, kind_words};
+ghost use Rattle.command.specs.CommandLine.{length_rule, number_rule, of_rule, row_rule, tables_rule, words_of};
 
 use clap::builder::ValueParser;
 use clap::{Arg, ArgAction};
@@ -62,6 +62,36 @@ pub fn direction_argument<'a>(alloc: Global) -> Arg<'a>
         .help(
             "The direction of each paragraph, which `auto` finds by rules P2 and P3; \
              `auto-rtl` takes right to left where they find none",
+        )
+}
+
+/// `--direction`, which may be left out: of a text or classes it is `auto` then, and a row names its own.
+pub fn explain_direction_argument<'a>(alloc: Global) -> Arg<'a>
+    ensures rule { (choice : Choice) × (words_of choice ≡ direction_words)
+        × (rule_of result ≡ bare_direction_rule choice) }
+    ensures local { result.global ≡ false }
+{
+    Arg::new(alloc, "direction")
+        .long("direction")
+        .value_name("DIRECTION")
+        .value_parser(DIRECTIONS.as_slice())
+        .help(
+            "The direction of each paragraph, which `auto`, where it is left out, finds by rules P2 and P3; \
+             `auto-rtl` takes right to left where they find none",
+        )
+}
+
+/// `--row LINE`, which may be left out.
+pub fn row_argument<'a>(alloc: Global) -> Arg<'a>
+    ensures rule { rule_of result ≡ row_rule }
+    ensures local { result.global ≡ false }
+{
+    Arg::new(alloc, "row")
+        .long("row")
+        .value_name("LINE")
+        .value_parser(clap::value_parser!(u64).range(1..))
+        .help(
+            "Explains the row at this line of a conformance file, counted from 1, in the place of a text",
         )
 }
 
@@ -204,18 +234,15 @@ pub fn kind_argument<'a>(alloc: Global) -> Arg<'a>
         )
 }
 
-/// `--kind` of the file that rows make, which may be left out.
-pub fn rows_kind_argument<'a>(alloc: Global) -> Arg<'a>
+/// `--kind`, which may be left out, with this help.
+pub fn bare_kind_argument<'a>(alloc: Global, help: &'a str) -> Arg<'a>
     ensures rule { (choice : Choice) × (words_of choice ≡ kind_words)
-        × (rule_of result ≡ rows_kind_rule choice) }
+        × (rule_of result ≡ bare_kind_rule choice) }
     ensures local { result.global ≡ false }
 {
     Arg::new(alloc, "kind")
         .long("kind")
         .value_name("KIND")
         .value_parser(KINDS.as_slice())
-        .help(
-            "The file's form: that of BidiTest.txt, or that of BidiCharacterTest.txt, which holds with --of \
-             where it is left out",
-        )
+        .help(help)
 }

@@ -3,14 +3,15 @@ ghost use Rattle.std.specs.Prelude.{◌≡◌, false, IfOk, IsOkAnd};
 ghost use Rattle.clap.specs.Built.{AddsSubcommand};
 ghost use Rattle.clap.specs.Simple.{app_of};
 ghost use Rattle.clap.specs.declared.builder.command.Command.TheViews.{out-Command as fields_of};
-ghost use Rattle.command.specs.CommandLine.{Choice, HasRowWords, IsBidi, RowChoices, bidi_top, direction_words};
-ghost use Rattle.command.specs.CommandLine.{explain_app, judge_app, kind_words, levels_app, reorder_app, report_app};
-ghost use Rattle.command.specs.CommandLine.{rows_app, words_of};
+ghost use Rattle.command.specs.CommandLine.{Choice, ExplainChoices, HasExplainWords, HasRowWords, IsBidi, RowChoices};
+ghost use Rattle.command.specs.CommandLine.{bidi_top, direction_words, explain_app, judge_app, kind_words, levels_app};
+ghost use Rattle.command.specs.CommandLine.{reorder_app, report_app, rows_app, words_of};
 
 use crate::arguments::{
-    alphabet_argument, classes_argument, codes_argument, columns_argument, direction_argument,
-    directions_argument, file_argument, flag_argument, form_argument, kind_argument,
-    length_argument, number_argument, of_argument, rows_kind_argument, tables_argument,
+    alphabet_argument, bare_kind_argument, classes_argument, codes_argument, columns_argument,
+    direction_argument, directions_argument, explain_direction_argument, file_argument,
+    flag_argument, form_argument, kind_argument, length_argument, number_argument, of_argument,
+    row_argument, tables_argument,
 };
 use crate::help;
 use clap::Command;
@@ -48,8 +49,8 @@ fn reorder_command<'a>(alloc: Global) -> Result<Command<'a>, AllocError>
 /// The subcommand `explain`. By `clap` alone all of its arguments may be left out or stand together: which of them make
 /// a request is told by these.
 fn explain_command<'a>(alloc: Global) -> Result<Command<'a>, AllocError>
-    ensures app { IfOk result (λ command. (choice : Choice) × (words_of choice ≡ direction_words)
-        × (app_of command ≡ explain_app choice)) }
+    ensures app { IfOk result (λ command. (choices : ExplainChoices) × HasExplainWords choices
+        × (app_of command ≡ explain_app choices)) }
     ensures local { IfOk result (λ command. (fields_of command).has_globals ≡ false) }
 {
     Command::new(alloc, "explain")
@@ -60,7 +61,9 @@ fn explain_command<'a>(alloc: Global) -> Result<Command<'a>, AllocError>
         .arg(tables_argument(alloc, help::TABLES_HELP))?
         .arg(classes_argument(alloc))?
         .arg(codes_argument(alloc))?
-        .arg(direction_argument(alloc))?
+        .arg(row_argument(alloc))?
+        .arg(bare_kind_argument(alloc, help::EXPLAIN_KIND_HELP))?
+        .arg(explain_direction_argument(alloc))?
         .arg(file_argument(alloc).required(false))
 }
 
@@ -108,7 +111,7 @@ fn rows_command<'a>(alloc: Global) -> Result<Command<'a>, AllocError>
         .after_help(help::ROWS_EXAMPLE)
         .override_usage(help::ROWS_USAGE)
         .arg(form_argument(alloc))?
-        .arg(rows_kind_argument(alloc))?
+        .arg(bare_kind_argument(alloc, help::ROWS_KIND_HELP))?
         .arg(tables_argument(alloc, help::TABLES_HELP))?
         .arg(alphabet_argument(alloc))?
         .arg(length_argument(alloc))?

@@ -69,7 +69,8 @@ pub const REORDER_EXAMPLE: &str =
 
 /// What `explain` prints, and with which status it ends.
 pub const EXPLAIN_LONG_ABOUT: &str =
-    "Prints what each rule does with a text, in UTF-8 or in code points, or with a list of classes.
+    "Prints what each rule does with a text, in UTF-8 or in code points, with a list of classes,
+or with a row of a conformance file.
 
 For each paragraph prints a line `paragraph K level L: WHY`, K counted from 0, with what
 decided the level, a row for each of its positions, and then its isolating run sequences,
@@ -80,20 +81,32 @@ after X1 to X8, or `x` where X9 removes the position, the class after X1 to X8, 
 each of W1 to W7 and after N0, N1 and N2, the level after I1 and I2, and that after L1.
 `.` stands where a rule changed nothing.
 
+With --row all of this is printed of the row at a line of a conformance file, under each
+direction that it names, behind a line `line N: DIRECTION`, and then what the row claims
+and what is defined: the paragraph level, if it claims one, the levels and the order.
+
 Ends with status 0, 2 where the command line is refused, --classes has a name of no
-class or --codes an item that is no code point, and 3 where a file can't be read, a line
-of a table is faulty, the text is not UTF-8, a write fails or memory is refused.";
+class or --codes an item that is no code point, --tables is needed or the line is no row,
+and 3 where a file can't be read, a line of a table or one up to the row is faulty, the
+text is not UTF-8, a write fails or memory is refused.";
 
 /// How `explain` is called.
 pub const EXPLAIN_USAGE: &str = "bidi explain [OPTIONS] <FILE>
        bidi explain [OPTIONS] --codes <CODES>
-       bidi explain [OPTIONS] --classes <CLASSES>";
+       bidi explain [OPTIONS] --classes <CLASSES>
+       bidi explain [OPTIONS] --row <LINE> --kind <KIND> <FILE>";
+
+/// What `--kind` says, of `explain`.
+pub const EXPLAIN_KIND_HELP: &str =
+    "The form of the file that has the row: that of BidiTest.txt, or that of BidiCharacterTest.txt, which needs \
+     --tables";
 
 /// What stands at the end of the help of `explain`.
 pub const EXPLAIN_EXAMPLE: &str = "Examples:
   bidi explain text.txt
   bidi explain --codes '05D0 0028'
-  bidi explain --classes 'R ON LRE L'";
+  bidi explain --classes 'R ON LRE L'
+  bidi explain --row 1200 --kind characters --tables ucd BidiCharacterTest.txt";
 
 /// What `judge` prints, and with which status it ends.
 pub const JUDGE_LONG_ABOUT: &str = "Judges a conformance file.
@@ -175,6 +188,11 @@ pub const ROWS_USAGE: &str =
     "bidi rows [OPTIONS] --form exhaustive|random --alphabet <LETTERS> --length <LENGTHS>
        bidi rows [OPTIONS] --form <FORM> --length <LENGTHS>
        bidi rows [OPTIONS] --of <FILE>";
+
+/// What `--kind` says, of `rows`.
+pub const ROWS_KIND_HELP: &str =
+    "The file's form: that of BidiTest.txt, or that of BidiCharacterTest.txt, which holds with --of where it is \
+     left out";
 
 /// What `--seed` says, and of which rows.
 pub const ROWS_SEED_HELP: &str = "The seed by which texts are drawn, 0 where it is left out";

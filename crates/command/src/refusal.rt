@@ -15,6 +15,14 @@ pub enum NoRequest {
     CodesAndText,
     /// `explain` is given neither a text nor code points nor classes.
     NoText,
+    /// `explain` is given a row, and classes, code points or a direction beside it.
+    RowAndText,
+    /// `explain` is given a row, and no kind of its file.
+    RowWithoutKind,
+    /// `explain` is given a row, and no file.
+    RowWithoutFile,
+    /// `explain` is given the kind of a file, and no row.
+    KindWithoutRow,
     /// `rows` is given a text, and beside it what says texts of a form.
     TextAndForm,
     /// `rows` is given neither a form nor a text.
@@ -43,6 +51,17 @@ impl NoRequest {
             }
             NoRequest::NoText =>
                 "'<FILE>' is required, or '--codes <CODES>', or '--classes <CLASSES>'",
+            NoRequest::RowAndText => {
+                "the argument '--row <LINE>' cannot be used with '--classes <CLASSES>', '--codes <CODES>' \
+                 or '--direction <DIRECTION>'"
+            }
+            NoRequest::RowWithoutKind => {
+                "the argument '--kind <KIND>' is required with '--row <LINE>'"
+            }
+            NoRequest::RowWithoutFile => "'<FILE>' is required with '--row <LINE>'",
+            NoRequest::KindWithoutRow => {
+                "the argument '--kind <KIND>' can be used only with '--row <LINE>'"
+            }
             NoRequest::TextAndForm => {
                 "the argument '--of <FILE>' cannot be used with '--form <FORM>', '--alphabet <LETTERS>', \
                  '--length <LENGTHS>', '--seed <N>' or '--count <N>'"
@@ -69,6 +88,8 @@ impl NoRequest {
             NoRequest::ClassesAndText | NoRequest::CodesAndText | NoRequest::NoText => {
                 EXPLAIN_USAGE
             }
+            NoRequest::RowAndText | NoRequest::RowWithoutKind => EXPLAIN_USAGE,
+            NoRequest::RowWithoutFile | NoRequest::KindWithoutRow => EXPLAIN_USAGE,
             NoRequest::TextAndForm | NoRequest::NoForm | NoRequest::NoLength => ROWS_USAGE,
             NoRequest::NoAlphabet | NoRequest::AlphabetAndForm => ROWS_USAGE,
             NoRequest::NoSubcommand => BIDI_USAGE,

@@ -112,11 +112,11 @@ fn run_as_read<F: Files, W: Write, E: Write>(
 }
 
 /// Does what the words of a command line ask for, the first word being the program's name, and answers how the run
-/// ends, with the exit status: 0 where a text was printed or explained or rows were, after a yes, help or the version,
-/// 1 after a no, 2 where the words are refused, name no tables though they are needed, name what is no class or no code
-/// point or too much of it, or make no rows, 3 where a file or standard input can't be read, a table or the text is
-/// faulty, a write fails or memory is refused. After 2 and 3 what says so is written to `err`, and whether it took that
-/// is answered too; after 0 and 1 nothing is written to it.
+/// ends, with the exit status: 0 where a text was printed, a text or a row explained or rows printed, after a yes, help
+/// or the version, 1 after a no, 2 where the words are refused, name no tables though they are needed, name what is no
+/// class, no code point or no row or too much of it, or make no rows, 3 where a file or standard input can't be read, a
+/// table, the text or a line up to the row is faulty, a write fails or memory is refused. After 2 and 3 what says so is
+/// written to `err`, and whether it took that is answered too; after 0 and 1 nothing is written to it.
 pub fn run<F: Files, W: Write, E: Write>(
     alloc: Global,
     words: &[&str],

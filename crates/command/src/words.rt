@@ -1,18 +1,21 @@
 // What the words of a command line ask for.
-ghost use Rattle.std.specs.Prelude.{◌≡◌, ◌≢◌, codes, option_map, IfOk, IfErr, IfSome, IfNone, None, Some, is_some};
+ghost use Rattle.std.specs.Prelude.{◌≡◌, ◌≢◌, codes, false, option_map, IfOk, IfErr, IfSome, IfNone, None, Some, is_some};
 ghost use Rattle.clap.specs.Matches.{found_of};
 ghost use Rattle.clap.specs.Simple.{subcommand_rows_of};
 ghost use Rattle.clap.specs.Walk.{first_of, one_of, rows_of, texts};
 ghost use Rattle.command.specs.CommandLine.{AsksFor, ColumnsAre, HasMet, IsAskedBy, IsReadAs, IsRefusedByClap, MakesNone};
-ghost use Rattle.command.specs.CommandLine.{FormIs, LettersAre, NumberIs, direction_named, folder_of, form_word};
-ghost use Rattle.command.specs.CommandLine.{AsksForLines, AsksForRows, is_given, kind_named, leniency_in, rows_kind};
+ghost use Rattle.command.specs.CommandLine.{FormIs, LettersAre, LineIs, NumberIs, direction_named, folder_of, form_word};
+ghost use Rattle.command.specs.CommandLine.{AsksForLines, AsksForRow, AsksForRows, is_given, kind_named, leniency_in};
+ghost use Rattle.command.specs.CommandLine.{rows_kind};
 ghost use Rattle.command.specs.Refusals.{explain_refusal, has_classes_and_text, has_codes_and_text, is_over_alphabet};
-ghost use Rattle.command.specs.Refusals.{form_refusal, has_form_words, refusal_in_subcommand, refusal_without_request};
-ghost use Rattle.command.specs.Refusals.{rows_refusal};
+ghost use Rattle.command.specs.Refusals.{form_refusal, has_form_words, has_row_words, has_text_words};
+ghost use Rattle.command.specs.Refusals.{refusal_in_subcommand, refusal_without_request, row_refusal, rows_refusal};
+ghost use Rattle.command.specs.Refusals.{text_refusal};
 ghost use Rattle.requests.specs.declared.request.AskedLines.{AskedLines as AskedLinesOf};
 ghost use Rattle.requests.specs.declared.request.AskedRows.{AskedRows as AskedRowsOf};
 ghost use Rattle.requests.specs.declared.request.Request.{Request as RequestOf};
 ghost use Rattle.requests.specs.declared.request.RowLetters.{RowLetters as LettersOf};
+ghost use Rattle.requests.specs.declared.request.SoughtRow.{SoughtRow as SoughtRowOf};
 ghost use Rattle.rows.specs.declared.form.Form.{Form as HardForm};
 
 use crate::command_line::bidi_command;
@@ -21,11 +24,11 @@ use clap::{ArgMatches, Error};
 use report::terms::{Leniency, Parts, Positions};
 use requests::request::{
     AskedLines, AskedRows, FileKind, Print, ReportOptions, Request, RowLetters, RowsForm,
-    TableSource,
+    SoughtRow, TableSource,
 };
 use rows::form::Form;
 use std::alloc::Global;
-use std::num::NonZeroU16;
+use std::num::{NonZeroU16, NonZeroU64};
 use units::level::Direction;
 
 /// The value of an argument, if it has one.
@@ -115,8 +118,50 @@ fn reorder_in<'a>(matches: &ArgMatches<'a>) -> Option<Request<'a>>
     })
 }
 
-/// What `explain` asks for, by its arguments: a text or code points, by tables that may be named, or classes.
-fn explain_in<'a>(matches: &ArgMatches<'a>) -> Option<Request<'a>>
+/// The line whose row is to be explained, or the first where none is given.
+fn line_in(matches: &ArgMatches<'_>) -> NonZeroU64
+    ensures { LineIs (one_of (codes "row") (rows_of (found_of matches.now))) result }
+{
+    matches
+        .get_one::<NonZeroU64>("row")
+        .unwrap_or(NonZeroU64::MIN)
+}
+
+/// Whether `explain` is given a row, or the kind of a file, which only a row has.
+fn has_row_words(matches: &ArgMatches<'_>) -> bool
+    ensures { result ≡ has_row_words (rows_of (found_of matches.now)) }
+{
+    has_value(matches, "row") || has_value(matches, "kind")
+}
+
+/// Whether `explain` is given classes, code points or a direction, none of which a row takes.
+fn has_text_words(matches: &ArgMatches<'_>) -> bool
+    ensures { result ≡ has_text_words (rows_of (found_of matches.now)) }
+{
+    has_value(matches, "classes") || has_value(matches, "codes") || has_value(matches, "direction")
+}
+
+/// The row that `explain` asks for, by its arguments.
+fn explain_row_in<'a>(matches: &ArgMatches<'a>) -> Option<SoughtRow<'a>>
+    ensures some { IfSome result (AsksForRow (rows_of (found_of matches.now))) }
+    ensures none { IfNone result ((sought : SoughtRowOf)
+        → ¬ (AsksForRow (rows_of (found_of matches.now)) sought)) }
+{
+    if has_text_words(matches) || !has_value(matches, "row") {
+        return None;
+    }
+    Some(SoughtRow {
+        kind: kind_in(matches)?,
+        tables: text_of(matches, "tables"),
+        line: line_in(matches),
+        file: text_of(matches, "file")?,
+    })
+}
+
+/// What `explain` asks for without a row, by its arguments: a text or code points, by tables that may be named, or
+/// classes.
+fn explain_text_in<'a>(matches: &ArgMatches<'a>) -> Option<Request<'a>>
+    requires { has_row_words (rows_of (found_of matches.now)) ≡ false }
     ensures some { IfSome result (AsksFor (codes "explain") (rows_of (found_of matches.now))) }
     ensures none { IfNone result ((request : RequestOf)
         → ¬ (AsksFor (codes "explain") (rows_of (found_of matches.now)) request)) }
@@ -141,6 +186,19 @@ fn explain_in<'a>(matches: &ArgMatches<'a>) -> Option<Request<'a>>
         }),
         (None, Some(classes), None, None) => Some(Request::ExplainClasses { classes, direction }),
         _ => None,
+    }
+}
+
+/// What `explain` asks for, by its arguments: a row, or what it asks for without one.
+fn explain_in<'a>(matches: &ArgMatches<'a>) -> Option<Request<'a>>
+    ensures some { IfSome result (AsksFor (codes "explain") (rows_of (found_of matches.now))) }
+    ensures none { IfNone result ((request : RequestOf)
+        → ¬ (AsksFor (codes "explain") (rows_of (found_of matches.now)) request)) }
+{
+    if has_row_words(matches) {
+        Some(Request::ExplainRow(explain_row_in(matches)?))
+    } else {
+        explain_text_in(matches)
     }
 }
 
@@ -359,9 +417,22 @@ fn has_codes_and_text(matches: &ArgMatches<'_>) -> bool
     has_value(matches, "codes") && (has_value(matches, "classes") || has_value(matches, "file"))
 }
 
-/// Why `explain` makes no request of its arguments.
-fn explain_refusal(matches: &ArgMatches<'_>) -> NoRequest
-    ensures { result ≡ explain_refusal (rows_of (found_of matches.now)) }
+/// Why `explain` makes no request of its arguments, with a row.
+fn row_refusal(matches: &ArgMatches<'_>) -> NoRequest
+    ensures { result ≡ row_refusal (rows_of (found_of matches.now)) }
+{
+    if has_text_words(matches) {
+        NoRequest::RowAndText
+    } else if has_value(matches, "kind") {
+        NoRequest::RowWithoutFile
+    } else {
+        NoRequest::RowWithoutKind
+    }
+}
+
+/// Why `explain` makes no request of its arguments, without a row.
+fn text_refusal(matches: &ArgMatches<'_>) -> NoRequest
+    ensures { result ≡ text_refusal (rows_of (found_of matches.now)) }
 {
     if has_classes_and_text(matches) {
         NoRequest::ClassesAndText
@@ -369,6 +440,19 @@ fn explain_refusal(matches: &ArgMatches<'_>) -> NoRequest
         NoRequest::CodesAndText
     } else {
         NoRequest::NoText
+    }
+}
+
+/// Why `explain` makes no request of its arguments.
+fn explain_refusal(matches: &ArgMatches<'_>) -> NoRequest
+    ensures { result ≡ explain_refusal (rows_of (found_of matches.now)) }
+{
+    if has_value(matches, "row") {
+        row_refusal(matches)
+    } else if has_value(matches, "kind") {
+        NoRequest::KindWithoutRow
+    } else {
+        text_refusal(matches)
     }
 }
 

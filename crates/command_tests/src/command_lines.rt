@@ -15,6 +15,24 @@ pub const EXPLAIN_CLASSES: [&str; 4] = ["bidi", "explain", "--classes", "R ON LR
 /// `explain` of code points.
 pub const EXPLAIN_CODES: [&str; 6] = ["bidi", "explain", "--tables", "t", "--codes", "05D0 0028"];
 
+/// `explain` of a row of a file of classes.
+pub const EXPLAIN_ROW_OF_CLASSES: [&str; 7] = [
+    "bidi", "explain", "--row", "3", "--kind", "classes", "FILE",
+];
+
+/// `explain` of a row of a file of characters.
+pub const EXPLAIN_ROW_OF_CHARACTERS: [&str; 9] = [
+    "bidi",
+    "explain",
+    "--row",
+    "1",
+    "--kind",
+    "characters",
+    "--tables",
+    "t",
+    "FILE",
+];
+
 /// `judge` of a file of classes.
 pub const JUDGE_CLASSES: [&str; 5] = ["bidi", "judge", "--kind", "classes", "FILE"];
 

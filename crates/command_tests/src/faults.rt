@@ -1,7 +1,7 @@
 //! Faults of words, of writing and of memory.
 use crate::command_lines::{
-    EXPLAIN, EXPLAIN_CLASSES, EXPLAIN_CODES, JUDGE_CHARACTERS, JUDGE_CLASSES, LEVELS, REORDER,
-    REPORT_CLASSES, ROWS,
+    EXPLAIN, EXPLAIN_CLASSES, EXPLAIN_CODES, EXPLAIN_ROW_OF_CHARACTERS, EXPLAIN_ROW_OF_CLASSES,
+    JUDGE_CHARACTERS, JUDGE_CLASSES, LEVELS, REORDER, REPORT_CLASSES, ROWS,
 };
 use crate::failing_files::NoMemory;
 use crate::memory_files::{MemoryFiles, tables_and};
@@ -50,6 +50,16 @@ fn says_that_a_write_failed(rt: HostRuntime) {
     for (words, left, flushes) in rows {
         let out = ShortWriter { left, flushes };
         assert_fault_over_writer(&rt, alloc, words, &files, out, b"bidi: cannot write\n");
+    }
+}
+
+#[test]
+fn says_that_a_write_of_a_row_failed(rt: HostRuntime) {
+    let files = tables_and(WRONG_UNDER_RTL);
+    for (left, flushes) in [(0, true), (5, true), (100, true), (1000, false)] {
+        let out = ShortWriter { left, flushes };
+        let line = b"bidi: cannot write\n";
+        assert_fault_over_writer(&rt, rt.alloc(), &EXPLAIN_ROW_OF_CLASSES, &files, out, line);
     }
 }
 
@@ -116,12 +126,19 @@ fn begins_so(outcome: &Outcome, status: u8, out: &[u8], err: &[u8]) -> bool {
 // To be run with each allocation failing in turn.
 #[test]
 fn answers_as_ever_or_says_that_memory_was_refused(rt: HostRuntime) {
-    let rows: [(&[&str], u8, &[u8], &[u8]); 11] = [
+    let rows: [(&[&str], u8, &[u8], &[u8]); 13] = [
         (&LEVELS, 0, b"paragraph 0 level 0\n0 0040 L 0\n", b""),
         (&REORDER, 0, b"@Levels: 0\n@Reorder: 0\nL; 7\n", b""),
         (&EXPLAIN, 0, b"paragraph 0 level 0", b""),
         (&EXPLAIN_CLASSES, 0, b"paragraph 0 level 1", b""),
         (&EXPLAIN_CODES, 0, b"paragraph 0 level 1", b""),
+        (&EXPLAIN_ROW_OF_CLASSES, 0, b"line 3: auto\n", b""),
+        (
+            &EXPLAIN_ROW_OF_CHARACTERS,
+            3,
+            b"",
+            b"bidi: FILE: line 1: malformed: FieldCount\n",
+        ),
         (&JUDGE_CLASSES, 1, b"no: line 3: rtl: levels at 0\n", b""),
         (
             &JUDGE_CHARACTERS,

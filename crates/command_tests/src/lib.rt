@@ -45,6 +45,8 @@ mod reorder;
 #[cfg(test)]
 mod reports;
 #[cfg(test)]
+mod row_explaining;
+#[cfg(test)]
 mod runs;
 #[cfg(test)]
 mod table_faults;

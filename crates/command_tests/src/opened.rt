@@ -1,7 +1,7 @@
 //! What a request opens: the files, by their names and in order, and standard input.
 use crate::command_lines::{
-    EXPLAIN, EXPLAIN_CLASSES, EXPLAIN_CODES, JUDGE_CHARACTERS, JUDGE_CLASSES, LEVELS, REORDER,
-    REPORT_CHARACTERS, REPORT_CLASSES, ROWS,
+    EXPLAIN, EXPLAIN_CLASSES, EXPLAIN_CODES, EXPLAIN_ROW_OF_CHARACTERS, EXPLAIN_ROW_OF_CLASSES,
+    JUDGE_CHARACTERS, JUDGE_CLASSES, LEVELS, REORDER, REPORT_CHARACTERS, REPORT_CLASSES, ROWS,
 };
 use crate::memory_files::{MemoryFile, MemoryFiles, tables_and, whole};
 use crate::recording_files::RecordingFiles;
@@ -55,6 +55,17 @@ fn opens_the_tables_and_then_the_file(rt: HostRuntime) {
     for words in [&JUDGE_CHARACTERS, &REPORT_CHARACTERS] {
         assert_reads(&rt, rt.alloc(), words, TABLES, "FILE\n");
     }
+}
+
+#[test]
+fn opens_the_file_of_a_row(rt: HostRuntime) {
+    let alloc = rt.alloc();
+    let row = tables_and(b"0061;0;0;0;0\n");
+    let words = &EXPLAIN_ROW_OF_CHARACTERS;
+    assert_opens(&rt, alloc, words, &row, 0, TABLES, "FILE\n");
+    let none = tables_and(b"");
+    let words = &EXPLAIN_ROW_OF_CLASSES;
+    assert_opens(&rt, alloc, words, &none, 2, "", "FILE\n");
 }
 
 /// The words for rows of characters, with the tables behind all others.

@@ -90,7 +90,15 @@ fn refuses_command_lines(rt: HostRuntime) {
 
 #[test]
 fn says_what_is_refused(rt: HostRuntime) {
-    let rows: [(&[&str], &[u8]); 3] = [
+    let rows: [(&[&str], &[u8]); 5] = [
+        (
+            &["bidi", "explain", "--row", "x", "--kind", "classes", "FILE"],
+            b"error: invalid value 'x' for '--row <LINE>': invalid digit found in string\n\nFor more information, try '--help'.\n",
+        ),
+        (
+            &["bidi", "explain", "--row", "0", "--kind", "classes", "FILE"],
+            b"error: invalid value '0' for '--row <LINE>': 0 is not in 1..18446744073709551615\n\nFor more information, try '--help'.\n",
+        ),
         (
             &["bidi", "judge", "--kind", "other", "FILE"],
             b"error: invalid value 'other' for '--kind <KIND>'\n  [possible values: classes, characters]\n\nFor more information, try '--help'.\n",
@@ -112,11 +120,11 @@ fn says_what_is_refused(rt: HostRuntime) {
 #[test]
 fn says_why_nothing_is_explained(rt: HostRuntime) {
     let classes: &[u8] =
-        b"error: the argument '--classes <CLASSES>' cannot be used with '--tables <DIR>' or '<FILE>'\n\nUsage: bidi explain [OPTIONS] <FILE>\n       bidi explain [OPTIONS] --codes <CODES>\n       bidi explain [OPTIONS] --classes <CLASSES>\n\nFor more information, try '--help'.\n";
+        b"error: the argument '--classes <CLASSES>' cannot be used with '--tables <DIR>' or '<FILE>'\n\nUsage: bidi explain [OPTIONS] <FILE>\n       bidi explain [OPTIONS] --codes <CODES>\n       bidi explain [OPTIONS] --classes <CLASSES>\n       bidi explain [OPTIONS] --row <LINE> --kind <KIND> <FILE>\n\nFor more information, try '--help'.\n";
     let codes: &[u8] =
-        b"error: the argument '--codes <CODES>' cannot be used with '--classes <CLASSES>' or '<FILE>'\n\nUsage: bidi explain [OPTIONS] <FILE>\n       bidi explain [OPTIONS] --codes <CODES>\n       bidi explain [OPTIONS] --classes <CLASSES>\n\nFor more information, try '--help'.\n";
+        b"error: the argument '--codes <CODES>' cannot be used with '--classes <CLASSES>' or '<FILE>'\n\nUsage: bidi explain [OPTIONS] <FILE>\n       bidi explain [OPTIONS] --codes <CODES>\n       bidi explain [OPTIONS] --classes <CLASSES>\n       bidi explain [OPTIONS] --row <LINE> --kind <KIND> <FILE>\n\nFor more information, try '--help'.\n";
     let none: &[u8] =
-        b"error: '<FILE>' is required, or '--codes <CODES>', or '--classes <CLASSES>'\n\nUsage: bidi explain [OPTIONS] <FILE>\n       bidi explain [OPTIONS] --codes <CODES>\n       bidi explain [OPTIONS] --classes <CLASSES>\n\nFor more information, try '--help'.\n";
+        b"error: '<FILE>' is required, or '--codes <CODES>', or '--classes <CLASSES>'\n\nUsage: bidi explain [OPTIONS] <FILE>\n       bidi explain [OPTIONS] --codes <CODES>\n       bidi explain [OPTIONS] --classes <CLASSES>\n       bidi explain [OPTIONS] --row <LINE> --kind <KIND> <FILE>\n\nFor more information, try '--help'.\n";
     let rows: [(&[&str], &[u8]); 6] = [
         (&["bidi", "explain", "--tables", "t"], none),
         (&["bidi", "explain", "--classes", "R", "FILE"], classes),

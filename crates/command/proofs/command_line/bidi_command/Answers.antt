@@ -5,7 +5,7 @@ use Rattle.clap.specs.Simple.{App, app_of, with_subcommand}
 use Rattle.clap.specs.Walk.{Text}
 use Rattle.clap.specs.declared.builder.command.Command.{Command}
 use Rattle.clap.specs.declared.builder.command.Command.TheViews.{out-Command as fields_of}
-use Rattle.command.specs.CommandLine.{Choice, HasRowWords, bidi_top, direction_words, explain_app, judge_app, kind_words, levels_app, reorder_app, report_app, rows_app, words_of}
+use Rattle.command.specs.CommandLine.{Choice, HasExplainWords, HasRowWords, bidi_top, direction_words, explain_app, judge_app, kind_words, levels_app, reorder_app, report_app, rows_app, words_of}
 use Rattle.command.proofs.command_line.bidi_command.Goals as goal
 
 -- with a subcommand whose choices have such words
@@ -36,7 +36,7 @@ returns-clause-app c =
     c.levels_command.ensures.local c.bidi_alone.ensures.app c.in_ok-with_levels.ensures in
     let reorder = adds c.reorder_command.result direction_words reorder_app _ _ _ c.reorder_command.ensures.app
     c.reorder_command.ensures.local levels.2 c.in_ok-with_reorder.ensures in
-    let explain = adds c.explain_command.result direction_words explain_app _ _ _ c.explain_command.ensures.app
+    let explain = adds_with c.explain_command.result HasExplainWords explain_app _ _ _ c.explain_command.ensures.app
     c.explain_command.ensures.local reorder.2 c.in_ok-with_explain.ensures in
     let judge = adds c.judge_command.result kind_words judge_app _ _ _ c.judge_command.ensures.app
     c.judge_command.ensures.local explain.2 c.in_ok-with_judge.ensures in

@@ -14,15 +14,18 @@ returns-clause-app c =
     let with_tables = c.in_ok-arg.ensures.shape c.tables_argument.ensures.local ∙ ap₂ with_rule plain c.tables_argument.ensures.rule in
     let with_classes = c.in_ok-arg-2.ensures.shape c.classes_argument.ensures.local ∙ ap₂ with_rule with_tables c.classes_argument.ensures.rule in
     let with_codes = c.in_ok-arg-3.ensures.shape c.codes_argument.ensures.local ∙ ap₂ with_rule with_classes c.codes_argument.ensures.rule in
-    let direction = c.direction_argument.ensures.rule in
-    let with_direction = c.in_ok-arg-4.ensures.shape c.direction_argument.ensures.local ∙ ap₂ with_rule with_codes direction.2 in
+    let with_row = c.in_ok-arg-4.ensures.shape c.row_argument.ensures.local ∙ ap₂ with_rule with_codes c.row_argument.ensures.rule in
+    let kind = c.bare_kind_argument.ensures.rule in
+    let with_kind = c.in_ok-arg-5.ensures.shape c.bare_kind_argument.ensures.local ∙ ap₂ with_rule with_row kind.2 in
+    let direction = c.explain_direction_argument.ensures.rule in
+    let with_direction = c.in_ok-arg-6.ensures.shape c.explain_direction_argument.ensures.local ∙ ap₂ with_rule with_kind direction.2 in
     let file : rule_of c.required.result ≡ not_required file_rule = ap rule_of c.required.ensures ∙ ap not_required c.file_argument.ensures.rule in
     let local : c.required.result.global ≡ false = ap (λ a. a.global) c.required.ensures ∙ c.file_argument.ensures.local in
-    IfOk-weaker c.arg-5.result _ _ (λ command h. (
-      direction.0,
-      direction.1,
+    IfOk-weaker c.arg-7.result _ _ (λ command h. (
+      record { kinds = kind.0; directions = direction.0 },
+      record { kinds = kind.1; directions = direction.1 },
       h.shape local ∙ ap₂ with_rule with_direction file,
-    )) c.arg-5.ensures
+    )) c.arg-7.ensures
 
 pub returns-clause-local : goal.returns-clause-local
 returns-clause-local c =
@@ -33,5 +36,7 @@ returns-clause-local c =
     let with_tables = c.in_ok-arg.ensures.globals ∙ ap₂ ◌||◌ plain c.tables_argument.ensures.local in
     let with_classes = c.in_ok-arg-2.ensures.globals ∙ ap₂ ◌||◌ with_tables c.classes_argument.ensures.local in
     let with_codes = c.in_ok-arg-3.ensures.globals ∙ ap₂ ◌||◌ with_classes c.codes_argument.ensures.local in
-    let with_direction = c.in_ok-arg-4.ensures.globals ∙ ap₂ ◌||◌ with_codes c.direction_argument.ensures.local in
-    IfOk-weaker c.arg-5.result _ _ (λ command h. h.globals ∙ ap₂ ◌||◌ with_direction local) c.arg-5.ensures
+    let with_row = c.in_ok-arg-4.ensures.globals ∙ ap₂ ◌||◌ with_codes c.row_argument.ensures.local in
+    let with_kind = c.in_ok-arg-5.ensures.globals ∙ ap₂ ◌||◌ with_row c.bare_kind_argument.ensures.local in
+    let with_direction = c.in_ok-arg-6.ensures.globals ∙ ap₂ ◌||◌ with_kind c.explain_direction_argument.ensures.local in
+    IfOk-weaker c.arg-7.result _ _ (λ command h. h.globals ∙ ap₂ ◌||◌ with_direction local) c.arg-7.ensures

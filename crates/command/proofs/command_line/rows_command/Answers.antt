@@ -11,8 +11,8 @@ returns-clause-app c =
     ∙ ap app_of_fields c.about.ensures ∙ c.new.ensures.app in
     let form = c.form_argument.ensures.rule in
     let with_form = c.in_ok-arg.ensures.shape c.form_argument.ensures.local ∙ ap₂ with_rule plain form.2 in
-    let kind = c.rows_kind_argument.ensures.rule in
-    let with_kind = c.in_ok-arg-2.ensures.shape c.rows_kind_argument.ensures.local ∙ ap₂ with_rule with_form kind.2 in
+    let kind = c.bare_kind_argument.ensures.rule in
+    let with_kind = c.in_ok-arg-2.ensures.shape c.bare_kind_argument.ensures.local ∙ ap₂ with_rule with_form kind.2 in
     let with_tables = c.in_ok-arg-3.ensures.shape c.tables_argument.ensures.local ∙ ap₂ with_rule with_kind c.tables_argument.ensures.rule in
     let with_alphabet = c.in_ok-arg-4.ensures.shape c.alphabet_argument.ensures.local ∙ ap₂ with_rule with_tables c.alphabet_argument.ensures.rule in
     let with_length = c.in_ok-arg-5.ensures.shape c.length_argument.ensures.local ∙ ap₂ with_rule with_alphabet c.length_argument.ensures.rule in
@@ -31,7 +31,7 @@ returns-clause-local c =
     ap (λ f. f.has_globals) c.override_usage.ensures ∙ ap (λ f. f.has_globals) c.after_help.ensures ∙ ap (λ f. f.has_globals) c.long_about.ensures
     ∙ ap (λ f. f.has_globals) c.about.ensures ∙ c.new.ensures.local in
     let with_form = c.in_ok-arg.ensures.globals ∙ ap₂ ◌||◌ plain c.form_argument.ensures.local in
-    let with_kind = c.in_ok-arg-2.ensures.globals ∙ ap₂ ◌||◌ with_form c.rows_kind_argument.ensures.local in
+    let with_kind = c.in_ok-arg-2.ensures.globals ∙ ap₂ ◌||◌ with_form c.bare_kind_argument.ensures.local in
     let with_tables = c.in_ok-arg-3.ensures.globals ∙ ap₂ ◌||◌ with_kind c.tables_argument.ensures.local in
     let with_alphabet = c.in_ok-arg-4.ensures.globals ∙ ap₂ ◌||◌ with_tables c.alphabet_argument.ensures.local in
     let with_length = c.in_ok-arg-5.ensures.globals ∙ ap₂ ◌||◌ with_alphabet c.length_argument.ensures.local in
