@@ -2,6 +2,7 @@
 use Rattle.std.specs.Prelude.{◌≡◌, ◌^◌, ◌-◌, ℕ, List, [], ◌∷◌, Option, None, Some, Result, Ok, Err, IfOk, is_ok, true, codes, refl}
 use Rattle.std.specs.Borrow.{Bor}
 use Rattle.std.specs.Char.{encode_utf8}
+use Rattle.std.specs.declared.num.NonZeroU64.{NonZeroU64}
 use Rattle.std.specs.Fmt.{digits}
 use Rattle.std.specs.Io.KnownBytes.{Appends}
 use Rattle.std.specs.Str.{chars}
@@ -23,9 +24,17 @@ use Rattle.ucdfiles.specs.Tables.{TablesOf, bracket_by, class_by, glyph_by, unit
 use Rattle.bidtests.specs.ClassesFile.{classes_line, classes_verdict}
 use Rattle.bidtests.specs.CharactersFile.{characters_line, characters_findings, characters_verdict}
 use Rattle.bidtests.specs.Verdicts.{Claim, Row, verdict_on}
+use Rattle.bidtests.specs.WorkedClassesFiles.{classes_files_compute}
+use Rattle.bidtests.specs.declared.kind.Kind.{Kind}
+use Rattle.bidtests.specs.declared.kind.Kind.TheVariants as rows_of
 use Rattle.bidtests.specs.declared.verdict.Verdict.TheVariants.{Yes}
+use Rattle.rule_columns.specs.Columns.{columns_of}
+use Rattle.rule_columns.specs.Passes.{rewritten, implicit_of, closers_of}
+use Rattle.explain_row.specs.RowTexts.{row_text}
+use Rattle.explain_row.specs.SoughtRows.{RowView, sought_row}
 use Rattle.requests.specs.ClassWords.{classes_named}
-use Rattle.command_tests.specs.KnownRuns.{alef_line, neutral_explained}
+use Rattle.command_tests.specs.KnownRuns.{alef_line, neutral_explained, neutral_row_explained}
+use Rattle.requests.specs.ExplainedRows.{HasAtLine}
 use Rattle.requests.specs.JudgedFiles.{HasJudged, IsClassesVerdict, IsCharactersVerdict}
 use Rattle.printing.specs.LevelsText.{code_text, levels_text}
 use Rattle.command_tests.specs.MemoryFiles.{IsWhole, Stored, StoredFile, memory_facts, stored_at}
@@ -40,7 +49,7 @@ use Rattle.requests.specs.Outcomes.{IsDone}
 use Rattle.requests.specs.declared.request.FileKind.TheVariants.{Classes, Characters}
 use Rattle.requests.specs.declared.request.Print.TheVariants.{Levels, Reorder}
 use Rattle.requests.specs.declared.request.TableSource.TheVariants.{Folder}
-use Rattle.requests.specs.declared.request.Request.TheVariants.{Text, ExplainClasses, Judge}
+use Rattle.requests.specs.declared.request.Request.TheVariants.{Text, ExplainClasses, ExplainRow, Judge}
 use Rattle.requests.specs.declared.fault.Fault.{Fault}
 use Rattle.requests.specs.declared.outcome.Outcome.{Outcome}
 use Rattle.requests.specs.declared.outcome.Outcome.TheVariants.{Judged, Printed}
@@ -201,6 +210,46 @@ line_of_characters_verdict before after status h =
     let verdict : h.verdict ≡ Yes 1 1 = h.is.2 ∙ ap (characters_verdict standard (unit_by tables)) h.read.0 ∙ character_verdict tables h.is.1 in
     subst (λ (bytes : List ℕ). Appends before after bytes) (ap verdict_text verdict ∙ text_row) h.said.line
 
+-- a standard input of one row, of a neutral
+abbrev pub neutral_bytes : List ℕ
+neutral_bytes = codes "@Levels: 0\n@Reorder: 0\nON; 1\n"
+
+abbrev pub neutral_files : Stored
+neutral_files = record { files = []; input = Some (whole_file [] neutral_bytes) }
+
+-- the row at its third line
+abbrev neutral_view : RowView
+neutral_view = record {
+  claim = record { text = record { class = ON; bracket = No } ∷ []; directions = Auto ∷ []; para_level = None; levels = Some 0 ∷ []; order = 0 ∷ [] };
+  chars = [];
+}
+
+neutral_found : sought_row rows_of.Classes 3 neutral_bytes ≡ Ok neutral_view
+unfolding classes_files_compute
+neutral_found = refl
+
+neutral_told : row_text 3 neutral_view ≡ neutral_row_explained
+unfolding layouts_compute columns_of rewritten implicit_of closers_of digits
+neutral_told = refl
+
+-- nothing stands behind all bytes
+none_behind : (bytes rest : List ℕ) → bytes ≡ bytes ++ rest → rest ≡ []
+none_behind [] rest e = sym e
+none_behind (x ∷ xs) rest e = none_behind xs rest cc
+
+pub row_of_neutral : (number : ℕ) (row : RowView) (before after : Option (List ℕ)) → number ≡ 3
+    → HasAtLine (memory_facts neutral_files) rows_of.Classes number (codes "-") (Ok row) → Appends before after (row_text number row)
+    → Appends before after neutral_row_explained
+row_of_neutral number row before after e h said =
+    let rest = h.begins.0 in
+    let found : sought_row rows_of.Classes number (h.bytes ++ rest) ≡ Ok row =
+    h.sought rest (λ whole. none_behind h.bytes rest (whole.0 ∙ h.begins.1)) in
+    let there : sought_row rows_of.Classes 3 neutral_bytes ≡ Ok row =
+    subst (λ (n : ℕ). sought_row rows_of.Classes n neutral_bytes ≡ Ok row) e
+    (ap (sought_row rows_of.Classes number) h.begins.1 ∙ found) in
+    let is : row ≡ neutral_view = let both = sym there ∙ neutral_found in cc in
+    subst (λ (bytes : List ℕ). Appends before after bytes) (ap₂ row_text e is ∙ neutral_told) said
+
 -- what was done over these files, as a request asks
 pub levels_done : (files : Stored) (folder file : Bor (List ℕ)) (before after : Option (List ℕ)) (outcome : Outcome) → files ≡ alef_files
     → folder.now ≡ codes "t" → file.now ≡ codes "FILE" → IsDone (memory_facts files) before after (Text (Folder folder) Auto file Levels) outcome
@@ -227,6 +276,15 @@ pub verdict_done : (files : Stored) (file : Bor (List ℕ)) (before after : Opti
     → Appends before after (codes "yes: 1 rows, 1 cases\n")
 verdict_done files file before after Printed e g h = absurd h
 verdict_done files file before after (Judged status) e g h = line_of_verdict before after status (rw (e, g) at h)
+
+pub row_done : (files : Stored) (line : NonZeroU64) (file : Bor (List ℕ)) (before after : Option (List ℕ)) (outcome : Outcome) → files ≡ neutral_files
+    → line.value ≡ 3 → file.now ≡ codes "-"
+    → IsDone (memory_facts files) before after (ExplainRow (record { kind = Classes; tables = None; line = line; file = file })) outcome
+    → Appends before after neutral_row_explained
+row_done files line file before after (Judged status) e n g h = absurd h
+row_done files line file before after Printed e n g h =
+    let found = subst (λ (rows : Kind). HasAtLine (memory_facts files) rows line.value file.now (Ok h.row)) h.is h.found in
+    row_of_neutral line.value h.row before after n (rw (e, g) at found) h.said
 
 pub characters_verdict_done : (files : Stored) (folder file : Bor (List ℕ)) (before after : Option (List ℕ)) (outcome : Outcome) → files ≡ character_files
     → folder.now ≡ codes "t" → file.now ≡ codes "FILE" → IsDone (memory_facts files) before after (Judge Characters (Some folder) file) outcome

@@ -13,3 +13,13 @@ neutral_explained =
     ++ codes "0 - ON 0 . . . . . . . . . L . . .\n"
     ++ codes "sequence 0 level 0 sos L eos L: 0\n"
     ++ codes "order 0\n"
+
+-- the row of a file whose third line has this neutral, under auto, whose level and place are claimed to be 0
+abbrev pub neutral_row_explained : List ℕ
+neutral_row_explained =
+    codes "line 3: auto\n"
+    ++ neutral_explained
+    ++ codes "claimed levels: 0\n"
+    ++ codes "defined levels: 0\n"
+    ++ codes "claimed order: 0\n"
+    ++ codes "defined order: 0\n"

@@ -1,11 +1,12 @@
 //! Runs over files in memory, and of a class, whose printed bytes a contract says.
 ghost use Rattle.std.specs.Prelude.{◌≡◌, ◌++◌, codes, true};
-ghost use Rattle.command_tests.specs.KnownRuns.{alef_line, neutral_explained};
+ghost use Rattle.command_tests.specs.KnownRuns.{alef_line, neutral_explained, neutral_row_explained};
 
 use crate::memory_files::{MemoryFiles, whole};
 use requests::performing::perform;
-use requests::request::{FileKind, Print, Request, TableSource};
+use requests::request::{FileKind, Print, Request, SoughtRow, TableSource};
 use std::alloc::Global;
+use std::num::NonZeroU64;
 use units::level::Direction;
 
 /// Prints the levels of a file that holds an alef, and answers whether that was done.
@@ -62,6 +63,23 @@ fn explain_a_neutral(alloc: Global, classes: &str, out: &mut Vec<u8>) -> bool
     perform(alloc, request, &MemoryFiles::new(&[]), out).is_ok()
 }
 
+/// Explains the row at the third line of a standard input, and answers whether that was done.
+fn explain_a_row(alloc: Global, line: NonZeroU64, file: &str, out: &mut Vec<u8>) -> bool
+    requires line { line.value ≡ 3 }
+    requires file { file.now ≡ codes "-" }
+    ensures { result ≡ true → out.new.items ≡ out.old.items ++ neutral_row_explained }
+{
+    let input = whole("", b"@Levels: 0\n@Reorder: 0\nON; 1\n");
+    let files = MemoryFiles::new(&[]).with_input(input);
+    let request = Request::ExplainRow(SoughtRow {
+        kind: FileKind::Classes,
+        tables: None,
+        line,
+        file,
+    });
+    perform(alloc, request, &files, out).is_ok()
+}
+
 /// Judges a standard input of one row, which is right, and answers whether that was done.
 fn judge_a_right_row(alloc: Global, file: &str, out: &mut Vec<u8>) -> bool
     requires { file.now ≡ codes "-" }
@@ -109,6 +127,10 @@ fn prints_what_the_contracts_say(rt: HostRuntime) {
     assert!(rt; print_levels_of_alef(alloc, "t", "FILE", &mut out));
     assert!(rt; print_lines_of_alef(alloc, "t", "FILE", &mut out));
     assert!(rt; explain_a_neutral(alloc, "ON", &mut out));
+    let Some(third) = NonZeroU64::new(3) else {
+        return assert!(rt; false);
+    };
+    assert!(rt; explain_a_row(alloc, third, "-", &mut out));
     assert!(rt; judge_a_right_row(alloc, "-", &mut out));
     assert!(rt; judge_a_right_row_of_characters(alloc, "t", "FILE", &mut out));
     assert_eq!(rt;
@@ -121,6 +143,16 @@ position code class level X W1 W2 W3 W4 W5 W6 W7 N0 N1 N2 I L1
 0 - ON 0 . . . . . . . . . L . . .
 sequence 0 level 0 sos L eos L: 0
 order 0
+line 3: auto
+paragraph 0 level 0: no strong character
+position code class level X W1 W2 W3 W4 W5 W6 W7 N0 N1 N2 I L1
+0 - ON 0 . . . . . . . . . L . . .
+sequence 0 level 0 sos L eos L: 0
+order 0
+claimed levels: 0
+defined levels: 0
+claimed order: 0
+defined order: 0
 yes: 1 rows, 1 cases
 yes: 1 rows, 1 cases
 "
