@@ -5,7 +5,6 @@ use encoded::lookups::EncodedLine;
 use encoded::room::Room;
 use encoded::runs::EncodedRun;
 use lines::breaks::BreakFault;
-use std::alloc::Global;
 use std::process::Abort;
 use std::test::Fail;
 use ucdfiles::tables::Tables;
@@ -146,14 +145,11 @@ const CUT_SHORT: &[u8] = b"\x61\xF1\x80\x80\xE1\x80\xC2\x62\x80\x63\x80\xBF\x64"
 const CUT_SHORT_STARTS: [usize; 11] = [0, 1, 4, 6, 7, 8, 9, 10, 11, 12, 13];
 
 /// Lays out bytes that are no UTF-8, with U+FFFD for what is not.
-fn lays_out_replaced(rt: &impl Abort, alloc: Global, tables: &Tables) -> Result<(), Fail> {
+fn lays_out_replaced(rt: &impl Abort, room: &mut Room, tables: &Tables) -> Result<(), Fail> {
     let limits = Limits::standard();
-    let mut room = Room::with_room(alloc, 13)?;
     room.lay_out_utf8_lossy(tables, CUT_SHORT, Direction::Rtl, &[4, 7], limits)?;
     assert_eq!(rt; room.characters(), 10);
-    for (k, start) in CUT_SHORT_STARTS.iter().enumerate() {
-        assert_eq!(rt; room.offset_of(k), *start);
-    }
+    has_offsets(rt, room, &CUT_SHORT_STARTS);
     assert_eq!(rt; room.layout().line_count(), 3);
     assert_eq!(rt; room.line(1), EncodedLine { start: 4, end: 7 });
     let inside = room.lay_out_utf8_lossy(tables, CUT_SHORT, Direction::Ltr, &[2], limits);
@@ -166,24 +162,24 @@ fn lays_out_replaced(rt: &impl Abort, alloc: Global, tables: &Tables) -> Result<
 #[test]
 fn lays_out_utf8_lossy(rt: HostRuntime) -> Result<(), Fail> {
     let tables = tables(rt.alloc())?;
-    lays_out_replaced(&rt, rt.alloc(), &tables)
+    let mut room = Room::with_room(rt.alloc(), 13)?;
+    lays_out_replaced(&rt, &mut room, &tables)
 }
 
 /// A Hebrew letter, a character of two units, and half of one.
 const UTF16: [u16; 4] = [0x5D0, 0xD83D, 0xDE00, 0xD83D];
 
 /// Lays out such texts in UTF-16.
-fn lays_out_units(rt: &impl Abort, alloc: Global, tables: &Tables) -> Result<(), Fail> {
+fn lays_out_units(rt: &impl Abort, room: &mut Room, tables: &Tables) -> Result<(), Fail> {
     let limits = Limits::standard();
-    let mut room = Room::with_room(alloc, 4)?;
     let strict = room.lay_out_utf16(tables, &UTF16, Direction::Ltr, &[1], limits);
     assert_eq!(rt; strict.err(), Some(EncodedFault::IllFormed(3)));
     let inside = room.lay_out_utf16(tables, &UTF16[..3], Direction::Ltr, &[1, 2], limits);
     assert_eq!(rt; inside.err(), Some(EncodedFault::BreakInside(1)));
     room.lay_out_utf16(tables, &UTF16[..3], Direction::Ltr, &[1], limits)?;
-    has_levels(rt, &room, &[1, 0, 0]);
+    has_levels(rt, room, &[1, 0, 0]);
     room.lay_out_utf16_lossy(tables, &UTF16, Direction::Ltr, &[], limits)?;
-    has_levels(rt, &room, &[1, 0, 0, 0]);
+    has_levels(rt, room, &[1, 0, 0, 0]);
     assert_eq!(rt; room.characters(), 3);
     assert_eq!(rt; room.index_of(2), Some(1));
     Ok(())
@@ -192,5 +188,6 @@ fn lays_out_units(rt: &impl Abort, alloc: Global, tables: &Tables) -> Result<(),
 #[test]
 fn lays_out_utf16(rt: HostRuntime) -> Result<(), Fail> {
     let tables = tables(rt.alloc())?;
-    lays_out_units(&rt, rt.alloc(), &tables)
+    let mut room = Room::with_room(rt.alloc(), 4)?;
+    lays_out_units(&rt, &mut room, &tables)
 }
