@@ -38,6 +38,7 @@ fn has_indices(rt: &impl Abort, room: &Room, characters: &[Option<usize>]) {
 /// Compares where characters begin, from the first one on.
 fn has_offsets(rt: &impl Abort, room: &Room, starts: &[usize]) {
     for (k, start) in starts.iter().enumerate() {
+        assert!(rt; k <= room.characters());
         assert_eq!(rt; room.offset_of(k), *start, "of {k}");
     }
 }
