@@ -6,7 +6,7 @@ use Rattle.std.specs.declared.num.NonZeroU64.{NonZeroU64}
 use Rattle.std.specs.Fmt.{digits}
 use Rattle.std.specs.Io.KnownBytes.{Appends}
 use Rattle.std.specs.Str.{chars}
-use Rattle.std.proofs.Common.{ap, ap₂, inl, inr, lit≤, subst, sym, ◌∙◌}
+use Rattle.std.proofs.Common.{◌++◌, ap, ap₂, inl, inr, lit≤, subst, sym, ◌∙◌}
 use Rattle.units.specs.Layout.{layout_of}
 use Rattle.units.specs.RowWords.{layouts_compute}
 use Rattle.units.specs.Limits.{standard}
