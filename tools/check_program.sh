@@ -129,10 +129,10 @@ is 'order of the longest word of classes' 'order 0' "$(tail -n 1 found_out)"
 is 'status of the longest word of code points' 0 $?
 is 'order of the longest word of code points' 'order 0' "$(tail -n 1 found_out)"
 # As many paragraphs as a text can have bytes for.
-yes a | head -c 16777216 > paragraphs.txt
+yes '' | head -c 16777216 > paragraphs.txt
 "$program" reorder paragraphs.txt > found_out 2> found_err
 is 'status of reorder of many paragraphs' 0 $?
-is 'lines of reorder of many paragraphs' 8388608 "$(wc -l < found_out)"
+is 'lines of reorder of many paragraphs' 16777216 "$(wc -l < found_out)"
 "$program" levels paragraphs.txt 2> found_err | tail -n 1 > found_out
 is 'status of levels of many paragraphs' 0 "${PIPESTATUS[0]}"
 is 'end of levels of many paragraphs' '16777215 000A B 0' "$(cat found_out)"
@@ -194,7 +194,7 @@ printf 'ab\nc\xff\nd\n' > broken.txt
 ends 3 ab 'bidi: broken.txt: not UTF-8' reorder broken.txt
 ends 3 $'paragraph 0 level 0\n0 0061 L 0\n1 0062 L 0\n2 000A B 0' 'bidi: -: not UTF-8' levels - < broken.txt
 ends 3 '' 'bidi: broken.txt: not UTF-8' explain broken.txt
-{ printf 'ab\n'; cat large.txt; } > broken.txt
+{ printf 'ab\n'; head -c 16777217 /dev/zero | tr '\0' a; } > broken.txt
 ends 3 ab 'bidi: cannot read broken.txt: too large' reorder broken.txt
 rm broken.txt
 "$program" reorder bytes.txt > /dev/full 2> found_err
@@ -204,16 +204,17 @@ is 'standard error of bytes that are not UTF-8 to a full disk' 'bidi: bytes.txt:
 # A pipe shows a line before the next one is written to the other pipe.
 mkfifo written shown
 for word in reorder levels; do
-    "$program" "$word" - < written > shown 2> found_err &
+    timeout 60 "$program" "$word" - < written > shown 2> found_err &
     exec 3> written 4< shown
-    printf 'ab\n' >&3
+    (printf 'ab\n') >&3
     IFS= read -r -t 20 first <&4
-    printf 'c\n' >&3
+    (printf 'c\n') >&3
     exec 3>&-
     rest=$(cat <&4)
     exec 4<&-
     wait $!
     is "status of $word in a pipe" 0 $?
+    is "standard error of $word in a pipe" '' "$(cat found_err)"
     case $word in
         reorder) is 'the first line of reorder in a pipe' ab "$first"; is 'the rest of it' c "$rest" ;;
         levels)
@@ -260,8 +261,9 @@ ends 0 'yes: 3 rows, 3 cases' '' judge --kind characters --tables t rows.txt
 printf x >> line.txt
 ends 3 '' 'bidi: line.txt: line 1: too long' rows --of line.txt
 
-# Rows of each form of hard texts and of each kind, by the tables that are built in, which the judge says yes to by those
-# of Unicode 15.0, where they are installed. Among 20 texts some pass the greatest depth, and the most open brackets.
+# Rows of each form of hard texts and of each kind, by the tables that are built in, which the judge says yes to by
+# those of Unicode 15.0, where they are installed. Among 20 texts some pass the greatest depth, and the most open
+# brackets.
 for form in nest marks numbers isolates separators; do
     "$program" rows --form "$form" --count 20 --length 300..600 --directions 'ltr auto-rtl' > rows.txt 2> found_err
     is "status of rows of $form" 0 $?
@@ -293,8 +295,8 @@ ends 3 '' 'bidi: cannot read t: a folder' report --kind classes t
 "$program" report --kind classes --most many faults.txt > found_out 2> found_err
 is 'status of a word that is no number of wrong cases' 2 $?
 
-# A thousand faults, one in a row of each text of a file that is right: a level of two more, a level too many, a position
-# left out. The report finds each at its place, and no other.
+# A thousand faults, one in a row of each text of a file that is right: a level of two more, a level too many, a
+# position left out. The report finds each at its place, and no other.
 "$program" rows --form random --seed 9 --count 1000 --alphabet 'L R AL EN ON' --length 1..9 > right.txt
 awk -v planted=planted.txt '
     function direction(bits) { return bits == 1 ? "auto" : bits == 2 ? "ltr" : "rtl" }
@@ -348,7 +350,7 @@ ends 0 $'bidi 1.0.0 (rules P1 to L2 and L4 of UAX #9, Unicode 15.0)\ntables of U
 for words in 'judge --kind classes yes.txt' 'judge --kind classes no.txt' 'report --kind classes yes.txt' \
     'report --kind classes --most 1000 wrong.txt' 'levels --tables t text.txt' \
     'reorder --tables t text.txt' 'explain --tables t text.txt' 'explain --classes R' 'explain --codes 05D0' \
-    'explain --row 3 --kind classes row.txt' \
+    'explain --row 3 --kind classes row.txt' 'rows --of text.txt --tables t' \
     'rows --form exhaustive --alphabet R --length 1' '--help'; do
     # shellcheck disable=SC2086
     "$program" $words > /dev/full 2> found_err
@@ -395,6 +397,8 @@ if [ -n "$found" ]; then
         "$program" explain --row "$last" $words > found_out 2> found_err
         is "status of line $last, $words" 0 $?
         is "line $last, $words" "line $last: " "$(grep -o -m 1 '^line [0-9]*: ' found_out)"
+        is "claimed levels of line $last, $words" "$(grep -c "^line $last: " found_out)" \
+            "$(grep -c '^claimed levels:' found_out)"
         is "what is defined, $words" "$(grep '^claimed' found_out | sed 's/^claimed//')" \
             "$(grep '^defined' found_out | sed 's/^defined//')"
     done

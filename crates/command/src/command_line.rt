@@ -58,7 +58,7 @@ fn explain_command<'a>(alloc: Global) -> Result<Command<'a>, AllocError>
         .long_about(help::EXPLAIN_LONG_ABOUT)
         .after_help(help::EXPLAIN_EXAMPLE)
         .override_usage(help::EXPLAIN_USAGE)
-        .arg(tables_argument(alloc, help::TABLES_HELP))?
+        .arg(tables_argument(alloc, help::EXPLAIN_TABLES_HELP))?
         .arg(classes_argument(alloc))?
         .arg(codes_argument(alloc))?
         .arg(row_argument(alloc))?

@@ -3,17 +3,18 @@
 /// What `bidi` does, in a sentence.
 pub const BIDI_ABOUT: &str =
     "Lays out texts by the Unicode Bidirectional Algorithm (UAX #9), shows what each of its rules
-does to a text, judges the conformance files and reports on them, and prints such files";
+does to a text or a row, judges the conformance files and reports on them, and prints such files";
 
 /// What `bidi` does, and with which status it ends.
 pub const BIDI_LONG_ABOUT: &str =
     "Lays out texts by the Unicode Bidirectional Algorithm (UAX #9), shows what each of
-its rules does to a text, judges the conformance files and reports on them, and prints
-such files of texts over an alphabet.
+its rules does to a text or to a row of a file, judges the conformance files and reports
+on them, and prints such files, of hard texts or of the lines of a text.
 
-Ends with status 0 where it is done or the verdict is yes, 1 where the verdict is no,
-2 where the command line is refused, and 3 where a file can't be read, a line of a
-table is faulty, a text is not UTF-8, a write fails or memory is refused.";
+Ends with status 0 where it is done or the verdict is yes, 1 where the verdict is no or
+a report is not right, 2 where the command line is refused, tables are needed, a line is
+no row or words make no rows, and 3 where a file can't be read, a line of a table is
+faulty, a text is not UTF-8, a write fails or memory is refused.";
 
 /// What stands behind the name in the text of the version: the version, the rules that are followed, the edition whose
 /// tables are built in, and the kit that all is proved with.
@@ -32,6 +33,11 @@ pub const TABLES_HELP: &str =
     "The folder of DerivedBidiClass.txt, BidiBrackets.txt and BidiMirroring.txt; without it the tables of Unicode \
      15.0 that are built in are used";
 
+/// What `--tables` names, of `explain`.
+pub const EXPLAIN_TABLES_HELP: &str =
+    "The folder of DerivedBidiClass.txt, BidiBrackets.txt and BidiMirroring.txt; without it the tables of Unicode \
+     15.0 that are built in are used, but for --row, where --kind characters needs it";
+
 /// What `--tables` names, where it is needed for files of characters.
 pub const JUDGE_TABLES_HELP: &str =
     "The folder of DerivedBidiClass.txt, BidiBrackets.txt and BidiMirroring.txt, of the edition of the test file";
@@ -42,7 +48,8 @@ pub const LEVELS_LONG_ABOUT: &str = "Prints the levels of a text, in UTF-8.
 For each paragraph prints a line `paragraph K level P`, K counted from 0, and for
 each of its positions a line `POSITION CODE CLASS LEVEL`: the position in the text,
 counted from 0, the code point, the class, and the level after rule L1, or `x` where
-rule X9 removes the position.
+rule X9 removes the position. A paragraph is printed as soon as its end is read, and
+stands printed where what is behind it can't be read or is not UTF-8.
 
 Ends with status 0, 2 where the command line is refused, and 3 where a file can't be
 read, a line of a table is faulty, the text is not UTF-8, a write fails or memory is
@@ -57,7 +64,8 @@ pub const REORDER_LONG_ABOUT: &str = "Prints the lines of a text, in UTF-8, as t
 
 Each paragraph is a line, and with --columns each N characters of it are one. A line
 is printed from left to right, with the mirror images of rule L4, and without what
-rule X9 removes and without paragraph separators.
+rule X9 removes and without paragraph separators. A paragraph is printed as soon as its
+end is read, and stands printed where what is behind it can't be read or is not UTF-8.
 
 Ends with status 0, 2 where the command line is refused, and 3 where a file can't be
 read, a line of a table is faulty, the text is not UTF-8, a write fails or memory is

@@ -148,7 +148,7 @@ fn read_text<S: ByteSource, W: Write>(
 
 /// Reads the source to its end and writes the text that it hands out, in UTF-8, in this form (`printed_as`): each
 /// paragraph is written and handed on as soon as the character that ends it is read, and the last one at the end. The
-/// source may hand out 16,777,216 bytes. Read are 4,096 bytes at a time; the memory that is taken, some 80 bytes a
+/// source may hand out 16,777,216 bytes. Read are 4,096 bytes at a time; the memory that is taken, some 90 bytes a
 /// character, is that of the longest paragraph.
 ///
 /// The faults are `Read` where the source has failed, `NotUtf8` where it has ended behind bytes that are not UTF-8,

@@ -45,7 +45,7 @@ IsDone files before after (RowsOf asked) Printed = HasPrintedLines files asked b
 IsDone files before after _ _ = ⊥
 
 -- what is printed while a file is read breaks off, behind what was printed by then: a text where a read fails or where it
--- is not UTF-8, a report where a read fails; no other request prints anything before all is read
+-- is not UTF-8, a report where a read fails; all others print nothing before what they need is read
 abbrev pub BreaksOff : FileFacts → Option (List ℕ) → Option (List ℕ) → Request → Fault → Type 0
 BreaksOff files before after (Text source direction file Levels) fault =
     TextBreaksOff files form.Levels direction source file.now before after fault

@@ -7,8 +7,8 @@ ghost use Rattle.requests.specs.Outcomes.{outcome_status};
 pub enum Outcome {
     /// A file was judged and its verdict printed, or reported on: the exit status of the verdict on it.
     Judged(u8),
-    /// A text was printed, by its levels or as it is shown, or what each rule does to a text, to classes or to a row, or
-    /// rows.
+    /// A text was printed, by its levels or as it is shown, or what each rule does to a text, to classes or to a row,
+    /// or rows.
     Printed,
 }
 

@@ -78,9 +78,9 @@ fn explain_row_as<'a, F: Files, W: Write>(
 }
 
 /// Explains the row that is sought: under each direction that it names, what each rule does to its text, and what it
-/// claims beside what is defined. Where tables are needed and none are named, nothing is opened. The faults are those of
-/// `read_tables`, that FILE can't be opened or read, that a line up to the one that is sought is malformed, that this is
-/// no row, refused memory, and a failed write.
+/// claims beside what is defined. Where tables are needed and none are named, nothing is opened. The faults are those
+/// of `read_tables`, that FILE can't be opened or read, that a line up to the one that is sought is malformed, that
+/// this is no row, refused memory, and a failed write.
 pub fn explain_row<'a, F: Files, W: Write>(
     alloc: Global,
     sought: SoughtRow<'a>,
