@@ -10,9 +10,9 @@ of which these functions are checked, and what they call, in one check. An edit 
 function that it changes is open, by a proof file of that function or by the check's own search. What was not refused
 so, as where the function waits for a wrong one that it calls, goes into a further round, and then is tried singly: in
 the same way, and at last over the whole crate, as rt ci does. A function that no edit of a round changes must be proved
-where it is checked, and at the end the right code of what the last edit changed, over what all rounds kept: so what was
-refused was refused for its code. The right code of all else is rt ci's to prove. For each edit a line is printed, and
-the last line is 'N passed, M failed'; the status is 1 where one failed.
+where it is checked, and at the end the right code of what the last edit changed, over what all rounds kept, which shows
+that this serves. That the right code of all else is proved, rt ci or rt check has to have said before. For each edit a
+line is printed, and the last line is 'N passed, M failed'; the status is 1 where one failed.
 
 A crate is checked over a copy of what rt check kept of it in out/, or from nothing. The libraries below are those that
 rt check or rt lib built, or those that rt ci left; where neither fit the files, rt builds them. As many crates are
