@@ -108,8 +108,8 @@ program_of_bidi() {
     rows 0 explain --tables "$work/t" "$work/text"
     rows 0 explain --classes 'R ON LRE L'
     rows 0 explain --tables "$work/t" --codes '05D0 0028'
-    rows 0 explain --row 3 --kind classes "$work/classes"
-    rows 0 explain --row 1 --kind characters --tables "$work/t" "$work/characters"
+    rows front explain --row 3 --kind classes "$work/classes"
+    rows front explain --row 1 --kind characters --tables "$work/t" "$work/characters"
     rows 1 judge --kind classes "$work/classes"
     rows 1 report --kind classes "$work/classes"
     rows 0 judge --kind characters --tables "$work/t" "$work/characters"
