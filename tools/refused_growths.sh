@@ -7,7 +7,7 @@
 # usage: tools/refused_growths.sh [CRATE ..]    (of table_tests, file_tests, engine_tests, layout_tests, text_tests,
 #        command_tests, bidi; with none all of them)
 #
-# It runs what `rt ci` leaves in crates/*/out, or `rt test` and `rt run` in a crate's folder, and takes some seconds. It
+# It runs what `rt ci` leaves in crates/*/out, or `rt test` and `rt run` in a crate's folder, and takes two minutes. It
 # needs a C compiler (CC, else cc), and ends with 2 where that or a program is missing.
 set -u
 tools=$(cd "$(dirname "$0")" && pwd)
