@@ -23,19 +23,19 @@ fn is_shown(
 }
 
 /// A Hebrew letter and a bracket, broken before a Latin letter and a Hebrew one.
-fn shows_two_lines(rt: &impl Abort, alloc: Global, tables: &Tables) -> Result<(), Fail> {
-    let words = "\u{5D0}<a\u{5D1}";
-    let text = Text::lay_out(alloc, tables, words, Direction::Rtl, &[2])?;
+fn shows_two_lines(rt: &impl Abort, alloc: Global, text: &Text<'_>) -> Result<(), Fail> {
     assert_eq!(rt; text.chars(), ['\u{5D0}', '<', 'a', '\u{5D1}'].as_slice());
     assert_eq!(rt; text.layout().line_count(), 2);
-    is_shown(rt, alloc, &text, 0, ">\u{5D0}")?;
-    is_shown(rt, alloc, &text, 1, "\u{5D1}a")
+    is_shown(rt, alloc, text, 0, ">\u{5D0}")?;
+    is_shown(rt, alloc, text, 1, "\u{5D1}a")
 }
 
 #[test]
 fn shows_each_line(rt: HostRuntime) -> Result<(), Fail> {
     let tables = tables(rt.alloc())?;
-    shows_two_lines(&rt, rt.alloc(), &tables)
+    let words = "\u{5D0}<a\u{5D1}";
+    let text = Text::lay_out(rt.alloc(), &tables, words, Direction::Rtl, &[2])?;
+    shows_two_lines(&rt, rt.alloc(), &text)
 }
 
 /// Compares why a text of two characters is refused with these breaks.
@@ -61,6 +61,19 @@ fn letters(alloc: Global, count: usize) -> Result<String, Memory> {
     Ok(text)
 }
 
+/// Lays out these words in two lines, of which the second one begins here and is `aa`.
+fn ends_in_two(
+    rt: &impl Abort,
+    alloc: Global,
+    tables: &Tables,
+    words: &str,
+    at: usize,
+) -> Result<(), Fail> {
+    let text = Text::lay_out(alloc, tables, words, Direction::Auto, &[at])?;
+    assert_eq!(rt; text.layout().line_count(), 2);
+    is_shown(rt, alloc, &text, 1, "aa")
+}
+
 /// Lays out a text of so many characters in two lines, of which the second one has two characters.
 fn lays_out_long(
     rt: &impl Abort,
@@ -70,9 +83,7 @@ fn lays_out_long(
 ) -> Result<(), Fail> {
     assert!(rt; count > 2);
     let words = letters(alloc, count)?;
-    let text = Text::lay_out(alloc, tables, &words, Direction::Auto, &[count - 2])?;
-    assert_eq!(rt; text.layout().line_count(), 2);
-    is_shown(rt, alloc, &text, 1, "aa")
+    ends_in_two(rt, alloc, tables, &words, count - 2)
 }
 
 #[test]
