@@ -39,29 +39,33 @@ fn line_feeds_in(bytes: &[u8]) -> usize {
     bytes.iter().filter(|byte| **byte == b'\n').count()
 }
 
-/// The file of a text may have 16,777,216 bytes. Where it has one more, what is printed are the paragraphs that have
-/// ended before.
+/// Compares what was printed of a text of one paragraph.
+fn assert_whole(rt: &impl Abort, out: &[u8]) {
+    assert_eq!(rt; out.len(), 16_777_217);
+    assert_eq!(rt; line_feeds_in(out), 1);
+    assert_eq!(rt; out.last(), Some(&b'\n'));
+}
+
+/// The file of a text may have 16,777,216 bytes.
 #[test]
 fn a_text_of_as_many_bytes_as_allowed_is_read(rt: HostRuntime) -> Result<(), Fail> {
     let alloc = rt.alloc();
     let text = longest_text(alloc, b"abcd")?;
     let mut out = Vec::with_capacity(alloc, 16_777_217)?;
     assert_reorder(&rt, alloc, &text, &mut out, 0, b"");
-    assert_eq!(rt; out.len(), 16_777_217);
-    assert_eq!(rt; line_feeds_in(&out), 1);
-    assert_eq!(rt; out.last(), Some(&b'\n'));
+    assert_whole(&rt, &out);
+    Ok(())
+}
 
+/// Where the file of a text has one byte more, what is printed are the paragraphs that have ended before.
+#[test]
+fn a_text_of_a_byte_more_is_read_up_to_it(rt: HostRuntime) -> Result<(), Fail> {
+    let alloc = rt.alloc();
     let mut text = longest_text(alloc, b"abc\n")?;
     text.push(b'a')?;
-    out.clear();
-    assert_reorder(
-        &rt,
-        alloc,
-        &text,
-        &mut out,
-        3,
-        b"bidi: cannot read FILE: too large\n",
-    );
+    let mut out = Vec::new(alloc);
+    let line = b"bidi: cannot read FILE: too large\n";
+    assert_reorder(&rt, alloc, &text, &mut out, 3, line);
     assert_eq!(rt; out.as_slice(), b"abc\n".as_slice());
     Ok(())
 }
