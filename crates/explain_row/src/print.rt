@@ -49,10 +49,7 @@ fn print_level_line<W: Write>(w: &mut W, name: &str, level: Option<ParaLevel>) -
 fn first_level(paras: &[ParaLevel]) -> Option<ParaLevel>
     ensures { option_map level_of_para result ≡ first_of (map level_of_para paras.now) }
 {
-    match paras {
-        [] => None,
-        [first, ..] => Some(*first),
-    }
+    paras.first().copied()
 }
 
 /// Writes the level that is claimed of the first paragraph, and the one that is defined.

@@ -16,6 +16,6 @@ pub record KeepsRowRoom (old new : RowRoom) : Type 0 where
   pub units : length new.units.items ≡ length old.units.items
 
 -- what a fault leaves of what was written before: where memory is refused, all of it and no more
-abbrev pub FailsToPrint : Option (List ℕ) → Option (List ℕ) → PrintFault → Type 0
-FailsToPrint before after Memory = after ≡ before
-FailsToPrint before after Write = Unit {0}
+abbrev pub FaultLeaves : Option (List ℕ) → Option (List ℕ) → PrintFault → Type 0
+FaultLeaves before after Memory = after ≡ before
+FaultLeaves before after Write = Unit {0}

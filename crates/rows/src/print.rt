@@ -5,7 +5,7 @@ ghost use Rattle.std.specs.List.{All};
 ghost use Rattle.units.specs.Limits.{standard};
 ghost use Rattle.rows.specs.Letters.{IsLetterOf};
 ghost use Rattle.rows.specs.RowTexts.{cases_text};
-ghost use Rattle.rows.specs.Rooms.{FailsToPrint, HasRowRoom, KeepsRowRoom};
+ghost use Rattle.rows.specs.Rooms.{FaultLeaves, HasRowRoom, KeepsRowRoom};
 ghost use Rattle.rows.specs.Exhaustive.{cases_in, cases_of_length, cases_of_number, CanBeCounted};
 ghost use Rattle.rows.specs.Judged.{JudgeSaysYes};
 
@@ -81,7 +81,7 @@ fn print_lengths<W: Write>(
     requires row { texts.now.greatest ≤ length row.old }
     ensures printed { OnOk result (Appends (W.contents w.old) (W.contents w.new)
         (cases_text standard kind.entry (cases_in texts.now directions.now))) }
-    ensures fault { IfErr result (FailsToPrint (W.contents w.old) (W.contents w.new)) }
+    ensures fault { IfErr result (FaultLeaves (W.contents w.old) (W.contents w.new)) }
 {
     let alphabet = texts.alphabet();
     for len in texts.least()..texts.greatest() + 1 {
@@ -107,7 +107,7 @@ pub fn print_exhaustive<W: Write>(
         (cases_text standard kind.entry (cases_in texts.now directions.now))) }
     ensures right { All (IsLetterOf kind.entry) texts.now.alphabet
         → JudgeSaysYes standard kind.entry (cases_in texts.now directions.now) }
-    ensures fault { IfErr result (FailsToPrint (W.contents w.old) (W.contents w.new)) }
+    ensures fault { IfErr result (FaultLeaves (W.contents w.old) (W.contents w.new)) }
 {
     let mut row = letters_for(alloc, texts.greatest())?;
     let mut room = room_for_rows(alloc, texts.greatest())?;

@@ -5,7 +5,7 @@ ghost use Rattle.std.specs.List.{All};
 ghost use Rattle.units.specs.Limits.{standard};
 ghost use Rattle.rows.specs.Letters.{IsLetterOf};
 ghost use Rattle.rows.specs.RowTexts.{IsRowText, cases_text, longest_row};
-ghost use Rattle.rows.specs.Rooms.{FailsToPrint, HasRowRoom, KeepsRowRoom};
+ghost use Rattle.rows.specs.Rooms.{FaultLeaves, HasRowRoom, KeepsRowRoom};
 ghost use Rattle.rows.specs.Judged.{JudgeSaysYes};
 ghost use Rattle.rows.specs.TextLines.{cases_of_line, cases_of_text, first_long_line, kind_of, letter_named};
 
@@ -72,7 +72,7 @@ fn print_each_line<W: Write>(
         (cases_text standard (kind_of naming.entry) (cases_of_text naming.entry directions.now text.now))) }
     ensures right { OnOk result
         (JudgeSaysYes standard (kind_of naming.entry) (cases_of_text naming.entry directions.now text.now)) }
-    ensures fault { IfErr result (FailsToPrint (W.contents w.old) (W.contents w.new)) }
+    ensures fault { IfErr result (FaultLeaves (W.contents w.old) (W.contents w.new)) }
 {
     let mut left = Some(text);
     while let Some(lines) = left {
@@ -103,7 +103,7 @@ pub fn print_lines<W: Write>(
         (cases_text standard (kind_of naming.entry) (cases_of_text naming.entry directions.now text.now))) }
     ensures right { OnOk result
         (JudgeSaysYes standard (kind_of naming.entry) (cases_of_text naming.entry directions.now text.now)) }
-    ensures fault { IfErr result (FailsToPrint (W.contents w.old) (W.contents w.new)) }
+    ensures fault { IfErr result (FaultLeaves (W.contents w.old) (W.contents w.new)) }
 {
     let mut row = letters_for(alloc, LONGEST_ROW)?;
     let mut room = room_for_rows(alloc, LONGEST_ROW)?;

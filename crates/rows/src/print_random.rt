@@ -5,7 +5,7 @@ ghost use Rattle.std.specs.List.{All};
 ghost use Rattle.units.specs.Limits.{standard};
 ghost use Rattle.rows.specs.Letters.{IsLetterOf};
 ghost use Rattle.rows.specs.RowTexts.{cases_text};
-ghost use Rattle.rows.specs.Rooms.{FailsToPrint, HasRowRoom, KeepsRowRoom};
+ghost use Rattle.rows.specs.Rooms.{FaultLeaves, HasRowRoom, KeepsRowRoom};
 ghost use Rattle.rows.specs.Random.{cases_drawn, cases_of_draw};
 ghost use Rattle.rows.specs.Judged.{JudgeSaysYes};
 
@@ -55,7 +55,7 @@ fn print_draws<W: Write>(
     requires row { texts.now.greatest ≤ length row.old }
     ensures printed { OnOk result (Appends (W.contents w.old) (W.contents w.new)
         (cases_text standard kind.entry (cases_drawn texts.now directions.now))) }
-    ensures fault { IfErr result (FailsToPrint (W.contents w.old) (W.contents w.new)) }
+    ensures fault { IfErr result (FaultLeaves (W.contents w.old) (W.contents w.new)) }
 {
     for number in 0..texts.count() {
         print_draw(w, room, kind, texts, directions, number, row)?;
@@ -79,7 +79,7 @@ pub fn print_random<W: Write>(
         (cases_text standard kind.entry (cases_drawn texts.now directions.now))) }
     ensures right { All (IsLetterOf kind.entry) texts.now.alphabet
         → JudgeSaysYes standard kind.entry (cases_drawn texts.now directions.now) }
-    ensures fault { IfErr result (FailsToPrint (W.contents w.old) (W.contents w.new)) }
+    ensures fault { IfErr result (FaultLeaves (W.contents w.old) (W.contents w.new)) }
 {
     let mut row = letters_for(alloc, texts.greatest())?;
     let mut room = room_for_rows(alloc, texts.greatest())?;
