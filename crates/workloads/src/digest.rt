@@ -1,0 +1,78 @@
+//! A digest of results.
+
+use units::level::Level;
+
+/// Two sums over all that was added, of which the second depends on its order, and how much it was.
+#[derive(Clone, Copy)]
+pub struct Digest {
+    count: u64,
+    first: u64,
+    second: u64,
+}
+
+impl Digest {
+    /// Of nothing.
+    pub fn new() -> Digest {
+        Digest {
+            count: 0,
+            first: 0,
+            second: 0,
+        }
+    }
+
+    /// Adds a number.
+    pub fn add(&mut self, number: u64) {
+        self.count = self.count.wrapping_add(1);
+        self.first = self.first.wrapping_add(number).wrapping_add(1);
+        self.second = self.second.wrapping_add(self.first);
+    }
+
+    /// Adds a size or a position.
+    pub fn add_size(&mut self, size: usize) {
+        self.add(size as u64);
+    }
+
+    /// Adds positions.
+    pub fn add_sizes(&mut self, sizes: &[usize]) {
+        let mut digest = *self;
+        for size in sizes {
+            digest.add_size(*size);
+        }
+        *self = digest;
+    }
+
+    /// Adds a level, or that there is none.
+    pub fn add_level(&mut self, level: Option<Level>) {
+        match level {
+            Some(level) => self.add(u64::from(level.get())),
+            None => self.add(255),
+        }
+    }
+
+    /// Adds levels.
+    pub fn add_levels(&mut self, levels: &[Option<Level>]) {
+        let mut digest = *self;
+        for level in levels {
+            digest.add_level(*level);
+        }
+        *self = digest;
+    }
+
+    /// Adds bytes, eight at a time.
+    pub fn add_bytes(&mut self, bytes: &[u8]) {
+        let (words, rest) = bytes.as_chunks::<8>();
+        let mut digest = *self;
+        for word in words {
+            digest.add(u64::from_le_bytes(*word));
+        }
+        *self = digest;
+        for byte in rest {
+            self.add(u64::from(*byte));
+        }
+    }
+
+    /// How much was added, and the sums.
+    pub fn parts(&self) -> (u64, u64, u64) {
+        (self.count, self.first, self.second)
+    }
+}

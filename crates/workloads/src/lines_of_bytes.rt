@@ -1,0 +1,158 @@
+//! Lines in UTF-8 laid out as a terminal or an editor does it: a line is laid out by itself, shown run by run, and the
+//! cursor is taken to some of its bytes.
+
+use crate::digest::Digest;
+use crate::documents::tables;
+use crate::script::SCRIPTS;
+use crate::text_maker::TextMaker;
+use encoded::room::Room;
+use encoded::runs::EncodedRun;
+use std::alloc::Global;
+use std::io;
+use ucdfiles::tables::Tables;
+use units::level::{Direction, Level, ParaLevel};
+use units::limits::Limits;
+
+/// The most bytes of a line, and the most characters and runs.
+const MOST_BYTES: usize = 16_384;
+
+/// What is used again and again.
+#[derive(Drop)]
+struct Editor {
+    room: Room,
+    order: Vec<usize>,
+    runs: Vec<EncodedRun>,
+}
+
+impl Editor {
+    fn new(room: Room, order: Vec<usize>, runs: Vec<EncodedRun>) -> Editor {
+        Editor { room, order, runs }
+    }
+
+    /// Tells the only line from left to right, by runs and by characters.
+    fn tell(&mut self, digest: &mut Digest) {
+        let layout = self.room.layout();
+        if layout.line_count() == 0 {
+            return;
+        }
+        let para_level = layout.para_levels().first().copied();
+        let para_level = para_level.unwrap_or(ParaLevel::Zero);
+        let runs = self.room.write_runs(0, para_level, &mut self.runs);
+        for run in self.runs.iter().take(runs) {
+            digest.add_size(run.start);
+            digest.add_size(run.end);
+            digest.add_level(Some(run.level));
+        }
+        let shown = self.room.write_order(0, &mut self.order);
+        digest.add_sizes(self.order.get(..shown).unwrap_or(&[]));
+    }
+
+    /// Takes the cursor to a byte, and tells the character there and its level.
+    fn move_to(&self, at: usize, digest: &mut Digest) {
+        if let Some(index) = self.room.index_of(at) {
+            digest.add_size(index);
+            digest.add_level(self.room.level_at(at));
+        }
+    }
+
+    /// Lays a line out and tells what is shown, and then what stands at some of its bytes.
+    fn edit(
+        &mut self,
+        tables: &Tables,
+        line: &str,
+        maker: &mut TextMaker,
+        digest: &mut Digest,
+    ) -> io::Result<()> {
+        let bytes = line.as_bytes();
+        let limits = Limits::standard();
+        let Ok(()) = self
+            .room
+            .lay_out_utf8(tables, bytes, Direction::Auto, &[], limits)
+        else {
+            return Err(io::ErrorKind::InvalidData.into());
+        };
+        self.tell(digest);
+        for _ in 0..4 {
+            self.move_to(maker.below(bytes.len()), digest);
+        }
+        Ok(())
+    }
+}
+
+/// Makes a line, of which each script has some, in place of what was there.
+fn make(maker: &mut TextMaker, number: usize, line: &mut String) -> io::Result<()> {
+    line.clear();
+    let count = 2 + maker.below(24);
+    maker.push_words(SCRIPTS[number / 64 % 8], count, line)
+}
+
+/// A run, of which lists are made.
+fn no_run() -> io::Result<EncodedRun> {
+    match Level::new(0) {
+        Some(level) => Ok(EncodedRun {
+            start: 0,
+            end: 0,
+            level,
+            shown: 0,
+        }),
+        None => Err(io::ErrorKind::InvalidData.into()),
+    }
+}
+
+/// Room for lines.
+fn room(alloc: Global) -> io::Result<Room> {
+    Room::with_room(alloc, MOST_BYTES).map_err(|_| io::ErrorKind::OutOfMemory.into())
+}
+
+/// Lays out so many lines one by one.
+fn edit_each(
+    tables: &Tables,
+    count: usize,
+    maker: &mut TextMaker,
+    line: &mut String,
+    editor: &mut Editor,
+) -> io::Result<Digest> {
+    let mut digest = Digest::new();
+    for number in 0..count {
+        make(maker, number, line)?;
+        editor.edit(tables, line.as_str(), maker, &mut digest)?;
+    }
+    Ok(digest)
+}
+
+/// The same, with lists for their orders and runs.
+fn edit_with(
+    tables: &Tables,
+    count: usize,
+    maker: &mut TextMaker,
+    line: &mut String,
+    order: Vec<usize>,
+    runs: Vec<EncodedRun>,
+    room: Room,
+) -> io::Result<Digest> {
+    let mut editor = Editor::new(room, order, runs);
+    edit_each(tables, count, maker, line, &mut editor)
+}
+
+/// Lays out so many lines one by one, by these tables.
+fn edit_lines(
+    alloc: Global,
+    tables: &Tables,
+    count: usize,
+    maker: &mut TextMaker,
+    line: &mut String,
+) -> io::Result<Digest> {
+    let run = no_run()?;
+    let order = Vec::from_elem(alloc, 0, MOST_BYTES)?;
+    let runs = Vec::from_elem(alloc, run, MOST_BYTES)?;
+    let room = room(alloc)?;
+    edit_with(tables, count, maker, line, order, runs, room)
+}
+
+/// Lays out so many lines one by one.
+pub fn lay_out_lines(alloc: Global, count: usize, seed: u64) -> io::Result<Digest> {
+    let tables = tables(alloc)?;
+    let mut maker = TextMaker::new(seed, 2);
+    let mut line = String::new(alloc);
+    edit_lines(alloc, &tables, count, &mut maker, &mut line)
+}

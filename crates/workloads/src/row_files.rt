@@ -1,0 +1,130 @@
+//! Test files as makers of engines use them: rows of hard texts are written with what the rules give, and the files are
+//! judged, or reported on, some of them by other limits, so that rows are wrong.
+
+use crate::digest::Digest;
+use crate::documents::tables;
+use bidtests::judge::Judge;
+use bidtests::kind::Kind;
+use bidtests::verdict_line::print_verdict;
+use report::print::print_report;
+use report::report::Report;
+use report::terms::Terms;
+use rows::form::Form;
+use rows::letter::Letter;
+use rows::letters::{character_letters, class_letters};
+use rows::print_random::print_random;
+use rows::random::Random;
+use std::alloc::Global;
+use std::io;
+use ucdfiles::tables::Tables;
+use units::level::Direction;
+use units::limits::Limits;
+use units::slice_source::SliceSource;
+
+/// How many texts a file has.
+const TEXTS: usize = 400;
+
+/// The forms of hard texts.
+const FORMS: [Form; 6] = [
+    Form::Nest,
+    Form::Brackets,
+    Form::Marks,
+    Form::Numbers,
+    Form::Isolates,
+    Form::Separators,
+];
+
+const DIRECTIONS: [Direction; 3] = [Direction::Auto, Direction::Ltr, Direction::Rtl];
+
+/// The memory that was refused, or what else went wrong, as a fault of a stream.
+fn refused() -> io::Error {
+    io::ErrorKind::OutOfMemory.into()
+}
+
+/// The letters of a form, of a kind.
+fn letters_of(alloc: Global, kind: Kind<'_>, form: Form) -> io::Result<Vec<Letter>> {
+    let letters = match kind {
+        Kind::Classes => class_letters(alloc, form.classes()),
+        Kind::Characters(tables) => character_letters(alloc, tables, form.characters()),
+    };
+    letters.map_err(|_| refused())
+}
+
+/// Writes a file of this kind of texts of this form, in place of what was there. There are no brackets among classes,
+/// so the file is empty then.
+fn write_file(
+    alloc: Global,
+    kind: Kind<'_>,
+    form: Form,
+    seed: u64,
+    file: &mut Vec<u8>,
+) -> io::Result<()> {
+    file.clear();
+    let letters = letters_of(alloc, kind, form)?;
+    let Ok(texts) = Random::new(&letters, 1, 48, seed, TEXTS) else {
+        return Ok(());
+    };
+    print_random(alloc, file, kind, &texts, &DIRECTIONS).map_err(|_| refused())
+}
+
+/// Judges a file that comes in pieces, and adds the line of the verdict.
+fn judge(alloc: Global, kind: Kind<'_>, file: &[u8], told: &mut Vec<u8>) -> io::Result<()> {
+    let judge = match kind {
+        Kind::Classes => Judge::for_classes(alloc),
+        Kind::Characters(tables) => Judge::for_characters(alloc, tables),
+    };
+    let mut judge = judge.map_err(|_| refused())?;
+    for piece in file.chunks(4_096) {
+        judge.feed(piece);
+    }
+    print_verdict(told, &judge.finish())
+}
+
+/// Reports on a file by other limits, and adds the report.
+fn report_on(alloc: Global, kind: Kind<'_>, file: &[u8], told: &mut Vec<u8>) -> io::Result<()> {
+    let limits = Limits::new(6, 3).map_err(|_| refused())?;
+    let report = Report::new(alloc, kind, Terms::strict(limits)).map_err(|_| refused())?;
+    let mut source = SliceSource::new(file);
+    match print_report(told, report, &mut source, 20) {
+        Ok(_) => Ok(()),
+        Err(_) => Err(refused()),
+    }
+}
+
+/// Writes a file, and judges it or reports on it.
+fn work_on(
+    alloc: Global,
+    tables: &Tables,
+    number: usize,
+    seed: u64,
+    file: &mut Vec<u8>,
+    digest: &mut Digest,
+) -> io::Result<()> {
+    let kind = if number % 2 == 0 {
+        Kind::Characters(tables)
+    } else {
+        Kind::Classes
+    };
+    let seed = seed.wrapping_mul(65_536).wrapping_add(number as u64);
+    write_file(alloc, kind, FORMS[number / 2 % 6], seed, file)?;
+    let mut told = Vec::new(alloc);
+    if number / 12 % 2 == 0 {
+        judge(alloc, kind, file, &mut told)?;
+    } else {
+        report_on(alloc, kind, file, &mut told)?;
+    }
+    digest.add_bytes(file);
+    digest.add_bytes(&told);
+    Ok(())
+}
+
+/// Works on so many files.
+pub fn judge_files(alloc: Global, count: usize, seed: u64) -> io::Result<Digest> {
+    let tables = tables(alloc)?;
+    let mut file = Vec::new(alloc);
+    let mut digest = Digest::new();
+    for number in 0..count {
+        work_on(alloc, &tables, number, seed, &mut file, &mut digest)?;
+    }
+    Ok(digest)
+}

@@ -1,0 +1,55 @@
+//! How much a job does.
+
+use crate::hostile::Amount;
+
+/// How much a job does.
+#[derive(Clone, Copy)]
+pub enum Size {
+    /// In a moment.
+    Small,
+    /// In seconds.
+    Full,
+}
+
+impl Size {
+    /// So many, where it is full.
+    fn of(self, small: usize, full: usize) -> usize {
+        match self {
+            Size::Small => small,
+            Size::Full => full,
+        }
+    }
+
+    /// How many documents are printed as they are shown.
+    pub fn documents(self) -> usize {
+        self.of(8, 1_600)
+    }
+
+    /// How many documents are printed with their levels.
+    pub fn documents_with_levels(self) -> usize {
+        self.of(2, 400)
+    }
+
+    /// How many characters the text has of which paragraphs are laid out.
+    pub fn characters(self) -> usize {
+        self.of(2_000, 2_000_000)
+    }
+
+    /// How many lines are laid out one by one.
+    pub fn lines(self) -> usize {
+        self.of(128, 300_000)
+    }
+
+    /// How many test files are written and read.
+    pub fn row_files(self) -> usize {
+        self.of(12, 240)
+    }
+
+    /// How many hostile texts are laid out, and how long they are.
+    pub fn hostile(self) -> Amount {
+        Amount {
+            texts: self.of(9, 1_000),
+            units: self.of(2_000, 60_000),
+        }
+    }
+}
