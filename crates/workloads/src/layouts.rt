@@ -23,7 +23,10 @@ const LENGTHS: [usize; 16] = [
     1_000, 170, 4_000, 60, 2_300, 410, 730, 110, 9_100, 330, 1_700, 240, 540, 3_100, 85, 1_300,
 ];
 
-/// The longest of them.
+/// How many words of one script stand together, so that most paragraphs are of one.
+const STRETCH_WORDS: usize = 1_000;
+
+/// How many characters the longest paragraph has.
 const MOST_LENGTH: usize = 9_100;
 
 /// What is used again and again.
@@ -45,7 +48,7 @@ fn make(alloc: Global, count: usize, seed: u64) -> io::Result<Vec<char>> {
             break;
         }
         words.clear();
-        maker.push_words(SCRIPTS[number % 8], 40, &mut words)?;
+        maker.push_words(SCRIPTS[number % 8], STRETCH_WORDS, &mut words)?;
         for character in words.as_str().chars() {
             characters.push(character)?;
         }

@@ -32,12 +32,12 @@ impl Size {
 
     /// How many characters the text has of which paragraphs are laid out.
     pub fn characters(self) -> usize {
-        self.of(2_000, 2_000_000)
+        self.of(12_000, 3_000_000)
     }
 
     /// How many lines are laid out one by one.
     pub fn lines(self) -> usize {
-        self.of(128, 300_000)
+        self.of(128, 400_000)
     }
 
     /// How many test files are written and read.
@@ -48,7 +48,7 @@ impl Size {
     /// How many hostile texts are laid out, and how long they are.
     pub fn hostile(self) -> Amount {
         Amount {
-            texts: self.of(9, 1_000),
+            texts: self.of(9, 1_200),
             units: self.of(2_000, 60_000),
         }
     }
