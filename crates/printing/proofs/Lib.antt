@@ -10,6 +10,7 @@ pub mod HeadPrinted
 pub mod HeadResets
 pub mod HeadTexts
 pub mod HeldLemmas
+pub mod HexDigits
 pub mod Passing
 pub mod Printing
 pub mod ReadSources

@@ -2,6 +2,7 @@ pub mod Behind
 pub mod Columns
 pub mod EndedParagraphs
 pub mod HeldBytes
+pub mod HexDigits
 pub mod LevelsText
 pub mod PrintedTexts
 pub mod ReadTexts
