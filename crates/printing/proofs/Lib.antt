@@ -16,3 +16,5 @@ pub mod Printing
 pub mod ReadSources
 pub mod Showing
 pub mod UnderWay
+pub mod Utf8Bytes
+pub mod WaitingBytes

@@ -8,5 +8,6 @@ pub mod PrintedTexts
 pub mod ReadTexts
 pub mod ReorderText
 pub mod UnderWay
+pub mod WaitingBytes
 pub mod EndedRows
 pub mod PrintedRows

@@ -15,3 +15,4 @@ pub mod print;
 pub mod reading;
 mod reorder_text;
 pub mod text_units;
+mod waiting;

@@ -5,7 +5,9 @@ ghost use Rattle.units.specs.Classes.{is_separator};
 ghost use Rattle.ucdfiles.specs.Tables.{glyph_by};
 ghost use Rattle.lines.specs.Layouts.{view_of};
 ghost use Rattle.printing.specs.ReorderText.{text_unless, text_of_line, reorder_text};
+ghost use Rattle.printing.specs.WaitingBytes.{with_waiting};
 
+use crate::waiting::Waiting;
 use lines::layout::Layout;
 use std::io;
 use std::io::Write;
@@ -13,15 +15,20 @@ use ucdfiles::mirror_table::MirrorTable;
 use units::bracket::Unit;
 use units::class::Class;
 
-/// Writes a character in UTF-8 as it is shown, unless a paragraph separator stands there.
-fn print_shown<W: Write>(w: &mut W, class: Class, character: char) -> io::Result<()>
-    ensures { OnOk result (Appends (W.contents w.old) (W.contents w.new)
-        (text_unless (is_separator class) character)) }
+/// Writes a character in UTF-8 as it is shown behind what waits, unless a paragraph separator stands there.
+fn print_shown<W: Write>(
+    w: &mut W,
+    waiting: &mut Waiting,
+    class: Class,
+    character: char,
+) -> io::Result<()>
+    ensures { OnOk result (Appends (with_waiting (W.contents w.old) waiting.old)
+        (with_waiting (W.contents w.new) waiting.new) (text_unless (is_separator class) character)) }
 {
     if class.is_separator() {
         return Ok(());
     }
-    write!(w, "{character}")
+    waiting.print(w, character)
 }
 
 /// Writes the line with the number `k` from left to right, and LF. Whether a position holds a paragraph separator is
@@ -41,10 +48,12 @@ fn print_line<W: Write>(
         (text_of_line (glyph_by mirrors.now) chars.now text.now (view_of layout.now) k)) }
 {
     let order = layout.line(k).order;
+    let mut waiting = Waiting::new();
     for (position, character) in order.iter().zip(layout.shown(mirrors, chars, k)) {
-        print_shown(w, text[*position].class, character)?;
+        print_shown(w, &mut waiting, text[*position].class, character)?;
     }
-    writeln!(w)
+    waiting.print(w, '\n')?;
+    waiting.write(w)
 }
 
 /// Writes the lines of a text, each from left to right as it is shown (L2, L4), and LF behind each.

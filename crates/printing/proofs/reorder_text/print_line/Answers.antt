@@ -1,12 +1,14 @@
-use Rattle.std.proofs.Common.{rules, ◌≡◌, ◌∙◌, ◌⊎◌, [], inl, inr, ap, refl, sym, slice_index_or}
+use Rattle.std.proofs.Common.{◌≡◌, ◌∙◌, ◌⊎◌, [], inl, inr, ap, refl, sym, slice_index_or}
+use Rattle.std.specs.Char.{encode_utf8}
 use Rattle.std.specs.Iterator.Adapters.{zip_first, zip_second}
 use Rattle.std.specs.Slice.Iter.{iter_rest}
 use Rattle.std.proofs.lemmas.List.{nil_from_length}
 use Rattle.units.specs.Layout.{LineLayout}
 use Rattle.lines.specs.Layouts.{view_of, no_line}
 use Rattle.lines.specs.Showing.{shown_left}
-use Rattle.printing.proofs.Appending.{Appends-then}
+use Rattle.printing.proofs.Appending.{Appends-joined}
 use Rattle.printing.proofs.Showing.{nothing_shown, one_more_shown, all_shown}
+use Rattle.printing.proofs.WaitingBytes.{written_in_the_end}
 use Rattle.printing.proofs.reorder_text.print_line.Goals as goal
 
 pub loop-position-init : goal.loop-position-init
@@ -18,13 +20,14 @@ loop-position-init g c =
     rw (c.into_iter-position-iterator.ensures.into_iter_gives, c.zip-position-items.ensures.first) c.iter.ensures.rest in
     let shown : shown_left (zip_second it) ≡ shown_left c.shown.result =
     rw (c.into_iter-position-iterator.ensures.into_iter_gives, c.zip-position-items.ensures.second) refl in
-    nothing_shown _ _ _ _ _ _ _ _ (order ∙ sym rest) (shown ∙ c.shown.ensures) (rw rest c.line.ensures.places)
+    rw c.new-waiting.ensures (nothing_shown _ _ _ _ _ _ _ _ (order ∙ sym rest) (shown ∙ c.shown.ensures) (rw rest c.line.ensures.places))
 
 pub loop-position-preserved : goal.loop-position-preserved
 loop-position-preserved g c =
     one_more_shown _ _ _ _ _ _ _ _ _ _ _ _ _ _ c.in-Some.ensures.steps.0 c.in-Some.ensures.steps.1 c.loop-position.invariant c.in_ok-print_shown.ensures
 
 pub returns : goal.returns
+unfolding encode_utf8
 returns g c =
     let it = c.loop-position.position-iterator in
     let none : (iter_rest (zip_first it) ≡ []) ⊎ (shown_left (zip_second it) ≡ []) =
@@ -32,4 +35,4 @@ returns g c =
       | inl x ↦ inl (nil_from_length _ x.1.0)
       | inr x ↦ inr x.1.0
     ] in
-    search (rules, Appends-then, all_shown)
+    written_in_the_end _ _ _ _ _ _ (Appends-joined _ _ _ _ _ (all_shown _ _ _ _ _ _ _ _ _ none c.loop-position.invariant) c.in_ok-print.ensures) c.write.ensures.written

@@ -1,14 +1,16 @@
-use Rattle.std.specs.Prelude.{slice_index_or}
+use Rattle.std.specs.Prelude.{[], slice_index_or}
 use Rattle.std.specs.Iterator.Adapters.{zip_first, zip_second}
 use Rattle.std.specs.Slice.Iter.{iter_rest}
 use Rattle.ucdfiles.specs.Tables.{glyph_by}
 use Rattle.lines.specs.Layouts.{view_of, no_line}
 use Rattle.lines.specs.Showing.{shown_left}
+use Rattle.printing.specs.WaitingBytes.{with_waiting}
 use Rattle.printing.proofs.Showing.{HasShown}
 use Rattle.printing.proofs.reorder_text.print_line.Given as goal
 
 abbrev pub invariant-loop-position : goal.invariant-loop-position
 invariant-loop-position g l =
     let view = view_of l.fn.layout in
-    HasShown (glyph_by l.fn.mirrors) view.levels l.fn.chars l.fn.text (g.W.Write.contents l.initial.w) (g.W.Write.contents l.w)
+    HasShown (glyph_by l.fn.mirrors) view.levels l.fn.chars l.fn.text
+    (with_waiting (g.W.Write.contents l.initial.w) []) (with_waiting (g.W.Write.contents l.w) l.waiting)
     (slice_index_or view.lines l.fn.k no_line).order (iter_rest (zip_first l.position-iterator)) (shown_left (zip_second l.position-iterator))
