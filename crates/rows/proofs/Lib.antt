@@ -2,6 +2,8 @@ pub mod Items
 pub mod Contents
 pub mod ReadNumbers
 pub mod HexNumbers
+pub mod HexTexts
+pub mod Gathered
 pub mod FileOfLines
 pub mod LevelBounds
 pub mod OrderBounds

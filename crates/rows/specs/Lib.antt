@@ -1,5 +1,6 @@
 pub mod Letters
 pub mod RowTexts
+pub mod HexDigits
 pub mod Placing
 pub mod Rooms
 pub mod Exhaustive

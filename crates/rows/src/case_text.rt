@@ -1,5 +1,5 @@
 //! The lines of a case in a file of classes, by its layout.
-ghost use Rattle.std.specs.Prelude.{◌≡◌, ◌++◌, codes, OnOk};
+ghost use Rattle.std.specs.Prelude.{◌≡◌, OnOk};
 ghost use Rattle.std.specs.Fmt.{decimal};
 ghost use Rattle.std.specs.Io.KnownBytes.{Appends};
 ghost use Rattle.std.specs.List.{flat_map};
@@ -11,40 +11,25 @@ ghost use Rattle.bidtests.specs.declared.kind.Kind.TheVariants as kind;
 ghost use Rattle.rows.specs.Letters.{letter_name};
 ghost use Rattle.rows.specs.RowTexts.{behind_blanks, between_blanks, bit_text, levels_line, lines_with_layout, order_line, row_line};
 
+use crate::item_text::{print_behind_blanks, print_between_blanks};
 use crate::letter::Letter;
 use lines::layout::Layout;
 use std::io;
 use std::io::Write;
 use units::level::{Direction, Level};
 
-/// Writes a level, or `x` where the position is removed, behind a blank.
-fn print_level<W: Write>(w: &mut W, level: Option<Level>) -> io::Result<()>
-    ensures { OnOk result (Appends (W.contents w.old) (W.contents w.new) (codes " " ++ level_text level)) }
-{
-    match level {
-        Some(level) => write!(w, " {}", level.get()),
-        None => write!(w, " x"),
-    }
-}
-
 /// Writes each level behind a blank.
 pub fn print_levels<W: Write>(w: &mut W, levels: &[Option<Level>]) -> io::Result<()>
     ensures { OnOk result (Appends (W.contents w.old) (W.contents w.new) (behind_blanks level_text levels.now)) }
 {
-    for level in levels {
-        print_level(w, *level)?;
-    }
-    Ok(())
+    print_behind_blanks(w, levels)
 }
 
 /// Writes each position behind a blank.
 pub fn print_positions<W: Write>(w: &mut W, order: &[usize]) -> io::Result<()>
     ensures { OnOk result (Appends (W.contents w.old) (W.contents w.new) (behind_blanks decimal order.now)) }
 {
-    for position in order {
-        write!(w, " {position}")?;
-    }
-    Ok(())
+    print_behind_blanks(w, order)
 }
 
 /// Writes the orders of all lines, one behind another.
@@ -58,63 +43,49 @@ pub fn print_orders<W: Write>(w: &mut W, layout: &Layout<'_>) -> io::Result<()>
     Ok(())
 }
 
-fn print_names_behind<W: Write>(w: &mut W, text: &[Letter]) -> io::Result<()>
-    ensures { OnOk result (Appends (W.contents w.old) (W.contents w.new) (behind_blanks letter_name text.now)) }
-{
-    for letter in text {
-        let letter = *letter;
-        write!(w, " {letter}")?;
-    }
-    Ok(())
-}
-
 /// Writes the names of a text's letters, a blank between each two.
 pub fn print_names<W: Write>(w: &mut W, text: &[Letter]) -> io::Result<()>
     ensures { OnOk result (Appends (W.contents w.old) (W.contents w.new) (between_blanks letter_name text.now)) }
 {
-    if let [first, others @ ..] = text {
-        let first = *first;
-        write!(w, "{first}")?;
-        print_names_behind(w, others)?;
-    }
-    Ok(())
+    print_between_blanks(w, text)
 }
 
 /// The bit that names a direction.
-fn bit_of(direction: Direction) -> &'static str
+fn bit_of(direction: Direction) -> &'static [u8]
     ensures { result.now ≡ bit_text direction }
 {
     match direction {
-        Direction::Auto => "1",
-        Direction::Ltr => "2",
-        Direction::Rtl => "4",
-        Direction::AutoRtl => "8",
+        Direction::Auto => b"1",
+        Direction::Ltr => b"2",
+        Direction::Rtl => b"4",
+        Direction::AutoRtl => b"8",
     }
 }
 
 fn print_levels_line<W: Write>(w: &mut W, levels: &[Option<Level>]) -> io::Result<()>
     ensures { OnOk result (Appends (W.contents w.old) (W.contents w.new) (ended (levels_line levels.now))) }
 {
-    write!(w, "@Levels:")?;
+    w.write_all(b"@Levels:")?;
     print_levels(w, levels)?;
-    writeln!(w)
+    w.write_all(b"\n")
 }
 
 fn print_order_line<W: Write>(w: &mut W, layout: &Layout<'_>) -> io::Result<()>
     ensures { OnOk result (Appends (W.contents w.old) (W.contents w.new)
         (ended (order_line (all_orders (view_of layout.now))))) }
 {
-    write!(w, "@Reorder:")?;
+    w.write_all(b"@Reorder:")?;
     print_orders(w, layout)?;
-    writeln!(w)
+    w.write_all(b"\n")
 }
 
 fn print_row_line<W: Write>(w: &mut W, text: &[Letter], direction: Direction) -> io::Result<()>
     ensures { OnOk result (Appends (W.contents w.old) (W.contents w.new) (ended (row_line text.now direction))) }
 {
     print_names(w, text)?;
-    let bit = bit_of(direction);
-    writeln!(w, "; {bit}")
+    w.write_all(b"; ")?;
+    w.write_all(bit_of(direction))?;
+    w.write_all(b"\n")
 }
 
 /// Writes the lines of a text under a direction, of which this is the layout: its levels, its order, and its row.

@@ -2,6 +2,7 @@
 ghost use Rattle.std.specs.Prelude.{◌≡◌, ◌||◌, ◌∷◌, [], OnOk};
 ghost use Rattle.std.specs.Fmt.{decimal};
 ghost use Rattle.std.specs.Io.KnownBytes.{Appends};
+ghost use Rattle.units.specs.Isolates.{level_of_para};
 ghost use Rattle.units.specs.Layout.{all_orders};
 ghost use Rattle.units.specs.Lines.{ended};
 ghost use Rattle.lines.specs.Layouts.{view_of};
@@ -9,22 +10,33 @@ ghost use Rattle.printing.specs.LevelsText.{level_text};
 ghost use Rattle.rows.specs.RowTexts.{between_blanks, direction_text, fields_with_layout, in_fields, para_text};
 ghost use Rattle.rows.specs.Placing.{behind_or_between, has_some};
 
-use crate::case_text::{print_levels, print_names, print_positions};
+use crate::case_text::{print_names, print_positions};
+use crate::item_text::print_between_blanks;
 use crate::letter::Letter;
 use lines::layout::Layout;
 use std::io;
 use std::io::Write;
-use units::level::{Direction, Level};
+use units::level::{Direction, Level, ParaLevel};
 
 /// The number that names a direction.
-fn number_of(direction: Direction) -> &'static str
+fn number_of(direction: Direction) -> &'static [u8]
     ensures { result.now ≡ direction_text direction }
 {
     match direction {
-        Direction::Ltr => "0",
-        Direction::Rtl => "1",
-        Direction::Auto => "2",
-        Direction::AutoRtl => "3",
+        Direction::Ltr => b"0",
+        Direction::Rtl => b"1",
+        Direction::Auto => b"2",
+        Direction::AutoRtl => b"3",
+    }
+}
+
+/// The number of a paragraph's level.
+fn number_of_para(level: ParaLevel) -> &'static [u8]
+    ensures { result.now ≡ decimal (level_of_para level) }
+{
+    match level {
+        ParaLevel::Zero => b"0",
+        ParaLevel::One => b"1",
     }
 }
 
@@ -33,18 +45,8 @@ fn print_para<W: Write>(w: &mut W, layout: &Layout<'_>) -> io::Result<()>
     ensures { OnOk result (Appends (W.contents w.old) (W.contents w.new) (para_text (view_of layout.now).paras)) }
 {
     match layout.para_levels() {
-        [first, ..] => write!(w, "{}", first.level().get()),
+        [first, ..] => w.write_all(number_of_para(*first)),
         [] => Ok(()),
-    }
-}
-
-/// Writes a level, or `x` where the position is removed.
-fn print_first_level<W: Write>(w: &mut W, level: Option<Level>) -> io::Result<()>
-    ensures { OnOk result (Appends (W.contents w.old) (W.contents w.new) (level_text level)) }
-{
-    match level {
-        Some(level) => write!(w, "{}", level.get()),
-        None => write!(w, "x"),
     }
 }
 
@@ -52,11 +54,7 @@ fn print_first_level<W: Write>(w: &mut W, level: Option<Level>) -> io::Result<()
 fn print_levels_between<W: Write>(w: &mut W, levels: &[Option<Level>]) -> io::Result<()>
     ensures { OnOk result (Appends (W.contents w.old) (W.contents w.new) (between_blanks level_text levels.now)) }
 {
-    if let [first, others @ ..] = levels {
-        print_first_level(w, *first)?;
-        print_levels(w, others)?;
-    }
-    Ok(())
+    print_between_blanks(w, levels)
 }
 
 /// Writes the positions of a line, the first of them behind a blank where others have begun.
@@ -64,13 +62,10 @@ fn print_line_positions<W: Write>(w: &mut W, order: &[usize], begun: bool) -> io
     ensures { OnOk result (Appends (W.contents w.old) (W.contents w.new) (behind_or_between begun decimal order.now)) }
 {
     if begun {
-        return print_positions(w, order);
+        print_positions(w, order)
+    } else {
+        print_between_blanks(w, order)
     }
-    if let [first, others @ ..] = order {
-        write!(w, "{first}")?;
-        print_positions(w, others)?;
-    }
-    Ok(())
 }
 
 /// Whether a position was written, behind those of a line.
@@ -100,7 +95,7 @@ fn print_levels_and_order<W: Write>(w: &mut W, layout: &Layout<'_>) -> io::Resul
         (in_fields (between_blanks level_text (view_of layout.now).levels ∷ between_blanks decimal (all_orders (view_of layout.now)) ∷ []))) }
 {
     print_levels_between(w, layout.levels())?;
-    write!(w, ";")?;
+    w.write_all(b";")?;
     print_orders_between(w, layout)
 }
 
@@ -111,7 +106,7 @@ fn print_layout<W: Write>(w: &mut W, layout: &Layout<'_>) -> io::Result<()>
         ∷ between_blanks decimal (all_orders (view_of layout.now)) ∷ []))) }
 {
     print_para(w, layout)?;
-    write!(w, ";")?;
+    w.write_all(b";")?;
     print_levels_and_order(w, layout)
 }
 
@@ -126,8 +121,9 @@ fn print_fields<W: Write>(
         (in_fields (fields_with_layout (view_of layout.now) (record { text = text.now; direction = direction })))) }
 {
     print_names(w, text)?;
-    let number = number_of(direction);
-    write!(w, ";{number};")?;
+    w.write_all(b";")?;
+    w.write_all(number_of(direction))?;
+    w.write_all(b";")?;
     print_layout(w, layout)
 }
 
@@ -142,5 +138,5 @@ pub fn print_character_case<W: Write>(
         (ended (in_fields (fields_with_layout (view_of layout.now) (record { text = text.now; direction = direction }))))) }
 {
     print_fields(w, text, direction, layout)?;
-    writeln!(w)
+    w.write_all(b"\n")
 }

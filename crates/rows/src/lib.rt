@@ -8,6 +8,7 @@ mod drawn;
 pub mod exhaustive;
 pub mod fault;
 pub mod form;
+mod item_text;
 pub mod laws;
 pub mod letter;
 pub mod letters;

@@ -1,0 +1,53 @@
+-- Items that are gathered before they are written.
+use Rattle.std.proofs.Common.{◌≡◌, ℕ, zero, suc, ◌+◌, ◌-◌, ◌<◌, Option, List, [], ◌∷◌, ◌++◌, length, take, drop, get_or, refl, sym, ap, ◌∙◌, append_assoc, arith, take-append-drop}
+use Rattle.std.specs.Prelude.{codes}
+use Rattle.std.specs.List.{flat_map}
+use Rattle.std.specs.Io.KnownBytes.{Appends}
+use Rattle.std.proofs.lemmas.Grind.{flat_map-append}
+use Rattle.std.proofs.lemmas.List.{flat_map_more, take_all, take_more}
+use Rattle.printing.proofs.Appending.{Appends-joined, Appends-to}
+use Rattle.printing.proofs.Passing.{HasPassed}
+use Rattle.rows.specs.RowTexts.{behind_blanks, between_blanks}
+
+-- bytes added to what was added before
+pub then-added : (old mid new xs ys : List ℕ) → mid ≡ old ++ xs → new ≡ mid ++ ys → new ≡ old ++ (xs ++ ys)
+then-added old mid new xs ys first next = next ∙ ap (λ bs. bs ++ ys) first ∙ append_assoc old xs ys
+
+module _ {A : Type 0} (text : A → List ℕ) where
+  -- several items more were printed
+  pub more_passed : (a b c : Option (List ℕ)) (whole rest xs others : List A) → rest ≡ xs ++ others
+      → HasPassed a b text whole rest → Appends b c (flat_map text xs) → HasPassed a c text whole others
+  more_passed a b c whole rest xs others is h grown = record {
+    passed = h.passed ++ xs;
+    joined = append_assoc h.passed xs others ∙ ap (λ v. h.passed ++ v) (sym is) ∙ h.joined;
+    grown = Appends-to a c _ _ (sym (flat_map-append text h.passed xs)) (Appends-joined a b c _ _ h.grown grown);
+  }
+
+  -- one item more behind those that were added
+  pub one_more_behind : (old mid new : List ℕ) (items : List A) (n : ℕ) (d : A) → n < length items
+      → mid ≡ old ++ behind_blanks text (take n items) → new ≡ mid ++ (codes " " ++ text (get_or items n d))
+      → new ≡ old ++ behind_blanks text (take (n + 1) items)
+  one_more_behind old mid new items n d within before added =
+      added ∙ ap (λ bs. bs ++ (codes " " ++ text (get_or items n d))) before
+      ∙ flat_map_more (λ x. codes " " ++ text x) old (take n items) (get_or items n d)
+      ∙ ap (λ xs. old ++ behind_blanks text xs) (sym (take_more items n d within))
+
+  -- without the first blank
+  pub behind-first : (items : List A) (n : ℕ) → 0 < n → 0 < length items → behind_blanks text (take n items) ≡ 32 ∷ between_blanks text (take n items)
+  behind-first items zero some there = absurd (omega arith)
+  behind-first [] (suc n) some there = absurd (omega arith)
+  behind-first (x ∷ items) (suc n) some there = refl
+
+  -- the items up to one, and those behind it
+  pub between-parts : (items : List A) (n : ℕ) → 0 < n → 0 < length items
+      → between_blanks text (take n items) ++ behind_blanks text (drop n items) ≡ between_blanks text items
+  between-parts items zero some there = absurd (omega arith)
+  between-parts [] (suc n) some there = absurd (omega arith)
+  between-parts (x ∷ items) (suc n) some there =
+      append_assoc (text x) (behind_blanks text (take n items)) (behind_blanks text (drop n items))
+      ∙ ap (λ bs. text x ++ bs) (sym (flat_map-append (λ y. codes " " ++ text y) (take n items) (drop n items))
+      ∙ ap (λ xs. behind_blanks text xs) (take-append-drop n items))
+
+-- what is sliced behind a first byte
+pub sliced-behind : (b : ℕ) (xs ys : List ℕ) → xs ≡ b ∷ ys → take (length xs - 1) (drop 1 xs) ≡ ys
+sliced-behind b xs ys is = rw is (take_all (length (b ∷ ys) - 1) ys (omega arith))

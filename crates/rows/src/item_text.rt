@@ -1,0 +1,194 @@
+//! Items of rows, gathered as text before they are written.
+ghost use Rattle.std.specs.Prelude.{◌≡◌, ◌+◌, ◌<◌, ◌≤◌, ◌∷◌, ◌++◌, [], ℕ, List, length, take, OnOk};
+ghost use Rattle.std.specs.Fmt.{decimal};
+ghost use Rattle.std.specs.Io.KnownBytes.{Appends};
+ghost use Rattle.arrayvec.specs.ArrayVec.{array_vec_len};
+ghost use Rattle.units.specs.ClassNames.{short_name};
+ghost use Rattle.printing.specs.LevelsText.{code_text, level_text};
+ghost use Rattle.rows.specs.Letters.{letter_name};
+ghost use Rattle.rows.specs.RowTexts.{behind_blanks, between_blanks};
+ghost use Rattle.rows.specs.HexDigits.{hex_digit, four_digits};
+
+use crate::letter::Letter;
+use arrayvec::ArrayVec;
+use itoa::Buffer;
+use std::io;
+use std::io::Write;
+use units::class::Class;
+use units::level::Level;
+
+/// The most bytes that an item takes with the blank before it: a position has 20 digits at most.
+const MOST_BYTES: usize = 21;
+
+/// How many bytes are gathered before they are written.
+const ROOM: usize = 256;
+
+/// Text that is gathered.
+type Gathered = ArrayVec<u8, ROOM>;
+
+/// An item of a list that is printed.
+pub trait RowItem: Copy {
+    ghost text: { Self → List ℕ };
+
+    /// Adds it to text that has room for it.
+    fn add(self, to: &mut Gathered)
+        requires room { array_vec_len to.old + 20 ≤ 256 }
+        ensures text { to.new.items ≡ to.old.items ++ text self }
+        ensures few { array_vec_len to.new ≤ array_vec_len to.old + 20 };
+}
+
+/// Adds a number of more than two digits.
+fn add_longer(to: &mut Gathered, number: usize)
+    requires room { array_vec_len to.old + 20 ≤ 256 }
+    ensures text { to.new.items ≡ to.old.items ++ decimal number }
+    ensures few { array_vec_len to.new ≤ array_vec_len to.old + 20 }
+{
+    let mut digits = Buffer::new();
+    to.try_extend_from_slice(digits.format(number).as_bytes())
+        .unwrap();
+}
+
+/// Adds a number in decimal digits.
+fn add_decimal(to: &mut Gathered, number: usize)
+    requires room { array_vec_len to.old + 20 ≤ 256 }
+    ensures text { to.new.items ≡ to.old.items ++ decimal number }
+    ensures few { array_vec_len to.new ≤ array_vec_len to.old + 20 }
+{
+    if number < 10 {
+        to.push(b'0' + number as u8);
+    } else if number < 100 {
+        to.push(b'0' + (number / 10) as u8);
+        to.push(b'0' + (number % 10) as u8);
+    } else {
+        add_longer(to, number);
+    }
+}
+
+/// Adds the last hex digit of a number.
+fn add_digit(to: &mut Gathered, number: u32)
+    requires room { array_vec_len to.old + 1 ≤ 256 }
+    ensures text { to.new.items ≡ to.old.items ++ hex_digit number ∷ [] }
+    ensures len { array_vec_len to.new ≡ array_vec_len to.old + 1 }
+{
+    let digit = (number % 16) as u8;
+    if digit < 10 {
+        to.push(b'0' + digit);
+    } else {
+        to.push(b'A' + (digit - 10));
+    }
+}
+
+/// Adds the last four hex digits of a number.
+fn add_four_digits(to: &mut Gathered, number: u32)
+    requires room { array_vec_len to.old + 4 ≤ 256 }
+    ensures text { to.new.items ≡ to.old.items ++ four_digits number }
+    ensures len { array_vec_len to.new ≡ array_vec_len to.old + 4 }
+{
+    add_digit(to, number / 0x1000);
+    add_digit(to, number / 0x100);
+    add_digit(to, number / 0x10);
+    add_digit(to, number);
+}
+
+/// Adds a code point in upper-case hex digits, at least four.
+fn add_code(to: &mut Gathered, code: char)
+    requires room { array_vec_len to.old + 20 ≤ 256 }
+    ensures text { to.new.items ≡ to.old.items ++ code_text code }
+    ensures few { array_vec_len to.new ≤ array_vec_len to.old + 20 }
+{
+    let number = u32::from(code);
+    if number < 0x1_0000 {
+        add_four_digits(to, number);
+    } else if number < 0x10_0000 {
+        add_digit(to, number / 0x1_0000);
+        add_four_digits(to, number);
+    } else {
+        add_digit(to, number / 0x10_0000);
+        add_digit(to, number / 0x1_0000);
+        add_four_digits(to, number);
+    }
+}
+
+/// Adds the short name of a class.
+fn add_name(to: &mut Gathered, class: Class)
+    requires room { array_vec_len to.old + 20 ≤ 256 }
+    ensures text { to.new.items ≡ to.old.items ++ short_name class }
+    ensures few { array_vec_len to.new ≤ array_vec_len to.old + 20 }
+{
+    for byte in class.short().as_bytes() {
+        to.push(*byte);
+    }
+}
+
+impl RowItem for Option<Level> {
+    ghost text = { level_text };
+
+    fn add(self, to: &mut Gathered) {
+        match self {
+            Some(level) => add_decimal(to, usize::from(level.get())),
+            None => to.push(b'x'),
+        }
+    }
+}
+
+impl RowItem for usize {
+    ghost text = { decimal };
+
+    fn add(self, to: &mut Gathered) {
+        add_decimal(to, self);
+    }
+}
+
+impl RowItem for Letter {
+    ghost text = { letter_name };
+
+    fn add(self, to: &mut Gathered) {
+        match self {
+            Letter::Class(class) => add_name(to, class),
+            Letter::Character { code, .. } => add_code(to, code),
+        }
+    }
+}
+
+/// Adds items, each behind a blank, as far as there is room, and answers how many these are.
+fn add_items<T: RowItem>(to: &mut Gathered, items: &[T]) -> usize
+    ensures text { to.new.items ≡ to.old.items ++ behind_blanks T.text (take result items.now) }
+    ensures count { result ≤ length items.now }
+    ensures some { 0 < length items.now → array_vec_len to.old + 21 ≤ 256 → 0 < result }
+{
+    let mut count = 0;
+    while count < items.len() && to.len() + MOST_BYTES <= ROOM {
+        to.push(b' ');
+        items[count].add(to);
+        count += 1;
+    }
+    count
+}
+
+/// Writes each item behind a blank.
+pub fn print_behind_blanks<W: Write, T: RowItem>(w: &mut W, items: &[T]) -> io::Result<()>
+    ensures { OnOk result (Appends (W.contents w.old) (W.contents w.new) (behind_blanks T.text items.now)) }
+{
+    let mut text = ArrayVec::new();
+    let mut left = items;
+    while !left.is_empty() {
+        text.clear();
+        let count = add_items(&mut text, left);
+        w.write_all(text.as_slice())?;
+        left = left.split_at(count).1;
+    }
+    Ok(())
+}
+
+/// Writes the items, a blank between each two.
+pub fn print_between_blanks<W: Write, T: RowItem>(w: &mut W, items: &[T]) -> io::Result<()>
+    ensures { OnOk result (Appends (W.contents w.old) (W.contents w.new) (between_blanks T.text items.now)) }
+{
+    if items.is_empty() {
+        return Ok(());
+    }
+    let mut text = ArrayVec::new();
+    let count = add_items(&mut text, items);
+    w.write_all(&text.as_slice()[1..])?;
+    print_behind_blanks(w, items.split_at(count).1)
+}
