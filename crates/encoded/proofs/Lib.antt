@@ -1,6 +1,7 @@
 pub mod OffsetLemmas
 pub mod Writing
 pub mod Utf8Texts
+pub mod Spellings
 pub mod LossyChunks
 pub mod LossyReading
 pub mod Indexing

@@ -10,5 +10,6 @@ mod lossy;
 pub mod orders;
 pub mod room;
 pub mod runs;
+mod spelling;
 mod utf16;
 mod utf8;

@@ -1,5 +1,5 @@
 //! The characters of a text in UTF-8: their units, and the offsets at which they begin.
-ghost use Rattle.std.specs.Prelude.{◌≡◌, ◌<◌, ◌≤◌, ◌+◌, ◌^◌, ◌++◌, List, length, IfErr, IfOk, OnOk};
+ghost use Rattle.std.specs.Prelude.{◌≡◌, ◌<◌, ◌≤◌, ◌+◌, ◌^◌, ◌++◌, List, length, IfErr, IfOk, IfSome, OnOk, OnSome};
 ghost use Rattle.std.specs.Str.{chars, IsUtf8};
 ghost use Rattle.std.specs.Str.Lossy.{utf8_valid_len};
 ghost use Rattle.encoded.specs.Decoded.{AreDecoded, IsWritten};
@@ -7,6 +7,7 @@ ghost use Rattle.encoded.specs.Encodings.{utf8_text};
 ghost use Rattle.encoded.specs.Offsets.{Spelled};
 
 use crate::decoding::Reached;
+use crate::spelling::char_at;
 use std::str;
 use ucdfiles::tables::Tables;
 use units::bracket::Unit;
@@ -68,6 +69,36 @@ pub(crate) fn decode_str(
     reached.characters
 }
 
+/// What `decode_str` does for bytes that are well formed, in one walk that also tests them; none for others.
+fn decode_well_formed(
+    bytes: &[u8],
+    tables: &Tables,
+    units: &mut [Unit],
+    starts: &mut [u32],
+) -> Option<usize>
+    requires units { length bytes.now ≤ length units.old }
+    requires starts { length bytes.now < length starts.old }
+    requires small { length bytes.now < 2 ^ 32 }
+    ensures units_len { length units.new ≡ length units.old }
+    ensures starts_len { length starts.new ≡ length starts.old }
+    ensures well_formed { OnSome result (IsUtf8 bytes.now) }
+    ensures decoded { IfSome result (λ count.
+        AreDecoded tables.now (utf8_text bytes.now) count units.new starts.new) }
+{
+    let lent = tables.units();
+    let mut count = 0;
+    let mut at = 0;
+    while at < bytes.len() {
+        let (c, behind) = char_at(bytes, at)?;
+        units[count] = lent.unit(c);
+        starts[count] = at as u32;
+        count += 1;
+        at = behind;
+    }
+    starts[count] = at as u32;
+    Some(count)
+}
+
 /// What `decode_str` does for bytes that are well formed; else the offset of the first fault.
 pub(crate) fn decode_utf8(
     bytes: &[u8],
@@ -85,6 +116,10 @@ pub(crate) fn decode_utf8(
     ensures decoded { IfOk result (λ count.
         AreDecoded tables.now (utf8_text bytes.now) count units.new starts.new) }
 {
+    if let Some(count) = decode_well_formed(bytes, tables, units, starts) {
+        return Ok(count);
+    }
+    // `std` says where the fault is.
     match str::from_utf8(bytes) {
         Ok(text) => Ok(decode_str(text, tables, units, starts)),
         Err(error) => Err(error.valid_up_to()),

@@ -1,0 +1,107 @@
+-- Characters in UTF-8, one by one.
+use Rattle.std.proofs.Common.{◌≡◌, ℕ, ◌+◌, ◌*◌, ◌/◌, ◌%◌, ◌-◌, ◌<◌, ◌≤◌, List, [], ◌∷◌, ◌++◌, length, get_or, map, take, append_assoc, append-nil, sym, ap, subst, ◌∙◌, arith}
+use Rattle.std.proofs.str.Laws.{one, two, three, four}
+use lib.Utf8.{low_scalar}
+use Rattle.std.specs.Char.{encode_utf8, IsScalar}
+use Rattle.std.specs.Str.{chars, IsUtf8}
+use Rattle.std.proofs.lemmas.List.{map-append, take_more}
+use Rattle.std.proofs.lemmas.Str.{chars-append, chars-nil, chars_past_char, length-encode, len_utf8_bounds, IsUtf8-append, IsUtf8-encode}
+use Rattle.std.specs.Prelude.{Option, None, Some, IfSome}
+use Rattle.std.specs.Option.{SomeIff}
+use Rattle.encoded.specs.Encodings.{in_utf8, utf8_text}
+use Rattle.encoded.specs.Spelling.{Continues, IsOfBytes, IsSpelled}
+
+-- the code of two, three and four bytes
+pub of_two : (x y c : ℕ) → 0xC2 ≤ x → x < 0xE0 → Continues y → c ≡ (x - 0xC0) * 0x40 + (y - 0x80) → encode_utf8 c ≡ x ∷ y ∷ []
+of_two x y c least most f is =
+    let p : 192 + c / 64 ≡ x = omega (arith, f.least, f.most) in
+    let q : 128 + c % 64 ≡ y = omega (arith, f.least, f.most) in
+    two c (omega (arith, f.least, f.most)) (omega (arith, f.least, f.most)) ∙ (λ k. p k ∷ q k ∷ [])
+
+pub of_three : (x y z front c : ℕ) → 0xE0 ≤ x → x < 0xF0 → Continues y → Continues z → front ≡ (x - 0xE0) * 0x40 + (y - 0x80) → 0x20 ≤ front → c ≡ front * 0x40 + (z - 0x80)
+    → encode_utf8 c ≡ x ∷ y ∷ z ∷ []
+of_three x y z front c least most f g at enough is =
+    let p : 224 + c / 4096 ≡ x = omega (arith, f.least, f.most, g.least, g.most) in
+    let q : 128 + c / 64 % 64 ≡ y = omega (arith, f.least, f.most, g.least, g.most) in
+    let r : 128 + c % 64 ≡ z = omega (arith, f.least, f.most, g.least, g.most) in
+    three c (omega (arith, f.least, f.most, g.least, g.most)) (omega (arith, f.least, f.most, g.least, g.most)) ∙ (λ k. p k ∷ q k ∷ r k ∷ [])
+
+pub of_four : (x y z w front back c : ℕ) → 0xF0 ≤ x → Continues y → Continues z → Continues w → front ≡ (x - 0xF0) * 0x40 + (y - 0x80) → 0x10 ≤ front
+    → back ≡ (z - 0x80) * 0x40 + (w - 0x80) → c ≡ front * 0x1000 + back → encode_utf8 c ≡ x ∷ y ∷ z ∷ w ∷ []
+of_four x y z w front back c least f g h at enough end is =
+    let p : 240 + c / 262144 ≡ x = omega (arith, f.least, f.most, g.least, g.most, h.least, h.most) in
+    let q : 128 + c / 4096 % 64 ≡ y = omega (arith, f.least, f.most, g.least, g.most, h.least, h.most) in
+    let r : 128 + c / 64 % 64 ≡ z = omega (arith, f.least, f.most, g.least, g.most, h.least, h.most) in
+    let s : 128 + c % 64 ≡ w = omega (arith, f.least, f.most, g.least, g.most, h.least, h.most) in
+    four c (omega (arith, f.least, f.most, g.least, g.most, h.least, h.most)) ∙ (λ k. p k ∷ q k ∷ r k ∷ s k ∷ [])
+
+-- a front, and the bytes behind it
+taken_two : (bs : List ℕ) (at : ℕ) → at + 1 < length bs → take (at + 2) bs ≡ take at bs ++ get_or bs at 0 ∷ get_or bs (at + 1) 0 ∷ []
+taken_two bs at lt =
+    ap (λ n. take n bs) (let e : at + 2 ≡ at + 1 + 1 = omega arith in e) ∙ take_more bs (at + 1) 0 lt
+    ∙ ap (λ (xs : List ℕ). xs ++ get_or bs (at + 1) 0 ∷ []) (take_more bs at 0 (omega arith)) ∙ append_assoc (take at bs) _ _
+
+taken_three : (bs : List ℕ) (at : ℕ) → at + 2 < length bs → take (at + 3) bs ≡ take at bs ++ get_or bs at 0 ∷ get_or bs (at + 1) 0 ∷ get_or bs (at + 2) 0 ∷ []
+taken_three bs at lt =
+    ap (λ n. take n bs) (let e : at + 3 ≡ at + 2 + 1 = omega arith in e) ∙ take_more bs (at + 2) 0 lt
+    ∙ ap (λ (xs : List ℕ). xs ++ get_or bs (at + 2) 0 ∷ []) (taken_two bs at (omega arith)) ∙ append_assoc (take at bs) _ _
+
+taken_four : (bs : List ℕ) (at : ℕ) → at + 3 < length bs
+    → take (at + 4) bs ≡ take at bs ++ get_or bs at 0 ∷ get_or bs (at + 1) 0 ∷ get_or bs (at + 2) 0 ∷ get_or bs (at + 3) 0 ∷ []
+taken_four bs at lt =
+    ap (λ n. take n bs) (let e : at + 4 ≡ at + 3 + 1 = omega arith in e) ∙ take_more bs (at + 3) 0 lt
+    ∙ ap (λ (xs : List ℕ). xs ++ get_or bs (at + 3) 0 ∷ []) (taken_three bs at (omega arith)) ∙ append_assoc (take at bs) _ _
+
+-- the character that those bytes are
+pub spelled_one : (bs : List ℕ) (at c : ℕ) → at < length bs → c ≡ get_or bs at 0 → c < 128 → IsSpelled bs at (c, at + 1)
+spelled_one bs at c lt is small = record {
+  scalar = low_scalar c (omega (arith, small));
+  behind = ap (λ (e : List ℕ). at + length e) (sym (one c small));
+  inside = omega (arith, lt);
+  spelled = take_more bs at 0 lt ∙ ap (λ x. take at bs ++ x ∷ []) (sym is) ∙ ap (λ (e : List ℕ). take at bs ++ e) (sym (one c small));
+}
+
+pub spelled_two : (bs : List ℕ) (at c : ℕ) → at + 1 < length bs → IsOfBytes (get_or bs at 0 ∷ get_or bs (at + 1) 0 ∷ []) c → IsSpelled bs at (c, at + 2)
+spelled_two bs at c lt is = record {
+  scalar = is.scalar;
+  behind = ap (λ (e : List ℕ). at + length e) (sym is.bytes_of);
+  inside = omega (arith, lt);
+  spelled = taken_two bs at lt ∙ ap (λ (e : List ℕ). take at bs ++ e) (sym is.bytes_of);
+}
+
+pub spelled_three : (bs : List ℕ) (at c : ℕ) → at + 2 < length bs → IsOfBytes (get_or bs at 0 ∷ get_or bs (at + 1) 0 ∷ get_or bs (at + 2) 0 ∷ []) c
+    → IsSpelled bs at (c, at + 3)
+spelled_three bs at c lt is = record {
+  scalar = is.scalar;
+  behind = ap (λ (e : List ℕ). at + length e) (sym is.bytes_of);
+  inside = omega (arith, lt);
+  spelled = taken_three bs at lt ∙ ap (λ (e : List ℕ). take at bs ++ e) (sym is.bytes_of);
+}
+
+pub spelled_four : (bs : List ℕ) (at c : ℕ) → at + 3 < length bs
+    → IsOfBytes (get_or bs at 0 ∷ get_or bs (at + 1) 0 ∷ get_or bs (at + 2) 0 ∷ get_or bs (at + 3) 0 ∷ []) c → IsSpelled bs at (c, at + 4)
+spelled_four bs at c lt is = record {
+  scalar = is.scalar;
+  behind = ap (λ (e : List ℕ). at + length e) (sym is.bytes_of);
+  inside = omega (arith, lt);
+  spelled = taken_four bs at lt ∙ ap (λ (e : List ℕ). take at bs ++ e) (sym is.bytes_of);
+}
+
+-- the text up to there is one character more
+pub text_more : (bs : List ℕ) (at c behind : ℕ) → IsUtf8 (take at bs) → IsSpelled bs at (c, behind) → utf8_text (take behind bs) ≡ utf8_text (take at bs) ++ in_utf8 c ∷ []
+text_more bs at c behind front is =
+    let alone : chars (encode_utf8 c) ≡ c ∷ [] = chars_past_char (encode_utf8 c) [] c (IsUtf8-encode c is.scalar) (sym (append-nil (encode_utf8 c))) ∙ ap (λ (cs : List ℕ). c ∷ cs) chars-nil in
+    ap utf8_text is.spelled ∙ ap (λ (cs : List ℕ). map in_utf8 cs) (chars-append (take at bs) (encode_utf8 c) front ∙ ap (λ (cs : List ℕ). chars (take at bs) ++ cs) alone)
+    ∙ map-append in_utf8 (chars (take at bs)) (c ∷ [])
+
+pub utf8_more : (bs : List ℕ) (at c behind : ℕ) → IsUtf8 (take at bs) → IsSpelled bs at (c, behind) → IsUtf8 (take behind bs)
+utf8_more bs at c behind front is = subst IsUtf8 (sym is.spelled) (IsUtf8-append (take at bs) (encode_utf8 c) front (IsUtf8-encode c is.scalar))
+
+-- a character takes some bytes
+pub forward : (bs : List ℕ) (at c behind : ℕ) → IsSpelled bs at (c, behind) → at < behind
+forward bs at c behind is = omega (arith, is.behind, length-encode c, (len_utf8_bounds c).0)
+
+-- what is made of a code
+pub made : (r : Option ℕ) (code : ℕ) (bs : List ℕ) → SomeIff r (IsScalar code) code → encode_utf8 code ≡ bs → IfSome r (IsOfBytes bs)
+made None code bs h is = tt
+made (Some c) code bs h is = record { scalar = subst IsScalar (sym h.1) h.0; bytes_of = ap encode_utf8 h.1 ∙ is }

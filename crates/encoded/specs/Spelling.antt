@@ -1,0 +1,20 @@
+-- One character of a text in UTF-8, as its bytes.
+use Rattle.std.specs.Prelude.{ℕ, ◌≡◌, ◌+◌, ◌<◌, ◌≤◌, List, ◌++◌, length, take}
+use Rattle.std.specs.Char.{encode_utf8, IsScalar}
+
+-- the byte can stand behind the first one of a character
+pub record Continues (byte : ℕ) : Type 0 where
+  pub least : 0x80 ≤ byte
+  pub most : byte < 0xC0
+
+-- the bytes are those of the character
+pub record IsOfBytes (bytes : List ℕ) (c : ℕ) : Type 0 where
+  pub scalar : IsScalar c
+  pub bytes_of : encode_utf8 c ≡ bytes
+
+-- the bytes from the offset up to another one spell a character: it, and the offset behind it
+pub record IsSpelled (bytes : List ℕ) (at : ℕ) (found : ℕ × ℕ) : Type 0 where
+  pub scalar : IsScalar found.0
+  pub behind : found.1 ≡ at + length (encode_utf8 found.0)
+  pub inside : found.1 ≤ length bytes
+  pub spelled : take found.1 bytes ≡ take at bytes ++ encode_utf8 found.0
