@@ -34,3 +34,9 @@ pub record IsBetween (starts : List ℕ) (at k : ℕ) : Type 0 where
   pub inside : k + 1 < length starts
   pub from : slice_index starts k ≤ at
   pub before : at < slice_index starts (k + 1)
+
+-- all before the first index are not above the offset, and all from the last one on are
+pub record IsNarrowed (starts : List ℕ) (at first last : ℕ) : Type 0 where
+  pub inside : last ≤ length starts
+  pub below : (k : ℕ) → k < first → slice_index starts k ≤ at
+  pub above : (k : ℕ) → last ≤ k → k < length starts → at < slice_index starts k

@@ -70,6 +70,7 @@ pub(crate) fn decode_str(
 }
 
 /// What `decode_str` does for bytes that are well formed, in one walk that also tests them; none for others.
+#[inline(never)]
 fn decode_well_formed(
     bytes: &[u8],
     tables: &Tables,
