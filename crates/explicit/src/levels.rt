@@ -72,6 +72,14 @@ impl Explicit {
         self.column[p]
     }
 
+    /// X1 to X9: all room, as contracts see it: the explicit level and the current class of each position of the
+    /// paragraph that was filled from, or none where it is removed.
+    pub fn column(&self) -> &[Option<(Level, Class)>]
+        ensures { result.now ≡ self.now }
+    {
+        &self.column
+    }
+
     /// X1 to X9: the current class of the position `p`, BN where it is removed. `p` is a position of the paragraph that
     /// was filled from.
     pub fn class_at(&self, p: usize) -> Class

@@ -1,8 +1,8 @@
 //! A paragraph after X1 to X9, as the walks that find its sequences read it.
-ghost use Rattle.std.specs.Prelude.{◌≡◌, ◌<◌, ◌≤◌, IfSome};
+ghost use Rattle.std.specs.Prelude.{◌≡◌, ◌<◌, ◌≤◌, IfSome, None, Some, length, slice_index_or};
 ghost use Rattle.units.specs.Classes.{class_at, classes_of, is_isolate_initiator};
 ghost use Rattle.units.specs.Paragraphs.{SeparatorOnlyLast};
-ghost use Rattle.units.specs.Runs.{LeveledView, size_of, level_of, matched_pdi};
+ghost use Rattle.units.specs.Runs.{LeveledView, at_one_level, size_of, level_of, matched_pdi};
 ghost use Rattle.explicit.specs.Leveled.{IsLeveled, IsNested};
 ghost use Rattle.units.specs.Isolates.{level_of_para};
 ghost use Rattle.explicit.specs.IsolateMaps.{IsFilledFrom};
@@ -12,6 +12,7 @@ use explicit::isolates::IsolateMap;
 use explicit::levels::Explicit;
 use std::marker::Model;
 use units::bracket::Unit;
+use units::class::Class;
 use units::level::{Level, ParaLevel};
 
 /// A paragraph after X1 to X9.
@@ -19,7 +20,7 @@ use units::level::{Level, ParaLevel};
 pub struct Leveled<'a> {
     para: &'a [Unit],
     isolates: &'a IsolateMap,
-    explicit: &'a Explicit,
+    explicit: &'a [Option<(Level, Class)>],
     base: Level,
 }
 
@@ -33,6 +34,14 @@ impl<'a> Model for Leveled<'a> {
     ghost view = { λ t. leveled_by t.explicit.now (classes_of t.para.now) t.base };
 
     ghost invariant = { λ t. AreOfParagraph t.para.now t.isolates.now t.explicit.now t.base };
+}
+
+/// What was found of the position `p`: its explicit level and its current class, or none where it is removed.
+fn at(explicit: &[Option<(Level, Class)>], p: usize) -> Option<(Level, Class)>
+    requires { p < length explicit.now }
+    ensures { result ≡ slice_index_or explicit.now p None }
+{
+    explicit[p]
 }
 
 impl<'a> Leveled<'a> {
@@ -51,7 +60,7 @@ impl<'a> Leveled<'a> {
         Leveled {
             para,
             isolates,
-            explicit,
+            explicit: explicit.column(),
             base: level.level(),
         }
     }
@@ -78,8 +87,19 @@ impl<'a> Leveled<'a> {
         ensures value { result ≡ level_of self.now p }
         ensures within { IfSome result (λ level. level ≤ 125) }
     {
-        let (level, _) = self.explicit.at(p)?;
+        let (level, _) = at(self.explicit, p)?;
         Some(level)
+    }
+
+    /// Whether the position remains, at this level.
+    pub fn is_at(&self, p: usize, level: Level) -> bool
+        requires { p < size_of self.now }
+        ensures { result ≡ at_one_level (level_of self.now p) (Some level) }
+    {
+        match self.level(p) {
+            Some(here) => here.get() == level.get(),
+            None => false,
+        }
     }
 
     /// Whether the position's own class is LRI, RLI or FSI.

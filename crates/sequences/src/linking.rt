@@ -1,8 +1,10 @@
 //! The links from each position to the next of its sequence (BD13), and what each sequence ends with (X10).
 ghost use Rattle.std.specs.Prelude.{◌≡◌, ◌+◌, ◌<◌, ◌≤◌, ◌&&◌, IfSome, Some, None, is_some, if◌then◌else◌, length};
-ghost use Rattle.units.specs.Runs.{size_of, level_of, at_one_level, level_or_base, remains, matched_pdi, successor, eos_by};
+ghost use Rattle.units.specs.Runs.{size_of, level_of, at_one_level, level_or_base, remains, matched_pdi, successor, eos_at, eos_by, last_in, sequence_from};
+ghost use Rattle.explicit.specs.Leveled.{IsLeveled};
 ghost use Rattle.sequences.specs.Links.{marked};
 ghost use Rattle.sequences.specs.Heads.{AreSuccessors, HasEnds, IsMarked};
+ghost use Rattle.sequences.specs.BackWalks.{BackWalk};
 ghost use Rattle.sequences.specs.Ends.{IsKnown, end_by};
 
 use crate::leveled::Leveled;
@@ -125,6 +127,42 @@ fn mark(link: Option<usize>, joined: &mut [bool])
     }
 }
 
+/// From a position of this level back, links each one before it to the one behind it, as long as they are at that level
+/// and none is between. What their sequence ends with is given. Answers the first of them. Each that is linked is a step.
+fn link_level<L: Ledger>(
+    t: &Leveled,
+    from: usize,
+    level: Level,
+    end: Class,
+    links: &mut [OptionalPosition],
+    ends: &mut [Class],
+    joined: &mut [bool],
+    steps: &mut Steps<L>,
+) -> usize
+    requires small { size_of t.now < u32.MAX }
+    requires leveled { IsLeveled t.now }
+    requires here { from < size_of t.now }
+    requires level { level_of t.now from ≡ Some level }
+    requires end { end ≡ eos_at t.now (last_in (sequence_from t.now from) from) }
+    requires walk { BackWalk t.now from (Some from) links.old ends.old joined.old }
+    ensures before { result ≤ from }
+    ensures level { level_of t.now result ≡ Some level }
+    ensures end { end ≡ eos_at t.now (last_in (sequence_from t.now result) result) }
+    ensures walk { BackWalk t.now result (Some result) links.new ends.new joined.new }
+    ensures steps { steps.new + result ≡ steps.old + from }
+{
+    let mut p = from;
+    while p > 0 && t.is_at(p - 1, level) {
+        links[p - 1] = OptionalPosition::some(p);
+        ends[p - 1] = end;
+        joined[p - 1] = false;
+        joined[p] = true;
+        p -= 1;
+    }
+    steps.add(from - p);
+    p
+}
+
 /// From the last position back, links each position to the next of its sequence, finds what its sequence ends with, and
 /// marks the positions that come after another.
 pub fn link<L: Ledger>(
@@ -148,8 +186,10 @@ pub fn link<L: Ledger>(
         level: t.base(),
         end: t.base().direction(),
     };
-    for p in (0..t.len()).rev() {
+    let mut p = t.len();
+    while p > 0 {
         steps.tick();
+        p -= 1;
         let level = t.level(p);
         let Continuation { link, end } = go_on(t, p, &behind, ends);
         links[p] = link_to(link);
@@ -157,6 +197,7 @@ pub fn link<L: Ledger>(
         joined[p] = false;
         mark(link, joined);
         if let Some(level) = level {
+            p = link_level(t, p, level, end, links, ends, joined, steps);
             behind = Behind {
                 next: Some(p),
                 level,

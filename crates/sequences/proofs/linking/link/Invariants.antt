@@ -1,6 +1,7 @@
 use Rattle.std.proofs.Common.{◌≡◌, ◌+◌}
 use Rattle.units.specs.Runs.{size_of}
-use Rattle.sequences.proofs.Backward.{BackWalk, IsBehind}
+use Rattle.sequences.proofs.Backward.{IsBehind}
+use Rattle.sequences.specs.BackWalks.{BackWalk}
 use Rattle.sequences.proofs.linking.link.Given as goal
 
 abbrev pub invariant-loop-p : goal.invariant-loop-p
@@ -8,3 +9,6 @@ invariant-loop-p g l =
     BackWalk l.t l.p l.behind.next l.links l.ends l.joined
     × IsBehind l.t l.behind
     × (l.steps + l.p ≡ l.fn.steps + size_of l.t)
+
+abbrev pub decreases-loop-p : goal.decreases-loop-p
+decreases-loop-p g l = l.p

@@ -9,11 +9,11 @@ at-requires c = within_explicit c.self.invariant c.self.view_is c.args.p c.requi
 
 pub returns-in_err-level-clause-value : goal.returns-in_err-level-clause-value
 returns-in_err-level-clause-value c =
-    c.from_residual.ensures ∙ sym (level-explicit c.self.invariant c.self.view_is c.args.p c.requires ∙ ap (option_map (λ leveled. leveled.0)) (sym c.at.ensures.kept ∙ c.in_err-level.was))
+    c.from_residual.ensures ∙ sym (level-explicit c.self.invariant c.self.view_is c.args.p c.requires ∙ ap (option_map (λ leveled. leveled.0)) (sym c.at.ensures ∙ c.in_err-level.was))
 
 pub returns-clause-value : goal.returns-clause-value
 returns-clause-value c =
-    sym (level-explicit c.self.invariant c.self.view_is c.args.p c.requires ∙ ap (option_map (λ leveled. leveled.0)) (sym c.at.ensures.kept ∙ c.in_ok-level.was))
+    sym (level-explicit c.self.invariant c.self.view_is c.args.p c.requires ∙ ap (option_map (λ leveled. leveled.0)) (sym c.at.ensures ∙ c.in_ok-level.was))
 
 pub returns-clause-within : goal.returns-clause-within
 returns-clause-within c =

@@ -1,0 +1,16 @@
+use Rattle.std.proofs.Common.{◌≡◌, ◌≤◌}
+use Rattle.std.specs.Prelude.{Some}
+use Rattle.units.specs.Runs.{eos_at, last_in, level_of, sequence_from}
+use Rattle.sequences.specs.BackWalks.{BackWalk}
+use Rattle.sequences.proofs.linking.link_level.Given as goal
+
+abbrev pub invariant-loop-p : goal.invariant-loop-p
+invariant-loop-p g l = record {
+  before : l.p ≤ l.from;
+  here : level_of l.t l.p ≡ Some l.level;
+  end : l.end ≡ eos_at l.t (last_in (sequence_from l.t l.p) l.p);
+  walk : BackWalk l.t l.p (Some l.p) l.links l.ends l.joined;
+}
+
+abbrev pub decreases-loop-p : goal.decreases-loop-p
+decreases-loop-p g l = l.p
