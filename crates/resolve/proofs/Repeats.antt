@@ -108,10 +108,10 @@ neutral_given x c cs ds e =
       | inr f ↦ cond-false (is_neutral c) (taken_before x cs) c f ∙ sym (cond-false (is_neutral c) (taken_before x ds) c f)
     ]
 
-abbrev inside_run : Sides → Class → Sides
+abbrev pub inside_run : Sides → Class → Sides
 inside_run x v = record { embedding = x.embedding; end = x.end; before = x.before; taken = Some v }
 
-abbrev outside_runs : Sides → Class → Sides
+abbrev pub outside_runs : Sides → Class → Sides
 outside_runs x c = record { embedding = x.embedding; end = x.end; before = c; taken = None }
 
 neutral_past : (x : Sides) (c : Class) (cs ds : List Class) → (is_neutral c ≡ true → taken_before x cs ≡ taken_before x ds) → sides_past x c cs ≡ sides_past x c ds

@@ -2,6 +2,7 @@
 use Rattle.std.specs.Prelude.{Bool, true, false, ℕ, zero, suc, ◌+◌, ◌<◌, ◌≤◌, ◌≡◌, List, length, set, slice_index}
 use Rattle.units.specs.Classes.{class_at}
 use Rattle.units.specs.declared.class.Class.{Class}
+use Rattle.resolve.specs.ClassSets.{is_leaning}
 use Rattle.units.specs.declared.class.Class.TheVariants.{L, R, AL, AN, S, WS, ON}
 
 -- letters, Arabic numbers and spaces: what W1 to W7 make of one is what they make of the next of its kind, whatever comes
@@ -21,6 +22,12 @@ pub record IsRunOf (class : Class) (ps : List ℕ) (start end : ℕ) (cs : List 
   pub from_start : start ≤ end
   pub within : end ≤ length ps
   pub same : (k : ℕ) → start ≤ k → k < end → class_at cs (slice_index ps k) ≡ class
+
+-- the positions of the indices from start up to end are neutral or have this direction
+pub record AreLeaning (direction : Class) (ps : List ℕ) (start end : ℕ) (cs : List Class) : Type 0 where
+  pub from_start : start ≤ end
+  pub within : end ≤ length ps
+  pub leaning : (k : ℕ) → start ≤ k → k < end → is_leaning direction (class_at cs (slice_index ps k)) ≡ true
 
 -- a list by position, with one value at the positions of n indices, from start on
 abbrev pub with_along : {X : Type 0} → List ℕ → ℕ → ℕ → X → List X → List X

@@ -2,8 +2,9 @@
 ghost use Rattle.std.specs.Prelude.{◌≡◌, ℕ, ◌+◌, ◌-◌, ◌<◌, ◌≤◌, Some, length, slice_index};
 ghost use Rattle.sequences.specs.Links.{ArePositions};
 ghost use Rattle.units.specs.Classes.{class_at};
-ghost use Rattle.resolve.specs.Repeats.{with_along, IsRunOf};
+ghost use Rattle.resolve.specs.Repeats.{with_along, AreLeaning, IsRunOf};
 
+use crate::class_set::ClassSet;
 use crate::rules::is_same;
 use std::sync::ledger::Ledger;
 use units::class::Class;
@@ -59,6 +60,37 @@ pub(crate) fn give_run_levels<L: Ledger>(
         steps.tick();
         classes[positions[k] as usize] = made;
         levels[positions[k] as usize] = Some(level);
+        k += 1;
+    }
+    k
+}
+
+/// Gives a direction and a level to the positions of a sequence from the index `start` on, as long as they are neutral
+/// or have this direction. It answers the index behind them, and takes a step for each.
+pub(crate) fn give_direction<L: Ledger>(
+    positions: &[u32],
+    start: usize,
+    direction: Class,
+    resolved: Level,
+    classes: &mut [Class],
+    levels: &mut [Option<Level>],
+    steps: &mut Steps<L>,
+) -> usize
+    requires positions { ArePositions positions.now (length classes.old) }
+    requires start { start ≤ length positions.now }
+    requires levels { length levels.old ≡ length classes.old }
+    ensures leaning { AreLeaning direction positions.now start result classes.old }
+    ensures classes { classes.new ≡ with_along positions.now start (result - start) direction classes.old }
+    ensures levels { levels.new ≡ with_along positions.now start (result - start) (Some resolved) levels.old }
+    ensures steps { steps.new + start ≡ steps.old + result }
+{
+    let leaning = ClassSet::leaning(direction);
+    let mut k = start;
+    while k < positions.len() && leaning.holds(classes[positions[k] as usize]) {
+        steps.tick();
+        let p = positions[k] as usize;
+        classes[p] = direction;
+        levels[p] = Some(resolved);
         k += 1;
     }
     k

@@ -1,0 +1,168 @@
+-- N1 and N2 behind text of the embedding direction: neutrals take this direction, whatever comes behind them.
+use Rattle.std.specs.Prelude.{true, ℕ, zero, suc, ◌+◌, ◌<◌, ◌≤◌, ◌≡◌, List, [], ◌∷◌, length, slice_index, refl}
+use Rattle.std.proofs.Common.{arith, ap, sym, subst, ◌∙◌, ◌⊎◌, inl, inr, drop}
+use Rattle.std.proofs.lemmas.Bool.{cases_Bool, cond-true, cond-false, false≢true}
+use Rattle.std.proofs.lemmas.List.{drop-drop}
+use Rattle.units.specs.Classes.{class_at, classes_at, is_neutral}
+use Rattle.units.specs.Neutral.{side_of, agreed, by_sides}
+use Rattle.units.specs.Runs.{direction_of}
+use Rattle.units.specs.declared.class.Class.{Class}
+use Rattle.units.specs.declared.class.Class.TheVariants.{L, R}
+use Rattle.resolve.specs.ClassSets.{is_leaning}
+use Rattle.resolve.specs.Ahead.{first_class}
+use Rattle.resolve.specs.Neutrals.{is_no_neutral, taken_before, by_run, sides_past, owed_in_run}
+use Rattle.resolve.specs.Repeats.{with_along}
+use Rattle.resolve.specs.declared.neutral.Sides.{Sides}
+use Rattle.resolve.proofs.Along.{unwritten}
+use Rattle.resolve.proofs.Repeats.{inside_run, outside_runs, owes_less}
+use Rattle.resolve.proofs.Walked.{Walk, WalkSteps, walked, walk_next, walk_value}
+
+-- a direction is its own side
+pub side_of-direction : (level : ℕ) → side_of (direction_of level) ≡ direction_of level
+side_of-direction level = grind arith
+
+agreed_same : (d after : Class) → agreed d after d ≡ d
+agreed_same L L = refl
+agreed_same L after = refl
+agreed_same R R = refl
+agreed_same R after = refl
+agreed_same d after = refl
+
+by_sides_same : (d after : Class) → side_of d ≡ d → by_sides d d after ≡ d
+by_sides_same d after side = ap (λ (b : Class). agreed b (side_of after) d) side ∙ agreed_same d (side_of after)
+
+-- what leans is the direction or a neutral
+leaning_parts : (d c : Class) → is_leaning d c ≡ true → (is_neutral c ≡ true) ⊎ (c ≡ d)
+leaning_parts L L h = inr refl
+leaning_parts R R h = inr refl
+leaning_parts d c h = inl h
+
+-- a neutral that comes next takes the embedding direction
+pub record Leans (d : Class) (x : Sides) : Type 0 where
+  pub embedding : x.embedding ≡ d
+  pub takes : (cs : List Class) → taken_before x cs ≡ d
+
+leans_inside : (d : Class) (x : Sides) → x.embedding ≡ d → Leans d (inside_run x d)
+leans_inside d x e = record { embedding = e; takes = λ cs. refl }
+
+leans_outside : (d : Class) (x : Sides) → x.embedding ≡ d → side_of d ≡ d → Leans d (outside_runs x d)
+leans_outside d x e side = record { embedding = e; takes = λ cs. let after : Class = first_class is_no_neutral cs x.end in ap (λ (f : Class). by_sides f d after) e ∙ by_sides_same d after side }
+
+-- the embedding direction stays
+pub past_embedding : (x : Sides) (c : Class) (cs : List Class) → (sides_past x c cs).embedding ≡ x.embedding
+past_embedding x c cs =
+    elim (cases_Bool (is_neutral c)) [
+      | inl t ↦ ap (λ (y : Sides). y.embedding) (cond-true (is_neutral c) (inside_run x (taken_before x cs)) (outside_runs x c) t)
+      | inr f ↦ ap (λ (y : Sides). y.embedding) (cond-false (is_neutral c) (inside_run x (taken_before x cs)) (outside_runs x c) f)
+    ]
+
+-- what is known behind a class that became the embedding direction
+pub leans_taken : (d : Class) (x y : Sides) (c made : Class) (cs : List Class) → side_of d ≡ d → x.embedding ≡ d → made ≡ d →
+    made ≡ by_run x c cs → y ≡ sides_past x c cs → Leans d y
+leans_taken d x y c made cs side embedding is value known =
+    elim (cases_Bool (is_neutral c)) [
+      | inl t ↦
+          let took : taken_before x cs ≡ d = sym (cond-true (is_neutral c) (taken_before x cs) c t) ∙ sym value ∙ is in
+          let e : y ≡ inside_run x d =
+          known ∙ cond-true (is_neutral c) (inside_run x (taken_before x cs)) (outside_runs x c) t ∙ ap (inside_run x) took in
+          subst (Leans d) (sym e) (leans_inside d x embedding)
+      | inr f ↦
+          let own : c ≡ d = sym (cond-false (is_neutral c) (taken_before x cs) c f) ∙ sym value ∙ is in
+          let e : y ≡ outside_runs x d =
+          known ∙ cond-false (is_neutral c) (inside_run x (taken_before x cs)) (outside_runs x c) f ∙ ap (outside_runs x) own in
+          subst (Leans d) (sym e) (leans_outside d x embedding side)
+    ]
+
+module _ (d : Class) (side : side_of d ≡ d) where
+  -- what leans becomes the direction
+  leaning_given : (x : Sides) → Leans d x → (c : Class) (cs : List Class) → is_leaning d c ≡ true → by_run x c cs ≡ d
+  leaning_given x l c cs h =
+      elim (cases_Bool (is_neutral c)) [
+        | inl t ↦ cond-true (is_neutral c) (taken_before x cs) c t ∙ l.takes cs
+        | inr f ↦ elim (leaning_parts d c h) [
+          | inl t ↦ absurd (false≢true (sym f ∙ t))
+          | inr e ↦ cond-false (is_neutral c) (taken_before x cs) c f ∙ e
+        ]
+      ]
+
+  -- and behind it the direction is still what comes next
+  leaning_past : (x : Sides) → Leans d x → (c : Class) (cs : List Class) → is_leaning d c ≡ true → Leans d (sides_past x c cs)
+  leaning_past x l c cs h = leans_taken d x (sides_past x c cs) c (by_run x c cs) cs side l.embedding (leaning_given x l c cs h) refl refl
+
+  past_end : (x : Sides) (c : Class) (cs : List Class) → (sides_past x c cs).end ≡ x.end
+  past_end x c cs =
+      elim (cases_Bool (is_neutral c)) [
+        | inl t ↦ ap (λ (y : Sides). y.end) (cond-true (is_neutral c) (inside_run x (taken_before x cs)) (outside_runs x c) t)
+        | inr f ↦ ap (λ (y : Sides). y.end) (cond-false (is_neutral c) (inside_run x (taken_before x cs)) (outside_runs x c) f)
+      ]
+
+  -- nothing else is to be known
+  leaning_alike : (x y : Sides) → Leans d x → Leans d y → x.end ≡ y.end → (cs : List Class) → walked by_run sides_past x cs ≡ walked by_run sides_past y cs
+  leaning_alike x y l m end [] = refl
+  leaning_alike x y l m end (c ∷ cs) =
+      elim (cases_Bool (is_neutral c)) [
+        | inl t ↦
+            let x_is : sides_past x c cs ≡ inside_run x d = cond-true (is_neutral c) (inside_run x (taken_before x cs)) (outside_runs x c) t ∙ ap (inside_run x) (l.takes cs) in
+            let y_is : sides_past y c cs ≡ inside_run y d = cond-true (is_neutral c) (inside_run y (taken_before y cs)) (outside_runs y c) t ∙ ap (inside_run y) (m.takes cs) in
+            let given_x : by_run x c cs ≡ d = cond-true (is_neutral c) (taken_before x cs) c t ∙ l.takes cs in
+            let given_y : by_run y c cs ≡ d = cond-true (is_neutral c) (taken_before y cs) c t ∙ m.takes cs in
+            let rest : walked by_run sides_past (inside_run x d) cs ≡ walked by_run sides_past (inside_run y d) cs =
+            leaning_alike (inside_run x d) (inside_run y d) (leans_inside d x l.embedding) (leans_inside d y m.embedding) end cs in
+            ap (λ (e : Class). e ∷ walked by_run sides_past (sides_past x c cs) cs) (given_x ∙ sym given_y)
+            ∙ ap (λ (ds : List Class). by_run y c cs ∷ ds)
+            (ap (λ (z : Sides). walked by_run sides_past z cs) x_is ∙ rest ∙ sym (ap (λ (z : Sides). walked by_run sides_past z cs) y_is))
+        | inr f ↦
+            let same : outside_runs x c ≡ outside_runs y c = cc (l.embedding, m.embedding, end) in
+            let x_is : sides_past x c cs ≡ outside_runs x c = cond-false (is_neutral c) (inside_run x (taken_before x cs)) (outside_runs x c) f in
+            let y_is : sides_past y c cs ≡ outside_runs y c = cond-false (is_neutral c) (inside_run y (taken_before y cs)) (outside_runs y c) f in
+            let given_x : by_run x c cs ≡ c = cond-false (is_neutral c) (taken_before x cs) c f in
+            let given_y : by_run y c cs ≡ c = cond-false (is_neutral c) (taken_before y cs) c f in
+            ap (λ (e : Class). e ∷ walked by_run sides_past (sides_past x c cs) cs) (given_x ∙ sym given_y)
+            ∙ ap (λ (z : Sides). by_run y c cs ∷ walked by_run sides_past z cs) (x_is ∙ same ∙ sym y_is)
+      ]
+
+  module _ {begin : Sides} {ps : List ℕ} {start now : List Class} {x : Sides} {k : ℕ} (w : Walk by_run sides_past begin ps start now x k) (l : Leans d x) where
+    leaning_reads : (n : ℕ) → k + n < length ps → is_leaning d (class_at now (slice_index ps (k + n))) ≡ true →
+        is_leaning d (class_at (with_along ps k n d now) (slice_index ps (k + n))) ≡ true
+    leaning_reads n within h = ap (is_leaning d) (unwritten ps k n (k + n) d now w.pass.positions (omega arith) within) ∙ h
+
+    -- the walk goes on over what leans
+    pub walk_leaning : (n : ℕ) → k + n ≤ length ps → ((i : ℕ) → k ≤ i → i < k + n → is_leaning d (class_at now (slice_index ps i)) ≡ true) →
+        Walk by_run sides_past begin ps start (with_along ps k n d now) x (k + n)
+    walk_leaning zero within h = let e : k ≡ k + 0 = omega arith in subst (λ m. Walk by_run sides_past begin ps start now x m) e w
+    walk_leaning (suc n) within h =
+        let before : Walk by_run sides_past begin ps start (with_along ps k n d now) x (k + n) = walk_leaning n (omega arith) (λ i low high. h i low (omega arith)) in
+        let inside : k + n < length ps = omega arith in
+        let c : Class = class_at (with_along ps k n d now) (slice_index ps (k + n)) in
+        let leaning : is_leaning d c ≡ true = leaning_reads n inside (h (k + n) (omega arith) (omega arith)) in
+        let cs : List Class = classes_at (with_along ps k n d now) (drop (k + n + 1) ps) in
+        let next : Walk by_run sides_past begin ps start (with_along ps k (suc n) d now) (sides_past x c cs) (k + n + 1) =
+        walk_next before inside d (sides_past x c cs) (drop (k + n + 1) ps) refl (sym (leaning_given x l c cs leaning)) refl in
+        let alike = leaning_alike (sides_past x c cs) x (leaning_past x l c cs leaning) l (past_end x c cs) (drop (k + n + 1) (classes_at start ps)) in
+        let e : k + n + 1 ≡ k + suc n = omega arith in
+        subst (λ m. Walk by_run sides_past begin ps start (with_along ps k (suc n) d now) x m) e (record { pass = next.pass; left = next.left ∙ alike })
+
+    -- what it makes of each
+    pub leaning_value : (n : ℕ) → k + n < length ps → ((i : ℕ) → k ≤ i → i ≤ k + n → is_leaning d (class_at now (slice_index ps i)) ≡ true) →
+        d ≡ class_at (walked by_run sides_past begin (classes_at start ps)) (k + n)
+    leaning_value n inside h =
+        let before = walk_leaning n (omega arith) (λ i low high. h i low (omega arith)) in
+        let c : Class = class_at (with_along ps k n d now) (slice_index ps (k + n)) in
+        let leaning : is_leaning d c ≡ true = leaning_reads n inside (h (k + n) (omega arith) (omega arith)) in
+        let cs : List Class = classes_at (with_along ps k n d now) (drop (k + n + 1) ps) in
+        sym (leaning_given x l c cs leaning) ∙ walk_value before inside (drop (k + n + 1) ps) refl
+
+no_fewer : (a n : ℕ) → a ≤ a + n
+no_fewer a n = omega arith
+
+owes_front : (x : Sides) (n : ℕ) (cs : List Class) → owed_in_run x cs ≤ owed_in_run x (drop n cs) + n
+owes_front x zero cs = no_fewer (owed_in_run x cs) zero
+owes_front x (suc n) [] = no_fewer (owed_in_run x []) (suc n)
+owes_front x (suc n) (c ∷ cs) = omega (arith, owes_less x c cs, owes_front x n cs)
+
+owes_fewer : (x : Sides) (k n : ℕ) (cs : List Class) → owed_in_run x (drop k cs) ≤ owed_in_run x (drop (k + n) cs) + n
+owes_fewer x k n cs = omega (arith, owes_front x n (drop k cs), ap (owed_in_run x) (drop-drop n k cs))
+
+-- a step for each
+pub leaning_steps : (x : Sides) (k n first last : ℕ) (cs : List Class) → WalkSteps owed_in_run cs x k first last → WalkSteps owed_in_run cs x (k + n) first (last + n)
+leaning_steps x k n first last cs s = record { at_least = omega (arith, s.at_least); at_most = omega (arith, s.at_most, owes_fewer x k n cs) }

@@ -1,0 +1,14 @@
+use Rattle.std.proofs.Common.{◌≡◌, ◌+◌, ◌-◌, Some, length}
+use Rattle.resolve.specs.Repeats.{with_along, AreLeaning}
+use Rattle.resolve.proofs.runs.give_direction.Given as goal
+
+abbrev pub invariant-loop-k : goal.invariant-loop-k
+invariant-loop-k g l = record {
+  leaning : AreLeaning l.direction l.positions l.start l.k l.initial.classes;
+  classes : l.classes ≡ with_along l.positions l.start (l.k - l.start) l.direction l.initial.classes;
+  levels : l.levels ≡ with_along l.positions l.start (l.k - l.start) (Some l.resolved) l.initial.levels;
+  steps : l.steps + l.start ≡ l.initial.steps + l.k;
+}
+
+abbrev pub decreases-loop-k : goal.decreases-loop-k
+decreases-loop-k g l = length l.positions - l.k
