@@ -107,3 +107,12 @@ module _ {links : List (Option ℕ)} {whole pushed : List ℕ} {at : Option ℕ}
 
   pub pushed_more : (p : ℕ) → at ≡ Some p → (more : List ℕ) → more ≡ pushed ++ p ∷ [] → (next : Option ℕ) → next ≡ link_at links p → IsPushed links whole more next
   pushed_more p e more m next n = grind (arith, append_assoc, pushed_step)
+
+-- before a walk nothing of it is pushed
+pub pushed_first : (links : List (Option ℕ)) (first : ℕ) → first < length links → (pushed : List ℕ) → IsPushed links (pushed ++ linked links (Some first)) pushed (Some first)
+pushed_first links first l pushed = record { within = l; all = refl }
+
+-- what is pushed up to a position, and what that one leads to
+pub pushed_to : (links : List (Option ℕ)) → LinksForward links → (whole pushed : List ℕ) (p : ℕ) → pushed ++ linked links (link_at links p) ≡ whole →
+    (next : Option ℕ) → next ≡ link_at links p → IsPushed links whole pushed next
+pushed_to links h whole pushed p e next n = rw n (record { within = IfSome_then (link_at links p) (h p) (λ q v. v.1); all = e })

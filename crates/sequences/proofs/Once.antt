@@ -4,7 +4,7 @@ use Rattle.std.proofs.lemmas.Grind.{common_steps}
 use Rattle.std.specs.Prelude.{Option, Some, None, ℕ, zero, suc, Bool, true, false, not, ◌==◌, ◌+◌, ◌<◌, ◌≤◌, ◌≡◌, List, [], ◌∷◌, ◌++◌, cond, map, filter, IfSome, is_some, refl}
 use Rattle.std.specs.List.{flat_map, list_any}
 use Rattle.std.proofs.Common.{arith, ap, sym, ◌∙◌, subst, inl, inr}
-use Rattle.std.proofs.lemmas.Bool.{cases_Bool, cases_eq, cases_lt, cond-true, cond-false, false≢true, eqb-true, eq-eqb, ne_eqb, and_parts, and_from, not-true, not_from_false}
+use Rattle.std.proofs.lemmas.Bool.{cases_Bool, cases_eq, cases_lt, cond-true, cond-false, false≢true, eqb-true, eq-eqb, ne_eqb, and_parts, and_from, false_from_ne_true, not-true, not_from_false}
 use Rattle.std.proofs.lemmas.List.{get_or_past}
 use Rattle.std.proofs.lemmas.List.Sums.{sum_by-cons, sum_by-append}
 use Rattle.units.specs.Positions.{same_position, positions_from}
@@ -79,7 +79,7 @@ held-other t p x xs b =
     ap (λ (ys : List ℕ). times (flat_map (sequence_from t) ys) p) (cond-false (begins_sequence t x) (x ∷ filter (begins_sequence t) xs) (filter (begins_sequence t) xs) b)
 
 module _ (t : LeveledView) (h : IsLeveled t) (n : IsNested t) where
-  begins_remains : (p : ℕ) → begins_sequence t p ≡ true → remains t p ≡ true
+  pub begins_remains : (p : ℕ) → begins_sequence t p ≡ true → remains t p ≡ true
   begins_remains p b = (and_parts _ _ b).0
 
   -- where a sequence begins, nothing leads to
@@ -90,7 +90,10 @@ module _ (t : LeveledView) (h : IsLeveled t) (n : IsNested t) where
       let l : q < size_of t = remains_within t q (successor_remains t q p e) in
       false≢true (sym (any_none (λ q. same_position (successor t q) (Some p)) 0 (size_of t) none q (omega arith) (omega arith)) ∙ same_to (successor t q) p e)
 
-  leads_to_remaining : (x : ℕ) → IfSome (successor t x) (λ y. remains t y ≡ true)
+  pub begins_once : (p q : ℕ) → successor t q ≡ Some p → begins_sequence t p ≡ false
+  begins_once p q e = false_from_ne_true (begins_sequence t p) (λ b. begins_first p b q e)
+
+  pub leads_to_remaining : (x : ℕ) → IfSome (successor t x) (λ y. remains t y ≡ true)
   leads_to_remaining x = grind (arith, if_some, successor_cases, successor_remains)
 
   -- a removed position stands in no walk

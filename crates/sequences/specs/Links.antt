@@ -1,5 +1,5 @@
 -- Positions that are joined by links, each to the next.
-use Rattle.std.specs.Prelude.{Option, Bool, true, false, ℕ, ◌+◌, ◌<◌, ◌≡◌, List, length, Some, None, IfSome, slice_index, slice_index_or, slice_set, slice_get}
+use Rattle.std.specs.Prelude.{Option, Bool, true, false, ℕ, ◌+◌, ◌<◌, ◌≤◌, ◌≡◌, List, length, Some, None, IfSome, slice_index, slice_index_or, slice_set, slice_get}
 use Rattle.units.specs.Runs.{followed}
 
 -- the link of a position, if it has one
@@ -26,6 +26,12 @@ IsForward next end = (p : ℕ) → IfSome (next p) (λ q. (p < q) × (q < end))
 -- each link leads to a later position
 abbrev pub LinksForward : List (Option ℕ) → Type 0
 LinksForward links = IsForward (link_at links) (length links)
+
+-- each position from this one on, before the last, is linked to the one right behind it
+pub record IsLinkedStretch (links : List (Option ℕ)) (first last : ℕ) : Type 0 where
+  pub later : first ≤ last
+  pub within : last < length links
+  pub each : (p : ℕ) → first ≤ p → p < last → link_at links p ≡ Some (p + 1)
 
 -- positions of a paragraph of so many, rising
 pub record ArePositions (ps : List ℕ) (extent : ℕ) : Type 0 where

@@ -1,7 +1,7 @@
 //! Where sequences begin: their first positions, and what is said of each (BD13, X10).
-ghost use Rattle.std.specs.Prelude.{◌≡◌, ◌≤◌, ◌+◌, ◌++◌, ◌<◌, IfSome, Some, length, take};
+ghost use Rattle.std.specs.Prelude.{◌≡◌, ◌≤◌, ◌+◌, ◌-◌, ◌++◌, ◌<◌, IfSome, Some, length, take, true};
 ghost use Rattle.units.specs.Runs.{size_of, last_remaining, begins_sequence, sequence_from};
-ghost use Rattle.sequences.specs.Links.{linked, LinksForward};
+ghost use Rattle.sequences.specs.Links.{IsLinkedStretch, link_at, linked, LinksForward};
 ghost use Rattle.sequences.specs.Heads.{IsMarked, HasEnds, AreSuccessors, head_at, heads_of, column_of};
 
 use crate::leveled::Leveled;
@@ -32,9 +32,26 @@ fn begins(t: &Leveled, joined: &[bool], p: usize) -> bool
     t.level(p).is_some() && !joined[p]
 }
 
-/// Writes the position that is given, and what its links lead to, into the column from `start` on. Answers where they
-/// end.
-fn write_linked<L: Ledger>(
+/// What was written of a sequence: where its positions end in the column, and the last of those that follow its first
+/// one without a gap.
+#[derive(Clone, Copy)]
+struct Written {
+    end: usize,
+    last: usize,
+}
+
+/// Whether a position is linked to the one right behind it.
+fn leads_on(links: &[OptionalPosition], p: usize) -> bool
+    requires small { length links.now < u32.MAX }
+    requires here { p < length links.now }
+    ensures { result ≡ true → link_at links.now p ≡ Some (p + 1) }
+{
+    links[p] == OptionalPosition::some(p + 1)
+}
+
+/// Writes the position that is given, and those behind it as long as each is linked to the one right behind it, into
+/// the column from `start` on. Answers the last of them.
+fn write_stretch<L: Ledger>(
     links: &[OptionalPosition],
     first: usize,
     column: &mut [u32],
@@ -45,19 +62,49 @@ fn write_linked<L: Ledger>(
     requires linked { LinksForward links.now }
     requires first { first < length links.now }
     requires room { start + length (linked links.now (Some first)) ≤ length column.old }
-    ensures column { take result column.new ≡ take start column.old ++ linked links.now (Some first) }
-    ensures end { result ≡ start + length (linked links.now (Some first)) }
+    ensures stretch { IsLinkedStretch links.now first result }
+    ensures column { take (start + (result - first) + 1) column.new ++ linked links.now (link_at links.now result)
+        ≡ take start column.old ++ linked links.now (Some first) }
+    ensures rest { start + (result - first) + 1 + length (linked links.now (link_at links.now result))
+        ≡ start + length (linked links.now (Some first)) }
+    ensures steps { steps.new + first ≡ steps.old + result + 1 }
+{
+    let mut p = first;
+    column[start] = first as u32;
+    while leads_on(links, p) {
+        p += 1;
+        column[start + (p - first)] = p as u32;
+    }
+    steps.add(p - first + 1);
+    p
+}
+
+/// Writes the position that is given, and what its links lead to, into the column from `start` on.
+fn write_linked<L: Ledger>(
+    links: &[OptionalPosition],
+    first: usize,
+    column: &mut [u32],
+    start: usize,
+    steps: &mut Steps<L>,
+) -> Written
+    requires small { length links.now < u32.MAX }
+    requires linked { LinksForward links.now }
+    requires first { first < length links.now }
+    requires room { start + length (linked links.now (Some first)) ≤ length column.old }
+    ensures stretch { IsLinkedStretch links.now first result.last }
+    ensures column { take result.end column.new ≡ take start column.old ++ linked links.now (Some first) }
+    ensures end { result.end ≡ start + length (linked links.now (Some first)) }
     ensures steps { steps.new ≡ steps.old + length (linked links.now (Some first)) }
 {
-    let mut end = start;
-    let mut at = Some(first);
+    let last = write_stretch(links, first, column, start, steps);
+    let mut end = start + (last - first) + 1;
+    let mut at = links[last].get();
     while let Some(p) = at {
-        steps.tick();
-        column[end] = p as u32;
-        end += 1;
-        at = links[p].get();
+        let q = write_stretch(links, p, column, end, steps);
+        end = end + (q - p) + 1;
+        at = links[q].get();
     }
-    end
+    Written { end, last }
 }
 
 /// What is stored of the sequence that begins at `p`, whose positions stand in the column from `start` up to `end`.
@@ -90,7 +137,8 @@ fn make_head(
 }
 
 /// Writes the heads of the sequences in the order of their first positions, and the positions of each in one column,
-/// both from the front on. Answers how many sequences there are.
+/// both from the front on. Answers how many sequences there are. No sequence begins at a position that another is
+/// linked to, so those that are written without a gap are passed at once.
 pub fn fill_heads<L: Ledger>(
     t: &Leveled,
     links: &[OptionalPosition],
@@ -117,17 +165,21 @@ pub fn fill_heads<L: Ledger>(
     let mut count = 0;
     let mut end = 0;
     let mut last = None;
-    for p in 0..t.len() {
+    let mut p = 0;
+    while p < t.len() {
         steps.tick();
         if begins(t, joined, p) {
-            let start = end;
-            end = write_linked(links, p, column, start, steps);
-            heads[count] = make_head(t, ends, last, p, start, end);
+            let written = write_linked(links, p, column, end, steps);
+            heads[count] = make_head(t, ends, last, p, end, written.end);
             count += 1;
+            end = written.end;
+            steps.add(written.last - p);
+            p = written.last;
         }
         if t.level(p).is_some() {
             last = Some(p);
         }
+        p += 1;
     }
     count
 }

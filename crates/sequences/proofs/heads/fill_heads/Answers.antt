@@ -1,24 +1,27 @@
-use Rattle.std.proofs.Common.{arith, rules, ap, sym, subst, ◌≡◌, ℕ, List, ◌+◌, ◌≤◌, ◌∙◌, ◌++◌, refl, length, take}
+use Rattle.std.proofs.Common.{arith, rules, ap, sym, subst, ◌≡◌, ℕ, List, ◌+◌, ◌<◌, ◌≤◌, ◌∙◌, ◌++◌, ◌⊎◌, inl, inr, true, refl, length, take}
 use Rattle.std.proofs.lemmas.List.{length-take-le, take_more_set}
-use Rattle.units.specs.Runs.{size_of}
+use Rattle.units.specs.Runs.{begins_sequence, remains, size_of}
 use Rattle.sequences.specs.Heads.{column_of}
-use Rattle.sequences.proofs.Filled.{links_lead_on, linked_is}
-use Rattle.sequences.proofs.HeadWalks.{Stored, stored_room, stored_push, stored_same, stored_count, stored_few, stored_end, head_walk_here, head_walk_same}
+use Rattle.sequences.specs.Links.{IsLinkedStretch}
+use Rattle.sequences.specs.declared.heads.Head.{Head}
+use Rattle.sequences.proofs.Filled.{links_are, links_lead_on, linked_is}
+use Rattle.sequences.proofs.HeadWalks.{IsRun, Stored, stored_past, last_remains, stored_room, stored_push, stored_same, stored_count, stored_few, stored_end, head_walk_at, head_walk_next}
+use Rattle.sequences.proofs.Once.{begins_remains}
 use Rattle.sequences.proofs.heads.fill_heads.Goals as goal
 use Rattle.sequences.proofs.heads.fill_heads.Goals.{then-begins, else-begins, then-is_some, else-is_some}
 
-pub write_linked-end-requires-clause-linked : goal.write_linked-end-requires-clause-linked
-write_linked-end-requires-clause-linked g c =
-    links_lead_on c.args.t.now c.args.links.now c.requires.links_fit c.requires.links c.len-p-end.ensures.leveled
+pub write_linked-written-requires-clause-linked : goal.write_linked-written-requires-clause-linked
+write_linked-written-requires-clause-linked g c =
+    links_lead_on c.args.t.now c.args.links.now c.requires.links_fit c.requires.links c.len.ensures.leveled
 
-pub write_linked-end-requires-clause-room : goal.write_linked-end-requires-clause-room
-write_linked-end-requires-clause-room g c =
+pub write_linked-written-requires-clause-room : goal.write_linked-written-requires-clause-room
+write_linked-written-requires-clause-room g c =
     let walk = linked_is c.args.t.now c.args.links.now c.requires.links_fit c.requires.links c.loop-p.p in
     omega (
       arith,
       ap length walk,
       length-take-le c.loop-p.end c.loop-p.column c.loop-p.invariant.column_fit,
-      stored_room c.loop-p.invariant.walk.stored c.len-p-end.ensures.leveled c.len-p-end.ensures.nested (omega arith) (search rules),
+      stored_room c.loop-p.invariant.walk.stored c.len.ensures.leveled c.len.ensures.nested (omega arith) (search rules),
     )
 
 pub make_head-requires-clause-small : goal.make_head-requires-clause-small
@@ -28,7 +31,7 @@ make_head-requires-clause-small g c =
       arith,
       ap length walk,
       length-take-le c.loop-p.end c.loop-p.column c.loop-p.invariant.column_fit,
-      stored_room c.loop-p.invariant.walk.stored c.len-p-end.ensures.leveled c.len-p-end.ensures.nested (omega arith) (search rules),
+      stored_room c.loop-p.invariant.walk.stored c.len.ensures.leveled c.len.ensures.nested (omega arith) (search rules),
     )
 
 pub make_head-requires-clause-positions : goal.make_head-requires-clause-positions
@@ -38,38 +41,55 @@ make_head-requires-clause-positions g c =
 pub loop-p-preserved : goal.loop-p-preserved
 loop-p-preserved g c =
     let t = c.args.t.now in
+    let links = c.args.links.now in
     let p : ℕ = c.loop-p.p in
+    let next : ℕ = c.if-begins.p in
     let column : List ℕ = take c.loop-p.end c.loop-p.column in
+    let heads : List Head = take c.if-begins.count c.if-begins.heads in
+    let more : List ℕ = take c.if-begins.end c.if-begins.column in
     let w0 = c.loop-p.invariant.walk in
+    let h = c.len.ensures.leveled in
+    let n = c.len.ensures.nested in
     let few : c.loop-p.count ≤ p = stored_few t p c.loop-p.count c.loop-p.end c.loop-p.heads c.loop-p.column w0.stored c.loop-p.invariant.heads_fit c.loop-p.invariant.column_fit in
-    let walk = linked_is t c.args.links.now c.requires.links_fit c.requires.links p in
-    let stored : Stored t (p + 1) (take c.if-begins.count c.if-begins.heads) (take c.if-begins.end c.if-begins.column) =
+    let walk = linked_is t links c.requires.links_fit c.requires.links p in
+    let run : (last : ℕ) → IsLinkedStretch links p last → IsRun t p last = λ last s k low high. sym (links_are t links c.requires.links_fit c.requires.links k) ∙ s.each k low high in
+    let stored : Stored t (next + 1) heads more =
     elim c.if-begins.branch [
-      | then-begins w ↦ rw (w.heads-is, w.column-is, w.count-is, w.end-is)
+      | then-begins w ↦ rw (w.heads-is, w.column-is, w.count-is, w.end-is, w.p-is)
+          (stored_past t h n p w.write_linked-written.result.last (run _ w.write_linked-written.ensures.stretch) w.write_linked-written.ensures.stretch.later _ _
           (stored_push w0.stored _ w.make_head.result _ c.loop-p.end (search rules) w.make_head.ensures (sym (length-take-le c.loop-p.end c.loop-p.column c.loop-p.invariant.column_fit))
           (take_more_set c.loop-p.heads c.loop-p.count w.make_head.result (omega arith))
-          (w.write_linked-end.ensures.column ∙ ap (λ (ps : List ℕ). column ++ ps) walk))
-      | else-begins w ↦ rw (w.heads-is, w.column-is, w.count-is, w.end-is) (stored_same w0.stored _ _ (search rules) refl refl)
+          (w.write_linked-written.ensures.column ∙ ap (λ (ps : List ℕ). column ++ ps) walk)))
+      | else-begins w ↦ rw (w.heads-is, w.column-is, w.count-is, w.end-is, w.p-is) (stored_same w0.stored _ _ (search rules) refl refl)
     ] in
-    let sizes : (c.if-begins.count ≤ length c.if-begins.heads) × (c.if-begins.end ≤ length c.if-begins.column) × (c.if-begins.steps ≡ c.args.steps.now + (p + 1) + c.if-begins.end) =
+    let kept : (next ≡ p) ⊎ (remains t next ≡ true) =
+    elim c.if-begins.branch [
+      | then-begins w ↦
+          let begins : begins_sequence t p ≡ true = sym c.begins.ensures ∙ w.if-begins.true in
+          inr (rw w.p-is (last_remains t h n p w.write_linked-written.result.last (run _ w.write_linked-written.ensures.stretch) w.write_linked-written.ensures.stretch.later (begins_remains t h n p begins)))
+      | else-begins w ↦ inl w.p-is
+    ] in
+    let sizes : (c.if-begins.count ≤ length c.if-begins.heads) × (c.if-begins.end ≤ length c.if-begins.column) × (c.if-begins.steps ≡ c.args.steps.now + (next + 1) + c.if-begins.end) × (next < size_of t) =
     elim c.if-begins.branch [
       | then-begins w ↦ (
         rw w.count-is (omega arith),
         rw w.end-is (omega (
           arith,
-          w.write_linked-end.ensures.end,
+          w.write_linked-written.ensures.end,
           ap length walk,
           length-take-le c.loop-p.end c.loop-p.column c.loop-p.invariant.column_fit,
-          stored_room w0.stored c.len-p-end.ensures.leveled c.len-p-end.ensures.nested (omega arith) (search rules),
+          stored_room w0.stored h n (omega arith) (search rules),
         )),
-        rw (w.end-is, w.steps-is) (omega arith),
+        rw (w.end-is, w.steps-is, w.p-is) (omega (arith, w.write_linked-written.ensures.stretch.later)),
+        rw w.p-is (omega (arith, w.write_linked-written.ensures.stretch.within, c.requires.links_fit)),
       )
-      | else-begins w ↦ (rw w.count-is (omega arith), rw w.end-is (omega arith), rw (w.end-is, w.steps-is) (omega arith))
+      | else-begins w ↦ (rw w.count-is (omega arith), rw w.end-is (omega arith), rw (w.end-is, w.steps-is, w.p-is) (omega arith), rw w.p-is (omega arith))
     ] in
     record {
+      within = omega (arith, sizes.3);
       walk = elim c.if-is_some.branch [
-        | then-is_some w ↦ rw w.last-is (head_walk_here w0 stored (search rules))
-        | else-is_some w ↦ rw w.last-is (head_walk_same w0 stored (search rules))
+        | then-is_some w ↦ rw w.last-is (head_walk_at t next heads more stored (search rules))
+        | else-is_some w ↦ rw w.last-is (head_walk_next w0 kept heads more stored (search rules))
       ];
       heads_fit = sizes.0;
       column_fit = sizes.1;
