@@ -9,6 +9,8 @@ use Rattle.units.specs.Isolates.{para_level_of}
 use Rattle.units.specs.Paragraphs.{paragraphs_of}
 use Rattle.units.specs.Layout.{layout_of, para_levels_of, resolved_levels}
 use Rattle.units.specs.Limits.{LimitsOf}
+use Rattle.lines.specs.declared.scratch.Scratch.{Scratch}
+use Rattle.bidtests.specs.LaidOut.{IsLaidOut}
 use Rattle.bidtests.specs.Verdicts.{Claim, wrong_case}
 use Rattle.bidtests.specs.Comparisons.{HasNoWrongPlace}
 
@@ -38,15 +40,27 @@ one-laid-out-alike limits text d e breaks level one all =
 head-same : {x y : ℕ} → x ∷ [] ≡ y ∷ [] → x ≡ y
 head-same same = cc
 
+-- a text is laid out alike under a direction that gives its only paragraph, whatever its classes are, the level that it has
+pub alike-by-level : (limits : LimitsOf) (text : List BidiUnit) (d e : Direction) (levels : List ℕ) → levels ≡ para_levels_of text d
+    → ((classes : List Class) → levels ≡ para_level_of classes e ∷ []) → layout_of limits text d [] ≡ layout_of limits text e []
+alike-by-level limits text d e levels are same =
+    let one : para_levels_of text d ≡ para_level_of [] e ∷ [] = sym are ∙ same [] in
+    let all : (classes : List Class) → para_level_of classes e ≡ para_level_of [] e = λ classes. head-same (sym (same classes) ∙ same []) in
+    one-laid-out-alike limits text d e [] (para_level_of [] e) one all
+
 -- a claim that is right under one direction is so under another that gives its text's only paragraph the same level
 pub also-right : (limits : LimitsOf) (claim : Claim) (d : Direction) (found : Option Direction) (levels : List ℕ) → levels ≡ para_levels_of claim.text d
     → IfSome found (λ e. (classes : List Class) → levels ≡ para_level_of classes e ∷ []) → HasNoWrongPlace limits claim d → IfSome found (HasNoWrongPlace limits claim)
 also-right limits claim d None levels are same right = tt
 also-right limits claim d (Some e) levels are same right =
-    let one : para_levels_of claim.text d ≡ para_level_of [] e ∷ [] = sym are ∙ same [] in
-    let all : (classes : List Class) → para_level_of classes e ≡ para_level_of [] e = λ classes. head-same (sym (same classes) ∙ same []) in
-    let alike = one-laid-out-alike limits claim.text d e [] (para_level_of [] e) one all in
+    let alike = alike-by-level limits claim.text d e levels are same in
     rw (← alike) right
+
+-- the layout that a scratch holds is also that under such a direction, if one is found
+pub also-laid-out : (limits : LimitsOf) (text : List BidiUnit) (scratch : Scratch) (d : Direction) (found : Option Direction) (levels : List ℕ) → levels ≡ para_levels_of text d
+    → IfSome found (λ e. (classes : List Class) → levels ≡ para_level_of classes e ∷ []) → IsLaidOut limits text scratch d → IfSome found (IsLaidOut limits text scratch)
+also-laid-out limits text scratch d None levels are same laid = tt
+also-laid-out limits text scratch d (Some e) levels are same laid = record { filled = laid.filled; layout = laid.layout ∙ alike-by-level limits text d e levels are same }
 
 -- a direction under which the claim is right is passed over
 pub passed-over : (limits : LimitsOf) (claim : Claim) (ds : List Direction) (i : ℕ) (d : Direction) → i < length ds → HasNoWrongPlace limits claim (get_or ds i d) → wrong_case limits claim (drop i ds) ≡ wrong_case limits claim (drop (i + 1) ds)

@@ -1,5 +1,6 @@
 pub mod Verdicts
 pub mod Comparisons
+pub mod LaidOut
 pub mod ClassesFile
 pub mod CharactersFile
 pub mod FileKinds

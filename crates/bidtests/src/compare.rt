@@ -102,7 +102,7 @@ pub enum Comparison {
 
 /// The direction that gives the paragraph of a text of one paragraph the level that it has, whatever its classes are.
 #[tactic(auto, unfolding(units::specs::Isolates::para_level_of))]
-fn direction_by_level(paras: &[ParaLevel]) -> Option<Direction>
+pub(crate) fn direction_by_level(paras: &[ParaLevel]) -> Option<Direction>
     ensures level { IfSome result (λ direction. (classes : List Class)
         → map level_of_para paras.now ≡ para_level_of classes direction ∷ []) }
     ensures one { length paras.now ≡ 1 → IsSome result }

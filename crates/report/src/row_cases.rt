@@ -6,6 +6,7 @@ ghost use Rattle.units.specs.Isolates.{level_of_para};
 ghost use Rattle.units.specs.Layout.{all_orders};
 ghost use Rattle.lines.specs.Layouts.{view_of};
 ghost use Rattle.lines.specs.Scratches.{room_of};
+ghost use Rattle.bidtests.specs.LaidOut.{IsLaidOut};
 ghost use Rattle.bidtests.specs.Readings.{claim_of};
 ghost use Rattle.report.specs.Comparing.{order_left};
 ghost use Rattle.report.specs.ReadClaims.{place_in, read_claim};
@@ -17,9 +18,8 @@ use crate::read_order::ReadOrder;
 use crate::terms::{Leniency, Terms};
 use crate::wrong_case::{Item, WrongCase};
 use bidtests::claim::Claim;
+use bidtests::laid_out::lay_out_anew;
 use bidtests::verdict::Place;
-use lines::breaks::Breaks;
-use lines::lay_out::lay_out_into_with;
 use lines::layout::Layout;
 use lines::scratch::Scratch;
 use units::level::{Direction, Level, ParaLevel};
@@ -127,20 +127,17 @@ fn wrong_case(
     })
 }
 
-/// The case of the claim under the direction, if it is wrong.
+/// The case of the claim, if it is wrong under the direction, under which its text is laid out.
 fn case_under(
-    scratch: &mut Scratch,
+    scratch: &Scratch,
     line: u64,
     claim: Claim<'_>,
     direction: Direction,
     terms: &Terms,
 ) -> Option<WrongCase>
-    requires { length claim.text.now ≤ room_of scratch.old }
-    ensures case { result ≡ wrong_case_under terms.now line (claim_of claim.entry) direction }
-    ensures room { room_of scratch.new ≡ room_of scratch.old }
+    requires { IsLaidOut terms.now.limits claim.text.now scratch.now direction }
+    ensures { result ≡ wrong_case_under terms.now line (claim_of claim.entry) direction }
 {
-    let breaks = Breaks::new(&[], claim.text.len()).unwrap();
-    lay_out_into_with(scratch, claim.text, direction, &breaks, terms.limits).unwrap();
     wrong_case(line, claim, direction, terms.leniency, &scratch.layout())
 }
 
@@ -171,7 +168,9 @@ pub fn find_wrong_cases(
     ensures room { room_of scratch.new ≡ room_of scratch.old }
     ensures capacity { vec_capacity found.new ≡ vec_capacity found.old }
 {
+    let mut laid_out = None;
     for direction in claim.directions {
+        laid_out = lay_out_anew(scratch, claim.text, *direction, terms.limits, laid_out);
         let case = case_under(scratch, line, claim, *direction, terms);
         put(found, case);
     }

@@ -6,6 +6,7 @@ ghost use Rattle.units.specs.Limits.{standard};
 ghost use Rattle.units.specs.Lines.{ended};
 ghost use Rattle.lines.specs.Layouts.{view_of};
 ghost use Rattle.lines.specs.Scratches.{room_of};
+ghost use Rattle.bidtests.specs.LaidOut.{IsLaidOut};
 ghost use Rattle.rows.specs.Letters.{units_of};
 ghost use Rattle.rows.specs.RowTexts.{cases_text, lines_with_layout};
 ghost use Rattle.rows.specs.Rooms.{HasRowRoom, KeepsRowRoom};
@@ -17,14 +18,14 @@ use crate::letter::Letter;
 use crate::letters::fill_front;
 use crate::room::RowRoom;
 use bidtests::kind::Kind;
-use lines::breaks::Breaks;
-use lines::lay_out::lay_out_into;
+use bidtests::laid_out::lay_out_anew;
 use lines::layout::Layout;
 use lines::scratch::Scratch;
 use std::io;
 use std::io::Write;
 use units::bracket::Unit;
 use units::level::Direction;
+use units::limits::Limits;
 
 /// Writes the lines of a text under a direction, of which this is the layout, for a file of this kind.
 fn print_case<W: Write>(
@@ -43,27 +44,23 @@ fn print_case<W: Write>(
     }
 }
 
-/// Lays out a text with these units under a direction and writes its lines.
-fn print_under<W: Write>(
+/// Writes the lines of a text that is laid out under a direction.
+fn print_laid_out<W: Write>(
     w: &mut W,
-    scratch: &mut Scratch,
+    scratch: &Scratch,
     kind: Kind<'_>,
     text: &[Letter],
-    units: &[Unit],
     direction: Direction,
 ) -> io::Result<()>
-    requires units { units.now ≡ units_of text.now }
-    requires room { length text.now ≤ room_of scratch.old }
-    ensures printed { OnOk result (Appends (W.contents w.old) (W.contents w.new)
+    requires { IsLaidOut standard (units_of text.now) scratch.now direction }
+    ensures { OnOk result (Appends (W.contents w.old) (W.contents w.new)
         (cases_text standard kind.entry (record { text = text.now; direction = direction } ∷ []))) }
-    ensures room { room_of scratch.new ≡ room_of scratch.old }
 {
-    let breaks = Breaks::new(&[], units.len()).unwrap();
-    lay_out_into(scratch, units, direction, &breaks).unwrap();
     print_case(w, kind, text, direction, &scratch.layout())
 }
 
-/// Writes the lines of a text with these units under each of these directions.
+/// Writes the lines of a text with these units under each of these directions. It is not laid out again where it was
+/// laid out just before and the layout is the same.
 fn print_under_each<W: Write>(
     w: &mut W,
     scratch: &mut Scratch,
@@ -78,8 +75,11 @@ fn print_under_each<W: Write>(
         (cases_text standard kind.entry (under_each directions.now text.now))) }
     ensures room { room_of scratch.new ≡ room_of scratch.old }
 {
+    let limits = Limits::standard();
+    let mut laid_out = None;
     for direction in directions {
-        print_under(w, scratch, kind, text, units, *direction)?;
+        laid_out = lay_out_anew(scratch, units, *direction, limits, laid_out);
+        print_laid_out(w, scratch, kind, text, *direction)?;
     }
     Ok(())
 }

@@ -8,12 +8,13 @@ use Rattle.rows.proofs.JoinedTexts.{text-under}
 use Rattle.rows.proofs.under_directions.print_under_each.Goals as goal
 
 pub loop-direction-init : goal.loop-direction-init
-loop-direction-init g c = record { passed = nothing_passed _ _ _; room = refl }
+loop-direction-init g c = record { passed = nothing_passed _ _ _; laid_out = tt; room = refl }
 
 pub loop-direction-preserved : goal.loop-direction-preserved
 loop-direction-preserved g c = record {
-  passed = one_more_passed _ _ _ _ _ _ _ _ (drop_more c.args.directions.now c.loop-direction.direction-index Auto c.loop-direction-test.true) c.loop-direction.invariant.passed c.in_ok-print_under.ensures.printed;
-  room = c.print_under.ensures.room ∙ c.loop-direction.invariant.room;
+  passed = one_more_passed _ _ _ _ _ _ _ _ (drop_more c.args.directions.now c.loop-direction.direction-index Auto c.loop-direction-test.true) c.loop-direction.invariant.passed c.in_ok-print_laid_out.ensures;
+  laid_out = rw c.standard-limits.ensures at c.lay_out_anew-laid_out.ensures.same;
+  room = c.lay_out_anew-laid_out.ensures.room ∙ c.loop-direction.invariant.room;
 }
 
 pub returns-clause-printed : goal.returns-clause-printed

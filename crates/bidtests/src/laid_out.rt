@@ -1,0 +1,52 @@
+// Texts laid out under one direction after another.
+ghost use Rattle.std.specs.Prelude.{◌≡◌, ◌≤◌, length, IfSome};
+ghost use Rattle.lines.specs.Scratches.{room_of};
+ghost use Rattle.bidtests.specs.LaidOut.{IsLaidOut};
+
+use crate::compare::direction_by_level;
+use lines::breaks::Breaks;
+use lines::lay_out::lay_out_into_with;
+use lines::scratch::Scratch;
+use units::bracket::Unit;
+use units::level::Direction;
+use units::limits::Limits;
+
+/// Lays out a text, and answers another direction under which its layout is the same, if one is known.
+fn lay_out_under(
+    scratch: &mut Scratch,
+    text: &[Unit],
+    direction: Direction,
+    limits: Limits,
+) -> Option<Direction>
+    requires { length text.now ≤ room_of scratch.old }
+    ensures laid_out { IsLaidOut limits text.now scratch.new direction }
+    ensures same { IfSome result (IsLaidOut limits text.now scratch.new) }
+    ensures room { room_of scratch.new ≡ room_of scratch.old }
+{
+    let breaks = Breaks::new(&[], text.len()).unwrap();
+    lay_out_into_with(scratch, text, direction, &breaks, limits).unwrap();
+    direction_by_level(scratch.layout().para_levels())
+}
+
+/// Lays out a text under a direction, without breaks and by these limits, unless the scratch holds that layout: the
+/// direction is handed over under which it holds one, if it does. The answer is another direction under which the
+/// layout is the same, for the next call, if one is known.
+pub fn lay_out_anew(
+    scratch: &mut Scratch,
+    text: &[Unit],
+    direction: Direction,
+    limits: Limits,
+    laid_out: Option<Direction>,
+) -> Option<Direction>
+    requires room { length text.now ≤ room_of scratch.old }
+    requires laid_out { IfSome laid_out (IsLaidOut limits text.now scratch.old) }
+    ensures laid_out { IsLaidOut limits text.now scratch.new direction }
+    ensures same { IfSome result (IsLaidOut limits text.now scratch.new) }
+    ensures room { room_of scratch.new ≡ room_of scratch.old }
+{
+    if laid_out == Some(direction) {
+        laid_out
+    } else {
+        lay_out_under(scratch, text, direction, limits)
+    }
+}
