@@ -83,7 +83,7 @@ parted ends at rises i j d le lt low =
     ]
 
 -- before each paragraph stand as many separators as paragraphs
-counted_paragraphs : (own : List Class) (ends : List ℕ) (position k : ℕ) → AreParagraphEnds own ends position → k < length ends → k ≡ count_by is_separator (take (paragraph_start ends k) own)
+pub counted_paragraphs : (own : List Class) (ends : List ℕ) (position k : ℕ) → AreParagraphEnds own ends position → k < length ends → k ≡ count_by is_separator (take (paragraph_start ends k) own)
 counted_paragraphs own ends position zero a h = refl
 counted_paragraphs own ends position (suc k) a h =
     let here = a.each k (omega arith) in

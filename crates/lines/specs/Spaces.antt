@@ -1,11 +1,14 @@
 -- White space at the end of a line (L1), as a walk from the end sees it.
 use Rattle.std.specs.Prelude.{Bool, false, Option, Some, None, ℕ, ◌≡◌, ◌<◌, ◌≤◌, ◌||◌, ◌&&◌, List, map, slice_index_or}
 use Rattle.units.specs.declared.bracket.Unit.{Unit as BidiUnit}
+use Rattle.std.specs.List.{list_any}
 use Rattle.units.specs.declared.class.Class.{Class}
+use Rattle.units.specs.declared.class.Class.TheVariants.{S}
 use Rattle.units.specs.declared.level.ParaLevel.{ParaLevel}
 use Rattle.units.specs.Classes.{class_at, classes_of, is_removed, is_line_separator}
 use Rattle.units.specs.Isolates.{level_of_para}
 use Rattle.units.specs.Reordering.{after_resets, is_trailing_space, para_level_at}
+use Rattle.paragraph.specs.ClassSets.{is_class}
 
 -- L1: spaces before a position of this class are reset, where those after it are if the flag says so
 abbrev pub resets_before : Class → Bool → Bool
@@ -14,6 +17,10 @@ resets_before c later = is_line_separator c || ((is_removed c || is_trailing_spa
 -- L1: no class at the positions from start up to end separates lines
 pub record SeparateNone (own : List Class) (start end : ℕ) : Type 0 where
   pub none : (p : ℕ) → start ≤ p → p < end → is_line_separator (class_at own p) ≡ false
+
+-- L1: no unit of the text is a segment separator
+abbrev pub HasNoSegments : List BidiUnit → Type 0
+HasNoSegments text = list_any (is_class S) (classes_of text) ≡ false
 
 -- L1: each remaining position has the level of its paragraph
 pub record AreAtParas (own : List Class) (paras : List ℕ) (levels : List (Option ℕ)) : Type 0 where

@@ -1,10 +1,11 @@
 //! The levels of separators, and of white space before them and at lines' ends (L1).
-ghost use Rattle.std.specs.Prelude.{◌≡◌, true, ◌<◌, ◌≤◌, ◌+◌, ◌-◌, ◌↔◌, ◌||◌, IsTrue, length, slice_index, count_by};
+ghost use Rattle.std.specs.Prelude.{◌≡◌, true, ◌<◌, ◌≤◌, ◌+◌, ◌-◌, ◌↔◌, ◌||◌, IsTrue, false, length, slice_index, count_by};
 ghost use Rattle.units.specs.Classes.{class_at, classes_of, is_line_separator as separates_line, is_separator};
 ghost use Rattle.units.specs.Isolates.{level_of_para};
 ghost use Rattle.units.specs.Paragraphs.{paragraphs_of};
 ghost use Rattle.units.specs.Reordering.{is_trailing_space, reset_to};
-ghost use Rattle.lines.specs.Spaces.{SeparateNone, StaysAtParas, levels_reset, resets_before};
+ghost use Rattle.lines.specs.LineEnds.{AreAllParagraphEnds, paragraph_start};
+ghost use Rattle.lines.specs.Spaces.{HasNoSegments, SeparateNone, StaysAtParas, levels_reset, resets_before};
 
 use crate::breaks::Breaks;
 use std::sync::ledger::Ledger;
@@ -149,22 +150,86 @@ pub fn reset_text<L: Ledger>(
     }
 }
 
+/// Where the paragraph with this number begins, by where the paragraphs end.
+fn start_of_paragraph(para_ends: &[u32], paragraph: usize) -> usize
+    requires { paragraph ≤ length para_ends.now }
+    ensures { result ≡ paragraph_start para_ends.now paragraph }
+{
+    if paragraph > 0 {
+        para_ends[paragraph - 1] as usize
+    } else {
+        0
+    }
+}
+
+/// What `reset_text` does for a text without segment separators, in at most as many steps: from the first position of
+/// a line, from its end, that nothing behind it resets, the walk goes on where the line begins. `para_ends` are where
+/// the paragraphs of the text end.
+fn reset_unsegmented<L: Ledger>(
+    own: &[Unit],
+    breaks: &Breaks,
+    para_ends: &[u32],
+    paras: &[ParaLevel],
+    levels: &mut [Option<Level>],
+    steps: &mut Steps<L>,
+)
+    requires none { HasNoSegments own.now }
+    requires len { breaks.now.len ≡ length own.now }
+    requires levels { length levels.old ≡ length own.now }
+    requires ends { AreAllParagraphEnds own.now para_ends.now }
+    requires each { length para_ends.now ≡ length paras.now }
+    requires paras { length paras.now ≡ length (paragraphs_of own.now) }
+    ensures levels { levels.new ≡ levels_reset own.now breaks.now.positions paras.now levels.old }
+    ensures at_least { steps.old ≤ steps.new }
+    ensures at_most { steps.new ≤ steps.old + length own.now }
+{
+    let at = breaks.positions();
+    let mut ahead = at.len();
+    let mut paragraph = count_separators(own, paras.len());
+    let mut resets = true;
+    let mut position = levels.len();
+    while position > 0 {
+        steps.tick();
+        position -= 1;
+        let Unit { class, .. } = own[position];
+        let broken = comes_last(at, ahead, position + 1);
+        if resets | broken | is_line_separator(class) {
+            let ends = class.is_separator();
+            paragraph -= usize::from(ends);
+            ahead -= usize::from(broken);
+            let last = ends | broken;
+            resets = resets_spaces_before(class, last | resets);
+            let reset = resets & may_be_reset(class);
+            levels[position] = reset_level(reset, paras[paragraph], levels[position]);
+        } else {
+            let start = start_of_paragraph(para_ends, paragraph);
+            position = start.max(last_coming(at, ahead));
+        }
+    }
+}
+
 /// What `reset_text` does, where it may change a level: not where each position that remains is known to have its
-/// paragraph's, as `uniform` says.
+/// paragraph's, as `uniform` says. `para_ends` are where the paragraphs of the text end, and where `segmented` says no,
+/// no unit is a segment separator.
 // Inlined, a short text takes fewer instructions.
 #[inline(always)]
 pub(crate) fn reset_unless_uniform<L: Ledger>(
     own: &[Unit],
     breaks: &Breaks,
+    para_ends: &[u32],
     paras: &[ParaLevel],
     uniform: bool,
+    segmented: bool,
     levels: &mut [Option<Level>],
     steps: &mut Steps<L>,
 )
     requires len { breaks.now.len ≡ length own.now }
     requires levels { length levels.old ≡ length own.now }
     requires paras { length paras.now ≡ length (paragraphs_of own.now) }
+    requires ends { AreAllParagraphEnds own.now para_ends.now }
+    requires each { length para_ends.now ≡ length paras.now }
     requires uniform { IsTrue uniform → StaysAtParas own.now paras.now levels.old }
+    requires none { segmented ≡ false → HasNoSegments own.now }
     ensures levels { levels.new ≡ levels_reset own.now breaks.now.positions paras.now levels.old }
     ensures same { IsTrue uniform → levels.new ≡ levels.old }
     ensures uniform { IsTrue uniform → StaysAtParas own.now paras.now levels.new }
@@ -175,5 +240,9 @@ pub(crate) fn reset_unless_uniform<L: Ledger>(
     if uniform {
         return;
     }
-    reset_text(own, breaks, paras, levels, steps);
+    if segmented {
+        reset_text(own, breaks, paras, levels, steps);
+    } else {
+        reset_unsegmented(own, breaks, para_ends, paras, levels, steps);
+    }
 }

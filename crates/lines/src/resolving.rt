@@ -7,7 +7,7 @@ ghost use Rattle.lines.specs.Columns.{levels_filled, para_ends_filled, paras_fil
 ghost use Rattle.lines.specs.Kept.{keeps_levels};
 ghost use Rattle.lines.specs.LineEnds.{AreAllLineEnds, AreAllParagraphEnds};
 ghost use Rattle.lines.specs.OneUnit.{IsResolved};
-ghost use Rattle.lines.specs.Spaces.{StaysAtParas};
+ghost use Rattle.lines.specs.Spaces.{HasNoSegments, StaysAtParas};
 ghost use Rattle.lines.specs.StepBounds.{light_text_steps, text_steps};
 
 use crate::bounds::Bound;
@@ -33,6 +33,8 @@ pub struct ResolvedText {
     /// Known to be at the level of its paragraph at each position that remains (X9), since each paragraph keeps its
     /// level.
     pub uniform: bool,
+    /// Not known to have no segment separator (L1).
+    pub segmented: bool,
 }
 
 /// Writes the levels of a paragraph of one unit, its end, and that of its line, to the fronts of their columns.
@@ -114,6 +116,7 @@ fn resolve_paragraphs<L: Ledger>(
     ensures ends { AreAllLineEnds text.now breaks.now.positions result.lines bounds.new }
     ensures few_lines { result.lines ≤ length text.now }
     ensures known { result.uniform ≡ keeps_levels text.now direction }
+    ensures segments { result.segmented ≡ false → HasNoSegments text.now }
     ensures uniform { result.uniform ≡ true
         → StaysAtParas text.now (paras_filled result.paragraphs columns.new)
         (levels_filled (length text.now) columns.new) }
@@ -128,6 +131,7 @@ fn resolve_paragraphs<L: Ledger>(
     let mut cut = start_cut(bounds);
     let mut paragraphs = 0;
     let mut uniform = true;
+    let mut segmented = false;
     let mut start = 0;
     while start < text.len() {
         steps.tick();
@@ -149,6 +153,7 @@ fn resolve_paragraphs<L: Ledger>(
         paras[paragraphs] = resolved.level;
         para_ends[paragraphs] = end as u32;
         uniform &= resolved.uniform;
+        segmented |= first.contents.has_segment_separator();
         paragraphs += 1;
         start = end;
     }
@@ -156,6 +161,7 @@ fn resolve_paragraphs<L: Ledger>(
         paragraphs,
         lines: cut.lines,
         uniform,
+        segmented,
     }
 }
 
@@ -187,6 +193,7 @@ pub(crate) fn resolve_text<L: Ledger>(
     ensures ends { AreAllLineEnds text.now breaks.now.positions result.lines bounds.new }
     ensures few_lines { result.lines ≤ length text.now }
     ensures known { result.uniform ≡ keeps_levels text.now direction }
+    ensures segments { result.segmented ≡ false → HasNoSegments text.now }
     ensures uniform { result.uniform ≡ true
         → StaysAtParas text.now (paras_filled result.paragraphs columns.new)
         (levels_filled (length text.now) columns.new) }
@@ -199,6 +206,7 @@ pub(crate) fn resolve_text<L: Ledger>(
             paragraphs: 1,
             lines: 1,
             uniform: true,
+            segmented: true,
         };
     }
     resolve_paragraphs(

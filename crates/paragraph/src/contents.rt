@@ -7,7 +7,7 @@ ghost use Rattle.units.specs.declared.class.Class.{Class as BidiClass};
 ghost use Rattle.explicit.specs.FirstParagraph.{first_length};
 ghost use Rattle.flat.specs.Flat.{is_flat};
 ghost use Rattle.flat.specs.Uniform.{may_rise_at_even, may_rise_at_odd};
-ghost use Rattle.paragraph.specs.ClassSets.{IsSetOf};
+ghost use Rattle.paragraph.specs.ClassSets.{IsSetOf, is_class};
 ghost use Rattle.paragraph.specs.Contents.{Describes, IsFirstOf, are_flat, has_none, keeps_level};
 ghost use Rattle.paragraph.specs.FirstSides.{side_by};
 ghost use Rattle.resolve.specs.Sought.{may_weaken};
@@ -115,6 +115,13 @@ impl Contents {
             | self.classes.has(Class::ET)
             | self.classes.has(Class::CS)
             | self.classes.has(Class::NSM)
+    }
+
+    /// L1: whether there is a segment separator.
+    pub fn has_segment_separator(&self) -> bool
+        ensures { (cs : List BidiClass) → Describes self.now cs → result ≡ list_any (is_class BidiClass.S) cs }
+    {
+        self.classes.has(Class::S)
     }
 
     /// X1 to I2: whether each position that remains keeps the paragraph's level, if it is this one.

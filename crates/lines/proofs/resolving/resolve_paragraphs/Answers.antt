@@ -1,9 +1,9 @@
 use Rattle.std.proofs.Common.{arith, rules, ap, sym, ◌∙◌, subst, ◌≡◌, ◌<◌, ◌≤◌, ◌+◌, ◌-◌, ◌++◌, ◌∷◌, [], ℕ, Bool, List, Option, length, take, drop, refl}
-use Rattle.std.specs.List.{list_all}
+use Rattle.std.specs.List.{list_all, list_any}
 use Rattle.std.specs.Prelude.{◌&&◌, slice_range}
 use Rattle.std.proofs.Math.Bool.{and-true, and_assoc}
-use Rattle.std.proofs.lemmas.Bool.{and_parts}
-use Rattle.std.proofs.lemmas.List.{drop_all, drop-drop, length-drop, length-map, length-take-le, take_more_set, take_rest, with_items_is}
+use Rattle.std.proofs.lemmas.Bool.{and_parts, or_parts}
+use Rattle.std.proofs.lemmas.List.{drop_all, drop-drop, length-drop, length-map, length-take-le, take_all, take_more_set, take_rest, with_items_is}
 use Rattle.std.proofs.lemmas.Slice.{take-put_mid}
 use Rattle.units.specs.declared.bracket.Unit.{Unit as BidiUnit}
 use Rattle.units.specs.Paragraphs.{paragraphs_of, SeparatorOnlyLast}
@@ -14,6 +14,10 @@ use Rattle.units.specs.Classes.{classes_of}
 use Rattle.paragraph.specs.Contents.{keeps_level}
 use Rattle.lines.specs.Kept.{keeps_levels, keeps_own_level}
 use Rattle.lines.proofs.AtParas.{all_stay, text_at_paras}
+use Rattle.units.specs.declared.class.Class.TheVariants.{S}
+use Rattle.paragraph.specs.ClassSets.{is_class}
+use Rattle.lines.specs.Spaces.{HasNoSegments}
+use Rattle.lines.proofs.Unsegmented.{no_segments_on}
 use Rattle.lines.specs.LineBreaks.{AreBreaks}
 use Rattle.lines.specs.LineEnds.{AreLineEnds, AreParagraphEnds, ArePassed}
 use Rattle.lines.proofs.LineEnds.{ends_none}
@@ -36,6 +40,7 @@ pub loop-start-init : goal.loop-start-init
 loop-start-init g c = record {
   written = written_none c.args.limits c.args.text.now c.args.direction c.deref_mut-levels.result.now;
   known = refl;
+  segments = λ none. refl;
   passed = subst (λ n. ArePassed c.positions-at.result.now n 0) (sym c.start_cut-cut.ensures.passed) (passed_none c.positions-at.result.now c.args.breaks.now.len c.positions-at.ensures.breaks);
   ends =
       subst (λ n. AreLineEnds (classes_of c.args.text.now) c.positions-at.result.now n 0 c.start_cut-cut.new.bounds) (sym c.start_cut-cut.ensures.lines)
@@ -99,6 +104,12 @@ loop-start-preserved g c =
           ∙ ap (λ b. l.uniform && (b && list_all keeps (paragraphs_of (drop end text)))) (known.ensures.known ∙ ap (λ n. keeps_level n (classes_of para)) known.ensures.level)
           ∙ ap (λ pieces. l.uniform && list_all keeps pieces) (sym split)
           ∙ l.invariant.known;
+      segments = λ none.
+          let parts = or_parts l.segmented c.has_segment_separator-segmented.result none in
+          let described = c.of-first.ensures.first.contents in
+          let here : HasNoSegments (take n (drop l.start text)) =
+          ap (λ us. list_any (is_class S) (classes_of (take n us))) (sym (take_rest text l.start)) ∙ sym (c.has_segment_separator-segmented.ensures _ described) ∙ parts.1 in
+          no_segments_on text l.start n (l.invariant.segments parts.0) here;
       passed = c.cut_paragraph-cut.ensures.passed;
       ends =
           c.cut_paragraph-cut.ensures.ends (classes_of text) (length-map text (λ u. u.class))
@@ -125,6 +136,13 @@ pub returns-clause-known : goal.returns-clause-known
 returns-clause-known g c =
     let l = c.loop-start in
     known_whole c.args.text.now c.args.direction l.start l.uniform (drop_all l.start c.args.text.now (omega arith)) l.invariant.known
+
+pub returns-clause-segments : goal.returns-clause-segments
+returns-clause-segments g c = λ none.
+    let l = c.loop-start in
+    let text : List BidiUnit = c.args.text.now in
+    let whole : take l.start text ≡ text = take_all l.start text (omega arith) in
+    subst HasNoSegments whole (l.invariant.segments none)
 
 pub returns-clause-uniform : goal.returns-clause-uniform
 returns-clause-uniform g c = λ e.

@@ -21,7 +21,7 @@ returns-clause-layout g c =
     let levels_are = with_items_is column filled.new.levels as_levels in
     let paras : List ℕ = map level_of_para (paras_filled found.result.paragraphs kept.new.self) in
     let reset : take n filled.new.levels ≡ after_resets (classes_of c.args.text.now) c.args.breaks.now.positions paras (levels_filled n kept.new.self) =
-    rw (← c.deref_mut-2.ensures.value, ← c.deref.ensures.value) filled.ensures.levels in
+    rw (← c.deref_mut-2.ensures.value, ← c.deref-2.ensures.value) filled.ensures.levels in
     rw levels_are
     (laid_out c.args.limits c.args.text.now c.args.direction c.args.breaks.now.positions paras (levels_filled n kept.new.self) (take n filled.new.levels) (take n filled.new.levels)
     (lines_filled filled.result filled.new.columns) refl
@@ -52,7 +52,7 @@ returns-clause-holds g c =
 
 pub arrange-filled-requires-clause-uniform : goal.arrange-filled-requires-clause-uniform
 arrange-filled-requires-clause-uniform g c = λ known.
-    rw (c.deref_mut-2.ensures.value, c.deref.ensures.value, c.keep_resolved.ensures.levels, c.keep_resolved.ensures.paras) (c.resolve_text-resolved.ensures.uniform known)
+    rw (c.deref_mut-2.ensures.value, c.deref-2.ensures.value, c.keep_resolved.ensures.levels, c.keep_resolved.ensures.paras) (c.resolve_text-resolved.ensures.uniform known)
 
 pub arrange-filled-requires-clause-ends : goal.arrange-filled-requires-clause-ends
 arrange-filled-requires-clause-ends g c =
@@ -60,3 +60,6 @@ arrange-filled-requires-clause-ends g c =
     let found = c.resolve_text-resolved in
     let as_bounds : length found.new.bounds ≡ column.len = search rules in
     rw (with_items_is column found.new.bounds as_bounds) found.ensures.ends
+
+pub arrange-filled-requires-clause-para_ends : goal.arrange-filled-requires-clause-para_ends
+arrange-filled-requires-clause-para_ends g c = rw (c.deref.ensures.value, c.keep_resolved.ensures.para_ends) c.resolve_text-resolved.ensures.para_ends
