@@ -1,16 +1,22 @@
 -- What a scan of the front of a text found, with one unit more; and where the first paragraph ends (P1).
-use Rattle.std.proofs.Common.{◌≡◌, ℕ, suc, ◌+◌, ◌<◌, true, false, List, [], ◌∷◌, ◌++◌, length, get_or, take, drop, refl, ap, ◌∙◌, arith, inl, inr}
+use Rattle.std.proofs.Common.{◌≡◌, ℕ, zero, suc, ◌+◌, ◌-◌, ◌<◌, ◌≤◌, true, false, List, [], ◌∷◌, ◌++◌, length, get_or, take, drop, refl, ap, sym, subst, ◌∙◌, arith, inl, inr}
 use Rattle.std.specs.Option.{option_or}
 use Rattle.std.specs.Prelude.{find, None, Some}
-use Rattle.std.proofs.lemmas.Bool.{both_ways, cases_Bool}
-use Rattle.std.proofs.lemmas.List.{drop_more, map-append, take_more}
-use Rattle.std.proofs.lemmas.List.Folds.{find-append}
+use Rattle.std.proofs.lemmas.Bool.{both_ways, cases_Bool, false_from_ne_true, false≢true}
+use Rattle.std.proofs.lemmas.List.{drop_more, get_or-take, length-take-le, map-append, take_more}
+use Rattle.std.proofs.lemmas.List.Folds.{find-append, list_any_at}
+use Rattle.std.specs.List.{list_any}
 use Rattle.units.specs.Classes.{classes_of, is_separator, is_strong}
+use Rattle.units.specs.Layout.{no_unit}
 use Rattle.units.specs.Paragraphs.{SeparatorOnlyLast}
 use Rattle.units.specs.declared.bracket.Unit.{Unit as BidiUnit}
 use Rattle.units.specs.declared.class.Class.{Class}
-use Rattle.units.specs.declared.class.Class.TheVariants.{L, R, AL}
+use Rattle.units.specs.declared.class.Class.TheVariants.{L, R, AL, B}
 use Rattle.explicit.specs.FirstParagraph.{first_length}
+use Rattle.paragraph.specs.ClassSets.{IsSetOf, is_class}
+use Rattle.paragraph.specs.declared.class_set.ClassSet.{ClassSet}
+use Rattle.explicit.proofs.Holders.Roles.{class_read}
+use Rattle.units.proofs.Lengths.{length-classes_of}
 
 -- the classes of one unit more
 pub classes_more : (us : List BidiUnit) (k : ℕ) (d : BidiUnit) → k < length us → classes_of (take (k + 1) us) ≡ classes_of (take k us) ++ (get_or us k d).class ∷ []
@@ -36,6 +42,39 @@ pub ends_here : (us : List BidiUnit) (k : ℕ) (d : BidiUnit) → k < length us 
 ends_here us k d lt separates e =
     let last = length_from us k d lt ∙ first_length_separator (get_or us k d) (drop (k + 1) us) separates in
     omega (arith, e, last)
+
+goes_on_to : (us : List BidiUnit) (k next : ℕ) → next ≡ k + 1 → k < length us → is_separator (get_or us k no_unit).class ≡ false → first_length us ≡ k + first_length (drop k us) →
+    first_length us ≡ next + first_length (drop next us)
+goes_on_to us k next is lt plain e =
+    let P : ℕ → Type 0 = λ j. first_length us ≡ j + first_length (drop j us) in subst P (sym is) (goes_on us k no_unit lt plain e)
+
+separator_is_b : (c : Class) → is_separator c ≡ true → is_class B c ≡ true
+separator_is_b B h = refl
+separator_is_b _ h = absurd (false≢true h)
+
+-- a class that the front of a text does not have is none of its classes
+no_separator : (us : List BidiUnit) (k j : ℕ) → k ≤ length us → j < k → list_any (is_class B) (classes_of (take k us)) ≡ false → is_separator (get_or us j no_unit).class ≡ false
+no_separator us k j within below none =
+    let long : length (take k us) ≡ k = length-take-le k us within in
+    let read : get_or (classes_of (take k us)) j L ≡ (get_or us j no_unit).class = class_read (take k us) j no_unit (omega (arith, long)) ∙ ap (λ (u : BidiUnit). u.class) (get_or-take k us j no_unit below) in
+    false_from_ne_true (is_separator (get_or us j no_unit).class) (λ separates.
+    false≢true (sym none ∙ list_any_at (is_class B) (classes_of (take k us)) j L (omega (arith, long, length-classes_of (take k us))) (ap (is_class B) read ∙ separator_is_b _ separates)))
+
+-- where none of four units more is a separator, the first paragraph goes on behind them
+pub goes_on_four : (us : List BidiUnit) (k : ℕ) → k + 4 ≤ length us → list_any (is_class B) (classes_of (take (k + 4) us)) ≡ false → first_length us ≡ k + first_length (drop k us) →
+    first_length us ≡ (k + 4) + first_length (drop (k + 4) us)
+goes_on_four us k within none e =
+    let plain : (j : ℕ) → j < k + 4 → is_separator (get_or us j no_unit).class ≡ false = λ j below. no_separator us (k + 4) j within below none in
+    let one = goes_on_to us k (k + 1) refl (omega arith) (plain k (omega arith)) e in
+    let two = goes_on_to us (k + 1) (k + 2) (omega arith) (omega arith) (plain (k + 1) (omega arith)) one in
+    let three = goes_on_to us (k + 2) (k + 3) (omega arith) (omega arith) (plain (k + 2) (omega arith)) two in
+    goes_on_to us (k + 3) (k + 4) (omega arith) (omega arith) (plain (k + 3) (omega arith)) three
+
+-- the set of the classes of a front, with those of one unit more
+pub set_more : (set : ClassSet) (us : List BidiUnit) (k next : ℕ) → next ≡ k + 1 → k < length us → IsSetOf set (classes_of (take k us) ++ (get_or us k no_unit).class ∷ []) → IsSetOf set (classes_of (take next us))
+set_more set us k next is lt s =
+    let P : List Class → Type 0 = λ cs. IsSetOf set cs in
+    subst P (sym (ap (λ j. classes_of (take j us)) is ∙ classes_more us k no_unit lt)) s
 
 -- a paragraph is its own first one
 pub first_of_one : (us : List BidiUnit) → SeparatorOnlyLast us → first_length us ≡ length us
@@ -67,3 +106,17 @@ module _ (us : List BidiUnit) (k : ℕ) (d : BidiUnit) (lt : k < length us) wher
   -- the first that was found stays the first
   pub still_found : (c : Class) → find is_strong (classes_of (take k us)) ≡ Some c → find is_strong (classes_of (take (k + 1) us)) ≡ Some c
   still_found c found = strong_more ∙ rw found refl
+
+-- nor does it change further on
+still_found_by : (us : List BidiUnit) (n k : ℕ) → k + n ≤ length us → (c : Class) → find is_strong (classes_of (take k us)) ≡ Some c → find is_strong (classes_of (take (k + n) us)) ≡ Some c
+still_found_by us zero k within c found = let same : k ≡ k + 0 = omega arith in let P : ℕ → Type 0 = λ j. find is_strong (classes_of (take j us)) ≡ Some c in subst P same found
+still_found_by us (suc n) k within c found =
+    let same : (k + 1) + n ≡ k + suc n = omega arith in
+    let P : ℕ → Type 0 = λ j. find is_strong (classes_of (take j us)) ≡ Some c in
+    subst P same (still_found_by us n (k + 1) (omega arith) c (still_found us k no_unit (omega arith) c found))
+
+pub still_found_later : (us : List BidiUnit) (k next : ℕ) → k ≤ next → next ≤ length us → (c : Class) → find is_strong (classes_of (take k us)) ≡ Some c → find is_strong (classes_of (take next us)) ≡ Some c
+still_found_later us k next later within c found =
+    let same : k + (next - k) ≡ next = omega arith in
+    let P : ℕ → Type 0 = λ j. find is_strong (classes_of (take j us)) ≡ Some c in
+    subst P same (still_found_by us (next - k) k (omega arith) c found)

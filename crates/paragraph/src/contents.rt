@@ -142,8 +142,58 @@ impl Contents {
     }
 }
 
+/// A front of a text that was scanned: how many units it has, and their classes.
+#[derive(Clone, Copy)]
+struct Front {
+    length: usize,
+    classes: ClassSet,
+}
+
+/// The classes of the units before this one, and of the four from it on.
+fn with_four(before: ClassSet, text: &[Unit], p: usize) -> ClassSet
+    requires within { p + 4 ≤ length text.now }
+    requires before { IsSetOf before (classes_of (take p text.now)) }
+    ensures { IsSetOf result (classes_of (take (p + 4) text.now)) }
+{
+    let one = before.with(text[p].class);
+    let two = one.with(text[p + 1].class);
+    let three = two.with(text[p + 2].class);
+    three.with(text[p + 3].class)
+}
+
+/// Passes units from `start` on, four at a time, as long as none of the four is a separator. Each is a step.
+fn pass_fours<L: Ledger>(
+    text: &[Unit],
+    start: usize,
+    before: ClassSet,
+    steps: &mut Steps<L>,
+) -> Front
+    requires start { start ≤ length text.now }
+    requires goes_on { first_length text.now ≡ start + first_length (drop start text.now) }
+    requires before { IsSetOf before (classes_of (take start text.now)) }
+    ensures later { start ≤ result.length }
+    ensures within { result.length ≤ length text.now }
+    ensures goes_on { first_length text.now ≡ result.length + first_length (drop result.length text.now) }
+    ensures classes { IsSetOf result.classes (classes_of (take result.length text.now)) }
+    ensures steps { steps.new + start ≡ steps.old + result.length }
+{
+    let mut classes = before;
+    let mut p = start;
+    while text.len() - p >= 4 {
+        let more = with_four(classes, text, p);
+        if more.has(Class::B) {
+            break;
+        }
+        classes = more;
+        p += 4;
+    }
+    steps.add(p - start);
+    Front { length: p, classes }
+}
+
 /// P1: the first paragraph of a text that was scanned up to `start`: `before` are the classes of the units before it,
-/// and `strong` is the first strong one of them (P2). A step for each unit from `start` on.
+/// and `strong` is the first strong one of them (P2). A step for each unit from `start` on. They are passed four at a
+/// time up to the first four that have a separator.
 fn scan_behind<L: Ledger>(
     text: &[Unit],
     start: usize,
@@ -161,8 +211,9 @@ fn scan_behind<L: Ledger>(
     ensures steps { steps.new + start ≡ steps.old + result.length }
 {
     let side = Side::Unknown.noting(strong);
-    let mut classes = before;
-    for p in start..text.len() {
+    let front = pass_fours(text, start, before, steps);
+    let mut classes = front.classes;
+    for p in front.length..text.len() {
         steps.tick();
         let class = text[p].class;
         classes = classes.with(class);

@@ -3,8 +3,18 @@ use Rattle.units.specs.Layout.{no_unit}
 use Rattle.units.specs.declared.class.Class.{Class}
 use Rattle.paragraph.specs.ClassSets.{IsSetOf}
 use Rattle.paragraph.specs.FirstSides.{side_by}
-use Rattle.paragraph.proofs.Scan.{classes_more, ends_here, goes_on, still_found}
+use Rattle.paragraph.proofs.Scan.{classes_more, ends_here, goes_on, still_found, still_found_later}
 use Rattle.paragraph.proofs.contents.scan_behind.Goals as goal
+
+pub loop-p-init : goal.loop-p-init
+loop-p-init g c =
+    let front = c.pass_fours-front.ensures in
+    record {
+      classes = front.classes;
+      strong = still_found_later c.args.text.now c.args.start c.pass_fours-front.result.length front.later front.within c.args.strong c.requires.strong;
+      length = front.goes_on;
+      steps = front.steps;
+    }
 
 pub loop-p-preserved : goal.loop-p-preserved
 loop-p-preserved g c =

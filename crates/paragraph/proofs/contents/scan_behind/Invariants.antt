@@ -10,5 +10,5 @@ invariant-loop-p g l = record {
   classes : IsSetOf l.classes (classes_of (take l.p l.text));
   strong : find is_strong (classes_of (take l.p l.text)) ≡ Some l.fn.strong;
   length : first_length l.text ≡ l.p + first_length (drop l.p l.text);
-  steps : l.steps + l.start ≡ l.initial.steps + l.p;
+  steps : l.steps + l.start ≡ l.fn.steps + l.p;
 }
