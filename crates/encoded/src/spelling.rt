@@ -39,6 +39,7 @@ fn of_three(x: u8, y: u8, z: u8) -> Option<char>
 }
 
 /// The character of these four bytes, if they are well formed.
+#[inline(never)]
 fn of_four(x: u8, y: u8, z: u8, w: u8) -> Option<char>
     requires { 0xF0 ≤ x }
     ensures { IfSome result (IsOfBytes (x ∷ y ∷ z ∷ w ∷ [])) }
@@ -64,14 +65,21 @@ pub(crate) fn char_at(bytes: &[u8], at: usize) -> Option<(char, usize)>
     let left = bytes.len() - at;
     if x < 0x80 {
         Some((char::from(x), at + 1))
-    } else if x < 0xE0 && 2 <= left {
+    } else if x < 0xE0 {
+        if left < 2 {
+            return None;
+        }
         Some((of_two(x, bytes[at + 1])?, at + 2))
-    } else if 0xE0 <= x && x < 0xF0 && 3 <= left {
+    } else if x < 0xF0 {
+        if left < 3 {
+            return None;
+        }
         Some((of_three(x, bytes[at + 1], bytes[at + 2])?, at + 3))
-    } else if 0xF0 <= x && 4 <= left {
+    } else {
+        if left < 4 {
+            return None;
+        }
         let c = of_four(x, bytes[at + 1], bytes[at + 2], bytes[at + 3])?;
         Some((c, at + 4))
-    } else {
-        None
     }
 }

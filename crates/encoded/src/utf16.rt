@@ -74,7 +74,7 @@ pub(crate) fn decode_utf16(
         let Some(c) = read(found, faults) else {
             return Err(at);
         };
-        units[count] = lent.unit(c);
+        lent.write_unit(c, &mut units[count]);
         starts[count] = at as u32;
         count += 1;
         at = behind;

@@ -34,7 +34,7 @@ pub(crate) fn fill_str(
     let mut characters = before.characters;
     let mut code_units = before.code_units;
     for c in text.chars() {
-        units[characters] = lent.unit(c);
+        lent.write_unit(c, &mut units[characters]);
         starts[characters] = code_units as u32;
         characters += 1;
         code_units += c.len_utf8();
@@ -91,7 +91,7 @@ fn decode_well_formed(
     let mut at = 0;
     while at < bytes.len() {
         let (c, behind) = char_at(bytes, at)?;
-        units[count] = lent.unit(c);
+        lent.write_unit(c, &mut units[count]);
         starts[count] = at as u32;
         count += 1;
         at = behind;

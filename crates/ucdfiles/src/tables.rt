@@ -97,6 +97,19 @@ impl<'a> LentUnits<'a> {
             bracket: self.brackets.value(c),
         }
     }
+
+    #[tactic(auto, unfolding(crate::specs::Tables::class_by, crate::specs::Tables::bracket_by))]
+    #[inline(always)]
+    /// Writes what the algorithm knows of a character, as `unit` says it, in the place of another unit.
+    pub fn write_unit(&self, c: char, unit: &mut Unit)
+        ensures { unit.new ≡ unit_by_stages self.now c }
+    {
+        unit.class = self.classes.value(c);
+        unit.bracket = Bracket::No;
+        if !self.brackets_are_neutral || matches!(unit.class, Class::ON) {
+            unit.bracket = self.brackets.value(c);
+        }
+    }
 }
 
 impl Tables {
@@ -136,13 +149,14 @@ impl Tables {
     }
 
     /// Writes what the algorithm knows of each of these characters.
+    #[inline(never)]
     pub fn look_up(&self, text: &[char], units: &mut [Unit])
         requires { length units.old ≡ length text.now }
         ensures { units.new ≡ units_by self.now text.now }
     {
         let lent = self.units();
         for k in 0..text.len() {
-            units[k] = lent.unit(text[k]);
+            lent.write_unit(text[k], &mut units[k]);
         }
     }
 

@@ -32,14 +32,14 @@ loop-at-preserved c =
     let behind = c.in_ok-c.behind in
     let is = c.in_ok-c.ensures in
     let more = forward bytes l.at d behind is in
-    let unit = c.unit.ensures ∙ ap (λ (s : UnitStages). unit_by_stages s d) c.units-lent.ensures in
+    let unit = c.write_unit.ensures ∙ ap (λ (s : UnitStages). unit_by_stages s d) c.units-lent.ensures in
     record {
       few = omega (arith, more, l.invariant.few);
       inside = is.inside;
       front = utf8_more bytes l.at d behind l.invariant.front is;
-      written = subst (λ (xs : List Spelled). IsWritten tables xs (record { characters = l.count + 1; code_units = behind }) (set l.units l.count c.unit.result) (set l.starts l.count l.at))
+      written = subst (λ (xs : List Spelled). IsWritten tables xs (record { characters = l.count + 1; code_units = behind }) (set l.units l.count c.write_unit.new.unit) (set l.starts l.count l.at))
           (sym (text_more bytes l.at d behind l.invariant.front is))
-          (written_more tables (utf8_text (take l.at bytes)) (in_utf8 d) l.count l.at l.units l.starts c.unit.result (record { characters = l.count + 1; code_units = behind })
+          (written_more tables (utf8_text (take l.at bytes)) (in_utf8 d) l.count l.at l.units l.starts c.write_unit.new.unit (record { characters = l.count + 1; code_units = behind })
           (omega (arith, l.invariant.few, c.loop-at-test.true, l.auto.units, c.requires.units)) (omega (arith, l.invariant.few, c.loop-at-test.true, l.auto.starts, c.requires.starts))
           unit refl is.behind l.invariant.written);
     }

@@ -50,15 +50,15 @@ loop-c-preserved c =
     let lt : n < length (utf8_text text) = omega (arith, t.0, length-utf8_text text) in
     let read = read_utf8 text n d t.0 t.1 in
     let wide = ap (λ x. l.code_units + x) c.len_utf8-code_units.ensures.len in
-    let is = c.unit.ensures ∙ ap (λ (s : UnitStages). unit_by_stages s d) c.units-lent.ensures in
+    let is = c.write_unit.ensures ∙ ap (λ (s : UnitStages). unit_by_stages s d) c.units-lent.ensures in
     let in_units : l.characters < length l.units = omega (arith, t.0, l.invariant.characters, c.requires.units, l.auto.units) in
     let in_starts : l.characters < length l.starts = omega (arith, t.0, l.invariant.characters, c.requires.starts, l.auto.starts) in
     record {
       characters = omega (arith, one, l.invariant.characters);
       code_units = wide ∙ omega (arith, l.invariant.code_units, offset_more (utf8_text text) n (in_utf8 d) lt read) ∙ ap (λ k. c.args.before.code_units + offset_of (utf8_text text) k) (sym one);
-      written = λ front w. subst (λ (x : ℕ). IsWritten c.args.tables.now (front ++ take (length (l.yielded ++ d ∷ [])) (utf8_text text)) (record { characters = l.characters + 1; code_units = x }) (set l.units l.characters c.unit.result) (set l.starts l.characters l.code_units)) (sym wide)
-          (subst (λ (k : ℕ). IsWritten c.args.tables.now (front ++ take k (utf8_text text)) (record { characters = l.characters + 1; code_units = l.code_units + length (encode_utf8 d) }) (set l.units l.characters c.unit.result) (set l.starts l.characters l.code_units)) (sym one)
-          (written_next c.args.tables.now front (utf8_text text) n (in_utf8 d) l.characters l.code_units l.units l.starts c.unit.result lt read in_units in_starts is (l.invariant.written front w)));
+      written = λ front w. subst (λ (x : ℕ). IsWritten c.args.tables.now (front ++ take (length (l.yielded ++ d ∷ [])) (utf8_text text)) (record { characters = l.characters + 1; code_units = x }) (set l.units l.characters c.write_unit.new.unit) (set l.starts l.characters l.code_units)) (sym wide)
+          (subst (λ (k : ℕ). IsWritten c.args.tables.now (front ++ take k (utf8_text text)) (record { characters = l.characters + 1; code_units = l.code_units + length (encode_utf8 d) }) (set l.units l.characters c.write_unit.new.unit) (set l.starts l.characters l.code_units)) (sym one)
+          (written_next c.args.tables.now front (utf8_text text) n (in_utf8 d) l.characters l.code_units l.units l.starts c.write_unit.new.unit lt read in_units in_starts is (l.invariant.written front w)));
     }
 
 pub returns-clause-characters : goal.returns-clause-characters
