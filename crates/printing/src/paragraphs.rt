@@ -25,8 +25,18 @@ use std::io::Write;
 use std::num::NonZeroU16;
 use ucdfiles::mirror_table::MirrorTable;
 use ucdfiles::tables::Tables;
-use units::bracket::Unit;
+use units::bracket::{Bracket, Unit};
+use units::class::Class;
 use units::level::Direction;
+
+/// How many characters are looked up together.
+pub(crate) const STRETCH: usize = 64;
+
+/// A unit, in the place of one that is not looked up yet.
+const NO_UNIT: Unit = Unit {
+    class: Class::L,
+    bracket: Bracket::No,
+};
 
 /// Lays out a paragraph behind what was passed, and writes its levels.
 fn print_levels_of<W: Write>(
@@ -158,6 +168,61 @@ pub(crate) fn take_character<W: Write>(
         print_begun(alloc, w, tables, direction, form, begun)?;
     }
     Ok(())
+}
+
+/// Adds characters with their units to the paragraph that has begun, and writes each paragraph that one of them ends.
+fn take_units<W: Write>(
+    alloc: Global,
+    w: &mut W,
+    tables: &Tables,
+    direction: Direction,
+    form: Form,
+    begun: &mut Begun,
+    chars: &[char],
+    units: &[Unit],
+) -> Result<(), PrintFault>
+    requires begun { IsBegun tables.now begun.old }
+    requires small { handed_in begun.old + length chars.now ≤ longest_text }
+    requires units { units.now ≡ units_by tables.now chars.now }
+    ensures begun { OnOk result (IsBegun tables.now begun.new) }
+    ensures handed { OnOk result (handed_in begun.new ≡ handed_in begun.old + length chars.now) }
+    ensures printed { OnOk result (PrintsOn form tables.now direction chars.now
+        (W.contents w.old) (W.contents w.new) begun.old begun.new) }
+{
+    let mut start = 0;
+    while start < chars.len() {
+        start += begun.add_front(&chars[start..], &units[start..])?;
+        if start < chars.len() {
+            take_character(alloc, w, tables, direction, form, begun, chars[start])?;
+            start += 1;
+        }
+    }
+    Ok(())
+}
+
+/// Looks up a few characters, adds them to the paragraph that has begun, and writes each paragraph that one of them
+/// ends.
+pub(crate) fn take_stretch<W: Write>(
+    alloc: Global,
+    w: &mut W,
+    tables: &Tables,
+    direction: Direction,
+    form: Form,
+    begun: &mut Begun,
+    stretch: &[char],
+) -> Result<(), PrintFault>
+    requires begun { IsBegun tables.now begun.old }
+    requires small { handed_in begun.old + length stretch.now ≤ longest_text }
+    requires few { length stretch.now ≤ 64 }
+    ensures begun { OnOk result (IsBegun tables.now begun.new) }
+    ensures handed { OnOk result (handed_in begun.new ≡ handed_in begun.old + length stretch.now) }
+    ensures printed { OnOk result (PrintsOn form tables.now direction stretch.now
+        (W.contents w.old) (W.contents w.new) begun.old begun.new) }
+{
+    let mut units = [NO_UNIT; STRETCH];
+    let units = &mut units[..stretch.len()];
+    tables.look_up(stretch, units);
+    take_units(alloc, w, tables, direction, form, begun, stretch, units)
 }
 
 /// Writes the paragraph that has begun, where any of its characters came: the text has ended.

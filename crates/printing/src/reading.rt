@@ -9,7 +9,8 @@ use crate::begun::Begun;
 use crate::cutting::{hold, utf8_front};
 use crate::fault::PrintFault;
 use crate::form::Form;
-use crate::paragraphs::{print_last, take_character};
+use crate::paragraphs::{STRETCH, print_last, take_stretch};
+use arrayvec::ArrayVec;
 use std::alloc::Global;
 use std::io::Write;
 use ucdfiles::tables::Tables;
@@ -68,10 +69,15 @@ fn take_text<W: Write>(
     ensures printed { OnOk result (PrintsOn form tables.now direction (chars text.now)
         (W.contents w.old) (W.contents w.new) begun.old begun.new) }
 {
+    let mut stretch = ArrayVec::<char, STRETCH>::new();
     for character in text.chars() {
-        take_character(alloc, w, tables, direction, form, begun, character)?;
+        stretch.push(character);
+        if stretch.is_full() {
+            take_stretch(alloc, w, tables, direction, form, begun, &stretch)?;
+            stretch.clear();
+        }
     }
-    Ok(())
+    take_stretch(alloc, w, tables, direction, form, begun, &stretch)
 }
 
 /// Takes the longest front of these bytes that is UTF-8 and writes each paragraph that ends in it; where one does, what
