@@ -19,7 +19,6 @@ pub mod CutLines
 pub mod LineEnds
 pub mod NextLine
 pub mod ParagraphLines
-pub mod ParagraphEnds
 pub mod LinesWritten
 pub mod LinesRead
 pub mod Law

@@ -43,7 +43,7 @@ pub(crate) struct TextColumns {
 }
 
 impl TextColumns {
-    ghost use Rattle.std.specs.Prelude.{◌≡◌, ◌≤◌, ◌+◌, ◌-◌, IfOk, IsTrue, length, slice_range};
+    ghost use Rattle.std.specs.Prelude.{◌≡◌, ◌≤◌, ◌+◌, ◌-◌, IfOk, IsTrue, false, length, slice_range};
     ghost use Rattle.lines.specs.Columns.{levels_filled, resolved_column, resolved_filled};
     ghost use Rattle.lines.specs.Columns.{HasTextRoom, IsTextRoom, KeepsTextRoom};
 
@@ -100,6 +100,7 @@ impl TextColumns {
         ensures at_least { steps.old ≤ steps.new }
         ensures at_most { steps.new ≤ steps.old + units }
         ensures light { IsTrue uniform → steps.new ≡ steps.old }
+        ensures each { uniform ≡ false → steps.new ≡ steps.old + units }
     {
         if uniform {
             return;

@@ -14,7 +14,7 @@ ghost use Rattle.lines.specs.Spans.{IsSpanAtLevel, order_of, units_in_span};
 
 use crate::bounds::Bound;
 use crate::columns::LineColumns;
-use crate::order::write_order;
+use crate::order::write_known_order;
 use crate::runs::Run;
 use crate::spans::LineSpan;
 use std::sync::ledger::Ledger;
@@ -52,8 +52,9 @@ fn write_line<L: Ledger>(
     ensures at_least { steps.old + units_in_span line.entry ≤ steps.new }
     ensures at_most { steps.new ≤ steps.old + order_steps * units_in_span line.entry }
     ensures light { IfSome uniform (λ _. steps.new ≤ steps.old + light_order_steps * units_in_span line.entry) }
+    ensures twice { IfSome uniform (λ _. steps.old + 2 * units_in_span line.entry ≤ steps.new + 1) }
 {
-    written + write_order(line, uniform, runs, &mut orders[written..], steps)
+    written + write_known_order(line, uniform, runs, &mut orders[written..], steps)
 }
 
 /// Writes the orders of a text's lines (L2) to the front of their column. The bounds say already where the lines end;
@@ -89,6 +90,7 @@ pub(crate) fn fill_lines<L: Ledger>(
     ensures at_least { steps.old + length own.now + lines ≤ steps.new }
     ensures at_most { steps.new ≤ steps.old + line_steps * length own.now }
     ensures light { IsTrue uniform → steps.new ≤ steps.old + light_line_steps * length own.now }
+    ensures twice { IsTrue uniform → steps.old + 2 * length own.now ≤ steps.new }
 {
     let runs: &mut [Run] = &mut columns.runs;
     let orders: &mut [usize] = &mut columns.orders;

@@ -36,6 +36,7 @@ loop-line-init g c =
       counted = ap (λ n. count_by is_separator (take n (classes_of c.args.own.now))) (sym start);
       at_least = omega arith;
       at_most = omega arith;
+      twice = λ known. omega arith;
       light = λ known. omega arith;
     }
 
@@ -120,6 +121,9 @@ loop-line-preserved g c =
           ∙ ap (λ n. count_by is_separator (take n own)) same_end;
       at_least = omega (arith, same_start, same_end, cut.above, c.tick.ensures, line.ensures.at_least);
       at_most = omega (arith, same_start, same_end, cut.above, line.ensures.at_most);
+      twice = λ known.
+          let many = where_known c.args.uniform _ c.then_some-level.result c.then_some-level.ensures line.ensures.twice known in
+          omega (arith, same_start, same_end, l.invariant.twice known, cut.above, c.tick.ensures, many);
       light = λ known.
           let few = where_known c.args.uniform _ c.then_some-level.result c.then_some-level.ensures line.ensures.light known in
           omega (arith, same_start, same_end, l.invariant.light known, cut.above, c.tick.ensures, few);

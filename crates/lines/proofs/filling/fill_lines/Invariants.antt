@@ -17,5 +17,6 @@ invariant-loop-line g l =
       counted : l.paragraph ≡ count_by is_separator (take (bound_at l.initial.bounds l.line).position (classes_of l.own));
       at_least : l.initial.steps + (bound_at l.initial.bounds l.line).position + l.line ≤ l.steps;
       at_most : l.steps ≤ l.initial.steps + line_steps * (bound_at l.initial.bounds l.line).position;
+      twice : IsTrue l.uniform → l.initial.steps + 2 * (bound_at l.initial.bounds l.line).position ≤ l.steps;
       light : IsTrue l.uniform → l.steps ≤ l.initial.steps + light_line_steps * (bound_at l.initial.bounds l.line).position;
     }

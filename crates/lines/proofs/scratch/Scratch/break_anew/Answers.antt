@@ -25,8 +25,8 @@ arrange-self-requires-clause-uniform g c =
     ∙ c.restore_resolved.ensures.levels
     ∙ ap (λ n. resolved_filled n room.used.uniform room.text) (sym held.units)
     ∙ held.levels in
-    let paras_are : map level_of_para (take room.used.paragraphs c.deref-2.result.now) ≡ para_levels_of text direction =
-    ap (λ xs. map level_of_para (take room.used.paragraphs xs)) (c.deref-2.ensures.value ∙ ap (λ column. boxed_slice_items column) c.restore_resolved.ensures.paras)
+    let paras_are : map level_of_para (take room.used.paragraphs c.deref-3.result.now) ≡ para_levels_of text direction =
+    ap (λ xs. map level_of_para (take room.used.paragraphs xs)) (c.deref-3.ensures.value ∙ ap (λ column. boxed_slice_items column) c.restore_resolved.ensures.paras)
     ∙ held.paras in
     λ known. rw (paras_are, resolved_are) (text_at_paras limits direction text (all_stay limits direction (paragraphs_of text) (sym held.known ∙ known)))
 
@@ -49,7 +49,7 @@ returns-clause-layout g c = λ limits direction held.
     let levels_are = with_items_is column filled.new.levels as_levels in
     let paras : List ℕ = map level_of_para (paras_filled room.used.paragraphs restored.new.self) in
     let reset : take n filled.new.levels ≡ after_resets (classes_of text) c.args.breaks.now.positions paras (levels_filled n restored.new.self) =
-    rw (← c.deref_mut-2.ensures.value, ← c.deref-2.ensures.value) filled.ensures.levels in
+    rw (← c.deref_mut-2.ensures.value, ← c.deref-3.ensures.value) filled.ensures.levels in
     rw levels_are
     (laid_out limits text direction c.args.breaks.now.positions paras (levels_filled n restored.new.self) (take n filled.new.levels) (take room.used.units filled.new.levels)
     (lines_filled filled.result filled.new.columns)
@@ -81,4 +81,7 @@ returns-clause-holds g c = λ limits direction held.
     }
 
 pub arrange-self-requires-clause-para_ends : goal.arrange-self-requires-clause-para_ends
-arrange-self-requires-clause-para_ends g c = rw (c.deref.ensures.value, c.restore_resolved.ensures.para_ends) c.requires.holds.2.ends
+arrange-self-requires-clause-para_ends g c = rw (c.deref-2.ensures.value, c.restore_resolved.ensures.para_ends) c.requires.holds.2.ends
+
+pub cut_text-lines-requires-clause-para_ends : goal.cut_text-lines-requires-clause-para_ends
+cut_text-lines-requires-clause-para_ends g c = rw c.deref.ensures.value c.requires.holds.2.ends
