@@ -8,6 +8,7 @@ pub mod StackChanges
 pub mod Stretches
 pub mod Stops
 pub mod ExplicitLevels
+pub mod Places
 pub mod Laws
 pub mod WantedLevels
 pub mod IsolateNesting

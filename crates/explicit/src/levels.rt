@@ -11,6 +11,7 @@ ghost use Rattle.explicit.specs.Stretches.{IsStretch, with_leveled};
 ghost use Rattle.explicit.specs.WantedLevels.{IsOddWanted};
 
 use crate::isolates::IsolateMap;
+use crate::place::Place;
 use crate::status::{Status, StatusStack, is_ordinary};
 use std::alloc::Global;
 use std::boxed::BoxedSlice;
@@ -28,7 +29,7 @@ use units::steps::Steps;
 /// statuses, which is empty between calls.
 #[derive(Drop)]
 pub struct Explicit {
-    column: BoxedSlice<Option<(Level, Class)>>,
+    column: BoxedSlice<Place>,
     stack: StatusStack,
 }
 
@@ -54,7 +55,7 @@ impl Explicit {
         if n >= u32::MAX as usize {
             return Err(Memory);
         }
-        let column = vec![in alloc; None; n]?.into_boxed_slice();
+        let column = vec![in alloc; Place::none(); n]?.into_boxed_slice();
         Ok(Explicit {
             column,
             stack: StatusStack::empty(),
@@ -69,12 +70,12 @@ impl Explicit {
         ensures found { IsExplicitAt self.now p result }
         ensures within { IsWithinDepth self.now p result }
     {
-        self.column[p]
+        self.column[p].get()
     }
 
     /// X1 to X9: all room, as contracts see it: the explicit level and the current class of each position of the
     /// paragraph that was filled from, or none where it is removed.
-    pub fn column(&self) -> &[Option<(Level, Class)>]
+    pub fn column(&self) -> &[Place]
         ensures { result.now ≡ self.now }
     {
         &self.column
@@ -86,10 +87,7 @@ impl Explicit {
         requires { p < length self.now }
         ensures { result ≡ option_map_or (λ x. x.1) (slice_index_or self.now p None) BN }
     {
-        match self.at(p) {
-            Some((_, class)) => class,
-            None => Class::BN,
-        }
+        self.column[p].class()
     }
 }
 
@@ -110,7 +108,7 @@ fn level_ordinary<L: Ledger>(
     para: &[Unit],
     from: usize,
     status: Status,
-    explicit: &mut [Option<(Level, Class)>],
+    explicit: &mut [Place],
     steps: &mut Steps<L>,
 ) -> usize
     requires from { from ≤ length para.now }
@@ -122,7 +120,8 @@ fn level_ordinary<L: Ledger>(
     let mut p = from;
     while p < para.len() && is_ordinary(para[p].class) {
         steps.tick();
-        explicit[p] = Some(status.leveled(para[p].class));
+        let (level, class) = status.leveled(para[p].class);
+        explicit[p] = Place::some(level, class);
         p += 1;
     }
     p
@@ -136,7 +135,7 @@ fn find_explicit<L: Ledger>(
     base: Level,
     depth: u8,
     stack: &mut StatusStack,
-    explicit: &mut [Option<(Level, Class)>],
+    explicit: &mut [Place],
     steps: &mut Steps<L>,
 )
     requires base { base ≤ 1 }
@@ -155,7 +154,7 @@ fn find_explicit<L: Ledger>(
         steps.tick();
         let class = para[p].class;
         stack.close(class, steps);
-        explicit[p] = stack.leveled(class, base);
+        explicit[p] = Place::new(stack.leveled(class, base));
         let odd = asks_odd(class, map.is_right_to_left(p));
         stack.open(class, odd, depth);
         p = level_ordinary(para, p + 1, stack.inside(), explicit, steps);

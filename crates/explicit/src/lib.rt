@@ -9,6 +9,7 @@ pub mod isolates;
 pub mod laws;
 pub mod levels;
 pub mod para_level;
+pub mod place;
 pub mod side;
 mod status;
 

@@ -10,9 +10,9 @@ ghost use Rattle.sequences.specs.FilledFrom.{AreExplicitLevels, leveled_by};
 
 use explicit::isolates::IsolateMap;
 use explicit::levels::Explicit;
+use explicit::place::Place;
 use std::marker::Model;
 use units::bracket::Unit;
-use units::class::Class;
 use units::level::{Level, ParaLevel};
 
 /// A paragraph after X1 to X9.
@@ -20,7 +20,7 @@ use units::level::{Level, ParaLevel};
 pub struct Leveled<'a> {
     para: &'a [Unit],
     isolates: &'a IsolateMap,
-    explicit: &'a [Option<(Level, Class)>],
+    explicit: &'a [Place],
     base: Level,
 }
 
@@ -37,7 +37,7 @@ impl<'a> Model for Leveled<'a> {
 }
 
 /// What was found of the position `p`: its explicit level and its current class, or none where it is removed.
-fn at(explicit: &[Option<(Level, Class)>], p: usize) -> Option<(Level, Class)>
+fn at(explicit: &[Place], p: usize) -> Place
     requires { p < length explicit.now }
     ensures { result ≡ slice_index_or explicit.now p None }
 {
@@ -87,8 +87,7 @@ impl<'a> Leveled<'a> {
         ensures value { result ≡ level_of self.now p }
         ensures within { IfSome result (λ level. level ≤ 125) }
     {
-        let (level, _) = at(self.explicit, p)?;
-        Some(level)
+        at(self.explicit, p).level()
     }
 
     /// Whether the position remains, at this level.
@@ -96,10 +95,7 @@ impl<'a> Leveled<'a> {
         requires { p < size_of self.now }
         ensures { result ≡ at_one_level (level_of self.now p) (Some level) }
     {
-        match self.level(p) {
-            Some(here) => here.get() == level.get(),
-            None => false,
-        }
+        at(self.explicit, p).is_at(level)
     }
 
     /// Whether the position's own class is LRI, RLI or FSI.

@@ -64,20 +64,20 @@ loop-p-preserved g c =
     let k = c.open.ensures.opened cs c.args.base (holders cs p) p e o r in
     let P : List ℕ → Type 0 = λ qs. Represents c.args.depth cs c.args.base qs c.open.new.self in
     let kept : P (open_before cs (p + 1)) = subst P (open_before-next cs p) k in
-    let found = c.leveled.ensures c.args.depth cs (holders cs p) r ∙ ap (λ x. leveled_in (state_within c.args.depth cs c.args.base (holders cs p)) c.args.base x) e ∙ explicit-leveled_in c.args.depth cs c.args.base p in
-    let below = explicit-more c.args.depth cs c.args.base p c.loop-p.explicit c.leveled.result short found c.loop-p.invariant.filled in
+    let found = c.new.ensures ∙ c.leveled.ensures c.args.depth cs (holders cs p) r ∙ ap (λ x. leveled_in (state_within c.args.depth cs c.args.base (holders cs p)) c.args.base x) e ∙ explicit-leveled_in c.args.depth cs c.args.base p in
+    let below = explicit-more c.args.depth cs c.args.base p c.loop-p.explicit c.new.result short found c.loop-p.invariant.filled in
     let s = c.level_ordinary-p-in-loop-p.ensures.stretch in
     let end : ℕ = c.level_ordinary-p-in-loop-p.result in
     let low = s.later in
     let within = s.within in
     let v = c.inside-in-loop-p.ensures c.args.depth cs c.args.base (open_before cs (p + 1)) kept in
     let written = c.level_ordinary-p-in-loop-p.ensures.explicit in
-    let same : length (set c.loop-p.explicit p c.leveled.result) ≡ length c.loop-p.explicit = length-set c.loop-p.explicit p c.leveled.result in
+    let same : length (set c.loop-p.explicit p c.new.result) ≡ length c.loop-p.explicit = length-set c.loop-p.explicit p c.new.result in
     record {
       within = omega (arith, n, within);
       keeps = stretch-keeps cs (p + 1) end s c.args.depth c.args.base c.open.new.self kept;
-      filled = stretch-explicit cs (p + 1) end s c.inside-in-loop-p.result (set c.loop-p.explicit p c.leveled.result) c.level_ordinary-p-in-loop-p.new.explicit written c.args.depth c.args.base v.0 v.1 (omega (arith, n, within, c.requires.room, room, same)) below;
-      room = stretch-room cs (p + 1) end s c.inside-in-loop-p.result (set c.loop-p.explicit p c.leveled.result) c.level_ordinary-p-in-loop-p.new.explicit written ∙ same ∙ room;
+      filled = stretch-explicit cs (p + 1) end s c.inside-in-loop-p.result (set c.loop-p.explicit p c.new.result) c.level_ordinary-p-in-loop-p.new.explicit written c.args.depth c.args.base v.0 v.1 (omega (arith, n, within, c.requires.room, room, same)) below;
+      room = stretch-room cs (p + 1) end s c.inside-in-loop-p.result (set c.loop-p.explicit p c.new.result) c.level_ordinary-p-in-loop-p.new.explicit written ∙ same ∙ room;
       least = omega (arith, c.tick.ensures, c.close.ensures.least_steps, c.loop-p.invariant.least, c.level_ordinary-p-in-loop-p.ensures.steps);
       most = omega (arith, low, c.tick.ensures, c.close.ensures.most_steps, c.open.ensures.size, c.loop-p.invariant.most, c.level_ordinary-p-in-loop-p.ensures.steps);
     }

@@ -33,8 +33,8 @@ loop-p-preserved g c =
         | inl e ↦ subst (λ (q : ℕ). is_ordinary (class_at cs q) ≡ true) (sym e) ordinary
         | inr ne ↦ l.invariant.passed k from (omega arith)
       ];
-      placed = ap (λ (xs : List (Option (ℕ × Class))). set xs l.p (Some c.leveled.result)) l.invariant.placed
-          ∙ ap (λ (x : ℕ × Class). set (with_leveled c.args.status cs c.args.from l.p c.args.explicit.now) l.p (Some x)) (c.leveled.ensures ∙ ap (leveled_by_status c.args.status) (sym read))
+      placed = ap (λ (xs : List (Option (ℕ × Class))). set xs l.p c.some.result) l.invariant.placed
+          ∙ ap (λ (x : Option (ℕ × Class)). set (with_leveled c.args.status cs c.args.from l.p c.args.explicit.now) l.p x) (c.some.ensures ∙ ap (λ (x : ℕ × Class). Some x) (c.leveled-level.ensures ∙ ap (leveled_by_status c.args.status) (sym read)))
           ∙ explicit-next c.args.status cs c.args.from l.p c.args.explicit.now low;
       taken = omega (arith, c.tick.ensures, l.invariant.taken);
     }

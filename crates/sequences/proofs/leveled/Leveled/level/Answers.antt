@@ -7,13 +7,9 @@ use Rattle.sequences.proofs.leveled.Leveled.level.Goals as goal
 pub at-requires : goal.at-requires
 at-requires c = within_explicit c.self.invariant c.self.view_is c.args.p c.requires
 
-pub returns-in_err-level-clause-value : goal.returns-in_err-level-clause-value
-returns-in_err-level-clause-value c =
-    c.from_residual.ensures ∙ sym (level-explicit c.self.invariant c.self.view_is c.args.p c.requires ∙ ap (option_map (λ leveled. leveled.0)) (sym c.at.ensures ∙ c.in_err-level.was))
-
 pub returns-clause-value : goal.returns-clause-value
 returns-clause-value c =
-    sym (level-explicit c.self.invariant c.self.view_is c.args.p c.requires ∙ ap (option_map (λ leveled. leveled.0)) (sym c.at.ensures ∙ c.in_ok-level.was))
+    c.level.ensures ∙ ap (option_map (λ leveled. leveled.0)) c.at.ensures ∙ sym (level-explicit c.self.invariant c.self.view_is c.args.p c.requires)
 
 pub returns-clause-within : goal.returns-clause-within
 returns-clause-within c =
