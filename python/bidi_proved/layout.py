@@ -109,7 +109,7 @@ class AnyRoom:
 
 
 class Room(AnyRoom):
-    """Memory for texts of up to `size` characters, 87 bytes for each, and for the layout of the last one.
+    """Memory for texts of up to `size` characters, 86 bytes for each, and for the layout of the last one.
 
     Whoever lays out many texts makes one for each thread. A layout of it can be asked until it lays out the next
     text or breaks this one anew, and raises StaleLayout from then on. A call waits while another thread is in a call

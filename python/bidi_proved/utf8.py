@@ -9,7 +9,7 @@ _CALLS = {"strict": "bidi_lay_out_utf8_with", "replace": "bidi_lay_out_utf8_loss
 
 
 class Utf8Room(AnyRoom):
-    """Memory for texts of up to `size` bytes of UTF-8, 113 bytes for each, and for the layout of the last one.
+    """Memory for texts of up to `size` bytes of UTF-8, 112 bytes for each, and for the layout of the last one.
 
     Whoever lays out many texts makes one for each thread. A layout of it can be asked until it lays out the next
     text or breaks this one anew, and raises StaleLayout from then on. A call waits while another thread is in a call

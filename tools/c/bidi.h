@@ -140,7 +140,7 @@ uint32_t bidi_base_level(bidi_tables *tables, const uint32_t *codes, size_t n, u
                          uint64_t *place);
 uint32_t bidi_is_left_to_right(bidi_tables *tables, const uint32_t *codes, size_t n, uint8_t *stays, uint64_t *place);
 
-/* Room for texts of up to n code points, 87 bytes for each. What `room` held before is freed once it is made. */
+/* Room for texts of up to n code points, 86 bytes for each. What `room` held before is freed once it is made. */
 uint32_t bidi_room_new(size_t n, bidi_room *room);
 void bidi_room_free(bidi_room *room);
 /* The n that the room was made for, 0 without a room. */
@@ -206,7 +206,7 @@ size_t bidi_shown(bidi_room *room, bidi_tables *tables, const uint32_t *codes, s
 
 /* Texts in UTF-8 and UTF-16, told of in offsets: how many code units (bytes, or 16 bits) stand before something. */
 
-/* Room for such texts of up to n code units, 113 bytes for each. It takes texts in code units alone, as the rooms above
+/* Room for such texts of up to n code units, 112 bytes for each. It takes texts in code units alone, as the rooms above
  * take none; bidi_set_lines and bidi_line_of take no such room, all look-ups above do, and count in characters. */
 uint32_t bidi_room_new_encoded(size_t n, bidi_room *room);
 

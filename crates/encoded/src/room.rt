@@ -28,7 +28,7 @@ use units::class::Class;
 use units::level::{Direction, ParaLevel};
 use units::limits::Limits;
 
-/// Room for texts in code units and their layouts, to be used again and again: 113 bytes for each code unit of room.
+/// Room for texts in code units and their layouts, to be used again and again: 112 bytes for each code unit of room.
 /// It holds a text and its layout at all times, at first those of an empty text. Its columns don't grow.
 #[derive(Drop)]
 pub struct Room {
