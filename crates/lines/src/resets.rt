@@ -70,6 +70,51 @@ fn last_coming(at: &[usize], ahead: usize) -> usize
     if ahead > 0 { at[ahead - 1] } else { 0 }
 }
 
+/// How many positions are passed together in a search for a separator.
+const BLOCK: usize = 4;
+
+/// Where a search for a separator of lines from `end` back to `start` has passed blocks in which there is none, in a
+/// step for each position.
+fn pass_blocks<L: Ledger>(own: &[Unit], start: usize, end: usize, steps: &mut Steps<L>) -> usize
+    requires order { start ≤ end }
+    requires within { end ≤ length own.now }
+    ensures from_start { start ≤ result }
+    ensures to_end { result ≤ end }
+    ensures passed { SeparateNone (classes_of own.now) result end }
+    ensures steps { steps.new + result ≡ steps.old + end }
+{
+    let mut position = end;
+    while position - start >= BLOCK
+        && !is_line_separator(own[position - 1].class)
+        && !is_line_separator(own[position - 2].class)
+        && !is_line_separator(own[position - 3].class)
+        && !is_line_separator(own[position - 4].class)
+    {
+        steps.add(BLOCK);
+        position -= BLOCK;
+    }
+    position
+}
+
+/// The position behind the last separator of lines from `start` up to `end`, or `start` where there is none, in a step
+/// for each position that is passed over.
+fn find_separator<L: Ledger>(own: &[Unit], start: usize, end: usize, steps: &mut Steps<L>) -> usize
+    requires order { start ≤ end }
+    requires within { end ≤ length own.now }
+    ensures from_start { start ≤ result }
+    ensures to_end { result ≤ end }
+    ensures passed { SeparateNone (classes_of own.now) result end }
+    ensures behind { start < result → separates_line (class_at (classes_of own.now) (result - 1)) ≡ true }
+    ensures steps { steps.new + result ≡ steps.old + end }
+{
+    let mut position = end;
+    while position > start && !is_line_separator(own[position - 1].class) {
+        steps.tick();
+        position -= 1;
+    }
+    position
+}
+
 /// The position behind the last separator of lines from `start` up to `end`, or `start` where there is none: where a
 /// walk of L1 from the end goes on, if nothing before `end` is reset but a separator, and what stands before it. It
 /// takes a step for each position that is passed over.
@@ -87,12 +132,8 @@ fn behind_separator<L: Ledger>(
     ensures behind { start < result → separates_line (class_at (classes_of own.now) (result - 1)) ≡ true }
     ensures steps { steps.new + result ≡ steps.old + end }
 {
-    let mut position = end;
-    while position > start && !is_line_separator(own[position - 1].class) {
-        steps.tick();
-        position -= 1;
-    }
-    position
+    let last = pass_blocks(own, start, end, steps);
+    find_separator(own, start, last, steps)
 }
 
 /// How many paragraph separators a text of so many paragraphs has: each but the last ends with one.

@@ -1,7 +1,7 @@
 use Rattle.std.proofs.Common.{◌≡◌, ◌≤◌, ◌+◌}
 use Rattle.units.specs.Classes.{classes_of}
 use Rattle.lines.specs.Spaces.{SeparateNone}
-use Rattle.lines.proofs.resets.behind_separator.Given as goal
+use Rattle.lines.proofs.resets.find_separator.Given as goal
 
 abbrev pub invariant-loop-position : goal.invariant-loop-position
 invariant-loop-position g l =
