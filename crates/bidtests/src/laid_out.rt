@@ -1,6 +1,6 @@
 // Texts laid out under one direction after another.
-ghost use Rattle.std.specs.Prelude.{◌≡◌, ◌≤◌, length, IfSome};
-ghost use Rattle.lines.specs.Scratches.{room_of};
+ghost use Rattle.std.specs.Prelude.{◌≡◌, ◌≤◌, length, IfSome, IsSome};
+ghost use Rattle.lines.specs.Scratches.{layout_in, room_of};
 ghost use Rattle.bidtests.specs.LaidOut.{IsLaidOut};
 
 use crate::compare::direction_by_level;
@@ -21,6 +21,7 @@ fn lay_out_under(
     requires { length text.now ≤ room_of scratch.old }
     ensures laid_out { IsLaidOut limits text.now scratch.new direction }
     ensures same { IfSome result (IsLaidOut limits text.now scratch.new) }
+    ensures known { length (layout_in scratch.new).paras ≡ 1 → IsSome result }
     ensures room { room_of scratch.new ≡ room_of scratch.old }
 {
     let breaks = Breaks::new(&[], text.len()).unwrap();
@@ -30,7 +31,7 @@ fn lay_out_under(
 
 /// Lays out a text under a direction, without breaks and by these limits, unless the scratch holds that layout: the
 /// direction is handed over under which it holds one, if it does. The answer is another direction under which the
-/// layout is the same, for the next call, if one is known.
+/// layout is the same, for the next call; of a text of one paragraph such a one is known.
 pub fn lay_out_anew(
     scratch: &mut Scratch,
     text: &[Unit],
@@ -42,6 +43,7 @@ pub fn lay_out_anew(
     requires laid_out { IfSome laid_out (IsLaidOut limits text.now scratch.old) }
     ensures laid_out { IsLaidOut limits text.now scratch.new direction }
     ensures same { IfSome result (IsLaidOut limits text.now scratch.new) }
+    ensures known { length (layout_in scratch.new).paras ≡ 1 → IsSome result }
     ensures room { room_of scratch.new ≡ room_of scratch.old }
 {
     if laid_out == Some(direction) {

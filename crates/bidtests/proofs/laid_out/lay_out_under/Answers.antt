@@ -1,4 +1,5 @@
-use Rattle.std.proofs.Common.{◌≡◌, ◌∙◌, ap, map}
+use Rattle.std.proofs.Common.{◌≡◌, ◌∙◌, ap, length, map, sym}
+use Rattle.std.proofs.lemmas.List.{length-map}
 use Rattle.units.specs.Isolates.{level_of_para}
 use Rattle.units.specs.Layout.{TextLayout, layout_of, para_levels_of}
 use Rattle.lines.specs.LineBreaks.{BreaksView}
@@ -22,5 +23,7 @@ returns c =
     record {
       laid_out = laid;
       same = also-laid-out limits text c.lay_out_into_with.new.room c.args.direction c.direction_by_level.result _ paras c.direction_by_level.ensures.level laid;
+      known = λ one. c.direction_by_level.ensures.one (sym (length-map c.para_levels.result.now level_of_para)
+          ∙ ap length (c.para_levels.ensures ∙ ap (λ (v : TextLayout). v.paras) c.layout.ensures) ∙ one);
       room = c.lay_out_into_with.ensures.room;
     }
