@@ -50,7 +50,7 @@ fn leads_on(links: &[OptionalPosition], p: usize) -> bool
 }
 
 /// Writes the position that is given, and those behind it as long as each is linked to the one right behind it, into
-/// the column from `start` on. Answers the last of them.
+/// the column from `start` on. Answers the last of them. Each that is written is a step.
 fn write_stretch<L: Ledger>(
     links: &[OptionalPosition],
     first: usize,
@@ -70,12 +70,13 @@ fn write_stretch<L: Ledger>(
     ensures steps { steps.new + first ≡ steps.old + result + 1 }
 {
     let mut p = first;
+    steps.tick();
     column[start] = first as u32;
     while leads_on(links, p) {
         p += 1;
+        steps.tick();
         column[start + (p - first)] = p as u32;
     }
-    steps.add(p - first + 1);
     p
 }
 
@@ -138,7 +139,8 @@ fn make_head(
 
 /// Writes the heads of the sequences in the order of their first positions, and the positions of each in one column,
 /// both from the front on. Answers how many sequences there are. No sequence begins at a position that another is
-/// linked to, so those that are written without a gap are passed at once.
+/// linked to, so those that are written without a gap are passed at once. A step for each position that is passed, and
+/// one for each that is written.
 pub fn fill_heads<L: Ledger>(
     t: &Leveled,
     links: &[OptionalPosition],
@@ -173,6 +175,7 @@ pub fn fill_heads<L: Ledger>(
             heads[count] = make_head(t, ends, last, p, end, written.end);
             count += 1;
             end = written.end;
+            // No turn is taken for these, but callers are told a step for each position that is passed.
             steps.add(written.last - p);
             p = written.last;
         }

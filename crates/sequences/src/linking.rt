@@ -153,13 +153,13 @@ fn link_level<L: Ledger>(
 {
     let mut p = from;
     while p > 0 && t.is_at(p - 1, level) {
+        steps.tick();
         links[p - 1] = OptionalPosition::some(p);
         ends[p - 1] = end;
         joined[p - 1] = false;
         joined[p] = true;
         p -= 1;
     }
-    steps.add(from - p);
     p
 }
 

@@ -20,6 +20,7 @@ loop-p-init g c =
       pushed = pushed_more c.requires.linked (pushed_first c.args.links.now first c.requires.first (take start column)) first refl _
           (ap (λ (k : ℕ). take k (set column start first)) one ∙ take_more_set column start first room) _ refl;
       rest = omega (arith, ap length step);
+      steps = omega (arith, c.tick.ensures);
     }
 
 pub bounds-column-start-in-loop-p : goal.bounds-column-start-in-loop-p
@@ -49,4 +50,5 @@ loop-p-preserved g c =
       };
       pushed = pushed_more c.requires.linked w (p + 1) e _ (take_more_set l.column k (p + 1) room ∙ ap (λ (n : ℕ). take n l.column ++ (p + 1) ∷ []) same) _ refl;
       rest = omega (arith, same, l.invariant.rest, ap length step);
+      steps = omega (arith, c.tick-in-loop-p.ensures, l.invariant.steps);
     }

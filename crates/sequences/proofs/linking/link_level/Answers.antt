@@ -15,4 +15,5 @@ loop-p-preserved g c =
       here = step.2;
       end = step.1;
       walk = rw c.some.ensures step.0;
+      steps = omega (arith, c.tick.ensures, l.invariant.steps);
     }

@@ -1,4 +1,4 @@
-use Rattle.std.proofs.Common.{◌≡◌, ◌≤◌}
+use Rattle.std.proofs.Common.{◌≡◌, ◌≤◌, ◌+◌}
 use Rattle.std.specs.Prelude.{Some}
 use Rattle.units.specs.Runs.{eos_at, last_in, level_of, sequence_from}
 use Rattle.sequences.specs.BackWalks.{BackWalk}
@@ -10,6 +10,7 @@ invariant-loop-p g l = record {
   here : level_of l.t l.p ≡ Some l.level;
   end : l.end ≡ eos_at l.t (last_in (sequence_from l.t l.p) l.p);
   walk : BackWalk l.t l.p (Some l.p) l.links l.ends l.joined;
+  steps : l.steps + l.p ≡ l.fn.steps + l.from;
 }
 
 abbrev pub decreases-loop-p : goal.decreases-loop-p
