@@ -1,5 +1,5 @@
 //! What a paragraph contains, which tells the rules that have nothing to do in it; and where it ends.
-ghost use Rattle.std.specs.Prelude.{◌≡◌, ◌+◌, ◌<◌, ◌≤◌, List, [], ◌∷◌, Some, drop, find, length, take};
+ghost use Rattle.std.specs.Prelude.{◌≡◌, ◌+◌, ◌<◌, ◌≤◌, IfSome, IsNone, List, [], ◌∷◌, Some, drop, false, find, length, take, true};
 ghost use Rattle.std.specs.List.{list_all, list_any};
 ghost use Rattle.units.specs.Classes.{classes_of, is_initiator, is_removed, is_strong};
 ghost use Rattle.units.specs.Isolates.{level_of_para};
@@ -161,6 +161,31 @@ fn with_four(before: ClassSet, text: &[Unit], p: usize) -> ClassSet
     three.with(text[p + 3].class)
 }
 
+/// How many units are passed together in the search for the end of a paragraph.
+const BLOCK: usize = 4;
+
+/// The classes of the units before this one, and of the four from it on; or none where there are not four, or where a
+/// separator is among them all.
+fn pass_block(before: ClassSet, text: &[Unit], p: usize) -> Option<ClassSet>
+    requires within { p ≤ length text.now }
+    requires before { IsSetOf before (classes_of (take p text.now)) }
+    ensures four { IfSome result (λ _. p + 4 ≤ length text.now) }
+    ensures classes { IfSome result (λ classes. IsSetOf classes (classes_of (take (p + 4) text.now))) }
+    ensures passed { IfSome result (λ _. list_any (is_class BidiClass.B) (classes_of (take (p + 4) text.now)) ≡ false) }
+    ensures none { IsNone result → p + 4 ≤ length text.now
+        → list_any (is_class BidiClass.B) (classes_of (take (p + 4) text.now)) ≡ true }
+{
+    if text.len() - p < BLOCK {
+        return None;
+    }
+    let classes = with_four(before, text, p);
+    if classes.has(Class::B) {
+        None
+    } else {
+        Some(classes)
+    }
+}
+
 /// Passes units from `start` on, four at a time, as long as none of the four is a separator. Each is a step.
 fn pass_fours<L: Ledger>(
     text: &[Unit],
@@ -179,15 +204,11 @@ fn pass_fours<L: Ledger>(
 {
     let mut classes = before;
     let mut p = start;
-    while text.len() - p >= 4 {
-        let more = with_four(classes, text, p);
-        if more.has(Class::B) {
-            break;
-        }
+    while let Some(more) = pass_block(classes, text, p) {
+        steps.add(BLOCK);
         classes = more;
-        p += 4;
+        p += BLOCK;
     }
-    steps.add(p - start);
     Front { length: p, classes }
 }
 

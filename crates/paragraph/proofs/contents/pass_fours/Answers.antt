@@ -1,11 +1,26 @@
-use Rattle.std.proofs.Common.{arith, sym, ◌∙◌}
+use Rattle.std.proofs.Common.{arith, subst, ℕ, ◌+◌, ◌≤◌, ◌≡◌, false, take, length, Option, IfSome}
+use Rattle.std.specs.List.{list_any}
+use Rattle.units.specs.Classes.{classes_of}
+use Rattle.units.specs.declared.class.Class.TheVariants.{B}
+use Rattle.paragraph.specs.ClassSets.{IsSetOf, is_class}
+use Rattle.paragraph.specs.declared.class_set.ClassSet.{ClassSet}
 use Rattle.paragraph.proofs.Scan.{goes_on_four}
 use Rattle.paragraph.proofs.contents.pass_fours.Goals as goal
 
-pub loop-p-preserved : goal.loop-p-preserved
-loop-p-preserved g c = record {
-  later = omega arith;
-  within = omega arith;
-  goes_on = goes_on_four c.args.text.now c.loop-p.p (omega arith) (sym (c.has.ensures _ c.with_four-more.ensures) ∙ c.if-has.false) c.loop-p.invariant.goes_on;
-  classes = c.with_four-more.ensures;
-}
+pub loop-more-preserved : goal.loop-more-preserved
+loop-more-preserved g c =
+    let l = c.loop-more in
+    let us = c.args.text.now in
+    let p : ℕ = l.p in
+    let block = c.pass_block.ensures in
+    let P : Option ClassSet → Type 0 = λ o. IfSome o (λ _. p + 4 ≤ length us) in
+    let Q : Option ClassSet → Type 0 = λ o. IfSome o (λ classes. IsSetOf classes (classes_of (take (p + 4) us))) in
+    let R : Option ClassSet → Type 0 = λ o. IfSome o (λ _. list_any (is_class B) (classes_of (take (p + 4) us)) ≡ false) in
+    let four : p + 4 ≤ length us = subst P c.in-Some.is block.four in
+    record {
+      later = omega (arith, l.invariant.later);
+      within = omega (arith, four);
+      goes_on = goes_on_four us p four (subst R c.in-Some.is block.passed) l.invariant.goes_on;
+      classes = subst Q c.in-Some.is block.classes;
+      steps = omega (arith, c.add.ensures, l.invariant.steps);
+    }
