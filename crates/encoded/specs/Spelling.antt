@@ -1,6 +1,7 @@
 -- One character of a text in UTF-8, as its bytes.
 use Rattle.std.specs.Prelude.{ℕ, ◌≡◌, ◌+◌, ◌<◌, ◌≤◌, List, ◌++◌, length, take}
 use Rattle.std.specs.Char.{encode_utf8, IsScalar}
+use Rattle.std.specs.Str.{StartsWithNoChar}
 
 -- the byte can stand behind the first one of a character
 pub record Continues (byte : ℕ) : Type 0 where
@@ -11,6 +12,10 @@ pub record Continues (byte : ℕ) : Type 0 where
 pub record IsOfBytes (bytes : List ℕ) (c : ℕ) : Type 0 where
   pub scalar : IsScalar c
   pub bytes_of : encode_utf8 c ≡ bytes
+
+-- no character begins with these bytes, whatever stands behind them
+abbrev pub BeginNoChar : List ℕ → Type 0
+BeginNoChar bytes = (rest : List ℕ) → StartsWithNoChar (bytes ++ rest)
 
 -- the bytes from the offset up to another one spell a character: it, and the offset behind it
 pub record IsSpelled (bytes : List ℕ) (at : ℕ) (found : ℕ × ℕ) : Type 0 where

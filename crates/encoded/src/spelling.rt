@@ -1,11 +1,12 @@
 //! The character that begins at an offset of a text in UTF-8, from its bytes.
-ghost use Rattle.std.specs.Prelude.{◌≡◌, ◌<◌, ◌≤◌, [], ◌∷◌, true, length, IfSome};
-ghost use Rattle.encoded.specs.Spelling.{Continues, IsOfBytes, IsSpelled};
+ghost use Rattle.std.specs.Prelude.{◌≡◌, ◌<◌, ◌≤◌, ◌↔◌, [], ◌∷◌, drop, length, IsTrue, MatchOption};
+ghost use Rattle.std.specs.Str.{StartsWithNoChar};
+ghost use Rattle.encoded.specs.Spelling.{BeginNoChar, Continues, IsOfBytes, IsSpelled};
 
 /// Whether a byte can stand behind the first one of a character.
 #[inline(always)]
 fn continues(byte: u8) -> bool
-    ensures { result ≡ true → Continues byte }
+    ensures { IsTrue result ↔ Continues byte }
 {
     0x80 <= byte && byte < 0xC0
 }
@@ -13,8 +14,8 @@ fn continues(byte: u8) -> bool
 /// The character of these two bytes, if they are well formed.
 #[inline(always)]
 fn of_two(x: u8, y: u8) -> Option<char>
-    requires { x < 0xE0 }
-    ensures { IfSome result (IsOfBytes (x ∷ y ∷ [])) }
+    requires { (0x80 ≤ x) × (x < 0xE0) }
+    ensures { MatchOption result (BeginNoChar (x ∷ y ∷ [])) (IsOfBytes (x ∷ y ∷ [])) }
 {
     if x < 0xC2 || !continues(y) {
         return None;
@@ -26,7 +27,7 @@ fn of_two(x: u8, y: u8) -> Option<char>
 #[inline(always)]
 fn of_three(x: u8, y: u8, z: u8) -> Option<char>
     requires { (0xE0 ≤ x) × (x < 0xF0) }
-    ensures { IfSome result (IsOfBytes (x ∷ y ∷ z ∷ [])) }
+    ensures { MatchOption result (BeginNoChar (x ∷ y ∷ z ∷ [])) (IsOfBytes (x ∷ y ∷ z ∷ [])) }
 {
     if !continues(y) || !continues(z) {
         return None;
@@ -42,7 +43,7 @@ fn of_three(x: u8, y: u8, z: u8) -> Option<char>
 #[inline(never)]
 fn of_four(x: u8, y: u8, z: u8, w: u8) -> Option<char>
     requires { 0xF0 ≤ x }
-    ensures { IfSome result (IsOfBytes (x ∷ y ∷ z ∷ w ∷ [])) }
+    ensures { MatchOption result (BeginNoChar (x ∷ y ∷ z ∷ w ∷ [])) (IsOfBytes (x ∷ y ∷ z ∷ w ∷ [])) }
 {
     if !continues(y) || !continues(z) || !continues(w) {
         return None;
@@ -59,7 +60,7 @@ fn of_four(x: u8, y: u8, z: u8, w: u8) -> Option<char>
 #[inline(always)]
 pub(crate) fn char_at(bytes: &[u8], at: usize) -> Option<(char, usize)>
     requires { at < length bytes.now }
-    ensures { IfSome result (IsSpelled bytes.now at) }
+    ensures { MatchOption result (StartsWithNoChar (drop at bytes.now)) (IsSpelled bytes.now at) }
 {
     let x = bytes[at];
     let left = bytes.len() - at;

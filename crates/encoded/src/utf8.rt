@@ -1,5 +1,5 @@
 //! The characters of a text in UTF-8: their units, and the offsets at which they begin.
-ghost use Rattle.std.specs.Prelude.{◌≡◌, ◌<◌, ◌≤◌, ◌+◌, ◌^◌, ◌++◌, List, length, IfErr, IfOk, IfSome, OnOk, OnSome};
+ghost use Rattle.std.specs.Prelude.{◌≡◌, ◌<◌, ◌≤◌, ◌+◌, ◌^◌, ◌++◌, List, length, IfErr, IfOk, OnOk};
 ghost use Rattle.std.specs.Str.{chars, IsUtf8};
 ghost use Rattle.std.specs.Str.Lossy.{utf8_valid_len};
 ghost use Rattle.encoded.specs.Decoded.{AreDecoded, IsWritten};
@@ -8,7 +8,6 @@ ghost use Rattle.encoded.specs.Offsets.{Spelled};
 
 use crate::decoding::Reached;
 use crate::spelling::char_at;
-use std::str;
 use ucdfiles::tables::Tables;
 use units::bracket::Unit;
 
@@ -45,62 +44,9 @@ pub(crate) fn fill_str(
     }
 }
 
-/// Writes the units and the offsets of a text, and behind the offsets that of its end. It answers how many characters
-/// there are.
-pub(crate) fn decode_str(
-    text: &str,
-    tables: &Tables,
-    units: &mut [Unit],
-    starts: &mut [u32],
-) -> usize
-    requires units { length (chars text.now) ≤ length units.old }
-    requires starts { length (chars text.now) < length starts.old }
-    requires small { length text.now < 2 ^ 32 }
-    ensures units_len { length units.new ≡ length units.old }
-    ensures starts_len { length starts.new ≡ length starts.old }
-    ensures decoded { AreDecoded tables.now (utf8_text text.now) result units.new starts.new }
-{
-    let nothing = Reached {
-        characters: 0,
-        code_units: 0,
-    };
-    let reached = fill_str(text, tables, nothing, units, starts);
-    starts[reached.characters] = reached.code_units as u32;
-    reached.characters
-}
-
-/// What `decode_str` does for bytes that are well formed, in one walk that also tests them; none for others.
+/// Writes the units and the offsets of a text that is well formed, and behind the offsets that of its end, in one walk
+/// that also tests it. It answers how many characters there are; else the offset of the first fault, where the walk ends.
 #[inline(never)]
-fn decode_well_formed(
-    bytes: &[u8],
-    tables: &Tables,
-    units: &mut [Unit],
-    starts: &mut [u32],
-) -> Option<usize>
-    requires units { length bytes.now ≤ length units.old }
-    requires starts { length bytes.now < length starts.old }
-    requires small { length bytes.now < 2 ^ 32 }
-    ensures units_len { length units.new ≡ length units.old }
-    ensures starts_len { length starts.new ≡ length starts.old }
-    ensures well_formed { OnSome result (IsUtf8 bytes.now) }
-    ensures decoded { IfSome result (λ count.
-        AreDecoded tables.now (utf8_text bytes.now) count units.new starts.new) }
-{
-    let lent = tables.units();
-    let mut count = 0;
-    let mut at = 0;
-    while at < bytes.len() {
-        let (c, behind) = char_at(bytes, at)?;
-        lent.write_unit(c, &mut units[count]);
-        starts[count] = at as u32;
-        count += 1;
-        at = behind;
-    }
-    starts[count] = at as u32;
-    Some(count)
-}
-
-/// What `decode_str` does for bytes that are well formed; else the offset of the first fault.
 pub(crate) fn decode_utf8(
     bytes: &[u8],
     tables: &Tables,
@@ -117,12 +63,18 @@ pub(crate) fn decode_utf8(
     ensures decoded { IfOk result (λ count.
         AreDecoded tables.now (utf8_text bytes.now) count units.new starts.new) }
 {
-    if let Some(count) = decode_well_formed(bytes, tables, units, starts) {
-        return Ok(count);
+    let lent = tables.units();
+    let mut count = 0;
+    let mut at = 0;
+    while at < bytes.len() {
+        let Some((c, behind)) = char_at(bytes, at) else {
+            return Err(at);
+        };
+        lent.write_unit(c, &mut units[count]);
+        starts[count] = at as u32;
+        count += 1;
+        at = behind;
     }
-    // `std` says where the fault is.
-    match str::from_utf8(bytes) {
-        Ok(text) => Ok(decode_str(text, tables, units, starts)),
-        Err(error) => Err(error.valid_up_to()),
-    }
+    starts[count] = at as u32;
+    Ok(count)
 }

@@ -1,12 +1,53 @@
-use Rattle.std.proofs.Common.{List, ℕ, arith, ap, length}
-use Rattle.std.specs.Str.{chars}
-use Rattle.encoded.proofs.Utf8Texts.{chars_le}
+use Rattle.std.proofs.Common.{◌∙◌, ◌+◌, ◌-◌, ◌<◌, ℕ, List, ap, arith, length, map, refl, set, subst, sym, take}
+use Rattle.std.proofs.lemmas.Str.{chars-nil, IsUtf8-nil, utf8_valid_len-IsValidUpTo}
+use Rattle.std.proofs.str.Faults.{not_text, valid_to}
+use Rattle.ucdfiles.specs.UnitStages.{UnitStages, unit_by_stages}
+use Rattle.encoded.specs.Decoded.{IsWritten}
+use Rattle.encoded.specs.Encodings.{in_utf8, utf8_text}
+use Rattle.encoded.specs.Offsets.{Spelled}
+use Rattle.encoded.proofs.Spellings.{forward, text_more, utf8_more}
+use Rattle.encoded.proofs.Writing.{written_more, written_none}
 use Rattle.encoded.proofs.utf8.decode_utf8.Goals as goal
 
-pub decode_str-requires-clause-units : goal.decode_str-requires-clause-units
-decode_str-requires-clause-units c =
-    omega (arith, chars_le c.args.bytes.now c.in-Ok.ensures.cases.1, ap (λ (b : List ℕ). length (chars b)) c.in-Ok.ensures.cases.0, c.requires.units)
+pub loop-at-init : goal.loop-at-init
+loop-at-init c = record {
+  few = omega arith;
+  inside = omega arith;
+  front = IsUtf8-nil;
+  written = subst (λ (cs : List ℕ). IsWritten c.args.tables.now (map in_utf8 cs) (record { characters = 0; code_units = 0 }) c.args.units.now c.args.starts.now) (sym chars-nil)
+      (written_none c.args.tables.now c.args.units.now c.args.starts.now);
+}
 
-pub decode_str-requires-clause-starts : goal.decode_str-requires-clause-starts
-decode_str-requires-clause-starts c =
-    omega (arith, chars_le c.args.bytes.now c.in-Ok.ensures.cases.1, ap (λ (b : List ℕ). length (chars b)) c.in-Ok.ensures.cases.0, c.requires.starts)
+pub loop-at-smaller : goal.loop-at-smaller
+loop-at-smaller c =
+    let more = forward c.args.bytes.now c.loop-at.at c.in-Some.c c.in-Some.behind c.in-Some.ensures in
+    let less : length c.args.bytes.now - c.in-Some.behind < length c.args.bytes.now - c.loop-at.at = omega (arith, more, c.loop-at-test.true) in
+    less
+
+pub loop-at-preserved : goal.loop-at-preserved
+loop-at-preserved c =
+    let l = c.loop-at in
+    let bytes = c.args.bytes.now in
+    let tables = c.args.tables.now in
+    let d = c.in-Some.c in
+    let behind = c.in-Some.behind in
+    let is = c.in-Some.ensures in
+    let more = forward bytes l.at d behind is in
+    let unit = c.write_unit.ensures ∙ ap (λ (s : UnitStages). unit_by_stages s d) c.units-lent.ensures in
+    record {
+      few = omega (arith, more, l.invariant.few);
+      inside = is.inside;
+      front = utf8_more bytes l.at d behind l.invariant.front is;
+      written = subst (λ (xs : List Spelled). IsWritten tables xs (record { characters = l.count + 1; code_units = behind }) (set l.units l.count c.write_unit.new.unit) (set l.starts l.count l.at))
+          (sym (text_more bytes l.at d behind l.invariant.front is))
+          (written_more tables (utf8_text (take l.at bytes)) (in_utf8 d) l.count l.at l.units l.starts c.write_unit.new.unit (record { characters = l.count + 1; code_units = behind })
+          (omega (arith, l.invariant.few, c.loop-at-test.true, l.auto.units, c.requires.units)) (omega (arith, l.invariant.few, c.loop-at-test.true, l.auto.starts, c.requires.starts))
+          unit refl is.behind l.invariant.written);
+    }
+
+pub returns-in_default-clause-fault : goal.returns-in_default-clause-fault
+returns-in_default-clause-fault c =
+    let bytes = c.args.bytes.now in
+    let at = c.loop-at.at in
+    let longest = valid_to bytes at c.loop-at-test.true c.loop-at.invariant.front c.in_default.ensures in
+    (not_text bytes at longest, sym (utf8_valid_len-IsValidUpTo bytes at longest))
