@@ -2,7 +2,10 @@
 use Rattle.std.specs.Prelude.{◌≡◌, ℕ, Bool, true, false, List, ◌∷◌, Option, Some}
 use Rattle.units.specs.Classes.{class_at, is_isolate_initiator, is_removed, is_separator}
 use Rattle.units.specs.Explicit.{wants_odd}
+use Rattle.units.specs.Isolates.{begins_right_to_left, first_strong}
 use Rattle.units.specs.declared.class.Class.{Class}
+use Rattle.units.specs.declared.class.Class.TheVariants.{FSI}
+use Rattle.explicit.specs.OpenInitiators.{left_open, opened}
 use Rattle.explicit.specs.StatusStacks.{Represents, is_taken, entry_at, state_within, leveled_in}
 use Rattle.explicit.specs.declared.status.Status.{Status}
 use Rattle.explicit.specs.declared.status.StatusStack.{StatusStack}
@@ -13,11 +16,21 @@ Closes left old new =
     (depth : ℕ) (cs : List Class) (para_level : ℕ) (qs : List ℕ)
     → Represents depth cs para_level qs old → Represents depth cs para_level (left cs qs) new
 
--- X2 to X5c: a position of this class, which asks for an odd level or not, is opened up to this depth as `with_it` says
-abbrev pub Opens : (List Class → ℕ → List ℕ → List ℕ) → ℕ → Class → Bool → StatusStack → StatusStack → Type 0
-Opens with_it depth class odd old new =
+-- X2 to X5c: an initiator of this class is opened up to this depth, which asks for an odd level or not
+abbrev pub OpensAsking : ℕ → Class → Bool → StatusStack → StatusStack → Type 0
+OpensAsking depth class odd old new =
     (cs : List Class) (para_level : ℕ) (qs : List ℕ) (p : ℕ) → class ≡ class_at cs p → odd ≡ wants_odd cs p class
-    → Represents depth cs para_level qs old → Represents depth cs para_level (with_it cs p qs) new
+    → Represents depth cs para_level qs old → Represents depth cs para_level (p ∷ qs) new
+
+-- P2, P3, X5c: this is whether what an FSI at p holds begins right to left
+abbrev pub IsSideOf : Class → List Class → ℕ → Bool → Type 0
+IsSideOf class cs p right_to_left = class ≡ FSI → right_to_left ≡ begins_right_to_left cs (first_strong cs (Some p))
+
+-- X2 to X5c: an initiator of this class is opened up to this depth
+abbrev pub Opens : ℕ → Class → Bool → StatusStack → StatusStack → Type 0
+Opens depth class right_to_left old new =
+    (cs : List Class) (para_level : ℕ) (qs : List ℕ) (p : ℕ) → class ≡ class_at cs p → IsSideOf class cs p right_to_left
+    → Represents depth cs para_level qs old → Represents depth cs para_level (p ∷ qs) new
 
 -- X2 to X5c: an initiator that is taken, by this entry
 abbrev pub TakesInitiator : Status → StatusStack → StatusStack → Type 0
@@ -41,14 +54,22 @@ IsInnermost stack status =
     × (status.override_class ≡ (state_within depth cs para_level qs).override)
 
 -- X5a to X6a: the level and the current class of a position of this class, which is neither removed nor a separator
-abbrev pub GivesLeveledInside : StatusStack → Class → ℕ × Class → Type 0
+abbrev pub GivesLeveledInside : StatusStack → Class → Option (ℕ × Class) → Type 0
 GivesLeveledInside stack class leveled =
     (depth : ℕ) (cs : List Class) (para_level : ℕ) (qs : List ℕ)
     → is_removed class ≡ false → is_separator class ≡ false → Represents depth cs para_level qs stack
-    → Some leveled ≡ leveled_in (state_within depth cs para_level qs) para_level class
+    → leveled ≡ leveled_in (state_within depth cs para_level qs) para_level class
 
--- X5a to X9: the level and the current class of a position of this class, or none where it is removed
-abbrev pub GivesLeveled : StatusStack → ℕ → Class → Option (ℕ × Class) → Type 0
-GivesLeveled stack para_level class leveled =
-    (depth : ℕ) (cs : List Class) (qs : List ℕ)
-    → Represents depth cs para_level qs stack → leveled ≡ leveled_in (state_within depth cs para_level qs) para_level class
+-- X2 to X9: where a position p of this class leaves these initiators open, this is its level and its current class, or
+-- none where it is removed, and the stack is kept then of what is open after p
+pub record IsPassed (depth : ℕ) (cs : List Class) (para_level : ℕ) (left : List ℕ) (p : ℕ) (class : Class)
+    (leveled : Option (ℕ × Class)) (new : StatusStack) : Type 0 where
+  pub kept : Represents depth cs para_level (opened cs p left) new
+  pub found : leveled ≡ leveled_in (state_within depth cs para_level left) para_level class
+
+-- X2 to X9: what a position of this class closes is closed, and what it opens is opened up to this depth
+abbrev pub Passes : ℕ → ℕ → Class → Bool → Option (ℕ × Class) → StatusStack → StatusStack → Type 0
+Passes depth para_level class right_to_left leveled old new =
+    (cs : List Class) (qs : List ℕ) (p : ℕ) → class ≡ class_at cs p → IsSideOf class cs p right_to_left
+    → Represents depth cs para_level qs old
+    → IsPassed depth cs para_level (left_open cs class qs) p class leveled new

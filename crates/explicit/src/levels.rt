@@ -8,7 +8,6 @@ ghost use Rattle.explicit.specs.IsolateMaps.{IsFilledFrom};
 ghost use Rattle.explicit.specs.ExplicitLevels.{HoldsLevels, IsExplicitAt, IsWithinDepth};
 ghost use Rattle.explicit.specs.StatusStacks.{entry_count, is_ordinary};
 ghost use Rattle.explicit.specs.Stretches.{IsStretch, with_leveled};
-ghost use Rattle.explicit.specs.WantedLevels.{IsOddWanted};
 
 use crate::isolates::IsolateMap;
 use crate::place::Place;
@@ -91,17 +90,6 @@ impl Explicit {
     }
 }
 
-// X2, X4, X5a, X5c: whether an initiator asks for an odd level; an FSI does where what it holds begins right to left.
-fn asks_odd(class: Class, right_to_left: bool) -> bool
-    ensures { IsOddWanted class right_to_left result }
-{
-    match class {
-        Class::RLE | Class::RLO | Class::RLI => true,
-        Class::FSI => right_to_left,
-        _ => false,
-    }
-}
-
 // X5a to X6a: writes the level and the class of each position from this one on, inside this status, up to the next one
 // whose class is not ordinary, or to the end. Answers that position. Each that is written is a step.
 fn level_ordinary<L: Ledger>(
@@ -127,8 +115,8 @@ fn level_ordinary<L: Ledger>(
     p
 }
 
-// X1 to X9: finds the level and the current class of each position, from one that begins or ends something or is
-// removed to the next. The stack is empty before and after.
+// X1 to X9: finds the level and the current class of each position, of those at once that have ordinary classes and
+// follow one another, and of each other one by what its class closes and opens. The stack is empty before and after.
 fn find_explicit<L: Ledger>(
     para: &[Unit],
     map: &IsolateMap,
@@ -149,15 +137,17 @@ fn find_explicit<L: Ledger>(
     ensures most_steps { steps.new ≤ steps.old + (2 * length para.now + 1) }
 {
     stack.begin(base);
-    let mut p = level_ordinary(para, 0, stack.inside(), explicit, steps);
+    let mut p = 0;
     while p < para.len() {
-        steps.tick();
         let class = para[p].class;
-        stack.close(class, steps);
-        explicit[p] = Place::new(stack.leveled(class, base));
-        let odd = asks_odd(class, map.is_right_to_left(p));
-        stack.open(class, odd, depth);
-        p = level_ordinary(para, p + 1, stack.inside(), explicit, steps);
+        if is_ordinary(class) {
+            p = level_ordinary(para, p, stack.inside(), explicit, steps);
+            continue;
+        }
+        steps.tick();
+        let place = stack.pass(class, map.is_right_to_left(p), base, depth, steps);
+        explicit[p] = place;
+        p += 1;
     }
     stack.clear(steps);
 }

@@ -1,13 +1,15 @@
 //! The initiators that are open, as one pass over a paragraph keeps them (X1 to X8).
-ghost use Rattle.std.specs.Prelude.{◌≡◌, ◌<◌, ◌≤◌, ◌+◌, ◌-◌, ◌==◌, ◌&&◌, nat_le, false, ℕ, List, [], ◌∷◌, Some, slice_index_or, if◌then◌else◌};
+ghost use Rattle.std.specs.Prelude.{◌≡◌, ◌<◌, ◌≤◌, ◌+◌, ◌-◌, ◌==◌, ◌&&◌, true, ℕ, List, [], ◌∷◌, Some, slice_index_or, if◌then◌else◌};
 ghost use Rattle.units.specs.Classes.{is_isolate_initiator, is_removed, is_separator};
 ghost use Rattle.units.specs.Explicit.{next_odd, next_even, override_of};
 ghost use Rattle.units.specs.declared.class.Class.{Class};
-ghost use Rattle.explicit.specs.OpenInitiators.{after_pdi, after_pdf, left_open, opened};
+ghost use Rattle.explicit.specs.OpenInitiators.{after_pdi, after_pdf};
 ghost use Rattle.explicit.specs.StatusStacks.{Represents, IsKept, before_isolate, entry_count, is_ordinary};
-ghost use Rattle.explicit.specs.StackChanges.{Closes, Opens, TakesInitiator, RefusesInitiator, IsInnermost, GivesLeveledInside, GivesLeveled};
+ghost use Rattle.explicit.specs.StackChanges.{Closes, Opens, OpensAsking, Passes, TakesInitiator, RefusesInitiator, IsInnermost, GivesLeveledInside};
 ghost use Rattle.explicit.specs.Stretches.{leveled_by_status};
+ghost use Rattle.explicit.specs.WantedLevels.{IsOddWanted};
 
+use crate::place::Place;
 use arrayvec::ArrayVec;
 use std::sync::ledger::Ledger;
 use units::class::Class;
@@ -87,6 +89,17 @@ fn rise(level: Level, odd: bool) -> u8
     }
 }
 
+// X2, X4, X5a, X5c: whether an initiator asks for an odd level; an FSI does where what it holds begins right to left.
+fn asks_odd(class: Class, right_to_left: bool) -> bool
+    ensures { IsOddWanted class right_to_left result }
+{
+    match class {
+        Class::RLE | Class::RLO | Class::RLI => true,
+        Class::FSI => right_to_left,
+        _ => false,
+    }
+}
+
 // X4, X5: the class that an initiator gives to what it holds.
 fn overridden_by(class: Class) -> Option<Class>
     ensures { result ≡ override_of class }
@@ -154,26 +167,12 @@ impl StatusStack {
 
     // X5a to X6a: the level and the current class of a position of this class, which is neither removed nor a
     // separator.
-    fn leveled_inside(&self, class: Class) -> (Level, Class)
+    fn place_inside(&self, class: Class) -> Place
         requires { IsKept self.now }
         ensures { GivesLeveledInside self.now class result }
     {
         let current = self.current();
-        (current.level, current.override_class.unwrap_or(class))
-    }
-
-    /// X5a to X9: the level and the current class of a position of this class, or none where it is removed.
-    pub fn leveled(&self, class: Class, base: Level) -> Option<(Level, Class)>
-        requires { IsKept self.now }
-        ensures { GivesLeveled self.now base class result }
-    {
-        if class.is_removed() {
-            return None;
-        }
-        if class.is_separator() {
-            return Some((base, class));
-        }
-        Some(self.leveled_inside(class))
+        Place::some(current.level, current.override_class.unwrap_or(class))
     }
 
     // X6a: drops the entries from the last isolate's on.
@@ -223,25 +222,11 @@ impl StatusStack {
         }
     }
 
-    /// X6a, X7: closes what this class closes. Each entry that is dropped is a step.
-    pub fn close<L: Ledger>(&mut self, class: Class, steps: &mut Steps<L>)
-        ensures closed { Closes (λ cs. left_open cs class) self.old self.new }
-        ensures least_steps { steps.old ≤ steps.new }
-        ensures most_steps { steps.new + entry_count self.new ≤ steps.old + entry_count self.old }
+    // X2 to X5c: no initiator that is open was refused, so that one may be taken.
+    fn is_sound(&self) -> bool
+        ensures { result ≡ (self.now.overflow_isolates == 0 && self.now.overflow_embeddings == 0) }
     {
-        match class {
-            Class::PDI => self.close_isolate(steps),
-            Class::PDF => self.close_embedding(),
-            _ => {}
-        }
-    }
-
-    // BD2, X2 to X5c: an initiator that asks for this level is taken.
-    fn takes(&self, level: u8, depth: u8) -> bool
-        ensures { result
-            ≡ ((self.now.overflow_isolates == 0 && self.now.overflow_embeddings == 0) && nat_le level depth) }
-    {
-        self.overflow_isolates == 0 && self.overflow_embeddings == 0 && level <= depth
+        self.overflow_isolates == 0 && self.overflow_embeddings == 0
     }
 
     // X2 to X5c: opens an initiator that is taken.
@@ -268,16 +253,17 @@ impl StatusStack {
         }
     }
 
-    // X2 to X5c: opens an initiator; `odd` says whether it asks for an odd level.
-    fn open_initiator(&mut self, class: Class, odd: bool, depth: u8)
+    // X2 to X5c: opens an initiator inside none that was refused; `odd` says whether it asks for an odd level.
+    fn open_sound(&mut self, class: Class, odd: bool, depth: u8)
         requires kept { IsKept self.old }
         requires within { depth ≤ 125 }
-        ensures opened { Opens (λ cs p qs. p ∷ qs) depth class odd self.old self.new }
+        requires sound { (self.old.overflow_isolates == 0 && self.old.overflow_embeddings == 0) ≡ true }
+        ensures opened { OpensAsking depth class odd self.old self.new }
         ensures size { entry_count self.new ≤ entry_count self.old + 1 }
     {
         let level = self.current().level;
         let by = rise(level, odd);
-        if self.takes(level.get() + by, depth) {
+        if level.get() + by <= depth {
             self.take(Status {
                 level: level.raised(by),
                 override_class: overridden_by(class),
@@ -288,16 +274,59 @@ impl StatusStack {
         }
     }
 
-    /// X2 to X5c: opens this class, where it is an initiator; `odd` says whether that asks for an odd level, which is
-    /// refused above this depth, 1 to 125.
-    pub fn open(&mut self, class: Class, odd: bool, depth: u8)
+    // X2 to X5c: opens an initiator. Which level it asks for is of no matter inside one that was refused.
+    fn open(&mut self, class: Class, right_to_left: bool, depth: u8)
         requires kept { IsKept self.old }
         requires within { depth ≤ 125 }
-        ensures opened { Opens opened depth class odd self.old self.new }
+        ensures opened { Opens depth class right_to_left self.old self.new }
         ensures size { entry_count self.new ≤ entry_count self.old + 1 }
     {
-        if class.is_initiator() {
-            self.open_initiator(class, odd, depth);
+        if self.is_sound() {
+            self.open_sound(class, asks_odd(class, right_to_left), depth);
+        } else {
+            self.refuse(class.is_isolate_initiator());
+        }
+    }
+
+    /// X2 to X9: closes and opens what a position of this class closes and opens. Answers the level and the current
+    /// class of that position, or none where it is removed. An initiator that asks for a level above this depth, 1 to
+    /// 125, is refused; `right_to_left` says whether what an FSI holds begins right to left. Each entry that is dropped
+    /// is a step.
+    pub fn pass<L: Ledger>(
+        &mut self,
+        class: Class,
+        right_to_left: bool,
+        base: Level,
+        depth: u8,
+        steps: &mut Steps<L>,
+    ) -> Place
+        requires kept { IsKept self.old }
+        requires within { depth ≤ 125 }
+        ensures passed { Passes depth base class right_to_left result self.old self.new }
+        ensures least_steps { steps.old ≤ steps.new }
+        ensures most_steps { steps.new + entry_count self.new ≤ steps.old + (entry_count self.old + 1) }
+    {
+        match class {
+            Class::PDI => {
+                self.close_isolate(steps);
+                self.place_inside(class)
+            }
+            Class::PDF => {
+                self.close_embedding();
+                Place::none()
+            }
+            Class::LRI | Class::RLI | Class::FSI => {
+                let place = self.place_inside(class);
+                self.open(class, right_to_left, depth);
+                place
+            }
+            Class::LRE | Class::LRO | Class::RLE | Class::RLO => {
+                self.open(class, right_to_left, depth);
+                Place::none()
+            }
+            Class::BN => Place::none(),
+            Class::B => Place::some(base, class),
+            _ => self.place_inside(class),
         }
     }
 }

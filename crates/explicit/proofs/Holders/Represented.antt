@@ -3,12 +3,13 @@ use Rattle.std.proofs.lemmas.Bool.Decides.{nat_tests}
 use Rattle.std.proofs.lemmas.Grind.{common_steps}
 use Rattle.std.proofs.Common.{◌≡◌, ℕ, ◌-◌, ◌<◌, ◌≤◌, ◌^◌, Bool, true, false, ◌&&◌, List, [], ◌∷◌, ◌++◌, length, get_or, take, arith, refl, sym, ap, ◌∙◌, cond, ◌⊎◌, length-append}
 use Rattle.std.proofs.Math.Seq.{get_or-append_seam, take-append_seam}
-use Rattle.std.proofs.lemmas.Bool.{false≢true, ne_eqb, and_left, and_right}
+use Rattle.std.proofs.lemmas.Bool.{false≢true, ne_eqb, and_left, and_right, le-leb, lt-leb}
 use Rattle.std.specs.Prelude.{nat_le, ◌==◌, Option, Some, unwrap_or}
 use Rattle.units.specs.Explicit.{wants_odd, next_odd, next_even, override_of}
 use Rattle.units.specs.Classes.{class_at, is_isolate_initiator, is_removed, is_separator}
 use Rattle.units.specs.declared.class.Class.{Class}
-use Rattle.explicit.specs.OpenInitiators.{after_pdi, after_pdf}
+use Rattle.explicit.specs.OpenInitiators.{after_pdi, after_pdf, past_isolate}
+use Rattle.explicit.specs.StackChanges.{Closes}
 use Rattle.explicit.specs.StatusStacks.{state_within, is_taken, entry_of, entry_at, entries_of, refused_isolates, refused_embeddings, before_isolate, Represents, IsKept, leveled_in}
 use Rattle.explicit.specs.declared.status.Status.{Status}
 use Rattle.explicit.specs.declared.status.StatusStack.{StatusStack}
@@ -67,7 +68,7 @@ pdi-unmatched depth cs para qs n r z h = grind (arith, pdi-none)
 sound_is : (depth : ℕ) (cs : List Class) (para : ℕ) (qs : List ℕ) → (state_within depth cs para qs).sound ≡ (refused_isolates depth cs para qs == 0 && refused_embeddings depth cs para qs == 0)
 sound_is depth cs para qs = grind (arith, none_refused, some_refused, and_right, ne_eqb, and_left)
 
-pub takes-is_taken : (depth : ℕ) (cs : List Class) (para : ℕ) (qs : List ℕ) (p : ℕ) (n : StatusStack) → Represents depth cs para qs n → is_taken depth cs para p qs ≡ ((n.overflow_isolates == 0 && n.overflow_embeddings == 0) && nat_le (asked depth cs para p qs) depth)
+takes-is_taken : (depth : ℕ) (cs : List Class) (para : ℕ) (qs : List ℕ) (p : ℕ) (n : StatusStack) → Represents depth cs para qs n → is_taken depth cs para p qs ≡ ((n.overflow_isolates == 0 && n.overflow_embeddings == 0) && nat_le (asked depth cs para p qs) depth)
 takes-is_taken depth cs para qs p n r = taken_is depth cs para p qs ∙ ap (λ b. b && nat_le (asked depth cs para p qs) depth) (sound_is depth cs para qs ∙ rw (r.overflow_isolates, r.overflow_embeddings) refl)
 
 -- what the numbers of what the pass keeps are at most
@@ -99,6 +100,17 @@ kept-bounded n k =
       valid_isolates = omega (arith, r.valid_isolates, taken_isolates-few k.depth k.classes k.para_level k.initiators, k.few);
     }
 
+-- what a PDI leaves of what the pass keeps
+past_isolate-short : (cs : List Class) (qs : List ℕ) → length (past_isolate cs qs) ≤ length qs
+past_isolate-short cs [] = omega arith
+past_isolate-short cs (q ∷ qs) = grind (arith, past_isolate-short cs qs)
+
+after_pdi-short : (cs : List Class) (qs : List ℕ) → length (after_pdi cs qs) ≤ length qs
+after_pdi-short cs qs = grind (arith, past_isolate-short cs qs)
+
+pub pdi-leaves_kept : (n m : StatusStack) → IsKept n → Closes after_pdi n m → IsKept m
+pdi-leaves_kept n m k closes = record { depth = k.depth; classes = k.classes; para_level = k.para_level; initiators = after_pdi k.classes k.initiators; represents = closes k.depth k.classes k.para_level k.initiators k.represents; base = k.base; within = k.within; few = omega (arith, after_pdi-short k.classes k.initiators, k.few) }
+
 -- the level that is asked for is that above the last entry's
 pub asked-is : (depth : ℕ) (cs : List Class) (para : ℕ) (qs : List ℕ) (p : ℕ) (n : StatusStack) (class : Class) (odd : Bool) (entry : Status) (level : ℕ) → Represents depth cs para qs n → class ≡ class_at cs p → odd ≡ wants_odd cs p class → entry ≡ last_of n.entries.items entry → level ≡ cond odd (next_odd entry.level) (next_even entry.level) → level ≡ asked depth cs para p qs
 asked-is depth cs para qs p n class odd entry level r k o e l =
@@ -109,9 +121,21 @@ asked-is depth cs para qs p n class odd entry level r k o e l =
 pub entry-is : (depth : ℕ) (cs : List Class) (para : ℕ) (qs : List ℕ) (p : ℕ) (class : Class) (level : ℕ) (override_class : Option Class) (isolate : Bool) → is_taken depth cs para p qs ≡ true → class ≡ class_at cs p → level ≡ asked depth cs para p qs → override_class ≡ override_of class → isolate ≡ is_isolate_initiator class → record { level = level; override_class = override_class; is_isolate = isolate } ≡ entry_at depth cs para p qs
 entry-is depth cs para qs p class level override_class isolate t k l f i = grind (arith, state-taken)
 
--- what `takes` answers
-pub taken-by : (depth : ℕ) (cs : List Class) (para : ℕ) (qs : List ℕ) (p : ℕ) (n : StatusStack) (level : ℕ) (answer : Bool) → Represents depth cs para qs n → level ≡ asked depth cs para p qs → answer ≡ ((n.overflow_isolates == 0 && n.overflow_embeddings == 0) && nat_le level depth) → is_taken depth cs para p qs ≡ answer
-taken-by depth cs para qs p n level answer r l a = takes-is_taken depth cs para qs p n r ∙ ap (λ x. (n.overflow_isolates == 0 && n.overflow_embeddings == 0) && nat_le x depth) (sym l) ∙ sym a
+-- an initiator inside none that was refused is taken, where its level is not above the depth, and only there
+module _ (depth : ℕ) (cs : List Class) (para : ℕ) (qs : List ℕ) (p : ℕ) (n : StatusStack) (represents : Represents depth cs para qs n) where
+  module _ (level : ℕ) (is : level ≡ asked depth cs para p qs) (sound : (n.overflow_isolates == 0 && n.overflow_embeddings == 0) ≡ true) where
+    sound-by : is_taken depth cs para p qs ≡ nat_le level depth
+    sound-by = takes-is_taken depth cs para qs p n represents ∙ ap (λ b. b && nat_le (asked depth cs para p qs) depth) sound ∙ ap (λ x. nat_le x depth) (sym is)
+
+    pub sound-taken : level ≤ depth → is_taken depth cs para p qs ≡ true
+    sound-taken h = sound-by ∙ le-leb level depth h
+
+    pub sound-refused : depth < level → is_taken depth cs para p qs ≡ false
+    sound-refused h = sound-by ∙ lt-leb level depth h
+
+  -- and inside one that was refused it is refused
+  pub within-refused : (n.overflow_isolates == 0 && n.overflow_embeddings == 0) ≡ false → is_taken depth cs para p qs ≡ false
+  within-refused refused = takes-is_taken depth cs para qs p n represents ∙ ap (λ b. b && nat_le (asked depth cs para p qs) depth) refused
 
 pub leveled_in-by : (depth : ℕ) (cs : List Class) (para : ℕ) (qs : List ℕ) (n : StatusStack) (class : Class) (entry : Status) → Represents depth cs para qs n → is_removed class ≡ false → is_separator class ≡ false → entry ≡ last_of n.entries.items entry → Some (entry.level, unwrap_or entry.override_class class) ≡ leveled_in (state_within depth cs para qs) para class
 leveled_in-by depth cs para qs n class entry r u v e =

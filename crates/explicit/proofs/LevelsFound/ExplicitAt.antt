@@ -1,15 +1,15 @@
 -- Explicit levels from the initiators that are open.
 use Rattle.std.proofs.Common.{◌≡◌, ℕ, zero, suc, ◌+◌, ◌<◌, ◌≤◌, Bool, true, false, List, [], ◌∷◌, ◌++◌, length, arith, refl, sym, ap, subst, ◌∙◌, inl, inr, zero-add, append-nil, get_or, set, Option, ◌^◌, reverse}
-use Rattle.std.proofs.lemmas.List.{length-map, reverse-append, get_or-set_same, get_or-set_other}
+use Rattle.std.proofs.lemmas.List.{reverse-append, get_or-set_same, get_or-set_other}
 use Rattle.std.specs.Prelude.{None, filter, fold, is_none}
 use Rattle.std.proofs.lemmas.Bool.{cases_Bool}
 use Rattle.std.proofs.lemmas.List.Elements.{filter-append}
 use Rattle.units.specs.Positions.{positions_from}
-use Rattle.units.specs.Classes.{class_at, classes_of, is_initiator, is_pdi, is_pdf, is_removed, is_separator}
-use Rattle.units.specs.declared.bracket.Unit.{Unit}
+use Rattle.units.specs.Classes.{class_at, is_initiator, is_pdi, is_pdf, is_removed, is_separator}
 use Rattle.units.specs.Explicit.{State, entered, state_of, chain, explicit_at}
 use Rattle.units.specs.declared.class.Class.{Class}
 use Rattle.explicit.specs.OpenInitiators.{opened, left_open}
+use Rattle.explicit.specs.StackChanges.{IsPassed}
 use Rattle.units.specs.declared.class.Class.TheVariants.{L, R, AL, EN, ES, ET, AN, CS, NSM, S, WS, ON}
 use Rattle.explicit.specs.StatusStacks.{state_within, leveled_in, is_ordinary, Represents, IsKept}
 use Rattle.explicit.specs.declared.status.StatusStack.{StatusStack}
@@ -63,12 +63,13 @@ pub explicit-leveled_in : (depth : ℕ) (cs : List Class) (para p : ℕ) → lev
 unfolding explicit_at
 explicit-leveled_in depth cs para p = ap (λ s. leveled_in s para (class_at cs p)) (sym (state-of_chain depth cs para p))
 
--- what the pass keeps when it comes to p
-pub is-kept : (depth : ℕ) (para : List Unit) (base p : ℕ) (n : StatusStack) → depth ≤ 125 → base ≤ 1 → p < 2 ^ 63 → Represents depth (classes_of para) base (holders (classes_of para) p) n → IsKept n
-is-kept depth para base p n d b l r = record { depth = depth; classes = classes_of para; para_level = base; initiators = holders (classes_of para) p; represents = r; base = b; within = d; few = omega (arith, holders-few (classes_of para) p) }
+before-few : (cs : List Class) (p : ℕ) → length (open_before cs p) ≤ p
+before-few cs zero = omega arith
+before-few cs (suc p) = grind (arith, holders-few cs p)
 
-pub left-is : (depth : ℕ) (cs : List Class) (base p : ℕ) (class : Class) (n : StatusStack) → p < length cs → class ≡ class_at cs p → Represents depth cs base (left_open cs class (open_before cs p)) n → Represents depth cs base (holders cs p) n
-left-is depth cs base p class n l e r = let P : List ℕ → Type 0 = λ qs. Represents depth cs base qs n in subst P (ap (λ k. left_open cs k (open_before cs p)) e ∙ left_before cs p l) r
+-- what the pass keeps when it comes to p
+pub kept-before : (depth : ℕ) (cs : List Class) (base p : ℕ) (n : StatusStack) → depth ≤ 125 → base ≤ 1 → p < 2 ^ 63 → Represents depth cs base (open_before cs p) n → IsKept n
+kept-before depth cs base p n d b l r = record { depth = depth; classes = cs; para_level = base; initiators = open_before cs p; represents = r; base = b; within = d; few = omega (arith, before-few cs p) }
 
 -- the chain is the same list the other way round
 chain-filtered : (t : ℕ → Bool) (p : ℕ) → filter t (positions_from 0 p) ≡ reverse (filter t (below p))
@@ -86,9 +87,22 @@ pub chain-reversed : (cs : List Class) (p : ℕ) → chain cs p ≡ reverse (hol
 unfolding chain
 chain-reversed cs p = chain-filtered (holds cs p) p
 
--- what the pass keeps at p, after what the class there closes
-pub kept-at : (depth : ℕ) (para : List Unit) (base p : ℕ) (class : Class) (n : StatusStack) → depth ≤ 125 → base ≤ 1 → p < length para → p < 2 ^ 63 → class ≡ class_at (classes_of para) p → Represents depth (classes_of para) base (left_open (classes_of para) class (open_before (classes_of para) p)) n → IsKept n
-kept-at depth para base p class n d b l s e r = is-kept depth para base p n d b s (left-is depth (classes_of para) base p class n (omega (arith, length-map para (λ unit. unit.class))) e r)
+-- what the pass keeps behind p, and what it finds there
+pub record IsFoundAt (depth : ℕ) (cs : List Class) (base p : ℕ) (leveled : Option (ℕ × Class)) (n : StatusStack) : Type 0 where
+  pub keeps : Represents depth cs base (open_before cs (p + 1)) n
+  pub found : leveled ≡ explicit_at depth cs base p
+
+pub passed-is : (depth : ℕ) (cs : List Class) (base p : ℕ) (class : Class) (leveled : Option (ℕ × Class)) (n : StatusStack) → p < length cs → class ≡ class_at cs p → IsPassed depth cs base (left_open cs class (open_before cs p)) p class leveled n → IsFoundAt depth cs base p leveled n
+passed-is depth cs base p class leveled n l e passed =
+    let left : left_open cs class (open_before cs p) ≡ holders cs p = ap (λ k. left_open cs k (open_before cs p)) e ∙ left_before cs p l in
+    let P : List ℕ → Type 0 = λ qs. Represents depth cs base qs n in
+    record {
+      keeps = subst P (ap (opened cs p) left ∙ open_before-next cs p) passed.kept;
+      found = passed.found
+          ∙ ap (λ qs. leveled_in (state_within depth cs base qs) base class) left
+          ∙ ap (λ own. leveled_in (state_within depth cs base (holders cs p)) base own) e
+          ∙ explicit-leveled_in depth cs base p;
+    }
 
 -- what is found of the positions, one more
 pub explicit-more : (depth : ℕ) (cs : List Class) (base p : ℕ) (explicit : List (Option (ℕ × Class))) (leveled : Option (ℕ × Class)) → p < length explicit → leveled ≡ explicit_at depth cs base p → ((k : ℕ) → k < p → get_or explicit k None ≡ explicit_at depth cs base k) → (k : ℕ) → k < p + 1 → get_or (set explicit p leveled) k None ≡ explicit_at depth cs base k

@@ -1,7 +1,7 @@
 -- Ordinary classes that follow one another: what they leave open, and the levels and classes of their positions.
 use Rattle.std.proofs.Common.{◌≡◌, ℕ, zero, suc, ◌+◌, ◌-◌, ◌<◌, ◌≤◌, List, length, get_or, set, Option, arith, inl, inr, refl, sym, ap, subst, ◌∙◌}
 use Rattle.std.specs.Prelude.{None, Some, true}
-use Rattle.std.proofs.lemmas.Bool.{cases_lt}
+use Rattle.std.proofs.lemmas.Bool.{cases_lt, false≢true}
 use Rattle.units.specs.Classes.{class_at}
 use Rattle.units.specs.Explicit.{explicit_at}
 use Rattle.units.specs.declared.class.Class.{Class}
@@ -58,6 +58,15 @@ explicit-none status cs from explicit = stretched_none (λ p. Some (leveled_by_s
 pub explicit-next : (status : Status) (cs : List Class) (from p : ℕ) (explicit : List (Option (ℕ × Class))) → from ≤ p →
     set (with_leveled status cs from p explicit) p (Some (leveled_by_status status (class_at cs p))) ≡ with_leveled status cs from (p + 1) explicit
 explicit-next status cs from p explicit low = stretched_next (λ q. Some (leveled_by_status status (class_at cs q))) from p explicit low
+
+-- where its first position is of an ordinary class, it has that one at least
+pub stretch-moves : (cs : List Class) (from end : ℕ) → IsStretch is_ordinary cs from end → from < length cs → is_ordinary (class_at cs from) ≡ true → from < end
+stretch-moves cs from end s inside ordinary = let low = s.later in elim (cases_lt from end) [
+  | inl more ↦ more
+  | inr none ↦
+      let e : end ≡ from = omega arith in
+      absurd (false≢true (sym (s.longest (omega arith)) ∙ ap (λ p. is_ordinary (class_at cs p)) e ∙ ordinary))
+]
 
 -- at its end
 module _ (cs : List Class) (from end : ℕ) (s : IsStretch is_ordinary cs from end) where
