@@ -128,7 +128,8 @@ fn mark(link: Option<usize>, joined: &mut [bool])
 }
 
 /// From a position of this level back, links each one before it to the one behind it, as long as they are at that level
-/// and none is between. What their sequence ends with is given. Answers the first of them. Each that is linked is a step.
+/// and none is between. What their sequence ends with is given. Answers the first of them. Each that is linked is a
+/// step.
 fn link_level<L: Ledger>(
     t: &Leveled,
     from: usize,
