@@ -171,7 +171,8 @@ fn pass_block(before: ClassSet, text: &[Unit], p: usize) -> Option<ClassSet>
     requires before { IsSetOf before (classes_of (take p text.now)) }
     ensures four { IfSome result (λ _. p + 4 ≤ length text.now) }
     ensures classes { IfSome result (λ classes. IsSetOf classes (classes_of (take (p + 4) text.now))) }
-    ensures passed { IfSome result (λ _. list_any (is_class BidiClass.B) (classes_of (take (p + 4) text.now)) ≡ false) }
+    ensures passed { IfSome result
+        (λ _. list_any (is_class BidiClass.B) (classes_of (take (p + 4) text.now)) ≡ false) }
     ensures none { IsNone result → p + 4 ≤ length text.now
         → list_any (is_class BidiClass.B) (classes_of (take (p + 4) text.now)) ≡ true }
 {
