@@ -17,20 +17,20 @@ use Rattle.resolve.proofs.Gathered.{contains_index, length-classes_at}
 use Rattle.resolve.proofs.Walked.{walked}
 use Rattle.resolve.proofs.Walks.{after_weak-walked}
 
-by_w1-idle : (base c : Class) → may_weaken c ≡ false → by_w1 base c ≡ c
+pub by_w1-idle : (base c : Class) → may_weaken c ≡ false → by_w1 base c ≡ c
 by_w1-idle base NSM h = cc
 by_w1-idle base c h = refl
 
-by_w2-idle : (strong c : Class) → may_weaken c ≡ false → by_w2 strong c ≡ c
+pub by_w2-idle : (strong c : Class) → may_weaken c ≡ false → by_w2 strong c ≡ c
 by_w2-idle AL EN h = cc
 by_w2-idle AL c h = refl
 by_w2-idle strong c h = refl
 
-by_w3-idle : (c : Class) → may_weaken c ≡ false → by_w3 c ≡ c
+pub by_w3-idle : (c : Class) → may_weaken c ≡ false → by_w3 c ≡ c
 by_w3-idle AL h = cc
 by_w3-idle c h = refl
 
-by_w4_w5-idle : (before settled c next ahead : Class) → may_weaken c ≡ false → by_w4_w5 before settled c next ahead ≡ c
+pub by_w4_w5-idle : (before settled c next ahead : Class) → may_weaken c ≡ false → by_w4_w5 before settled c next ahead ≡ c
 by_w4_w5-idle before settled ES next ahead h = cc
 by_w4_w5-idle before settled CS next ahead h = cc
 by_w4_w5-idle before settled ET next ahead h = cc
@@ -47,7 +47,7 @@ by_w7-idle L EN h = cc
 by_w7-idle L c h = refl
 by_w7-idle strong c h = refl
 
-by_context-idle : (x : Context) (c : Class) (cs : List Class) → may_weaken c ≡ false → by_context x c cs ≡ c
+pub by_context-idle : (x : Context) (c : Class) (cs : List Class) → may_weaken c ≡ false → by_context x c cs ≡ c
 by_context-idle x c cs h = grind (arith, by_w1-idle, by_w2-idle, by_w3-idle, by_w4_w5-idle, by_w6-idle, by_w7-idle)
 
 walked-idle : (x : Context) (cs : List Class) → list_any may_weaken cs ≡ false → walked by_context context_past x cs ≡ cs

@@ -95,3 +95,26 @@ pub(crate) fn give_direction<L: Ledger>(
     }
     k
 }
+
+/// Passes the positions of a sequence from the index `start` on, as long as they are neutral or have this direction. It
+/// answers the index behind them, and takes a step for each.
+pub(crate) fn pass_leaning<L: Ledger>(
+    positions: &[u32],
+    start: usize,
+    direction: Class,
+    classes: &[Class],
+    steps: &mut Steps<L>,
+) -> usize
+    requires positions { ArePositions positions.now (length classes.now) }
+    requires start { start ≤ length positions.now }
+    ensures leaning { AreLeaning direction positions.now start result classes.now }
+    ensures steps { steps.new + start ≡ steps.old + result }
+{
+    let leaning = ClassSet::leaning(direction);
+    let mut k = start;
+    while k < positions.len() && leaning.holds(classes[positions[k] as usize]) {
+        steps.tick();
+        k += 1;
+    }
+    k
+}

@@ -1,0 +1,173 @@
+-- W1 to W7 over classes that they leave as they are: what is known behind them, told by the last one alone where the last
+-- strong class stays.
+use Rattle.std.specs.Prelude.{Bool, true, false, not, ℕ, zero, suc, ◌+◌, ◌-◌, ◌<◌, ◌≤◌, ◌≡◌, List, ◌∷◌, length, slice_index, if◌then◌else◌, refl}
+use Rattle.std.proofs.Common.{arith, ap, sym, subst, ◌∙◌, take, drop}
+use Rattle.std.proofs.lemmas.List.{get_or-drop, length-drop, set-get_or, take_rest}
+use Rattle.units.specs.Classes.{class_at, classes_at, is_base, is_strong}
+use Rattle.units.specs.Weak.{by_w1, by_w2, by_w3, is_any}
+use Rattle.units.specs.declared.class.Class.{Class}
+use Rattle.units.specs.declared.class.Class.TheVariants.{L, R, AL, EN, ES, ET, CS, NSM, ON}
+use Rattle.sequences.specs.Links.{ArePositions}
+use Rattle.resolve.specs.Ahead.{first_class}
+use Rattle.resolve.specs.ClassSets.{is_leaning}
+use Rattle.resolve.specs.Contexts.{by_w4_w5, settled_by, context_past, by_context, kept_past, past_leaning, owed_in}
+use Rattle.resolve.specs.Sought.{may_weaken}
+use Rattle.resolve.specs.ThroughW3.{by_w1_to_w3, preceding_past, all_by_w1_to_w3, is_no_terminator}
+use Rattle.resolve.specs.declared.preceding.Preceding.{Preceding}
+use Rattle.resolve.specs.declared.weak.Context.{Context}
+use Rattle.resolve.proofs.ByKind.{owes_not_here}
+use Rattle.resolve.proofs.Idle.{by_w1-idle, by_w2-idle, by_w3-idle, by_w4_w5-idle, by_context-idle}
+use Rattle.resolve.proofs.Walked.{Walk, WalkSteps, walk_next, walk_steps_next}
+
+pub not_weakened : (weakens : Bool) → not weakens ≡ true → weakens ≡ false
+not_weakened true h = cc
+not_weakened false h = refl
+
+-- the positions behind an index
+pub within_rest : (ps : List ℕ) (extent n : ℕ) → ArePositions ps extent → (k : ℕ) → k < length (take (length ps - n) (drop n ps)) →
+    slice_index (take (length ps - n) (drop n ps)) k < extent
+within_rest ps extent n are k lt =
+    let e : take (length ps - n) (drop n ps) ≡ drop n ps = take_rest ps n in
+    let inside : n + k < length ps = omega (arith, lt, ap length e, length-drop n ps) in
+    subst (λ i. i < extent) (sym (ap (λ (qs : List ℕ). slice_index qs k) e ∙ get_or-drop n ps k 0)) (are.within (n + k) inside)
+
+through_w3-idle : (f : Preceding) (c : Class) → may_weaken c ≡ false → by_w1_to_w3 f c ≡ c
+through_w3-idle f c h =
+    ap (λ (d : Class). by_w3 (by_w2 f.strong d)) (by_w1-idle f.base c h) ∙ ap by_w3 (by_w2-idle f.strong c h) ∙ by_w3-idle c h
+
+settled-idle : (x : Context) (c : Class) (cs : List Class) → may_weaken c ≡ false → settled_by x c cs ≡ c
+settled-idle x c cs h =
+    let ds : List Class = all_by_w1_to_w3 (preceding_past x.preceding c) cs in
+    let next : Class = first_class is_any ds ON in
+    let ahead : Class = first_class is_no_terminator ds ON in
+    ap (λ (d : Class). by_w4_w5 x.before x.settled d next ahead) (through_w3-idle x.preceding c h) ∙ by_w4_w5-idle x.before x.settled c next ahead h
+
+-- what is known after such a class
+past-idle : (x : Context) (c : Class) (cs : List Class) → may_weaken c ≡ false → context_past x c cs ≡ kept_past x c
+past-idle x c cs h = cc (through_w3-idle x.preceding c h, settled-idle x c cs h)
+
+idle_is_no_terminator : (c : Class) → may_weaken c ≡ false → c ≡ ET → ⊥
+idle_is_no_terminator ET h e = cc
+idle_is_no_terminator c h e = cc
+
+-- nothing is owed before it
+owes-idle : (x : Context) (c : Class) (cs : List Class) → may_weaken c ≡ false → owed_in x (c ∷ cs) ≡ 0
+owes-idle x c cs h =
+    owes_not_here x.settled (by_w1_to_w3 x.preceding c) (all_by_w1_to_w3 (preceding_past x.preceding c) cs)
+    (λ e. idle_is_no_terminator c h (sym (through_w3-idle x.preceding c h) ∙ e))
+
+-- what is neutral or has a direction is left as it is
+leaning-idle : (d c : Class) → is_leaning d c ≡ true → may_weaken c ≡ false
+leaning-idle L AL h = cc
+leaning-idle L EN h = cc
+leaning-idle L ES h = cc
+leaning-idle L ET h = cc
+leaning-idle L CS h = cc
+leaning-idle L NSM h = cc
+leaning-idle R AL h = cc
+leaning-idle R EN h = cc
+leaning-idle R ES h = cc
+leaning-idle R ET h = cc
+leaning-idle R CS h = cc
+leaning-idle R NSM h = cc
+leaning-idle d AL h = cc
+leaning-idle d EN h = cc
+leaning-idle d ES h = cc
+leaning-idle d ET h = cc
+leaning-idle d CS h = cc
+leaning-idle d NSM h = cc
+leaning-idle d c h = refl
+
+-- and behind it the last strong class is still this direction
+strong-leaning : (d c : Class) → is_leaning d c ≡ true → (if is_strong c then c else d) ≡ d
+strong-leaning L L h = refl
+strong-leaning R R h = refl
+strong-leaning L R h = cc
+strong-leaning L AL h = cc
+strong-leaning R L h = cc
+strong-leaning R AL h = cc
+strong-leaning d L h = cc
+strong-leaning d R h = cc
+strong-leaning d AL h = cc
+strong-leaning d c h = refl
+
+base-idle : (base c : Class) → may_weaken c ≡ false → (if is_base c then c else base) ≡ c
+base-idle base NSM h = cc
+base-idle base c h = refl
+
+abbrev after : Class → Class → Preceding
+after d c = record { base = c; strong = d }
+
+preceding-leaning : (f : Preceding) (c : Class) → is_leaning f.strong c ≡ true → preceding_past f c ≡ after f.strong c
+preceding-leaning f c h =
+    let idle : may_weaken c ≡ false = leaning-idle f.strong c h in
+    let base : (if is_base c then c else f.base) ≡ c = base-idle f.base c idle in
+    let strong : (if is_strong (by_w1 f.base c) then by_w1 f.base c else f.strong) ≡ f.strong =
+    ap (λ (d : Class). if is_strong d then d else f.strong) (by_w1-idle f.base c idle) ∙ strong-leaning f.strong c h in
+    cc (base, strong)
+
+abbrev with_preceding : Preceding → Class → Context
+with_preceding f c = record { preceding = f; before = c; settled = c }
+
+-- the last one tells all
+kept_twice : (x : Context) (b c : Class) → is_leaning x.preceding.strong b ≡ true → is_leaning x.preceding.strong c ≡ true → kept_past (kept_past x b) c ≡ kept_past x c
+kept_twice x b c hb hc =
+    let d : Class = x.preceding.strong in
+    ap (λ (f : Preceding). with_preceding (preceding_past f c) c) (preceding-leaning x.preceding b hb)
+    ∙ ap (λ (f : Preceding). with_preceding f c) (preceding-leaning (after d b) c hc ∙ sym (preceding-leaning x.preceding c hc))
+
+module _ {begin : Context} {ps : List ℕ} {start now : List Class} {x : Context} {k : ℕ} (w : Walk by_context context_past begin ps start now x k) (inside : k < length ps)
+    (idle : may_weaken (class_at now (slice_index ps k)) ≡ false) (y : Context) (known : y ≡ kept_past x (class_at now (slice_index ps k))) where
+  -- the walk goes on over a class that is left as it is
+  pub walk_kept : Walk by_context context_past begin ps start now y (k + 1)
+  walk_kept =
+      let c : Class = class_at now (slice_index ps k) in
+      let cs : List Class = classes_at now (drop (k + 1) ps) in
+      subst (λ (all : List Class). Walk by_context context_past begin ps start all y (k + 1)) (set-get_or now (slice_index ps k) L)
+      (walk_next w inside c y (drop (k + 1) ps) refl (sym (by_context-idle x c cs idle)) (known ∙ sym (past-idle x c cs idle)))
+
+  -- a step for it
+  pub walk_steps_kept : (first last : ℕ) → WalkSteps owed_in (classes_at start ps) x k first last → WalkSteps owed_in (classes_at start ps) y (k + 1) first (last + 1)
+  walk_steps_kept first last s =
+      let c : Class = class_at now (slice_index ps k) in
+      let cs : List Class = classes_at now (drop (k + 1) ps) in
+      walk_steps_next w inside owed_in y (drop (k + 1) ps) refl first last (last + 1) s (omega arith) (omega (arith, owes-idle x c cs idle))
+
+module _ {begin : Context} {ps : List ℕ} {start now : List Class} {x : Context} {k : ℕ} (w : Walk by_context context_past begin ps start now x k) where
+  -- what is known one index further on
+  known_further : (n : ℕ) → ((i : ℕ) → k ≤ i → i < k + suc n → is_leaning x.preceding.strong (class_at now (slice_index ps i)) ≡ true) →
+      past_leaning x ps k (suc n) now ≡ kept_past (past_leaning x ps k n now) (class_at now (slice_index ps (k + n)))
+  known_further zero h = refl
+  known_further (suc m) h =
+      sym (kept_twice x (class_at now (slice_index ps (k + m))) (class_at now (slice_index ps (k + suc m))) (h (k + m) (omega arith) (omega arith)) (h (k + suc m) (omega arith) (omega arith)))
+
+  -- the walk goes on over what leans to the last strong class
+  pub walk_past_leaning : (n : ℕ) → k + n ≤ length ps → ((i : ℕ) → k ≤ i → i < k + n → is_leaning x.preceding.strong (class_at now (slice_index ps i)) ≡ true) →
+      Walk by_context context_past begin ps start now (past_leaning x ps k n now) (k + n)
+  walk_past_leaning zero within h = let e : k ≡ k + 0 = omega arith in subst (λ m. Walk by_context context_past begin ps start now x m) e w
+  walk_past_leaning (suc n) within h =
+      let before : Walk by_context context_past begin ps start now (past_leaning x ps k n now) (k + n) = walk_past_leaning n (omega arith) (λ i low high. h i low (omega arith)) in
+      let inside : k + n < length ps = omega arith in
+      let idle : may_weaken (class_at now (slice_index ps (k + n))) ≡ false = leaning-idle x.preceding.strong (class_at now (slice_index ps (k + n))) (h (k + n) (omega arith) (omega arith)) in
+      let e : k + n + 1 ≡ k + suc n = omega arith in
+      subst (λ m. Walk by_context context_past begin ps start now (past_leaning x ps k (suc n) now) m) e
+      (walk_kept before inside idle (past_leaning x ps k (suc n) now) (known_further n h))
+
+  -- a step for each
+  pub walk_steps_past_leaning : (first last : ℕ) → WalkSteps owed_in (classes_at start ps) x k first last →
+      (n : ℕ) → k + n ≤ length ps → ((i : ℕ) → k ≤ i → i < k + n → is_leaning x.preceding.strong (class_at now (slice_index ps i)) ≡ true) →
+      WalkSteps owed_in (classes_at start ps) (past_leaning x ps k n now) (k + n) first (last + n)
+  walk_steps_past_leaning first last s zero within h =
+      let e : k ≡ k + 0 = omega arith in
+      let f : last ≡ last + 0 = omega arith in
+      subst (λ m. WalkSteps owed_in (classes_at start ps) x m first (last + 0)) e (subst (λ m. WalkSteps owed_in (classes_at start ps) x k first m) f s)
+  walk_steps_past_leaning first last s (suc n) within h =
+      let before : Walk by_context context_past begin ps start now (past_leaning x ps k n now) (k + n) = walk_past_leaning n (omega arith) (λ i low high. h i low (omega arith)) in
+      let inside : k + n < length ps = omega arith in
+      let idle : may_weaken (class_at now (slice_index ps (k + n))) ≡ false = leaning-idle x.preceding.strong (class_at now (slice_index ps (k + n))) (h (k + n) (omega arith) (omega arith)) in
+      let less = walk_steps_past_leaning first last s n (omega arith) (λ i low high. h i low (omega arith)) in
+      let e : k + n + 1 ≡ k + suc n = omega arith in
+      let f : last + n + 1 ≡ last + suc n = omega arith in
+      subst (λ m. WalkSteps owed_in (classes_at start ps) (past_leaning x ps k (suc n) now) m first (last + suc n)) e
+      (subst (λ m. WalkSteps owed_in (classes_at start ps) (past_leaning x ps k (suc n) now) (k + n + 1) first m) f
+      (walk_steps_kept before inside idle (past_leaning x ps k (suc n) now) (known_further n h) first (last + n) less))
