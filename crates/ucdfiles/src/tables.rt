@@ -80,22 +80,16 @@ impl<'a> Model for LentUnits<'a> {
 impl<'a> LentUnits<'a> {
     ghost use Rattle.ucdfiles.specs.UnitStages.{unit_by_stages};
 
-    #[tactic(auto, unfolding(crate::specs::Tables::class_by, crate::specs::Tables::bracket_by))]
     /// What the algorithm knows of a character: its class and its bracket.
     pub fn unit(&self, c: char) -> Unit
         ensures { result ≡ unit_by_stages self.now c }
     {
-        let class = self.classes.value(c);
-        if self.brackets_are_neutral && !matches!(class, Class::ON) {
-            return Unit {
-                class,
-                bracket: Bracket::No,
-            };
-        }
-        Unit {
-            class,
-            bracket: self.brackets.value(c),
-        }
+        let mut unit = Unit {
+            class: Class::L,
+            bracket: Bracket::No,
+        };
+        self.write_unit(c, &mut unit);
+        unit
     }
 
     #[tactic(auto, unfolding(crate::specs::Tables::class_by, crate::specs::Tables::bracket_by))]
