@@ -35,3 +35,4 @@ pub mod OrderAlone
 pub mod LineHeld
 pub mod KnownLevels
 pub mod Unsegmented
+pub mod Begun

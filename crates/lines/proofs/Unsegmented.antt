@@ -12,7 +12,7 @@ use Rattle.units.specs.declared.class.Class.TheVariants.{L, B, S}
 use Rattle.units.specs.Classes.{class_at, classes_of, is_line_separator, is_separator}
 use Rattle.paragraph.specs.ClassSets.{is_class}
 use Rattle.lines.specs.LineEnds.{AreAllParagraphEnds, AreParagraphEnds, paragraph_start}
-use Rattle.lines.specs.Spaces.{HasNoSegments}
+use Rattle.lines.specs.Spaces.{HasNoSegments, has_segments}
 use Rattle.lines.proofs.ParagraphFound.{counted_paragraphs}
 use Rattle.units.specs.Paragraphs.{paragraphs_of}
 use Rattle.lines.proofs.Separators.{paragraph_at}
@@ -30,7 +30,7 @@ counted_more own p (suc d) h =
     let before = counted_more own p d (omega arith) in
     rw e (omega (arith, before, counted_step own (p + d) (is_separator (class_at own (p + d))) (omega arith) refl))
 
-counted_up_to : (own : List Class) (p q : ℕ) → p ≤ q → q ≤ length own → count_by is_separator (take p own) ≤ count_by is_separator (take q own)
+pub counted_up_to : (own : List Class) (p q : ℕ) → p ≤ q → q ≤ length own → count_by is_separator (take p own) ≤ count_by is_separator (take q own)
 counted_up_to own p q le h =
     let e : q ≡ p + (q - p) = omega arith in
     rw e (counted_more own p (q - p) (omega arith))
@@ -55,15 +55,15 @@ starts_before own ends p (suc k) a few within n =
           absurd (omega (arith, n, all, counted_up_to own p (slice_index ends k - 1) (omega arith) (omega (arith, above, inside)), counted_over own (slice_index ends k - 1) (slice_index ends k) (omega arith) (omega (arith, above, inside)) closed))
     ]
 
--- a stretch more without segment separators
-pub no_segments_on : (text : List BidiUnit) (start n : ℕ) → HasNoSegments (take start text) → HasNoSegments (take n (drop start text)) → HasNoSegments (take (start + n) text)
-no_segments_on text start n before here =
+-- whether a text has segment separators up to the end of a stretch, by whether it has any before it, and in it
+pub segments_on : (text : List BidiUnit) (start n : ℕ) (before here : Bool) → before ≡ has_segments (take start text) → here ≡ has_segments (take n (drop start text)) → (before || here) ≡ has_segments (take (start + n) text)
+segments_on text start n before here first next =
     let is : Class → Bool = is_class S in
-    ap (λ (us : List BidiUnit). list_any is (classes_of us)) (take-add start n text)
-    ∙ ap (list_any is) (map-append (λ (u : BidiUnit). u.class) (take start text) (take n (drop start text)))
-    ∙ list_any-append is (classes_of (take start text)) (classes_of (take n (drop start text)))
-    ∙ ap (λ b. b || list_any is (classes_of (take n (drop start text)))) before
-    ∙ here
+    ap (λ b. b || here) first
+    ∙ ap (λ b. has_segments (take start text) || b) next
+    ∙ sym (list_any-append is (classes_of (take start text)) (classes_of (take n (drop start text))))
+    ∙ sym (ap (list_any is) (map-append (λ (u : BidiUnit). u.class) (take start text) (take n (drop start text))))
+    ∙ sym (ap has_segments (take-add start n text))
 
 either : (c : Class) → is_class S c ≡ false → is_separator c ≡ false → is_line_separator c ≡ false
 either S segment end = cc
@@ -91,7 +91,7 @@ free_before text ends position number a free few within n =
           omega (arith, n, counted, counted_up_to own (paragraph_start ends number) p low (omega arith), counted_over own p position high (omega arith) hit)));
     }
 
-at_most_one : (b : Bool) → cond b 1 0 ≤ 1
+pub at_most_one : (b : Bool) → cond b 1 0 ≤ 1
 at_most_one true = omega arith
 at_most_one false = omega arith
 

@@ -18,9 +18,13 @@ resets_before c later = is_line_separator c || ((is_removed c || is_trailing_spa
 pub record SeparateNone (own : List Class) (start end : ℕ) : Type 0 where
   pub none : (p : ℕ) → start ≤ p → p < end → is_line_separator (class_at own p) ≡ false
 
--- L1: no unit of the text is a segment separator
+-- L1: whether a unit of the text is a segment separator
+abbrev pub has_segments : List BidiUnit → Bool
+has_segments text = list_any (is_class S) (classes_of text)
+
+-- L1: none is
 abbrev pub HasNoSegments : List BidiUnit → Type 0
-HasNoSegments text = list_any (is_class S) (classes_of text) ≡ false
+HasNoSegments text = has_segments text ≡ false
 
 -- L1: each remaining position has the level of its paragraph
 pub record AreAtParas (own : List Class) (paras : List ℕ) (levels : List (Option ℕ)) : Type 0 where

@@ -11,7 +11,7 @@ use units::bracket::Unit;
 use units::steps::Steps;
 
 /// Cuts a text into lines, and writes their ends to the front of `bounds`; `para_ends` are where its paragraphs end. It
-/// answers how many lines there are.
+/// answers how many lines there are, and takes a step for each of them and one for each paragraph.
 pub(crate) fn cut_text<L: Ledger>(
     text: &[Unit],
     breaks: &Breaks,
@@ -25,7 +25,7 @@ pub(crate) fn cut_text<L: Ledger>(
     requires bounds { length text.now < length bounds.old }
     ensures ends { AreAllLineEnds text.now breaks.now.positions result bounds.new }
     ensures few_lines { result ≤ length text.now }
-    ensures at_least { steps.old ≤ steps.new }
+    ensures steps { steps.new ≡ steps.old + length para_ends.now + result }
     ensures at_most { steps.new ≤ steps.old + cutting_steps * length text.now }
 {
     let at = breaks.positions();

@@ -203,9 +203,9 @@ fn start_of_paragraph(para_ends: &[u32], paragraph: usize) -> usize
     }
 }
 
-/// What `reset_text` does for a text without segment separators, in at most as many steps: from the first position of
-/// a line, from its end, that nothing behind it resets, the walk goes on where the line begins. `para_ends` are where
-/// the paragraphs of the text end.
+/// What `reset_text` does for a text without segment separators, in at most as many steps, and at least one for each
+/// paragraph: from the first position of a line, from its end, that nothing behind it resets, the walk goes on where
+/// the line begins. `para_ends` are where the paragraphs of the text end.
 fn reset_unsegmented<L: Ledger>(
     own: &[Unit],
     breaks: &Breaks,
@@ -221,7 +221,7 @@ fn reset_unsegmented<L: Ledger>(
     requires each { length para_ends.now ≡ length paras.now }
     requires paras { length paras.now ≡ length (paragraphs_of own.now) }
     ensures levels { levels.new ≡ levels_reset own.now breaks.now.positions paras.now levels.old }
-    ensures at_least { steps.old ≤ steps.new }
+    ensures at_least { steps.old + length para_ends.now ≤ steps.new }
     ensures at_most { steps.new ≤ steps.old + length own.now }
 {
     let at = breaks.positions();

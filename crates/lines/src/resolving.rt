@@ -7,7 +7,7 @@ ghost use Rattle.lines.specs.Columns.{levels_filled, para_ends_filled, paras_fil
 ghost use Rattle.lines.specs.Kept.{keeps_levels};
 ghost use Rattle.lines.specs.LineEnds.{AreAllLineEnds, AreAllParagraphEnds};
 ghost use Rattle.lines.specs.OneUnit.{IsResolved};
-ghost use Rattle.lines.specs.Spaces.{HasNoSegments, StaysAtParas};
+ghost use Rattle.lines.specs.Spaces.{HasNoSegments, StaysAtParas, has_segments};
 ghost use Rattle.lines.specs.StepBounds.{light_text_steps, text_steps};
 
 use crate::bounds::Bound;
@@ -116,7 +116,7 @@ fn resolve_paragraphs<L: Ledger>(
     ensures ends { AreAllLineEnds text.now breaks.now.positions result.lines bounds.new }
     ensures few_lines { result.lines ≤ length text.now }
     ensures known { result.uniform ≡ keeps_levels text.now direction }
-    ensures segments { result.segmented ≡ false → HasNoSegments text.now }
+    ensures segments { result.segmented ≡ has_segments text.now }
     ensures uniform { result.uniform ≡ true
         → StaysAtParas text.now (paras_filled result.paragraphs columns.new)
         (levels_filled (length text.now) columns.new) }

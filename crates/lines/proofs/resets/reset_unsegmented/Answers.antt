@@ -14,6 +14,7 @@ use Rattle.units.specs.Paragraphs.{paragraphs_of}
 use Rattle.lines.specs.LineEnds.{AreAllParagraphEnds, paragraph_start}
 use Rattle.lines.proofs.Separators.{paragraph_at}
 use Rattle.lines.proofs.Unsegmented.{Free, counted_within, free_at}
+use Rattle.lines.proofs.Begun.{begun, begun_all, begun_none, begun_over, begun_step}
 use Rattle.explicit.proofs.Holders.Roles.{class_read}
 use Rattle.lines.proofs.BoolBytes.{bool_byte-is}
 use mir.Val.{bool_byte}
@@ -30,7 +31,7 @@ loop-position-init g c =
     record {
       within = omega arith;
       text = resetting_start own at (map level_of_para c.args.paras.now) c.args.levels.now c.count_separators-paragraph.result (len ∙ sym c.requires.levels) breaks c.count_separators-paragraph.ensures;
-      at_least = omega arith;
+      at_least = omega (arith, begun_all c.args.own.now c.args.para_ends.now c.requires.ends, ap (begun own) c.requires.levels);
       at_most = omega arith;
     }
 
@@ -103,7 +104,7 @@ loop-position-preserved-then-resets-broken g c =
       text =
           subst (λ a. Resetting own at paras old p (l.ahead - a) (l.paragraph - c.from-paragraph.result) resets2 (set l.levels p c.reset_level.result)) (sym (c.from-ahead.ensures ∙ bool_byte-is broken))
           (subst (λ a. Resetting own at paras old p (l.ahead - cond broken 1 0) (l.paragraph - a) resets2 (set l.levels p c.reset_level.result)) (sym (c.from-paragraph.ensures ∙ bool_byte-is ends)) more);
-      at_least = omega (arith, c.tick.ensures, l.invariant.at_least);
+      at_least = omega (arith, c.tick.ensures, l.invariant.at_least, begun_step own l.position (omega arith) (omega (arith, in_text)));
       at_most = omega (arith, c.tick.ensures, l.invariant.at_most);
     }
 
@@ -186,6 +187,8 @@ loop-position-preserved g c =
     let back : q + d ≡ p = omega arith in
     let passed : SeparateNone own q (q + d) = record { none = λ r ge lt. free.none r (omega arith) (omega arith) } in
     let coming : 0 < l.ahead → slice_index at (l.ahead - 1) ≤ q = λ some. let last : c.last_coming.result ≡ slice_index at (l.ahead - 1) = c.last_coming.ensures.some some in omega (arith, c.max-position.ensures) in
+    let inside : l.paragraph < length c.args.para_ends.now = omega (arith, on.counted, c.requires.each, paragraph_at us (length c.args.paras.now) p c.requires.paras (omega (arith, len, in_text))) in
+    let fewer = begun_over us c.args.para_ends.now l.position l.paragraph q c.requires.ends inside (omega arith) (omega (arith, low, len, in_text)) on.counted from in
     let one : Resetting own at paras old (q + d) l.ahead l.paragraph false l.levels =
     subst (λ n. Resetting own at paras old n l.ahead l.paragraph false l.levels) (sym back) on in
     record {
@@ -193,7 +196,7 @@ loop-position-preserved g c =
       text =
           subst (λ b. Resetting own at paras old q l.ahead l.paragraph b l.levels) (sym none.0)
           (resetting_over own at paras old q d l.ahead l.paragraph l.levels breaks (omega arith) passed coming one);
-      at_least = omega (arith, c.tick.ensures, l.invariant.at_least);
+      at_least = omega (arith, c.tick.ensures, l.invariant.at_least, fewer);
       at_most = omega (arith, c.tick.ensures, low, l.invariant.at_most);
     }
 
@@ -207,3 +210,8 @@ returns-clause-levels g c =
     subst (λ n. Resetting own at (map level_of_para c.args.paras.now) c.args.levels.now n l.ahead l.paragraph l.resets l.levels) there l.invariant.text in
     resetting_end own at (map level_of_para c.args.paras.now) c.args.levels.now l.ahead l.paragraph l.resets l.levels done
     ∙ ap (λ bs. after_resets own bs (map level_of_para c.args.paras.now) c.args.levels.now) c.positions-at.ensures.positions
+
+pub returns-clause-at_least : goal.returns-clause-at_least
+returns-clause-at_least g c =
+    let l = c.loop-position in
+    omega (arith, l.invariant.at_least, begun_none (classes_of c.args.own.now) l.position (omega arith))

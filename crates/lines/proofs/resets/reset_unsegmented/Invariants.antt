@@ -1,7 +1,8 @@
-use Rattle.std.specs.Prelude.{◌≡◌, ◌≤◌, ◌+◌, length, map}
+use Rattle.std.specs.Prelude.{◌≤◌, ◌+◌, length, map}
 use Rattle.units.specs.Isolates.{level_of_para}
 use Rattle.units.specs.Classes.{classes_of}
 use Rattle.lines.proofs.TextEnd.{Resetting}
+use Rattle.lines.proofs.Begun.{begun}
 use Rattle.lines.proofs.resets.reset_unsegmented.Given as goal
 
 abbrev pub invariant-loop-position : goal.invariant-loop-position
@@ -9,7 +10,7 @@ invariant-loop-position g l =
     record {
       within : l.position ≤ length l.initial.levels;
       text : Resetting (classes_of l.own) l.at (map level_of_para l.paras) l.initial.levels l.position l.ahead l.paragraph l.resets l.levels;
-      at_least : l.initial.steps ≤ l.steps;
+      at_least : l.initial.steps + length l.para_ends ≤ l.steps + begun (classes_of l.own) l.position;
       at_most : l.steps + l.position ≤ l.initial.steps + length l.initial.levels;
     }
 

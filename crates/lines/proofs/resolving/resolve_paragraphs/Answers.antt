@@ -2,7 +2,7 @@ use Rattle.std.proofs.Common.{arith, rules, ap, sym, ◌∙◌, subst, ◌≡◌
 use Rattle.std.specs.List.{list_all, list_any}
 use Rattle.std.specs.Prelude.{◌&&◌, slice_range}
 use Rattle.std.proofs.Math.Bool.{and-true, and_assoc}
-use Rattle.std.proofs.lemmas.Bool.{and_parts, or_parts}
+use Rattle.std.proofs.lemmas.Bool.{and_parts}
 use Rattle.std.proofs.lemmas.List.{drop_all, drop-drop, length-drop, length-map, length-take-le, take_all, take_more_set, take_rest, with_items_is}
 use Rattle.std.proofs.lemmas.Slice.{take-put_mid}
 use Rattle.units.specs.declared.bracket.Unit.{Unit as BidiUnit}
@@ -16,8 +16,8 @@ use Rattle.lines.specs.Kept.{keeps_levels, keeps_own_level}
 use Rattle.lines.proofs.AtParas.{all_stay, text_at_paras}
 use Rattle.units.specs.declared.class.Class.TheVariants.{S}
 use Rattle.paragraph.specs.ClassSets.{is_class}
-use Rattle.lines.specs.Spaces.{HasNoSegments}
-use Rattle.lines.proofs.Unsegmented.{no_segments_on}
+use Rattle.lines.specs.Spaces.{has_segments}
+use Rattle.lines.proofs.Unsegmented.{segments_on}
 use Rattle.lines.specs.LineBreaks.{AreBreaks}
 use Rattle.lines.specs.LineEnds.{AreLineEnds, AreParagraphEnds, ArePassed}
 use Rattle.lines.proofs.LineEnds.{ends_none}
@@ -40,7 +40,7 @@ pub loop-start-init : goal.loop-start-init
 loop-start-init g c = record {
   written = written_none c.args.limits c.args.text.now c.args.direction c.deref_mut-levels.result.now;
   known = refl;
-  segments = λ none. refl;
+  segments = refl;
   passed = subst (λ n. ArePassed c.positions-at.result.now n 0) (sym c.start_cut-cut.ensures.passed) (passed_none c.positions-at.result.now c.args.breaks.now.len c.positions-at.ensures.breaks);
   ends =
       subst (λ n. AreLineEnds (classes_of c.args.text.now) c.positions-at.result.now n 0 c.start_cut-cut.new.bounds) (sym c.start_cut-cut.ensures.lines)
@@ -104,12 +104,11 @@ loop-start-preserved g c =
           ∙ ap (λ b. l.uniform && (b && list_all keeps (paragraphs_of (drop end text)))) (known.ensures.known ∙ ap (λ n. keeps_level n (classes_of para)) known.ensures.level)
           ∙ ap (λ pieces. l.uniform && list_all keeps pieces) (sym split)
           ∙ l.invariant.known;
-      segments = λ none.
-          let parts = or_parts l.segmented c.has_segment_separator-segmented.result none in
+      segments =
           let described = c.of-first.ensures.first.contents in
-          let here : HasNoSegments (take n (drop l.start text)) =
-          ap (λ us. list_any (is_class S) (classes_of (take n us))) (sym (take_rest text l.start)) ∙ sym (c.has_segment_separator-segmented.ensures _ described) ∙ parts.1 in
-          no_segments_on text l.start n (l.invariant.segments parts.0) here;
+          let here : c.has_segment_separator-segmented.result ≡ has_segments (take n (drop l.start text)) =
+          c.has_segment_separator-segmented.ensures _ described ∙ ap (λ us. list_any (is_class S) (classes_of (take n us))) (take_rest text l.start) in
+          segments_on text l.start n l.segmented c.has_segment_separator-segmented.result l.invariant.segments here;
       passed = c.cut_paragraph-cut.ensures.passed;
       ends =
           c.cut_paragraph-cut.ensures.ends (classes_of text) (length-map text (λ u. u.class))
@@ -138,11 +137,11 @@ returns-clause-known g c =
     known_whole c.args.text.now c.args.direction l.start l.uniform (drop_all l.start c.args.text.now (omega arith)) l.invariant.known
 
 pub returns-clause-segments : goal.returns-clause-segments
-returns-clause-segments g c = λ none.
+returns-clause-segments g c =
     let l = c.loop-start in
     let text : List BidiUnit = c.args.text.now in
     let whole : take l.start text ≡ text = take_all l.start text (omega arith) in
-    subst HasNoSegments whole (l.invariant.segments none)
+    l.invariant.segments ∙ ap has_segments whole
 
 pub returns-clause-uniform : goal.returns-clause-uniform
 returns-clause-uniform g c = λ e.
