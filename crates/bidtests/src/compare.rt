@@ -81,7 +81,7 @@ fn differing_order(claimed: &[usize], layout: &Layout<'_>) -> Option<usize>
 }
 
 /// No breaks.
-fn no_breaks(len: usize) -> Breaks<'static>
+pub(crate) fn no_breaks(len: usize) -> Breaks<'static>
     ensures { result ≡ record { positions = []; len = len } }
 {
     match Breaks::new(&[], len) {

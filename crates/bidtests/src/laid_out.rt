@@ -1,10 +1,9 @@
 // Texts laid out under one direction after another.
-ghost use Rattle.std.specs.Prelude.{◌≡◌, ◌≤◌, length, IfSome, IsSome};
+ghost use Rattle.std.specs.Prelude.{◌≡◌, ◌≤◌, Some, length, IfSome, IsSome};
 ghost use Rattle.lines.specs.Scratches.{layout_in, room_of};
 ghost use Rattle.bidtests.specs.LaidOut.{IsLaidOut};
 
-use crate::compare::direction_by_level;
-use lines::breaks::Breaks;
+use crate::compare::{direction_by_level, no_breaks};
 use lines::lay_out::lay_out_into_with;
 use lines::scratch::Scratch;
 use units::bracket::Unit;
@@ -24,7 +23,7 @@ fn lay_out_under(
     ensures known { length (layout_in scratch.new).paras ≡ 1 → IsSome result }
     ensures room { room_of scratch.new ≡ room_of scratch.old }
 {
-    let breaks = Breaks::new(&[], text.len()).unwrap();
+    let breaks = no_breaks(text.len());
     lay_out_into_with(scratch, text, direction, &breaks, limits).unwrap();
     direction_by_level(scratch.layout().para_levels())
 }
@@ -45,6 +44,7 @@ pub fn lay_out_anew(
     ensures same { IfSome result (IsLaidOut limits text.now scratch.new) }
     ensures known { length (layout_in scratch.new).paras ≡ 1 → IsSome result }
     ensures room { room_of scratch.new ≡ room_of scratch.old }
+    ensures kept { laid_out ≡ Some direction → scratch.new ≡ scratch.old }
 {
     if laid_out == Some(direction) {
         laid_out

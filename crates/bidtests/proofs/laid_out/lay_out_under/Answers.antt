@@ -12,11 +12,10 @@ unfolding layout_of
 returns c =
     let text = c.args.text.now in
     let limits = c.args.limits in
-    let none = rw c.unwrap-breaks.ensures at c.new.ensures in
     let laid : IsLaidOut limits text c.lay_out_into_with.new.room c.args.direction = record {
       filled = rw c.unwrap.ensures at c.lay_out_into_with.ensures.filled;
       layout = (rw c.unwrap.ensures at c.lay_out_into_with.ensures.laid_out)
-          ∙ ap (λ (breaks : BreaksView). layout_of limits text c.args.direction breaks.positions) none.0;
+          ∙ ap (λ (breaks : BreaksView). layout_of limits text c.args.direction breaks.positions) c.no_breaks-breaks.ensures;
     } in
     let paras : map level_of_para c.para_levels.result.now ≡ para_levels_of text c.args.direction =
     c.para_levels.ensures ∙ ap (λ (v : TextLayout). v.paras) (c.layout.ensures ∙ laid.layout) in
