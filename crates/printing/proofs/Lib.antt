@@ -15,7 +15,6 @@ pub mod Passing
 pub mod Printing
 pub mod ReadSources
 pub mod Showing
-pub mod Stretches
 pub mod UnderWay
 pub mod Utf8Bytes
 pub mod WaitingBytes

@@ -81,7 +81,7 @@ none_ended tables [] plain = refl
 none_ended tables (c ∷ cs) plain = rw (no_separator tables (c ∷ cs) plain) refl
 
 module _ (form : Form) (tables : TablesOf) (direction : Direction) where
-  pub none_came : (a b : Option (List ℕ)) (more : List ℕ) (old new : Begun) → new.passed ≡ old.passed → new.chars.items ≡ old.chars.items ++ more → b ≡ a → PrintsOn form tables direction more a b old new
+  none_came : (a b : Option (List ℕ)) (more : List ℕ) (old new : Begun) → new.passed ≡ old.passed → new.chars.items ≡ old.chars.items ++ more → b ≡ a → PrintsOn form tables direction more a b old new
   none_came a b more old new e f g = record {
     ended = [];
     joined = f;

@@ -1,7 +1,4 @@
 // The paragraph of a text that has begun, while the text is printed paragraph by paragraph.
-ghost use Rattle.std.specs.Prelude.{◌≤◌, length, take};
-ghost use Rattle.printing.specs.UnderWay.{ArePlain};
-
 use crate::passed::Passed;
 use lines::scratch::Scratch;
 use std::alloc::Global;
@@ -18,25 +15,12 @@ pub(crate) struct Begun {
     pub(crate) room: Scratch,
 }
 
-/// How many units stand before the first paragraph separator, all where there is none.
-fn plain_front(units: &[Unit]) -> usize
-    ensures within { result ≤ length units.now }
-    ensures plain { ArePlain (take result units.now) }
-{
-    for (k, unit) in units.iter().enumerate() {
-        if unit.class.is_separator() {
-            return k;
-        }
-    }
-    units.len()
-}
-
 impl Begun {
-    ghost use Rattle.std.specs.Prelude.{◌≡◌, ◌≤◌, [], ◌∷◌, ◌++◌, length, take, IfOk, OnOk};
+    ghost use Rattle.std.specs.Prelude.{◌≡◌, ◌≤◌, [], ◌∷◌, ◌++◌, length, IfOk, OnOk};
     ghost use Rattle.units.specs.Layout.{longest_text};
     ghost use Rattle.ucdfiles.specs.Tables.{TablesOf};
     ghost use Rattle.lines.specs.Scratches.{room_of};
-    ghost use Rattle.printing.specs.UnderWay.{ArePlain, Follows, IsBegun, handed_in};
+    ghost use Rattle.printing.specs.UnderWay.{Follows, IsBegun, handed_in};
 
     /// The first paragraph, before any of its characters came.
     pub(crate) fn new(alloc: Global) -> Result<Begun, Memory>
@@ -66,22 +50,6 @@ impl Begun {
             return Err(Memory);
         }
         Ok(())
-    }
-
-    /// Adds those characters with their units that stand before the first paragraph separator, all where there is none,
-    /// and answers how many they are.
-    pub(crate) fn add_front(&mut self, chars: &[char], units: &[Unit]) -> Result<usize, Memory>
-        requires { length units.now ≡ length chars.now }
-        ensures within { IfOk result (λ count. count ≤ length chars.now) }
-        ensures chars { IfOk result (λ count. self.new.chars.items ≡ self.old.chars.items ++ take count chars.now) }
-        ensures units { IfOk result (λ count. self.new.units.items ≡ self.old.units.items ++ take count units.now) }
-        ensures plain { IfOk result (λ count. ArePlain (take count units.now)) }
-        ensures passed { self.new.passed ≡ self.old.passed }
-    {
-        let count = plain_front(units);
-        self.chars.extend_from_slice(&chars[..count])?;
-        self.units.extend_from_slice(&units[..count])?;
-        Ok(count)
     }
 
     /// Makes room for the layout of the paragraph, where there is less.

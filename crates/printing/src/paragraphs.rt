@@ -5,7 +5,7 @@ ghost use Rattle.units.specs.Layout.{layout_of, longest_text};
 ghost use Rattle.units.specs.Limits.{standard};
 ghost use Rattle.units.specs.Paragraphs.{SeparatorOnlyLast};
 ghost use Rattle.lines.specs.Scratches.{room_of};
-ghost use Rattle.ucdfiles.specs.Tables.{glyph_by, units_by};
+ghost use Rattle.ucdfiles.specs.Tables.{glyph_by, unit_by, units_by};
 ghost use Rattle.printing.specs.Behind.{levels_behind, printed_behind, printed_units};
 ghost use Rattle.printing.specs.PrintedTexts.{breaks_of, lines_text};
 ghost use Rattle.printing.specs.UnderWay.{Follows, IsBegun, PrintsOn, handed_in};
@@ -25,18 +25,8 @@ use std::io::Write;
 use std::num::NonZeroU16;
 use ucdfiles::mirror_table::MirrorTable;
 use ucdfiles::tables::Tables;
-use units::bracket::{Bracket, Unit};
-use units::class::Class;
+use units::bracket::Unit;
 use units::level::Direction;
-
-/// How many characters are looked up together.
-pub(crate) const STRETCH: usize = 64;
-
-/// A unit, in the place of one that is not looked up yet.
-const NO_UNIT: Unit = Unit {
-    class: Class::L,
-    bracket: Bracket::No,
-};
 
 /// Lays out a paragraph behind what was passed, and writes its levels.
 fn print_levels_of<W: Write>(
@@ -120,6 +110,7 @@ fn print_as<W: Write>(
 }
 
 /// Writes the paragraph that has begun, which has all of its characters now, and passes it.
+#[inline(never)]
 fn print_begun<W: Write>(
     alloc: Global,
     w: &mut W,
@@ -145,7 +136,8 @@ fn print_begun<W: Write>(
     Ok(())
 }
 
-/// Adds a character to the paragraph that has begun, and writes that where the character ends it (P1).
+/// Adds a character with its unit to the paragraph that has begun, and writes that where the character ends it (P1).
+#[inline(always)]
 pub(crate) fn take_character<W: Write>(
     alloc: Global,
     w: &mut W,
@@ -154,75 +146,21 @@ pub(crate) fn take_character<W: Write>(
     form: Form,
     begun: &mut Begun,
     character: char,
+    unit: Unit,
 ) -> Result<(), PrintFault>
     requires begun { IsBegun tables.now begun.old }
     requires small { handed_in begun.old < longest_text }
+    requires unit { unit ≡ unit_by tables.now character }
     ensures begun { OnOk result (IsBegun tables.now begun.new) }
     ensures handed { OnOk result (handed_in begun.new ≡ handed_in begun.old + 1) }
     ensures printed { OnOk result (PrintsOn form tables.now direction (character ∷ [])
         (W.contents w.old) (W.contents w.new) begun.old begun.new) }
 {
-    let unit = tables.unit(character);
     begun.add(character, unit)?;
     if unit.class.is_separator() {
         print_begun(alloc, w, tables, direction, form, begun)?;
     }
     Ok(())
-}
-
-/// Adds characters with their units to the paragraph that has begun, and writes each paragraph that one of them ends.
-fn take_units<W: Write>(
-    alloc: Global,
-    w: &mut W,
-    tables: &Tables,
-    direction: Direction,
-    form: Form,
-    begun: &mut Begun,
-    chars: &[char],
-    units: &[Unit],
-) -> Result<(), PrintFault>
-    requires begun { IsBegun tables.now begun.old }
-    requires small { handed_in begun.old + length chars.now ≤ longest_text }
-    requires units { units.now ≡ units_by tables.now chars.now }
-    ensures begun { OnOk result (IsBegun tables.now begun.new) }
-    ensures handed { OnOk result (handed_in begun.new ≡ handed_in begun.old + length chars.now) }
-    ensures printed { OnOk result (PrintsOn form tables.now direction chars.now
-        (W.contents w.old) (W.contents w.new) begun.old begun.new) }
-{
-    let mut start = 0;
-    while start < chars.len() {
-        start += begun.add_front(&chars[start..], &units[start..])?;
-        if start < chars.len() {
-            take_character(alloc, w, tables, direction, form, begun, chars[start])?;
-            start += 1;
-        }
-    }
-    Ok(())
-}
-
-/// Looks up a few characters, adds them to the paragraph that has begun, and writes each paragraph that one of them
-/// ends.
-pub(crate) fn take_stretch<W: Write>(
-    alloc: Global,
-    w: &mut W,
-    tables: &Tables,
-    direction: Direction,
-    form: Form,
-    begun: &mut Begun,
-    stretch: &[char],
-) -> Result<(), PrintFault>
-    requires begun { IsBegun tables.now begun.old }
-    requires small { handed_in begun.old + length stretch.now ≤ longest_text }
-    requires few { length stretch.now ≤ 64 }
-    ensures begun { OnOk result (IsBegun tables.now begun.new) }
-    ensures handed { OnOk result (handed_in begun.new ≡ handed_in begun.old + length stretch.now) }
-    ensures printed { OnOk result (PrintsOn form tables.now direction stretch.now
-        (W.contents w.old) (W.contents w.new) begun.old begun.new) }
-{
-    let mut units = [NO_UNIT; STRETCH];
-    let units = &mut units[..stretch.len()];
-    tables.look_up(stretch, units);
-    take_units(alloc, w, tables, direction, form, begun, stretch, units)
 }
 
 /// Writes the paragraph that has begun, where any of its characters came: the text has ended.

@@ -33,8 +33,11 @@ fn print_each<W: Write>(
     ensures { OnOk result (Appends (W.contents w.old) (W.contents w.new)
         (printed_as form tables.now text.now direction)) }
 {
+    let lent = tables.units();
     for k in 0..text.len() {
-        take_character(alloc, w, tables, direction, form, begun, text[k])?;
+        let character = text[k];
+        let unit = lent.unit(character);
+        take_character(alloc, w, tables, direction, form, begun, character, unit)?;
     }
     print_last(alloc, w, tables, direction, form, begun)
 }

@@ -9,8 +9,7 @@ use crate::begun::Begun;
 use crate::cutting::{hold, utf8_front};
 use crate::fault::PrintFault;
 use crate::form::Form;
-use crate::paragraphs::{STRETCH, print_last, take_stretch};
-use arrayvec::ArrayVec;
+use crate::paragraphs::{print_last, take_character};
 use std::alloc::Global;
 use std::io::Write;
 use ucdfiles::tables::Tables;
@@ -69,15 +68,12 @@ fn take_text<W: Write>(
     ensures printed { OnOk result (PrintsOn form tables.now direction (chars text.now)
         (W.contents w.old) (W.contents w.new) begun.old begun.new) }
 {
-    let mut stretch = ArrayVec::<char, STRETCH>::new();
+    let lent = tables.units();
     for character in text.chars() {
-        stretch.push(character);
-        if stretch.is_full() {
-            take_stretch(alloc, w, tables, direction, form, begun, &stretch)?;
-            stretch.clear();
-        }
+        let unit = lent.unit(character);
+        take_character(alloc, w, tables, direction, form, begun, character, unit)?;
     }
-    take_stretch(alloc, w, tables, direction, form, begun, &stretch)
+    Ok(())
 }
 
 /// Takes the longest front of these bytes that is UTF-8 and writes each paragraph that ends in it; where one does, what
