@@ -16,5 +16,4 @@ pub mod Printing
 pub mod ReadSources
 pub mod Showing
 pub mod UnderWay
-pub mod Utf8Bytes
 pub mod WaitingBytes

@@ -31,10 +31,11 @@ fn print_shown<W: Write>(
     waiting.print(w, character)
 }
 
-/// Writes the line with the number `k` from left to right, and LF. Whether a position holds a paragraph separator is
-/// asked of its own unit, not of the character that it is shown by.
+/// Writes the line with the number `k` from left to right, and LF, behind what waits. Whether a position holds a
+/// paragraph separator is asked of its own unit, not of the character that it is shown by.
 fn print_line<W: Write>(
     w: &mut W,
+    waiting: &mut Waiting,
     mirrors: &MirrorTable,
     chars: &[char],
     text: &[Unit],
@@ -44,16 +45,15 @@ fn print_line<W: Write>(
     requires units { length text.now ≡ length chars.now }
     requires levels { length (view_of layout.now).levels ≡ length chars.now }
     requires line { k < length (view_of layout.now).lines }
-    ensures { OnOk result (Appends (W.contents w.old) (W.contents w.new)
+    ensures { OnOk result (Appends (with_waiting (W.contents w.old) waiting.old)
+        (with_waiting (W.contents w.new) waiting.new)
         (text_of_line (glyph_by mirrors.now) chars.now text.now (view_of layout.now) k)) }
 {
     let order = layout.line(k).order;
-    let mut waiting = Waiting::new();
     for (position, character) in order.iter().zip(layout.shown(mirrors, chars, k)) {
-        print_shown(w, &mut waiting, text[*position].class, character)?;
+        print_shown(w, waiting, text[*position].class, character)?;
     }
-    waiting.print(w, '\n')?;
-    waiting.write(w)
+    waiting.print(w, '\n')
 }
 
 /// Writes the lines of a text, each from left to right as it is shown (L2, L4), and LF behind each.
@@ -69,8 +69,9 @@ pub fn print_lines<W: Write>(
     ensures { OnOk result (Appends (W.contents w.old) (W.contents w.new)
         (reorder_text (glyph_by mirrors.now) chars.now text.now (view_of layout.now))) }
 {
+    let mut waiting = Waiting::new();
     for k in 0..layout.line_count() {
-        print_line(w, mirrors, chars, text, layout, k)?;
+        print_line(w, &mut waiting, mirrors, chars, text, layout, k)?;
     }
-    Ok(())
+    waiting.write(w)
 }

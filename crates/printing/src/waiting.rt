@@ -1,9 +1,10 @@
-// Bytes of a printed line that wait until they are written together.
-ghost use Rattle.std.specs.Prelude.{◌≡◌, ℕ, ◌<◌, ◌≤◌, ◌+◌, [], ◌∷◌, ◌++◌, List, length, take, OnOk};
+// Bytes of printed lines that wait until they are written together.
+ghost use Rattle.std.specs.Prelude.{◌≡◌, ℕ, ◌≤◌, ◌+◌, [], ◌++◌, List, length, OnOk};
 ghost use Rattle.std.specs.Char.{encode_utf8};
 ghost use Rattle.std.specs.Io.KnownBytes.{Appends};
 ghost use Rattle.printing.specs.WaitingBytes.{with_waiting};
 
+use arrayvec::ArrayVec;
 use std::io;
 use std::io::Write;
 use std::marker::Model;
@@ -17,16 +18,13 @@ const LONGEST_CHARACTER: usize = 4;
 /// Bytes that wait until they are written together. Contracts see them as a list.
 #[derive(Drop)]
 pub(crate) struct Waiting {
-    bytes: [u8; ROOM],
-    count: usize,
+    bytes: ArrayVec<u8, ROOM>,
 }
 
 impl Model for Waiting {
     ghost Value = { List ℕ };
 
-    ghost view = { λ waiting. take waiting.count waiting.bytes };
-
-    ghost invariant = { λ waiting. (waiting.count ≤ 256) × (length waiting.bytes ≡ 256) };
+    ghost view = { λ waiting. waiting.bytes.items };
 }
 
 impl Waiting {
@@ -35,48 +33,34 @@ impl Waiting {
         ensures { result ≡ [] }
     {
         Waiting {
-            bytes: [0; ROOM],
-            count: 0,
+            bytes: ArrayVec::new(),
         }
     }
 
-    /// How many there are.
-    fn len(&self) -> usize
-        ensures count { result ≡ length self.now }
-        ensures within { result ≤ 256 }
-    {
-        self.count
-    }
-
-    /// Adds a byte.
-    fn push(&mut self, byte: u8)
-        requires { length self.old < 256 }
-        ensures { self.new ≡ self.old ++ byte ∷ [] }
-    {
-        self.bytes[self.count] = byte;
-        self.count += 1;
-    }
-
-    /// Adds a character in UTF-8.
+    /// Adds a character in UTF-8, byte by byte: a copy of so few takes longer.
     fn push_character(&mut self, character: char)
         requires { length self.old + 4 ≤ 256 }
         ensures { self.new ≡ self.old ++ encode_utf8 character }
     {
-        let code = u32::from(character);
-        if code < 0x80 {
-            self.push(code as u8);
-        } else if code < 0x800 {
-            self.push((0xC0 + code / 64) as u8);
-            self.push((0x80 + code % 64) as u8);
-        } else if code < 0x1_0000 {
-            self.push((0xE0 + code / 4096) as u8);
-            self.push((0x80 + code / 64 % 64) as u8);
-            self.push((0x80 + code % 64) as u8);
-        } else {
-            self.push((0xF0 + code / 262_144) as u8);
-            self.push((0x80 + code / 4096 % 64) as u8);
-            self.push((0x80 + code / 64 % 64) as u8);
-            self.push((0x80 + code % 64) as u8);
+        let mut buffer = [0; LONGEST_CHARACTER];
+        match *character.encode_utf8(&mut buffer).as_bytes() {
+            [only] => self.bytes.push(only),
+            [first, second] => {
+                self.bytes.push(first);
+                self.bytes.push(second);
+            }
+            [first, second, third] => {
+                self.bytes.push(first);
+                self.bytes.push(second);
+                self.bytes.push(third);
+            }
+            [first, second, third, fourth] => {
+                self.bytes.push(first);
+                self.bytes.push(second);
+                self.bytes.push(third);
+                self.bytes.push(fourth);
+            }
+            _ => unreachable!(),
         }
     }
 
@@ -85,8 +69,8 @@ impl Waiting {
         ensures none { OnOk result (self.new ≡ []) }
         ensures written { OnOk result (Appends (W.contents w.old) (W.contents w.new) self.old) }
     {
-        w.write_all(&self.bytes[..self.count])?;
-        self.count = 0;
+        w.write_all(self.bytes.as_slice())?;
+        self.bytes.clear();
         Ok(())
     }
 
@@ -95,8 +79,9 @@ impl Waiting {
         ensures room { OnOk result (length self.new + 4 ≤ 256) }
         ensures same { OnOk result (Appends (with_waiting (W.contents w.old) self.old)
             (with_waiting (W.contents w.new) self.new) []) }
+        ensures left { length self.old + 4 ≤ 256 → (self.new ≡ self.old) × (w.new ≡ w.old) }
     {
-        if ROOM - self.len() < LONGEST_CHARACTER {
+        if self.bytes.remaining_capacity() < LONGEST_CHARACTER {
             return self.write(w);
         }
         Ok(())

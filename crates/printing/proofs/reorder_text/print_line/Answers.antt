@@ -6,9 +6,8 @@ use Rattle.std.proofs.lemmas.List.{nil_from_length}
 use Rattle.units.specs.Layout.{LineLayout}
 use Rattle.lines.specs.Layouts.{view_of, no_line}
 use Rattle.lines.specs.Showing.{shown_left}
-use Rattle.printing.proofs.Appending.{Appends-joined}
+use Rattle.printing.proofs.Appending.{Appends-then}
 use Rattle.printing.proofs.Showing.{nothing_shown, one_more_shown, all_shown}
-use Rattle.printing.proofs.WaitingBytes.{written_in_the_end}
 use Rattle.printing.proofs.reorder_text.print_line.Goals as goal
 
 pub loop-position-init : goal.loop-position-init
@@ -20,7 +19,7 @@ loop-position-init g c =
     rw (c.into_iter-position-iterator.ensures.into_iter_gives, c.zip-position-items.ensures.first) c.iter.ensures.rest in
     let shown : shown_left (zip_second it) ≡ shown_left c.shown.result =
     rw (c.into_iter-position-iterator.ensures.into_iter_gives, c.zip-position-items.ensures.second) refl in
-    rw c.new-waiting.ensures (nothing_shown _ _ _ _ _ _ _ _ (order ∙ sym rest) (shown ∙ c.shown.ensures) (rw rest c.line.ensures.places))
+    nothing_shown _ _ _ _ _ _ _ _ (order ∙ sym rest) (shown ∙ c.shown.ensures) (rw rest c.line.ensures.places)
 
 pub loop-position-preserved : goal.loop-position-preserved
 loop-position-preserved g c =
@@ -35,4 +34,4 @@ returns g c =
       | inl x ↦ inl (nil_from_length _ x.1.0)
       | inr x ↦ inr x.1.0
     ] in
-    written_in_the_end _ _ _ _ _ _ (Appends-joined _ _ _ _ _ (all_shown _ _ _ _ _ _ _ _ _ none c.loop-position.invariant) c.in_ok-print.ensures) c.write.ensures.written
+    Appends-then c.print.result _ _ _ _ _ (all_shown _ _ _ _ _ _ _ _ _ none c.loop-position.invariant) c.print.ensures

@@ -1,4 +1,4 @@
-use Rattle.std.specs.Prelude.{[], slice_index_or}
+use Rattle.std.specs.Prelude.{slice_index_or}
 use Rattle.std.specs.Iterator.Adapters.{zip_first, zip_second}
 use Rattle.std.specs.Slice.Iter.{iter_rest}
 use Rattle.ucdfiles.specs.Tables.{glyph_by}
@@ -12,5 +12,5 @@ abbrev pub invariant-loop-position : goal.invariant-loop-position
 invariant-loop-position g l =
     let view = view_of l.fn.layout in
     HasShown (glyph_by l.fn.mirrors) view.levels l.fn.chars l.fn.text
-    (with_waiting (g.W.Write.contents l.initial.w) []) (with_waiting (g.W.Write.contents l.w) l.waiting)
+    (with_waiting (g.W.Write.contents l.initial.w) l.initial.waiting) (with_waiting (g.W.Write.contents l.w) l.waiting)
     (slice_index_or view.lines l.fn.k no_line).order (iter_rest (zip_first l.position-iterator)) (shown_left (zip_second l.position-iterator))
