@@ -45,7 +45,8 @@ pub(crate) fn fill_str(
 }
 
 /// Writes the units and the offsets of a text that is well formed, and behind the offsets that of its end, in one walk
-/// that also tests it. It answers how many characters there are; else the offset of the first fault, where the walk ends.
+/// that also tests it. It answers how many characters there are; else the offset of the first fault, where the walk
+/// ends.
 #[inline(never)]
 pub(crate) fn decode_utf8(
     bytes: &[u8],

@@ -139,12 +139,12 @@ fn find_explicit<L: Ledger>(
     stack.begin(base);
     let mut p = 0;
     while p < para.len() {
+        steps.tick();
         let class = para[p].class;
         if is_ordinary(class) {
             p = level_ordinary(para, p, stack.inside(), explicit, steps);
             continue;
         }
-        steps.tick();
         let place = stack.pass(class, map.is_right_to_left(p), base, depth, steps);
         explicit[p] = place;
         p += 1;
@@ -154,7 +154,8 @@ fn find_explicit<L: Ledger>(
 
 /// X1 to X9: finds the explicit levels, up to the depth of these limits (BD2), and the current classes of a paragraph
 /// of this level, for which `out` has room and from which `map` was filled. What was found of an earlier one is gone.
-/// Each position is a step, and each entry of the stack (X1) that a PDI or the paragraph's end drops.
+/// Each position is a step, each stretch of ordinary classes that follow one another is one more, and so is each entry
+/// of the stack (X1) that a PDI or the paragraph's end drops.
 pub fn explicit_levels<L: Ledger>(
     para: &[Unit],
     map: &IsolateMap,

@@ -42,8 +42,8 @@ fn print_each<W: Write>(
     print_last(alloc, w, tables, direction, form, begun)
 }
 
-/// Writes a text in this form, as `print_levels` and `print_reorder` say, paragraph by paragraph: a paragraph's
-/// characters are looked up and laid out where it ends, and written before the next one is looked at.
+/// Writes a text in this form, as `print_levels` and `print_reorder` say, paragraph by paragraph: each is laid out where
+/// it ends, and written before the next one is looked at.
 fn print_chars<W: Write>(
     alloc: Global,
     w: &mut W,

@@ -1,5 +1,5 @@
 // Bytes of printed lines that wait until they are written together.
-ghost use Rattle.std.specs.Prelude.{◌≡◌, ℕ, ◌≤◌, ◌+◌, [], ◌++◌, List, length, OnOk};
+ghost use Rattle.std.specs.Prelude.{◌≡◌, ℕ, ◌≤◌, ◌+◌, [], ◌++◌, List, length, IsOk, OnOk};
 ghost use Rattle.std.specs.Char.{encode_utf8};
 ghost use Rattle.std.specs.Io.KnownBytes.{Appends};
 ghost use Rattle.printing.specs.WaitingBytes.{with_waiting};
@@ -79,7 +79,7 @@ impl Waiting {
         ensures room { OnOk result (length self.new + 4 ≤ 256) }
         ensures same { OnOk result (Appends (with_waiting (W.contents w.old) self.old)
             (with_waiting (W.contents w.new) self.new) []) }
-        ensures left { length self.old + 4 ≤ 256 → (self.new ≡ self.old) × (w.new ≡ w.old) }
+        ensures left { length self.old + 4 ≤ 256 → IsOk result × (self.new ≡ self.old) × (w.new ≡ w.old) }
     {
         if self.bytes.remaining_capacity() < LONGEST_CHARACTER {
             return self.write(w);

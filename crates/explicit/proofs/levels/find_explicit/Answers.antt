@@ -45,11 +45,13 @@ loop-p-preserved-then-is_ordinary g c =
     let p : ℕ = c.loop-p.p in
     let n : length cs ≡ length c.args.para.now = length-map _ _ in
     let i = c.loop-p.invariant in
+    let l : p < length c.args.para.now = omega arith in
+    let ordinary : is_ordinary (class_at cs p) ≡ true = ap is_ordinary (class_read c.args.para.now p _ l) ∙ sym c.is_ordinary.ensures ∙ c.if-is_ordinary.true in
     let room = i.room in
     let s = c.level_ordinary-p.ensures.stretch in
     let end : ℕ = c.level_ordinary-p.result in
-    let low = s.later in
     let within = s.within in
+    let moves = stretch-moves cs p end s (omega (arith, n)) ordinary in
     let v = c.inside.ensures c.args.depth cs c.args.base (open_before cs p) i.keeps in
     let written = c.level_ordinary-p.ensures.explicit in
     record {
@@ -57,8 +59,8 @@ loop-p-preserved-then-is_ordinary g c =
       keeps = stretch-keeps cs p end s c.args.depth c.args.base c.loop-p.stack i.keeps;
       filled = stretch-explicit cs p end s c.inside.result c.loop-p.explicit c.level_ordinary-p.new.explicit written c.args.depth c.args.base v.0 v.1 (omega (arith, n, within, c.requires.room, room)) i.filled;
       room = stretch-room cs p end s c.inside.result c.loop-p.explicit c.level_ordinary-p.new.explicit written ∙ room;
-      least = omega (arith, i.least, c.level_ordinary-p.ensures.steps);
-      most = omega (arith, low, i.most, c.level_ordinary-p.ensures.steps);
+      least = omega (arith, i.least, c.tick.ensures, c.level_ordinary-p.ensures.steps);
+      most = omega (arith, moves, i.most, c.tick.ensures, c.level_ordinary-p.ensures.steps);
     }
 
 pub pass-place-requires-clause-kept : goal.pass-place-requires-clause-kept
