@@ -3,7 +3,7 @@
 
 usage: tools/bench_texts.py FOLDER
 
-The ordinary ones have about 1,000 characters, two of them one. The others are hard for an engine that walks back and
+The ordinary ones have about 1,000 characters, one of them ten times as many, two of them one. The others are hard for an engine that walks back and
 forth; each has its number of characters in its name.
 """
 import os
@@ -17,10 +17,12 @@ LATIN = 'paper river stone cloud window garden letter number'.split()
 ENGLISH = 'A reader of plain words, such as these, wants them shown in 1 or 2 lines (more or less) and quickly. '
 HEBREW_TEXT = 'ספרים רבים נכתבו בשנת 1998 על הנושא הזה, וגם מאמרים קצרים. '
 HEBREW_WITH_VOWELS = 'שָׁלוֹם לְכֻלָּם, בּוֹאוּ וְנִקְרָא יַחַד. '
+ARABIC_TEXT = 'كتبت كتب كثيرة في سنة ١٩٩٨ عن هذا الموضوع، وكذلك مقالات قصيرة. '
+CODE = 'for (let i = 0; i < rows[n].length; i++) { call(rows[n][i], "אב", f(x)); } '
 PERSIAN = 'کتاب‌ها و نامه‌هایی که می‌نویسیم؛ در سال ۱۳۹۹ (یا 2020) خوانده می‌شوند و نمی‌مانند. '
 
 ZWJ = '\u200d'
-RLE, PDF = '\u202b', '\u202c'
+RLE, PDF, RLO = '\u202b', '\u202c', '\u202e'
 LRI, RLI, FSI, PDI = '\u2066', '\u2067', '\u2068', '\u2069'
 BOTH_DIRECTIONS = 'a\u05d0'
 
@@ -77,6 +79,13 @@ def ordinary_texts():
         'persian': filled(1000, PERSIAN),
         'isolates': with_pairs(text, 40, FSI, PDI),
         'embeddings': with_pairs(text, 60, RLE, PDF),
+        'arabic': filled(1000, ARABIC_TEXT),
+        'digits': filled(1000, '3.14 + 15,926 = -5.358 '),
+        'segments': filled(1000, 'a\tא\t1\t'),
+        'overrides': with_pairs(text, 60, RLO, PDF),
+        'code': filled(1000, CODE),
+        'alternating': filled(1000, BOTH_DIRECTIONS),
+        'mixed_10000': mixed(10000),
         'one_latin': 'a',
         'one_hebrew': '\u05d0',
     }

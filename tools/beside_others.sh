@@ -19,7 +19,8 @@ tools=$(cd "$(dirname "$0")" && pwd)
 program=${BENCH:-$tools/../crates/bench/out/bench}
 library=${LIBRARY:-$tools/../crates/bidi_c/out/libbidi_c.a}
 heap=${RATTLE_C:-$(dirname "$(readlink -f "$(command -v rt)")")/../c}/liblibc_c.a
-ordinary="english hebrew vowels mixed zwj persian isolates embeddings one_latin one_hebrew"
+ordinary="english hebrew vowels mixed zwj persian isolates embeddings"
+ordinary="$ordinary arabic digits segments overrides code alternating mixed_10000 one_latin one_hebrew"
 # ICU takes quadratic time on nested and on unmatched brackets.
 hostile="fsi_1e6 rli_1e6 isolated_1e6 ladder_1e6 around_1e6 pairs_1e6 alternating_1e6 nested_1e4 unmatched_1e4"
 seconds=60
@@ -52,6 +53,7 @@ build lay_out_icu -licuuc
 build lay_out_fribidi -lfribidi
 build break_bidi_c "$library" "$heap"
 build break_icu -licuuc
+build break_fribidi -lfribidi
 build line_bidi_c "$library" "$heap"
 build utf8_bidi_c "$library" "$heap"
 build utf8_icu -licuuc
@@ -144,14 +146,16 @@ printf "$head" "lines anew" "ours" "from C" "ICU" "FriBidi" "to ICU" "C to ICU"
 for name in ${ordinary%% one_*}; do
     text=$work/texts/$name.txt
     count=$(characters_of "$text")
-    row "$name" - "$(each_of break_bidi_c "$text" "$count")" "$(each_of break_icu "$text" "$count")" -
+    row "$name" - "$(each_of break_bidi_c "$text" "$count")" "$(each_of break_icu "$text" "$count")" \
+        "$(each_of break_fribidi "$text" "$count")"
 done
 # shellcheck disable=SC2059
 printf "$head" "lines alone" "ours" "from C" "ICU" "FriBidi" "to ICU" "C to ICU"
 for name in ${ordinary%% one_*}; do
     text=$work/texts/$name.txt
     count=$(characters_of "$text")
-    row "$name" - "$(each_of line_bidi_c "$text" "$count")" "$(each_of break_icu "$text" "$count")" -
+    row "$name" - "$(each_of line_bidi_c "$text" "$count")" "$(each_of break_icu "$text" "$count")" \
+        "$(each_of break_fribidi "$text" "$count")"
 done
 # shellcheck disable=SC2059
 printf "$head" "in UTF-8" "codes" "ours" "ICU" "FriBidi" "to ICU" "a unit"
