@@ -1,4 +1,4 @@
-//! Tests of the engine: worked rows of each stage, from the cutting into paragraphs to the resolved levels. They stand
+//! Tests of the engine: worked rows of each rule, from the cutting into paragraphs to the resolved levels. They stand
 //! here, and not beside what they test, so that no crate is proved a second time with its tests.
 #![tactic(auto)]
 
@@ -23,6 +23,6 @@ mod resolve_rows;
 #[cfg(test)]
 mod rooms;
 #[cfg(test)]
-mod sequence_rows;
+mod rule_rows;
 #[cfg(test)]
-mod stage_rows;
+mod sequence_rows;

@@ -6,6 +6,6 @@ pub mod OneSequence
 pub mod WholeLevels
 pub mod IdleRules
 pub mod Unbracketed
-pub mod Stages
+pub mod ByRules
 pub mod Staying
 pub mod LeftOut

@@ -17,9 +17,9 @@ use units::level::Direction;
 use units::memory::Memory;
 use units::steps::Steps;
 
-/// Which passes a row goes through.
+/// Which rules a row goes through.
 #[derive(Clone, Copy)]
-enum Stage {
+enum Rules {
     W1,
     W2,
     W3,
@@ -32,60 +32,60 @@ enum Stage {
     Neutrals,
 }
 
-fn apply<L: Ledger>(stage: Stage, s: &Sequence, classes: &mut [Class], steps: &mut Steps<L>)
+fn apply<L: Ledger>(rules: Rules, s: &Sequence, classes: &mut [Class], steps: &mut Steps<L>)
     requires { length classes.old ≡ s.now.extent }
 {
-    match stage {
-        Stage::W1 => w1(s, classes, steps),
-        Stage::W2 => w2(s, classes, steps),
-        Stage::W3 => w3(s, classes, steps),
-        Stage::W4 => w4(s, classes, steps),
-        Stage::W5 => w5(s, classes, steps),
-        Stage::W6 => w6(s, classes, steps),
-        Stage::W7 => w7(s, classes, steps),
-        Stage::Weak => weak_types(s, classes, steps),
-        Stage::EngineWeak => weak(s, classes, steps),
-        Stage::Neutrals => neutral(s, classes, steps),
+    match rules {
+        Rules::W1 => w1(s, classes, steps),
+        Rules::W2 => w2(s, classes, steps),
+        Rules::W3 => w3(s, classes, steps),
+        Rules::W4 => w4(s, classes, steps),
+        Rules::W5 => w5(s, classes, steps),
+        Rules::W6 => w6(s, classes, steps),
+        Rules::W7 => w7(s, classes, steps),
+        Rules::Weak => weak_types(s, classes, steps),
+        Rules::EngineWeak => weak(s, classes, steps),
+        Rules::Neutrals => neutral(s, classes, steps),
     }
 }
 
 /// The same, by a count of steps that begins with the blank.
-fn apply_counting<L: Ledger>(stage: Stage, s: &Sequence, classes: &mut [Class], blank: Blank)
+fn apply_counting<L: Ledger>(rules: Rules, s: &Sequence, classes: &mut [Class], blank: Blank)
     requires classes { length classes.old ≡ s.now.extent }
     requires name { blank.name ≡ L.name }
     requires parts { blank.parts ≡ L.parts }
     requires some { 0 < blank.parts }
 {
-    apply(stage, s, classes, &mut Steps::<L>::new(blank));
+    apply(rules, s, classes, &mut Steps::<L>::new(blank));
 }
 
-/// What a stage makes of the classes with these names, of a sequence at level 0 (sos and eos L) or 1 (sos and eos R).
+/// What these rules make of classes, by their names, of a sequence at level 0 (sos and eos L) or 1 (sos and eos R).
 #[derive(Clone, Copy)]
 struct Row {
-    stage: Stage,
+    rules: Rules,
     direction: Direction,
     before: &'static str,
     after: &'static str,
 }
 
-/// Has a stage change the classes of a paragraph's one sequence.
+/// Has these rules change the classes of a paragraph's one sequence.
 fn apply_in_paragraph(
     rt: &impl Abort,
     alloc: Global,
-    stage: Stage,
+    rules: Rules,
     direction: Direction,
     classes: &mut [Class],
 ) -> Result<(), Memory> {
     let sequences = neutral_sequences(rt, alloc, direction, classes.len())?;
     let sequence = only_sequence(rt, &sequences);
-    apply_counting::<Brand>(stage, &sequence, classes, Blank::new(1));
+    apply_counting::<Brand>(rules, &sequence, classes, Blank::new(1));
     Ok(())
 }
 
-/// Checks what a stage makes of a row's classes.
+/// Checks what its rules make of a row's classes.
 fn assert_row(rt: &impl Abort, alloc: Global, row: &Row) -> Result<(), Memory> {
     let mut column = classes(rt, alloc, row.before)?;
-    apply_in_paragraph(rt, alloc, row.stage, row.direction, &mut column)?;
+    apply_in_paragraph(rt, alloc, row.rules, row.direction, &mut column)?;
     assert_classes(rt, &column, &classes(rt, alloc, row.after)?, row.before);
     Ok(())
 }
@@ -93,113 +93,113 @@ fn assert_row(rt: &impl Abort, alloc: Global, row: &Row) -> Result<(), Memory> {
 const ROWS: [Row; 18] = [
     // marks
     Row {
-        stage: Stage::W1,
+        rules: Rules::W1,
         direction: Direction::Rtl,
         before: "NSM AL NSM NSM LRI NSM PDI NSM",
         after: "R AL AL AL LRI ON PDI ON",
     },
     Row {
-        stage: Stage::W1,
+        rules: Rules::W1,
         direction: Direction::Ltr,
         before: "NSM",
         after: "L",
     },
     // numbers and letters
     Row {
-        stage: Stage::W2,
+        rules: Rules::W2,
         direction: Direction::Ltr,
         before: "EN AL EN ON EN L EN R ON EN",
         after: "EN AL AN ON AN L EN R ON EN",
     },
     Row {
-        stage: Stage::W7,
+        rules: Rules::W7,
         direction: Direction::Ltr,
         before: "EN AL EN ON EN L EN R ON EN",
         after: "L AL EN ON EN L L R ON EN",
     },
     Row {
-        stage: Stage::W7,
+        rules: Rules::W7,
         direction: Direction::Rtl,
         before: "EN",
         after: "EN",
     },
     Row {
-        stage: Stage::W3,
+        rules: Rules::W3,
         direction: Direction::Ltr,
         before: "AL L AL",
         after: "R L R",
     },
     // separators and terminators
     Row {
-        stage: Stage::W4,
+        rules: Rules::W4,
         direction: Direction::Ltr,
         before: "EN ES EN CS EN CS AN CS AN ES AN",
         after: "EN EN EN EN EN CS AN AN AN ES AN",
     },
     Row {
-        stage: Stage::W5,
+        rules: Rules::W5,
         direction: Direction::Ltr,
         before: "ET ET EN ET CS ET AN ET ET EN",
         after: "EN EN EN EN CS ET AN EN EN EN",
     },
     Row {
-        stage: Stage::W6,
+        rules: Rules::W6,
         direction: Direction::Ltr,
         before: "ET ET EN ET CS ET AN ET ET EN",
         after: "ON ON EN ON ON ON AN ON ON EN",
     },
     // runs of neutrals
     Row {
-        stage: Stage::Neutrals,
+        rules: Rules::Neutrals,
         direction: Direction::Ltr,
         before: "ON L WS ON L ON R ON AN WS EN ON",
         after: "L L L L L L R R AN R EN L",
     },
     Row {
-        stage: Stage::Neutrals,
+        rules: Rules::Neutrals,
         direction: Direction::Rtl,
         before: "ON L WS ON L ON R ON AN WS EN ON",
         after: "R L L L L R R R AN R EN R",
     },
     // W1 to W7, in passes and in one walk
     Row {
-        stage: Stage::Weak,
+        rules: Rules::Weak,
         direction: Direction::Ltr,
         before: "NSM EN ES EN ET CS AN",
         after: "L L L L L ON AN",
     },
     Row {
-        stage: Stage::Weak,
+        rules: Rules::Weak,
         direction: Direction::Ltr,
         before: "R EN CS EN ET ET NSM",
         after: "R EN EN EN EN EN EN",
     },
     Row {
-        stage: Stage::Weak,
+        rules: Rules::Weak,
         direction: Direction::Ltr,
         before: "AL EN CS EN",
         after: "R AN AN AN",
     },
     Row {
-        stage: Stage::EngineWeak,
+        rules: Rules::EngineWeak,
         direction: Direction::Ltr,
         before: "NSM EN ES EN ET CS AN",
         after: "L L L L L ON AN",
     },
     Row {
-        stage: Stage::EngineWeak,
+        rules: Rules::EngineWeak,
         direction: Direction::Ltr,
         before: "R EN CS EN ET ET NSM",
         after: "R EN EN EN EN EN EN",
     },
     Row {
-        stage: Stage::EngineWeak,
+        rules: Rules::EngineWeak,
         direction: Direction::Ltr,
         before: "AL EN CS EN",
         after: "R AN AN AN",
     },
     Row {
-        stage: Stage::EngineWeak,
+        rules: Rules::EngineWeak,
         direction: Direction::Ltr,
         before: "EN",
         after: "L",
