@@ -8,7 +8,7 @@ pub mod StackChanges
 pub mod Stretches
 pub mod Stops
 pub mod ExplicitLevels
-pub mod Places
+pub mod LeveledClasses
 pub mod Laws
 pub mod WantedLevels
 pub mod IsolateNesting

@@ -10,7 +10,7 @@ ghost use Rattle.explicit.specs.StatusStacks.{entry_count, is_ordinary};
 ghost use Rattle.explicit.specs.Stretches.{IsStretch, with_leveled};
 
 use crate::isolates::IsolateMap;
-use crate::place::Place;
+use crate::leveled_class::LeveledClass;
 use crate::status::{Status, StatusStack, is_ordinary};
 use std::alloc::Global;
 use std::boxed::BoxedSlice;
@@ -28,7 +28,7 @@ use units::steps::Steps;
 /// statuses, which is empty between calls.
 #[derive(Drop)]
 pub struct Explicit {
-    column: BoxedSlice<Place>,
+    column: BoxedSlice<LeveledClass>,
     stack: StatusStack,
 }
 
@@ -54,7 +54,7 @@ impl Explicit {
         if n >= u32::MAX as usize {
             return Err(Memory);
         }
-        let column = vec![in alloc; Place::none(); n]?.into_boxed_slice();
+        let column = vec![in alloc; LeveledClass::none(); n]?.into_boxed_slice();
         Ok(Explicit {
             column,
             stack: StatusStack::empty(),
@@ -74,7 +74,7 @@ impl Explicit {
 
     /// X1 to X9: all room, as contracts see it: the explicit level and the current class of each position of the
     /// paragraph that was filled from, or none where it is removed.
-    pub fn column(&self) -> &[Place]
+    pub fn column(&self) -> &[LeveledClass]
         ensures { result.now ≡ self.now }
     {
         &self.column
@@ -96,7 +96,7 @@ fn level_ordinary<L: Ledger>(
     para: &[Unit],
     from: usize,
     status: Status,
-    explicit: &mut [Place],
+    explicit: &mut [LeveledClass],
     steps: &mut Steps<L>,
 ) -> usize
     requires from { from ≤ length para.now }
@@ -109,7 +109,7 @@ fn level_ordinary<L: Ledger>(
     while p < para.len() && is_ordinary(para[p].class) {
         steps.tick();
         let (level, class) = status.leveled(para[p].class);
-        explicit[p] = Place::some(level, class);
+        explicit[p] = LeveledClass::some(level, class);
         p += 1;
     }
     p
@@ -123,7 +123,7 @@ fn find_explicit<L: Ledger>(
     base: Level,
     depth: u8,
     stack: &mut StatusStack,
-    explicit: &mut [Place],
+    explicit: &mut [LeveledClass],
     steps: &mut Steps<L>,
 )
     requires base { base ≤ 1 }
@@ -145,8 +145,8 @@ fn find_explicit<L: Ledger>(
             p = level_ordinary(para, p, stack.inside(), explicit, steps);
             continue;
         }
-        let place = stack.pass(class, map.is_right_to_left(p), base, depth, steps);
-        explicit[p] = place;
+        let leveled = stack.pass(class, map.is_right_to_left(p), base, depth, steps);
+        explicit[p] = leveled;
         p += 1;
     }
     stack.clear(steps);

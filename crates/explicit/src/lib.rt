@@ -7,9 +7,9 @@ ghost use Rattle.units.specs.Paragraphs.{paragraphs_of};
 pub mod cutting;
 pub mod isolates;
 pub mod laws;
+pub mod leveled_class;
 pub mod levels;
 pub mod para_level;
-pub mod place;
 pub mod side;
 mod status;
 

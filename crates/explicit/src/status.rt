@@ -9,7 +9,7 @@ ghost use Rattle.explicit.specs.StackChanges.{Closes, Opens, OpensAsking, Passes
 ghost use Rattle.explicit.specs.Stretches.{leveled_by_status};
 ghost use Rattle.explicit.specs.WantedLevels.{IsOddWanted};
 
-use crate::place::Place;
+use crate::leveled_class::LeveledClass;
 use arrayvec::ArrayVec;
 use std::sync::ledger::Ledger;
 use units::class::Class;
@@ -167,12 +167,12 @@ impl StatusStack {
 
     // X5a to X6a: the level and the current class of a position of this class, which is neither removed nor a
     // separator.
-    fn place_inside(&self, class: Class) -> Place
+    fn leveled_inside(&self, class: Class) -> LeveledClass
         requires { IsKept self.now }
         ensures { GivesLeveledInside self.now class result }
     {
         let current = self.current();
-        Place::some(current.level, current.override_class.unwrap_or(class))
+        LeveledClass::some(current.level, current.override_class.unwrap_or(class))
     }
 
     // X6a: drops the entries from the last isolate's on.
@@ -299,7 +299,7 @@ impl StatusStack {
         base: Level,
         depth: u8,
         steps: &mut Steps<L>,
-    ) -> Place
+    ) -> LeveledClass
         requires kept { IsKept self.old }
         requires within { depth ≤ 125 }
         ensures passed { Passes depth base class right_to_left result self.old self.new }
@@ -309,24 +309,24 @@ impl StatusStack {
         match class {
             Class::PDI => {
                 self.close_isolate(steps);
-                self.place_inside(class)
+                self.leveled_inside(class)
             }
             Class::PDF => {
                 self.close_embedding();
-                Place::none()
+                LeveledClass::none()
             }
             Class::LRI | Class::RLI | Class::FSI => {
-                let place = self.place_inside(class);
+                let leveled = self.leveled_inside(class);
                 self.open(class, right_to_left, depth);
-                place
+                leveled
             }
             Class::LRE | Class::LRO | Class::RLE | Class::RLO => {
                 self.open(class, right_to_left, depth);
-                Place::none()
+                LeveledClass::none()
             }
-            Class::BN => Place::none(),
-            Class::B => Place::some(base, class),
-            _ => self.place_inside(class),
+            Class::BN => LeveledClass::none(),
+            Class::B => LeveledClass::some(base, class),
+            _ => self.leveled_inside(class),
         }
     }
 }

@@ -13,7 +13,7 @@ ghost use Rattle.resolve.specs.Sought.{AreOwn, IsSoughtIn};
 
 use crate::contents::Contents;
 use crate::rooms::{RoomToFind, RoomToResolve};
-use explicit::place::Place;
+use explicit::leveled_class::LeveledClass;
 use resolve::pairs::Pairs;
 use resolve::sequence::{Sought, Unresolved, resolve_sequence};
 use sequences::sequences::Sequences;
@@ -26,7 +26,7 @@ use units::steps::Steps;
 
 /// X1 to X8: the class of a position before W1: its own if the paragraph is `flat`, and else the current one that was
 /// found, BN where X9 removes it.
-fn class_before(flat: bool, unit: Unit, explicit: &[Place], p: usize) -> Class
+fn class_before(flat: bool, unit: Unit, explicit: &[LeveledClass], p: usize) -> Class
     requires { p < length explicit.now }
     ensures flat { flat ≡ true → result ≡ unit.class }
     ensures found { flat ≡ false → result ≡ option_map_or (λ x. x.1) (slice_index_or explicit.now p None) BN }
@@ -69,7 +69,7 @@ fn begin_at(
 fn begin<L: Ledger>(
     para: &[Unit],
     flat: bool,
-    explicit: &[Place],
+    explicit: &[LeveledClass],
     before: &mut [Class],
     classes: &mut [Class],
     levels: &mut [Option<Level>],

@@ -9,8 +9,8 @@ ghost use Rattle.explicit.specs.IsolateMaps.{IsFilledFrom};
 ghost use Rattle.sequences.specs.FilledFrom.{AreExplicitLevels, leveled_by};
 
 use explicit::isolates::IsolateMap;
+use explicit::leveled_class::LeveledClass;
 use explicit::levels::Explicit;
-use explicit::place::Place;
 use std::marker::Model;
 use units::bracket::Unit;
 use units::level::{Level, ParaLevel};
@@ -20,7 +20,7 @@ use units::level::{Level, ParaLevel};
 pub struct Leveled<'a> {
     para: &'a [Unit],
     isolates: &'a IsolateMap,
-    explicit: &'a [Place],
+    explicit: &'a [LeveledClass],
     base: Level,
 }
 
@@ -37,7 +37,7 @@ impl<'a> Model for Leveled<'a> {
 }
 
 /// What was found of the position `p`: its explicit level and its current class, or none where it is removed.
-fn at(explicit: &[Place], p: usize) -> Place
+fn at(explicit: &[LeveledClass], p: usize) -> LeveledClass
     requires { p < length explicit.now }
     ensures { result ≡ slice_index_or explicit.now p None }
 {

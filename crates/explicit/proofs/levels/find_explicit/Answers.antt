@@ -63,8 +63,8 @@ loop-p-preserved-then-is_ordinary g c =
       most = omega (arith, moves, i.most, c.tick.ensures, c.level_ordinary-p.ensures.steps);
     }
 
-pub pass-place-requires-clause-kept : goal.pass-place-requires-clause-kept
-pass-place-requires-clause-kept g c = kept-before c.args.depth (classes_of c.args.para.now) c.args.base c.loop-p.p c.loop-p.stack c.requires.within c.requires.base (omega arith) c.loop-p.invariant.keeps
+pub pass-leveled-requires-clause-kept : goal.pass-leveled-requires-clause-kept
+pass-leveled-requires-clause-kept g c = kept-before c.args.depth (classes_of c.args.para.now) c.args.base c.loop-p.p c.loop-p.stack c.requires.within c.requires.base (omega arith) c.loop-p.invariant.keeps
 
 pub loop-p-preserved : goal.loop-p-preserved
 loop-p-preserved g c =
@@ -76,13 +76,13 @@ loop-p-preserved g c =
     let l : p < length cs = omega (arith, n) in
     let short : p < length c.loop-p.explicit = omega (arith, c.requires.room, room) in
     let e = sym (class_read c.args.para.now p no_unit c.loop-p-test.true) in
-    let passed = c.pass-place.ensures.passed cs (open_before cs p) p e (λ f. c.is_right_to_left.ensures cs c.requires.filled l (ap is_isolate_initiator (sym e ∙ f))) i.keeps in
-    let found = passed-is c.args.depth cs c.args.base p _ c.pass-place.result c.pass-place.new.self l e passed in
+    let passed = c.pass-leveled.ensures.passed cs (open_before cs p) p e (λ f. c.is_right_to_left.ensures cs c.requires.filled l (ap is_isolate_initiator (sym e ∙ f))) i.keeps in
+    let found = passed-is c.args.depth cs c.args.base p _ c.pass-leveled.result c.pass-leveled.new.self l e passed in
     record {
       within = omega arith;
       keeps = found.keeps;
-      filled = explicit-more c.args.depth cs c.args.base p c.loop-p.explicit c.pass-place.result short found.found i.filled;
-      room = length-set c.loop-p.explicit p c.pass-place.result ∙ room;
-      least = omega (arith, c.tick.ensures, c.pass-place.ensures.least_steps, i.least);
-      most = omega (arith, c.tick.ensures, c.pass-place.ensures.most_steps, i.most);
+      filled = explicit-more c.args.depth cs c.args.base p c.loop-p.explicit c.pass-leveled.result short found.found i.filled;
+      room = length-set c.loop-p.explicit p c.pass-leveled.result ∙ room;
+      least = omega (arith, c.tick.ensures, c.pass-leveled.ensures.least_steps, i.least);
+      most = omega (arith, c.tick.ensures, c.pass-leveled.ensures.most_steps, i.most);
     }

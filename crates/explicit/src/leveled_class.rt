@@ -14,66 +14,66 @@ const NO_LEVEL: u8 = 127;
 /// The explicit level and the current class of a position, or none where X9 removes it, in two bytes. Where there is
 /// none, the class is BN. Contracts see an `Option`.
 #[derive(Clone, Copy)]
-pub struct Place {
+pub struct LeveledClass {
     number: u8,
     class: Class,
 }
 
-impl Model for Place {
+impl Model for LeveledClass {
     ghost use Rattle.std.specs.Prelude.{Option, ℕ};
     ghost use Rattle.units.specs.declared.class.Class.{Class};
-    ghost use Rattle.explicit.specs.Places.{IsPlace, place_of, number_of, class_of};
+    ghost use Rattle.explicit.specs.LeveledClasses.{IsLeveledClass, leveled_class_of, number_of_leveled, class_of_leveled};
 
     ghost Value = { Option (ℕ × Class) };
 
-    ghost view = { λ place. place_of place.number place.class };
+    ghost view = { λ leveled. leveled_class_of leveled.number leveled.class };
 
-    ghost invariant = { λ place. IsPlace place.number place.class };
+    ghost invariant = { λ leveled. IsLeveledClass leveled.number leveled.class };
 
-    ghost inverse = { λ place. record { number = number_of place; class = class_of place } };
+    ghost inverse = { λ leveled. record { number = number_of_leveled leveled; class = class_of_leveled leveled } };
 }
 
-impl Place {
+impl LeveledClass {
     /// None.
-    pub fn none() -> Place
+    pub fn none() -> LeveledClass
         ensures { result ≡ None }
     {
-        Place {
+        LeveledClass {
             number: NO_LEVEL,
             class: Class::BN,
         }
     }
 
     /// This level and this class.
-    pub fn some(level: Level, class: Class) -> Place
+    pub fn some(level: Level, class: Class) -> LeveledClass
         ensures { result ≡ Some (level, class) }
     {
-        Place {
+        LeveledClass {
             number: level.get(),
             class,
         }
     }
 
     /// This level and this class, or none.
-    pub fn new(place: Option<(Level, Class)>) -> Place
-        ensures { result ≡ place }
+    pub fn new(leveled: Option<(Level, Class)>) -> LeveledClass
+        ensures { result ≡ leveled }
     {
-        match place {
-            Some((level, class)) => Place::some(level, class),
-            None => Place::none(),
+        match leveled {
+            Some((level, class)) => LeveledClass::some(level, class),
+            None => LeveledClass::none(),
         }
     }
 
     /// The level, if there is one.
     pub fn level(self) -> Option<Level>
-        ensures { result ≡ option_map (λ place. place.0) self }
+        ensures { result ≡ option_map (λ leveled. leveled.0) self }
     {
         Level::new(self.number)
     }
 
     /// Whether there is this level.
     pub fn is_at(self, level: Level) -> bool
-        ensures { result ≡ at_one_level (option_map (λ place. place.0) self) (Some level) }
+        ensures { result ≡ at_one_level (option_map (λ leveled. leveled.0) self) (Some level) }
     {
         let number = level.get();
         self.number == number
@@ -81,7 +81,7 @@ impl Place {
 
     /// The class, BN where there is none.
     pub fn class(self) -> Class
-        ensures { result ≡ option_map_or (λ place. place.1) self BN }
+        ensures { result ≡ option_map_or (λ leveled. leveled.1) self BN }
     {
         self.class
     }

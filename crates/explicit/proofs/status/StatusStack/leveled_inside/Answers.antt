@@ -2,7 +2,7 @@ use Rattle.std.proofs.Common.{ap, ◌∙◌}
 use Rattle.std.specs.Prelude.{Some}
 use Rattle.units.specs.declared.class.Class.{Class}
 use Rattle.explicit.proofs.Holders.Represented.{kept-bounded, leveled_in-by}
-use Rattle.explicit.proofs.status.StatusStack.place_inside.Goals as goal
+use Rattle.explicit.proofs.status.StatusStack.leveled_inside.Goals as goal
 
 pub current-current-requires : goal.current-current-requires
 current-current-requires c = let b = kept-bounded c.args.self.now c.requires in b.some

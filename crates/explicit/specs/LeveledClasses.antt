@@ -9,17 +9,17 @@ abbrev pub no_level : ℕ
 no_level = 127
 
 -- what a number and a class stand for
-abbrev pub place_of : ℕ → Class → Option (ℕ × Class)
-place_of number class = if number == no_level then None else Some (number, class)
+abbrev pub leveled_class_of : ℕ → Class → Option (ℕ × Class)
+leveled_class_of number class = if number == no_level then None else Some (number, class)
 
 -- the number and the class that stand for a level and a class, or none
-abbrev pub number_of : Option (ℕ × Class) → ℕ
-number_of place = option_map_or (λ x. x.0) place no_level
+abbrev pub number_of_leveled : Option (ℕ × Class) → ℕ
+number_of_leveled leveled = option_map_or (λ x. x.0) leveled no_level
 
-abbrev pub class_of : Option (ℕ × Class) → Class
-class_of place = option_map_or (λ x. x.1) place BN
+abbrev pub class_of_leveled : Option (ℕ × Class) → Class
+class_of_leveled leveled = option_map_or (λ x. x.1) leveled BN
 
 -- a number and a class that stand for something: a level, or none with BN
-pub record IsPlace (number : ℕ) (class : Class) : Type 0 where
+pub record IsLeveledClass (number : ℕ) (class : Class) : Type 0 where
   pub within : number ≤ no_level
   pub none : number ≡ no_level → class ≡ BN
