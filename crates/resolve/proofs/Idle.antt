@@ -10,7 +10,7 @@ use Rattle.units.specs.Weak.{by_w1, by_w2, by_w3, by_w6, by_w7, after_weak}
 use Rattle.units.specs.declared.bracket.Unit.{Unit as BidiUnit}
 use Rattle.units.specs.declared.class.Class.{Class}
 use Rattle.units.specs.declared.class.Class.TheVariants.{L, R, AL, EN, ES, ET, CS, NSM, BN}
-use Rattle.resolve.specs.Contexts.{context_of, by_w4_w5, context_past, by_context}
+use Rattle.resolve.specs.Contexts.{context_at_start, by_w4_w5, context_past, by_context}
 use Rattle.resolve.specs.Sought.{may_weaken, is_imposed, AreOwn}
 use Rattle.resolve.specs.declared.weak.Context.{Context}
 use Rattle.resolve.proofs.Gathered.{contains_index, length-classes_at}
@@ -56,7 +56,7 @@ walked-idle x (c ∷ cs) none = grind (arith, or_parts, by_context-idle, walked-
 
 -- W1 to W7 over such classes
 pub after_weak-idle : (sos : Class) (cs : List Class) → list_any may_weaken cs ≡ false → after_weak sos cs ≡ cs
-after_weak-idle sos cs none = after_weak-walked sos cs ∙ walked-idle (context_of sos) cs none
+after_weak-idle sos cs none = after_weak-walked sos cs ∙ walked-idle (context_at_start sos) cs none
 
 -- what is imposed is no such class
 imposed-idle : (c : Class) → is_imposed c ≡ true → may_weaken c ≡ false
