@@ -14,13 +14,13 @@ pub record IsInside (at : List ℕ) (len index : ℕ) : Type 0 where
   pub before_end : slice_index at index < len
 
 -- the break at the index is above the one before, if there is one
-abbrev pub Rises : List ℕ → ℕ → Type 0
-Rises at index = 0 < index → slice_index at (index - 1) < slice_index at index
+abbrev pub IsAboveTheOneBefore : List ℕ → ℕ → Type 0
+IsAboveTheOneBefore at index = 0 < index → slice_index at (index - 1) < slice_index at index
 
 -- all breaks below the index are as they should be
 pub record AreBreaksBelow (at : List ℕ) (len end : ℕ) : Type 0 where
   pub inside : (index : ℕ) → index < end → IsInside at len index
-  pub rising : (index : ℕ) → index < end → Rises at index
+  pub rising : (index : ℕ) → index < end → IsAboveTheOneBefore at index
 
 -- the breaks rise, and are all inside the text
 abbrev pub AreBreaks : List ℕ → ℕ → Type 0

@@ -6,7 +6,7 @@ use Rattle.units.specs.Positions.{positions_from}
 use Rattle.units.specs.declared.bracket.Unit.{Unit as BidiUnit}
 use Rattle.lines.specs.declared.breaks.BreakFault.{BreakFault}
 use Rattle.lines.specs.declared.breaks.BreakFault.TheVariants.{OutOfRange, NotRising}
-use Rattle.lines.specs.LineBreaks.{AreBreaks, IsFirstBreakFault, Rises}
+use Rattle.lines.specs.LineBreaks.{AreBreaks, IsFirstBreakFault, IsAboveTheOneBefore}
 use Rattle.printing.specs.Columns.{is_column_break, separates_at, paragraph_start}
 
 pub one_more_position : (s n : ℕ) → positions_from s (suc n) ≡ positions_from s n ++ ((s + n) ∷ [])
@@ -69,7 +69,7 @@ passing-rises : (test : ℕ → Bool) (n : ℕ) → test 0 ≡ false → RisesIn
 passing-rises test zero h = rises-none 1 0
 passing-rises test (suc n) h = rw h (filter-rises test 1 n (suc n) (omega arith))
 
-above-before : (xs : List ℕ) → ((i : ℕ) → i + 1 < length xs → slice_index xs i < slice_index xs (i + 1)) → (i : ℕ) → i < length xs → Rises xs i
+above-before : (xs : List ℕ) → ((i : ℕ) → i + 1 < length xs → slice_index xs i < slice_index xs (i + 1)) → (i : ℕ) → i < length xs → IsAboveTheOneBefore xs i
 above-before xs above zero h positive = absurd (omega arith)
 above-before xs above (suc i) h positive = grind (arith, slice_index)
 
