@@ -1,13 +1,10 @@
 -- A text of one unit.
-use Rattle.std.specs.Prelude.{ℕ, zero, suc, ◌+◌, ◌-◌, ◌<◌, ◌≤◌, ◌≡◌, Option, Bool, true, List, [], ◌∷◌, ◌&&◌, length, map, refl}
-use Rattle.std.specs.List.{flat_map, list_all}
+use Rattle.std.specs.Prelude.{ℕ, ◌-◌, ◌≡◌, Option, List, [], ◌∷◌, length, map, refl}
 use Rattle.std.proofs.Common.{arith, ap, sym, subst, ◌∙◌, get_or}
 use Rattle.std.proofs.Math.Bool.{and-true}
 use Rattle.std.proofs.lemmas.List.{append-nil}
-use Rattle.units.specs.Classes.{classes_of}
-use Rattle.units.specs.Isolates.{level_of_para, para_level_of}
-use Rattle.units.specs.Layout.{no_unit, para_levels_of, text_levels}
-use Rattle.units.specs.Limits.{LimitsOf}
+use Rattle.units.specs.Isolates.{level_of_para}
+use Rattle.units.specs.Layout.{no_unit}
 use Rattle.units.specs.declared.bracket.Unit.{Unit as BidiUnit}
 use Rattle.units.specs.declared.level.Direction.{Direction}
 use Rattle.units.specs.declared.level.ParaLevel.{ParaLevel}

@@ -1,4 +1,4 @@
-use Rattle.std.proofs.Common.{rules, ◌≡◌, ◌<◌, ◌+◌, ◌-◌, ◌++◌, [], ◌∷◌, ℕ, List, true, length, take, arith, sym, refl, ap, ◌∙◌, subst}
+use Rattle.std.proofs.Common.{rules, ◌≡◌, ◌<◌, ◌+◌, ◌-◌, ◌++◌, [], ◌∷◌, ℕ, List, length, take, arith, sym, refl, ap, ◌∙◌, subst}
 use Rattle.std.specs.Prelude.{IfSome, count_by, map, slice_index_or, slice_set}
 use Rattle.std.proofs.lemmas.List.{length-map, length-take-le, take_more, take_more_set, with_items_is}
 use Rattle.units.specs.Classes.{classes_of, is_separator}
