@@ -22,7 +22,7 @@ struct Row {
     direction: Direction,
     depth: u8,
     /// The level and the current class of each position behind the pairs, none where it is removed.
-    places: &'static [Option<(u8, Class)>],
+    leveled: &'static [Option<(u8, Class)>],
 }
 
 const ROWS: [Row; 14] = [
@@ -32,7 +32,7 @@ const ROWS: [Row; 14] = [
         names: "RLI RLI PDI R PDI L",
         direction: Direction::Ltr,
         depth: 125,
-        places: &[
+        leveled: &[
             Some((0, Class::RLI)),
             Some((1, Class::RLI)),
             Some((1, Class::PDI)),
@@ -47,7 +47,7 @@ const ROWS: [Row; 14] = [
         names: "RLO LRI EN PDI PDF",
         direction: Direction::Ltr,
         depth: 125,
-        places: &[
+        leveled: &[
             None,
             Some((1, Class::R)),
             Some((2, Class::EN)),
@@ -61,7 +61,7 @@ const ROWS: [Row; 14] = [
         names: "RLE PDI L",
         direction: Direction::Ltr,
         depth: 125,
-        places: &[None, Some((1, Class::PDI)), Some((1, Class::L))],
+        leveled: &[None, Some((1, Class::PDI)), Some((1, Class::L))],
     },
     // and an override covers it
     Row {
@@ -69,7 +69,7 @@ const ROWS: [Row; 14] = [
         names: "RLO LRE L PDF PDI LRE L PDF",
         direction: Direction::Ltr,
         depth: 125,
-        places: &[
+        leveled: &[
             None,
             None,
             Some((2, Class::L)),
@@ -86,7 +86,7 @@ const ROWS: [Row; 14] = [
         names: "FSI R PDI L",
         direction: Direction::Auto,
         depth: 125,
-        places: &[
+        leveled: &[
             Some((0, Class::FSI)),
             Some((1, Class::R)),
             Some((0, Class::PDI)),
@@ -99,7 +99,7 @@ const ROWS: [Row; 14] = [
         names: "FSI FSI R PDI PDI L",
         direction: Direction::Auto,
         depth: 125,
-        places: &[
+        leveled: &[
             Some((0, Class::FSI)),
             Some((2, Class::FSI)),
             Some((3, Class::R)),
@@ -114,7 +114,7 @@ const ROWS: [Row; 14] = [
         names: "RLE LRE L",
         direction: Direction::Ltr,
         depth: 125,
-        places: &[None, None, Some((125, Class::L))],
+        leveled: &[None, None, Some((125, Class::L))],
     },
     // a PDF closes what was refused first
     Row {
@@ -122,7 +122,7 @@ const ROWS: [Row; 14] = [
         names: "RLE LRE RLE PDF PDF L",
         direction: Direction::Ltr,
         depth: 125,
-        places: &[None, None, None, None, None, Some((125, Class::L))],
+        leveled: &[None, None, None, None, None, Some((125, Class::L))],
     },
     // what stands in what was refused is refused
     Row {
@@ -130,7 +130,7 @@ const ROWS: [Row; 14] = [
         names: "LRE RLE L",
         direction: Direction::Ltr,
         depth: 125,
-        places: &[None, None, Some((124, Class::L))],
+        leveled: &[None, None, Some((124, Class::L))],
     },
     // a PDF in an isolate that was refused closes nothing
     Row {
@@ -138,7 +138,7 @@ const ROWS: [Row; 14] = [
         names: "RLE LRI PDF PDI L",
         direction: Direction::Ltr,
         depth: 125,
-        places: &[
+        leveled: &[
             None,
             Some((125, Class::LRI)),
             None,
@@ -152,7 +152,7 @@ const ROWS: [Row; 14] = [
         names: "RLE LRI LRE PDI PDF L",
         direction: Direction::Ltr,
         depth: 125,
-        places: &[
+        leveled: &[
             None,
             Some((125, Class::LRI)),
             None,
@@ -167,21 +167,21 @@ const ROWS: [Row; 14] = [
         names: "RLE LRE R",
         direction: Direction::Ltr,
         depth: 1,
-        places: &[None, None, Some((1, Class::R))],
+        leveled: &[None, None, Some((1, Class::R))],
     },
     Row {
         pairs: 0,
         names: "RLE LRE R",
         direction: Direction::Ltr,
         depth: 2,
-        places: &[None, None, Some((2, Class::R))],
+        leveled: &[None, None, Some((2, Class::R))],
     },
     Row {
         pairs: 0,
         names: "RLE LRE R",
         direction: Direction::Ltr,
         depth: 125,
-        places: &[None, None, Some((2, Class::R))],
+        leveled: &[None, None, Some((2, Class::R))],
     },
 ];
 
@@ -201,40 +201,45 @@ fn units_of_row(rt: &impl Abort, alloc: Global, row: &Row) -> Result<Vec<Unit>, 
     Ok(units)
 }
 
-/// A place with its level as a number.
-fn numbered(place: Option<(Level, Class)>) -> Option<(u8, Class)> {
-    let (level, class) = place?;
+/// The same with the level as a number.
+fn numbered(leveled: Option<(Level, Class)>) -> Option<(u8, Class)> {
+    let (level, class) = leveled?;
     Some((level.get(), class))
 }
 
-/// The place of a position, where these places begin at `start` and all positions before it are removed.
-fn place_from(start: usize, places: &[Option<(u8, Class)>], p: usize) -> Option<(u8, Class)> {
-    *places.get(p.checked_sub(start)?)?
+/// The level and the class of a position, where these ones begin at `start` and all positions before it are removed.
+fn leveled_from(start: usize, leveled: &[Option<(u8, Class)>], p: usize) -> Option<(u8, Class)> {
+    *leveled.get(p.checked_sub(start)?)?
 }
 
-fn assert_place(rt: &impl Abort, explicit: &Explicit, p: usize, place: Option<(u8, Class)>)
+fn assert_leveled(rt: &impl Abort, explicit: &Explicit, p: usize, leveled: Option<(u8, Class)>)
     requires { p < length explicit.now }
 {
-    assert_eq!(rt; numbered(explicit.at(p)), place, "at {p}");
+    assert_eq!(rt; numbered(explicit.at(p)), leveled, "at {p}");
 }
 
-/// Checks the places of so many positions: the last ones are these, and all before them are removed.
-fn assert_places(rt: &impl Abort, explicit: &Explicit, n: usize, places: &[Option<(u8, Class)>])
+/// Checks what is found of so many positions: of the last ones it is this, and all before them are removed.
+fn assert_all_leveled(
+    rt: &impl Abort,
+    explicit: &Explicit,
+    n: usize,
+    leveled: &[Option<(u8, Class)>],
+)
     requires { n ≤ length explicit.now }
 {
-    assert!(rt; places.len() <= n);
-    let start = n - places.len();
+    assert!(rt; leveled.len() <= n);
+    let start = n - leveled.len();
     for p in 0..n {
-        assert_place(rt, explicit, p, place_from(start, places, p));
+        assert_leveled(rt, explicit, p, leveled_from(start, leveled, p));
     }
 }
 
-/// Checks what is found of a row's paragraph of so many units: the pairs are removed, and then come its places.
+/// Checks what is found of a row's paragraph of so many units: the pairs are removed, and then comes what the row says.
 fn assert_found(rt: &impl Abort, found: &Found, n: usize, row: &Row)
     requires { n ≤ length found.now.explicit }
 {
     assert_eq!(rt; found.level, ParaLevel::Zero);
-    assert_places(rt, &found.explicit, n, row.places);
+    assert_all_leveled(rt, &found.explicit, n, row.leveled);
 }
 
 /// Checks what is found of a row's paragraph, which these units are.
