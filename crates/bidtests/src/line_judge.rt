@@ -46,13 +46,6 @@ impl Model for LineJudge {
     ghost invariant = { λ s. room_of s.scratch ≡ MOST_UNITS };
 }
 
-// Room for the text of a row.
-fn scratch(alloc: Global) -> Result<Scratch, Memory>
-    ensures { IfOk result (λ scratch. room_of scratch ≡ MOST_UNITS) }
-{
-    Scratch::with_room(alloc, MOST_UNITS).map_err(|_| Memory)
-}
-
 impl LineJudge {
     ghost use Rattle.bidtests.specs.Carried.{at_start, no_at, after_line, comes_to_behind, with_right_row};
 
@@ -61,7 +54,7 @@ impl LineJudge {
         ensures { IfOk result (λ judge. judge ≡ at_start limits) }
     {
         let reader = LineReader::new(alloc)?;
-        let scratch = scratch(alloc)?;
+        let scratch = Scratch::reserve(alloc, MOST_UNITS)?;
         Ok(LineJudge {
             limits,
             scratch,

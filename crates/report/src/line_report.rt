@@ -50,13 +50,6 @@ impl Model for LineReport {
     ghost invariant = { λ s. (room_of s.scratch ≡ MOST_UNITS) × (MOST_FOUND ≤ vec_capacity s.found) };
 }
 
-// Room for the text of a row.
-fn scratch(alloc: Global) -> Result<Scratch, Memory>
-    ensures { IfOk result (λ scratch. room_of scratch ≡ MOST_UNITS) }
-{
-    Scratch::with_room(alloc, MOST_UNITS).map_err(|_| Memory)
-}
-
 // A list without cases, with room for those of a row.
 fn list(alloc: Global) -> Result<Vec<WrongCase>, Memory>
     ensures none { IfOk result (λ list. list.items ≡ []) }
@@ -75,7 +68,7 @@ impl LineReport {
     {
         let reader = LineReader::new(alloc)?;
         let found = list(alloc)?;
-        let scratch = scratch(alloc)?;
+        let scratch = Scratch::reserve(alloc, MOST_UNITS)?;
         Ok(LineReport {
             terms,
             scratch,
