@@ -2,9 +2,9 @@
 # Installs the program and the library for C into folders whose names have blanks, quotes and other signs, below DESTDIR
 # and beside where one stands, and looks at what is there: the program runs, the manual page is the one of docs, and
 # programs in C are built by what pkg-config says, over the archive and over the shared object, and print what is
-# stored. Then it removes everything again. Words that are unknown are refused. It ends with 0 where all is as it is to
-# be, with 1 where not, and with 2 where the program or the library is missing. Without gcc it does nothing, and says
-# so.
+# stored. Then it removes everything again. Words that are unknown are refused. Of the manual page no line is wider than
+# 80 columns. It ends with 0 where all is as it is to be, with 1 where not, and with 2 where the program or the library
+# is missing. Without gcc it does nothing, and says so.
 #
 # usage: tools/check_install.sh
 #
@@ -132,6 +132,18 @@ refused $'one\ntwo'
 DESTDIR=$work/empty refused relative
 is "what refused words installed" "" "$(files .)"
 is "status of --help" 0 "$("$tools/install.sh" --help > /dev/null; echo $?)"
+
+# The manual page at 80 columns: no line is wider, and in the synopsis no call is broken elsewhere than the page says.
+if command -v man > /dev/null && command -v col > /dev/null; then
+    page=$(LC_ALL=C MANWIDTH=80 man -l "$top/docs/bidi.1" | col -bx)
+    synopsis=$(sed -n '/^SYNOPSIS/,/^DESCRIPTION/p' <<< "$page")
+    is "lines of the manual page above 80 columns" "" "$(grep -E '.{81}' <<< "$page")"
+    is "lines of its synopsis that begin no call" "" "$(grep -E '^ {7}[^ ]' <<< "$synopsis" | grep -v '^ *bidi ')"
+    is "calls of its synopsis" "$(sed -n '/^\.SH SYNOPSIS/,/^\.SH DESCRIPTION/p' "$top/docs/bidi.1" |
+        grep -c '^\.B bidi ')" "$(grep -c '^ *bidi ' <<< "$synopsis")"
+else
+    echo "no man or col: the manual page is not looked at"
+fi
 [ "$has_tools" = yes ] || echo "no pkg-config, readelf or python3: no program in C is built over what is installed"
 echo "$checks comparisons of what is installed, $wrong wrong"
 [ "$wrong" -eq 0 ]
