@@ -128,6 +128,13 @@ is 'order of the longest word of classes' 'order 0' "$(tail -n 1 found_out)"
 "$program" explain --codes "0061$(printf '%131067s' '')" > found_out 2> found_err
 is 'status of the longest word of code points' 0 $?
 is 'order of the longest word of code points' 'order 0' "$(tail -n 1 found_out)"
+# Words of nearly that length, of many classes and of many code points.
+"$program" explain --classes "$(yes ON | head -n 40000 | tr '\n' ' ')" 2> found_err | tail -n 1 | tail -c 7 > found_out
+is 'status of a word of many classes' 0 "${PIPESTATUS[0]}"
+is 'end of explain of a word of many classes' ' 39999' "$(cat found_out)"
+"$program" explain --codes "$(yes 0061 | head -n 26000 | tr '\n' ' ')" 2> found_err | tail -n 1 | tail -c 7 > found_out
+is 'status of a word of many code points' 0 "${PIPESTATUS[0]}"
+is 'end of explain of a word of many code points' ' 25999' "$(cat found_out)"
 # As many paragraphs as a text can have bytes for.
 yes '' | head -c 16777216 > paragraphs.txt
 "$program" reorder paragraphs.txt > found_out 2> found_err
@@ -258,6 +265,9 @@ head -c 4095 /dev/zero | tr '\0' x > line.txt
 "$program" rows --of line.txt --tables t > rows.txt 2> found_err
 is 'status of rows of the longest line' 0 $?
 ends 0 'yes: 3 rows, 3 cases' '' judge --kind characters --tables t rows.txt
+"$program" explain --row 1 --kind characters --tables t rows.txt 2> found_err | tail -n 1 | tail -c 6 > found_out
+is 'status of explain of the longest row' 0 "${PIPESTATUS[0]}"
+is 'end of explain of the longest row' ' 4094' "$(cat found_out)"
 printf x >> line.txt
 ends 3 '' 'bidi: line.txt: line 1: too long' rows --of line.txt
 
@@ -278,6 +288,9 @@ for form in nest brackets marks numbers isolates separators; do
     fi
 done
 ends 2 '' 'bidi: up is no direction' rows --form nest --length 1 --directions 'auto up'
+# Each option of rows in one run.
+ends 0 $'05D0 05D0;1;1;1 1;1 0\n05D0 05D0;1;1;1 1;1 0' '' rows --kind characters --tables t --form random \
+    --alphabet 05D0 --length 2..2 --seed 7 --count 2 --directions rtl
 
 # Reports: what they print and count, where they end, and the first of the wrong cases.
 printf '@Levels: x 3\n@Reorder:\nLRE R; 3\nL; 16\nL; 1\n' > faults.txt

@@ -1,10 +1,12 @@
-//! Texts in UTF-8 and UTF-16: what offsets of code units tell, what is refused, and what a refusal leaves.
+//! Texts in UTF-8 and UTF-16: what offsets of code units tell, what is refused, what a refusal leaves, and rooms of any
+//! size.
 use crate::given::tables;
 use encoded::fault::EncodedFault;
 use encoded::lookups::EncodedLine;
 use encoded::room::Room;
 use encoded::runs::EncodedRun;
 use lines::breaks::BreakFault;
+use std::alloc::Global;
 use std::process::Abort;
 use std::test::Fail;
 use ucdfiles::tables::Tables;
@@ -191,4 +193,19 @@ fn lays_out_utf16(rt: HostRuntime) -> Result<(), Fail> {
     let tables = tables(rt.alloc())?;
     let mut room = Room::with_room(rt.alloc(), 4)?;
     lays_out_units(&rt, &mut room, &tables)
+}
+
+/// Makes a room for so many code units, which holds the empty text.
+fn room_is_made(rt: &impl Abort, alloc: Global, n: usize) -> Result<(), Fail> {
+    let room = Room::with_room(alloc, n)?;
+    assert_eq!(rt; room.characters(), 0, "for {n}");
+    Ok(())
+}
+
+#[test]
+fn rooms_of_any_size_are_made(rt: HostRuntime) -> Result<(), Fail> {
+    for n in [0, 1, 4_097, 1_000_001, 16_777_216] {
+        room_is_made(&rt, rt.alloc(), n)?;
+    }
+    Ok(())
 }

@@ -1,4 +1,4 @@
-//! The tables by which texts are laid out.
+//! The tables by which texts are laid out, and long texts.
 use std::alloc::Global;
 use ucdfiles::bracket_table::BracketTable;
 use ucdfiles::class_table::ClassTable;
@@ -6,6 +6,7 @@ use ucdfiles::fault::TableFault;
 use ucdfiles::mirror_table::MirrorTable;
 use ucdfiles::small::{BRACKETS, CLASSES, MIRRORS};
 use ucdfiles::tables::Tables;
+use units::memory::Memory;
 use units::slice_source::SliceSource;
 
 /// The tables of the small files, with these mirror images.
@@ -20,4 +21,9 @@ pub fn tables_with(alloc: Global, mirrors: &[u8]) -> Result<Tables, TableFault> 
 /// The tables of the small files.
 pub fn tables(alloc: Global) -> Result<Tables, TableFault> {
     tables_with(alloc, MIRRORS)
+}
+
+/// So many times `a`.
+pub fn letters(alloc: Global, count: usize) -> Result<Vec<char>, Memory> {
+    Ok(vec![in alloc; 'a'; count]?)
 }

@@ -13,6 +13,8 @@ mod printed_columns;
 #[cfg(test)]
 mod printed_levels;
 #[cfg(test)]
+mod printed_long;
+#[cfg(test)]
 mod printed_refused;
 #[cfg(test)]
 mod printed_reorder;

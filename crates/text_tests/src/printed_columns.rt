@@ -1,5 +1,5 @@
 //! Lines of many columns.
-use crate::given::tables;
+use crate::given::{letters, tables};
 use printing::print::print_reorder;
 use std::alloc::Global;
 use std::num::NonZeroU16;
@@ -7,12 +7,6 @@ use std::process::Abort;
 use std::test::Fail;
 use ucdfiles::tables::Tables;
 use units::level::Direction;
-use units::memory::Memory;
-
-/// So many times `a`.
-fn letters(alloc: Global, count: usize) -> Result<Vec<char>, Memory> {
-    Ok(vec![in alloc; 'a'; count]?)
-}
 
 /// Expects a line feed behind each so many bytes and at the end, and nowhere else.
 fn ends_each_line(rt: &impl Abort, printed: &[u8], columns: u16) {
