@@ -1,7 +1,7 @@
 #!/bin/bash
 # Builds the library that C links and the programs of this folder, and runs them: the demo, a typesetter, every call,
 # each refused allocation, threads that share tables, and reports, against their stored output, the greatest sizes (in
-# some 1.5 GB of memory), a C++ program, and a program built as tools/c/install.sh installs the library; then, but for
+# some 1.9 GB of memory), a C++ program, and a program built as tools/c/install.sh installs the library; then, but for
 # the sizes, again under -fsanitize=address,undefined and under valgrind, and the threads under -fsanitize=thread. Where
 # the package unicode-data is installed the sizes are taken with its property files, and the official files are laid out
 # and judged too. Where the command is built (`rt run -- --help` in crates/bidi), the lines that say verdicts and the

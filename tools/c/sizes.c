@@ -1,6 +1,6 @@
-/* sizes UCD: the greatest sizes that calls take, where memory suffices: rooms of up to 16,777,216 code points that are
- * filled, and property files of more than a million bytes. The output is stored in sizes.out, and is the same for the
- * published files as for those of the folder ucd. */
+/* sizes UCD: the greatest sizes that calls take, where memory suffices: rooms of up to 16,777,216 code points or code
+ * units that are filled, and property files of more than a million bytes. The output is stored in sizes.out, and is the
+ * same for the published files as for those of the folder ucd. */
 #include "bidi.h"
 #include "read_file.h"
 #include <string.h>
@@ -46,6 +46,25 @@ static void fill_mixed(bidi_tables *tables, size_t n) {
   free(codes); free(levels); free(order);
 }
 
+/* A room for n code units, and a text of Latin letters in UTF-8 that fills it, broken in its midst. */
+static void fill_encoded(bidi_tables *tables, size_t n) {
+  bidi_room room = BIDI_NONE;
+  uint64_t place = 0;
+  uint8_t *text = malloc(n);
+  if (!text) exit(2);
+  memset(text, 'a', n);
+  uint32_t status = bidi_room_new_encoded(n, &room);
+  size_t breaks[] = { n / 2 };
+  printf("room of %zu code units: status %u, size %zu", n, status, bidi_room_size(&room));
+  status = bidi_lay_out_utf8(&room, tables, text, n, BIDI_AUTO, breaks, 1, &place);
+  bidi_line_t line = { 0 };
+  printf("; laid out: status %u, lines %zu", status, bidi_line_count(&room));
+  status = bidi_encoded_line(&room, 1, &line);
+  printf("; second line: status %u, [%zu,%zu)\n", status, line.start, line.end);
+  bidi_room_free(&room);
+  free(text);
+}
+
 /* The bytes of a property file behind so many of comments. */
 static uint8_t *behind_comments(const char *folder, const char *name, size_t comments, size_t *n) {
   uint8_t *file = read_file(folder, name, n), *bytes = malloc(comments + *n);
@@ -80,6 +99,8 @@ int main(int argc, char **argv) {
   fill_mixed(&tables, 1000000);
   fill_room(&tables, 4194305);
   fill_room(&tables, 16777216);
+  fill_encoded(&tables, 1000001);
+  fill_encoded(&tables, 16777216);
   bidi_tables_free(&tables);
   return 0;
 }
