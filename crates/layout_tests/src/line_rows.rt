@@ -3,8 +3,9 @@ ghost use Rattle.lines.specs.Scratches.{IsFilled};
 ghost use Rattle.std.specs.Prelude.{OnOk};
 
 use crate::given::{levels, numbers, shows, unit, units_of};
+use lines::alone::SpanFault;
 use lines::breaks::{BreakFault, Breaks};
-use lines::lay_out::{TooLong, break_anew_into, lay_out_into};
+use lines::lay_out::{TooLong, break_anew_into, lay_out_into, line_alone_into};
 use lines::layout::Layout;
 use lines::scratch::{RoomFault, Scratch};
 use std::alloc::Global;
@@ -103,6 +104,44 @@ fn breaks_anew(rt: &impl Abort, room: &mut Scratch) -> Result<(), Fail> {
 fn breaks_a_text_anew(rt: HostRuntime) -> Result<(), Fail> {
     let mut room = Scratch::with_room(rt.alloc(), 3)?;
     breaks_anew(&rt, &mut room)
+}
+
+/// Of such a text, laid out on one line, lays out the first letter and the blank as a line alone; what the room holds
+/// stays.
+fn lays_out_alone(rt: &impl Abort, room: &mut Scratch) -> Result<(), Fail> {
+    let text = [unit(Class::R), unit(Class::WS), unit(Class::R)];
+    let whole = Breaks::new(&[], text.len())?;
+    lay_out_into(room, &text, Direction::Ltr, &whole)?;
+    let mut levels = [None; 2];
+    let mut order = [7; 2];
+    let shown = line_alone_into(room, &text, 0, 2, &mut levels, &mut order);
+    assert_eq!(rt; shown, Ok(2));
+    assert_eq!(rt; levels, [Level::new(1), Level::new(0)]);
+    assert_eq!(rt; order, [0, 1]);
+    let held = [Level::new(1), Level::new(1), Level::new(1)];
+    line_shows(rt, &room.layout(), 0, &held, &[2, 1, 0]);
+    Ok(())
+}
+
+/// Refuses a line that ends behind such a text, and leaves the lists as they are.
+fn refuses_alone(rt: &impl Abort, room: &mut Scratch) -> Result<(), Fail> {
+    let text = [unit(Class::R), unit(Class::WS), unit(Class::R)];
+    let whole = Breaks::new(&[], text.len())?;
+    lay_out_into(room, &text, Direction::Ltr, &whole)?;
+    let mut levels = [None; 2];
+    let mut order = [7; 2];
+    let shown = line_alone_into(room, &text, 2, 4, &mut levels, &mut order);
+    assert_eq!(rt; shown, Err(SpanFault::BeyondText));
+    assert_eq!(rt; levels, [None; 2]);
+    assert_eq!(rt; order, [7; 2]);
+    Ok(())
+}
+
+#[test]
+fn lays_out_one_line_alone(rt: HostRuntime) -> Result<(), Fail> {
+    let mut room = Scratch::with_room(rt.alloc(), 3)?;
+    lays_out_alone(&rt, &mut room)?;
+    refuses_alone(&rt, &mut room)
 }
 
 /// In a room for two units refuses a text of three, and then lays out one of two.
