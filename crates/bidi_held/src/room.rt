@@ -82,7 +82,7 @@ fn fill_units(units: &mut [Unit], tables: &Tables, codes: &[u32])
     for i in 0..codes.len() {
         // SAFETY: it is a scalar value.
         let c = unsafe { char::from_u32_unchecked(codes[i]) };
-        units[i] = lent.unit(c);
+        lent.write_unit(c, &mut units[i]);
     }
 }
 
