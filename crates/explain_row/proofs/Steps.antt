@@ -5,7 +5,7 @@ use Rattle.std.proofs.lemmas.List.{take_all, take-append-drop}
 use Rattle.units.specs.LineCutting.{Cutting, StandsFor}
 use Rattle.units.specs.LineAnswers.{AnswersPiece, Finishes}
 use Rattle.units.specs.Lines.{EndsByFeed, CutsInto, IsTooLongAfter, line_number, ended_lines, most_counted}
-use Rattle.units.specs.Text.{has_bytes, lines_of}
+use Rattle.units.specs.Text.{has_bytes, lines_of, settled_lines}
 use Rattle.units.specs.declared.line_cut.Cut.{Cut}
 use Rattle.units.specs.declared.line_cut.Cut.TheVariants.{More, Line, TooLong}
 use Rattle.units.proofs.FirstItem.{some_bytes}
@@ -13,20 +13,23 @@ use Rattle.units.proofs.LineAppending.{ended_lines-CutsInto}
 use Rattle.units.proofs.LineReading.{never_both}
 use Rattle.units.proofs.LineRunning.{lines-before}
 use Rattle.ucdfiles.proofs.LinesWith.{lines_with-more, lines_with-long, lines_of-ended, lines_of-begun}
+use Rattle.ucdfiles.proofs.Settled.{settled-whole}
 use Rattle.bidtests.specs.declared.kind.Kind.{Kind}
 use Rattle.bidtests.specs.declared.kind.Kind.TheVariants.{Classes, Characters}
 use Rattle.bidtests.specs.declared.line_reader.Asked.{Asked}
 use Rattle.bidtests.specs.declared.verdict.Cause.{Cause}
 use Rattle.bidtests.specs.declared.verdict.Cause.TheVariants.{LineTooLong}
 use Rattle.bidtests.specs.Carried.{AreInForce}
+use Rattle.bidtests.specs.FileKinds.{findings_by}
 use Rattle.bidtests.specs.LineReadings.{finding_behind, levels_in, order_in, HasNoList}
 use Rattle.bidtests.proofs.CutterSteps.{nothing, same_count}
+use Rattle.report.specs.FileReports.{first_malformed}
 use Rattle.report.proofs.LineSteps.{is-faulty, lists-after, over-long}
 use Rattle.explain_row.specs.declared.row_fault.RowFault.{RowFault}
 use Rattle.explain_row.specs.declared.row_fault.RowFault.TheVariants.{Malformed, NoRow}
 use Rattle.explain_row.specs.declared.row_fault.SearchFault.{SearchFault}
 use Rattle.explain_row.specs.declared.row_fault.SearchFault.TheVariants.{OfRow}
-use Rattle.explain_row.specs.SoughtRows.{RowView, Finds, IsSettled, IsSought, row_in_lines, sought_row}
+use Rattle.explain_row.specs.SoughtRows.{RowView, Finds, IsSettled, IsSought, IsUnsettled, row_in_lines, sought_row}
 use Rattle.explain_row.specs.Searching.{RowReading, SaysOfRow, SaysOfCut, Searching, SearchesOn, ComesTo, EndsLast, EndsWith, StepsTo, row_in, row_or_fault}
 use Rattle.explain_row.proofs.RowLines.{sound-more, malformed-there, no-row-there, row-there, beyond}
 
@@ -218,6 +221,16 @@ search-start Classes sought s stands none some =
     record { cutter = stands; lines = []; rest = []; cut = nothing; before = some; sound = refl; lists = (none.levels, none.order) }
 search-start (Characters tables) sought s stands none some =
     record { cutter = stands; lines = []; rest = []; cut = nothing; before = some; sound = refl; lists = tt }
+
+-- while a search goes on, its bytes settle nothing of the line that is sought
+pub on-unsettled : (kind : Kind) (sought : ℕ) (s : Searching) (bytes : List ℕ) → SearchesOn kind sought s bytes → IsUnsettled kind sought bytes
+on-unsettled kind sought s bytes o =
+    let lines : settled_lines bytes ≡ o.lines = settled-whole bytes o.lines o.rest o.cut in
+    let count : length (settled_lines bytes) ≡ length o.lines = ap length lines in
+    record {
+      sound = ap (λ ls. first_malformed 0 (findings_by kind ls)) lines ∙ o.sound;
+      before = omega (arith, count, o.before);
+    }
 
 module _ (HasFailed HasEnded : Type 0) (kind : Kind) (sought : ℕ) (bytes : List ℕ) (s : RowReading) where
   -- what bytes settle is so of each file that begins with them

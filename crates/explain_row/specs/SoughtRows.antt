@@ -1,7 +1,7 @@
 -- The row of a test file that stands at a line's number.
-use Rattle.std.specs.Prelude.{Option, Some, None, Result, Ok, Err, ◌≡◌, ℕ, ◌+◌, ◌-◌, List, [], ◌∷◌, ◌++◌, take, slice_index_or}
+use Rattle.std.specs.Prelude.{Option, Some, None, Result, Ok, Err, ◌≡◌, ◌<◌, ℕ, ◌+◌, ◌-◌, List, [], ◌∷◌, ◌++◌, length, take, slice_index_or}
 use Rattle.std.specs.List.{slice_get}
-use Rattle.units.specs.Text.{lines_of, content_of, fields_of, items_of, each_read}
+use Rattle.units.specs.Text.{lines_of, settled_lines, content_of, fields_of, items_of, each_read}
 use Rattle.ucdfiles.specs.PairFiles.{char_of}
 use Rattle.bidtests.specs.declared.kind.Kind.{Kind}
 use Rattle.bidtests.specs.declared.kind.Kind.TheVariants.{Classes, Characters}
@@ -64,10 +64,15 @@ abbrev pub IsSought : Type 0 → Kind → ℕ → List ℕ → Result RowView Ro
 IsSought HasEnded kind number bytes found =
     (more : List ℕ) → (HasEnded → more ≡ []) → sought_row kind number (bytes ++ more) ≡ found
 
--- what a search found in a file of which these bytes were read: the row, or why there is none; or a read has failed, or
--- memory was refused
+-- these bytes settle nothing of the line of this number: no line that they settle is malformed, and none has this number
+pub record IsUnsettled (kind : Kind) (number : ℕ) (bytes : List ℕ) : Type 0 where
+  pub sound : first_malformed 0 (findings_by kind (settled_lines bytes)) ≡ None
+  pub before : length (settled_lines bytes) < number
+
+-- what a search found in a file of which these bytes were read: the row, or why there is none; or a read has failed
+-- before that was settled, or memory was refused
 abbrev pub Finds : Type 0 → Type 0 → Kind → ℕ → List ℕ → Result RowView SearchFault → Type 0
 Finds HasFailed HasEnded kind number bytes (Ok row) = IsSought HasEnded kind number bytes (Ok row)
 Finds HasFailed HasEnded kind number bytes (Err (OfRow fault)) = IsSought HasEnded kind number bytes (Err fault)
-Finds HasFailed HasEnded kind number bytes (Err Read) = HasFailed
+Finds HasFailed HasEnded kind number bytes (Err Read) = HasFailed × IsUnsettled kind number bytes
 Finds HasFailed HasEnded kind number bytes (Err Memory) = Unit {0}

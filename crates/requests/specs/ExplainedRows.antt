@@ -2,15 +2,16 @@
 use Rattle.std.specs.Prelude.{◌≡◌, ℕ, List, Option, Result, Ok, Err}
 use Rattle.std.specs.Borrow.{Bor}
 use Rattle.std.specs.Io.KnownBytes.{Appends}
+use Rattle.units.specs.declared.unread.Unread.{Unread}
 use Rattle.bidtests.specs.declared.kind.Kind.{Kind}
 use Rattle.explain_row.specs.RowTexts.{row_text}
-use Rattle.explain_row.specs.SoughtRows.{IsSought, RowView}
+use Rattle.explain_row.specs.SoughtRows.{IsSought, IsUnsettled, RowView}
 use Rattle.explain_row.specs.declared.row_fault.RowFault.{RowFault}
 use Rattle.explain_row.specs.declared.row_fault.RowFault.TheVariants.{Malformed, NoRow}
 use Rattle.requests.specs.FileRows.{HasRows}
 use Rattle.requests.specs.ReadFiles.{FileFacts, most_file_bytes, origin_of}
 use Rattle.requests.specs.declared.fault.Fault.{Fault}
-use Rattle.requests.specs.declared.fault.Fault.TheVariants.{LineIsNoRow, MalformedLine}
+use Rattle.requests.specs.declared.fault.Fault.TheVariants.{CannotRead, LineIsNoRow, MalformedLine, OutOfMemory}
 use Rattle.requests.specs.declared.request.SoughtRow.{SoughtRow}
 
 -- what FILE names, as a file of such rows, has this at the line of this number: it begins with bytes by which each file
@@ -25,13 +26,22 @@ abbrev pub row_fault : Bor (List ℕ) → ℕ → RowFault → Fault
 row_fault file number (Malformed line cause) = MalformedLine file line cause
 row_fault file number NoRow = LineIsNoRow file number
 
--- when a fault says that there is none: the line is no row, or it or one before it is malformed, the first that is
-abbrev pub SaysNoRow : FileFacts → Kind → ℕ → List ℕ → Fault → Type 0
-SaysNoRow files rows number file (LineIsNoRow named line) =
+-- a read of what FILE names fails behind bytes that settle nothing of the line of this number, for this reason
+abbrev pub FailsUnsettled : FileFacts → Kind → ℕ → List ℕ → Unread → Type 0
+FailsUnsettled files rows number file unread =
+    (bytes : List ℕ) × files.Fails (origin_of file) most_file_bytes bytes unread × IsUnsettled rows number bytes
+
+-- when a fault ends the search for that row in a file that was opened: a read fails before it is known what stands there;
+-- the line is no row, or it or one before it is malformed, the first that is; or memory was refused
+abbrev pub FindsNoRow : FileFacts → Kind → ℕ → List ℕ → Fault → Type 0
+FindsNoRow files rows number file (CannotRead named unread) =
+    (named.now ≡ file) × FailsUnsettled files rows number file unread
+FindsNoRow files rows number file (LineIsNoRow named line) =
     (named.now ≡ file) × (line ≡ number) × HasAtLine files rows number file (Err NoRow)
-SaysNoRow files rows number file (MalformedLine named line cause) =
+FindsNoRow files rows number file (MalformedLine named line cause) =
     (named.now ≡ file) × HasAtLine files rows number file (Err (Malformed line cause))
-SaysNoRow files rows number file _ = ⊥
+FindsNoRow files rows number file OutOfMemory = Unit {0}
+FindsNoRow files rows number file _ = ⊥
 
 -- the row that is sought was found, by the tables of the folder where they are needed, and what known bytes grew by is
 -- what is printed of it

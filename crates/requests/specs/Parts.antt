@@ -30,7 +30,7 @@ use Rattle.requests.specs.declared.request.SoughtRow.{SoughtRow}
 use Rattle.requests.specs.declared.request.Request.TheVariants.{Text, ExplainClasses, ExplainCodes, ExplainRow, Judge, Report, Rows, RowsOf}
 use Rattle.requests.specs.declared.fault.Fault.{Fault}
 use Rattle.requests.specs.declared.fault.Fault.TheVariants.{TablesNeeded, ClassesTooLong, CodesTooLong, CannotRead, NotUtf8, LongLine, CannotWrite, OutOfMemory}
-use Rattle.requests.specs.ExplainedRows.{HasAtLine, SaysNoRow}
+use Rattle.requests.specs.ExplainedRows.{FindsNoRow, HasAtLine}
 use Rattle.requests.specs.FaultText.{EndsOpening}
 use Rattle.requests.specs.FileRows.{HasRows}
 use Rattle.requests.specs.Printed.{HoldsText, most_text_bytes}
@@ -67,10 +67,11 @@ EndsFile files most file (CannotRead said unread) = (said.now ≡ file)
 EndsFile files most file OutOfMemory = Unit {0}
 EndsFile files most file _ = ⊥
 
--- when a fault ends the search for the row at the line of this number, in what FILE names, as a file of such rows: the
--- reading ends, or there is none
+-- when a fault ends the search for the row at the line of this number, in what FILE names, as a file of such rows: that
+-- can't be opened, or the search in it ends so
 abbrev pub EndsSearch : FileFacts → Kind → ℕ → List ℕ → Fault → Type 0
-EndsSearch files rows number file fault = EndsFile files most_file_bytes file fault ⊎ SaysNoRow files rows number file fault
+EndsSearch files rows number file fault =
+    EndsOpening (files.Refuses (origin_of file) most_file_bytes) file fault ⊎ FindsNoRow files rows number file fault
 
 -- when a fault ends the reading of the characters of what FILE names: its bytes are not UTF-8, or memory was refused
 abbrev pub EndsText : FileFacts → List ℕ → Fault → Type 0
