@@ -3,6 +3,7 @@ pub mod FirstFaults
 pub mod LengthPieces
 pub mod MadeRows
 pub mod PrintedFails
+pub mod Refused
 pub mod TableEnds
 pub mod WordItems
 pub mod Reported

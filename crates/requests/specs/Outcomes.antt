@@ -1,5 +1,5 @@
 -- What a request comes to.
-use Rattle.std.specs.Prelude.{◌≡◌, ◌⊎◌, ℕ, List, Option, Some, Result, Ok, Err, true}
+use Rattle.std.specs.Prelude.{◌≡◌, ◌⊎◌, Bool, ℕ, List, Option, Some, Result, Ok, Err, false, true}
 use Rattle.printing.specs.declared.form.Form.TheVariants as form
 use Rattle.requests.specs.declared.request.FileKind.TheVariants.{Classes, Characters}
 use Rattle.requests.specs.declared.request.Print.TheVariants.{Levels, Reorder}
@@ -18,7 +18,7 @@ use Rattle.requests.specs.PrintedLines.{HasPrintedLines}
 use Rattle.requests.specs.PrintedRows.{HasPrintedRows}
 use Rattle.requests.specs.ReadFiles.{FileFacts}
 use Rattle.requests.specs.ReportedFiles.{HasReported, HasBrokenOff}
-use Rattle.requests.specs.Parts.{FailsIn, parts_of}
+use Rattle.requests.specs.Parts.{FailsIn, MemoryLeaves, parts_of}
 
 -- the exit status: that of the verdict, and 0 after a text or rows
 abbrev pub outcome_status : Outcome → ℕ
@@ -58,10 +58,22 @@ BreaksOff files before after _ fault = ⊥
 abbrev pub Fails : FileFacts → Option (List ℕ) → Option (List ℕ) → Request → Fault → Type 0
 Fails files before after request fault = FailsIn (parts_of files request) before after fault ⊎ BreaksOff files before after request fault
 
+-- all memory is taken before the first write where a file is judged or reported on, or rows are printed
+abbrev pub takes_memory_first : Request → Bool
+takes_memory_first (Judge kind tables file) = true
+takes_memory_first (Report kind tables file options) = true
+takes_memory_first (Rows asked) = true
+takes_memory_first (RowsOf asked) = true
+takes_memory_first _ = false
+
+-- what refused memory leaves of what was written before such a request
+abbrev pub RefusalLeaves : Option (List ℕ) → Option (List ℕ) → Request → Fault → Type 0
+RefusalLeaves before after request fault = takes_memory_first request ≡ true → MemoryLeaves before after fault
+
 -- a request comes to what it asks for, or fails
 abbrev pub ComesTo : FileFacts → Option (List ℕ) → Option (List ℕ) → Request → Result Outcome Fault → Type 0
 ComesTo files before after request (Ok outcome) = IsDone files before after request outcome
-ComesTo files before after request (Err fault) = Fails files before after request fault
+ComesTo files before after request (Err fault) = Fails files before after request fault × RefusalLeaves before after request fault
 
 -- a run ends without a fault: with this status, and known bytes are what they were
 pub record EndsWell (status : ℕ) (before after : Option (List ℕ)) (ended : Ended) : Type 0 where

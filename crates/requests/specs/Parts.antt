@@ -162,6 +162,11 @@ EndsWriting CannotWrite = Unit {0}
 EndsWriting OutOfMemory = Unit {0}
 EndsWriting _ = ⊥
 
+-- what refused memory leaves of what was written before, where all memory is taken before the first write: all of it and
+-- no more
+abbrev pub MemoryLeaves : Option (List ℕ) → Option (List ℕ) → Fault → Type 0
+MemoryLeaves before after fault = fault ≡ OutOfMemory → after ≡ before
+
 -- the fault is that of the first part of reading that fails, and nothing is written; or all is read, and a write or
 -- memory failed
 abbrev pub FailsIn : List RequestPart → Option (List ℕ) → Option (List ℕ) → Fault → Type 0

@@ -7,7 +7,7 @@ ghost use Rattle.requests.specs.DirectionWords.{SaysDirections};
 ghost use Rattle.requests.specs.declared.request.RowsForm.TheVariants as form_of;
 ghost use Rattle.requests.specs.PrintedRows.{HasPrintedRows, HasPrintedTexts, chars_asked, letters_asked};
 ghost use Rattle.requests.specs.RowWords.{lengths_named};
-ghost use Rattle.requests.specs.Parts.{FailsIn, IsFirstFault, alphabet_parts, making_part, rows_parts};
+ghost use Rattle.requests.specs.Parts.{FailsIn, IsFirstFault, MemoryLeaves, alphabet_parts, making_part, rows_parts};
 
 use crate::class_names::classes_of_names;
 use crate::code_points::chars_of_items;
@@ -42,6 +42,7 @@ fn print_all<'a, W: Write>(
         (record { alphabet = letters.now; least = lengths.least; greatest = lengths.greatest }) (W.contents out.old) (W.contents out.new)) }
     ensures fault { IfErr result (FailsIn (making_part form_of.Exhaustive
         (record { alphabet = letters.now; least = lengths.least; greatest = lengths.greatest }) ∷ []) (W.contents out.old) (W.contents out.new)) }
+    ensures memory { IfErr result (MemoryLeaves (W.contents out.old) (W.contents out.new)) }
 {
     let texts = match Exhaustive::new(letters, lengths.least, lengths.greatest) {
         Ok(texts) => texts,
@@ -67,6 +68,7 @@ fn print_drawn<'a, W: Write>(
         (record { alphabet = letters.now; least = lengths.least; greatest = lengths.greatest }) (W.contents out.old) (W.contents out.new)) }
     ensures fault { IfErr result (FailsIn (making_part (form_of.Random seed count)
         (record { alphabet = letters.now; least = lengths.least; greatest = lengths.greatest }) ∷ []) (W.contents out.old) (W.contents out.new)) }
+    ensures memory { IfErr result (MemoryLeaves (W.contents out.old) (W.contents out.new)) }
 {
     let texts = match Random::new(
         letters,
@@ -97,6 +99,7 @@ fn print_form<'a, W: Write>(
         (record { alphabet = letters.now; least = lengths.least; greatest = lengths.greatest }) (W.contents out.old) (W.contents out.new)) }
     ensures fault { IfErr result (FailsIn (making_part form
         (record { alphabet = letters.now; least = lengths.least; greatest = lengths.greatest }) ∷ []) (W.contents out.old) (W.contents out.new)) }
+    ensures memory { IfErr result (MemoryLeaves (W.contents out.old) (W.contents out.new)) }
 {
     match form {
         RowsForm::Exhaustive => print_all(alloc, kind, letters, lengths, directions, out),
@@ -140,6 +143,7 @@ fn print_of_characters<'a, F: Files, W: Write>(
         (HasPrintedRows (F.facts files.now) asked.entry (W.contents out.old) (W.contents out.new)) }
     ensures fault { IfErr result
         (FailsIn (rows_parts (F.facts files.now) asked.entry) (W.contents out.old) (W.contents out.new)) }
+    ensures memory { IfErr result (MemoryLeaves (W.contents out.old) (W.contents out.new)) }
 {
     let tables = tables_by(alloc, files, asked.tables)?;
     let letters = character_letters(alloc, &tables, characters)?;
@@ -170,6 +174,7 @@ fn print_rows_of_characters<'a, F: Files, W: Write>(
         (HasPrintedRows (F.facts files.now) asked.entry (W.contents out.old) (W.contents out.new)) }
     ensures fault { IfErr result
         (FailsIn (rows_parts (F.facts files.now) asked.entry) (W.contents out.old) (W.contents out.new)) }
+    ensures memory { IfErr result (MemoryLeaves (W.contents out.old) (W.contents out.new)) }
 {
     match asked.letters {
         RowLetters::Alphabet(codes) => {
@@ -203,6 +208,7 @@ pub fn print_rows<'a, F: Files, W: Write>(
         (HasPrintedRows (F.facts files.now) asked.entry (W.contents out.old) (W.contents out.new)) }
     ensures fault { IfErr result
         (FailsIn (rows_parts (F.facts files.now) asked.entry) (W.contents out.old) (W.contents out.new)) }
+    ensures memory { IfErr result (MemoryLeaves (W.contents out.old) (W.contents out.new)) }
 {
     let lengths = lengths_in(asked.lengths)?;
     let directions = directions_in(alloc, asked.directions)?;

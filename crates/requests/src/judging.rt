@@ -4,7 +4,7 @@ ghost use Rattle.bidtests.specs.Standing.{IsVerdictBehind};
 ghost use Rattle.requests.specs.JudgedFiles.{HasJudged, HasJudgedBy, IsClassesVerdict, verdict_status};
 ghost use Rattle.requests.specs.Outcomes.{IsDone};
 ghost use Rattle.requests.specs.ReadFiles.{most_file_bytes, origin_of};
-ghost use Rattle.requests.specs.Parts.{EndsFile, FailsIn, characters_parts, file_part, parts_of};
+ghost use Rattle.requests.specs.Parts.{EndsFile, FailsIn, MemoryLeaves, characters_parts, file_part, parts_of};
 ghost use Rattle.requests.specs.declared.request.Request.TheVariants.{Judge as JudgeOf};
 
 use crate::fault::Fault;
@@ -64,6 +64,7 @@ fn judge_file_by<'a, F: Files, W: Write>(
         (IsVerdictBehind judge.entry) file.now (W.contents out.old) (W.contents out.new)) }
     ensures fault { IfErr result (FailsIn (file_part (F.facts files.now) most_file_bytes file.now ∷ [])
         (W.contents out.old) (W.contents out.new)) }
+    ensures memory { IfErr result (MemoryLeaves (W.contents out.old) (W.contents out.new)) }
 {
     let verdict = verdict_on(alloc, judge, file, files)?;
     print_verdict(out, &verdict)?;
@@ -81,6 +82,7 @@ fn judge_file_of_classes<'a, F: Files, W: Write>(
         IsClassesVerdict file.now (W.contents out.old) (W.contents out.new)) }
     ensures fault { IfErr result (FailsIn (file_part (F.facts files.now) most_file_bytes file.now ∷ [])
         (W.contents out.old) (W.contents out.new)) }
+    ensures memory { IfErr result (MemoryLeaves (W.contents out.old) (W.contents out.new)) }
 {
     let judge = Judge::for_classes(alloc)?;
     judge_file_by(alloc, judge, file, files, out)
@@ -99,6 +101,7 @@ fn judge_file_of_characters<'a, F: Files, W: Write>(
         file.now (W.contents out.old) (W.contents out.new)) }
     ensures fault { IfErr result (FailsIn (characters_parts (F.facts files.now) folder.now file.now)
         (W.contents out.old) (W.contents out.new)) }
+    ensures memory { IfErr result (MemoryLeaves (W.contents out.old) (W.contents out.new)) }
 {
     let tables = read_tables(alloc, files, folder)?;
     let judge = Judge::for_characters(alloc, &tables)?;
@@ -118,6 +121,7 @@ pub fn judge_file<'a, F: Files, W: Write>(
         (W.contents out.old) (W.contents out.new) (JudgeOf kind tables.entry file.entry)) }
     ensures fault { IfErr result (FailsIn (parts_of (F.facts files.now) (JudgeOf kind tables.entry file.entry))
         (W.contents out.old) (W.contents out.new)) }
+    ensures memory { IfErr result (MemoryLeaves (W.contents out.old) (W.contents out.new)) }
 {
     let status = match (kind, tables) {
         (FileKind::Classes, _) => judge_file_of_classes(alloc, file, files, out)?,

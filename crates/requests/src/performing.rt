@@ -2,7 +2,7 @@
 ghost use Rattle.std.specs.Prelude.{◌≡◌, ◌≤◌, Some, length, IfOk, IfErr, OnOk};
 ghost use Rattle.units.specs.Layout.{longest_text};
 ghost use Rattle.requests.specs.CodeWords.{codes_said};
-ghost use Rattle.requests.specs.Outcomes.{Fails, IsDone};
+ghost use Rattle.requests.specs.Outcomes.{Fails, IsDone, RefusalLeaves};
 ghost use Rattle.requests.specs.Printed.{HasExplained, HasExplainedCodes, HasPrinted, HoldsText, most_text_bytes};
 ghost use Rattle.requests.specs.Printed.{printed_text};
 ghost use Rattle.requests.specs.Parts.{FailsIn, IsFirstFault, classes_parts, explaining_parts, whole_parts};
@@ -165,6 +165,7 @@ pub fn perform<'a, F: Files, W: Write>(
         (W.contents out.old) (W.contents out.new) request.entry) }
     ensures fault { IfErr result (Fails (F.facts files.now)
         (W.contents out.old) (W.contents out.new) request.entry) }
+    ensures memory { IfErr result (RefusalLeaves (W.contents out.old) (W.contents out.new) request.entry) }
 {
     match request {
         Request::Text {

@@ -2,6 +2,7 @@
 ghost use Rattle.std.specs.Prelude.{◌≡◌, Some, IfOk, IfErr};
 ghost use Rattle.bidtests.specs.declared.kind.Kind.TheVariants as rows_of;
 ghost use Rattle.requests.specs.Outcomes.{Fails, IsDone};
+ghost use Rattle.requests.specs.Parts.{MemoryLeaves};
 ghost use Rattle.requests.specs.ReportedFiles.{FailsAs, HasReported, HasReportedAs, report_status};
 ghost use Rattle.requests.specs.declared.request.Request.TheVariants.{Report as ReportOf};
 
@@ -40,6 +41,7 @@ fn report_as<'a, F: Files, W: Write>(
         rows.entry file.now options (W.contents out.old) (W.contents out.new)) }
     ensures fault { IfErr result (FailsAs (F.facts files.now)
         rows.entry file.now options (W.contents out.old) (W.contents out.new)) }
+    ensures memory { IfErr result (MemoryLeaves (W.contents out.old) (W.contents out.new)) }
 {
     let terms = Terms {
         limits: Limits::standard(),
@@ -71,6 +73,7 @@ fn report_on_characters<'a, F: Files, W: Write>(
         file.now options (W.contents out.old) (W.contents out.new)) }
     ensures fault { IfErr result (Fails (F.facts files.now) (W.contents out.old) (W.contents out.new)
         (ReportOf FileKind.Characters (Some folder.entry) file.entry options)) }
+    ensures memory { IfErr result (MemoryLeaves (W.contents out.old) (W.contents out.new)) }
 {
     let tables = read_tables(alloc, files, folder)?;
     report_as(alloc, Kind::Characters(&tables), file, options, files, out)
@@ -90,6 +93,7 @@ pub fn report_file<'a, F: Files, W: Write>(
         (W.contents out.old) (W.contents out.new) (ReportOf kind tables.entry file.entry options)) }
     ensures fault { IfErr result (Fails (F.facts files.now)
         (W.contents out.old) (W.contents out.new) (ReportOf kind tables.entry file.entry options)) }
+    ensures memory { IfErr result (MemoryLeaves (W.contents out.old) (W.contents out.new)) }
 {
     let status = match (kind, tables) {
         (FileKind::Classes, _) => report_as(alloc, Kind::Classes, file, options, files, out)?,

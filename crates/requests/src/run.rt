@@ -1,7 +1,7 @@
 // A request done to its end.
 ghost use Rattle.std.specs.Prelude.{◌≡◌, ◌≤◌, IfOk, IfErr};
 ghost use Rattle.std.specs.Io.KnownBytes.{Keeps};
-ghost use Rattle.requests.specs.Outcomes.{Fails, HasEnded, IsDone};
+ghost use Rattle.requests.specs.Outcomes.{Fails, HasEnded, IsDone, RefusalLeaves};
 
 use crate::fault::Fault;
 use crate::files::Files;
@@ -33,6 +33,7 @@ fn perform_and_flush<'a, F: Files, W: Write>(
         (W.contents out.old) (W.contents out.new) request.entry) }
     ensures fault { IfErr result (Fails (F.facts files.now)
         (W.contents out.old) (W.contents out.new) request.entry) }
+    ensures memory { IfErr result (RefusalLeaves (W.contents out.old) (W.contents out.new) request.entry) }
 {
     let outcome = perform(alloc, request, files, out)?;
     flush(out)?;

@@ -4,7 +4,7 @@ ghost use Rattle.rows.specs.TextLines.{first_long_line};
 ghost use Rattle.requests.specs.Printed.{HoldsText};
 ghost use Rattle.requests.specs.PrintedLines.{HasPrintedLines, naming_in};
 ghost use Rattle.requests.specs.DirectionWords.{SaysDirections};
-ghost use Rattle.requests.specs.Parts.{FailsIn, IsFirstFault, lines_parts, row_text_parts};
+ghost use Rattle.requests.specs.Parts.{FailsIn, IsFirstFault, MemoryLeaves, lines_parts, row_text_parts};
 ghost use Rattle.requests.specs.TableSources.{AreTablesBy};
 
 use crate::directions::directions_in;
@@ -64,6 +64,7 @@ fn print_rows_by<'a, F: Files, W: Write>(
         (HasPrintedLines (F.facts files.now) asked.entry (W.contents out.old) (W.contents out.new)) }
     ensures fault { IfErr result
         (FailsIn (lines_parts (F.facts files.now) asked.entry) (W.contents out.old) (W.contents out.new)) }
+    ensures memory { IfErr result (MemoryLeaves (W.contents out.old) (W.contents out.new)) }
 {
     let text = row_text_in_file(alloc, asked.file, files)?;
     let naming = naming_in(asked.kind, tables);
@@ -84,6 +85,7 @@ pub fn print_text_rows<'a, F: Files, W: Write>(
         (HasPrintedLines (F.facts files.now) asked.entry (W.contents out.old) (W.contents out.new)) }
     ensures fault { IfErr result
         (FailsIn (lines_parts (F.facts files.now) asked.entry) (W.contents out.old) (W.contents out.new)) }
+    ensures memory { IfErr result (MemoryLeaves (W.contents out.old) (W.contents out.new)) }
 {
     let directions = directions_in(alloc, asked.directions)?;
     let tables = tables_by(alloc, files, asked.tables)?;

@@ -1,4 +1,7 @@
+use Rattle.std.proofs.Common.{ap}
+use Rattle.requests.proofs.Refused.{leaves_all, leaves_on, leaves_open}
 use Rattle.requests.proofs.Reported.{failed_on, handed_fail, steps_fail}
+use Rattle.requests.specs.Outcomes.{takes_memory_first}
 use Rattle.requests.specs.declared.request.Request.TheVariants as requested
 use Rattle.requests.proofs.performing.perform.Goals as goal
 
@@ -30,3 +33,27 @@ returns-in_err-print_text_rows-in-RowsOf-clause-fault g c =
     rw c.in-RowsOf.is (handed_fail (g.F.Files.facts c.args.files.now) (g.W.Write.contents c.args.out.now) (g.W.Write.contents c.print_text_rows.new.out)
     (requested.RowsOf c.in-RowsOf.asked) _ _
     c.from_residual-in_err-print_text_rows-in-RowsOf.ensures.1 c.in_err-print_text_rows-in-RowsOf.ensures.fault)
+
+pub returns-in_err-print_file-in-Text-clause-memory : goal.returns-in_err-print_file-in-Text-clause-memory
+returns-in_err-print_file-in-Text-clause-memory g c = leaves_open _ _ _ (ap takes_memory_first c.in-Text.is) _
+
+pub returns-in_err-explain_classes-in-ExplainClasses-clause-memory : goal.returns-in_err-explain_classes-in-ExplainClasses-clause-memory
+returns-in_err-explain_classes-in-ExplainClasses-clause-memory g c = leaves_open _ _ _ (ap takes_memory_first c.in-ExplainClasses.is) _
+
+pub returns-in_err-explain_codes-in-ExplainCodes-clause-memory : goal.returns-in_err-explain_codes-in-ExplainCodes-clause-memory
+returns-in_err-explain_codes-in-ExplainCodes-clause-memory g c = leaves_open _ _ _ (ap takes_memory_first c.in-ExplainCodes.is) _
+
+pub returns-in_err-explain_row-in-ExplainRow-clause-memory : goal.returns-in_err-explain_row-in-ExplainRow-clause-memory
+returns-in_err-explain_row-in-ExplainRow-clause-memory g c = leaves_open _ _ _ (ap takes_memory_first c.in-ExplainRow.is) _
+
+pub returns-in-Judge-clause-memory : goal.returns-in-Judge-clause-memory
+returns-in-Judge-clause-memory g c = leaves_all _ _ _ _ c.judge_file.ensures.memory
+
+pub returns-in-Report-clause-memory : goal.returns-in-Report-clause-memory
+returns-in-Report-clause-memory g c = leaves_all _ _ _ _ c.report_file.ensures.memory
+
+pub returns-in_err-print_rows-in-Rows-clause-memory : goal.returns-in_err-print_rows-in-Rows-clause-memory
+returns-in_err-print_rows-in-Rows-clause-memory g c = leaves_on _ _ _ _ _ c.from_residual-in_err-print_rows-in-Rows.ensures.1 c.in_err-print_rows-in-Rows.ensures.memory
+
+pub returns-in_err-print_text_rows-in-RowsOf-clause-memory : goal.returns-in_err-print_text_rows-in-RowsOf-clause-memory
+returns-in_err-print_text_rows-in-RowsOf-clause-memory g c = leaves_on _ _ _ _ _ c.from_residual-in_err-print_text_rows-in-RowsOf.ensures.1 c.in_err-print_text_rows-in-RowsOf.ensures.memory

@@ -5,6 +5,7 @@ use Rattle.requests.specs.declared.fault.Fault.{Fault}
 use Rattle.requests.specs.declared.fault.Fault.TheVariants.{CannotWrite}
 use Rattle.requests.specs.declared.outcome.Outcome.{Outcome}
 use Rattle.requests.proofs.FirstFaults.{printing_fails, request_done}
+use Rattle.requests.proofs.Refused.{leaves_written}
 use Rattle.requests.proofs.Reported.{steps_fail}
 use Rattle.requests.proofs.run.perform_and_flush.Goals as goal
 
@@ -18,3 +19,6 @@ pub returns-in_err-flush-clause-fault : goal.returns-in_err-flush-clause-fault
 returns-in_err-flush-clause-fault g c =
     steps_fail _ _ _ _ _ (printing_fails _ _ _ _ Write (request_done _ _ _ _ _ c.in_ok-outcome.ensures.done)
     (handed_on _ _ c.from_residual-in_err-flush.ensures.1 c.in_err-flush.ensures.fault))
+
+pub returns-in_err-flush-clause-memory : goal.returns-in_err-flush-clause-memory
+returns-in_err-flush-clause-memory g c = leaves_written _ _ _ _ _ c.from_residual-in_err-flush.ensures.1 c.in_err-flush.ensures.fault

@@ -1,6 +1,7 @@
 use Rattle.std.proofs.Common.{inr}
 use Rattle.requests.proofs.FirstFaults.{first_behind, lines_done, printing_fails, source_done}
 use Rattle.requests.proofs.MadeRows.{first_fails}
+use Rattle.requests.proofs.Refused.{rows_leave}
 use Rattle.requests.specs.Parts.{lines_parts, row_text_parts, source_parts}
 use Rattle.requests.proofs.text_rows.print_rows_by.Goals as goal
 
@@ -21,3 +22,6 @@ returns-in_err-print_lines-clause-fault g c =
     let files = g.F.Files.facts c.args.files.now in
     let done = lines_done files c.args.asked _ c.requires.directions _ c.requires.tables _ c.in_ok-text.ensures.text c.in_ok-text.ensures.short in
     printing_fails (lines_parts files c.args.asked) _ _ _ _ done c.from_residual-in_err-print_lines.ensures.1
+
+pub returns-in_err-print_lines-clause-memory : goal.returns-in_err-print_lines-clause-memory
+returns-in_err-print_lines-clause-memory g c = rows_leave _ _ _ _ c.in_err-print_lines.ensures.fault c.from_residual-in_err-print_lines.ensures.1

@@ -1,0 +1,41 @@
+-- What refused memory leaves, handed on.
+use Rattle.std.proofs.Common.{◌≡◌, ℕ, List, Option, Result, Ok, Err, IfErr, IsErrAnd, true, false, sym, ◌∙◌}
+use Rattle.printing.specs.declared.fault.PrintFault.{PrintFault}
+use Rattle.printing.specs.declared.fault.PrintFault.TheVariants.{Write, Memory}
+use Rattle.rows.specs.Rooms.{FaultLeaves}
+use Rattle.requests.specs.FaultText.{print_fault}
+use Rattle.requests.specs.Outcomes.{RefusalLeaves, takes_memory_first}
+use Rattle.requests.specs.Parts.{MemoryLeaves}
+use Rattle.requests.specs.declared.fault.Fault.{Fault}
+use Rattle.requests.specs.declared.fault.Fault.TheVariants.{CannotWrite, OutOfMemory}
+use Rattle.requests.specs.declared.request.Request.{Request}
+
+module _ (before after : Option (List ℕ)) where
+  -- by the printing of rows
+  pub rows_leave : {T : Type 0} (r : Result T Fault) (f : PrintFault) → FaultLeaves before after f → IsErrAnd r (λ given. given ≡ print_fault f)
+      → IfErr r (MemoryLeaves before after)
+  rows_leave (Ok x) f h same = tt
+  rows_leave (Err given) Write h same = λ refused. absurd cc
+  rows_leave (Err given) Memory h same = λ refused. h
+
+  module _ (request : Request) where
+    -- by what a request does
+    pub leaves_all : {T : Type 0} (r : Result T Fault) → IfErr r (MemoryLeaves before after) → IfErr r (RefusalLeaves before after request)
+    leaves_all (Ok x) h = h
+    leaves_all (Err given) h = λ first. h
+
+    pub leaves_on : {T : Type 0} (r : Result T Fault) (e : Fault) → IsErrAnd r (λ given. given ≡ e) → MemoryLeaves before after e
+        → IfErr r (RefusalLeaves before after request)
+    leaves_on (Ok x) e same h = tt
+    leaves_on (Err given) e same h = λ first refused. h (sym same ∙ refused)
+
+    -- of a request that takes memory behind its first write nothing is said
+    pub leaves_open : takes_memory_first request ≡ false → {T : Type 0} (r : Result T Fault) → IfErr r (RefusalLeaves before after request)
+    leaves_open later (Ok x) = tt
+    leaves_open later (Err given) = λ first. absurd cc
+
+    -- nor of a write that failed
+    pub leaves_written : {T : Type 0} (r : Result T Fault) (e : Fault) → IsErrAnd r (λ given. given ≡ e) → e ≡ CannotWrite
+        → IfErr r (RefusalLeaves before after request)
+    leaves_written (Ok x) e same is = tt
+    leaves_written (Err given) e same is = λ first refused. absurd cc
