@@ -20,7 +20,7 @@ use Rattle.requests.specs.ReadFiles.{FileFacts}
 use Rattle.requests.specs.ReportedFiles.{HasReported, HasBrokenOff}
 use Rattle.requests.specs.Parts.{FailsIn, MemoryLeaves, parts_of}
 
--- the exit status: that of the verdict, and 0 after a text or rows
+-- the exit status: that of the verdict or the report, and 0 after a text or rows
 abbrev pub outcome_status : Outcome → ℕ
 outcome_status (Judged status) = status
 outcome_status Printed = 0

@@ -5,7 +5,7 @@ ghost use Rattle.requests.specs.Outcomes.{outcome_status};
 /// What a request that is done came to.
 #[derive(Clone, Copy, Debug, PartialEq, Eq)]
 pub enum Outcome {
-    /// A file was judged and its verdict printed, or reported on: the exit status of the verdict on it.
+    /// A file was judged and its verdict printed, or it was reported on: the exit status of the verdict or the report.
     Judged(u8),
     /// A text was printed, by its levels or as it is shown, or what each rule does to a text, to classes or to a row,
     /// or rows.
@@ -22,7 +22,7 @@ pub struct Ended {
 }
 
 impl Outcome {
-    /// The exit status: that of the verdict, and 0 after a text or rows.
+    /// The exit status: that of the verdict or the report, and 0 after a text or rows.
     pub fn status(self) -> u8
         ensures { result ≡ outcome_status self }
     {

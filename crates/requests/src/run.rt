@@ -41,11 +41,12 @@ fn perform_and_flush<'a, F: Files, W: Write>(
 }
 
 /// Does what is asked for, and answers how the run ends, with the exit status: 0 where a text was printed or explained,
-/// a row was, or rows were printed, and after a yes, 1 after a no, 2 where no tables are named though they are needed,
-/// a word for classes or for code points has an item that is none or is too long, words make no rows, or the line that
-/// is to be explained is no row, 3 where a file or standard input can't be read, a table, the text or a line up to the
-/// one that is to be explained is faulty, a write fails or memory is refused. After 2 and 3 a line that says so is
-/// written to `err`, and whether it took that is answered too; after 0 and 1 nothing is written to it.
+/// a row was, or rows were printed, and after a yes or a report that is right, 1 after a no, or a report that is not
+/// right, that was written, 2 where no tables are named though they are needed, a word for classes or for code points
+/// has an item that is none or is too long, words make no rows, or the line that is to be explained is no row, 3 where
+/// a file or standard input can't be read, a table, the text or a line up to the one that is to be explained is faulty,
+/// a write fails or memory is refused. After 2 and 3 a line that says so is written to `err`, and whether it took that
+/// is answered too; after 0 and 1 nothing is written to it.
 pub fn run_request<'a, F: Files, W: Write, E: Write>(
     alloc: Global,
     request: Request<'a>,
@@ -59,7 +60,7 @@ pub fn run_request<'a, F: Files, W: Write, E: Write>(
     ensures ended { HasEnded (F.facts files.now) (W.contents out.old) (W.contents out.new)
         (E.contents err.old) (E.contents err.new) request.entry result }
 
-    // A no is answered only where the request came to it.
+    // 1 is answered only where the request came to a no, or to a report that is not right, that was written.
     ensures no { result.status ≡ 1 → IsDone (F.facts files.now)
         (W.contents out.old) (W.contents out.new) request.entry (Outcome.Judged 1) }
     ensures silent { result.status ≤ 1 → E.contents err.new ≡ E.contents err.old }
