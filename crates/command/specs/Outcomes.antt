@@ -70,12 +70,12 @@ pub record HasRun (files : FileFacts) (before after err_before err_after : Optio
   pub is : IsReadAs words read
   pub ends : EndsAsRead files before after err_before err_after read ended
 
--- what the words were read as is a request, which came to a no
+-- what the words were read as is a request, which came to a no, or to a report that is not right
 abbrev pub RequestSaidNo : FileFacts → Option (List ℕ) → Option (List ℕ) → Result Request WordsFault → Type 0
 RequestSaidNo files before after read =
     (request : Request) × (read ≡ Ok request) × IsDone files before after request (Judged 1)
 
--- the words are read as a request, which came to a no
+-- the words are read as a request, which came to a no, or to a report that is not right
 abbrev pub HasSaidNo : FileFacts → Option (List ℕ) → Option (List ℕ) → List (List ℕ) → Type 0
 HasSaidNo files before after words =
     (request : Request) × IsRead words request × IsDone files before after request (Judged 1)

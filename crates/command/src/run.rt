@@ -112,11 +112,12 @@ fn run_as_read<F: Files, W: Write, E: Write>(
 }
 
 /// Does what the words of a command line ask for, the first word being the program's name, and answers how the run
-/// ends, with the exit status: 0 where a text was printed, a text or a row explained or rows printed, after a yes, help
-/// or the version, 1 after a no, 2 where the words are refused, name no tables though they are needed, name what is no
-/// class, no code point or no row or too much of it, or make no rows, 3 where a file or standard input can't be read, a
-/// table, the text or a line up to the row is faulty, a write fails or memory is refused. After 2 and 3 what says so is
-/// written to `err`, and whether it took that is answered too; after 0 and 1 nothing is written to it.
+/// ends, with the exit status: 0 where a text was printed, a text or a row explained or rows printed, after a yes, a
+/// report that is right, help or the version, 1 after a no, or a report that is not right, that was written, 2 where
+/// the words are refused, name no tables though they are needed, name what is no class, no code point or no row or too
+/// much of it, or make no rows, 3 where a file or standard input can't be read, a table, the text or a line up to the
+/// row is faulty, a write fails or memory is refused. After 2 and 3 what says so is written to `err`, and whether it
+/// took that is answered too; after 0 and 1 nothing is written to it.
 pub fn run<F: Files, W: Write, E: Write>(
     alloc: Global,
     words: &[&str],
@@ -130,8 +131,8 @@ pub fn run<F: Files, W: Write, E: Write>(
     ensures outcome { HasRun (F.facts files.now) (W.contents out.old) (W.contents out.new)
         (E.contents err.old) (E.contents err.new) (texts words.now) result }
 
-    // A no is answered only where the words ask for a judgement or a report, all bytes of the file have that verdict
-    // and what says it was written.
+    // 1 is answered only where the words ask for a judgement or a report, all bytes of the file come to a no, or to a
+    // report that is not right, and what says it was written.
     ensures no { result.status ≡ 1
         → HasSaidNo (F.facts files.now) (W.contents out.old) (W.contents out.new) (texts words.now) }
     ensures silent { result.status ≤ 1 → E.contents err.new ≡ E.contents err.old }
