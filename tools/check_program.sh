@@ -308,6 +308,54 @@ ends 3 '' 'bidi: cannot read t: a folder' report --kind classes t
 "$program" report --kind classes --most many faults.txt > found_out 2> found_err
 is 'status of a word that is no number of wrong cases' 2 $?
 
+# What an engine keeps of the positions that X9 removes, and a level that is wrong, by what is compared; and files that
+# rows and an explained row are to be of.
+printf '@Levels: 0 1 1\n@Reorder: 0 2 1\nRLE R PDF; 2\n@Levels: 1\n@Reorder: 0\nL; 2\n' > engine.txt
+# counted WRONG LEVELS ORDER: the counts of that file.
+counted() {
+    printf '2 rows, %s wrong; 2 cases, %s wrong\nwrong by direction: auto 0, ltr %s, rtl 0, auto-rtl 0\n' "$1" "$1" "$1"
+    printf 'wrong by place: paragraph level 0, levels %s, order %s' "$2" "$3"
+}
+last='line 6: ltr: levels at 0: claimed 1, defined 0'
+ends 1 $'line 3: ltr: levels at 0: claimed 0, defined x\n'"$last"$'\n'"$(counted 2 2 0)" '' \
+    report --kind classes engine.txt
+ends 1 "$last"$'\n'"$(counted 1 1 0)" '' report --kind classes --shown engine.txt
+ends 1 $'line 3: ltr: order at 0: claimed 0, defined 1\n'"$(counted 1 0 1)" '' report --kind classes --order engine.txt
+ends 0 "$(counted 0 0 0)" '' report --kind classes --order --shown engine.txt
+ends 3 '' 'bidi: cannot read missing.txt: no such file' rows --of missing.txt
+ends 3 '' 'bidi: cannot read t: a folder' explain --row 1 --kind classes t
+
+# Rows of the hard texts pass the limits: in some of those of nest a level is as deep as can be, and in some of those of
+# brackets more than 63 are open, by a walk of its own over each text.
+"$program" rows --form nest --count 20 --length 300..600 > rows.txt
+is 'a level of 124 in rows of nest' 0 "$(grep -q '^@Levels:.* 124' rows.txt; echo $?)"
+is 'a level of 126 in rows of nest' 0 "$(grep -q '^@Levels:.* 126' rows.txt; echo $?)"
+"$program" rows --form brackets --kind characters --count 20 --length 300..900 --directions auto > rows.txt
+passed=$(awk -F ';' '
+    BEGIN {
+        split("0028 1 0029 -1 005B 2 005D -2 2329 3 232A -3 3008 3 3009 -3 FF08 4 FF09 -4 2768 5", word, " ")
+        for (k = 1; k in word; k += 2) kind[word[k]] = word[k + 1]
+    }
+    {
+        count = split($1, code, " ")
+        depth = top[0] = most = 0
+        for (k = 1; k <= count; k++) {
+            if (code[k] == "2067") top[++depth] = 0
+            else if (code[k] == "2069" && depth > 0) depth--
+            else if (kind[code[k]] > 0) {
+                open[depth, ++top[depth]] = kind[code[k]]
+                if (top[depth] > most) most = top[depth]
+            } else if (kind[code[k]] < 0) {
+                for (at = top[depth]; at > 0 && open[depth, at] != -kind[code[k]]; at--);
+                if (at > 0) top[depth] = at - 1
+            }
+        }
+        if (most > 63) passed++
+    }
+    END { print (passed > 0 ? "some" : "none") }
+' rows.txt)
+is 'rows of brackets with more than 63 open' some "$passed"
+
 # A thousand faults, one in a row of each text of a file that is right: a level of two more, a level too many, a
 # position left out. The report finds each at its place, and no other.
 "$program" rows --form random --seed 9 --count 1000 --alphabet 'L R AL EN ON' --length 1..9 > right.txt
