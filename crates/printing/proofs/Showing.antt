@@ -9,12 +9,12 @@ use Rattle.units.specs.Layout.{no_unit}
 use Rattle.units.specs.Reordering.{shown_at, shown_of}
 use Rattle.units.specs.declared.bracket.Unit.{Unit as BidiUnit}
 use Rattle.printing.specs.ReorderText.{shown_text, text_unless}
-use Rattle.printing.proofs.Passing.{HasPassed, nothing_passed, one_more_passed, all_passed}
+use Rattle.printing.proofs.Passing.{HasPrintedUpTo, nothing_passed, one_more_passed, all_passed}
 
 -- the text of the positions before the rest was written; the rest are positions of the text, and shown is what they are
 -- shown by
 pub record HasShown (images : ℕ → Option ℕ) (levels : List (Option ℕ)) (chars : List ℕ) (text : List BidiUnit) (old new : Option (List ℕ)) (order rest shown : List ℕ) : Type 0 where
-  pub written : HasPassed old new (shown_text images chars text levels) order rest
+  pub written : HasPrintedUpTo old new (shown_text images chars text levels) order rest
   pub beside : shown ≡ shown_of images levels chars rest
   pub places : All (λ p. p < length levels) rest
 

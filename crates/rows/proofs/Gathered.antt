@@ -6,7 +6,7 @@ use Rattle.std.specs.Io.KnownBytes.{Appends}
 use Rattle.std.proofs.lemmas.Grind.{flat_map-append}
 use Rattle.std.proofs.lemmas.List.{flat_map_more, take_all, take_more}
 use Rattle.printing.proofs.Appending.{Appends-joined, Appends-to}
-use Rattle.printing.proofs.Passing.{HasPassed}
+use Rattle.printing.proofs.Passing.{HasPrintedUpTo}
 use Rattle.rows.specs.RowTexts.{behind_blanks, between_blanks}
 
 -- bytes added to what was added before
@@ -16,7 +16,7 @@ then-added old mid new xs ys first next = next ∙ ap (λ bs. bs ++ ys) first �
 module _ {A : Type 0} (text : A → List ℕ) where
   -- several items more were printed
   pub more_passed : (a b c : Option (List ℕ)) (whole rest xs others : List A) → rest ≡ xs ++ others
-      → HasPassed a b text whole rest → Appends b c (flat_map text xs) → HasPassed a c text whole others
+      → HasPrintedUpTo a b text whole rest → Appends b c (flat_map text xs) → HasPrintedUpTo a c text whole others
   more_passed a b c whole rest xs others is h grown = record {
     passed = h.passed ++ xs;
     joined = append_assoc h.passed xs others ∙ ap (λ v. h.passed ++ v) (sym is) ∙ h.joined;

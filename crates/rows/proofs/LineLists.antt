@@ -6,7 +6,7 @@ use Rattle.std.specs.List.{All, position_from}
 use Rattle.std.proofs.lemmas.Bool.{ltb-false}
 use Rattle.std.proofs.lemmas.List.Elements.{All-nil, All-cons, All-head, All-tail}
 use Rattle.units.specs.Cuts.{pieces_behind}
-use Rattle.printing.proofs.Passing.{HasPassed}
+use Rattle.printing.proofs.Passing.{HasPrintedUpTo}
 use Rattle.rows.specs.Placing.{has_some}
 use Rattle.rows.specs.RowTexts.{IsRowText, longest_row}
 use Rattle.rows.specs.TextLines.{is_long, kind_of, letter_named}
@@ -55,5 +55,5 @@ short-first line lines more e short =
 
 -- what was printed by then is that of the lines before the same ones
 pub same-passed : (text : List ℕ → List ℕ) (old new : Option (List ℕ)) (whole rest others : List (List ℕ)) → rest ≡ others
-    → HasPassed old new text whole rest → HasPassed old new text whole others
-same-passed text old new whole rest others e passed = subst (HasPassed old new text whole) e passed
+    → HasPrintedUpTo old new text whole rest → HasPrintedUpTo old new text whole others
+same-passed text old new whole rest others e passed = subst (HasPrintedUpTo old new text whole) e passed
