@@ -30,7 +30,7 @@ use Rattle.explain_row.specs.declared.row_fault.RowFault.TheVariants.{Malformed,
 use Rattle.explain_row.specs.declared.row_fault.SearchFault.{SearchFault}
 use Rattle.explain_row.specs.declared.row_fault.SearchFault.TheVariants.{OfRow}
 use Rattle.explain_row.specs.SoughtRows.{RowView, Finds, IsSettled, IsSought, IsUnsettled, row_in_lines, sought_row}
-use Rattle.explain_row.specs.Searching.{RowReading, SaysOfRow, SaysOfCut, Searching, SearchesOn, ComesTo, EndsLast, EndsWith, StepsTo, row_in, row_or_fault}
+use Rattle.explain_row.specs.Searching.{RowReading, SaysOfRow, SaysOfCut, Searching, SearchesOn, SearchComesTo, EndsLast, EndsWith, ComesToBehind, row_in, row_or_fault}
 use Rattle.explain_row.proofs.RowLines.{sound-more, malformed-there, no-row-there, row-there, beyond}
 
 -- the line of this number is not before the one that is sought, and no line before it was that
@@ -70,7 +70,7 @@ module _ (kind : Kind) (sought : ℕ) (most : sought ≤ most_counted) (old new 
 
   -- a line that has ended
   line-ended : (c line : List ℕ) → StandsFor new.cutting c → CutsInto c (o.lines ++ line ∷ []) [] → (result : Result (Option Asked) RowFault)
-      → SaysOfRow kind sought (line_number (length o.lines)) line old.rows new.rows result → ComesTo kind sought new c result
+      → SaysOfRow kind sought (line_number (length o.lines)) line old.rows new.rows result → SearchComesTo kind sought new c result
   line-ended c line stands cut (Ok None) says = record {
     cutter = stands;
     lines = o.lines ++ line ∷ [];
@@ -100,11 +100,11 @@ module _ (kind : Kind) (sought : ℕ) (most : sought ≤ most_counted) (old new 
   ended-old = ended_lines-CutsInto b o.lines o.rest o.cut
 
   abbrev Comes : Result (Option Asked) RowFault → Type 0
-  Comes result = ComesTo kind sought new (b ++ take used piece) result
+  Comes result = SearchComesTo kind sought new (b ++ take used piece) result
 
   -- a step of the cutter
   pub comes-by : (step : Cut) → AnswersPiece b piece used step → (result : Result (Option Asked) RowFault)
-      → SaysOfCut kind sought step old.rows new.rows result → ComesTo kind sought new (b ++ take used piece) result
+      → SaysOfCut kind sought step old.rows new.rows result → SearchComesTo kind sought new (b ++ take used piece) result
   comes-by More a result says =
       let all : take used piece ≡ piece = take_all used piece (omega (arith, a.1)) in
       let C : List ℕ → Type 0 = λ xs. CutsInto (b ++ xs) a.3.0 a.3.1 in
@@ -250,18 +250,18 @@ module _ (HasFailed HasEnded : Type 0) (kind : Kind) (sought : ℕ) (bytes : Lis
 
 -- a fault of a step, handed on
 pub steps-fault : (kind : Kind) (sought : ℕ) (s : Searching) (b piece : List ℕ) (result : Result (ℕ × Option Asked) RowFault) (fault : RowFault)
-    → IsErrAnd result (λ given. given ≡ fault) → IsSettled kind sought (b ++ piece) (Err fault) → StepsTo kind sought s b piece result
+    → IsErrAnd result (λ given. given ≡ fault) → IsSettled kind sought (b ++ piece) (Err fault) → ComesToBehind kind sought s b piece result
 steps-fault kind sought s b piece (Ok step) fault e h = absurd e
 steps-fault kind sought s b piece (Err given) fault e h = subst (λ (f : RowFault). IsSettled kind sought (b ++ piece) (Err f)) (sym e) h
 
 -- a fault of a search, handed on
 pub comes-fault : (kind : Kind) (sought : ℕ) (s : Searching) (bytes : List ℕ) (result : Result (Option Asked) RowFault) (fault : RowFault)
-    → IsErrAnd result (λ given. given ≡ fault) → IsSettled kind sought bytes (Err fault) → ComesTo kind sought s bytes result
+    → IsErrAnd result (λ given. given ≡ fault) → IsSettled kind sought bytes (Err fault) → SearchComesTo kind sought s bytes result
 comes-fault kind sought s bytes (Ok row) fault e h = absurd e
 comes-fault kind sought s bytes (Err given) fault e h = subst (λ (f : RowFault). IsSettled kind sought bytes (Err f)) (sym e) h
 
 -- where a step found no row the search goes on
-pub goes-on : (kind : Kind) (sought : ℕ) (s : Searching) (bytes : List ℕ) (row : Option Asked) → is_some row ≡ false → ComesTo kind sought s bytes (Ok row)
+pub goes-on : (kind : Kind) (sought : ℕ) (s : Searching) (bytes : List ℕ) (row : Option Asked) → is_some row ≡ false → SearchComesTo kind sought s bytes (Ok row)
     → SearchesOn kind sought s bytes
 goes-on kind sought s bytes None e h = h
 goes-on kind sought s bytes (Some asked) e h = absurd cc
@@ -269,8 +269,8 @@ goes-on kind sought s bytes (Some asked) e h = absurd cc
 -- and where it found one the piece settles it
 pub row-behind : (kind : Kind) (sought : ℕ) (before s after : Searching) (piece rest : List ℕ) (used : ℕ) → HasTaken kind sought before s piece rest
     → (row : Option Asked) → is_some row ≡ true
-    → ((b : List ℕ) → SearchesOn kind sought s b → ComesTo kind sought after (b ++ take used rest) (Ok row))
-    → (b : List ℕ) → SearchesOn kind sought before b → ComesTo kind sought after (b ++ piece) (Ok row)
+    → ((b : List ℕ) → SearchesOn kind sought s b → SearchComesTo kind sought after (b ++ take used rest) (Ok row))
+    → (b : List ℕ) → SearchesOn kind sought before b → SearchComesTo kind sought after (b ++ piece) (Ok row)
 row-behind kind sought before s after piece rest used h None e comes b o = absurd cc
 row-behind kind sought before s after piece rest used h (Some asked) e comes b o =
     settled-behind kind sought before s after piece rest h (Ok (row_in after.rows asked))

@@ -61,15 +61,15 @@ pub record SearchesOn (kind : Kind) (sought : ℕ) (s : Searching) (bytes : List
   pub lists : AreInForce kind (levels_in s.rows.reading) (order_in s.rows.reading) lines
 
 -- where a search has come to that was handed these bytes: it goes on, or it found a row, or why there is none
-abbrev pub ComesTo : Kind → ℕ → Searching → List ℕ → Result (Option Asked) RowFault → Type 0
-ComesTo kind sought s bytes (Ok None) = SearchesOn kind sought s bytes
-ComesTo kind sought s bytes (Ok (Some asked)) = IsSettled kind sought bytes (Ok (row_in s.rows asked))
-ComesTo kind sought s bytes (Err fault) = IsSettled kind sought bytes (Err fault)
+abbrev pub SearchComesTo : Kind → ℕ → Searching → List ℕ → Result (Option Asked) RowFault → Type 0
+SearchComesTo kind sought s bytes (Ok None) = SearchesOn kind sought s bytes
+SearchComesTo kind sought s bytes (Ok (Some asked)) = IsSettled kind sought bytes (Ok (row_in s.rows asked))
+SearchComesTo kind sought s bytes (Err fault) = IsSettled kind sought bytes (Err fault)
 
 -- the same behind bytes and as much of a piece as was used
-abbrev pub StepsTo : Kind → ℕ → Searching → List ℕ → List ℕ → Result (ℕ × Option Asked) RowFault → Type 0
-StepsTo kind sought s bytes piece (Ok step) = ComesTo kind sought s (bytes ++ take step.0 piece) (Ok step.1)
-StepsTo kind sought s bytes piece (Err fault) = ComesTo kind sought s (bytes ++ piece) (Err fault)
+abbrev pub ComesToBehind : Kind → ℕ → Searching → List ℕ → List ℕ → Result (ℕ × Option Asked) RowFault → Type 0
+ComesToBehind kind sought s bytes piece (Ok step) = SearchComesTo kind sought s (bytes ++ take step.0 piece) (Ok step.1)
+ComesToBehind kind sought s bytes piece (Err fault) = SearchComesTo kind sought s (bytes ++ piece) (Err fault)
 
 -- what a search found whose file has ended
 abbrev pub EndsWith : Kind → ℕ → Searching → List ℕ → Result Asked RowFault → Type 0

@@ -3,7 +3,7 @@ ghost use Rattle.std.specs.Prelude.{◌≡◌, ◌≤◌, ◌<◌, ℕ, List, []
 ghost use Rattle.units.specs.LineAnswers.{CutIsShort};
 ghost use Rattle.bidtests.specs.declared.kind.Kind.{Kind as FileKind};
 ghost use Rattle.bidtests.specs.declared.line_reader.TheConstants.{MOST_UNITS};
-ghost use Rattle.explain_row.specs.Searching.{ComesTo, EndsLast, EndsWith, SaysOfCut, SearchesOn, StepsTo, row_in};
+ghost use Rattle.explain_row.specs.Searching.{SearchComesTo, EndsLast, EndsWith, SaysOfCut, SearchesOn, ComesToBehind, row_in};
 
 use crate::found_row::FoundRow;
 use crate::row_fault::RowFault;
@@ -36,13 +36,13 @@ fn take_cut(
     kind: Kind<'_>,
     rows: &mut RowReader,
     sought: u64,
-    step: Cut<'_>,
+    cut: Cut<'_>,
 ) -> Result<Option<Asked>, RowFault>
-    requires { CutIsShort step }
-    ensures says { SaysOfCut kind.entry sought step.entry rows.old rows.new result }
+    requires { CutIsShort cut }
+    ensures says { SaysOfCut kind.entry sought cut.entry rows.old rows.new result }
     ensures fits { IfOk result (λ row. IsSome row → length rows.new.reading.text ≤ MOST_UNITS) }
 {
-    match step {
+    match cut {
         Cut::More => Ok(None),
         Cut::Line { number, text } => rows.take_line(kind, sought, number, text),
         Cut::TooLong { number } => Err(RowFault::Malformed {
@@ -78,20 +78,20 @@ impl RowSearch {
 
     /// Takes the next bytes of a file of this kind, through the end of a line at most, and answers how many, and what
     /// the row asks for that is sought, if that line is the one.
-    fn step(
+    fn take_next(
         &mut self,
         kind: Kind<'_>,
         sought: u64,
         piece: &[u8],
     ) -> Result<(usize, Option<Asked>), RowFault>
-        ensures used { IfOk result (λ step. step.0 ≤ length piece.now) }
-        ensures some { IfOk result (λ step. 0 < length piece.now → 0 < step.0) }
+        ensures used { IfOk result (λ taken. taken.0 ≤ length piece.now) }
+        ensures some { IfOk result (λ step. 0 < length piece.now → 0 < taken.0) }
         ensures comes { (b : List ℕ) → SearchesOn kind.entry sought self.old b
-            → StepsTo kind.entry sought self.new b piece.now result }
-        ensures fits { IfOk result (λ step. IsSome step.1 → length self.new.rows.reading.text ≤ MOST_UNITS) }
+            → ComesToBehind kind.entry sought self.new b piece.now result }
+        ensures fits { IfOk result (λ taken. IsSome taken.1 → length self.new.rows.reading.text ≤ MOST_UNITS) }
     {
-        let (used, step) = self.cutter.take(piece);
-        let row = take_cut(kind, &mut self.rows, sought, step)?;
+        let (used, cut) = self.cutter.take(piece);
+        let row = take_cut(kind, &mut self.rows, sought, cut)?;
         Ok((used, row))
     }
 
@@ -104,12 +104,12 @@ impl RowSearch {
         piece: &[u8],
     ) -> Result<Option<Asked>, RowFault>
         ensures comes { (b : List ℕ) → SearchesOn kind.entry sought self.old b
-            → ComesTo kind.entry sought self.new (b ++ piece.now) result }
+            → SearchComesTo kind.entry sought self.new (b ++ piece.now) result }
         ensures fits { IfOk result (λ row. IsSome row → length self.new.rows.reading.text ≤ MOST_UNITS) }
     {
         let mut rest = piece;
         while !rest.is_empty() {
-            let (used, row) = self.step(kind, sought, rest)?;
+            let (used, row) = self.take_next(kind, sought, rest)?;
             if row.is_some() {
                 return Ok(row);
             }

@@ -71,9 +71,9 @@ abbrev pub RefusalLeaves : Option (List ℕ) → Option (List ℕ) → Request �
 RefusalLeaves before after request fault = takes_memory_first request ≡ true → MemoryLeaves before after fault
 
 -- a request comes to what it asks for, or fails
-abbrev pub ComesTo : FileFacts → Option (List ℕ) → Option (List ℕ) → Request → Result Outcome Fault → Type 0
-ComesTo files before after request (Ok outcome) = IsDone files before after request outcome
-ComesTo files before after request (Err fault) = Fails files before after request fault × RefusalLeaves before after request fault
+abbrev pub IsDoneOrFails : FileFacts → Option (List ℕ) → Option (List ℕ) → Request → Result Outcome Fault → Type 0
+IsDoneOrFails files before after request (Ok outcome) = IsDone files before after request outcome
+IsDoneOrFails files before after request (Err fault) = Fails files before after request fault × RefusalLeaves before after request fault
 
 -- a run ends without a fault: with this status, and known bytes are what they were
 pub record EndsWell (status : ℕ) (before after : Option (List ℕ)) (ended : Ended) : Type 0 where
@@ -90,5 +90,5 @@ EndsAs (Err fault) before after ended = EndsBy fault before after ended
 -- a request came to this, of which what was written to `out` tells, and the run ended so, of which `err` tells
 pub record HasEnded (files : FileFacts) (before after : Option (List ℕ)) (err_before err_after : Option (List ℕ)) (request : Request) (ended : Ended) : Type 0 where
   pub outcome : Result Outcome Fault
-  pub comes : ComesTo files before after request outcome
+  pub comes : IsDoneOrFails files before after request outcome
   pub ends : EndsAs outcome err_before err_after ended
