@@ -68,7 +68,7 @@ SearchComesTo kind sought s bytes (Err fault) = IsSettled kind sought bytes (Err
 
 -- the same behind bytes and as much of a piece as was used
 abbrev pub ComesToBehind : Kind → ℕ → Searching → List ℕ → List ℕ → Result (ℕ × Option Asked) RowFault → Type 0
-ComesToBehind kind sought s bytes piece (Ok step) = SearchComesTo kind sought s (bytes ++ take step.0 piece) (Ok step.1)
+ComesToBehind kind sought s bytes piece (Ok taken) = SearchComesTo kind sought s (bytes ++ take taken.0 piece) (Ok taken.1)
 ComesToBehind kind sought s bytes piece (Err fault) = SearchComesTo kind sought s (bytes ++ piece) (Err fault)
 
 -- what a search found whose file has ended

@@ -85,7 +85,7 @@ impl RowSearch {
         piece: &[u8],
     ) -> Result<(usize, Option<Asked>), RowFault>
         ensures used { IfOk result (λ taken. taken.0 ≤ length piece.now) }
-        ensures some { IfOk result (λ step. 0 < length piece.now → 0 < taken.0) }
+        ensures some { IfOk result (λ taken. 0 < length piece.now → 0 < taken.0) }
         ensures comes { (b : List ℕ) → SearchesOn kind.entry sought self.old b
             → ComesToBehind kind.entry sought self.new b piece.now result }
         ensures fits { IfOk result (λ taken. IsSome taken.1 → length self.new.rows.reading.text ≤ MOST_UNITS) }
