@@ -1,5 +1,4 @@
-"""Many texts at once: threads over one handle on tables, processes, Dask; and beside python-bidi, where they are
-installed."""
+"""Many texts at once: threads over one handle on tables, processes, Dask where it is installed."""
 import concurrent.futures
 import copy
 import logging
@@ -8,7 +7,7 @@ import unittest
 
 import bidi_proved as bidi
 
-from . import all_tables, small_tables
+from . import small_tables
 
 ALEF, BET = "\u05d0\u05d1"
 WORDS = ["ab ", f"{ALEF}{BET} ", "12, ", f"({ALEF}b) ", "x\n", f"{BET}-3 "]
@@ -60,17 +59,3 @@ class Many(unittest.TestCase):
         with Client(n_workers=2, processes=False, dashboard_address=None, silence_logs=logging.CRITICAL) as client:
             made = client.gather(client.map(shown_by, [self.tables] * len(TEXTS), TEXTS, batch_size=50))
         self.assertEqual(made, self.expected)
-
-    def test_beside_python_bidi(self):
-        """Texts without brackets and isolates, which not every edition of python-bidi has rules for."""
-        try:
-            from bidi.algorithm import get_display
-        except ImportError:
-            self.skipTest("no python-bidi (package python3-bidi)")
-        tables = all_tables()
-        texts = [
-            f"car {ALEF}{BET} 12, 3", f"{ALEF}{BET} is a word", f"{ALEF} 12 - 13% {BET}", f"\u0627 12, 3 \u0628 a",
-            f"he said {ALEF}{BET} 123, 456, {BET} ok", f"\u202b{ALEF}b\u202c c {BET}", f"{ALEF}\u202ab{BET}\u202c!",
-        ]
-        for text in texts:
-            self.assertEqual(bidi.display(text, tables), [get_display(text)], ascii(text))
