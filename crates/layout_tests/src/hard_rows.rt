@@ -115,12 +115,12 @@ const ROWS: [Row; 15] = [
         levels: "x 2 1",
         order: "2 1",
     },
-    // X5a: an isolate initiator under an override is overridden
+    // X5a: an isolate initiator under an override is overridden, and so is its PDI (X6a)
     Row {
-        text: "\u{202D}\u{2067}a\u{2069}",
+        text: "\u{202D}\u{202B}a\u{202C}\u{2067}\u{2069}\u{202E}a",
         direction: Direction::Ltr,
-        levels: "x 2 4 0",
-        order: "1 2 3",
+        levels: "x x 4 x 2 2 x 3",
+        order: "2 4 5 7",
     },
 ];
 
