@@ -1,22 +1,20 @@
 -- A walk over a paragraph that counts its open isolates and notes the first strong class outside of them.
-use Rattle.std.proofs.Common.{◌≡◌, ℕ, zero, suc, ◌+◌, ◌-◌, ◌<◌, ◌≤◌, ◌==◌, true, false, List, map, length, get_or, set, Option, None, [], ◌∷◌, inl, inr, refl, sym, ap, ◌∙◌, arith, take, slice_index}
+use Rattle.std.proofs.Common.{◌≡◌, ℕ, zero, suc, ◌+◌, ◌-◌, ◌<◌, ◌==◌, ◌&&◌, if◌then◌else◌, true, false, List, map, length, get_or, set, Option, None, inl, inr, refl, sym, ap, ◌∙◌, arith}
 use Rattle.std.proofs.lemmas.Bool.{cases_Bool, eqb-true, true≢false, false_from_ne_true}
-use Rattle.std.proofs.lemmas.List.{get_or-take, length-map, length-set, length-take-le, take-map}
-use Rattle.units.specs.Classes.{class_at, classes_of, is_isolate_initiator, is_pdi, is_strong}
-use Rattle.units.specs.Isolates.{first_strong, para_level_of}
-use Rattle.units.specs.declared.bracket.Unit.{Unit as BidiUnit}
-use Rattle.units.specs.declared.level.Direction.{Direction}
+use Rattle.std.proofs.lemmas.List.{length-map, length-set}
+use Rattle.units.specs.Classes.{class_at, is_isolate_initiator, is_pdi, is_strong}
+use Rattle.units.specs.Isolates.{first_strong}
 use Rattle.units.specs.declared.class.Class.{Class}
-use Rattle.explicit.specs.FirstParagraph.{first_length}
-use Rattle.explicit.specs.SideLevels.{level_under}
 use Rattle.explicit.specs.Sides.{noted, noted_at, side_at}
 use Rattle.explicit.specs.declared.side.Side.{Side}
 use Rattle.explicit.specs.declared.side.Side.TheVariants.{Unknown}
 use Rattle.explicit.proofs.Matched.Filling.{IsFilling, filling_matched, filling_none, filling_opening, filling_other, filling_unmatched}
 use Rattle.explicit.proofs.StrongSides.Sides.{AreNoted, noted_all_outside, noted_none, noted_opening, noted_strong, noted_weak, pdi_is_weak, strong_is_other}
-use Rattle.explicit.proofs.StrongSides.LevelUnder.{level_under-is}
-use Rattle.ucdfiles.specs.Tables.{TablesOf, unit_by, units_by}
-use Rattle.bidi_held.specs.BaseLevels.{AreScalar, base_level, depth_behind, side_behind}
+use Rattle.bidi_held.specs.BaseLevels.{depth_behind}
+
+-- P2: the side that is known behind a class: a strong one is noted where no isolate is open
+abbrev pub side_behind : Class → ℕ → Side → Side
+side_behind class depth side = if (depth == 0) && is_strong class then noted side class else side
 
 -- behind the first k classes so many isolates are open, and this is the side that is known
 pub record IsWalked (cs : List Class) (k depth : ℕ) (side : Side) : Type 0 where
@@ -157,32 +155,3 @@ module _ (cs : List Class) (k : ℕ) (side : Side) (inside : k < length cs) wher
 -- at the paragraph's end the side is found
 pub walked_all : (cs : List Class) (depth : ℕ) (side : Side) → IsWalked cs (length cs) depth side → side ≡ side_at cs (first_strong cs None)
 walked_all cs depth side walked = noted_all_outside cs walked.sides side walked.noted_so
-
--- no more isolates are open than classes were walked over
-pub depth_so_far : (cs : List Class) (k depth : ℕ) (side : Side) → IsWalked cs k depth side → depth ≤ k
-depth_so_far cs k depth side walked = walked.filling.deep
-
--- the class of a code point
-pub class_there : (tables : TablesOf) (codes : List ℕ) (i : ℕ) → i < length codes
-    → class_at (classes_of (units_by tables codes)) i ≡ (unit_by tables (slice_index codes i)).class
-class_there tables [] i h = absurd (omega arith)
-class_there tables (c ∷ cs) zero h = refl
-class_there tables (c ∷ cs) (suc i) h = class_there tables cs i (omega arith)
-
--- a text of scalar values is one up to each place
-pub scalar_before : (codes : List ℕ) (n : ℕ) → AreScalar codes → n ≤ length codes → AreScalar (take n codes)
-scalar_before codes n all within k h =
-    let shorter : length (take n codes) ≡ n = length-take-le n codes within in
-    let inside : k < n = omega (arith, h, shorter) in
-    let read : slice_index (take n codes) k ≡ slice_index codes k = get_or-take n codes k 0 inside in
-    rw read (all k (omega (arith, inside, within)))
-
--- the level of the first paragraph by the side of its first strong class
-pub level_of_first : (tables : TablesOf) (codes : List ℕ) (direction : Direction) (n : ℕ) (side : Side) → n ≡ first_length (units_by tables codes)
-    → side ≡ side_at (classes_of (units_by tables (take n codes))) (first_strong (classes_of (units_by tables (take n codes))) None)
-    → level_under direction side ≡ base_level (units_by tables codes) direction
-level_of_first tables codes direction n side here found =
-    ap (level_under direction) found
-    ∙ level_under-is (classes_of (units_by tables (take n codes))) direction
-    ∙ ap (λ (units : List BidiUnit). para_level_of (classes_of units) direction)
-    (sym (take-map (unit_by tables) n codes) ∙ ap (λ (m : ℕ). take m (units_by tables codes)) here)

@@ -1,19 +1,23 @@
 -- The direction of a text of code points, without a layout.
-use Rattle.std.specs.Prelude.{ℕ, ◌≡◌, ◌<◌, ◌+◌, ◌-◌, ◌==◌, ◌&&◌, ◌⊎◌, Option, None, IsSome, MatchOption, List, if◌then◌else◌, length, slice_index, take}
+use Rattle.std.specs.Prelude.{ℕ, ◌≡◌, ◌<◌, ◌+◌, ◌-◌, ◌==◌, ◌&&◌, ◌⊎◌, Option, None, IsSome, MatchOption, IfErr, OnErr, OnOk, List, [], ◌∷◌, if◌then◌else◌, length, slice_index, take}
 use Rattle.std.specs.Char.{IsScalar}
-use Rattle.units.specs.Classes.{classes_of, is_isolate_initiator, is_pdi, is_strong}
+use Rattle.units.specs.Classes.{classes_of, is_isolate_initiator, is_pdi, is_separator, is_strong}
 use Rattle.units.specs.Isolates.{para_level_of}
+use Rattle.units.specs.Layout.{para_levels_of}
 use Rattle.units.specs.declared.bracket.Unit.{Unit as BidiUnit}
 use Rattle.units.specs.declared.class.Class.{Class}
 use Rattle.units.specs.declared.level.Direction.{Direction}
 use Rattle.directions.specs.StaysLeft.{stay_left}
 use Rattle.explicit.specs.FirstParagraph.{first_length}
-use Rattle.explicit.specs.Sides.{noted}
+use Rattle.explicit.specs.Sides.{strong_side}
 use Rattle.explicit.specs.declared.side.Side.{Side}
+use Rattle.explicit.specs.declared.side.Side.TheVariants.{Unknown}
 use Rattle.ucdfiles.specs.Tables.{units_by}
 use Rattle.bidi_held.specs.Holdings.{tables_in}
 use Rattle.bidi_held.specs.Refusals.{RefusesCodes}
+use Rattle.bidi_held.specs.Statuses.{Outcome}
 use Rattle.bidi_held.specs.Texts.{direction_numbered}
+use Rattle.bidi_held.specs.Written.{WritesWhole}
 use Rattle.bidi_held.specs.declared.held.Held.{Held}
 use Rattle.bidi_held.specs.declared.refusal.Refusal.{Refusal}
 use Rattle.bidi_held.specs.declared.refusal.Refusal.TheVariants.{NoDirection, NoTables}
@@ -53,11 +57,31 @@ abbrev pub IsLeftToRight : Option Held → List ℕ → ℕ → Type 0
 IsLeftToRight tables codes number =
     MatchOption (tables_in tables) ⊥ (λ by. AreScalar codes × (number ≡ (if stay_left (classes_of (units_by by codes)) then 1 else 0)))
 
+-- there are tables, the number is a direction and all code points are scalar values, and the levels of the paragraphs of
+-- their text are counted, and written to the front whole or not at all
+abbrev pub WritesBaseLevels : Option Held → List ℕ → ℕ → ℕ → List ℕ → List ℕ → Type 0
+WritesBaseLevels tables codes number count old new =
+    MatchOption (tables_in tables) ⊥ (λ by. MatchOption (direction_numbered number) ⊥
+    (λ direction. AreScalar codes × WritesWhole (para_levels_of (units_by by codes) direction) count old new))
+
+-- what a call leaves that is to write the levels of the paragraphs of a text: where it is done they are written and
+-- counted, else the levels and the count are as they were, for a reason
+pub record PutsBaseLevels (tables : Option Held) (codes : List ℕ) (number : ℕ) (levels levels2 : List ℕ) (count count2 : ℕ) (outcome : Outcome) : Type 0 where
+  pub written : OnOk outcome (WritesBaseLevels tables codes number count2 levels levels2)
+  pub kept_levels : OnErr outcome (levels2 ≡ levels)
+  pub kept_count : OnErr outcome (count2 ≡ count)
+  pub refused : IfErr outcome (RefusesBase tables codes number)
+
 -- BD9: how many isolates are open behind a class, where so many are before it; a PDI closes none where none is open
 abbrev pub depth_behind : Class → ℕ → ℕ
 depth_behind class depth =
     if is_isolate_initiator class then depth + 1 else (if is_pdi class then depth - 1 else depth)
 
--- P2: the side that is known behind a class: a strong one is noted where no isolate is open
-abbrev pub side_behind : Class → ℕ → Side → Side
-side_behind class depth side = if (depth == 0) && is_strong class then noted side class else side
+-- P1, P2: the side of the first strong class of the text's first paragraph outside of its isolates, where so many are
+-- open before the text
+abbrev pub side_from : List BidiUnit → ℕ → Side
+side_from [] depth = Unknown
+side_from (unit ∷ units) depth =
+    if is_separator unit.class then Unknown
+    else (if (depth == 0) && is_strong unit.class then strong_side unit.class
+    else side_from units (depth_behind unit.class depth))

@@ -1,13 +1,12 @@
 // The direction of a text of code points, without a layout.
-ghost use Rattle.std.specs.Prelude.{ℕ, ◌≡◌, ◌<◌, ◌≤◌, IfErr, IfOk, None, Some, length, slice_index};
+ghost use Rattle.std.specs.Prelude.{ℕ, ◌≡◌, ◌<◌, ◌≤◌, IfErr, IfOk, Some, length, slice_index};
 ghost use Rattle.std.specs.Char.{IsScalar};
 ghost use Rattle.units.specs.Classes.{classes_of};
-ghost use Rattle.units.specs.Isolates.{first_strong, level_of_para};
+ghost use Rattle.units.specs.Isolates.{level_of_para};
 ghost use Rattle.directions.specs.StaysLeft.{stay_left};
 ghost use Rattle.explicit.specs.FirstParagraph.{first_length};
-ghost use Rattle.explicit.specs.Sides.{side_at};
 ghost use Rattle.ucdfiles.specs.Tables.{unit_by, units_by};
-ghost use Rattle.bidi_held.specs.BaseLevels.{base_level, IsBaseLevel, IsLeftToRight, RefusesBase, RefusesText, depth_behind, side_behind};
+ghost use Rattle.bidi_held.specs.BaseLevels.{base_level, IsBaseLevel, IsLeftToRight, RefusesBase, RefusesText, depth_behind, side_from};
 
 use crate::held::Held;
 use crate::layouts::direction_numbered;
@@ -32,7 +31,7 @@ fn class_of(tables: &Tables, code: u32) -> Class
 }
 
 /// P1: how many code points the first paragraph of a text has, its separator among them.
-fn first_length(tables: &Tables, codes: &[u32]) -> usize
+pub(crate) fn first_length(tables: &Tables, codes: &[u32]) -> usize
     requires { (k : ℕ) → k < length codes.now → IsScalar (slice_index codes.now k) }
     ensures length { result ≡ first_length (units_by tables.now codes.now) }
     ensures inside { result ≤ length codes.now }
@@ -59,40 +58,32 @@ fn depth_behind(class: Class, depth: usize) -> usize
     }
 }
 
-/// P2: the side that is known behind a class, where so many isolates are open and this side is known before it.
-fn side_behind(class: Class, depth: usize, side: Side) -> Side
-    ensures { result ≡ side_behind class depth side }
-{
-    if depth == 0 && class.is_strong() {
-        side.noting(class)
-    } else {
-        side
-    }
-}
-
-/// P2: the side of the first strong class of a paragraph outside of all isolates.
+/// P1, P2: the side of the first strong class of a text's first paragraph outside of all isolates. Nothing behind that
+/// class or behind the paragraph is looked at.
 fn first_side(tables: &Tables, codes: &[u32]) -> Side
     requires { (k : ℕ) → k < length codes.now → IsScalar (slice_index codes.now k) }
-    ensures { result ≡ side_at (classes_of (units_by tables.now codes.now))
-        (first_strong (classes_of (units_by tables.now codes.now)) None) }
+    ensures { result ≡ side_from (units_by tables.now codes.now) 0 }
 {
     let mut depth = 0;
-    let mut side = Side::Unknown;
     for i in 0..codes.len() {
         let class = class_of(tables, codes[i]);
-        side = side_behind(class, depth, side);
+        if class.is_separator() {
+            return Side::Unknown;
+        }
+        if depth == 0 && class.is_strong() {
+            return Side::Unknown.noting(class);
+        }
         depth = depth_behind(class, depth);
     }
-    side
+    Side::Unknown
 }
 
 /// P1 to P3: the level of the first paragraph of a text under a direction.
-fn base_level(tables: &Tables, codes: &[u32], direction: Direction) -> ParaLevel
+pub(crate) fn base_level(tables: &Tables, codes: &[u32], direction: Direction) -> ParaLevel
     requires { (k : ℕ) → k < length codes.now → IsScalar (slice_index codes.now k) }
     ensures { level_of_para result ≡ base_level (units_by tables.now codes.now) direction }
 {
-    let end = first_length(tables, codes);
-    level_under(direction, first_side(tables, &codes[..end]))
+    level_under(direction, first_side(tables, codes))
 }
 
 /// Whether the classes of these code points leave all levels at 0.

@@ -3,6 +3,7 @@
 #![tactic(auto)]
 
 pub mod base;
+pub mod base_levels;
 pub mod held;
 pub mod judge;
 pub mod judging;

@@ -1,9 +1,10 @@
-use Rattle.std.proofs.Common.{◌∙◌}
-use Rattle.bidi_held.proofs.BaseWalk.{level_of_first, scalar_before}
+use Rattle.std.proofs.Common.{◌∙◌, ap}
+use Rattle.explicit.specs.SideLevels.{level_under}
+use Rattle.ucdfiles.specs.Tables.{units_by}
+use Rattle.bidi_held.proofs.BaseSides.{level_of_first}
 use Rattle.bidi_held.proofs.base.base_level.Goals as goal
 
-pub first_side-requires : goal.first_side-requires
-first_side-requires c = scalar_before c.args.codes.now c.first_length-end.result c.requires c.first_length-end.ensures.inside
-
 pub returns : goal.returns
-returns c = c.level_under.ensures ∙ level_of_first c.args.tables.now c.args.codes.now c.args.direction _ _ c.first_length-end.ensures.length c.first_side.ensures
+returns c =
+    c.level_under.ensures ∙ ap (level_under c.args.direction) c.first_side.ensures
+    ∙ level_of_first (units_by c.args.tables.now c.args.codes.now) c.args.direction

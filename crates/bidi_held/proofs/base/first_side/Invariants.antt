@@ -1,8 +1,12 @@
-use Rattle.units.specs.Classes.{classes_of}
+use Rattle.std.proofs.Common.{◌≡◌, ◌≤◌, drop}
 use Rattle.ucdfiles.specs.Tables.{units_by}
-use Rattle.bidi_held.proofs.BaseWalk.{IsWalked}
+use Rattle.bidi_held.specs.BaseLevels.{side_from}
 use Rattle.bidi_held.proofs.base.first_side.Given as goal
 
--- the classes before this one were walked over
+-- no separator and no strong class outside of isolates stands before this code point, and no more isolates are open than
+-- there are code points before it
 abbrev pub invariant-loop-i : goal.invariant-loop-i
-invariant-loop-i l = IsWalked (classes_of (units_by l.tables l.codes)) l.i l.depth l.side
+invariant-loop-i l = record {
+  deep : l.depth ≤ l.i;
+  found : side_from (units_by l.tables l.codes) 0 ≡ side_from (units_by l.tables (drop l.i l.codes)) l.depth;
+}
