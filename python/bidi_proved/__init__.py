@@ -1,7 +1,7 @@
 """The Unicode Bidirectional Algorithm (UAX #9, P1 to L2 and L4), and a judge of its conformance files, over the proved
 library libbidi_c. Positions are those of a str: characters, counted from 0; offsets count the bytes of UTF-8.
 docs/PYTHON.md is the manual."""
-from .base import base_level, is_left_to_right
+from .base import base_level, base_levels, is_left_to_right
 from .errors import (
     BidiError, BracketFileFault, BracketsRefused, BreakInside, BreakNotRising, BreakOutOfRange, ClassFileFault,
     DepthRefused, FaultKind, IllFormed, LineBeyondText, LineCrossesParagraph, LineNotForward, MemoryRefused,
@@ -17,5 +17,5 @@ from .utf8 import Utf8Layout, Utf8Line, Utf8Room, lay_out_utf8
 
 __version__ = "1.0.0"
 __all__ = [name for name in dir() if name[0].isupper() or name in (
-    "base_level", "display", "edition", "is_left_to_right", "judge_characters", "judge_classes", "lay_out",
-    "lay_out_classes", "lay_out_utf8", "report_characters", "report_classes", "version")]
+    "base_level", "base_levels", "display", "edition", "is_left_to_right", "judge_characters", "judge_classes",
+    "lay_out", "lay_out_classes", "lay_out_utf8", "report_characters", "report_classes", "version")]

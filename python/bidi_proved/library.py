@@ -110,6 +110,9 @@ NEWER_CALLS = {
     "bidi_set_lines": (c_uint32, [HANDLE, c_void_p, c_size_t, PLACE]),
     "bidi_line_of": (c_uint32, [HANDLE, c_size_t, c_size_t, *[c_void_p, c_size_t] * 2, POINTER(c_size_t)]),
     "bidi_base_level": (c_uint32, [HANDLE, c_void_p, c_size_t, c_uint32, BYTE, PLACE]),
+    "bidi_base_levels": (
+        c_uint32, [HANDLE, c_void_p, c_size_t, c_uint32, c_void_p, c_size_t, POINTER(c_size_t), PLACE],
+    ),
     "bidi_is_left_to_right": (c_uint32, [HANDLE, c_void_p, c_size_t, BYTE, PLACE]),
     "bidi_runs": (c_size_t, RUNS),
     "bidi_encoded_runs": (c_size_t, RUNS),
@@ -186,6 +189,8 @@ HAS_LINE_OF = hasattr(CALL, "bidi_line_of")
 HAS_RUNS = hasattr(CALL, "bidi_runs") and hasattr(CALL, "bidi_encoded_runs")
 # Whether it says of a text what is known without a layout.
 HAS_BASE_LEVEL = hasattr(CALL, "bidi_base_level") and hasattr(CALL, "bidi_is_left_to_right")
+# Whether it says so of all paragraphs.
+HAS_BASE_LEVELS = hasattr(CALL, "bidi_base_levels")
 # Whether it lays out texts in UTF-8, refused or read with U+FFFD where they are ill-formed, and breaks them anew.
 HAS_UTF8 = all(hasattr(CALL, name) for name in UTF8_CALLS)
 # Whether it reports on test files.

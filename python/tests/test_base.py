@@ -36,6 +36,31 @@ class BaseLevel(unittest.TestCase):
                 self.assertEqual(bidi.base_level(text, self.tables, direction), level, ascii(text))
 
 
+class BaseLevels(unittest.TestCase):
+    def setUp(self):
+        self.tables = small_tables()
+
+    def test_directions(self):
+        rows = (
+            (f"a\n{ALEF}\n1", [[0, 0, 0], [1, 1, 1], [0, 1, 0], [0, 1, 1]]),
+            ("\n\n", [[0, 0], [1, 1], [0, 0], [1, 1]]),
+        )
+        for text, levels in rows:
+            found = [bidi.base_levels(text, self.tables, direction) for direction in bidi.Direction]
+            self.assertEqual(found, levels, ascii(text))
+        self.assertEqual(bidi.base_levels(f"{ALEF}\na", self.tables), [1, 0])
+        self.assertEqual(bidi.base_levels("", self.tables), [])
+
+    def test_isolates(self):
+        self.assertEqual(bidi.base_levels(f"\u2067{ALEF}\u2069a\n\u2067{ALEF}\u2029{ALEF}", all_tables()), [0, 0, 1])
+
+    def test_beside_layouts(self):
+        for text in filter(None, TEXTS):
+            for direction in bidi.Direction:
+                levels = bidi.lay_out(text, self.tables, direction).paragraph_levels
+                self.assertEqual(bidi.base_levels(text, self.tables, direction), levels, ascii(text))
+
+
 class LeftToRight(unittest.TestCase):
     def setUp(self):
         self.tables = small_tables()
@@ -60,21 +85,24 @@ class Refused(unittest.TestCase):
         self.tables = small_tables()
 
     def test_no_character(self):
-        for call in (bidi.base_level, bidi.is_left_to_right):
+        for call in (bidi.base_level, bidi.base_levels, bidi.is_left_to_right):
             for text, place in (("a\ud800", 1), (f"\n{ALEF}b\udfff\ud800", 3)):
                 with self.assertRaises(bidi.NoCharacter) as told:
                     call(text, self.tables)
                 self.assertEqual(told.exception.place, place)
 
     def test_no_direction(self):
-        with self.assertRaises(ValueError):
-            bidi.base_level("a", self.tables, 4)
+        for call in (bidi.base_level, bidi.base_levels):
+            with self.assertRaises(ValueError):
+                call("a", self.tables, 4)
 
     def test_older_library(self):
         with unittest.mock.patch("bidi_proved.library.HAS_BASE_LEVEL", False):
             for call in (bidi.base_level, bidi.is_left_to_right):
                 with self.assertRaises(NotImplementedError):
                     call("a", self.tables)
+        with unittest.mock.patch("bidi_proved.library.HAS_BASE_LEVELS", False), self.assertRaises(NotImplementedError):
+            bidi.base_levels("a", self.tables)
 
 
 class Version(unittest.TestCase):

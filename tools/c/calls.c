@@ -306,6 +306,27 @@ static void print_base(bidi_tables *tables, const uint32_t *codes, size_t n, uin
          (unsigned long long)place, of_stays, stays, (unsigned long long)stays_place);
 }
 
+/* The levels of all paragraphs, with so many places, and refusals, which leave all but the place as it was. */
+static void print_bases(bidi_tables *tables, const uint32_t *codes, size_t n, uint32_t direction, size_t capacity) {
+  uint8_t levels[4] = { 77, 77, 77, 77 };
+  uint64_t place = 99;
+  size_t count = 66;
+  uint32_t status = bidi_base_levels(tables, codes, n, direction, capacity ? levels : NULL, capacity, &count, &place);
+  printf("bases of %zu in %zu: %u count %zu levels %u %u %u %u place %llu\n", n, capacity, status, count, levels[0],
+         levels[1], levels[2], levels[3], (unsigned long long)place);
+}
+
+static void find_all_bases(bidi_tables *tables, bidi_room *room) {
+  const uint32_t text[] = { 0x2067, 0x5D0, 0x2029, 0x5D0, 'a', 0x2029, '1' }, wrong[] = { 'a', 0x2029, 0xD800 };
+  for (uint32_t direction = 0; direction < 5; direction++) print_bases(tables, text, 7, direction, 4);
+  for (size_t capacity = 0; capacity < 4; capacity++) print_bases(tables, text, 7, BIDI_AUTO, capacity);
+  print_bases(tables, text, 6, BIDI_AUTO, 2);
+  print_bases(tables, wrong, 2, BIDI_AUTO, 1);
+  print_bases(tables, wrong, 3, BIDI_AUTO, 4);
+  print_bases(tables, NULL, 0, BIDI_AUTO_RTL, 4);
+  print_bases((bidi_tables *)room, wrong, 3, 9, 4);
+}
+
 static void find_bases(bidi_tables *tables, bidi_room *room) {
   const uint32_t isolated[] = { 0x2067, 0x5D0, 0x2069, 'a', 0x2029, 0x5D0 }, late[] = { '1', '(', 0x627, 'a' };
   const uint32_t unclosed[] = { 0x2068, 'a', 0x5D0 }, wrong[] = { 'a', 0xD800, 0x110000 }, plain[] = { 'a', '1', 0x2029 };
@@ -383,6 +404,7 @@ static void use_standard_tables(bidi_room *room) {
   n = bidi_version(version, sizeof version);
   printf("version %s, of the header %s, bytes %zu\n", (char *)version, BIDI_VERSION, n);
   find_bases(&tables, room);
+  find_all_bases(&tables, room);
   find_runs(&tables, room);
   pass_nulls(room, &tables);
   bidi_tables_free(&tables);

@@ -66,6 +66,7 @@ int main(int argc, char **argv) {
   bidi_mirror(&tables, '(');
   bidi_class(&tables, '(', levels); bidi_bracket(&tables, '(', levels);
   bidi_base_level(&tables, text, 3, BIDI_AUTO, levels, &place); bidi_is_left_to_right(&tables, text, 3, levels, &place);
+  bidi_base_levels(&tables, text, 3, BIDI_AUTO, levels, 3, &n, &place);
   const uint8_t bytes[] = { 'a', 0xD7, 0x90 }; const uint16_t units[] = { 'a', 0x5D0 }; bidi_line_t line_of;
   status += bidi_lay_out_utf8(&encoded, &tables, bytes, 3, BIDI_AUTO, none, 0, &place);
   status += bidi_lay_out_utf8_lossy(&encoded, &tables, bytes, 2, BIDI_AUTO, none, 0, &place);

@@ -1,12 +1,13 @@
 // The direction of a text, without a layout.
 ghost use Rattle.std.specs.Prelude.{◌≡◌};
-ghost use Rattle.bidi_held.specs.BaseLevels.{IsBaseLevel, IsLeftToRight, RefusesBase, RefusesText};
+ghost use Rattle.bidi_held.specs.BaseLevels.{IsBaseLevel, IsLeftToRight, PutsBaseLevels, RefusesBase, RefusesText};
 ghost use Rattle.bidi_held.specs.Statuses.{AnswersNaming, Puts, place_named};
 ghost use Rattle.bidi_c.specs.HeldAt.{held_at};
 
 use crate::bidi_handle::BidiHandle;
 use crate::putting::put;
 use bidi_held::base::{base_level_held, is_left_to_right_held};
+use bidi_held::base_levels::base_levels_held;
 use bidi_held::refusal::{Refusal, answer};
 
 /// The level of the first paragraph of a text of code points under a direction (P1 to P3), without a layout. Where
@@ -28,6 +29,43 @@ pub extern "C" fn bidi_base_level(
         Some(held) => answer(put(base_level_held(held, codes, direction), level), place),
         None => answer(Err(Refusal::NoTables), place),
     }
+}
+
+fn base_levels(
+    tables: &mut BidiHandle,
+    codes: &[u32],
+    direction: u32,
+    levels: &mut [u8],
+    count: &mut usize,
+) -> Result<(), Refusal>
+    ensures tables { held_at tables.new ≡ held_at tables.old }
+    ensures levels { PutsBaseLevels (held_at tables.old) codes.now direction levels.old levels.new
+        count.old count.new result }
+{
+    match tables.held() {
+        Some(held) => base_levels_held(held, codes, direction, levels, count),
+        None => Err(Refusal::NoTables),
+    }
+}
+
+/// The level of each paragraph of a text of code points under a direction (P1 to P3), in their order, without a layout:
+/// `count` says how many paragraphs there are, and the levels are written to the front of `levels` if all fit there.
+/// Where it is refused as `bidi_base_level` is, both stay as they were.
+#[unsafe(no_mangle)]
+pub extern "C" fn bidi_base_levels(
+    tables: &mut BidiHandle,
+    codes: &[u32],
+    direction: u32,
+    levels: &mut [u8],
+    count: &mut usize,
+    place: &mut u64,
+) -> u32
+    ensures tables { held_at tables.new ≡ held_at tables.old }
+    ensures levels { AnswersNaming place_named (PutsBaseLevels (held_at tables.old) codes.now direction
+        levels.old levels.new count.old count.new) result place.old place.new }
+{
+    let done = base_levels(tables, codes, direction, levels, count);
+    answer(done, place)
 }
 
 /// Whether a text of code points has only classes that stay at level 0 (1) or not (0), in one walk: if so, all of its
