@@ -1,4 +1,4 @@
-use Rattle.std.proofs.Common.{rules, ◌≡◌, ◌++◌, ℕ, List, [], Ok, Err, ap, append-nil, subst, take, ◌∙◌}
+use Rattle.std.proofs.Common.{rules, ◌≡◌, ◌++◌, ℕ, List, Ok, Err, ap, append-nil, subst, take, ◌∙◌}
 use Rattle.explain_row.proofs.Steps.{finds-ended, finds-fault, finds-settled, on-unsettled}
 use Rattle.explain_row.specs.Searching.{row_in}
 use Rattle.explain_row.proofs.find.search_source.Goals as goal
@@ -10,8 +10,7 @@ returns-in-Err-clause-found g c =
     let failed : g.S.ByteSource.failures c.read.new.self ≡ 1 = search rules in (
       inv.0,
       subst (λ (xs : List ℕ). g.S.ByteSource.gives c.args.source.now xs c.read.new.self) (append-nil inv.0) gave,
-      failed,
-      on-unsettled c.args.kind c.args.number _ inv.0 inv.2,
+      (failed, on-unsettled c.args.kind c.args.number _ inv.0 inv.2),
     )
 
 pub returns-in_err-finish-in-Ok-eq0-clause-found : goal.returns-in_err-finish-in-Ok-eq0-clause-found
