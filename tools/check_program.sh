@@ -230,6 +230,15 @@ for word in reorder levels; do
             ;;
     esac
 done
+# A row is explained while the pipe that it came by stays open: behind its line nothing is read.
+timeout 60 "$program" explain --row 3 --kind classes - < written > shown 2> found_err &
+exec 3> written 4< shown
+head -n 3 row.txt >&3
+found=$(timeout 20 cat <&4)
+exec 3>&- 4<&-
+wait $!
+is 'status of a row in a pipe that stays open' 0 $?
+is 'a row in a pipe that stays open' "$row" "$found"
 
 # Texts as long as a file can be, printed, with one of a quarter of that and one character more, and one of 1,048,576
 # characters explained.

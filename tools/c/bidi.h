@@ -139,8 +139,8 @@ uint32_t bidi_bracket(bidi_tables *tables, uint32_t code, uint8_t *bracket);
 uint32_t bidi_base_level(bidi_tables *tables, const uint32_t *codes, size_t n, uint32_t direction, uint8_t *level,
                          uint64_t *place);
 uint32_t bidi_is_left_to_right(bidi_tables *tables, const uint32_t *codes, size_t n, uint8_t *stays, uint64_t *place);
-/* The level of each of its paragraphs, in their order: `count` says how many there are, no more than n, and they are
- * written only if all fit. It is refused as bidi_base_level is; `levels` and `count` stay as they were then. */
+/* The level of each of a text's paragraphs, in their order: `count` says how many there are, no more than n, and they
+ * are written only if all fit. It is refused as bidi_base_level is; `levels` and `count` stay as they were then. */
 uint32_t bidi_base_levels(bidi_tables *tables, const uint32_t *codes, size_t n, uint32_t direction, uint8_t *levels,
                           size_t capacity, size_t *count, uint64_t *place);
 
