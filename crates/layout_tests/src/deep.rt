@@ -57,23 +57,31 @@ fn overflows(rt: HostRuntime) -> Result<(), Fail> {
     Ok(())
 }
 
+/// Lays out 63 LRE with units behind them that stay at level 124 and in this order.
+fn stays_behind_embeddings(
+    rt: &impl Abort,
+    alloc: Global,
+    behind: &str,
+    order: &[usize],
+) -> Result<(), Fail> {
+    let mut text = vec![in alloc; unit(Class::LRE); 63]?;
+    append_units(&mut text, behind)?;
+    let mut expected = Vec::new(alloc);
+    repeated(&mut expected, 63, 127)?;
+    repeated(&mut expected, order.len(), 124)?;
+    shows_in_room(rt, alloc, 128, &text, Direction::Ltr, &expected, order)
+}
+
 /// X5a: an initiator inside an overflow of embeddings is refused, too: what it holds stays at level 124.
 #[test]
 fn isolates_inside_an_overflow(rt: HostRuntime) -> Result<(), Fail> {
-    let mut text = vec![in rt.alloc(); unit(Class::LRE); 63]?;
-    append_units(&mut text, "RLI L")?;
-    let mut expected = Vec::new(rt.alloc());
-    repeated(&mut expected, 63, 127)?;
-    repeated(&mut expected, 2, 124)?;
-    shows_in_room(
-        &rt,
-        rt.alloc(),
-        128,
-        &text,
-        Direction::Ltr,
-        &expected,
-        &[63, 64],
-    )
+    stays_behind_embeddings(&rt, rt.alloc(), "RLI L", &[63, 64])
+}
+
+/// X6a: the PDI of an initiator that was refused closes nothing else.
+#[test]
+fn pdis_inside_an_overflow(rt: HostRuntime) -> Result<(), Fail> {
+    stays_behind_embeddings(&rt, rt.alloc(), "RLI PDI L", &[63, 64, 65])
 }
 
 /// The characters `a(x)ya`, where x and y are Hebrew, then `n` opening brackets, x, `n` closing ones, and y.

@@ -16,7 +16,7 @@ struct Row {
     order: &'static str,
 }
 
-const ROWS: [Row; 15] = [
+const ROWS: [Row; 16] = [
     // I1: a number alone has level 2 on a line at level 0
     Row {
         text: "\u{661}",
@@ -114,6 +114,13 @@ const ROWS: [Row; 15] = [
         direction: Direction::Rtl,
         levels: "x 2 1",
         order: "2 1",
+    },
+    // BD13: what stands in two isolates side by side is two sequences, and a mark takes its class in its own (W1)
+    Row {
+        text: "\u{2066}a\u{2069}\u{2067}\u{300}",
+        direction: Direction::Ltr,
+        levels: "0 2 0 0 1",
+        order: "0 1 2 3 4",
     },
     // X5a: an isolate initiator under an override is overridden, and so is its PDI (X6a)
     Row {
