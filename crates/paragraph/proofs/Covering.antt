@@ -18,8 +18,7 @@ use Rattle.sequences.proofs.Once.{one_if-same, times-append, times-cons}
 use Rattle.paragraph.proofs.FoundBeside.{found-append, found-append_none, none_beside, zip_none, zip_some}
 use Rattle.paragraph.specs.Covering.{positions_in, AreDisjoint, HasLevelsBy}
 use Rattle.resolve.specs.Raised.{resolved_at}
-use Rattle.resolve.specs.Resolved.{HasLevels, KeepsOtherLevels}
-use Rattle.resolve.specs.Rewritten.{KeepsOthers}
+use Rattle.resolve.specs.Resolved.{Resolves}
 
 -- a position that a list holds stands in it
 pub times_some : (ps : List ℕ) (p : ℕ) → Contains ps p → 0 < times ps p
@@ -104,9 +103,9 @@ module _ {extent : ℕ} {all : List SequenceView} (apart : AreDisjoint extent al
 
   pub covered_next : (most_open : ℕ) (us : List BidiUnit) (before classes now_classes : List Class) (levels now_levels : List (Option ℕ)) → length us ≡ extent →
       IsCovered most_open us before (take k all) classes levels →
-      HasLevels most_open s us before now_levels → KeepsOtherLevels s.positions levels now_levels → KeepsOthers s.positions classes now_classes →
+      Resolves most_open s us before classes now_classes levels now_levels →
       IsCovered most_open us before (take (k + 1) all) now_classes now_levels
-  covered_next most_open us before classes now_classes levels now_levels n covered has keeps_levels keeps_classes =
+  covered_next most_open us before classes now_classes levels now_levels n covered resolved =
       let own : List (ℕ × ℕ) = levels_in most_open us before s in
       let earlier : List (ℕ × ℕ) = flat_map (levels_in most_open us before) (take k all) in
       let joined : flat_map (levels_in most_open us before) (take (k + 1) all) ≡ earlier ++ own =
@@ -119,13 +118,13 @@ module _ {extent : ℕ} {all : List SequenceView} (apart : AreDisjoint extent al
               | inl some ↦
                   (let w = zip_some s.positions values p long some 0 in
                   let none : value_found earlier p ≡ None = unfound most_open us before (take k all) p (apart_from_earlier p (omega (arith, h, n)) some) in
-                  ap (resolved_at now_levels) (sym w.2) ∙ has w.0 w.1 ∙ sym w.3 ∙ sym (found-append earlier own p none))
+                  ap (resolved_at now_levels) (sym w.2) ∙ resolved.levels w.0 w.1 ∙ sym w.3 ∙ sym (found-append earlier own p none))
               | inr others ↦
                   (let none : times s.positions p ≡ 0 = omega arith in
-                  keeps_levels p (λ c. let t = times_some s.positions p c in absurd (omega arith))
+                  resolved.other_levels p (λ c. let t = times_some s.positions p c in absurd (omega arith))
                   ∙ covered.found p h
                   ∙ sym (found-append_none earlier own p (zip_none s.positions values p none)))
             ]
             ∙ sym (ap (λ (xs : List (ℕ × ℕ)). value_found xs p) joined);
-        kept = λ p e. keeps_classes p (λ c. let t = times_some s.positions p c in absurd (omega (arith, times_next p))) ∙ covered.kept p (omega (arith, times_next p));
+        kept = λ p e. resolved.other_classes p (λ c. let t = times_some s.positions p c in absurd (omega (arith, times_next p))) ∙ covered.kept p (omega (arith, times_next p));
       }

@@ -1,13 +1,14 @@
 -- A run of one class along a sequence, as a walk goes on over it.
 use Rattle.std.specs.Prelude.{Option, Some, ℕ, zero, suc, ◌+◌, ◌-◌, ◌<◌, ◌≤◌, ◌≡◌, List, ◌∷◌, length, slice_index, refl}
-use Rattle.std.proofs.Common.{arith, ap, sym, subst, ◌∙◌, drop, set}
+use Rattle.std.proofs.Common.{arith, ap, sym, subst, ◌∙◌, drop, inl, inr, set}
+use Rattle.std.proofs.lemmas.Bool.{cases_eq}
 use Rattle.std.proofs.lemmas.List.{get_or-set_other}
 use Rattle.units.specs.Classes.{class_at, classes_at}
 use Rattle.units.specs.Implicit.{implicit_level}
 use Rattle.units.specs.declared.class.Class.{Class}
 use Rattle.units.specs.declared.class.Class.TheVariants.{L}
 use Rattle.sequences.specs.Links.{ArePositions}
-use Rattle.resolve.specs.Repeats.{with_along}
+use Rattle.resolve.specs.Repeats.{with_along, AreAll}
 use Rattle.resolve.proofs.Gathered.{apart}
 use Rattle.resolve.proofs.Raising.{RaisePass, raise_write}
 use Rattle.resolve.proofs.Walked.{Walk, WalkSteps, walked, walk_next, walk_value, walk_steps_next}
@@ -20,14 +21,39 @@ unwritten ps start (suc n) j v cs are low within =
     get_or-set_other (with_along ps start n v cs) (slice_index ps (start + n)) (slice_index ps j) v L (apart ps (length cs) j (start + n) are within (omega arith) (omega arith))
     ∙ unwritten ps start n j v cs are (omega arith) within
 
+-- no index
+pub along_none : {X : Type 0} (ps : List ℕ) (start : ℕ) (v : X) (xs : List X) → xs ≡ with_along ps start (start - start) v xs
+along_none ps start v xs = let none : 0 ≡ start - start = omega arith in ap (λ (n : ℕ). with_along ps start n v xs) none
+
+pub all_of_none : {IsSuch : Class → Type 0} {ps : List ℕ} {start : ℕ} {cs : List Class} → start ≤ length ps → AreAll IsSuch ps start start cs
+all_of_none within = record { from_start = omega arith; within = within; each = λ k low high. absurd (omega arith) }
+
 -- one index more
-pub along_next : {X : Type 0} (ps : List ℕ) (start k : ℕ) (v : X) (xs : List X) → start ≤ k →
-    set (with_along ps start (k - start) v xs) (slice_index ps k) v ≡ with_along ps start (k + 1 - start) v xs
-along_next ps start k v xs low =
-    let n : ℕ = k - start in
+pub all_more : {IsSuch : Class → Type 0} {ps : List ℕ} {start k : ℕ} {cs : List Class} → AreAll IsSuch ps start k cs → k < length ps → IsSuch (class_at cs (slice_index ps k)) →
+    AreAll IsSuch ps start (k + 1) cs
+all_more {IsSuch} {ps} {start} {k} {cs} all inside here = record {
+  from_start = omega (arith, all.from_start);
+  within = omega arith;
+  each = λ i from to. elim (cases_eq i k) [
+    | inl e ↦ subst (λ j. IsSuch (class_at cs (slice_index ps j))) (sym e) here
+    | inr ne ↦ all.each i from (omega arith)
+  ];
+}
+
+-- the same where those before have been written
+pub all_more_written : {IsSuch : Class → Type 0} {ps : List ℕ} {start k : ℕ} {old now : List Class} (made : Class) → ArePositions ps (length old) → now ≡ with_along ps start (k - start) made old →
+    AreAll IsSuch ps start k old → k < length ps → IsSuch (class_at now (slice_index ps k)) → AreAll IsSuch ps start (k + 1) old
+all_more_written {IsSuch} {ps} {start} {k} {old} {now} made are is all inside here =
+    let kept : class_at now (slice_index ps k) ≡ class_at old (slice_index ps k) =
+    ap (λ (cs : List Class). class_at cs (slice_index ps k)) is ∙ unwritten ps start (k - start) k made old are (omega (arith, all.from_start)) inside in
+    all_more all inside (subst IsSuch kept here)
+
+pub along_next : {X : Type 0} {start k : ℕ} {now : List X} (ps : List ℕ) (v : X) (xs : List X) → start ≤ k → now ≡ with_along ps start (k - start) v xs →
+    set now (slice_index ps k) v ≡ with_along ps start (k + 1 - start) v xs
+along_next {X} {start} {k} {now} ps v xs low is =
     let more : k + 1 - start ≡ suc (k - start) = omega arith in
     let there : start + (k - start) ≡ k = omega arith in
-    ap (λ i. set (with_along ps start (k - start) v xs) (slice_index ps i) v) (sym there) ∙ ap (λ m. with_along ps start m v xs) (sym more)
+    ap (λ (ys : List X). set ys (slice_index ps k) v) is ∙ ap (λ i. set (with_along ps start (k - start) v xs) (slice_index ps i) v) (sym there) ∙ ap (λ m. with_along ps start m v xs) (sym more)
 
 module _ {X : Type 0} {given : X → Class → List Class → Class} {past : X → Class → List Class → X} {begin : X} {ps : List ℕ} {start now : List Class} {x : X} {k : ℕ}
     (w : Walk given past begin ps start now x k) (class made : Class) (gives : (cs : List Class) → given x class cs ≡ made) (stays : (cs : List Class) → past x class cs ≡ x) where

@@ -1,7 +1,6 @@
 -- What the rules leave of a sequence when they are called one after another (W1 to I2).
 use Rattle.std.specs.Prelude.{Option, ℕ, ◌≡◌, List}
 use Rattle.units.specs.Classes.{classes_at}
-use Rattle.units.specs.Layout.{after_rules}
 use Rattle.units.specs.Neutral.{after_neutral}
 use Rattle.units.specs.Runs.{SequenceView, direction_of}
 use Rattle.units.specs.Weak.{after_weak}
@@ -10,8 +9,8 @@ use Rattle.units.specs.declared.class.Class.{Class}
 use Rattle.resolve.specs.Paired.{HoldsPairsAfterWeak, RewritesByPairs}
 use Rattle.resolve.specs.Pairs.{HoldsPairs}
 use Rattle.resolve.specs.Raised.{Raises}
-use Rattle.resolve.specs.Resolved.{HasLevels, KeepsOtherLevels}
-use Rattle.resolve.specs.Rewritten.{KeepsOthers, Rewrites}
+use Rattle.resolve.specs.Resolved.{Resolves}
+use Rattle.resolve.specs.Rewritten.{Rewrites}
 
 -- the columns of a paragraph: its classes, closers of bracket pairs, and levels after each call
 pub record AfterEach : Type 0 where
@@ -31,10 +30,7 @@ pub record AreLeftInOrder (most_open : ℕ) (s : SequenceView) (us : List BidiUn
   pub neutral : Rewrites (after_neutral (direction_of s.level) s.sos s.eos) s.positions after.paired after.neutral
   pub levels : Raises s.level after.neutral s.positions old_levels after.levels
 
--- the last columns are the levels, the classes and the pairs that `resolve_sequence` leaves of the same ones
+-- the last columns are what `resolve_sequence` leaves of the same ones, with the pairs
 pub record AreResolved (most_open : ℕ) (s : SequenceView) (us : List BidiUnit) (before old_classes : List Class) (old_levels : List (Option ℕ)) (after : AfterEach) : Type 0 where
-  pub levels : HasLevels most_open s us before after.levels
-  pub other_levels : KeepsOtherLevels s.positions old_levels after.levels
-  pub classes : classes_at after.neutral s.positions ≡ after_rules most_open s us (classes_at before s.positions)
-  pub other_classes : KeepsOthers s.positions old_classes after.neutral
+  pub resolved : Resolves most_open s us before old_classes after.neutral old_levels after.levels
   pub pairs : HoldsPairsAfterWeak most_open s us before after.closers

@@ -17,17 +17,19 @@ is_plain WS = true
 is_plain ON = true
 is_plain _ = false
 
--- the positions of the indices from start up to end have this class
-pub record IsRunOf (class : Class) (ps : List ℕ) (start end : ℕ) (cs : List Class) : Type 0 where
+-- the classes at the positions of the indices from start up to end are such ones
+pub record AreAll (IsSuch : Class → Type 0) (ps : List ℕ) (start end : ℕ) (cs : List Class) : Type 0 where
   pub from_start : start ≤ end
   pub within : end ≤ length ps
-  pub same : (k : ℕ) → start ≤ k → k < end → class_at cs (slice_index ps k) ≡ class
+  pub each : (k : ℕ) → start ≤ k → k < end → IsSuch (class_at cs (slice_index ps k))
 
--- the positions of the indices from start up to end are neutral or have this direction
-pub record AreLeaning (direction : Class) (ps : List ℕ) (start end : ℕ) (cs : List Class) : Type 0 where
-  pub from_start : start ≤ end
-  pub within : end ≤ length ps
-  pub leaning : (k : ℕ) → start ≤ k → k < end → is_leaning direction (class_at cs (slice_index ps k)) ≡ true
+-- they are this class
+abbrev pub IsRunOf : Class → List ℕ → ℕ → ℕ → List Class → Type 0
+IsRunOf class = AreAll (λ c. c ≡ class)
+
+-- they are neutral or this direction
+abbrev pub AreLeaning : Class → List ℕ → ℕ → ℕ → List Class → Type 0
+AreLeaning direction = AreAll (λ c. is_leaning direction c ≡ true)
 
 -- a list by position, with one value at the positions of n indices, from start on
 abbrev pub with_along : {X : Type 0} → List ℕ → ℕ → ℕ → X → List X → List X

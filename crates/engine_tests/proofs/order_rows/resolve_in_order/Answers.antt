@@ -30,4 +30,4 @@ returns-clause-levels g c =
       paired = c.paired.ensures.classes;
       neutral = c.neutral.ensures.classes;
       levels = c.implicit.ensures.levels;
-    })).levels
+    })).resolved.levels

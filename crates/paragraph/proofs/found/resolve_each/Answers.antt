@@ -27,7 +27,7 @@ pub loop-k-preserved : goal.loop-k-preserved
 loop-k-preserved g c = record {
   covered =
       covered_next c.requires.apart c.get-sequence.ensures.value (omega arith) c.args.para.now.limits.brackets c.args.para.now.units.now c.args.para.now.before.now c.loop-k.classes c.resolve_sequence.new.classes c.loop-k.levels c.resolve_sequence.new.levels
-      (search rules) c.loop-k.invariant.covered c.resolve_sequence.ensures.levels c.resolve_sequence.ensures.other_levels c.resolve_sequence.ensures.other_classes;
+      (search rules) c.loop-k.invariant.covered c.resolve_sequence.ensures.resolved;
   room = search rules;
   at_least = omega arith;
   at_most = omega (arith, length_next c.requires.apart c.get-sequence.ensures.value (omega arith));
