@@ -14,12 +14,13 @@ use Rattle.units.specs.declared.class.Class.{Class}
 use Rattle.units.specs.declared.class.Class.TheVariants.{L, R, AL, B}
 use Rattle.explicit.specs.FirstParagraph.{first_length}
 use Rattle.paragraph.specs.ClassSets.{IsSetOf, is_class}
+use Rattle.paragraph.specs.Contents.{IsFront}
 use Rattle.paragraph.specs.declared.class_set.ClassSet.{ClassSet}
 use Rattle.explicit.proofs.Holders.Roles.{class_read}
 use Rattle.units.proofs.Lengths.{length-classes_of}
 
 -- the classes of one unit more
-pub classes_more : (us : List BidiUnit) (k : ℕ) (d : BidiUnit) → k < length us → classes_of (take (k + 1) us) ≡ classes_of (take k us) ++ (get_or us k d).class ∷ []
+classes_more : (us : List BidiUnit) (k : ℕ) (d : BidiUnit) → k < length us → classes_of (take (k + 1) us) ≡ classes_of (take k us) ++ (get_or us k d).class ∷ []
 classes_more us k d lt = ap classes_of (take_more us k d lt) ∙ map-append (λ (u : BidiUnit). u.class) (take k us) (get_or us k d ∷ [])
 
 -- where no unit was a separator, the first paragraph goes on
@@ -32,7 +33,7 @@ first_length_other unit units plain = rw plain refl
 first_length_separator : (unit : BidiUnit) (units : List BidiUnit) → is_separator unit.class ≡ true → first_length (unit ∷ units) ≡ 1
 first_length_separator unit units separates = rw separates refl
 
-pub goes_on : (us : List BidiUnit) (k : ℕ) (d : BidiUnit) → k < length us → is_separator (get_or us k d).class ≡ false → first_length us ≡ k + first_length (drop k us) →
+goes_on : (us : List BidiUnit) (k : ℕ) (d : BidiUnit) → k < length us → is_separator (get_or us k d).class ≡ false → first_length us ≡ k + first_length (drop k us) →
     first_length us ≡ (k + 1) + first_length (drop (k + 1) us)
 goes_on us k d lt plain e =
     let next = length_from us k d lt ∙ first_length_other (get_or us k d) (drop (k + 1) us) plain in
@@ -75,6 +76,15 @@ pub set_more : (set : ClassSet) (us : List BidiUnit) (k next : ℕ) → next ≡
 set_more set us k next is lt s =
     let P : List Class → Type 0 = λ cs. IsSetOf set cs in
     subst P (sym (ap (λ j. classes_of (take j us)) is ∙ classes_more us k no_unit lt)) s
+
+-- a front with one unit more
+pub front_more : {us : List BidiUnit} {k : ℕ} {before after : ClassSet} → IsFront k before us → k < length us → is_separator (get_or us k no_unit).class ≡ false →
+    IsSetOf after (classes_of (take k us) ++ (get_or us k no_unit).class ∷ []) → IsFront (k + 1) after us
+front_more {us} {k} {before} {after} front lt plain set = record {
+  within = omega arith;
+  goes_on = goes_on us k no_unit lt plain front.goes_on;
+  set = set_more after us k (k + 1) refl lt set;
+}
 
 -- a paragraph is its own first one
 pub first_of_one : (us : List BidiUnit) → SeparatorOnlyLast us → first_length us ≡ length us

@@ -1,5 +1,5 @@
 -- What a paragraph contains, as far as it tells which rules have something to do.
-use Rattle.std.specs.Prelude.{ℕ, Bool, ◌≡◌, ◌&&◌, not, List, find, take}
+use Rattle.std.specs.Prelude.{ℕ, ◌+◌, ◌≤◌, Bool, ◌≡◌, ◌&&◌, not, List, drop, find, length, take}
 use Rattle.std.specs.List.{list_all}
 use Rattle.units.specs.Classes.{classes_of, is_strong}
 use Rattle.units.specs.declared.bracket.Unit.{Unit as BidiUnit}
@@ -9,6 +9,7 @@ use Rattle.flat.specs.Flat.{is_flat}
 use Rattle.flat.specs.Uniform.{may_rise}
 use Rattle.paragraph.specs.ClassSets.{IsSetOf}
 use Rattle.paragraph.specs.FirstSides.{side_by}
+use Rattle.paragraph.specs.declared.class_set.ClassSet.{ClassSet}
 use Rattle.paragraph.specs.declared.contents.Contents.{Contents}
 use Rattle.paragraph.specs.declared.contents.FirstParagraph.{FirstParagraph}
 
@@ -23,6 +24,12 @@ are_flat cs = list_all is_flat cs
 -- X1 to I2: these classes leave each position at the paragraph's level
 abbrev pub keeps_level : ℕ → List Class → Bool
 keeps_level para_level cs = are_flat cs && has_none (may_rise para_level) cs
+
+-- P1: the first paragraph of a text goes on behind its first n units, which have these classes
+pub record IsFront (n : ℕ) (classes : ClassSet) (text : List BidiUnit) : Type 0 where
+  pub within : n ≤ length text
+  pub goes_on : first_length text ≡ n + first_length (drop n text)
+  pub set : IsSetOf classes (classes_of (take n text))
 
 -- what the paragraph of these classes contains, and the side of its first strong class (P2, no isolates looked at)
 pub record Describes (contents : Contents) (cs : List Class) : Type 0 where

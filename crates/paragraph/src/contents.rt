@@ -1,14 +1,13 @@
 //! What a paragraph contains, which tells the rules that have nothing to do in it; and where it ends.
-ghost use Rattle.std.specs.Prelude.{◌≡◌, ◌+◌, ◌<◌, ◌≤◌, IfSome, IsNone, List, [], ◌∷◌, Some, drop, false, find, length, take, true};
+ghost use Rattle.std.specs.Prelude.{◌≡◌, ◌+◌, ◌<◌, ◌≤◌, IfSome, IsNone, List, [], ◌∷◌, Some, false, find, length, take, true};
 ghost use Rattle.std.specs.List.{list_all, list_any};
 ghost use Rattle.units.specs.Classes.{classes_of, is_initiator, is_removed, is_strong};
 ghost use Rattle.units.specs.Isolates.{level_of_para};
 ghost use Rattle.units.specs.declared.class.Class.{Class as BidiClass};
-ghost use Rattle.explicit.specs.FirstParagraph.{first_length};
 ghost use Rattle.flat.specs.Flat.{is_flat};
 ghost use Rattle.flat.specs.Uniform.{may_rise_at_even, may_rise_at_odd};
 ghost use Rattle.paragraph.specs.ClassSets.{IsSetOf, is_class};
-ghost use Rattle.paragraph.specs.Contents.{Describes, IsFirstOf, are_flat, has_none, keeps_level};
+ghost use Rattle.paragraph.specs.Contents.{Describes, IsFirstOf, IsFront, are_flat, has_none, keeps_level};
 ghost use Rattle.paragraph.specs.FirstSides.{side_by};
 ghost use Rattle.resolve.specs.Sought.{may_weaken};
 
@@ -194,13 +193,9 @@ fn pass_fours<L: Ledger>(
     before: ClassSet,
     steps: &mut Steps<L>,
 ) -> Front
-    requires start { start ≤ length text.now }
-    requires goes_on { first_length text.now ≡ start + first_length (drop start text.now) }
-    requires before { IsSetOf before (classes_of (take start text.now)) }
+    requires front { IsFront start before text.now }
     ensures later { start ≤ result.length }
-    ensures within { result.length ≤ length text.now }
-    ensures goes_on { first_length text.now ≡ result.length + first_length (drop result.length text.now) }
-    ensures classes { IsSetOf result.classes (classes_of (take result.length text.now)) }
+    ensures front { IsFront result.length result.classes text.now }
     ensures steps { steps.new + start ≡ steps.old + result.length }
 {
     let mut classes = before;
@@ -223,10 +218,8 @@ fn scan_behind<L: Ledger>(
     before: ClassSet,
     steps: &mut Steps<L>,
 ) -> FirstParagraph
-    requires start { start ≤ length text.now }
-    requires goes_on { first_length text.now ≡ start + first_length (drop start text.now) }
+    requires front { IsFront start before text.now }
     requires strong { find is_strong (classes_of (take start text.now)) ≡ Some strong }
-    requires before { IsSetOf before (classes_of (take start text.now)) }
     ensures first { IsFirstOf result text.now }
     ensures within { result.length ≤ length text.now }
     ensures some { start ≤ result.length }

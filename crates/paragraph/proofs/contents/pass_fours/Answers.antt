@@ -19,8 +19,10 @@ loop-more-preserved g c =
     let four : p + 4 ≤ length us = subst P c.in-Some.is block.four in
     record {
       later = omega (arith, l.invariant.later);
-      within = omega (arith, four);
-      goes_on = goes_on_four us p four (subst R c.in-Some.is block.passed) l.invariant.goes_on;
-      classes = subst Q c.in-Some.is block.classes;
+      front = record {
+        within = omega (arith, four);
+        goes_on = goes_on_four us p four (subst R c.in-Some.is block.passed) l.invariant.front.goes_on;
+        set = subst Q c.in-Some.is block.classes;
+      };
       steps = omega (arith, c.add.ensures, l.invariant.steps);
     }
