@@ -8,7 +8,7 @@ use Rattle.units.specs.Layout.{no_unit}
 use Rattle.units.specs.declared.bracket.Unit.{Unit as BidiUnit}
 use Rattle.units.specs.declared.level.Direction.{Direction}
 use Rattle.units.specs.declared.level.ParaLevel.{ParaLevel}
-use Rattle.paragraph.specs.OneUnit.{IsKept, keeps_unit}
+use Rattle.paragraph.specs.Resolvers.{IsKept, keeps_unit}
 use Rattle.paragraph.specs.declared.one_unit.KeptUnit.{KeptUnit}
 use Rattle.lines.specs.Bounds.{bound_at, first_bound}
 use Rattle.lines.specs.Kept.{keeps_levels}

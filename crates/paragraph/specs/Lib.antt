@@ -5,4 +5,3 @@ pub mod Removed
 pub mod Resolvers
 pub mod StepBounds
 pub mod FirstSides
-pub mod OneUnit

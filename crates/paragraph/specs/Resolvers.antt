@@ -1,17 +1,49 @@
--- The fixed room for the resolution of paragraphs.
-use Rattle.std.specs.Prelude.{Option, Some, None, ℕ, ◌≡◌, List, slice_index_or}
+-- The resolution of paragraphs: its room, and what is known of a paragraph that was resolved, or of one unit alone.
+use Rattle.std.specs.Prelude.{Option, Some, None, ℕ, ◌≡◌, Bool, true, List, [], ◌∷◌, slice_index_or}
+use Rattle.units.specs.Classes.{classes_of}
+use Rattle.units.specs.Isolates.{level_of_para, para_level_of}
+use Rattle.units.specs.Layout.{resolved_levels}
+use Rattle.units.specs.Limits.{LimitsOf}
+use Rattle.units.specs.Runs.{SequenceView}
+use Rattle.units.specs.declared.bracket.Unit.{Unit as BidiUnit}
+use Rattle.units.specs.declared.class.Class.{Class}
+use Rattle.units.specs.declared.level.Direction.{Direction}
+use Rattle.explicit.specs.IsolateMaps.{Isolates}
+use Rattle.paragraph.specs.Contents.{keeps_level}
+use Rattle.paragraph.specs.declared.one_unit.KeptUnit.{KeptUnit}
+use Rattle.paragraph.specs.declared.resolver.Resolved.{Resolved}
 
--- each part has room for as many positions
-pub record HasRoomForParagraphs (room isolates explicit sequences : ℕ) : Type 0 where
-  pub for_isolates : isolates ≡ room
-  pub for_explicit : explicit ≡ room
-  pub for_sequences : sequences ≡ room
+-- for how many positions there is room, and what was found of the last paragraph (BD9, X1 to X10)
+pub record Found : Type 0 where
+  pub room : ℕ
+  pub isolates : Isolates
+  pub explicit : List (Option (ℕ × Class))
+  pub sequences : List SequenceView
 
--- likewise of what resolves them
-pub record HasRoomToResolve (room classes pairs : ℕ) : Type 0 where
-  pub for_classes : classes ≡ room
-  pub for_pairs : pairs ≡ room
+-- for how many positions there is room, and the classes before W1 with the copy of them to work on
+pub record Work : Type 0 where
+  pub room : ℕ
+  pub before : List Class
+  pub classes : List Class
 
 -- each position that has a level has this one
 abbrev pub StaysAt : ℕ → List (Option ℕ) → Type 0
 StaysAt level levels = (p v : ℕ) → slice_index_or levels p None ≡ Some v → v ≡ level
+
+-- P2 to I2: this is known of the paragraph, and these are its levels
+pub record IsResolved (limits : LimitsOf) (us : List BidiUnit) (direction : Direction) (para : Resolved) (column : List (Option ℕ)) : Type 0 where
+  pub level : level_of_para para.level ≡ para_level_of (classes_of us) direction
+  pub levels : column ≡ resolved_levels limits us (para_level_of (classes_of us) direction)
+  pub known : para.uniform ≡ keeps_level (level_of_para para.level) (classes_of us)
+  pub uniform : para.uniform ≡ true → StaysAt (level_of_para para.level) column
+
+-- X1 to I2: the unit alone keeps its paragraph's level
+abbrev pub keeps_unit : Direction → BidiUnit → Bool
+keeps_unit direction unit = keeps_level (para_level_of (unit.class ∷ []) direction) (unit.class ∷ [])
+
+-- P2 to I2: it does so, and these are the paragraph's level and its resolved one, whatever the limits are
+pub record IsKept (direction : Direction) (unit : BidiUnit) (kept : KeptUnit) : Type 0 where
+  pub keeps : keeps_unit direction unit ≡ true
+  pub para : level_of_para kept.para ≡ para_level_of (unit.class ∷ []) direction
+  pub levels : (limits : LimitsOf) →
+      kept.level ∷ [] ≡ resolved_levels limits (unit ∷ []) (para_level_of (unit.class ∷ []) direction)

@@ -69,22 +69,24 @@ fn begin_at(
 fn begin<L: Ledger>(
     para: &[Unit],
     flat: bool,
-    explicit: &[LeveledClass],
-    before: &mut [Class],
-    classes: &mut [Class],
+    found: &RoomToFind,
+    work: &mut RoomToResolve,
     levels: &mut [Option<Level>],
     steps: &mut Steps<L>,
 ) -> bool
-    requires found { length para.now ≤ length explicit.now }
-    requires before { length para.now ≤ length before.old }
-    requires classes { length para.now ≤ length classes.old }
+    requires found { length para.now ≤ found.now.room }
+    requires room { length para.now ≤ work.old.room }
     requires levels { length levels.old ≡ length para.now }
     ensures opened { result ≡ list_any (λ unit. is_open unit.bracket) para.now }
-    ensures before { take (length para.now) before.new ≡ classes_before flat para.now explicit.now }
-    ensures copy { take (length para.now) classes.new ≡ take (length para.now) before.new }
+    ensures before { take (length para.now) work.new.before ≡ classes_before flat para.now found.now.explicit }
+    ensures copy { take (length para.now) work.new.classes ≡ take (length para.now) work.new.before }
+    ensures room { work.new.room ≡ work.old.room }
     ensures none { (p : ℕ) → resolved_at levels.new p ≡ None }
     ensures steps { steps.new ≡ steps.old + length para.now }
 {
+    let explicit = found.explicit.column();
+    let before = &mut work.before[..];
+    let classes = &mut work.classes[..];
     let mut opened = false;
     for p in 0..para.len() {
         steps.tick();
@@ -142,29 +144,21 @@ pub fn resolve_found<L: Ledger>(
     steps: &mut Steps<L>,
 )
     requires contents { Describes contents (classes_of para.now) }
-    requires found { length para.now ≤ length found.now.explicit }
-    requires apart { AreDisjoint (length para.now) found.now.sequences.all }
-    requires own { AreOwn (positions_in found.now.sequences.all) para.now
+    requires found { length para.now ≤ found.now.room }
+    requires apart { AreDisjoint (length para.now) found.now.sequences }
+    requires own { AreOwn (positions_in found.now.sequences) para.now
         (classes_before (are_flat (classes_of para.now)) para.now found.now.explicit) }
-    requires room { length para.now ≤ work.old }
+    requires room { length para.now ≤ work.old.room }
     requires levels { length levels.old ≡ length para.now }
     ensures levels { HasLevelsBy limits.brackets para.now
         (classes_before (are_flat (classes_of para.now)) para.now found.now.explicit)
-        found.now.sequences.all levels.new }
-    ensures room { work.new ≡ work.old }
+        found.now.sequences levels.new }
+    ensures room { work.new.room ≡ work.old.room }
     ensures at_least { steps.old + length para.now ≤ steps.new }
     ensures at_most { steps.new ≤ steps.old + found_steps * length para.now }
 {
     let flat = contents.is_flat();
-    let openings = begin(
-        para,
-        flat,
-        found.explicit.column(),
-        &mut work.before,
-        &mut work.classes,
-        levels,
-        steps,
-    );
+    let openings = begin(para, flat, found, work, levels, steps);
     let unresolved = Unresolved {
         units: para,
         before: &work.before[..para.len()],

@@ -6,14 +6,13 @@ ghost use Rattle.units.specs.Isolates.{level_of_para, para_level_of};
 ghost use Rattle.units.specs.Paragraphs.{SeparatorOnlyLast};
 ghost use Rattle.units.specs.Runs.{leveled_of, sequences_of};
 ghost use Rattle.explicit.specs.ExplicitLevels.{HoldsLevels};
-ghost use Rattle.explicit.specs.IsolateMaps.{IsFilledFrom, room};
+ghost use Rattle.explicit.specs.IsolateMaps.{IsFilledFrom};
 ghost use Rattle.flat.specs.Uniform.{kept_level};
 ghost use Rattle.paragraph.specs.Contents.{Describes, are_flat};
 ghost use Rattle.paragraph.specs.StepBounds.{finding_steps};
 
 use crate::contents::Contents;
 use crate::rooms::RoomToFind;
-use explicit::isolates::IsolateMap;
 use explicit::levels::explicit_levels;
 use explicit::para_level::{level_under, para_level};
 use std::sync::ledger::Ledger;
@@ -29,14 +28,14 @@ pub fn find_level<L: Ledger>(
     para: &[Unit],
     contents: Contents,
     direction: Direction,
-    isolates: &mut IsolateMap,
+    found: &mut RoomToFind,
     steps: &mut Steps<L>,
 ) -> ParaLevel
     requires contents { Describes contents (classes_of para.now) }
-    requires room { length para.now ≤ room isolates.old }
+    requires room { length para.now ≤ found.old.room }
     ensures level { level_of_para result ≡ para_level_of (classes_of para.now) direction }
-    ensures isolates { are_flat (classes_of para.now) ≡ false → IsFilledFrom isolates.new (classes_of para.now) }
-    ensures room { room isolates.new ≡ room isolates.old }
+    ensures isolates { are_flat (classes_of para.now) ≡ false → IsFilledFrom found.new.isolates (classes_of para.now) }
+    ensures room { found.new.room ≡ found.old.room }
     ensures at_least { steps.old ≤ steps.new }
     ensures at_most { steps.new ≤ steps.old + length para.now }
     ensures light { are_flat (classes_of para.now) ≡ true → steps.new ≡ steps.old }
@@ -44,8 +43,8 @@ pub fn find_level<L: Ledger>(
     if contents.is_flat() {
         return level_under(direction, contents.side());
     }
-    isolates.fill(para, steps);
-    para_level(para, isolates, direction, steps)
+    found.isolates.fill(para, steps);
+    para_level(para, &found.isolates, direction, steps)
 }
 
 /// X1 to X9, BD13, X10: the sequences of a paragraph with these contents, of this level. Only where it isn't flat, its
@@ -62,15 +61,12 @@ pub fn find_sequences<L: Ledger>(
     requires separators { SeparatorOnlyLast para.now }
     requires isolates { are_flat (classes_of para.now) ≡ false
         → IsFilledFrom found.old.isolates (classes_of para.now) }
-    requires explicit { length para.now ≤ length found.old.explicit }
-    requires room { length para.now ≤ found.old.sequences.room }
+    requires room { length para.now ≤ found.old.room }
     ensures levels { are_flat (classes_of para.now) ≡ false
         → HoldsLevels found.new.explicit limits.depth (classes_of para.now) (level_of_para level) }
-    ensures all { found.new.sequences.all
+    ensures all { found.new.sequences
         ≡ sequences_of (leveled_of limits.depth (classes_of para.now) (level_of_para level)) }
-    ensures isolates { found.new.isolates ≡ found.old.isolates }
-    ensures explicit { length found.new.explicit ≡ length found.old.explicit }
-    ensures room { found.new.sequences.room ≡ found.old.sequences.room }
+    ensures room { found.new.room ≡ found.old.room }
     ensures at_least { steps.old ≤ steps.new }
     ensures at_most { steps.new ≤ steps.old + finding_steps * length para.now + 1 }
 {

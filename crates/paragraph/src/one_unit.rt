@@ -1,6 +1,6 @@
 //! A paragraph of one unit, which most classes leave at the paragraph's level (P2 to I2).
 ghost use Rattle.std.specs.Prelude.{◌≡◌, false, MatchOption};
-ghost use Rattle.paragraph.specs.OneUnit.{IsKept, keeps_unit};
+ghost use Rattle.paragraph.specs.Resolvers.{IsKept, keeps_unit};
 
 use crate::contents::Contents;
 use crate::gates::kept_level;

@@ -1,11 +1,9 @@
 //! The resolved levels of a paragraph, rule after rule (P2 to I2).
-ghost use Rattle.std.specs.Prelude.{◌≡◌, true, ◌+◌, ◌*◌, ◌≤◌, IfOk, length};
+ghost use Rattle.std.specs.Prelude.{◌≡◌, ℕ, true, ◌+◌, ◌*◌, ◌≤◌, IfOk, length};
 ghost use Rattle.units.specs.Classes.{classes_of};
-ghost use Rattle.units.specs.Isolates.{level_of_para, para_level_of};
-ghost use Rattle.units.specs.Layout.{resolved_levels};
 ghost use Rattle.units.specs.Paragraphs.{SeparatorOnlyLast};
-ghost use Rattle.paragraph.specs.Contents.{Describes, keeps_level};
-ghost use Rattle.paragraph.specs.Resolvers.{StaysAt};
+ghost use Rattle.paragraph.specs.Contents.{Describes};
+ghost use Rattle.paragraph.specs.Resolvers.{IsResolved};
 ghost use Rattle.paragraph.specs.StepBounds.{known_steps, paragraph_steps};
 
 use crate::contents::{Contents, FirstParagraph};
@@ -29,16 +27,11 @@ pub struct Resolver {
 }
 
 impl Model for Resolver {
-    ghost use Rattle.std.specs.Prelude.{ℕ, length};
-    ghost use Rattle.explicit.specs.IsolateMaps.{room};
-    ghost use Rattle.paragraph.specs.Resolvers.{HasRoomForParagraphs};
-
     ghost Value = { ℕ };
 
-    ghost view = { λ r. r.work };
+    ghost view = { λ r. r.work.room };
 
-    ghost invariant = { λ r. HasRoomForParagraphs r.work (room r.found.isolates) (length r.found.explicit)
-        r.found.sequences.room };
+    ghost invariant = { λ r. r.found.room ≡ r.work.room };
 }
 
 /// What is known of a paragraph that was resolved.
@@ -77,10 +70,7 @@ impl Resolver {
         requires room { length para.now ≤ self.old }
         requires separators { SeparatorOnlyLast para.now }
         requires levels { length levels.old ≡ length para.now }
-        ensures level { level_of_para result.level ≡ para_level_of (classes_of para.now) direction }
-        ensures levels { levels.new ≡ resolved_levels limits para.now (para_level_of (classes_of para.now) direction) }
-        ensures known { result.uniform ≡ keeps_level (level_of_para result.level) (classes_of para.now) }
-        ensures uniform { result.uniform ≡ true → StaysAt (level_of_para result.level) levels.new }
+        ensures resolved { IsResolved limits para.now direction result levels.new }
         ensures room { self.new ≡ self.old }
         ensures at_least { steps.old + 2 * length para.now ≤ steps.new }
         ensures at_most { steps.new ≤ steps.old + paragraph_steps * length para.now + 1 }
@@ -104,17 +94,14 @@ impl Resolver {
         requires contents { Describes contents (classes_of para.now) }
         requires separators { SeparatorOnlyLast para.now }
         requires levels { length levels.old ≡ length para.now }
-        ensures level { level_of_para result.level ≡ para_level_of (classes_of para.now) direction }
-        ensures levels { levels.new ≡ resolved_levels limits para.now (para_level_of (classes_of para.now) direction) }
-        ensures known { result.uniform ≡ keeps_level (level_of_para result.level) (classes_of para.now) }
-        ensures uniform { result.uniform ≡ true → StaysAt (level_of_para result.level) levels.new }
+        ensures resolved { IsResolved limits para.now direction result levels.new }
         ensures room { self.new ≡ self.old }
         ensures at_least { steps.old + length para.now ≤ steps.new }
         ensures at_most { steps.new ≤ steps.old + known_steps * length para.now + 1 }
         ensures light { result.uniform ≡ true → steps.new ≤ steps.old + length para.now }
     {
         // BD9, P2, P3.
-        let level = find_level(para, contents, direction, &mut self.found.isolates, steps);
+        let level = find_level(para, contents, direction, &mut self.found, steps);
 
         // X1 to I2, where nothing can leave that level.
         if contents.keeps(level) {

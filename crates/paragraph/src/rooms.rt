@@ -1,7 +1,8 @@
 //! The room for the resolution of paragraphs, in two parts: what finds their sequences, and what resolves them.
 ghost use Rattle.std.specs.Prelude.{◌≡◌, IfOk, length};
-ghost use Rattle.std.specs.Box.{boxed_slice_len};
+ghost use Rattle.std.specs.Box.{boxed_slice_items, boxed_slice_len};
 ghost use Rattle.explicit.specs.IsolateMaps.{room};
+ghost use Rattle.paragraph.specs.Resolvers.{Found, Work};
 
 use explicit::isolates::IsolateMap;
 use explicit::levels::Explicit;
@@ -13,7 +14,8 @@ use std::marker::Model;
 use units::class::Class;
 use units::memory::Memory;
 
-/// Room to find the sequences of a paragraph (BD9, X1 to X10), and what was found of the last one.
+/// Room to find the sequences of a paragraph (BD9, X1 to X10), and what was found of the last one. Contracts see that,
+/// and for how many positions there is room.
 #[derive(Drop)]
 pub struct RoomToFind {
     pub isolates: IsolateMap,
@@ -21,12 +23,18 @@ pub struct RoomToFind {
     pub sequences: Sequences,
 }
 
+impl Model for RoomToFind {
+    ghost Value = { Found };
+
+    ghost view = { λ r. record { room = length r.explicit; isolates = r.isolates; explicit = r.explicit; sequences = r.sequences.all } };
+
+    ghost invariant = { λ r. (room r.isolates ≡ length r.explicit) × (r.sequences.room ≡ length r.explicit) };
+}
+
 impl RoomToFind {
     /// Room for `n` positions.
     pub fn with_room(alloc: Global, n: usize) -> Result<RoomToFind, Memory>
-        ensures isolates { IfOk result (λ made. room made.isolates ≡ n) }
-        ensures explicit { IfOk result (λ made. length made.explicit ≡ n) }
-        ensures sequences { IfOk result (λ made. made.sequences.room ≡ n) }
+        ensures { IfOk result (λ made. made.room ≡ n) }
     {
         Ok(RoomToFind {
             isolates: IsolateMap::with_room(alloc, n)?,
@@ -44,7 +52,7 @@ fn class_column(alloc: Global, n: usize) -> Result<BoxedSlice<Class>, Memory>
 }
 
 /// Room to resolve the sequences of a paragraph (W1 to I2): its classes before W1, a copy of them to work on, and its
-/// bracket pairs. Contracts see for how many positions there is room.
+/// bracket pairs. Contracts see for how many positions there is room, and the classes.
 #[derive(Drop)]
 pub struct RoomToResolve {
     pub before: BoxedSlice<Class>,
@@ -53,22 +61,17 @@ pub struct RoomToResolve {
 }
 
 impl Model for RoomToResolve {
-    ghost use Rattle.std.specs.Prelude.{ℕ, length};
-    ghost use Rattle.std.specs.Box.{boxed_slice_items};
-    ghost use Rattle.paragraph.specs.Resolvers.{HasRoomToResolve};
+    ghost Value = { Work };
 
-    ghost Value = { ℕ };
+    ghost view = { λ r. record { room = length r.pairs; before = boxed_slice_items r.before; classes = boxed_slice_items r.classes } };
 
-    ghost view = { λ r. length (boxed_slice_items r.before) };
-
-    ghost invariant = { λ r. HasRoomToResolve (length (boxed_slice_items r.before))
-        (length (boxed_slice_items r.classes)) (length r.pairs) };
+    ghost invariant = { λ r. (boxed_slice_len r.before ≡ length r.pairs) × (boxed_slice_len r.classes ≡ length r.pairs) };
 }
 
 impl RoomToResolve {
     /// Room for `n` positions.
     pub fn with_room(alloc: Global, n: usize) -> Result<RoomToResolve, Memory>
-        ensures { IfOk result (λ made. made ≡ n) }
+        ensures { IfOk result (λ made. made.room ≡ n) }
     {
         Ok(RoomToResolve {
             before: class_column(alloc, n)?,

@@ -96,12 +96,12 @@ loop-start-preserved g c =
     record {
       written =
           rw (take_more_set l.paras l.paragraphs known.result.level room)
-          (written_to w end known.result.level _ (omega (arith, long)) known.ensures.level
+          (written_to w end known.result.level _ (omega (arith, long)) known.ensures.resolved.level
           (take-put_mid l.start _ l.levels known.new.levels end (omega arith) (omega arith)
-          ∙ ap (λ (xs : List (Option ℕ)). take l.start l.levels ++ xs) known.ensures.levels));
+          ∙ ap (λ (xs : List (Option ℕ)). take l.start l.levels ++ xs) known.ensures.resolved.levels));
       known =
           and_assoc l.uniform known.result.uniform (list_all keeps (paragraphs_of (drop end text)))
-          ∙ ap (λ b. l.uniform && (b && list_all keeps (paragraphs_of (drop end text)))) (known.ensures.known ∙ ap (λ n. keeps_level n (classes_of para)) known.ensures.level)
+          ∙ ap (λ b. l.uniform && (b && list_all keeps (paragraphs_of (drop end text)))) (known.ensures.resolved.known ∙ ap (λ n. keeps_level n (classes_of para)) known.ensures.resolved.level)
           ∙ ap (λ pieces. l.uniform && list_all keeps pieces) (sym split)
           ∙ l.invariant.known;
       segments =

@@ -17,10 +17,7 @@ pub returns : goal.returns
 returns g c =
     let all = c.of-first.ensures.first.length ∙ first_of_one c.args.para.now c.requires.separators in
     record {
-      level = c.resolve_known.ensures.level;
-      levels = c.resolve_known.ensures.levels;
-      known = c.resolve_known.ensures.known;
-      uniform = c.resolve_known.ensures.uniform;
+      resolved = c.resolve_known.ensures.resolved;
       room = c.resolve_known.ensures.room;
       at_least = omega (arith, all);
       at_most = omega (arith, all);

@@ -1,4 +1,4 @@
-use Rattle.std.proofs.Common.{arith, rules, ap, sym, subst, ◌≡◌, ◌∙◌, ℕ, List, length, map, true}
+use Rattle.std.proofs.Common.{arith, rules, ap, sym, subst, ◌∙◌, ℕ, List, length, map}
 use Rattle.units.specs.Classes.{classes_of}
 use Rattle.units.specs.Isolates.{level_of_para}
 use Rattle.units.specs.Layout.{resolved_levels}
@@ -6,28 +6,26 @@ use Rattle.units.specs.Runs.{SequenceView}
 use Rattle.units.specs.declared.bracket.Unit.{Unit as BidiUnit}
 use Rattle.flat.specs.Uniform.{kept_level}
 use Rattle.sequences.proofs.FilledFrom.{level_of_para-low}
-use Rattle.paragraph.specs.Contents.{are_flat, keeps_level}
+use Rattle.paragraph.specs.Contents.{are_flat}
 use Rattle.paragraph.specs.Covering.{AreDisjoint, positions_in}
 use Rattle.paragraph.proofs.AllSequences.{sequences_are_apart}
 use Rattle.paragraph.proofs.FlatLevels.{flat_from, kept_stays, levels_are_kept, levels_before, own_before}
 use Rattle.paragraph.proofs.resolver.Resolver.resolve_known.Goals as goal
 
-pub returns-then-keeps-clause-levels : goal.returns-then-keeps-clause-levels
-returns-then-keeps-clause-levels g c =
+pub returns-then-keeps-clause-resolved : goal.returns-then-keeps-clause-resolved
+returns-then-keeps-clause-resolved g c =
     let level : ℕ = level_of_para c.find_level-level.result in
-    let kept : keeps_level level (classes_of c.args.para.now) ≡ true = sym (c.keeps.ensures (classes_of c.args.para.now) c.requires.contents) ∙ c.if-keeps.true in
-    c.write_level.ensures.levels
-    ∙ ap (λ (l : ℕ). map (λ (u : BidiUnit). kept_level l u.class) c.args.para.now) c.level.ensures.value
-    ∙ levels_are_kept c.args.limits c.args.para.now level kept
-    ∙ ap (resolved_levels c.args.limits c.args.para.now) c.find_level-level.ensures.level
-
-pub returns-then-keeps-clause-known : goal.returns-then-keeps-clause-known
-returns-then-keeps-clause-known g c = sym c.if-keeps.true ∙ c.keeps.ensures (classes_of c.args.para.now) c.requires.contents
-
-pub returns-then-keeps-clause-uniform : goal.returns-then-keeps-clause-uniform
-returns-then-keeps-clause-uniform g c = λ e.
-    kept_stays c.args.para.now (level_of_para c.find_level-level.result) c.write_level.new.levels
-    (c.write_level.ensures.levels ∙ ap (λ (l : ℕ). map (λ (u : BidiUnit). kept_level l u.class) c.args.para.now) c.level.ensures.value)
+    let keeps = c.keeps.ensures (classes_of c.args.para.now) c.requires.contents in
+    let written = c.write_level.ensures.levels ∙ ap (λ (l : ℕ). map (λ (u : BidiUnit). kept_level l u.class) c.args.para.now) c.level.ensures.value in
+    record {
+      level = c.find_level-level.ensures.level;
+      levels =
+          written
+          ∙ levels_are_kept c.args.limits c.args.para.now level (sym keeps ∙ c.if-keeps.true)
+          ∙ ap (resolved_levels c.args.limits c.args.para.now) c.find_level-level.ensures.level;
+      known = sym c.if-keeps.true ∙ keeps;
+      uniform = λ e. kept_stays c.args.para.now level c.write_level.new.levels written;
+    }
 
 pub resolve_found-requires-clause-apart : goal.resolve_found-requires-clause-apart
 resolve_found-requires-clause-apart g c =
@@ -37,11 +35,16 @@ resolve_found-requires-clause-apart g c =
 
 pub resolve_found-requires-clause-own : goal.resolve_found-requires-clause-own
 resolve_found-requires-clause-own g c =
-    own_before c.args.limits c.args.para.now (level_of_para c.find_level-level.result) c.find_sequences.new.found.explicit (are_flat (classes_of c.args.para.now)) c.find_sequences.ensures.levels (positions_in c.find_sequences.new.found.sequences.all)
+    own_before c.args.limits c.args.para.now (level_of_para c.find_level-level.result) c.find_sequences.new.found.explicit (are_flat (classes_of c.args.para.now)) c.find_sequences.ensures.levels (positions_in c.find_sequences.new.found.sequences)
 
-pub returns-clause-levels : goal.returns-clause-levels
-returns-clause-levels g c =
-    levels_before c.args.limits c.args.para.now (level_of_para c.find_level-level.result) c.find_sequences.new.found.explicit (are_flat (classes_of c.args.para.now))
-    (flat_from (classes_of c.args.para.now)) c.find_sequences.ensures.levels c.find_sequences.new.found.sequences.all c.resolve_found.new.levels c.find_sequences.ensures.all (search rules)
-    c.resolve_found.ensures.levels
-    ∙ ap (resolved_levels c.args.limits c.args.para.now) c.find_level-level.ensures.level
+pub returns-clause-resolved : goal.returns-clause-resolved
+returns-clause-resolved g c = record {
+  level = c.find_level-level.ensures.level;
+  levels =
+      levels_before c.args.limits c.args.para.now (level_of_para c.find_level-level.result) c.find_sequences.new.found.explicit (are_flat (classes_of c.args.para.now))
+      (flat_from (classes_of c.args.para.now)) c.find_sequences.ensures.levels c.find_sequences.new.found.sequences c.resolve_found.new.levels c.find_sequences.ensures.all (search rules)
+      c.resolve_found.ensures.levels
+      ∙ ap (resolved_levels c.args.limits c.args.para.now) c.find_level-level.ensures.level;
+  known = search rules;
+  uniform = search rules;
+}
