@@ -1,5 +1,5 @@
 //! W1 to I2 over a paragraph whose sequences were found.
-ghost use Rattle.std.specs.Prelude.{◌≡◌, false, true, ◌+◌, ◌*◌, ◌<◌, ◌≤◌, ℕ, None, length, slice_index_or, slice_set, take};
+ghost use Rattle.std.specs.Prelude.{◌≡◌, false, true, ◌+◌, ◌*◌, ◌<◌, ◌≤◌, ℕ, None, length, slice_index_or, take};
 ghost use Rattle.std.specs.List.{list_any};
 ghost use Rattle.std.specs.Option.{option_map_or};
 ghost use Rattle.units.specs.Brackets.{is_open};
@@ -44,26 +44,6 @@ fn is_open(bracket: Bracket) -> bool
     matches!(bracket, Bracket::Open(_))
 }
 
-/// Writes the current class of a position into both columns, and no level.
-fn begin_at(
-    p: usize,
-    class: Class,
-    before: &mut [Class],
-    classes: &mut [Class],
-    levels: &mut [Option<Level>],
-)
-    requires before { p < length before.old }
-    requires classes { p < length classes.old }
-    requires levels { p < length levels.old }
-    ensures before { before.new ≡ slice_set before.old p class }
-    ensures classes { classes.new ≡ slice_set classes.old p class }
-    ensures levels { levels.new ≡ slice_set levels.old p None }
-{
-    before[p] = class;
-    classes[p] = class;
-    levels[p] = None;
-}
-
 /// X1 to X8: writes the classes before W1 to the fronts of both columns, and no levels: the own ones of a `flat`
 /// paragraph, and else those that were found. Answers whether it has an opening bracket.
 fn begin<L: Ledger>(
@@ -93,7 +73,9 @@ fn begin<L: Ledger>(
         let unit = para[p];
         opened = opened | is_open(unit.bracket);
         let class = class_before(flat, unit, explicit, p);
-        begin_at(p, class, before, classes, levels);
+        before[p] = class;
+        classes[p] = class;
+        levels[p] = None;
     }
     opened
 }
