@@ -14,7 +14,8 @@ ghost use Rattle.lines.specs.Spans.{IsSpanAtLevel, order_of, units_in_span};
 
 use crate::bounds::Bound;
 use crate::columns::LineColumns;
-use crate::order::write_known_order;
+use crate::order::write_order;
+use crate::resolving::ResolvedText;
 use crate::runs::Run;
 use crate::spans::LineSpan;
 use std::sync::ledger::Ledger;
@@ -54,50 +55,49 @@ fn write_line<L: Ledger>(
     ensures light { IfSome uniform (λ _. steps.new ≤ steps.old + light_order_steps * units_in_span line.entry) }
     ensures twice { IfSome uniform (λ _. steps.old + 2 * units_in_span line.entry ≤ steps.new + 1) }
 {
-    written + write_known_order(line, uniform, runs, &mut orders[written..], steps)
+    written + write_order(line, uniform, runs, &mut orders[written..], steps)
 }
 
 /// Writes the orders of a text's lines (L2) to the front of their column. The bounds say already where the lines end;
 /// where their orders end is written to them. It answers how many lines and how many positions there are.
 ///
-/// `paras` are the levels of the text's paragraphs, and the levels are those of its positions after L1; `uniform`
-/// says that each one that remains is known to have its paragraph's. It takes at least n and at most `7 * n` steps for
-/// a text of n positions, however many lines it has, and where that is known at most `3 * n`.
+/// `paras` are the levels of the text's paragraphs, and the levels are those of its positions after L1. It takes at
+/// least n and at most `7 * n` steps for a text of n positions, however many lines it has, and at most `3 * n` where
+/// each position that remains is known to have its paragraph's level.
 // Inlined, a short text takes fewer instructions.
 #[inline(always)]
 pub(crate) fn fill_lines<L: Ledger>(
     own: &[Unit],
-    lines: usize,
+    resolved: ResolvedText,
     paras: &[ParaLevel],
-    uniform: bool,
     levels: &[Option<Level>],
     columns: &mut LineColumns,
     steps: &mut Steps<L>,
 ) -> Filled
-    requires ends { AreEndsOfLines own.now lines (bounds_in columns.old) }
-    requires few { lines ≤ length own.now }
+    requires ends { AreEndsOfLines own.now resolved.lines (bounds_in columns.old) }
+    requires few { resolved.lines ≤ length own.now }
     requires paras { length paras.now ≡ length (paragraphs_of own.now) }
     requires levels { length levels.now ≡ length own.now }
-    requires uniform { IsTrue uniform → StaysAtParas own.now paras.now levels.now }
+    requires uniform { IsTrue resolved.uniform → StaysAtParas own.now paras.now levels.now }
     requires small { length own.now < 2 ^ 32 }
     requires room { HasLineRoom columns.old (length own.now) }
     ensures room { KeepsLineRoom columns.old columns.new }
     ensures bounds { AreBounds levels.now (orders_filled result columns.new) (bounds_filled result columns.new) }
-    ensures lines { (breaks : List ℕ) → AreAllLineEnds own.now breaks lines (bounds_in columns.old)
+    ensures lines { (breaks : List ℕ) → AreAllLineEnds own.now breaks resolved.lines (bounds_in columns.old)
         → lines_filled result columns.new ≡ lines_cut_at levels.now (cuts_of (classes_of own.now) breaks) }
-    ensures all { result.lines ≡ lines }
+    ensures all { result.lines ≡ resolved.lines }
     ensures few_positions { result.positions ≤ length own.now }
-    ensures at_least { steps.old + length own.now + lines ≤ steps.new }
+    ensures at_least { steps.old + length own.now + resolved.lines ≤ steps.new }
     ensures at_most { steps.new ≤ steps.old + line_steps * length own.now }
-    ensures light { IsTrue uniform → steps.new ≤ steps.old + light_line_steps * length own.now }
-    ensures twice { IsTrue uniform → steps.old + 2 * length own.now ≤ steps.new }
+    ensures light { IsTrue resolved.uniform → steps.new ≤ steps.old + light_line_steps * length own.now }
+    ensures twice { IsTrue resolved.uniform → steps.old + 2 * length own.now ≤ steps.new }
 {
     let runs: &mut [Run] = &mut columns.runs;
     let orders: &mut [usize] = &mut columns.orders;
     let bounds: &mut [Bound] = &mut columns.bounds;
     let mut positions = 0;
     let mut paragraph = 0;
-    for line in 0..lines {
+    for line in 0..resolved.lines {
         steps.tick();
         let end = bounds[line + 1].position as usize;
         let span = LineSpan {
@@ -105,10 +105,13 @@ pub(crate) fn fill_lines<L: Ledger>(
             start: bounds[line].position as usize,
             end,
         };
-        let level = uniform.then_some(paras[paragraph]);
+        let level = resolved.uniform.then_some(paras[paragraph]);
         positions = write_line(span, level, positions, runs, orders, steps);
         bounds[line + 1].order = positions as u32;
         paragraph += usize::from(own[end - 1].class.is_separator());
     }
-    Filled { lines, positions }
+    Filled {
+        lines: resolved.lines,
+        positions,
+    }
 }

@@ -70,35 +70,6 @@ fn write_all<L: Ledger>(
     }
 }
 
-/// Writes the remaining positions of a line that all have this level from left to right to the front of `order`, in
-/// at most two steps for each of its positions. It answers how many they are.
-// Inlined, a short text takes fewer instructions.
-#[inline(always)]
-fn write_uniform<L: Ledger>(
-    line: LineSpan<'_>,
-    level: ParaLevel,
-    order: &mut [usize],
-    steps: &mut Steps<L>,
-) -> usize
-    requires uniform { IsSpanAtLevel line (level_of_para level) }
-    requires room { units_in_span line ≤ length order.old }
-    ensures order { take result order.new ≡ order_of line.entry }
-    ensures count { result ≤ units_in_span line.entry }
-    ensures at_least { steps.old + units_in_span line.entry ≤ steps.new }
-    ensures twice { steps.old + 2 * units_in_span line.entry ≤ steps.new + 1 }
-    ensures at_most { steps.new ≤ steps.old + light_order_steps * units_in_span line.entry }
-{
-    let LineSpan { levels, start, end } = line;
-    if end - start > 1 && all_remain(&levels[start..end], steps) {
-        write_all(start, end, level, order, steps);
-        return end - start;
-    }
-    match level {
-        ParaLevel::Zero => write_rising(line, order, steps),
-        ParaLevel::One => write_falling(line, order, steps),
-    }
-}
-
 /// Writes the positions of a run from left to right to the front of `order`, a step for each. It answers how many
 /// they are.
 fn write_run<L: Ledger>(run: LineSpan<'_>, order: &mut [usize], steps: &mut Steps<L>) -> usize
@@ -172,34 +143,6 @@ fn write_runs<L: Ledger>(
     }
 }
 
-/// What `write_order` does; where the level of the line is known, what remains is looked for and written, a step for
-/// each position both times.
-// Inlined, a short text takes fewer instructions.
-#[inline(always)]
-pub(crate) fn write_known_order<L: Ledger>(
-    line: LineSpan<'_>,
-    uniform: Option<ParaLevel>,
-    runs: &mut [Run],
-    order: &mut [usize],
-    steps: &mut Steps<L>,
-) -> usize
-    requires uniform { IfSome uniform (λ level. IsSpanAtLevel line (level_of_para level)) }
-    requires runs { line.end ≤ length runs.old }
-    requires small { line.end < 2 ^ 32 }
-    requires room { units_in_span line ≤ length order.old }
-    ensures order { take result order.new ≡ order_of line.entry }
-    ensures count { result ≤ units_in_span line.entry }
-    ensures at_least { steps.old + units_in_span line.entry ≤ steps.new }
-    ensures at_most { steps.new ≤ steps.old + order_steps * units_in_span line.entry }
-    ensures light { IfSome uniform (λ _. steps.new ≤ steps.old + light_order_steps * units_in_span line.entry) }
-    ensures twice { IfSome uniform (λ _. steps.old + 2 * units_in_span line.entry ≤ steps.new + 1) }
-{
-    match uniform {
-        None => write_runs(line, runs, order, steps),
-        Some(level) => write_uniform(line, level, order, steps),
-    }
-}
-
 /// Writes the order of a line (L2) to the front of `order`: its positions that were not removed, from left to right.
 /// It answers how many they are.
 ///
@@ -225,6 +168,18 @@ pub fn write_order<L: Ledger>(
     ensures at_least { steps.old + units_in_span line.entry ≤ steps.new }
     ensures at_most { steps.new ≤ steps.old + order_steps * units_in_span line.entry }
     ensures light { IfSome uniform (λ _. steps.new ≤ steps.old + light_order_steps * units_in_span line.entry) }
+    ensures twice { IfSome uniform (λ _. steps.old + 2 * units_in_span line.entry ≤ steps.new + 1) }
 {
-    write_known_order(line, uniform, runs, order, steps)
+    let Some(level) = uniform else {
+        return write_runs(line, runs, order, steps);
+    };
+    let LineSpan { levels, start, end } = line;
+    if end - start > 1 && all_remain(&levels[start..end], steps) {
+        write_all(start, end, level, order, steps);
+        return end - start;
+    }
+    match level {
+        ParaLevel::Zero => write_rising(line, order, steps),
+        ParaLevel::One => write_falling(line, order, steps),
+    }
 }

@@ -8,6 +8,7 @@ ghost use Rattle.lines.specs.LineEnds.{AreAllParagraphEnds, paragraph_start};
 ghost use Rattle.lines.specs.Spaces.{HasNoSegments, SeparateNone, StaysAtParas, levels_reset, resets_before};
 
 use crate::breaks::Breaks;
+use crate::resolving::ResolvedText;
 use std::sync::ledger::Ledger;
 use units::bracket::Unit;
 use units::class::Class;
@@ -250,8 +251,7 @@ fn reset_unsegmented<L: Ledger>(
 }
 
 /// What `reset_text` does, where it may change a level: not where each position that remains is known to have its
-/// paragraph's, as `uniform` says. `para_ends` are where the paragraphs of the text end, and where `segmented` says no,
-/// no unit is a segment separator.
+/// paragraph's. `para_ends` are where the paragraphs of the text end.
 // Inlined, a short text takes fewer instructions.
 #[inline(always)]
 pub(crate) fn reset_unless_uniform<L: Ledger>(
@@ -259,8 +259,7 @@ pub(crate) fn reset_unless_uniform<L: Ledger>(
     breaks: &Breaks,
     para_ends: &[u32],
     paras: &[ParaLevel],
-    uniform: bool,
-    segmented: bool,
+    resolved: ResolvedText,
     levels: &mut [Option<Level>],
     steps: &mut Steps<L>,
 )
@@ -269,19 +268,19 @@ pub(crate) fn reset_unless_uniform<L: Ledger>(
     requires paras { length paras.now ≡ length (paragraphs_of own.now) }
     requires ends { AreAllParagraphEnds own.now para_ends.now }
     requires each { length para_ends.now ≡ length paras.now }
-    requires uniform { IsTrue uniform → StaysAtParas own.now paras.now levels.old }
-    requires none { segmented ≡ false → HasNoSegments own.now }
+    requires uniform { IsTrue resolved.uniform → StaysAtParas own.now paras.now levels.old }
+    requires none { resolved.segmented ≡ false → HasNoSegments own.now }
     ensures levels { levels.new ≡ levels_reset own.now breaks.now.positions paras.now levels.old }
-    ensures same { IsTrue uniform → levels.new ≡ levels.old }
-    ensures uniform { IsTrue uniform → StaysAtParas own.now paras.now levels.new }
+    ensures same { IsTrue resolved.uniform → levels.new ≡ levels.old }
+    ensures uniform { IsTrue resolved.uniform → StaysAtParas own.now paras.now levels.new }
     ensures at_least { steps.old ≤ steps.new }
     ensures at_most { steps.new ≤ steps.old + length own.now }
-    ensures light { IsTrue uniform → steps.new ≡ steps.old }
+    ensures light { IsTrue resolved.uniform → steps.new ≡ steps.old }
 {
-    if uniform {
+    if resolved.uniform {
         return;
     }
-    if segmented {
+    if resolved.segmented {
         reset_text(own, breaks, paras, levels, steps);
     } else {
         reset_unsegmented(own, breaks, para_ends, paras, levels, steps);

@@ -24,7 +24,7 @@ ended_at bounds position order = bounds ++ record { position = position; order =
 
 pub loop-line-init : goal.loop-line-init
 loop-line-init g c =
-    let ends = subst (AreAllLineEnds c.args.own.now c.requires.ends.0 c.args.lines) (sym c.deref_mut-bounds.ensures.value) c.requires.ends.1 in
+    let ends = subst (AreAllLineEnds c.args.own.now c.requires.ends.0 c.args.resolved.lines) (sym c.deref_mut-bounds.ensures.value) c.requires.ends.1 in
     let bounds = c.deref_mut-bounds.result.now in
     let first = ends.first in
     let start : (bound_at bounds 0).position ≡ 0 = ap (λ (b : Bound). b.position) first in
@@ -43,7 +43,7 @@ loop-line-init g c =
 pub bounds-paras-paragraph : goal.bounds-paras-paragraph
 bounds-paras-paragraph g c =
     let l = c.loop-line in
-    let ends = subst (AreAllLineEnds c.args.own.now c.requires.ends.0 c.args.lines) (sym c.deref_mut-bounds.ensures.value) c.requires.ends.1 in
+    let ends = subst (AreAllLineEnds c.args.own.now c.requires.ends.0 c.args.resolved.lines) (sym c.deref_mut-bounds.ensures.value) c.requires.ends.1 in
     let own = classes_of c.args.own.now in
     let start = (bound_at c.deref_mut-bounds.result.now l.line).position in
     let len : length own ≡ length c.args.own.now = length-map c.args.own.now (λ u. u.class) in
@@ -53,7 +53,7 @@ bounds-paras-paragraph g c =
 pub invariant_of-span : goal.invariant_of-span
 invariant_of-span g c =
     let l = c.loop-line in
-    let ends = subst (AreAllLineEnds c.args.own.now c.requires.ends.0 c.args.lines) (sym c.deref_mut-bounds.ensures.value) c.requires.ends.1 in
+    let ends = subst (AreAllLineEnds c.args.own.now c.requires.ends.0 c.args.resolved.lines) (sym c.deref_mut-bounds.ensures.value) c.requires.ends.1 in
     let own = classes_of c.args.own.now in
     let at = c.requires.ends.0 in
     let len : length own ≡ length c.args.own.now = length-map c.args.own.now (λ u. u.class) in
@@ -63,7 +63,7 @@ invariant_of-span g c =
 pub write_line-positions-requires-clause-uniform : goal.write_line-positions-requires-clause-uniform
 write_line-positions-requires-clause-uniform g c =
     let l = c.loop-line in
-    let ends = subst (AreAllLineEnds c.args.own.now c.requires.ends.0 c.args.lines) (sym c.deref_mut-bounds.ensures.value) c.requires.ends.1 in
+    let ends = subst (AreAllLineEnds c.args.own.now c.requires.ends.0 c.args.resolved.lines) (sym c.deref_mut-bounds.ensures.value) c.requires.ends.1 in
     let own = classes_of c.args.own.now in
     let levels = c.args.levels.now in
     let paras = c.args.paras.now in
@@ -77,13 +77,13 @@ write_line-positions-requires-clause-uniform g c =
     let bound = paragraph_at c.args.own.now (length paras) start c.requires.paras (omega (arith, cut.above, cut.within)) in
     let para = para_read own paras start l.paragraph counted (omega (arith, bound, counted)) in
     subst (λ o. IfSome o (λ p. IsAtOneLevel levels start end (level_of_para p))) (sym c.then_some-level.ensures)
-    (known_level c.args.uniform levels start end (para_level_at own (map level_of_para paras) start) (slice_index_or paras l.paragraph Zero) para
+    (known_level c.args.resolved.uniform levels start end (para_level_at own (map level_of_para paras) start) (slice_index_or paras l.paragraph Zero) para
     (λ known. line_uniform own at (map level_of_para paras) levels start end (c.requires.uniform known) cut))
 
 pub loop-line-preserved : goal.loop-line-preserved
 loop-line-preserved g c =
     let l = c.loop-line in
-    let ends = subst (AreAllLineEnds c.args.own.now c.requires.ends.0 c.args.lines) (sym c.deref_mut-bounds.ensures.value) c.requires.ends.1 in
+    let ends = subst (AreAllLineEnds c.args.own.now c.requires.ends.0 c.args.resolved.lines) (sym c.deref_mut-bounds.ensures.value) c.requires.ends.1 in
     let own = classes_of c.args.own.now in
     let levels = c.args.levels.now in
     let start : ℕ = (bound_at l.bounds l.line).position in
@@ -122,10 +122,10 @@ loop-line-preserved g c =
       at_least = omega (arith, same_start, same_end, cut.above, c.tick.ensures, line.ensures.at_least);
       at_most = omega (arith, same_start, same_end, cut.above, line.ensures.at_most);
       twice = λ known.
-          let many = where_known c.args.uniform _ c.then_some-level.result c.then_some-level.ensures line.ensures.twice known in
+          let many = where_known c.args.resolved.uniform _ c.then_some-level.result c.then_some-level.ensures line.ensures.twice known in
           omega (arith, same_start, same_end, l.invariant.twice known, cut.above, c.tick.ensures, many);
       light = λ known.
-          let few = where_known c.args.uniform _ c.then_some-level.result c.then_some-level.ensures line.ensures.light known in
+          let few = where_known c.args.resolved.uniform _ c.then_some-level.result c.then_some-level.ensures line.ensures.light known in
           omega (arith, same_start, same_end, l.invariant.light known, cut.above, c.tick.ensures, few);
     }
 
@@ -133,8 +133,8 @@ pub returns-clause-bounds : goal.returns-clause-bounds
 returns-clause-bounds g c =
     let l = c.loop-line in
     let room = c.args.columns.now in
-    let all : l.line ≡ c.args.lines = omega (arith, l.auto.line-end) in
-    let ends = subst (AreAllLineEnds c.args.own.now c.requires.ends.0 c.args.lines) (sym c.deref_mut-bounds.ensures.value) c.requires.ends.1 in
+    let all : l.line ≡ c.args.resolved.lines = omega (arith, l.auto.line-end) in
+    let ends = subst (AreAllLineEnds c.args.own.now c.requires.ends.0 c.args.resolved.lines) (sym c.deref_mut-bounds.ensures.value) c.requires.ends.1 in
     let f = l.invariant.filling c.requires.ends.0 ends in
     let as_orders : length l.orders ≡ room.orders.items.len = search rules in
     let as_bounds : length l.bounds ≡ room.bounds.items.len = search rules in
@@ -148,13 +148,13 @@ returns-clause-lines g c = λ breaks ends.
     let held = c.deref_mut-bounds.result.now in
     let own = classes_of c.args.own.now in
     let levels = c.args.levels.now in
-    let all : l.line ≡ c.args.lines = omega (arith, l.auto.line-end) in
+    let all : l.line ≡ c.args.resolved.lines = omega (arith, l.auto.line-end) in
     let len : length own ≡ length c.args.own.now = length-map c.args.own.now (λ u. u.class) in
-    let were = subst (AreAllLineEnds c.args.own.now breaks c.args.lines) (sym c.deref_mut-bounds.ensures.value) ends in
+    let were = subst (AreAllLineEnds c.args.own.now breaks c.args.resolved.lines) (sym c.deref_mut-bounds.ensures.value) ends in
     let done : (bound_at held l.line).position ≡ length levels = ap (λ n. (bound_at held n).position) all ∙ were.last ∙ sym c.requires.levels in
-    let f : Filling levels (begins_line own breaks) (bound_at held l.line).position (take l.positions l.orders) (take (c.args.lines + 1) l.bounds) =
+    let f : Filling levels (begins_line own breaks) (bound_at held l.line).position (take l.positions l.orders) (take (c.args.resolved.lines + 1) l.bounds) =
     subst (λ n. Filling levels (begins_line own breaks) (bound_at held l.line).position (take l.positions l.orders) (take (n + 1) l.bounds)) all (l.invariant.filling breaks were) in
     let as_orders : length l.orders ≡ room.orders.items.len = search rules in
     let as_bounds : length l.bounds ≡ room.bounds.items.len = search rules in
     rw (with_items_is room.orders.items l.orders as_orders, with_items_is room.bounds.items l.bounds as_bounds)
-    (filling_end levels own breaks (bound_at held l.line).position (take l.positions l.orders) (take (c.args.lines + 1) l.bounds) (len ∙ sym c.requires.levels) done f)
+    (filling_end levels own breaks (bound_at held l.line).position (take l.positions l.orders) (take (c.args.resolved.lines + 1) l.bounds) (len ∙ sym c.requires.levels) done f)

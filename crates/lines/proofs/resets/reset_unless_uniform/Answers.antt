@@ -5,6 +5,6 @@ use Rattle.units.specs.Isolates.{level_of_para}
 use Rattle.lines.proofs.KeptLevels.{levels_kept}
 use Rattle.lines.proofs.resets.reset_unless_uniform.Goals as goal
 
-pub returns-then-uniform-clause-levels : goal.returns-then-uniform-clause-levels
-returns-then-uniform-clause-levels g c =
-    sym (levels_kept (classes_of c.args.own.now) c.args.breaks.now.positions (map level_of_para c.args.paras.now) c.args.levels.now (c.requires.uniform c.if-uniform.true))
+pub returns-then-resolved-clause-levels : goal.returns-then-resolved-clause-levels
+returns-then-resolved-clause-levels g c =
+    sym (levels_kept (classes_of c.args.own.now) c.args.breaks.now.positions (map level_of_para c.args.paras.now) c.args.levels.now (c.requires.uniform c.if-resolved.true))
