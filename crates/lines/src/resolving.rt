@@ -1,13 +1,11 @@
 //! The paragraph levels and the resolved levels of a text (P1 to I2), and where its lines end.
-ghost use Rattle.std.specs.Prelude.{◌≡◌, ◌<◌, ◌≤◌, ◌+◌, ◌*◌, ◌^◌, [], ◌∷◌, false, length, map, true};
-ghost use Rattle.units.specs.Isolates.{level_of_para};
-ghost use Rattle.units.specs.Layout.{para_levels_of, text_levels};
+ghost use Rattle.std.specs.Prelude.{◌≡◌, ◌<◌, ◌≤◌, ◌+◌, ◌*◌, ◌^◌, [], ◌∷◌, List, ℕ, false, length, true};
+ghost use Rattle.units.specs.Limits.{LimitsOf};
 ghost use Rattle.lines.specs.Bounds.{bound_at, first_bound};
 ghost use Rattle.lines.specs.Columns.{levels_filled, para_ends_filled, paras_filled, HasTextRoom, KeepsTextRoom};
 ghost use Rattle.lines.specs.Kept.{keeps_levels};
-ghost use Rattle.lines.specs.LineEnds.{AreAllLineEnds, AreAllParagraphEnds};
-ghost use Rattle.lines.specs.OneUnit.{IsResolved};
-ghost use Rattle.lines.specs.Spaces.{HasNoSegments, StaysAtParas, has_segments};
+ghost use Rattle.lines.specs.ResolvedTexts.{IsResolved, one_unit};
+ghost use Rattle.lines.specs.Spaces.{HasNoSegments, has_segments};
 ghost use Rattle.lines.specs.StepBounds.{light_text_steps, text_steps};
 
 use crate::bounds::Bound;
@@ -76,8 +74,8 @@ fn resolve_unit<L: Ledger>(
     requires bounds { 1 < length bounds.old }
     ensures known { result ≡ keeps_levels text.now direction }
     ensures room { KeepsTextRoom columns.old columns.new }
-    ensures resolved { result ≡ true → IsResolved text.now direction (paras_filled 1 columns.new)
-        (para_ends_filled 1 columns.new) (levels_filled 1 columns.new) bounds.new }
+    ensures resolved { result ≡ true → (limits : LimitsOf) (breaks : List ℕ)
+        → IsResolved limits text.now direction breaks one_unit columns.new bounds.new }
     ensures steps { result ≡ true → steps.new ≡ steps.old + 4 }
     ensures left { result ≡ false → columns.new ≡ columns.old }
     ensures no_steps { result ≡ false → steps.new ≡ steps.old }
@@ -108,18 +106,8 @@ fn resolve_paragraphs<L: Ledger>(
     requires bounds { length text.now < length bounds.old }
     ensures resolver { resolver.new ≡ resolver.old }
     ensures room { KeepsTextRoom columns.old columns.new }
-    ensures paras { map level_of_para (paras_filled result.paragraphs columns.new)
-        ≡ para_levels_of text.now direction }
-    ensures para_ends { AreAllParagraphEnds text.now (para_ends_filled result.paragraphs columns.new) }
-    ensures few { result.paragraphs ≤ length text.now }
-    ensures levels { levels_filled (length text.now) columns.new ≡ text_levels limits text.now direction }
-    ensures ends { AreAllLineEnds text.now breaks.now.positions result.lines bounds.new }
-    ensures few_lines { result.lines ≤ length text.now }
-    ensures known { result.uniform ≡ keeps_levels text.now direction }
+    ensures resolved { IsResolved limits text.now direction breaks.now.positions result columns.new bounds.new }
     ensures segments { result.segmented ≡ has_segments text.now }
-    ensures uniform { result.uniform ≡ true
-        → StaysAtParas text.now (paras_filled result.paragraphs columns.new)
-        (levels_filled (length text.now) columns.new) }
     ensures at_least { steps.old + 2 * length text.now + result.paragraphs + result.lines ≤ steps.new }
     ensures at_most { steps.new ≤ steps.old + text_steps * length text.now }
     ensures light { result.uniform ≡ true → steps.new ≤ steps.old + light_text_steps * length text.now }
@@ -185,18 +173,8 @@ pub(crate) fn resolve_text<L: Ledger>(
     requires bounds { length text.now < length bounds.old }
     ensures resolver { resolver.new ≡ resolver.old }
     ensures room { KeepsTextRoom columns.old columns.new }
-    ensures paras { map level_of_para (paras_filled result.paragraphs columns.new)
-        ≡ para_levels_of text.now direction }
-    ensures para_ends { AreAllParagraphEnds text.now (para_ends_filled result.paragraphs columns.new) }
-    ensures few { result.paragraphs ≤ length text.now }
-    ensures levels { levels_filled (length text.now) columns.new ≡ text_levels limits text.now direction }
-    ensures ends { AreAllLineEnds text.now breaks.now.positions result.lines bounds.new }
-    ensures few_lines { result.lines ≤ length text.now }
-    ensures known { result.uniform ≡ keeps_levels text.now direction }
+    ensures resolved { IsResolved limits text.now direction breaks.now.positions result columns.new bounds.new }
     ensures segments { result.segmented ≡ false → HasNoSegments text.now }
-    ensures uniform { result.uniform ≡ true
-        → StaysAtParas text.now (paras_filled result.paragraphs columns.new)
-        (levels_filled (length text.now) columns.new) }
     ensures at_least { steps.old + 2 * length text.now + result.paragraphs + result.lines ≤ steps.new }
     ensures at_most { steps.new ≤ steps.old + text_steps * length text.now }
     ensures light { result.uniform ≡ true → steps.new ≤ steps.old + light_text_steps * length text.now }

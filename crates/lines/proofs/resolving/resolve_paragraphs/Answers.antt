@@ -13,7 +13,6 @@ use Rattle.explicit.proofs.LevelsFound.OneCutting.{paragraphs_of_split}
 use Rattle.units.specs.Classes.{classes_of}
 use Rattle.paragraph.specs.Contents.{keeps_level}
 use Rattle.lines.specs.Kept.{keeps_levels, keeps_own_level}
-use Rattle.lines.proofs.AtParas.{all_stay, text_at_paras}
 use Rattle.units.specs.declared.class.Class.TheVariants.{S}
 use Rattle.paragraph.specs.ClassSets.{is_class}
 use Rattle.lines.specs.Spaces.{has_segments}
@@ -131,11 +130,6 @@ known_whole : (text : List BidiUnit) (direction : Direction) (start : ℕ) (unif
 known_whole text direction start uniform done known =
     sym (and-true uniform) ∙ ap (λ us. uniform && list_all (keeps_own_level direction) (paragraphs_of us)) (sym done) ∙ known
 
-pub returns-clause-known : goal.returns-clause-known
-returns-clause-known g c =
-    let l = c.loop-start in
-    known_whole c.args.text.now c.args.direction l.start l.uniform (drop_all l.start c.args.text.now (omega arith)) l.invariant.known
-
 pub returns-clause-segments : goal.returns-clause-segments
 returns-clause-segments g c =
     let l = c.loop-start in
@@ -143,25 +137,25 @@ returns-clause-segments g c =
     let whole : take l.start text ≡ text = take_all l.start text (omega arith) in
     l.invariant.segments ∙ ap has_segments whole
 
-pub returns-clause-uniform : goal.returns-clause-uniform
-returns-clause-uniform g c = λ e.
+pub returns-clause-resolved : goal.returns-clause-resolved
+returns-clause-resolved g c =
     let l = c.loop-start in
     let text : List BidiUnit = c.args.text.now in
     let direction : Direction = c.args.direction in
+    let room = c.args.columns.now in
+    let at_end : l.start ≡ length text = omega arith in
     let done : drop l.start text ≡ [] = drop_all l.start text (omega arith) in
     let P : List (List BidiUnit) → Type 0 = λ pieces. IsWritten c.args.limits text direction l.start (take l.paragraphs l.paras) l.levels pieces in
     let w : P [] = subst P (ap paragraphs_of done) l.invariant.written in
-    let room = c.args.columns.now in
     let as_paras : length l.paras ≡ room.paras.items.len = search rules in
-    let as_levels : length l.levels ≡ room.levels.items.len = search rules in
-    rw (with_items_is room.paras.items l.paras as_paras, with_items_is room.levels.items l.levels as_levels, written_paras w, written_levels w)
-    (text_at_paras c.args.limits direction text (all_stay c.args.limits direction (paragraphs_of text) (sym (known_whole text direction l.start l.uniform done l.invariant.known) ∙ e)))
-
-pub returns-clause-para_ends : goal.returns-clause-para_ends
-returns-clause-para_ends g c =
-    let l = c.loop-start in
-    let room = c.args.columns.now in
-    let done : l.start ≡ length c.args.text.now = omega arith in
     let as_ends : length l.para_ends ≡ room.para_ends.items.len = search rules in
-    rw (with_items_is room.para_ends.items l.para_ends as_ends)
-    (subst (AreParagraphEnds (classes_of c.args.text.now) (take l.paragraphs l.para_ends)) done l.invariant.para_ends)
+    let as_levels : length l.levels ≡ room.levels.items.len = search rules in
+    record {
+      paras = rw (with_items_is room.paras.items l.paras as_paras) (written_paras w);
+      para_ends = rw (with_items_is room.para_ends.items l.para_ends as_ends) (subst (AreParagraphEnds (classes_of text) (take l.paragraphs l.para_ends)) at_end l.invariant.para_ends);
+      few = omega (arith, l.invariant.few, l.invariant.inside);
+      levels = rw (with_items_is room.levels.items l.levels as_levels) (written_levels w);
+      ends = subst (λ n. AreLineEnds (classes_of text) c.args.breaks.now.positions l.cut.lines n l.bounds) at_end (subst (λ at. AreLineEnds (classes_of text) at l.cut.lines l.start l.bounds) c.positions-at.ensures.positions l.invariant.ends);
+      few_lines = omega (arith, l.invariant.few_lines, l.invariant.inside);
+      known = known_whole text direction l.start l.uniform done l.invariant.known;
+    }

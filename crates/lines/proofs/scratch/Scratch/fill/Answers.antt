@@ -3,9 +3,11 @@ use Rattle.std.specs.Box.{boxed_slice_items}
 use Rattle.std.proofs.lemmas.List.{with_items_is}
 use Rattle.units.specs.Classes.{classes_of}
 use Rattle.units.specs.Isolates.{level_of_para}
+use Rattle.units.specs.Paragraphs.{paragraphs_of}
 use Rattle.units.specs.Reordering.{after_resets}
 use Rattle.lines.specs.Columns.{levels_filled, lines_filled, paras_filled}
 use Rattle.lines.specs.LineEnds.{AreAllParagraphEnds}
+use Rattle.lines.proofs.AtParas.{all_stay, text_at_paras}
 use Rattle.lines.proofs.KeptResolved.{resolved_stay}
 use Rattle.lines.proofs.TextLevels.{laid_out}
 use Rattle.lines.proofs.scratch.Scratch.fill.Goals as goal
@@ -25,8 +27,8 @@ returns-clause-layout g c =
     rw levels_are
     (laid_out c.args.limits c.args.text.now c.args.direction c.args.breaks.now.positions paras (levels_filled n kept.new.self) (take n filled.new.levels) (take n filled.new.levels)
     (lines_filled filled.result filled.new.columns) refl
-    (ap (λ ps. map level_of_para (take found.result.paragraphs (boxed_slice_items ps))) kept.ensures.paras ∙ found.ensures.paras)
-    (ap (λ column. take n (boxed_slice_items column)) kept.ensures.levels ∙ found.ensures.levels)
+    (ap (λ ps. map level_of_para (take found.result.paragraphs (boxed_slice_items ps))) kept.ensures.paras ∙ found.ensures.resolved.paras)
+    (ap (λ column. take n (boxed_slice_items column)) kept.ensures.levels ∙ found.ensures.resolved.levels)
     reset filled.ensures.lines)
 
 pub returns-clause-holds : goal.returns-clause-holds
@@ -40,26 +42,31 @@ returns-clause-holds g c =
     let levels_are = with_items_is column filled.new.levels as_levels in
     record {
       units = refl;
-      ends = subst (λ column. AreAllParagraphEnds c.args.text.now (take found.result.paragraphs (boxed_slice_items column))) (sym kept.ensures.para_ends) found.ensures.para_ends;
-      paras = ap (λ ps. map level_of_para (take found.result.paragraphs (boxed_slice_items ps))) kept.ensures.paras ∙ found.ensures.paras;
+      ends = subst (λ column. AreAllParagraphEnds c.args.text.now (take found.result.paragraphs (boxed_slice_items column))) (sym kept.ensures.para_ends) found.ensures.resolved.para_ends;
+      paras = ap (λ ps. map level_of_para (take found.result.paragraphs (boxed_slice_items ps))) kept.ensures.paras ∙ found.ensures.resolved.paras;
       levels =
           rw levels_are
           (resolved_stay found.result.uniform n (boxed_slice_items kept.new.self.resolved) (boxed_slice_items kept.new.self.levels) filled.new.levels (λ known. filled.ensures.same known ∙ ap (take n) c.deref_mut-2.ensures.value)
           ∙ kept.ensures.resolved
-          ∙ found.ensures.levels);
-      known = found.ensures.known;
+          ∙ found.ensures.resolved.levels);
+      known = found.ensures.resolved.known;
     }
 
 pub arrange-filled-requires-clause-uniform : goal.arrange-filled-requires-clause-uniform
 arrange-filled-requires-clause-uniform g c = λ known.
-    rw (c.deref_mut-2.ensures.value, c.deref-2.ensures.value, c.keep_resolved.ensures.levels, c.keep_resolved.ensures.paras) (c.resolve_text-resolved.ensures.uniform known)
+    let limits = c.args.limits in
+    let text = c.args.text.now in
+    let direction = c.args.direction in
+    let found = c.resolve_text-resolved.ensures.resolved in
+    rw (c.deref_mut-2.ensures.value, c.deref-2.ensures.value, c.keep_resolved.ensures.levels, c.keep_resolved.ensures.paras, found.paras, found.levels)
+    (text_at_paras limits direction text (all_stay limits direction (paragraphs_of text) (sym found.known ∙ known)))
 
 pub arrange-filled-requires-clause-ends : goal.arrange-filled-requires-clause-ends
 arrange-filled-requires-clause-ends g c =
     let column = c.args.self.now.lines.bounds.items in
     let found = c.resolve_text-resolved in
     let as_bounds : length found.new.bounds ≡ column.len = search rules in
-    rw (with_items_is column found.new.bounds as_bounds) found.ensures.ends
+    rw (with_items_is column found.new.bounds as_bounds) found.ensures.resolved.ends
 
 pub arrange-filled-requires-clause-para_ends : goal.arrange-filled-requires-clause-para_ends
-arrange-filled-requires-clause-para_ends g c = rw (c.deref.ensures.value, c.keep_resolved.ensures.para_ends) c.resolve_text-resolved.ensures.para_ends
+arrange-filled-requires-clause-para_ends g c = rw (c.deref.ensures.value, c.keep_resolved.ensures.para_ends) c.resolve_text-resolved.ensures.resolved.para_ends
