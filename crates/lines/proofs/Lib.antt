@@ -36,3 +36,4 @@ pub mod LineHeld
 pub mod KnownLevels
 pub mod Unsegmented
 pub mod Begun
+pub mod ResetSteps

@@ -104,18 +104,3 @@ counted_within text paragraphs (suc p) same h =
     let e : suc p ≡ p + 1 = omega arith in
     let b = is_separator (class_at own p) in
     rw e (omega (arith, paragraph_at text paragraphs p same (omega arith), counted_step own p b (omega arith) refl, at_most_one b))
-
-plain : (c : Class) → is_line_separator c ≡ false → false ≡ is_separator c
-plain B h = cc
-plain S h = refl
-plain _ h = refl
-
--- the same of a position that doesn't separate lines itself, by how many separators stand before the next one
-pub free_at : (text : List BidiUnit) (ends : List ℕ) (position number paragraphs : ℕ) → AreAllParagraphEnds text ends → HasNoSegments text → length ends ≡ paragraphs → paragraphs ≡ length (paragraphs_of text) → position < length text
-    → is_line_separator (class_at (classes_of text) position) ≡ false → number ≡ count_by is_separator (take (position + 1) (classes_of text)) → Free text ends position number
-free_at text ends position number paragraphs a free each same within solid n =
-    let own : List Class = classes_of text in
-    let len : length own ≡ length text = length-map text (λ (u : BidiUnit). u.class) in
-    let step = counted_step own position false (omega arith) (plain (class_at own position) solid) in
-    let here : number ≡ count_by is_separator (take position own) = omega (arith, n, step) in
-    free_before text ends position number a free (omega (arith, here, each, paragraph_at text paragraphs position same within)) within here

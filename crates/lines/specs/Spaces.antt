@@ -18,6 +18,12 @@ resets_before c later = is_line_separator c || ((is_removed c || is_trailing_spa
 pub record SeparateNone (own : List Class) (start end : ℕ) : Type 0 where
   pub none : (p : ℕ) → start ≤ p → p < end → is_line_separator (class_at own p) ≡ false
 
+-- L1: from the end back to the position, which is not before the start, none does
+pub record PassesBack (own : List Class) (start end position : ℕ) : Type 0 where
+  pub from_start : start ≤ position
+  pub to_end : position ≤ end
+  pub passed : SeparateNone own position end
+
 -- L1: whether a unit of the text is a segment separator
 abbrev pub has_segments : List BidiUnit → Bool
 has_segments text = list_any (is_class S) (classes_of text)

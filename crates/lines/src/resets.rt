@@ -5,7 +5,7 @@ ghost use Rattle.units.specs.Isolates.{level_of_para};
 ghost use Rattle.units.specs.Paragraphs.{paragraphs_of};
 ghost use Rattle.units.specs.Reordering.{is_trailing_space, reset_to};
 ghost use Rattle.lines.specs.LineEnds.{AreAllParagraphEnds, paragraph_start};
-ghost use Rattle.lines.specs.Spaces.{HasNoSegments, SeparateNone, StaysAtParas, levels_reset, resets_before};
+ghost use Rattle.lines.specs.Spaces.{HasNoSegments, PassesBack, StaysAtParas, levels_reset, resets_before};
 
 use crate::breaks::Breaks;
 use crate::resolving::ResolvedText;
@@ -79,9 +79,7 @@ const BLOCK: usize = 4;
 fn pass_blocks<L: Ledger>(own: &[Unit], start: usize, end: usize, steps: &mut Steps<L>) -> usize
     requires order { start ≤ end }
     requires within { end ≤ length own.now }
-    ensures from_start { start ≤ result }
-    ensures to_end { result ≤ end }
-    ensures passed { SeparateNone (classes_of own.now) result end }
+    ensures back { PassesBack (classes_of own.now) start end result }
     ensures steps { steps.new + result ≡ steps.old + end }
 {
     let mut position = end;
@@ -97,25 +95,6 @@ fn pass_blocks<L: Ledger>(own: &[Unit], start: usize, end: usize, steps: &mut St
     position
 }
 
-/// The position behind the last separator of lines from `start` up to `end`, or `start` where there is none, in a step
-/// for each position that is passed over.
-fn find_separator<L: Ledger>(own: &[Unit], start: usize, end: usize, steps: &mut Steps<L>) -> usize
-    requires order { start ≤ end }
-    requires within { end ≤ length own.now }
-    ensures from_start { start ≤ result }
-    ensures to_end { result ≤ end }
-    ensures passed { SeparateNone (classes_of own.now) result end }
-    ensures behind { start < result → separates_line (class_at (classes_of own.now) (result - 1)) ≡ true }
-    ensures steps { steps.new + result ≡ steps.old + end }
-{
-    let mut position = end;
-    while position > start && !is_line_separator(own[position - 1].class) {
-        steps.tick();
-        position -= 1;
-    }
-    position
-}
-
 /// The position behind the last separator of lines from `start` up to `end`, or `start` where there is none: where a
 /// walk of L1 from the end goes on, if nothing before `end` is reset but a separator, and what stands before it. It
 /// takes a step for each position that is passed over.
@@ -127,14 +106,16 @@ fn behind_separator<L: Ledger>(
 ) -> usize
     requires order { start ≤ end }
     requires within { end ≤ length own.now }
-    ensures from_start { start ≤ result }
-    ensures to_end { result ≤ end }
-    ensures passed { SeparateNone (classes_of own.now) result end }
+    ensures back { PassesBack (classes_of own.now) start end result }
     ensures behind { start < result → separates_line (class_at (classes_of own.now) (result - 1)) ≡ true }
     ensures steps { steps.new + result ≡ steps.old + end }
 {
-    let last = pass_blocks(own, start, end, steps);
-    find_separator(own, start, last, steps)
+    let mut position = pass_blocks(own, start, end, steps);
+    while position > start && !is_line_separator(own[position - 1].class) {
+        steps.tick();
+        position -= 1;
+    }
+    position
 }
 
 /// How many paragraph separators a text of so many paragraphs has: each but the last ends with one.

@@ -1,11 +1,15 @@
-use Rattle.std.proofs.Common.{arith, inl, inr}
-use Rattle.std.proofs.lemmas.Bool.{cases_lt}
+use Rattle.std.proofs.Common.{◌-◌, arith}
+use Rattle.lines.proofs.ResetSteps.{passes_one}
 use Rattle.lines.proofs.resets.behind_separator.Goals as goal
 
-pub returns-clause-passed : goal.returns-clause-passed
-returns-clause-passed g c = record {
-  none = λ k low high. elim (cases_lt k c.pass_blocks-last.result) [
-    | inl lt ↦ c.find_separator.ensures.passed.none k low lt
-    | inr ge ↦ c.pass_blocks-last.ensures.passed.none k (omega arith) high
-  ];
-}
+pub loop-position-preserved : goal.loop-position-preserved
+loop-position-preserved g c =
+    let l = c.loop-position in
+    record {
+      back = record {
+        from_start = omega arith;
+        to_end = omega (arith, l.invariant.back.to_end);
+        passed = passes_one c.args.own.now (l.position - 1) l.position _ _ _ (omega (arith, l.invariant.back.to_end)) c.is_line_separator.ensures c.if-not-is_line_separator.true (omega arith) l.invariant.back.passed;
+      };
+      steps = omega (arith, c.tick.ensures, l.invariant.steps);
+    }

@@ -1,14 +1,12 @@
-use Rattle.std.proofs.Common.{◌≡◌, ◌≤◌, ◌+◌}
+use Rattle.std.proofs.Common.{◌≡◌, ◌+◌}
 use Rattle.units.specs.Classes.{classes_of}
-use Rattle.lines.specs.Spaces.{SeparateNone}
+use Rattle.lines.specs.Spaces.{PassesBack}
 use Rattle.lines.proofs.resets.pass_blocks.Given as goal
 
 abbrev pub invariant-loop-position : goal.invariant-loop-position
 invariant-loop-position g l =
     record {
-      from_start : l.start ≤ l.position;
-      to_end : l.position ≤ l.end;
-      passed : SeparateNone (classes_of l.own) l.position l.end;
+      back : PassesBack (classes_of l.own) l.start l.end l.position;
       steps : l.steps + l.position ≡ l.initial.steps + l.end;
     }
 
