@@ -2,17 +2,18 @@
 use Rattle.std.specs.Prelude.{ℕ, ◌+◌}
 use Rattle.paragraph.specs.StepBounds.{known_steps}
 
--- P1 to I2 at most: paragraphs and their contents are found, lines are cut, and the rules take the rest
-abbrev pub text_steps : ℕ
-text_steps = known_steps + 4
-
--- where each paragraph keeps its level
+-- P1 to I2 at most, where each paragraph keeps its level: paragraphs and their contents are found, lines are cut, and
+-- levels are written
 abbrev pub light_text_steps : ℕ
-light_text_steps = 4
+light_text_steps = 1 + 1 + 1 + 1
 
--- L2 at most: the runs of a line are linked
+-- P1 to I2 at most: the rules take the rest
+abbrev pub text_steps : ℕ
+text_steps = light_text_steps + known_steps
+
+-- L2 at most, to link the runs of a line: each position is looked at, and a run is joined, begins a stretch and ends one
 abbrev pub linking_steps : ℕ
-linking_steps = 4
+linking_steps = 1 + 3
 
 -- L2 at most: they are linked, and each is turned to and written
 abbrev pub order_steps : ℕ
@@ -62,12 +63,8 @@ light_breaking_steps = cutting_steps + light_line_steps
 abbrev pub least_breaking_steps : ℕ
 least_breaking_steps = 1 + 1
 
--- where one line alone is laid out: what a search through the paragraphs of its text counts as
-abbrev pub search_steps : ℕ
-search_steps = 25
-
--- L1 and L2 of one line alone at most, besides that: its levels before L1 are copied, and its order is moved to where the
--- line begins
+-- L1 and L2 of one line alone at most, besides a search through the paragraphs of its text: its levels before L1 are
+-- copied, and its order is moved to where the line begins
 abbrev pub line_alone_steps : ℕ
 line_alone_steps = 1 + 1 + order_steps + 1
 

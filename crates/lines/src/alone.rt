@@ -7,7 +7,7 @@ ghost use Rattle.units.specs.Reordering.{line_order};
 ghost use Rattle.lines.specs.LineEnds.{AreAllParagraphEnds, Rises};
 ghost use Rattle.lines.specs.LinesAlone.{HasParaLevel, IsLineIn, IsLineOfParagraph, IsWithinParagraph, RefusesSpan};
 ghost use Rattle.lines.specs.LinePositions.{IsAtOneLevel};
-ghost use Rattle.lines.specs.StepBounds.{light_order_steps, order_steps, search_steps};
+ghost use Rattle.lines.specs.StepBounds.{light_order_steps, order_steps};
 ghost use Rattle.lines.specs.Spaces.{levels_reset};
 
 use crate::breaks::Breaks;
@@ -31,8 +31,9 @@ pub enum SpanFault {
     CrossesParagraph,
 }
 
-/// As how many steps a search through the paragraphs of a text counts: it takes no more where there are 2^24.
-const SEARCH_STEPS: usize = 25;
+/// As how many steps a search through the paragraphs of a text counts: up to 2^24 are halved 24 times, and one is looked
+/// at.
+pub const SEARCH_STEPS: usize = 24 + 1;
 
 /// How many of the ends of paragraphs are not above the position.
 pub(crate) fn count_up_to(ends: &[u32], position: usize) -> usize
@@ -56,7 +57,7 @@ pub(crate) fn paragraph_of_line<L: Ledger>(
     requires { AreAllParagraphEnds text.now ends.now }
     ensures line { MatchResult result (IsLineOfParagraph text.now ends.now start end) (RefusesSpan text.now start end) }
     ensures at_least { steps.old ≤ steps.new }
-    ensures at_most { steps.new ≤ steps.old + search_steps }
+    ensures at_most { steps.new ≤ steps.old + SEARCH_STEPS }
 {
     if start >= end {
         return Err(SpanFault::NotForward);

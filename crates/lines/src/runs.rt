@@ -76,22 +76,21 @@ impl Stretch {
 
 /// Where the run of this level ends that begins at the position, in at most a step for each of its positions.
 fn end_of_run<L: Ledger>(
-    levels: &[Option<Level>],
+    line: LineSpan<'_>,
     position: usize,
     level: Level,
-    end: usize,
     steps: &mut Steps<L>,
 ) -> usize
-    requires position { position < end }
-    requires within { end ≤ length levels.now }
-    requires level { HasLevel levels.now position level }
+    requires position { position < line.end }
+    requires level { HasLevel line.levels.now position level }
     ensures rises { position < result }
-    ensures within { result ≤ end }
-    ensures uniform { IsAtOneLevel levels.now position result level }
-    ensures stops { (result ≡ end) ⊎ ((v : ℕ) × HasLevel levels.now result v × (v ≢ level)) }
+    ensures within { result ≤ line.entry.end }
+    ensures uniform { IsAtOneLevel line.entry.levels.now position result level }
+    ensures stops { (result ≡ line.entry.end) ⊎ ((v : ℕ) × HasLevel line.entry.levels.now result v × (v ≢ level)) }
     ensures at_least { steps.old + (result - position) ≤ steps.new + 1 }
     ensures at_most { steps.new ≤ steps.old + (result - position) }
 {
+    let LineSpan { levels, end, .. } = line;
     for next in position + 1..end {
         steps.tick();
         if levels[next].is_some_and(|other| other.get() != level.get()) {
@@ -103,23 +102,21 @@ fn end_of_run<L: Ledger>(
 
 /// The stretch of the run of this level that begins at the position, in at most a step for each of its positions.
 fn link_run<L: Ledger>(
-    levels: &[Option<Level>],
+    line: LineSpan<'_>,
     position: usize,
     level: Level,
-    end: usize,
     runs: &mut [Run],
     steps: &mut Steps<L>,
 ) -> Stretch
-    requires position { position < end }
-    requires within { end ≤ length levels.now }
-    requires room { end ≤ length runs.old }
-    requires small { end < 2 ^ 32 }
-    requires level { HasLevel levels.now position level }
-    ensures begins { BeginsRun levels.now position level end result runs.old runs.new }
+    requires position { position < line.end }
+    requires room { line.end ≤ length runs.old }
+    requires small { line.end < 2 ^ 32 }
+    requires level { HasLevel line.levels.now position level }
+    ensures begins { BeginsRun line.entry.levels.now position level line.entry.end result runs.old runs.new }
     ensures at_least { steps.old + (result.end - position) ≤ steps.new + 1 }
     ensures at_most { steps.new ≤ steps.old + (result.end - position) }
 {
-    let run_end = end_of_run(levels, position, level, end, steps);
+    let run_end = end_of_run(line, position, level, steps);
     runs[position].end = run_end as u32;
     Stretch {
         end: run_end,
@@ -134,31 +131,30 @@ fn link_run<L: Ledger>(
 /// Links the longest stretch from the position on whose levels are at `least` or higher, in at most four steps for
 /// each position.
 fn link_from<L: Ledger>(
-    levels: &[Option<Level>],
+    line: LineSpan<'_>,
     position: usize,
     level: Level,
     least: u8,
-    end: usize,
     runs: &mut [Run],
     steps: &mut Steps<L>,
 ) -> Stretch
-    requires position { position < end }
-    requires within { end ≤ length levels.now }
-    requires room { end ≤ length runs.old }
-    requires small { end < 2 ^ 32 }
-    requires level { HasLevel levels.now position level }
+    requires position { position < line.end }
+    requires room { line.end ≤ length runs.old }
+    requires small { line.end < 2 ^ 32 }
+    requires level { HasLevel line.levels.now position level }
     requires least { least ≤ level }
-    ensures linked { IsLinkedStretch levels.now runs.new position result }
-    ensures within { result.end ≤ end }
+    ensures linked { IsLinkedStretch line.entry.levels.now runs.new position result }
+    ensures within { result.end ≤ line.entry.end }
     ensures least { least ≤ result.level }
-    ensures stops { StopsBelow levels.now least result.end end }
+    ensures stops { StopsBelow line.entry.levels.now least result.end line.entry.end }
     ensures kept { (p : ℕ) → p < position → run_in runs.new p ≡ run_in runs.old p }
     ensures at_least { steps.old + (result.end - position) ≤ steps.new }
     ensures at_most { steps.new + 1 ≤ steps.old + linking_steps * (result.end - position) }
 {
     steps.tick();
-    let mut stretch = link_run(levels, position, level, end, runs, steps);
-    while stretch.end < end {
+    let mut stretch = link_run(line, position, level, runs, steps);
+    let levels = line.levels;
+    while stretch.end < line.end {
         steps.tick();
         let Some(level) = levels[stretch.end] else {
             unreachable!("a run ends where one of another level begins");
@@ -168,9 +164,9 @@ fn link_from<L: Ledger>(
         }
         let least_above = stretch.level.get() + 1;
         let later = if level.get() >= least_above {
-            link_from(levels, stretch.end, level, least_above, end, runs, steps)
+            link_from(line, stretch.end, level, least_above, runs, steps)
         } else {
-            link_run(levels, stretch.end, level, end, runs, steps)
+            link_run(line, stretch.end, level, runs, steps)
         };
         stretch = stretch.joined(later, runs);
     }
@@ -190,11 +186,11 @@ pub(crate) fn link_line<L: Ledger>(
     ensures at_least { steps.old + units_in_span line.entry ≤ steps.new }
     ensures at_most { steps.new ≤ steps.old + linking_steps * units_in_span line.entry }
 {
-    let LineSpan { levels, start, end } = line;
-    for position in start..end {
+    let levels = line.levels;
+    for position in line.start..line.end {
         steps.tick();
         if let Some(level) = levels[position] {
-            return Some(link_from(levels, position, level, 0, end, runs, steps).chain);
+            return Some(link_from(line, position, level, 0, runs, steps).chain);
         }
     }
     None
