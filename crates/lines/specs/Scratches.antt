@@ -1,5 +1,5 @@
 -- What a scratch holds.
-use Rattle.std.specs.Prelude.{ℕ, ◌-◌, ◌≤◌, ◌≡◌, true, Option, List, drop, length, map, take}
+use Rattle.std.specs.Prelude.{ℕ, ◌-◌, ◌≤◌, ◌≡◌, true, Option, List, Result, MatchResult, OnErr, drop, length, map, take}
 use Rattle.units.specs.Isolates.{level_of_para}
 use Rattle.units.specs.Layout.{TextLayout, layout_of, para_levels_of, text_levels}
 use Rattle.units.specs.Limits.{LimitsOf}
@@ -10,7 +10,8 @@ use Rattle.lines.specs.Bounds.{AreBounds}
 use Rattle.lines.specs.Columns.{bounds_filled, levels_filled, lines_filled, orders_filled, para_ends_filled, paras_filled, resolved_filled}
 use Rattle.lines.specs.Kept.{keeps_levels}
 use Rattle.lines.specs.LineEnds.{AreAllParagraphEnds}
-use Rattle.lines.specs.LinesAlone.{IsLineIn, IsLineLaidOut, breaks_around}
+use Rattle.lines.specs.LinesAlone.{IsLineIn, IsLineLaidOut, RefusesSpan, breaks_around}
+use Rattle.lines.specs.declared.alone.SpanFault.{SpanFault}
 use Rattle.lines.specs.declared.scratch.Scratch.{Scratch}
 
 -- the length of the longest text that there is room for
@@ -75,6 +76,13 @@ abbrev pub IsBrokenAnew : List BidiUnit → List ℕ → Scratch → TextLayout 
 IsBrokenAnew text breaks old layout =
     (limits : LimitsOf) (direction : Direction) → HoldsText limits text direction old → layout ≡ layout_of limits text direction breaks
 
+-- what a text that is broken anew leaves: a layout with these breaks, in as much room, and the same text
+pub record LeavesLines (text : List BidiUnit) (breaks : List ℕ) (old new : Scratch) : Type 0 where
+  pub room : room_of new ≡ room_of old
+  pub filled : IsFilled new
+  pub laid_out : IsBrokenAnew text breaks old (layout_in new)
+  pub holds : StillHoldsText text old new
+
 -- L1, L2: under each direction and by all limits under which the scratch holds this text, these are the levels and the
 -- order of the line from start up to end, in the text's layout with any breaks by which that is a line of it
 abbrev pub IsLineAlone : List BidiUnit → ℕ → ℕ → Scratch → List (Option ℕ) → List ℕ → Type 0
@@ -99,3 +107,10 @@ pub record WritesLine (text : List BidiUnit) (start end : ℕ) (scratch : Scratc
   pub few : shown ≤ end - start
   pub levels_behind : drop (end - start) levels2 ≡ drop (end - start) levels
   pub order_behind : drop (end - start) order2 ≡ drop (end - start) order
+
+-- what one line that is laid out alone leaves: it is written, or it is refused and nothing is; the scratch holds the same
+pub record LeavesLine (text : List BidiUnit) (start end : ℕ) (old new : Scratch) (levels levels2 : List (Option ℕ)) (order order2 : List ℕ) (shown : Result ℕ SpanFault) : Type 0 where
+  pub line : MatchResult shown (WritesLine text start end old levels levels2 order order2) (RefusesSpan text start end)
+  pub kept_levels : OnErr shown (levels2 ≡ levels)
+  pub kept_order : OnErr shown (order2 ≡ order)
+  pub holds : HoldsTheSame old new

@@ -37,8 +37,8 @@ arrange-self-requires-clause-ends g c =
     let as_bounds : length cut.new.bounds ≡ column.len = search rules in
     rw (with_items_is column cut.new.bounds as_bounds) cut.ensures.ends
 
-pub returns-clause-layout : goal.returns-clause-layout
-returns-clause-layout g c = λ limits direction held.
+pub returns-clause-lines : goal.returns-clause-lines
+returns-clause-lines g c =
     let room = c.args.self.now in
     let text = c.args.text.now in
     let n : ℕ = length text in
@@ -50,34 +50,29 @@ returns-clause-layout g c = λ limits direction held.
     let paras : List ℕ = map level_of_para (paras_filled room.used.paragraphs restored.new.self) in
     let reset : take n filled.new.levels ≡ after_resets (classes_of text) c.args.breaks.now.positions paras (levels_filled n restored.new.self) =
     rw (← c.deref_mut-2.ensures.value, ← c.deref-3.ensures.value) filled.ensures.levels in
-    rw levels_are
-    (laid_out limits text direction c.args.breaks.now.positions paras (levels_filled n restored.new.self) (take n filled.new.levels) (take room.used.units filled.new.levels)
-    (lines_filled filled.result filled.new.columns)
-    (ap (λ k. take k filled.new.levels) held.units)
-    (ap (λ ps. map level_of_para (take room.used.paragraphs (boxed_slice_items ps))) restored.ensures.paras ∙ held.paras)
-    (restored.ensures.levels ∙ ap (λ k. resolved_filled k room.used.uniform room.text) (sym held.units) ∙ held.levels)
-    reset filled.ensures.lines)
-
-pub returns-clause-holds : goal.returns-clause-holds
-returns-clause-holds g c = λ limits direction held.
-    let room = c.args.self.now in
-    let n : ℕ = length c.args.text.now in
-    let restored = c.restore_resolved in
-    let filled = c.arrange-self in
-    let column = restored.new.self.levels.items in
-    let as_levels : length filled.new.levels ≡ column.len = search rules in
-    let levels_are = with_items_is column filled.new.levels as_levels in
     record {
-      units = held.units;
-      ends = subst (λ column. AreAllParagraphEnds c.args.text.now (take room.used.paragraphs (boxed_slice_items column))) (sym restored.ensures.para_ends) held.ends;
-      paras = ap (λ ps. map level_of_para (take room.used.paragraphs (boxed_slice_items ps))) restored.ensures.paras ∙ held.paras;
-      levels =
-          rw (held.units, levels_are)
-          (resolved_stay room.used.uniform n (boxed_slice_items restored.new.self.resolved) (boxed_slice_items restored.new.self.levels) filled.new.levels (λ known. filled.ensures.same known ∙ ap (take n) c.deref_mut-2.ensures.value)
-          ∙ restored.ensures.resolved
-          ∙ ap (λ k. resolved_filled k room.used.uniform room.text) (sym held.units)
-          ∙ held.levels);
-      known = held.known;
+      room = search rules;
+      filled = search rules;
+      laid_out = λ limits direction held.
+          rw levels_are
+          (laid_out limits text direction c.args.breaks.now.positions paras (levels_filled n restored.new.self) (take n filled.new.levels) (take room.used.units filled.new.levels)
+          (lines_filled filled.result filled.new.columns)
+          (ap (λ k. take k filled.new.levels) held.units)
+          (ap (λ ps. map level_of_para (take room.used.paragraphs (boxed_slice_items ps))) restored.ensures.paras ∙ held.paras)
+          (restored.ensures.levels ∙ ap (λ k. resolved_filled k room.used.uniform room.text) (sym held.units) ∙ held.levels)
+          reset filled.ensures.lines);
+      holds = λ limits direction held. record {
+        units = held.units;
+        ends = subst (λ column. AreAllParagraphEnds text (take room.used.paragraphs (boxed_slice_items column))) (sym restored.ensures.para_ends) held.ends;
+        paras = ap (λ ps. map level_of_para (take room.used.paragraphs (boxed_slice_items ps))) restored.ensures.paras ∙ held.paras;
+        levels =
+            rw (held.units, levels_are)
+            (resolved_stay room.used.uniform n (boxed_slice_items restored.new.self.resolved) (boxed_slice_items restored.new.self.levels) filled.new.levels (λ known. filled.ensures.same known ∙ ap (take n) c.deref_mut-2.ensures.value)
+            ∙ restored.ensures.resolved
+            ∙ ap (λ k. resolved_filled k room.used.uniform room.text) (sym held.units)
+            ∙ held.levels);
+        known = held.known;
+      };
     }
 
 pub arrange-self-requires-clause-para_ends : goal.arrange-self-requires-clause-para_ends

@@ -1,4 +1,4 @@
-use Rattle.std.proofs.Common.{◌≡◌, ◌<◌, ◌≤◌, ◌-◌, ◌++◌, ◌∙◌, ℕ, List, Option, ap, arith, drop, length, refl, subst, sym, take, true}
+use Rattle.std.proofs.Common.{◌≡◌, ◌<◌, ◌≤◌, ◌-◌, ◌++◌, ◌∙◌, ℕ, List, Option, ap, arith, drop, length, refl, rules, subst, sym, take, true}
 use Rattle.std.specs.Box.{boxed_slice_items}
 use Rattle.std.specs.Prelude.{IfSome, slice_index_or, slice_range}
 use Rattle.std.proofs.lemmas.List.{drop_at, get_or_read, length-map, length-take-le, take-append-le, take_all}
@@ -80,23 +80,28 @@ returns-clause-line g c =
     take-append-le n reset (drop n c.args.levels.now) (omega (arith, long)) ∙ take_all n reset (omega (arith, long)) in
     let order_is = take-append-le written.result written.new.order (drop n c.args.order.now) few in
     record {
-      taken = found.line;
-      line = λ limits direction breaks held line.
-          let all = text_levels limits text direction in
-          let part : slice_range all start end ≡ c.copy_line.new.line =
-          ap (λ (xs : List (Option ℕ)). slice_range xs start end) (sym held.levels)
-          ∙ range_held (resolved_column room.used.uniform room.text) room.used.units start end (omega (arith, held.units, within))
-          ∙ sym c.copy_line.ensures.copied in
-          rw (levels_are, order_is)
-          (line_laid_out limits text direction breaks (paras_in room) start end reset (take written.result written.new.order) held.paras (omega arith) within
-          (line_reset_by limits text direction (paras_in room) held.paras breaks start end room.used.uniform c.copy_line.new.line reset held.known part c.reset_line_unless_uniform.ensures.same
-          (λ off. c.reset_line_unless_uniform.ensures.levels off breaks (paras_in room) all line
-          (para_held text (boxed_slice_items room.text.paras) used start c.in_ok-paragraph.paragraph c.index-level.result.now level found.counted low paras_fit)
-          (length-text_levels limits text direction) part))
-          written.ensures.order);
-      few = omega (arith, written.ensures.count, long);
-      levels_behind = drop_at reset (drop n c.args.levels.now) n long;
-      order_behind = drop_at written.new.order (drop n c.args.order.now) n placed;
+      line = record {
+        taken = found.line;
+        line = λ limits direction breaks held line.
+            let all = text_levels limits text direction in
+            let part : slice_range all start end ≡ c.copy_line.new.line =
+            ap (λ (xs : List (Option ℕ)). slice_range xs start end) (sym held.levels)
+            ∙ range_held (resolved_column room.used.uniform room.text) room.used.units start end (omega (arith, held.units, within))
+            ∙ sym c.copy_line.ensures.copied in
+            rw (levels_are, order_is)
+            (line_laid_out limits text direction breaks (paras_in room) start end reset (take written.result written.new.order) held.paras (omega arith) within
+            (line_reset_by limits text direction (paras_in room) held.paras breaks start end room.used.uniform c.copy_line.new.line reset held.known part c.reset_line_unless_uniform.ensures.same
+            (λ off. c.reset_line_unless_uniform.ensures.levels off breaks (paras_in room) all line
+            (para_held text (boxed_slice_items room.text.paras) used start c.in_ok-paragraph.paragraph c.index-level.result.now level found.counted low paras_fit)
+            (length-text_levels limits text direction) part))
+            written.ensures.order);
+        few = omega (arith, written.ensures.count, long);
+        levels_behind = drop_at reset (drop n c.args.levels.now) n long;
+        order_behind = drop_at written.new.order (drop n c.args.order.now) n placed;
+      };
+      kept_levels = tt;
+      kept_order = tt;
+      holds = search rules;
     }
 
 pub returns-clause-light : goal.returns-clause-light
