@@ -1,5 +1,5 @@
 -- What a scratch holds.
-use Rattle.std.specs.Prelude.{ℕ, ◌-◌, ◌≤◌, ◌≡◌, true, Option, List, Result, MatchResult, OnErr, drop, length, map, take}
+use Rattle.std.specs.Prelude.{ℕ, ◌-◌, ◌<◌, ◌≤◌, ◌≡◌, ◌↔◌, true, Option, List, Result, IsErr, MatchResult, OnErr, OnOk, drop, length, map, take}
 use Rattle.units.specs.Isolates.{level_of_para}
 use Rattle.units.specs.Layout.{TextLayout, layout_of, para_levels_of, text_levels}
 use Rattle.units.specs.Limits.{LimitsOf}
@@ -56,6 +56,15 @@ pub record HoldsText (limits : LimitsOf) (text : List BidiUnit) (direction : Dir
   pub paras : map level_of_para (paras_in scratch) ≡ para_levels_of text direction
   pub levels : resolved_in scratch ≡ text_levels limits text direction
   pub known : scratch.used.uniform ≡ keeps_levels text direction
+
+-- what a text that is to be laid out leaves: its layout, in as much room, or what was held, if it is longer than that
+pub record LeavesLayout {T E : Type 0} (limits : LimitsOf) (text : List BidiUnit) (direction : Direction) (breaks : List ℕ) (old new : Scratch) (done : Result T E) : Type 0 where
+  pub room : room_of new ≡ room_of old
+  pub too_long : IsErr done ↔ (room_of old < length text)
+  pub kept : OnErr done (new ≡ old)
+  pub filled : OnOk done (IsFilled new)
+  pub laid_out : OnOk done (layout_in new ≡ layout_of limits text direction breaks)
+  pub holds : OnOk done (HoldsText limits text direction new)
 
 -- it holds this text, under some direction, by some limits
 abbrev pub HoldsSomeLayoutOf : List BidiUnit → Scratch → Type 0
