@@ -76,21 +76,21 @@ impl Stretch {
 
 /// Where the run of this level ends that begins at the position, in at most a step for each of its positions.
 fn end_of_run<L: Ledger>(
-    line: LineSpan<'_>,
+    line: &LineSpan<'_>,
     position: usize,
     level: Level,
     steps: &mut Steps<L>,
 ) -> usize
-    requires position { position < line.end }
-    requires level { HasLevel line.levels.now position level }
+    requires position { position < line.now.end }
+    requires level { HasLevel line.now.levels.now position level }
     ensures rises { position < result }
-    ensures within { result ≤ line.entry.end }
-    ensures uniform { IsAtOneLevel line.entry.levels.now position result level }
-    ensures stops { (result ≡ line.entry.end) ⊎ ((v : ℕ) × HasLevel line.entry.levels.now result v × (v ≢ level)) }
+    ensures within { result ≤ line.now.end }
+    ensures uniform { IsAtOneLevel line.now.levels.now position result level }
+    ensures stops { (result ≡ line.now.end) ⊎ ((v : ℕ) × HasLevel line.now.levels.now result v × (v ≢ level)) }
     ensures at_least { steps.old + (result - position) ≤ steps.new + 1 }
     ensures at_most { steps.new ≤ steps.old + (result - position) }
 {
-    let LineSpan { levels, end, .. } = line;
+    let LineSpan { levels, end, .. } = *line;
     for next in position + 1..end {
         steps.tick();
         if levels[next].is_some_and(|other| other.get() != level.get()) {
@@ -102,17 +102,17 @@ fn end_of_run<L: Ledger>(
 
 /// The stretch of the run of this level that begins at the position, in at most a step for each of its positions.
 fn link_run<L: Ledger>(
-    line: LineSpan<'_>,
+    line: &LineSpan<'_>,
     position: usize,
     level: Level,
     runs: &mut [Run],
     steps: &mut Steps<L>,
 ) -> Stretch
-    requires position { position < line.end }
-    requires room { line.end ≤ length runs.old }
-    requires small { line.end < 2 ^ 32 }
-    requires level { HasLevel line.levels.now position level }
-    ensures begins { BeginsRun line.entry.levels.now position level line.entry.end result runs.old runs.new }
+    requires position { position < line.now.end }
+    requires room { line.now.end ≤ length runs.old }
+    requires small { line.now.end < 2 ^ 32 }
+    requires level { HasLevel line.now.levels.now position level }
+    ensures begins { BeginsRun line.now.levels.now position level line.now.end result runs.old runs.new }
     ensures at_least { steps.old + (result.end - position) ≤ steps.new + 1 }
     ensures at_most { steps.new ≤ steps.old + (result.end - position) }
 {
@@ -131,30 +131,30 @@ fn link_run<L: Ledger>(
 /// Links the longest stretch from the position on whose levels are at `least` or higher, in at most four steps for
 /// each position.
 fn link_from<L: Ledger>(
-    line: LineSpan<'_>,
+    line: &LineSpan<'_>,
     position: usize,
     level: Level,
     least: u8,
     runs: &mut [Run],
     steps: &mut Steps<L>,
 ) -> Stretch
-    requires position { position < line.end }
-    requires room { line.end ≤ length runs.old }
-    requires small { line.end < 2 ^ 32 }
-    requires level { HasLevel line.levels.now position level }
+    requires position { position < line.now.end }
+    requires room { line.now.end ≤ length runs.old }
+    requires small { line.now.end < 2 ^ 32 }
+    requires level { HasLevel line.now.levels.now position level }
     requires least { least ≤ level }
-    ensures linked { IsLinkedStretch line.entry.levels.now runs.new position result }
-    ensures within { result.end ≤ line.entry.end }
+    ensures linked { IsLinkedStretch line.now.levels.now runs.new position result }
+    ensures within { result.end ≤ line.now.end }
     ensures least { least ≤ result.level }
-    ensures stops { StopsBelow line.entry.levels.now least result.end line.entry.end }
+    ensures stops { StopsBelow line.now.levels.now least result.end line.now.end }
     ensures kept { (p : ℕ) → p < position → run_in runs.new p ≡ run_in runs.old p }
     ensures at_least { steps.old + (result.end - position) ≤ steps.new }
     ensures at_most { steps.new + 1 ≤ steps.old + linking_steps * (result.end - position) }
 {
     steps.tick();
     let mut stretch = link_run(line, position, level, runs, steps);
-    let levels = line.levels;
-    while stretch.end < line.end {
+    let LineSpan { levels, end, .. } = *line;
+    while stretch.end < end {
         steps.tick();
         let Some(level) = levels[stretch.end] else {
             unreachable!("a run ends where one of another level begins");
@@ -190,7 +190,7 @@ pub(crate) fn link_line<L: Ledger>(
     for position in line.start..line.end {
         steps.tick();
         if let Some(level) = levels[position] {
-            return Some(link_from(line, position, level, 0, runs, steps).chain);
+            return Some(link_from(&line, position, level, 0, runs, steps).chain);
         }
     }
     None
