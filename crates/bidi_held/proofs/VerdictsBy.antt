@@ -2,7 +2,7 @@
 use Rattle.std.proofs.Common.{◌≡◌, ℕ, List, refl}
 use Rattle.units.specs.Limits.{LimitsOf}
 use Rattle.bidtests.specs.FileKinds.{verdict_of}
-use Rattle.bidtests.specs.Standing.{tables_of}
+use Rattle.bidtests.specs.JudgedSoFar.{tables_of}
 use Rattle.bidtests.specs.declared.kind.Kind.{Kind}
 use Rattle.bidtests.specs.declared.kind.Kind.TheVariants.{Classes, Characters}
 use Rattle.bidi_held.specs.TableJudges.{verdict_by}

@@ -7,7 +7,7 @@ use Rattle.units.specs.Layout.{para_levels_of}
 use Rattle.units.specs.declared.bracket.Unit.{Unit as BidiUnit}
 use Rattle.units.specs.declared.class.Class.{Class}
 use Rattle.units.specs.declared.level.Direction.{Direction}
-use Rattle.directions.specs.StaysLeft.{stay_left}
+use Rattle.directions.specs.StaysLeft.{all_stay_left}
 use Rattle.explicit.specs.FirstParagraph.{first_length}
 use Rattle.explicit.specs.Sides.{strong_side}
 use Rattle.explicit.specs.declared.side.Side.{Side}
@@ -55,7 +55,7 @@ RefusesBase tables codes number refusal =
 -- stay at level 0
 abbrev pub IsLeftToRight : Option Held → List ℕ → ℕ → Type 0
 IsLeftToRight tables codes number =
-    MatchOption (tables_in tables) ⊥ (λ by. AreScalar codes × (number ≡ (if stay_left (classes_of (units_by by codes)) then 1 else 0)))
+    MatchOption (tables_in tables) ⊥ (λ by. AreScalar codes × (number ≡ (if all_stay_left (classes_of (units_by by codes)) then 1 else 0)))
 
 -- there are tables, the number is a direction and all code points are scalar values, and the levels of the paragraphs of
 -- their text are counted, and written to the front whole or not at all

@@ -8,7 +8,7 @@ use Rattle.ucdfiles.specs.Tables.{TablesOf, units_by}
 use Rattle.lines.specs.LineBreaks.{AreBreaks}
 use Rattle.lines.specs.Scratches.{room_of, text_len_of}
 use Rattle.bidi_held.specs.Holdings.{capacity_in, tables_in, room_in, layout_held}
-use Rattle.bidi_held.specs.Refusals.{IsClassNumber, Refuses, RefusesBreaks, RefusesCodes, RefusesNumbered, Takes}
+use Rattle.bidi_held.specs.Refusals.{IsClassNumber, Refuses, RefusesBreaks, RefusesCodes, RefusesClassNumbers, Takes}
 use Rattle.bidi_held.specs.RoomTexts.{TextToLayOut, layout_with, text_held}
 use Rattle.bidi_held.specs.Statuses.{Outcome}
 use Rattle.bidi_held.specs.Texts.{direction_numbered, units_numbered}
@@ -66,7 +66,7 @@ RefusesLayout room tables codes direction breaks refusal =
 -- the layout of a text of classes, by their numbers, is refused for this reason
 abbrev pub RefusesClassLayout : Option Held → List ℕ → ℕ → List ℕ → Refusal → Type 0
 RefusesClassLayout room numbers direction breaks refusal =
-    RoomRefuses room (length numbers) direction breaks (RefusesNumbered numbers) refusal
+    RoomRefuses room (length numbers) direction breaks (RefusesClassNumbers numbers) refusal
 
 -- what is held before and after a call that is to lay out a text: there is as much room as before, and what is no room
 -- stays; where the call is done the text was taken, it is the one that is held, and its layout is right; else all is as

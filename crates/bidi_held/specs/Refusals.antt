@@ -35,9 +35,9 @@ RefusesCodes codes (NoCharacter index) = IsFirstOther IsScalar codes index
 RefusesCodes codes _ = ⊥
 
 -- the numbers of classes are refused for this reason
-abbrev pub RefusesNumbered : List ℕ → Refusal → Type 0
-RefusesNumbered numbers (NoClass index) = IsFirstOther IsClassNumber numbers index
-RefusesNumbered numbers _ = ⊥
+abbrev pub RefusesClassNumbers : List ℕ → Refusal → Type 0
+RefusesClassNumbers numbers (NoClass index) = IsFirstOther IsClassNumber numbers index
+RefusesClassNumbers numbers _ = ⊥
 
 -- a room for so many refuses a text of n for this reason: its length; where that fits the breaks; where they are right
 -- what the text holds

@@ -6,7 +6,7 @@ use Rattle.units.specs.Limits.{LimitsOf}
 use Rattle.ucdfiles.specs.Tables.{TablesOf, unit_by}
 use Rattle.bidtests.specs.ClassesFile.{classes_verdict}
 use Rattle.bidtests.specs.CharactersFile.{characters_verdict}
-use Rattle.bidtests.specs.Standing.{HoldsFor}
+use Rattle.bidtests.specs.JudgedSoFar.{HoldsFor}
 use Rattle.bidtests.specs.declared.verdict.Verdict.{Verdict}
 use Rattle.bidi_held.specs.declared.judge.TableJudge.{TableJudge}
 

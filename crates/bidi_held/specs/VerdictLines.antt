@@ -31,8 +31,8 @@ abbrev pub TellNoVerdict : BidiVerdict → Type 0
 TellNoVerdict numbers = (verdict : Verdict) → numbers ≢ verdict_told verdict
 
 -- the line of these numbers is not made for this reason
-abbrev pub RefusesNumbers : BidiVerdict → Refusal → Type 0
-RefusesNumbers numbers refusal = (refusal ≡ Memory) ⊎ ((refusal ≡ NoVerdict) × TellNoVerdict numbers)
+abbrev pub RefusesVerdictNumbers : BidiVerdict → Refusal → Type 0
+RefusesVerdictNumbers numbers refusal = (refusal ≡ Memory) ⊎ ((refusal ≡ NoVerdict) × TellNoVerdict numbers)
 
 -- the numbers tell a verdict whose line has more than so many bytes
 abbrev pub IsLongerThan : BidiVerdict → ℕ → Type 0
@@ -41,7 +41,7 @@ IsLongerThan numbers most = (line : List ℕ) × IsVerdictLine numbers line × (
 -- the line of these numbers is not written where so many bytes fit, for this reason
 abbrev pub RefusesVerdictText : BidiVerdict → ℕ → Refusal → Type 0
 RefusesVerdictText numbers most refusal =
-    RefusesNumbers numbers refusal ⊎ ((refusal ≡ TooSmall) × IsLongerThan numbers most)
+    RefusesVerdictNumbers numbers refusal ⊎ ((refusal ≡ TooSmall) × IsLongerThan numbers most)
 
 -- what a call leaves that is to write the line of these numbers: where it is done the line stands whole in front of what
 -- was there, else what was there stays, for a reason; where the numbers tell a verdict and there was memory the length

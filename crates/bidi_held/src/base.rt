@@ -3,7 +3,7 @@ ghost use Rattle.std.specs.Prelude.{ℕ, ◌≡◌, ◌<◌, ◌≤◌, IfErr, I
 ghost use Rattle.std.specs.Char.{IsScalar};
 ghost use Rattle.units.specs.Classes.{classes_of};
 ghost use Rattle.units.specs.Isolates.{level_of_para};
-ghost use Rattle.directions.specs.StaysLeft.{stay_left};
+ghost use Rattle.directions.specs.StaysLeft.{all_stay_left};
 ghost use Rattle.explicit.specs.FirstParagraph.{first_length};
 ghost use Rattle.ucdfiles.specs.Tables.{unit_by, units_by};
 ghost use Rattle.bidi_held.specs.BaseLevels.{base_level, IsBaseLevel, IsLeftToRight, RefusesBase, RefusesText, depth_behind, side_from};
@@ -87,9 +87,9 @@ pub(crate) fn base_level(tables: &Tables, codes: &[u32], direction: Direction) -
 }
 
 /// Whether the classes of these code points leave all levels at 0.
-fn stay_left(tables: &Tables, codes: &[u32]) -> bool
+fn all_stay_left(tables: &Tables, codes: &[u32]) -> bool
     requires { (k : ℕ) → k < length codes.now → IsScalar (slice_index codes.now k) }
-    ensures { result ≡ stay_left (classes_of (units_by tables.now codes.now)) }
+    ensures { result ≡ all_stay_left (classes_of (units_by tables.now codes.now)) }
 {
     for i in 0..codes.len() {
         if !stays_left(class_of(tables, codes[i])) {
@@ -128,5 +128,9 @@ pub fn is_left_to_right_held(tables: &Held, codes: &[u32]) -> Result<u8, Refusal
         return Err(Refusal::NoTables);
     };
     check_codes(codes)?;
-    if stay_left(by, codes) { Ok(1) } else { Ok(0) }
+    if all_stay_left(by, codes) {
+        Ok(1)
+    } else {
+        Ok(0)
+    }
 }

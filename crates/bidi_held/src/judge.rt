@@ -4,7 +4,7 @@ ghost use Rattle.std.specs.Option.{option_map};
 ghost use Rattle.std.specs.Arc.{arc_value};
 ghost use Rattle.units.specs.Limits.{LimitsOf};
 ghost use Rattle.ucdfiles.specs.Tables.{TablesOf};
-ghost use Rattle.bidtests.specs.Standing.{tables_of};
+ghost use Rattle.bidtests.specs.JudgedSoFar.{tables_of};
 ghost use Rattle.bidi_held.specs.TableJudges.{WasHanded, TakesPiece, verdict_by};
 
 use bidtests::kind::Kind;

@@ -10,7 +10,7 @@ ghost use Rattle.lines.specs.Scratches.{room_of, text_len_of, layout_in, HoldsSo
 ghost use Rattle.bidi_held.specs.Texts.{class_numbered, unit_numbered, units_numbered};
 ghost use Rattle.encoded.specs.OrderedLines.{LinesHaveOrder};
 ghost use Rattle.ucdfiles.specs.Tables.{units_by};
-ghost use Rattle.bidi_held.specs.Refusals.{IsClassNumber, RefusesBreaks, RefusesCodes, RefusesNumbered};
+ghost use Rattle.bidi_held.specs.Refusals.{IsClassNumber, RefusesBreaks, RefusesCodes, RefusesClassNumbers};
 
 use crate::lines_out::write_levels;
 use crate::refusal::{Refusal, of_span};
@@ -132,7 +132,7 @@ fn unit_of(number: u8) -> Option<Unit>
 
 /// Refuses numbers of classes by the first that is none, before anything is written.
 fn check_classes(numbers: &[u8]) -> Result<(), Refusal>
-    ensures refused { IfErr result (RefusesNumbered numbers.now) }
+    ensures refused { IfErr result (RefusesClassNumbers numbers.now) }
     ensures classes { OnOk result ((k : ℕ) → k < length numbers.now
         → IsClassNumber (slice_index numbers.now k)) }
 {
@@ -237,7 +237,7 @@ impl Room {
     ghost use Rattle.lines.specs.ParaLevels.{HasParaLevelAt};
     ghost use Rattle.lines.specs.Scratches.{room_of, text_len_of, layout_in};
     ghost use Rattle.bidi_held.specs.LineAlone.{RefusesLineAlone, WritesLineAlone};
-    ghost use Rattle.bidi_held.specs.Refusals.{IsClassNumber, Refuses, RefusesBreaks, RefusesCodes, RefusesNumbered, Takes};
+    ghost use Rattle.bidi_held.specs.Refusals.{IsClassNumber, Refuses, RefusesBreaks, RefusesCodes, RefusesClassNumbers, Takes};
     ghost use Rattle.bidi_held.specs.RoomTexts.{layout_with, text_held};
     ghost use Rattle.bidi_held.specs.Texts.{units_numbered};
 
@@ -322,7 +322,7 @@ impl Room {
     ) -> Result<(), Refusal>
         ensures room { room_of self.new.scratch ≡ room_of self.old.scratch }
         ensures refused { IfErr result (Refuses (room_of self.old.scratch) (length numbers.now)
-            at.now (RefusesNumbered numbers.now)) }
+            at.now (RefusesClassNumbers numbers.now)) }
         ensures kept { OnErr result (self.new ≡ self.old) }
         ensures taken { OnOk result (Takes IsClassNumber (room_of self.old.scratch) numbers.now
             at.now) }

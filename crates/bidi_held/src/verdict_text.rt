@@ -1,6 +1,6 @@
 // The line that says a verdict, of its numbers.
 ghost use Rattle.std.specs.Prelude.{◌≤◌, length, IfOk, IfErr};
-ghost use Rattle.bidi_held.specs.VerdictLines.{IsVerdictLine, RefusesNumbers, PutsVerdictLine};
+ghost use Rattle.bidi_held.specs.VerdictLines.{IsVerdictLine, RefusesVerdictNumbers, PutsVerdictLine};
 
 use crate::refusal::Refusal;
 use crate::told_verdict::BidiVerdict;
@@ -11,7 +11,7 @@ use std::alloc::Global;
 fn verdict_line(alloc: Global, numbers: &BidiVerdict) -> Result<Vec<u8>, Refusal>
     ensures line { IfOk result (λ line. IsVerdictLine numbers.now line.items) }
     ensures short { IfOk result (λ line. length line.items ≤ 72) }
-    ensures refused { IfErr result (RefusesNumbers numbers.now) }
+    ensures refused { IfErr result (RefusesVerdictNumbers numbers.now) }
 {
     let Some(verdict) = numbers.verdict() else {
         return Err(Refusal::NoVerdict);

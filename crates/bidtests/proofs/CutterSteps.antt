@@ -26,7 +26,7 @@ use Rattle.bidtests.specs.ClassesFile.{classes_line, classes_verdict}
 use Rattle.bidtests.specs.CharactersFile.{characters_line, characters_verdict}
 use Rattle.bidtests.specs.FileKinds.{findings_by, verdict_of}
 use Rattle.bidtests.specs.Carried.{Carried, at_start, IsBehind, no_at, no_by, after_line, after_cut, no_or_yes, verdict_behind}
-use Rattle.bidtests.specs.Standing.{Judging, Judges, IsOpen, JudgesBy}
+use Rattle.bidtests.specs.JudgedSoFar.{Judging, Judges, IsOpen, JudgesBy}
 use Rattle.bidtests.proofs.LineByLine.{verdict-fault, verdict-yes, behind-line, behind-none}
 use Rattle.units.proofs.FirstItem.{some_bytes}
 use Rattle.ucdfiles.proofs.LinesWith.{lines_with-more, lines_with-long, lines_of-ended, lines_of-begun}

@@ -11,7 +11,7 @@ use Rattle.bidtests.specs.ClassesFile.{classes_findings, classes_verdict}
 use Rattle.bidtests.specs.CharactersFile.{characters_line, characters_verdict}
 use Rattle.bidtests.specs.FileKinds.{findings_by, verdict_of}
 use Rattle.bidtests.specs.Carried.{Carried, AreInForce, IsBehind}
-use Rattle.bidtests.specs.Standing.{StateOf, JudgesBy, Judges, HoldsFor, judging, tables_of}
+use Rattle.bidtests.specs.JudgedSoFar.{StateOf, JudgesBy, Judges, HoldsFor, judging, tables_of}
 
 abbrev findings_with : Option TablesOf → List (List ℕ) → List Finding
 findings_with None lines = classes_findings lines

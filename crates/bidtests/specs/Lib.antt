@@ -11,7 +11,7 @@ pub mod Readings
 pub mod LineFaults
 pub mod Carried
 pub mod LineReadings
-pub mod Standing
+pub mod JudgedSoFar
 pub mod WorkedClassesFiles
 pub mod WorkedCharactersFiles
 pub mod VerdictText

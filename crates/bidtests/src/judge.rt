@@ -1,6 +1,6 @@
 //! The judge of both kinds of test files.
 ghost use Rattle.std.specs.Prelude.{◌≡◌, ◌++◌, ℕ, List, [], IfOk};
-ghost use Rattle.bidtests.specs.Standing.{Judges};
+ghost use Rattle.bidtests.specs.JudgedSoFar.{Judges};
 ghost use Rattle.units.specs.Limits.{LimitsOf, standard};
 ghost use Rattle.bidtests.specs.FileKinds.{verdict_of};
 ghost use Rattle.bidtests.specs.Headline.{SaysOf};
@@ -25,7 +25,7 @@ pub struct Judge<'t> {
 }
 
 impl<'t> Model for Judge<'t> {
-    ghost use Rattle.bidtests.specs.Standing.{Judging, judging};
+    ghost use Rattle.bidtests.specs.JudgedSoFar.{Judging, judging};
 
     ghost Value = { Judging };
 

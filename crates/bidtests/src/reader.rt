@@ -1,6 +1,6 @@
 //! Files judged as they are read.
 ghost use Rattle.std.specs.Prelude.{◌≡◌, ◌↔◌, ℕ, List, IfOk, OnOk, IsErr};
-ghost use Rattle.bidtests.specs.Standing.{IsVerdictBehind};
+ghost use Rattle.bidtests.specs.JudgedSoFar.{IsVerdictBehind};
 
 use crate::judge::Judge;
 use crate::verdict::Verdict;

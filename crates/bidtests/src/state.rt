@@ -7,7 +7,7 @@ ghost use Rattle.units.specs.Text.{longest_line};
 ghost use Rattle.ucdfiles.specs.Tables.{TablesOf};
 ghost use Rattle.bidtests.specs.FileKinds.{verdict_of};
 ghost use Rattle.bidtests.specs.Carried.{no_by, after_cut, verdict_behind};
-ghost use Rattle.bidtests.specs.Standing.{HoldsFor, HasTakenIn, tables_of};
+ghost use Rattle.bidtests.specs.JudgedSoFar.{HoldsFor, TakesIn, tables_of};
 
 use crate::kind::Kind;
 use crate::line_judge::LineJudge;
@@ -29,7 +29,7 @@ pub struct JudgeState {
 }
 
 impl Model for JudgeState {
-    ghost use Rattle.bidtests.specs.Standing.{StateOf};
+    ghost use Rattle.bidtests.specs.JudgedSoFar.{StateOf};
 
     ghost Value = { StateOf };
 
@@ -82,7 +82,7 @@ impl JudgeState {
     /// Hands over the next bytes of a file of this kind, as many or as few as there are: where pieces begin and end
     /// changes nothing. Once a no is decided, further bytes change nothing. It takes no memory and always succeeds.
     pub fn feed(&mut self, kind: Kind<'_>, piece: &[u8])
-        ensures { HasTakenIn (tables_of kind.entry) self.old piece.now self.new }
+        ensures { TakesIn (tables_of kind.entry) self.old piece.now self.new }
     {
         let mut at = 0;
         while at < piece.len() {

@@ -346,7 +346,7 @@ pub record AsksForLines (rows : List Row) (asked : AskedLines) : Type 0 where
   pub directions : first_of (codes "directions") rows ≡ Some asked.directions.now
 
 -- the row that the values ask for, and nothing that says another text or its direction
-pub record AsksForRow (rows : List Row) (sought : SoughtRow) : Type 0 where
+pub record AsksToExplainRow (rows : List Row) (sought : SoughtRow) : Type 0 where
   pub given : is_some (first_of (codes "row") rows) ≡ true
   pub alone : has_text_words rows ≡ false
   pub kind : kind_named (first_of (codes "kind") rows) ≡ Some sought.kind
@@ -372,7 +372,7 @@ AsksFor name rows (requested.ExplainClasses classes direction) = (name ≡ codes
 AsksFor name rows (requested.ExplainCodes said tables direction) = (name ≡ codes "explain") × (has_row_words rows ≡ false)
     × (first_of (codes "tables") rows ≡ folder_of tables) × (first_of (codes "classes") rows ≡ None) × (first_of (codes "codes") rows ≡ Some said.now)
     × (direction ≡ direction_named (first_of (codes "direction") rows)) × (first_of (codes "file") rows ≡ None)
-AsksFor name rows (requested.ExplainRow sought) = (name ≡ codes "explain") × AsksForRow rows sought
+AsksFor name rows (requested.ExplainRow sought) = (name ≡ codes "explain") × AsksToExplainRow rows sought
 AsksFor name rows (requested.Judge kind tables file) = (name ≡ codes "judge")
     × (kind_named (first_of (codes "kind") rows) ≡ Some kind) × (first_of (codes "tables") rows ≡ option_map (λ folder. folder.now) tables)
     × (first_of (codes "file") rows ≡ Some file.now)

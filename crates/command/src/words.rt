@@ -5,7 +5,7 @@ ghost use Rattle.clap.specs.Simple.{subcommand_rows_of};
 ghost use Rattle.clap.specs.Walk.{first_of, one_of, rows_of, texts};
 ghost use Rattle.command.specs.CommandLine.{AsksFor, ColumnsAre, HasMet, IsAskedBy, IsReadAs, IsRefusedByClap, MakesNone};
 ghost use Rattle.command.specs.CommandLine.{FormIs, LettersAre, LineIs, NumberIs, direction_named, folder_of, form_word};
-ghost use Rattle.command.specs.CommandLine.{AsksForLines, AsksForRow, AsksForRows, is_given, kind_named, leniency_in};
+ghost use Rattle.command.specs.CommandLine.{AsksForLines, AsksToExplainRow, AsksForRows, is_given, kind_named, leniency_in};
 ghost use Rattle.command.specs.CommandLine.{rows_kind};
 ghost use Rattle.command.specs.Refusals.{explain_refusal, has_classes_and_text, has_codes_and_text, is_over_alphabet};
 ghost use Rattle.command.specs.Refusals.{form_refusal, has_form_words, has_row_words, has_text_words};
@@ -143,9 +143,9 @@ fn has_text_words(matches: &ArgMatches<'_>) -> bool
 
 /// The row that `explain` asks for, by its arguments.
 fn explain_row_in<'a>(matches: &ArgMatches<'a>) -> Option<SoughtRow<'a>>
-    ensures some { IfSome result (AsksForRow (rows_of (found_of matches.now))) }
+    ensures some { IfSome result (AsksToExplainRow (rows_of (found_of matches.now))) }
     ensures none { IfNone result ((sought : SoughtRowOf)
-        → ¬ (AsksForRow (rows_of (found_of matches.now)) sought)) }
+        → ¬ (AsksToExplainRow (rows_of (found_of matches.now)) sought)) }
 {
     if has_text_words(matches) || !has_value(matches, "row") {
         return None;

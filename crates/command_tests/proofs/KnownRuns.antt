@@ -34,7 +34,7 @@ use Rattle.explain_row.specs.RowTexts.{row_text}
 use Rattle.explain_row.specs.SoughtRows.{RowView, sought_row}
 use Rattle.requests.specs.ClassWords.{classes_named}
 use Rattle.command_tests.specs.KnownRuns.{alef_line, neutral_explained, neutral_row_explained}
-use Rattle.requests.specs.ExplainedRows.{HasAtLine}
+use Rattle.requests.specs.RowsExplained.{HasAtLine}
 use Rattle.requests.specs.JudgedFiles.{HasJudged, IsClassesVerdict, IsCharactersVerdict}
 use Rattle.printing.specs.LevelsText.{code_text, levels_text}
 use Rattle.command_tests.specs.MemoryFiles.{IsWhole, Stored, StoredFile, memory_facts, stored_at}

@@ -59,9 +59,9 @@ memory_facts stored = record {
 }
 
 -- a source stands over the file, with its limit, and was not read yet
-abbrev pub StandsOver : Option StoredFile → ℕ → Reading → Type 0
-StandsOver None most source = ⊥
-StandsOver (Some file) most source = (source.remaining ≡ Some file.bytes) × (source.left ≡ min most file.readable) × (source.state ≡ Open)
+abbrev pub IsOpenedOver : Option StoredFile → ℕ → Reading → Type 0
+IsOpenedOver None most source = ⊥
+IsOpenedOver (Some file) most source = (source.remaining ≡ Some file.bytes) × (source.left ≡ min most file.readable) × (source.state ≡ Open)
 
 first_rest : (known : Option (List ℕ)) (xs bytes : List ℕ) (rest : Option (List ℕ)) → known ≡ Some xs → Consumes known rest bytes
     → (more : List ℕ) × (xs ≡ bytes ++ more)
@@ -69,7 +69,7 @@ first_rest known xs bytes None e h = absurd (subst (λ k. Consumes k None bytes)
 first_rest known xs bytes (Some more) e h = (more, subst (λ k. Consumes k (Some more) bytes) e h)
 
 pub begins-gave : (file : Option StoredFile) (most : ℕ) (opened now : Reading) (bytes : List ℕ)
-    → StandsOver file most opened → Gives opened bytes now → FileBeginsWith file bytes
+    → IsOpenedOver file most opened → Gives opened bytes now → FileBeginsWith file bytes
 begins-gave None most opened now bytes stands given = absurd stands
 begins-gave (Some file) most opened now bytes stands given = first_rest opened.remaining file.bytes bytes given.first.0 stands.0 given.first.1
 
@@ -80,7 +80,7 @@ all_of known (Some ys) xs bytes e h at_end =
     sym (append-nil bytes) ∙ ap (λ zs. bytes ++ zs) (sym at_end) ∙ sym taken
 
 pub whole-gave : (file : Option StoredFile) (most : ℕ) (opened now : Reading) (bytes : List ℕ)
-    → StandsOver file most opened → Gives opened bytes now → ReaderHasEnded now → IsWhole file most bytes
+    → IsOpenedOver file most opened → Gives opened bytes now → ReaderHasEnded now → IsWhole file most bytes
 whole-gave None most opened now bytes stands given ended = absurd stands
 whole-gave (Some file) most opened now bytes stands given ended = (
   all_of opened.remaining now.remaining file.bytes bytes stands.0 (given.consumed (ap failures_of ended.state_is)) ended.no_more,
@@ -105,7 +105,7 @@ passed xs bytes known left now most e limit falls h =
     longer xs bytes h.0 first.0 most now first.1 h.2 (falls ∙ limit)
 
 pub fails-gave : (file : Option StoredFile) (most : ℕ) (opened now : Reading) (bytes : List ℕ)
-    → StandsOver file most opened → Gives opened bytes now → failures_of now.state ≡ 1
+    → IsOpenedOver file most opened → Gives opened bytes now → failures_of now.state ≡ 1
     → FailsBehind file most bytes (unread_of now.state)
 fails-gave None most opened now bytes stands given failed = absurd stands
 fails-gave (Some file) most opened now bytes stands given failed = (

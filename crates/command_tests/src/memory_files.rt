@@ -1,7 +1,7 @@
 //! Files and standard input in memory, of which a read may fail behind some of the bytes.
 ghost use Rattle.std.specs.Prelude.{◌≡◌};
 ghost use Rattle.units.specs.HandsOut.{unread_of};
-ghost use Rattle.command_tests.specs.MemoryFiles.{StandsOver, begins-gave, fails-gave, memory_facts, stored_at, whole-gave};
+ghost use Rattle.command_tests.specs.MemoryFiles.{IsOpenedOver, begins-gave, fails-gave, memory_facts, stored_at, whole-gave};
 
 use requests::files::{Files, OpenFault};
 use std::alloc::Global;
@@ -86,7 +86,7 @@ impl<'a> MemoryFiles<'a> {
 impl<'a> Files for MemoryFiles<'a> {
     type Source = ReaderSource<&'a [u8]>;
 
-    ghost opens = { λ files origin most source. StandsOver (stored_at files origin) most source };
+    ghost opens = { λ files origin most source. IsOpenedOver (stored_at files origin) most source };
 
     ghost facts = { memory_facts };
 

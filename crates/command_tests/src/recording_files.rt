@@ -1,6 +1,6 @@
 //! Files and standard input in memory that write down what they are asked for.
 ghost use Rattle.units.specs.HandsOut.{unread_of};
-ghost use Rattle.command_tests.specs.MemoryFiles.{StandsOver, begins-gave, fails-gave, memory_facts, stored_at, whole-gave};
+ghost use Rattle.command_tests.specs.MemoryFiles.{IsOpenedOver, begins-gave, fails-gave, memory_facts, stored_at, whole-gave};
 
 use crate::memory_files::MemoryFiles;
 use requests::files::{Files, OpenFault};
@@ -45,7 +45,7 @@ impl<'a> RecordingFiles<'a> {
 impl<'a> Files for RecordingFiles<'a> {
     type Source = ReaderSource<&'a [u8]>;
 
-    ghost opens = { λ files origin most source. StandsOver (stored_at files origin) most source };
+    ghost opens = { λ files origin most source. IsOpenedOver (stored_at files origin) most source };
 
     ghost facts = { memory_facts };
 

@@ -16,8 +16,8 @@ abbrev pub stays_left : Class → Bool
 stays_left c = not (is_initiator c) && not (may_rise_at_even c)
 
 -- all of these do
-abbrev pub stay_left : List Class → Bool
-stay_left cs = list_all stays_left cs
+abbrev pub all_stay_left : List Class → Bool
+all_stay_left cs = list_all stays_left cs
 
 -- P2 to L1: under this direction each level of the text is 0, however it is broken into lines
 abbrev pub AreZeroUnder : LimitsOf → List BidiUnit → Direction → Type 0

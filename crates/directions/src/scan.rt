@@ -3,7 +3,7 @@ ghost use Rattle.std.specs.Prelude.{◌≡◌, true, List};
 ghost use Rattle.units.specs.Classes.{classes_of};
 ghost use Rattle.units.specs.Limits.{LimitsOf};
 ghost use Rattle.units.specs.declared.bracket.Unit.{Unit as BidiUnit};
-ghost use Rattle.directions.specs.StaysLeft.{AreLevelsZero, stays_left, stay_left};
+ghost use Rattle.directions.specs.StaysLeft.{AreLevelsZero, stays_left, all_stay_left};
 
 use units::bracket::Unit;
 use units::class::Class;
@@ -32,7 +32,7 @@ pub fn stays_left(class: Class) -> bool
 /// `Direction::Ltr` each position of it that remains has level 0, whatever the limits and the breaks are
 /// (`levels_are_zero`). X9 may still remove some of its positions.
 pub fn is_left_to_right(text: &[Unit]) -> bool
-    ensures { result ≡ stay_left (classes_of text.now) }
+    ensures { result ≡ all_stay_left (classes_of text.now) }
 {
     for p in 0..text.len() {
         if !stays_left(text[p].class) {
@@ -45,6 +45,6 @@ pub fn is_left_to_right(text: &[Unit]) -> bool
 /// Where a text has only classes that stay at level 0, the level of each position that remains is 0, if the
 /// direction is found or asked to be left-to-right.
 pub fn levels_are_zero()
-    ensures { (limits : LimitsOf) (text : List BidiUnit) → stay_left (classes_of text) ≡ true
+    ensures { (limits : LimitsOf) (text : List BidiUnit) → all_stay_left (classes_of text) ≡ true
         → AreLevelsZero limits text }
 {}

@@ -1,3 +1,3 @@
 pub mod Explaining
 pub mod Finished
-pub mod SameRow
+pub mod SamePosition

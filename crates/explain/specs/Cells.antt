@@ -1,4 +1,4 @@
--- The cells of a row: what a rule made of a position, as bytes.
+-- The cells of a line: what a rule made of a position, as bytes.
 use Rattle.std.specs.Prelude.{Option, ℕ, ◌==◌, Bool, true, false, if◌then◌else◌, List, codes, Some, None}
 use Rattle.std.specs.Fmt.{decimal}
 use Rattle.units.specs.ClassNames.{short_name}

@@ -1,4 +1,4 @@
--- What `explain` prints of a text, as bytes: of each paragraph its heading, a row for each position, and its foot.
+-- What `explain` prints of a text, as bytes: of each paragraph its heading, a line for each position, and its foot.
 use Rattle.std.specs.Prelude.{Option, ℕ, ◌+◌, List, [], ◌∷◌, ◌++◌, length, map, take, sum_by, Some, None, slice_get, slice_index_or}
 use Rattle.std.specs.Option.{option_map}
 use Rattle.units.specs.Classes.{class_at}
@@ -16,8 +16,8 @@ use Rattle.printing.specs.LevelsText.{printed}
 use Rattle.rule_columns.specs.Columns.{ColumnsOf, column_after, columns_of}
 use Rattle.explain.specs.Feet.{sequence_text, pair_text, order_text}
 use Rattle.explain.specs.Headings.{heading_text, decider_of}
-use Rattle.explain.specs.RowText.{row_text}
-use Rattle.explain.specs.declared.row.RowLevels.{RowLevels}
+use Rattle.explain.specs.PositionText.{position_text}
+use Rattle.explain.specs.declared.position.PositionLevels.{PositionLevels}
 use Rattle.rule_columns.specs.declared.rule.Rule.{Rule}
 use Rattle.rule_columns.specs.declared.rule.Rule.TheVariants as rule
 
@@ -32,17 +32,17 @@ classes_through columns para p =
     (slice_index_or para p no_unit).class ∷ map (λ r. class_at (column_after columns r) p) rules_of_classes
 
 -- a position's levels: after X1 to X9, after I1 and I2, after L1
-abbrev pub levels_through : ColumnsOf → ℕ → RowLevels
+abbrev pub levels_through : ColumnsOf → ℕ → PositionLevels
 levels_through columns p = record {
   explicit = option_map (λ x. x.0) (slice_index_or columns.explicit.leveled p None);
   implicit = slice_index_or columns.implicit p None;
   line = slice_index_or columns.shown.levels p None;
 }
 
--- the row of the position p of a paragraph that begins at start of the text
-abbrev pub row_at : List ℕ → List BidiUnit → ColumnsOf → ℕ → ℕ → List ℕ
-row_at chars para columns start p =
-    row_text (start + p) (slice_get chars (start + p)) (classes_through columns para p) (levels_through columns p)
+-- the line of the position p of a paragraph that begins at start of the text
+abbrev pub position_text_at : List ℕ → List BidiUnit → ColumnsOf → ℕ → ℕ → List ℕ
+position_text_at chars para columns start p =
+    position_text (start + p) (slice_get chars (start + p)) (classes_through columns para p) (levels_through columns p)
 
 -- what a read past the last sequence gives, and no caller asks
 abbrev pub no_sequence : SequenceView
@@ -72,7 +72,7 @@ foot_text columns start size =
 abbrev pub paragraph_explained : List ℕ → List BidiUnit → ColumnsOf → Direction → ℕ → ℕ → List ℕ
 paragraph_explained chars para columns direction start k =
     heading_text k columns.explicit.para_level (decider_of direction para start columns.explicit.first_strong)
-    ++ printed (row_at chars para columns start) 0 (length para)
+    ++ printed (position_text_at chars para columns start) 0 (length para)
     ++ foot_text columns start (length para)
 
 -- the same, by what the rules leave of it

@@ -11,8 +11,8 @@ abbrev pub listed_text : ℕ → List ℕ
 listed_text p = codes " " ++ decimal p
 
 -- positions of a paragraph that begins at start, as positions of the text
-abbrev pub places_text : ℕ → List ℕ → List ℕ
-places_text start ps = flat_map (λ p. listed_text (start + p)) ps
+abbrev pub positions_text : ℕ → List ℕ → List ℕ
+positions_text start ps = flat_map (λ p. listed_text (start + p)) ps
 
 -- X10: a sequence's number, counted from 0, its level, its start and end
 abbrev pub sequence_start_text : ℕ → SequenceView → List ℕ
@@ -21,7 +21,7 @@ sequence_start_text number s =
 
 -- the line of a sequence of a paragraph that begins at start
 abbrev pub sequence_text : ℕ → ℕ → SequenceView → List ℕ
-sequence_text number start s = sequence_start_text number s ++ places_text start s.positions ++ line_feed
+sequence_text number start s = sequence_start_text number s ++ positions_text start s.positions ++ line_feed
 
 -- BD16: the line of a bracket pair, its opener and its closer
 abbrev pub pair_text : ℕ → ℕ → List ℕ
@@ -29,4 +29,4 @@ pair_text opener closer = concat (codes "pair " ∷ decimal opener ∷ codes " "
 
 -- L2: the line of the order of a paragraph that begins at start, from left to right
 abbrev pub order_text : ℕ → List ℕ → List ℕ
-order_text start order = codes "order" ++ places_text start order ++ line_feed
+order_text start order = codes "order" ++ positions_text start order ++ line_feed

@@ -3,4 +3,4 @@ pub mod Explained
 pub mod ExplainedRows
 pub mod Feet
 pub mod Headings
-pub mod RowText
+pub mod PositionText

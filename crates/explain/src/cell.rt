@@ -1,4 +1,4 @@
-// The cells of a row: what a rule made of a position.
+// The cells of a line: what a rule made of a position.
 ghost use Rattle.std.specs.Prelude.{◌≡◌, Some};
 ghost use Rattle.explain.specs.Cells.{cell_text, class_cell, explicit_cell, level_cell};
 

@@ -3,20 +3,20 @@ ghost use Rattle.std.specs.Prelude.{◌<◌, ◌≤◌, OnOk};
 ghost use Rattle.std.specs.List.{All};
 ghost use Rattle.std.specs.Io.KnownBytes.{Appends};
 ghost use Rattle.units.specs.Layout.{longest_text};
-ghost use Rattle.explain.specs.Feet.{places_text, sequence_text, pair_text, order_text};
+ghost use Rattle.explain.specs.Feet.{positions_text, sequence_text, pair_text, order_text};
 
 use sequences::sequence::Sequence;
 use std::io;
 use std::io::Write;
 
 /// Writes the positions of a paragraph that begins at `start` of the text, as positions of the text.
-fn print_places<W: Write>(w: &mut W, start: usize, positions: &[u32]) -> io::Result<()>
+fn print_positions<W: Write>(w: &mut W, start: usize, positions: &[u32]) -> io::Result<()>
     requires { start ≤ longest_text }
-    ensures { OnOk result (Appends (W.contents w.old) (W.contents w.new) (places_text start positions.now)) }
+    ensures { OnOk result (Appends (W.contents w.old) (W.contents w.new) (positions_text start positions.now)) }
 {
     for position in positions {
-        let place = start + *position as usize;
-        write!(w, " {place}")?;
+        let shown = start + *position as usize;
+        write!(w, " {shown}")?;
     }
     Ok(())
 }
@@ -36,7 +36,7 @@ pub fn print_sequence<W: Write>(
     let sos = sequence.sos().short();
     let eos = sequence.eos().short();
     write!(w, "sequence {number} level {level} sos {sos} eos {eos}:")?;
-    print_places(w, start, sequence.as_slice())?;
+    print_positions(w, start, sequence.as_slice())?;
     writeln!(w)
 }
 
@@ -55,8 +55,8 @@ pub fn print_order<W: Write>(w: &mut W, start: usize, order: &[usize]) -> io::Re
 {
     write!(w, "order")?;
     for position in order {
-        let place = start + *position;
-        write!(w, " {place}")?;
+        let shown = start + *position;
+        write!(w, " {shown}")?;
     }
     writeln!(w)
 }

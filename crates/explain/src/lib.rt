@@ -6,5 +6,5 @@ mod code;
 mod foot;
 mod heading;
 mod paragraph_text;
+mod position;
 pub mod print;
-mod row;

@@ -6,11 +6,11 @@ ghost use Rattle.units.specs.Layout.{longest_text};
 ghost use Rattle.printing.specs.LevelsText.{printed};
 ghost use Rattle.rule_columns.specs.Columns.{HaveLength, column_after};
 ghost use Rattle.rule_columns.specs.Inside.{NamesInside};
-ghost use Rattle.explain.specs.Explained.{classes_through, foot_text, levels_through, pair_at, pair_if, paragraph_explained, row_at, sequence_line};
+ghost use Rattle.explain.specs.Explained.{classes_through, foot_text, levels_through, pair_at, pair_if, paragraph_explained, position_text_at, sequence_line};
 
 use crate::foot::{print_order, print_pair, print_sequence};
 use crate::heading::{decider_of, print_heading};
-use crate::row::{RowLevels, print_row};
+use crate::position::{PositionLevels, print_position};
 use rule_columns::columns::Columns;
 use rule_columns::rule::Rule;
 use std::io;
@@ -52,12 +52,12 @@ fn classes_through(columns: &Columns, para: &[Unit], p: usize) -> [Class; 12]
 }
 
 /// The levels of the position `p`.
-fn levels_through(columns: &Columns, p: usize, size: usize) -> RowLevels
+fn levels_through(columns: &Columns, p: usize, size: usize) -> PositionLevels
     requires length { HaveLength columns.now size }
     requires inside { p < size }
     ensures { result ≡ levels_through columns.now p }
 {
-    RowLevels {
+    PositionLevels {
         explicit: columns.leveled(p).map(|leveled| leveled.0),
         implicit: columns.implicit()[p],
         line: columns.levels()[p],
@@ -71,8 +71,8 @@ fn character_at(chars: &[char], position: usize) -> Option<char>
     chars.get(position).copied()
 }
 
-/// Writes the row of the position `p` of a paragraph that begins at `start` of the text.
-fn print_row_at<W: Write>(
+/// Writes the line of the position `p` of a paragraph that begins at `start` of the text.
+fn print_position_at<W: Write>(
     w: &mut W,
     chars: &[char],
     para: &[Unit],
@@ -85,17 +85,17 @@ fn print_row_at<W: Write>(
     requires length { HaveLength columns.now (length para.now) }
     requires inside { p < length para.now }
     ensures { OnOk result (Appends (W.contents w.old) (W.contents w.new)
-        (row_at chars.now para.now columns.now start p)) }
+        (position_text_at chars.now para.now columns.now start p)) }
 {
     let position = start + p;
     let character = character_at(chars, position);
     let classes = classes_through(columns, para, p);
     let levels = levels_through(columns, p, para.len());
-    print_row(w, position, character, &classes, levels)
+    print_position(w, position, character, &classes, levels)
 }
 
-/// Writes the rows of the positions of a paragraph that begins at `start` of the text.
-fn print_rows<W: Write>(
+/// Writes the lines of the positions of a paragraph that begins at `start` of the text.
+fn print_position_lines<W: Write>(
     w: &mut W,
     chars: &[char],
     para: &[Unit],
@@ -106,10 +106,10 @@ fn print_rows<W: Write>(
     requires small { length para.now ≤ longest_text }
     requires length { HaveLength columns.now (length para.now) }
     ensures { OnOk result (Appends (W.contents w.old) (W.contents w.new)
-        (printed (row_at chars.now para.now columns.now start) 0 (length para.now))) }
+        (printed (position_text_at chars.now para.now columns.now start) 0 (length para.now))) }
 {
     for p in 0..para.len() {
-        print_row_at(w, chars, para, columns, start, p)?;
+        print_position_at(w, chars, para, columns, start, p)?;
     }
     Ok(())
 }
@@ -173,7 +173,7 @@ fn print_foot<W: Write>(w: &mut W, columns: &Columns, start: usize, size: usize)
     print_order(w, start, columns.order())
 }
 
-/// Writes the text of a paragraph, by what the rules leave of it: its heading, the rows of its positions, its foot. It
+/// Writes the text of a paragraph, by what the rules leave of it: its heading, the lines of its positions, its foot. It
 /// has the number `number`, counted from 0, and begins at `start` of the text, whose characters are these, if they are
 /// known.
 pub fn print_paragraph<W: Write>(
@@ -194,6 +194,6 @@ pub fn print_paragraph<W: Write>(
 {
     let decider = decider_of(direction, para, start, columns.first_strong());
     print_heading(w, number, columns.para_level(), decider)?;
-    print_rows(w, chars, para, columns, start)?;
+    print_position_lines(w, chars, para, columns, start)?;
     print_foot(w, columns, start, para.len())
 }

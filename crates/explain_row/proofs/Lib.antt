@@ -1,2 +1,2 @@
 pub mod RowLines
-pub mod Steps
+pub mod SearchedBytes

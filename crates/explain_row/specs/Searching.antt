@@ -67,9 +67,9 @@ SearchComesTo kind sought s bytes (Ok (Some asked)) = IsSettled kind sought byte
 SearchComesTo kind sought s bytes (Err fault) = IsSettled kind sought bytes (Err fault)
 
 -- the same behind bytes and as much of a piece as was used
-abbrev pub ComesToBehind : Kind → ℕ → Searching → List ℕ → List ℕ → Result (ℕ × Option Asked) RowFault → Type 0
-ComesToBehind kind sought s bytes piece (Ok taken) = SearchComesTo kind sought s (bytes ++ take taken.0 piece) (Ok taken.1)
-ComesToBehind kind sought s bytes piece (Err fault) = SearchComesTo kind sought s (bytes ++ piece) (Err fault)
+abbrev pub PieceSettles : Kind → ℕ → Searching → List ℕ → List ℕ → Result (ℕ × Option Asked) RowFault → Type 0
+PieceSettles kind sought s bytes piece (Ok taken) = SearchComesTo kind sought s (bytes ++ take taken.0 piece) (Ok taken.1)
+PieceSettles kind sought s bytes piece (Err fault) = SearchComesTo kind sought s (bytes ++ piece) (Err fault)
 
 -- what a search found whose file has ended
 abbrev pub EndsWith : Kind → ℕ → Searching → List ℕ → Result Asked RowFault → Type 0

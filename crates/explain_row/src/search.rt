@@ -3,7 +3,7 @@ ghost use Rattle.std.specs.Prelude.{◌≡◌, ◌≤◌, ◌<◌, ℕ, List, []
 ghost use Rattle.units.specs.LineAnswers.{CutIsShort};
 ghost use Rattle.bidtests.specs.declared.kind.Kind.{Kind as FileKind};
 ghost use Rattle.bidtests.specs.declared.line_reader.TheConstants.{MOST_UNITS};
-ghost use Rattle.explain_row.specs.Searching.{SearchComesTo, EndsLast, EndsWith, SaysOfCut, SearchesOn, ComesToBehind, row_in};
+ghost use Rattle.explain_row.specs.Searching.{SearchComesTo, EndsLast, EndsWith, SaysOfCut, SearchesOn, PieceSettles, row_in};
 
 use crate::found_row::FoundRow;
 use crate::row_fault::RowFault;
@@ -87,7 +87,7 @@ impl RowSearch {
         ensures used { IfOk result (λ taken. taken.0 ≤ length piece.now) }
         ensures some { IfOk result (λ taken. 0 < length piece.now → 0 < taken.0) }
         ensures comes { (b : List ℕ) → SearchesOn kind.entry sought self.old b
-            → ComesToBehind kind.entry sought self.new b piece.now result }
+            → PieceSettles kind.entry sought self.new b piece.now result }
         ensures fits { IfOk result (λ taken. IsSome taken.1 → length self.new.rows.reading.text ≤ MOST_UNITS) }
     {
         let (used, cut) = self.cutter.take(piece);

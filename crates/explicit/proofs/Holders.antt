@@ -1,8 +1,8 @@
 pub mod Closing
 pub mod ClosingIsolate
-pub mod EmbeddingStep
-pub mod HoldersStep
-pub mod IsolateStep
+pub mod EmbeddingsBehind
+pub mod HoldersBehind
+pub mod IsolatesBehind
 pub mod MatchedIsolates
 pub mod Open
 pub mod OpenEmbeddings

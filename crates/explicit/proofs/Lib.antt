@@ -2,4 +2,3 @@ pub mod Matched
 pub mod Holders
 pub mod StrongSides
 pub mod LevelsFound
-mod Stretched

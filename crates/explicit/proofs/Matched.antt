@@ -8,4 +8,5 @@ pub mod OpenStack
 pub mod PartnerOf
 pub mod Partners
 pub mod Stops
+pub mod Stretched
 pub mod AtMostOne

@@ -70,7 +70,7 @@ before_isolate [] = []
 before_isolate (x ∷ xs) = cond (list_any (λ e. e.is_isolate) xs) (x ∷ before_isolate xs) []
 
 -- X1: this is what the pass keeps of some initiators, at a depth that is allowed, not too many for the counts
-pub record IsKept (n : StatusStack) : Type 0 where
+pub record IsReachedStack (n : StatusStack) : Type 0 where
   pub depth : ℕ
   pub classes : List Class
   pub para_level : ℕ

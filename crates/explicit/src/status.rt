@@ -1,10 +1,10 @@
 //! The initiators that are open, as one pass over a paragraph keeps them (X1 to X8).
-ghost use Rattle.std.specs.Prelude.{◌≡◌, ◌<◌, ◌≤◌, ◌+◌, ◌-◌, ◌==◌, ◌&&◌, true, ℕ, List, [], ◌∷◌, Some, slice_index_or, if◌then◌else◌};
-ghost use Rattle.units.specs.Classes.{is_isolate_initiator, is_removed, is_separator};
+ghost use Rattle.std.specs.Prelude.{◌≡◌, ◌<◌, ◌≤◌, ◌+◌, ◌-◌, ◌==◌, ◌&&◌, true, ℕ, List, [], Some, slice_index_or, if◌then◌else◌};
+ghost use Rattle.units.specs.Classes.{is_isolate_initiator};
 ghost use Rattle.units.specs.Explicit.{next_odd, next_even, override_of};
 ghost use Rattle.units.specs.declared.class.Class.{Class};
 ghost use Rattle.explicit.specs.OpenInitiators.{after_pdi, after_pdf};
-ghost use Rattle.explicit.specs.StatusStacks.{Represents, IsKept, before_isolate, entry_count, is_ordinary};
+ghost use Rattle.explicit.specs.StatusStacks.{Represents, IsReachedStack, before_isolate, entry_count, is_ordinary};
 ghost use Rattle.explicit.specs.StackChanges.{Closes, Opens, OpensAsking, Passes, TakesInitiator, RefusesInitiator, IsInnermost, GivesLeveledInside};
 ghost use Rattle.explicit.specs.Stretches.{leveled_by_status};
 ghost use Rattle.explicit.specs.WantedLevels.{IsOddWanted};
@@ -168,7 +168,7 @@ impl StatusStack {
     // X5a to X6a: the level and the current class of a position of this class, which is neither removed nor a
     // separator.
     fn leveled_inside(&self, class: Class) -> LeveledClass
-        requires { IsKept self.now }
+        requires { IsReachedStack self.now }
         ensures { GivesLeveledInside self.now class result }
     {
         let current = self.current();
@@ -231,7 +231,7 @@ impl StatusStack {
 
     // X2 to X5c: opens an initiator that is taken.
     fn take(&mut self, entry: Status)
-        requires { IsKept self.old }
+        requires { IsReachedStack self.old }
         ensures opened { TakesInitiator entry self.old self.new }
         ensures size { entry_count self.new ≡ entry_count self.old + 1 }
     {
@@ -242,7 +242,7 @@ impl StatusStack {
     // X2 to X5c: counts an initiator that is not taken. An overflow embedding inside an overflow isolate is not
     // counted.
     fn refuse(&mut self, is_isolate: bool)
-        requires { IsKept self.old }
+        requires { IsReachedStack self.old }
         ensures opened { RefusesInitiator is_isolate self.old self.new }
         ensures size { entry_count self.new ≡ entry_count self.old }
     {
@@ -255,7 +255,7 @@ impl StatusStack {
 
     // X2 to X5c: opens an initiator inside none that was refused; `odd` says whether it asks for an odd level.
     fn open_sound(&mut self, class: Class, odd: bool, depth: u8)
-        requires kept { IsKept self.old }
+        requires kept { IsReachedStack self.old }
         requires within { depth ≤ 125 }
         requires sound { (self.old.overflow_isolates == 0 && self.old.overflow_embeddings == 0) ≡ true }
         ensures opened { OpensAsking depth class odd self.old self.new }
@@ -276,7 +276,7 @@ impl StatusStack {
 
     // X2 to X5c: opens an initiator. Which level it asks for is of no matter inside one that was refused.
     fn open(&mut self, class: Class, right_to_left: bool, depth: u8)
-        requires kept { IsKept self.old }
+        requires kept { IsReachedStack self.old }
         requires within { depth ≤ 125 }
         ensures opened { Opens depth class right_to_left self.old self.new }
         ensures size { entry_count self.new ≤ entry_count self.old + 1 }
@@ -300,7 +300,7 @@ impl StatusStack {
         depth: u8,
         steps: &mut Steps<L>,
     ) -> LeveledClass
-        requires kept { IsKept self.old }
+        requires kept { IsReachedStack self.old }
         requires within { depth ≤ 125 }
         ensures passed { Passes depth base class right_to_left result self.old self.new }
         ensures least_steps { steps.old ≤ steps.new }

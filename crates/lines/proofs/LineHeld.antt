@@ -15,7 +15,7 @@ use Rattle.units.specs.declared.level.Direction.{Direction}
 use Rattle.units.specs.declared.level.ParaLevel.{ParaLevel}
 use Rattle.units.specs.declared.level.ParaLevel.TheVariants.{Zero}
 use Rattle.units.specs.Paragraphs.{paragraphs_of}
-use Rattle.lines.specs.Kept.{keeps_levels}
+use Rattle.lines.specs.Kept.{each_keeps_level}
 use Rattle.lines.specs.LinePositions.{IsAtOneLevel}
 use Rattle.lines.specs.LinesAlone.{IsLineIn, IsLineLaidOut}
 use Rattle.lines.specs.Spaces.{AreAtParas, levels_reset}
@@ -65,13 +65,13 @@ line_laid_out limits text direction breaks paras start end levels order same for
 
 module _ (limits : LimitsOf) (text : List BidiUnit) (direction : Direction) (paras : List ParaLevel) (same : map level_of_para paras ≡ para_levels_of text direction) where
   -- where each paragraph keeps its level, each position is at it
-  stays : true ≡ keeps_levels text direction → AreAtParas (classes_of text) (map level_of_para paras) (text_levels limits text direction)
+  stays : true ≡ each_keeps_level text direction → AreAtParas (classes_of text) (map level_of_para paras) (text_levels limits text direction)
   stays known =
       subst (λ ns. AreAtParas (classes_of text) ns (text_levels limits text direction)) (sym same)
       (text_at_paras limits direction text (all_stay limits direction (paragraphs_of text) (sym known)))
 
   -- the levels of a line, reset where L1 may change one
-  pub line_reset_by : (breaks : List ℕ) (start end : ℕ) (uniform : Bool) (part levels : List (Option ℕ)) → uniform ≡ keeps_levels text direction → slice_range (text_levels limits text direction) start end ≡ part → (IsTrue uniform → levels ≡ part) → (uniform ≡ false → levels ≡ slice_range (levels_reset text breaks paras (text_levels limits text direction)) start end) → levels ≡ slice_range (levels_reset text breaks paras (text_levels limits text direction)) start end
+  pub line_reset_by : (breaks : List ℕ) (start end : ℕ) (uniform : Bool) (part levels : List (Option ℕ)) → uniform ≡ each_keeps_level text direction → slice_range (text_levels limits text direction) start end ≡ part → (IsTrue uniform → levels ≡ part) → (uniform ≡ false → levels ≡ slice_range (levels_reset text breaks paras (text_levels limits text direction)) start end) → levels ≡ slice_range (levels_reset text breaks paras (text_levels limits text direction)) start end
   line_reset_by breaks start end true part levels known is kept reset =
       kept refl
       ∙ sym is
@@ -79,7 +79,7 @@ module _ (limits : LimitsOf) (text : List BidiUnit) (direction : Direction) (par
   line_reset_by breaks start end false part levels known is kept reset = reset refl
 
   -- where each paragraph keeps its level, the line is at that of its own
-  pub line_at_level : (breaks : List ℕ) (start end level : ℕ) (part : List (Option ℕ)) → true ≡ keeps_levels text direction → IsLineIn text breaks start end → level ≡ para_level_at (classes_of text) (map level_of_para paras) start → slice_range (text_levels limits text direction) start end ≡ part → IsAtOneLevel part 0 (end - start) level
+  pub line_at_level : (breaks : List ℕ) (start end level : ℕ) (part : List (Option ℕ)) → true ≡ each_keeps_level text direction → IsLineIn text breaks start end → level ≡ para_level_at (classes_of text) (map level_of_para paras) start → slice_range (text_levels limits text direction) start end ≡ part → IsAtOneLevel part 0 (end - start) level
   line_at_level breaks start end level part known line is_level is = record {
     same = λ p v low high h.
         let at_one = line_uniform (classes_of text) breaks (map level_of_para paras) (text_levels limits text direction) start end (stays known) line in

@@ -6,11 +6,11 @@ use Rattle.units.specs.declared.class.Class.{Class}
 use Rattle.units.specs.Classes.{class_at, is_separator}
 use Rattle.units.specs.Reordering.{begins_line, is_break}
 use Rattle.lines.specs.LineBreaks.{AreBreaks}
-use Rattle.lines.specs.LineEnds.{ArePassed, EndsLineAt, IsParagraphAt}
+use Rattle.lines.specs.LineEnds.{BreaksArePassed, EndsLineAt, IsParagraphAt}
 use Rattle.lines.proofs.BreakAt.{is_break_at, is_break_none, rising_le}
 
 -- none was passed at the start of the text
-pub passed_none : (at : List ℕ) (len : ℕ) → AreBreaks at len → ArePassed at 0 0
+pub passed_none : (at : List ℕ) (len : ℕ) → AreBreaks at len → BreaksArePassed at 0 0
 passed_none at len breaks = record { behind = λ k h some. absurd (omega arith); ahead = λ h. let i = breaks.inside 0 h in i.after_start }
 
 -- the limit is the next break, or the end of the text
@@ -19,11 +19,11 @@ pub record IsLimit (at : List ℕ) (passed len limit : ℕ) : Type 0 where
   pub last : length at ≤ passed → limit ≡ len
 
 -- it stands behind the position
-pub limit_above : (at : List ℕ) (passed len start limit : ℕ) → ArePassed at passed start → start < len → IsLimit at passed len limit → start < limit
+pub limit_above : (at : List ℕ) (passed len start limit : ℕ) → BreaksArePassed at passed start → start < len → IsLimit at passed len limit → start < limit
 limit_above at passed len start limit q below l = grind arith
 
 -- no break between the last one that was passed and the next one
-no_break : (at : List ℕ) (passed start len limit p : ℕ) → AreBreaks at len → ArePassed at passed start → IsLimit at passed len limit → start < p → p < limit → is_break at p ≡ false
+no_break : (at : List ℕ) (passed start len limit p : ℕ) → AreBreaks at len → BreaksArePassed at passed start → IsLimit at passed len limit → start < p → p < limit → is_break at p ≡ false
 no_break at passed start len limit p breaks q l low high =
     is_break_none at p (λ k h e. elim (cases_lt k passed) [
       | inl below ↦ let b = q.behind k below h in omega arith
@@ -40,7 +40,7 @@ pub begins_later : (own : List Class) (at : List ℕ) (p : ℕ) → 0 < p → be
 begins_later own at p h = ap (λ t. t || is_separator (class_at own (p - 1)) || is_break at p) (ne_eqb p 0 (omega arith))
 
 -- the line ends where the next one begins
-pub ends_line : (own : List Class) (at : List ℕ) (passed first start limit stop end : ℕ) → AreBreaks at (length own) → ArePassed at passed start → IsLimit at passed (length own) limit → IsParagraphAt own first stop → first ≤ start → start < end → end ≤ limit → end ≤ stop → (end < limit → end ≡ stop) → EndsLineAt (begins_line own at) start end (length own)
+pub ends_line : (own : List Class) (at : List ℕ) (passed first start limit stop end : ℕ) → AreBreaks at (length own) → BreaksArePassed at passed start → IsLimit at passed (length own) limit → IsParagraphAt own first stop → first ≤ start → start < end → end ≤ limit → end ≤ stop → (end < limit → end ≡ stop) → EndsLineAt (begins_line own at) start end (length own)
 ends_line own at passed first start limit stop end breaks q l paragraph from above within inside short =
     record {
       above = above;
@@ -64,11 +64,11 @@ ends_line own at passed first start limit stop end breaks q l paragraph from abo
           ];
     }
 
-passed_if : (at : List ℕ) (len passed start limit end : ℕ) (reached : Bool) → AreBreaks at len → ArePassed at passed start → IsLimit at passed len limit → start < end → end ≤ limit → (end == limit) ≡ reached → ArePassed at (passed + cond reached 1 0) end
+passed_if : (at : List ℕ) (len passed start limit end : ℕ) (reached : Bool) → AreBreaks at len → BreaksArePassed at passed start → IsLimit at passed len limit → start < end → end ≤ limit → (end == limit) ≡ reached → BreaksArePassed at (passed + cond reached 1 0) end
 passed_if at len passed start limit end true breaks q l above within is = grind (arith, eqb-true)
 passed_if at len passed start limit end false breaks q l above within is = grind (arith, eqb-false)
 
 -- the breaks that were passed at the line's end
-pub passed_on : (at : List ℕ) (len passed passed2 start limit end : ℕ) → AreBreaks at len → ArePassed at passed start → IsLimit at passed len limit → start < end → end ≤ limit → passed2 ≡ passed + cond (end == limit) 1 0 → ArePassed at passed2 end
+pub passed_on : (at : List ℕ) (len passed passed2 start limit end : ℕ) → AreBreaks at len → BreaksArePassed at passed start → IsLimit at passed len limit → start < end → end ≤ limit → passed2 ≡ passed + cond (end == limit) 1 0 → BreaksArePassed at passed2 end
 passed_on at len passed passed2 start limit end breaks q l above within count =
-    subst (λ m. ArePassed at m end) (sym count) (passed_if at len passed start limit end (end == limit) breaks q l above within refl)
+    subst (λ m. BreaksArePassed at m end) (sym count) (passed_if at len passed start limit end (end == limit) breaks q l above within refl)

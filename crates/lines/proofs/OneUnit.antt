@@ -8,18 +8,18 @@ use Rattle.units.specs.Layout.{no_unit}
 use Rattle.units.specs.Limits.{LimitsOf}
 use Rattle.units.specs.declared.bracket.Unit.{Unit as BidiUnit}
 use Rattle.units.specs.declared.level.Direction.{Direction}
-use Rattle.paragraph.specs.Resolvers.{IsKept, keeps_unit}
+use Rattle.paragraph.specs.Resolvers.{IsKeptUnit, keeps_unit}
 use Rattle.paragraph.specs.declared.one_unit.KeptUnit.{KeptUnit}
 use Rattle.lines.specs.Bounds.{bound_at, first_bound}
 use Rattle.lines.specs.Columns.{levels_filled, para_ends_filled, paras_filled}
-use Rattle.lines.specs.Kept.{keeps_levels}
+use Rattle.lines.specs.Kept.{each_keeps_level}
 use Rattle.lines.specs.LineEnds.{AreAllLineEnds, AreAllParagraphEnds}
 use Rattle.lines.specs.ResolvedTexts.{IsResolved, one_unit}
 use Rattle.lines.specs.declared.bounds.Bound.{Bound}
 use Rattle.lines.specs.declared.columns.TextColumns.{TextColumns}
 
 -- it is one paragraph, which keeps its level where the unit does
-pub keeps_one : (text : List BidiUnit) (direction : Direction) → length text ≡ 1 → keeps_levels text direction ≡ keeps_unit direction (get_or text 0 no_unit)
+pub keeps_one : (text : List BidiUnit) (direction : Direction) → length text ≡ 1 → each_keeps_level text direction ≡ keeps_unit direction (get_or text 0 no_unit)
 keeps_one [] direction one = absurd (omega arith)
 keeps_one (unit ∷ []) direction one = and-true (keeps_unit direction unit)
 keeps_one (unit ∷ second ∷ others) direction one = absurd (omega arith)
@@ -40,7 +40,7 @@ line_one unit bounds first last breaks = record {
 }
 
 pub is_resolved : (text : List BidiUnit) (direction : Direction) (kept : KeptUnit) (columns : TextColumns) (bounds : List Bound) →
-    length text ≡ 1 → IsKept direction (get_or text 0 no_unit) kept → paras_filled 1 columns ≡ kept.para ∷ [] → para_ends_filled 1 columns ≡ 1 ∷ [] →
+    length text ≡ 1 → IsKeptUnit direction (get_or text 0 no_unit) kept → paras_filled 1 columns ≡ kept.para ∷ [] → para_ends_filled 1 columns ≡ 1 ∷ [] →
     levels_filled 1 columns ≡ kept.level ∷ [] → bound_at bounds 0 ≡ first_bound → (bound_at bounds 1).position ≡ 1 →
     (limits : LimitsOf) (breaks : List ℕ) → IsResolved limits text direction breaks one_unit columns bounds
 is_resolved [] direction kept columns bounds one k p e l first last limits breaks = absurd (omega arith)

@@ -13,5 +13,5 @@ abbrev pub keeps_own_level : Direction → List BidiUnit → Bool
 keeps_own_level direction para = keeps_level (para_level_of (classes_of para) direction) (classes_of para)
 
 -- each paragraph of the text does so
-abbrev pub keeps_levels : List BidiUnit → Direction → Bool
-keeps_levels text direction = list_all (keeps_own_level direction) (paragraphs_of text)
+abbrev pub each_keeps_level : List BidiUnit → Direction → Bool
+each_keeps_level text direction = list_all (keeps_own_level direction) (paragraphs_of text)

@@ -36,7 +36,7 @@ pub record EndsLineAt (test : ℕ → Bool) (start end stop : ℕ) : Type 0 wher
   pub here : end < stop → test end ≡ true
 
 -- the breaks up to the position were passed, and no other
-pub record ArePassed (breaks : List ℕ) (passed position : ℕ) : Type 0 where
+pub record BreaksArePassed (breaks : List ℕ) (passed position : ℕ) : Type 0 where
   pub behind : (k : ℕ) → k < passed → k < length breaks → slice_index breaks k ≤ position
   pub ahead : passed < length breaks → position < slice_index breaks passed
 

@@ -6,7 +6,7 @@ use Rattle.units.specs.Limits.{LimitsOf}
 use Rattle.units.specs.declared.bracket.Unit.{Unit as BidiUnit}
 use Rattle.units.specs.declared.level.Direction.{Direction}
 use Rattle.lines.specs.Columns.{levels_filled, para_ends_filled, paras_filled}
-use Rattle.lines.specs.Kept.{keeps_levels}
+use Rattle.lines.specs.Kept.{each_keeps_level}
 use Rattle.lines.specs.LineEnds.{AreAllLineEnds, AreAllParagraphEnds}
 use Rattle.lines.specs.declared.bounds.Bound.{Bound}
 use Rattle.lines.specs.declared.columns.TextColumns.{TextColumns}
@@ -20,7 +20,7 @@ pub record IsResolved (limits : LimitsOf) (text : List BidiUnit) (direction : Di
   pub levels : levels_filled (length text) columns ≡ text_levels limits text direction
   pub ends : AreAllLineEnds text breaks resolved.lines bounds
   pub few_lines : resolved.lines ≤ length text
-  pub known : resolved.uniform ≡ keeps_levels text direction
+  pub known : resolved.uniform ≡ each_keeps_level text direction
 
 -- what is known of a text of one unit that keeps its paragraph's level: it is one paragraph and one line
 abbrev pub one_unit : ResolvedText

@@ -8,7 +8,7 @@ use Rattle.units.specs.declared.level.Direction.{Direction}
 use Rattle.units.specs.declared.level.ParaLevel.{ParaLevel}
 use Rattle.lines.specs.Bounds.{AreBounds}
 use Rattle.lines.specs.Columns.{bounds_filled, levels_filled, lines_filled, orders_filled, para_ends_filled, paras_filled, resolved_filled}
-use Rattle.lines.specs.Kept.{keeps_levels}
+use Rattle.lines.specs.Kept.{each_keeps_level}
 use Rattle.lines.specs.LineEnds.{AreAllParagraphEnds}
 use Rattle.lines.specs.LinesAlone.{IsLineIn, IsLineLaidOut, RefusesSpan, breaks_around}
 use Rattle.lines.specs.declared.alone.SpanFault.{SpanFault}
@@ -55,7 +55,7 @@ pub record HoldsText (limits : LimitsOf) (text : List BidiUnit) (direction : Dir
   pub ends : AreAllParagraphEnds text (para_ends_in scratch)
   pub paras : map level_of_para (paras_in scratch) ≡ para_levels_of text direction
   pub levels : resolved_in scratch ≡ text_levels limits text direction
-  pub known : scratch.used.uniform ≡ keeps_levels text direction
+  pub known : scratch.used.uniform ≡ each_keeps_level text direction
 
 -- what a text that is to be laid out leaves: its layout, in as much room, or what was held, if it is longer than that
 pub record LeavesLayout {T E : Type 0} (limits : LimitsOf) (text : List BidiUnit) (direction : Direction) (breaks : List ℕ) (old new : Scratch) (done : Result T E) : Type 0 where
@@ -73,7 +73,7 @@ HoldsSomeLayoutOf text scratch = (limits : LimitsOf) × (direction : Direction) 
 -- it holds this text, each paragraph of which keeps its level
 abbrev pub HoldsLightText : List BidiUnit → Scratch → Type 0
 HoldsLightText text scratch =
-    (limits : LimitsOf) × (direction : Direction) × HoldsText limits text direction scratch × (keeps_levels text direction ≡ true)
+    (limits : LimitsOf) × (direction : Direction) × HoldsText limits text direction scratch × (each_keeps_level text direction ≡ true)
 
 -- under each direction and by all limits under which the one held this text, the other does
 abbrev pub StillHoldsText : List BidiUnit → Scratch → Scratch → Type 0

@@ -1,6 +1,6 @@
 -- How many steps a layout takes, for each position of its text.
 use Rattle.std.specs.Prelude.{ℕ, ◌+◌}
-use Rattle.paragraph.specs.StepBounds.{known_steps}
+use Rattle.paragraph.specs.StepBounds.{driver_steps}
 
 -- P1 to I2 at most, where each paragraph keeps its level: paragraphs and their contents are found, lines are cut, and
 -- levels are written
@@ -9,7 +9,7 @@ light_text_steps = 1 + 1 + 1 + 1
 
 -- P1 to I2 at most: the rules take the rest
 abbrev pub text_steps : ℕ
-text_steps = light_text_steps + known_steps
+text_steps = light_text_steps + driver_steps
 
 -- L2 at most, to link the runs of a line: each position is looked at, and a run is joined, begins a stretch and ends one
 abbrev pub linking_steps : ℕ

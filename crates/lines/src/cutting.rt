@@ -3,7 +3,7 @@ ghost use Rattle.std.specs.Prelude.{◌≡◌, ◌<◌, ◌≤◌, ◌+◌, ◌-
 ghost use Rattle.units.specs.declared.class.Class.{Class as BidiClass};
 ghost use Rattle.lines.specs.Bounds.{bound_at, first_bound};
 ghost use Rattle.lines.specs.LineBreaks.{AreBreaks};
-ghost use Rattle.lines.specs.LineEnds.{AreLineEnds, ArePassed, IsParagraphAt};
+ghost use Rattle.lines.specs.LineEnds.{AreLineEnds, BreaksArePassed, IsParagraphAt};
 
 use crate::bounds::Bound;
 use std::sync::ledger::Ledger;
@@ -59,13 +59,13 @@ pub(crate) fn cut_paragraph<L: Ledger>(
     requires within { end ≤ len }
     requires small { end < 2 ^ 32 }
     requires bounds { end < length bounds.old }
-    requires passed { ArePassed at.now cut.passed start }
+    requires passed { BreaksArePassed at.now cut.passed start }
     requires few_passed { cut.passed ≤ start }
     requires few_lines { cut.lines ≤ start }
     ensures ends { (own : List BidiClass) → length own ≡ len → IsParagraphAt own start end
         → AreLineEnds own at.now cut.lines start bounds.old
         → AreLineEnds own at.now result.lines end bounds.new }
-    ensures passed { ArePassed at.now result.passed end }
+    ensures passed { BreaksArePassed at.now result.passed end }
     ensures few_passed { result.passed ≤ end }
     ensures more_lines { cut.lines < result.lines }
     ensures few_lines { result.lines ≤ cut.lines + (end - start) }

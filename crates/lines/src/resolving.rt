@@ -3,7 +3,7 @@ ghost use Rattle.std.specs.Prelude.{◌≡◌, ◌<◌, ◌≤◌, ◌+◌, ◌*
 ghost use Rattle.units.specs.Limits.{LimitsOf};
 ghost use Rattle.lines.specs.Bounds.{bound_at, first_bound};
 ghost use Rattle.lines.specs.Columns.{levels_filled, para_ends_filled, paras_filled, HasTextRoom, KeepsTextRoom};
-ghost use Rattle.lines.specs.Kept.{keeps_levels};
+ghost use Rattle.lines.specs.Kept.{each_keeps_level};
 ghost use Rattle.lines.specs.ResolvedTexts.{IsResolved, one_unit};
 ghost use Rattle.lines.specs.Spaces.{HasNoSegments, has_segments};
 ghost use Rattle.lines.specs.StepBounds.{light_text_steps, text_steps};
@@ -72,7 +72,7 @@ fn resolve_unit<L: Ledger>(
     requires one { length text.now ≡ 1 }
     requires room { HasTextRoom columns.old 1 }
     requires bounds { 1 < length bounds.old }
-    ensures known { result ≡ keeps_levels text.now direction }
+    ensures known { result ≡ each_keeps_level text.now direction }
     ensures room { KeepsTextRoom columns.old columns.new }
     ensures resolved { result ≡ true → (limits : LimitsOf) (breaks : List ℕ)
         → IsResolved limits text.now direction breaks one_unit columns.new bounds.new }

@@ -7,7 +7,7 @@ use Rattle.std.proofs.lemmas.List.Elements.{All-map, All-filter, All-from_get_or
 use Rattle.std.proofs.lemmas.List.Sums.{length-filter, count_by-le-length}
 use Rattle.units.specs.Classes.{classes_of}
 use Rattle.units.specs.Explicit.{explicit_of}
-use Rattle.units.specs.Layout.{current_of, levels_in, value_found, resolved_levels}
+use Rattle.units.specs.Layout.{current_of, levels_in, value_beside, resolved_levels}
 use Rattle.units.specs.Limits.{LimitsOf}
 use Rattle.units.specs.Paragraphs.{SeparatorOnlyLast}
 use Rattle.units.specs.Positions.{positions_of}
@@ -81,7 +81,7 @@ pub levels_are_resolved : (limits : LimitsOf) (us : List BidiUnit) (para : ℕ) 
 unfolding resolved_levels
 levels_are_resolved limits us para levels n has =
     let cs : List Class = classes_of us in
-    let found : ℕ → Option ℕ = value_found (flat_map (levels_in limits.brackets us (current_of (explicit_of limits.depth cs para))) (sequences_of (leveled_of limits.depth cs para))) in
+    let found : ℕ → Option ℕ = value_beside (flat_map (levels_in limits.brackets us (current_of (explicit_of limits.depth cs para))) (sequences_of (leveled_of limits.depth cs para))) in
     let m : length (positions_of us) ≡ length us = length-positions_from 0 (length us) in
     let k : length (map found (positions_of us)) ≡ length (positions_of us) = length-map (positions_of us) found in
     ext_get_or None levels (map found (positions_of us)) (omega arith)

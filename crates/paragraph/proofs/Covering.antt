@@ -8,7 +8,7 @@ use Rattle.std.proofs.lemmas.List.Elements.{Contains-append_left, Contains-appen
 use Rattle.std.proofs.lemmas.List.Concat.{flat_map-append}
 use Rattle.std.proofs.lemmas.Option.{get_or_from_slice_get}
 use Rattle.units.specs.Classes.{class_at, classes_at}
-use Rattle.units.specs.Layout.{levels_in, value_found, levels_of_sequence}
+use Rattle.units.specs.Layout.{levels_in, value_beside, levels_of_sequence}
 use Rattle.units.specs.Runs.{SequenceView}
 use Rattle.units.proofs.Lengths.{length-levels_of_sequence}
 use Rattle.units.specs.declared.bracket.Unit.{Unit as BidiUnit}
@@ -28,7 +28,7 @@ times_some (x ∷ ps) p (suc k, within, e) = omega (arith, times-cons x ps p, ti
 
 module _ (most_open : ℕ) (us : List BidiUnit) (before : List Class) where
   -- sequences that do not hold a position give it no level
-  pub unfound : (all : List SequenceView) (p : ℕ) → times (positions_in all) p ≡ 0 → value_found (flat_map (levels_in most_open us before) all) p ≡ None
+  pub unfound : (all : List SequenceView) (p : ℕ) → times (positions_in all) p ≡ 0 → value_beside (flat_map (levels_in most_open us before) all) p ≡ None
   unfound =
       none_beside (levels_in most_open us before) (λ s p none. zip_none s.positions (levels_of_sequence most_open s us (classes_at before s.positions)) p none)
 
@@ -117,7 +117,7 @@ module _ {extent : ℕ} {all : List SequenceView} (apart : AreDisjoint extent al
             elim (cases_lt 0 (times s.positions p)) [
               | inl some ↦
                   (let w = zip_some s.positions values p long some 0 in
-                  let none : value_found earlier p ≡ None = unfound most_open us before (take k all) p (apart_from_earlier p (omega (arith, h, n)) some) in
+                  let none : value_beside earlier p ≡ None = unfound most_open us before (take k all) p (apart_from_earlier p (omega (arith, h, n)) some) in
                   ap (resolved_at now_levels) (sym w.2) ∙ resolved.levels w.0 w.1 ∙ sym w.3 ∙ sym (found-append earlier own p none))
               | inr others ↦
                   (let none : times s.positions p ≡ 0 = omega arith in
@@ -125,6 +125,6 @@ module _ {extent : ℕ} {all : List SequenceView} (apart : AreDisjoint extent al
                   ∙ covered.found p h
                   ∙ sym (found-append_none earlier own p (zip_none s.positions values p none)))
             ]
-            ∙ sym (ap (λ (xs : List (ℕ × ℕ)). value_found xs p) joined);
+            ∙ sym (ap (λ (xs : List (ℕ × ℕ)). value_beside xs p) joined);
         kept = λ p e. resolved.other_classes p (λ c. let t = times_some s.positions p c in absurd (omega (arith, times_next p))) ∙ covered.kept p (omega (arith, times_next p));
       }

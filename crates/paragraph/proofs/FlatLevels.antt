@@ -7,7 +7,7 @@ use Rattle.std.proofs.lemmas.Option.{none-some, same_Some}
 use Rattle.std.proofs.lemmas.List.{length-map, get_or-map, get_or_past, ext_get_or}
 use Rattle.std.proofs.lemmas.List.Sums.{AllPass-from_list_all, count_by-le-length, length-filter}
 use Rattle.units.specs.Classes.{classes_of, is_removed}
-use Rattle.units.specs.Layout.{no_unit, value_found, levels_in, resolved_levels}
+use Rattle.units.specs.Layout.{no_unit, value_beside, levels_in, resolved_levels}
 use Rattle.units.specs.Limits.{LimitsOf}
 use Rattle.units.specs.Positions.{positions_of}
 use Rattle.units.specs.Runs.{SequenceView, leveled_of, sequences_of}
@@ -43,7 +43,7 @@ pub flat_levels : (limits : LimitsOf) (us : List BidiUnit) (para : ℕ) (all : L
     length levels ≡ length us → HasLevelsBy limits.brackets us (classes_of us) all levels → levels ≡ resolved_levels limits us para
 flat_levels limits us para all levels flat are n has =
     let cs : List Class = classes_of us in
-    let found : ℕ → Option ℕ = value_found (flat_map (levels_in limits.brackets us cs) (flat_sequences para cs)) in
+    let found : ℕ → Option ℕ = value_beside (flat_map (levels_in limits.brackets us cs) (flat_sequences para cs)) in
     let m : length (positions_of us) ≡ length us = length-positions_from 0 (length us) in
     let k : length (map found (positions_of us)) ≡ length (positions_of us) = length-map (positions_of us) found in
     let one : all ≡ flat_sequences para cs = are ∙ sequences_of-flat limits.depth cs para flat in
@@ -51,7 +51,7 @@ flat_levels limits us para all levels flat are n has =
     (λ i h.
     let at : slice_index (positions_of us) i ≡ i = get_or-positions_from 0 (length us) i 0 (omega arith) ∙ omega arith in
     has i (omega arith)
-    ∙ ap (λ (ss : List SequenceView). value_found (flat_map (levels_in limits.brackets us cs) ss) i) one
+    ∙ ap (λ (ss : List SequenceView). value_beside (flat_map (levels_in limits.brackets us cs) ss) i) one
     ∙ ap found (sym at)
     ∙ sym (get_or-map found (positions_of us) i 0 None (omega arith)))
     ∙ sym (resolved_levels-flat limits us para flat)

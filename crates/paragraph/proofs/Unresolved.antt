@@ -7,7 +7,7 @@ use Rattle.std.proofs.lemmas.Bool.{cases_lt, cond-true, cond-false}
 use Rattle.std.proofs.lemmas.List.{get_or-map, length-map}
 use Rattle.units.specs.Classes.{class_at, classes_at, classes_of, is_removed}
 use Rattle.units.specs.Explicit.{explicit_at, explicit_of}
-use Rattle.units.specs.Layout.{current_of, value_found, levels_in, levels_of_sequence, resolved_levels}
+use Rattle.units.specs.Layout.{current_of, value_beside, levels_in, levels_of_sequence, resolved_levels}
 use Rattle.units.specs.Limits.{LimitsOf, AreAllowed}
 use Rattle.units.specs.Paragraphs.{SeparatorOnlyLast}
 use Rattle.units.specs.Positions.{positions_of}
@@ -27,7 +27,7 @@ use Rattle.paragraph.proofs.FoundBeside.{found-append, found-append_some, zip_no
 
 -- a position of one of the sequences is given a level
 module _ (most_open : ℕ) (us : List BidiUnit) (before : List Class) where
-  found_held : (all : List SequenceView) (p : ℕ) → 0 < times (positions_in all) p → is_none (value_found (flat_map (levels_in most_open us before) all) p) ≡ false
+  found_held : (all : List SequenceView) (p : ℕ) → 0 < times (positions_in all) p → is_none (value_beside (flat_map (levels_in most_open us before) all) p) ≡ false
   found_held [] p some = absurd (omega (arith, some))
   found_held (s ∷ all) p some =
       let values : List ℕ = levels_of_sequence most_open s us (classes_at before s.positions) in
@@ -67,7 +67,7 @@ module _ (limits : LimitsOf) (allowed : AreAllowed limits) (us : List BidiUnit) 
   current = current_of (explicit_of limits.depth (classes_of us) para_level)
 
   abbrev found_at : ℕ → Option ℕ
-  found_at = value_found (flat_map (levels_in limits.brackets us current) (sequences_of here))
+  found_at = value_beside (flat_map (levels_in limits.brackets us current) (sequences_of here))
 
   found_none_if : (removed : Bool) → is_removed (class_at (classes_of us) p) ≡ removed → is_none (found_at p) ≡ removed
   found_none_if true e =

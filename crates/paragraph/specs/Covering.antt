@@ -2,7 +2,7 @@
 use Rattle.std.specs.Prelude.{Option, ℕ, Bool, ◌<◌, ◌≤◌, ◌≡◌, if◌then◌else◌, List, length, take}
 use Rattle.std.specs.List.{All, flat_map}
 use Rattle.units.specs.Classes.{classes_of}
-use Rattle.units.specs.Layout.{current_of, levels_in, value_found}
+use Rattle.units.specs.Layout.{current_of, levels_in, value_beside}
 use Rattle.units.specs.Runs.{SequenceView}
 use Rattle.units.specs.declared.bracket.Unit.{Unit as BidiUnit}
 use Rattle.units.specs.declared.class.Class.{Class}
@@ -29,4 +29,4 @@ pub record AreDisjoint (extent : ℕ) (all : List SequenceView) : Type 0 where
 -- many open brackets, and none if it stands in none of them
 abbrev pub HasLevelsBy : ℕ → List BidiUnit → List Class → List SequenceView → List (Option ℕ) → Type 0
 HasLevelsBy most_open us before all levels =
-    (p : ℕ) → p < length us → resolved_at levels p ≡ value_found (flat_map (levels_in most_open us before) all) p
+    (p : ℕ) → p < length us → resolved_at levels p ≡ value_beside (flat_map (levels_in most_open us before) all) p

@@ -42,7 +42,7 @@ abbrev pub keeps_unit : Direction → BidiUnit → Bool
 keeps_unit direction unit = keeps_level (para_level_of (unit.class ∷ []) direction) (unit.class ∷ [])
 
 -- P2 to I2: it does so, and these are the paragraph's level and its resolved one, whatever the limits are
-pub record IsKept (direction : Direction) (unit : BidiUnit) (kept : KeptUnit) : Type 0 where
+pub record IsKeptUnit (direction : Direction) (unit : BidiUnit) (kept : KeptUnit) : Type 0 where
   pub keeps : keeps_unit direction unit ≡ true
   pub para : level_of_para kept.para ≡ para_level_of (unit.class ∷ []) direction
   pub levels : (limits : LimitsOf) →

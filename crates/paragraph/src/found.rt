@@ -7,7 +7,7 @@ ghost use Rattle.units.specs.Classes.{classes_of};
 ghost use Rattle.units.specs.declared.class.Class.TheVariants.{BN};
 ghost use Rattle.paragraph.specs.Contents.{Describes, are_flat};
 ghost use Rattle.paragraph.specs.Covering.{AreDisjoint, HasLevelsBy, classes_before, positions_in};
-ghost use Rattle.paragraph.specs.StepBounds.{each_steps, found_steps};
+ghost use Rattle.paragraph.specs.StepBounds.{sequences_steps, w_to_i_steps};
 ghost use Rattle.resolve.specs.Raised.{resolved_at};
 ghost use Rattle.resolve.specs.Sought.{AreOwn, IsSoughtIn};
 
@@ -105,7 +105,7 @@ fn resolve_each<L: Ledger>(
         sequences.now.all levels.new }
     ensures room { length pairs.new ≡ length pairs.old }
     ensures at_least { steps.old + length sequences.now.all ≤ steps.new }
-    ensures at_most { steps.new ≤ steps.old + each_steps * length para.now.units.now }
+    ensures at_most { steps.new ≤ steps.old + sequences_steps * length para.now.units.now }
 {
     let classes = &mut classes[..para.units.len()];
     for k in 0..sequences.count() {
@@ -137,7 +137,7 @@ pub fn resolve_found<L: Ledger>(
         found.now.sequences levels.new }
     ensures room { work.new.room ≡ work.old.room }
     ensures at_least { steps.old + length para.now ≤ steps.new }
-    ensures at_most { steps.new ≤ steps.old + found_steps * length para.now }
+    ensures at_most { steps.new ≤ steps.old + w_to_i_steps * length para.now }
 {
     let flat = contents.is_flat();
     let openings = begin(para, flat, found, work, levels, steps);

@@ -9,7 +9,7 @@ ghost use Rattle.explicit.specs.ExplicitLevels.{HoldsLevels};
 ghost use Rattle.explicit.specs.IsolateMaps.{IsFilledFrom};
 ghost use Rattle.flat.specs.Uniform.{kept_level};
 ghost use Rattle.paragraph.specs.Contents.{Describes, are_flat};
-ghost use Rattle.paragraph.specs.StepBounds.{finding_steps};
+ghost use Rattle.paragraph.specs.StepBounds.{x_rules_steps};
 
 use crate::contents::Contents;
 use crate::rooms::RoomToFind;
@@ -68,7 +68,7 @@ pub fn find_sequences<L: Ledger>(
         ≡ sequences_of (leveled_of limits.depth (classes_of para.now) (level_of_para level)) }
     ensures room { found.new.room ≡ found.old.room }
     ensures at_least { steps.old ≤ steps.new }
-    ensures at_most { steps.new ≤ steps.old + finding_steps * length para.now + 1 }
+    ensures at_most { steps.new ≤ steps.old + x_rules_steps * length para.now + 1 }
 {
     if contents.is_flat() {
         found

@@ -1,6 +1,6 @@
 //! A paragraph of one unit, which most classes leave at the paragraph's level (P2 to I2).
 ghost use Rattle.std.specs.Prelude.{◌≡◌, false, MatchOption};
-ghost use Rattle.paragraph.specs.Resolvers.{IsKept, keeps_unit};
+ghost use Rattle.paragraph.specs.Resolvers.{IsKeptUnit, keeps_unit};
 
 use crate::contents::Contents;
 use crate::gates::kept_level;
@@ -20,7 +20,7 @@ pub struct KeptUnit {
 /// The levels of a paragraph of this unit alone, or none where the unit does not keep the paragraph's level.
 #[inline(always)]
 pub fn kept_unit(unit: Unit, direction: Direction) -> Option<KeptUnit>
-    ensures { MatchOption result (keeps_unit direction unit ≡ false) (IsKept direction unit) }
+    ensures { MatchOption result (keeps_unit direction unit ≡ false) (IsKeptUnit direction unit) }
 {
     let contents = Contents::of_class(unit.class);
     if !contents.is_flat() {

@@ -4,7 +4,7 @@ ghost use Rattle.units.specs.Classes.{classes_of};
 ghost use Rattle.units.specs.Paragraphs.{SeparatorOnlyLast};
 ghost use Rattle.paragraph.specs.Contents.{Describes};
 ghost use Rattle.paragraph.specs.Resolvers.{IsResolved};
-ghost use Rattle.paragraph.specs.StepBounds.{known_steps, paragraph_steps};
+ghost use Rattle.paragraph.specs.StepBounds.{driver_steps, paragraph_steps};
 
 use crate::contents::{Contents, FirstParagraph};
 use crate::found::resolve_found;
@@ -97,7 +97,7 @@ impl Resolver {
         ensures resolved { IsResolved limits para.now direction result levels.new }
         ensures room { self.new ≡ self.old }
         ensures at_least { steps.old + length para.now ≤ steps.new }
-        ensures at_most { steps.new ≤ steps.old + known_steps * length para.now + 1 }
+        ensures at_most { steps.new ≤ steps.old + driver_steps * length para.now + 1 }
         ensures light { result.uniform ≡ true → steps.new ≤ steps.old + length para.now }
     {
         // BD9, P2, P3.

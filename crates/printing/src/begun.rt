@@ -53,7 +53,7 @@ impl Begun {
     }
 
     /// Makes room for the layout of the paragraph, where there is less.
-    pub(crate) fn make_room(&mut self, alloc: Global) -> Result<(), Memory>
+    pub(crate) fn reserve_one(&mut self, alloc: Global) -> Result<(), Memory>
         requires { length self.old.units.items ≤ longest_text }
         ensures room { OnOk result (length self.new.units.items ≤ room_of self.new.room) }
         ensures chars { self.new.chars.items ≡ self.old.chars.items }

@@ -130,7 +130,7 @@ fn print_begun<W: Write>(
     ensures units { OnOk result (begun.new.units.items ≡ []) }
     ensures passed { OnOk result (Follows begun.old.passed (length begun.old.chars.items) begun.new.passed) }
 {
-    begun.make_room(alloc)?;
+    begun.reserve_one(alloc)?;
     print_as(alloc, w, tables, direction, form, begun)?;
     begun.pass();
     Ok(())

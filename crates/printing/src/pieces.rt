@@ -10,7 +10,7 @@ use units::class::Class;
 use units::level::Level;
 
 /// How many bytes the buffer of a line has.
-pub(crate) const LINE_ROOM: usize = 40;
+pub(crate) const LONGEST_LINE: usize = 40;
 
 /// The last upper-case hex digit of a number.
 fn last_digit(number: u32) -> u8
@@ -25,7 +25,7 @@ fn last_digit(number: u32) -> u8
 }
 
 /// Puts a byte before what ends the line, and answers where it stands.
-pub(crate) fn put_byte(byte: u8, line: &mut [u8; LINE_ROOM], end: usize) -> usize
+pub(crate) fn put_byte(byte: u8, line: &mut [u8; LONGEST_LINE], end: usize) -> usize
     requires some { 0 < end }
     requires within { end ≤ 40 }
     ensures start { result + 1 ≡ end }
@@ -36,7 +36,7 @@ pub(crate) fn put_byte(byte: u8, line: &mut [u8; LINE_ROOM], end: usize) -> usiz
 }
 
 /// Puts the last hex digit of a number before what ends the line, and answers where it stands.
-fn put_last_digit(number: u32, line: &mut [u8; LINE_ROOM], end: usize) -> usize
+fn put_last_digit(number: u32, line: &mut [u8; LONGEST_LINE], end: usize) -> usize
     requires some { 0 < end }
     requires within { end ≤ 40 }
     ensures start { result + 1 ≡ end }
@@ -46,7 +46,7 @@ fn put_last_digit(number: u32, line: &mut [u8; LINE_ROOM], end: usize) -> usize
 }
 
 /// Puts the hex digits that a code point has before its last four, and answers where they begin.
-fn put_front(front: u32, line: &mut [u8; LINE_ROOM], end: usize) -> usize
+fn put_front(front: u32, line: &mut [u8; LONGEST_LINE], end: usize) -> usize
     requires two { front < 256 }
     requires room { 2 ≤ end }
     requires within { end ≤ 40 }
@@ -65,7 +65,7 @@ fn put_front(front: u32, line: &mut [u8; LINE_ROOM], end: usize) -> usize
 }
 
 /// Puts a code point in upper-case hex digits, at least four, and answers where they begin.
-pub(crate) fn put_code(character: char, line: &mut [u8; LINE_ROOM], end: usize) -> usize
+pub(crate) fn put_code(character: char, line: &mut [u8; LONGEST_LINE], end: usize) -> usize
     requires room { 6 ≤ end }
     requires within { end ≤ 40 }
     ensures start { result ≤ end }
@@ -81,7 +81,7 @@ pub(crate) fn put_code(character: char, line: &mut [u8; LINE_ROOM], end: usize) 
 }
 
 /// Puts these bytes before what ends the line, and answers where they begin.
-pub(crate) fn put_bytes(bytes: &[u8], line: &mut [u8; LINE_ROOM], end: usize) -> usize
+pub(crate) fn put_bytes(bytes: &[u8], line: &mut [u8; LONGEST_LINE], end: usize) -> usize
     requires room { length bytes.now ≤ end }
     requires within { end ≤ 40 }
     ensures start { result + length bytes.now ≡ end }
@@ -93,7 +93,7 @@ pub(crate) fn put_bytes(bytes: &[u8], line: &mut [u8; LINE_ROOM], end: usize) ->
 }
 
 /// Puts the short name of a class, and answers where it begins.
-pub(crate) fn put_name(class: Class, line: &mut [u8; LINE_ROOM], end: usize) -> usize
+pub(crate) fn put_name(class: Class, line: &mut [u8; LONGEST_LINE], end: usize) -> usize
     requires room { 3 ≤ end }
     requires within { end ≤ 40 }
     ensures start { result ≤ end }
@@ -104,7 +104,7 @@ pub(crate) fn put_name(class: Class, line: &mut [u8; LINE_ROOM], end: usize) -> 
 }
 
 /// Puts a level after L1, or x where the position was removed (X9), and answers where it begins.
-pub(crate) fn put_level(level: Option<Level>, line: &mut [u8; LINE_ROOM], end: usize) -> usize
+pub(crate) fn put_level(level: Option<Level>, line: &mut [u8; LONGEST_LINE], end: usize) -> usize
     requires room { 3 ≤ end }
     requires within { end ≤ 40 }
     ensures start { result ≤ end }

@@ -4,7 +4,7 @@ ghost use Rattle.std.specs.Io.KnownBytes.{Appends};
 ghost use Rattle.units.specs.Isolates.{level_of_para};
 ghost use Rattle.printing.specs.LevelsText.{position_text, paragraph_text};
 
-use crate::pieces::{LINE_ROOM, put_byte, put_bytes, put_code, put_level, put_name};
+use crate::pieces::{LONGEST_LINE, put_byte, put_bytes, put_code, put_level, put_name};
 use itoa::write_digits;
 use std::io;
 use std::io::Write;
@@ -17,12 +17,12 @@ fn put_position(
     character: char,
     class: Class,
     level: Option<Level>,
-    line: &mut [u8; LINE_ROOM],
+    line: &mut [u8; LONGEST_LINE],
 ) -> usize
     ensures start { result ≤ 40 }
     ensures written { drop result line.new ≡ position_text position character class level }
 {
-    let start = put_byte(b'\n', line, LINE_ROOM);
+    let start = put_byte(b'\n', line, LONGEST_LINE);
     let start = put_level(level, line, start);
     let start = put_byte(b' ', line, start);
     let start = put_name(class, line, start);
@@ -43,17 +43,17 @@ pub fn print_position<W: Write>(
     ensures { OnOk result (Appends (W.contents w.old) (W.contents w.new)
         (position_text position character class level)) }
 {
-    let mut line = [0; LINE_ROOM];
+    let mut line = [0; LONGEST_LINE];
     let start = put_position(position, character, class, level, &mut line);
     w.write_all(&line[start..])
 }
 
 /// Puts the line of a paragraph at the end of a buffer, and answers where it begins.
-fn put_paragraph(number: usize, level: ParaLevel, line: &mut [u8; LINE_ROOM]) -> usize
+fn put_paragraph(number: usize, level: ParaLevel, line: &mut [u8; LONGEST_LINE]) -> usize
     ensures start { result ≤ 40 }
     ensures written { drop result line.new ≡ paragraph_text number (level_of_para level) }
 {
-    let start = put_byte(b'\n', line, LINE_ROOM);
+    let start = put_byte(b'\n', line, LONGEST_LINE);
     let start = write_digits(u64::from(level.level().get()), line, start);
     let start = put_bytes(b" level ", line, start);
     let start = write_digits(number as u64, line, start);
@@ -64,7 +64,7 @@ fn put_paragraph(number: usize, level: ParaLevel, line: &mut [u8; LINE_ROOM]) ->
 pub fn print_paragraph<W: Write>(w: &mut W, number: usize, level: ParaLevel) -> io::Result<()>
     ensures { OnOk result (Appends (W.contents w.old) (W.contents w.new) (paragraph_text number (level_of_para level))) }
 {
-    let mut line = [0; LINE_ROOM];
+    let mut line = [0; LONGEST_LINE];
     let start = put_paragraph(number, level, &mut line);
     w.write_all(&line[start..])
 }

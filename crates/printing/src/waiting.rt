@@ -10,7 +10,7 @@ use std::io::Write;
 use std::marker::Model;
 
 /// How many bytes wait at most.
-const ROOM: usize = 256;
+const MOST_WAITING: usize = 256;
 
 /// The most bytes that a character takes in UTF-8.
 const LONGEST_CHARACTER: usize = 4;
@@ -18,7 +18,7 @@ const LONGEST_CHARACTER: usize = 4;
 /// Bytes that wait until they are written together. Contracts see them as a list.
 #[derive(Drop)]
 pub(crate) struct Waiting {
-    bytes: ArrayVec<u8, ROOM>,
+    bytes: ArrayVec<u8, MOST_WAITING>,
 }
 
 impl Model for Waiting {
@@ -75,7 +75,7 @@ impl Waiting {
     }
 
     /// Makes room for a character: where there is none, what waits is written.
-    fn make_room<W: Write>(&mut self, w: &mut W) -> io::Result<()>
+    fn write_out<W: Write>(&mut self, w: &mut W) -> io::Result<()>
         ensures room { OnOk result (length self.new + 4 ≤ 256) }
         ensures same { OnOk result (Appends (with_waiting (W.contents w.old) self.old)
             (with_waiting (W.contents w.new) self.new) []) }
@@ -92,7 +92,7 @@ impl Waiting {
         ensures { OnOk result (Appends (with_waiting (W.contents w.old) self.old)
             (with_waiting (W.contents w.new) self.new) (encode_utf8 character)) }
     {
-        self.make_room(w)?;
+        self.write_out(w)?;
         self.push_character(character);
         Ok(())
     }

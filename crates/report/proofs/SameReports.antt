@@ -5,14 +5,14 @@ use Rattle.report.specs.declared.terms.Terms.{Terms}
 use Rattle.units.specs.Text.{lines_of}
 use Rattle.bidtests.specs.declared.kind.Kind.{Kind}
 use Rattle.bidtests.specs.declared.verdict.Cause.{Cause}
-use Rattle.bidtests.specs.Standing.{tables_of}
+use Rattle.bidtests.specs.JudgedSoFar.{tables_of}
 use Rattle.bidtests.specs.Verdicts.{Finding}
 use Rattle.bidtests.specs.LineReadings.{levels_in, order_in}
 use Rattle.bidtests.proofs.SameTables.{findings-as, in-force-as}
 use Rattle.report.specs.declared.wrong_case.WrongCase.{WrongCase}
 use Rattle.report.specs.FileReports.{first_malformed, report_on, report_of}
 use Rattle.report.specs.Reporting.{LineReporting, IsReportBehind, ReportsBy, Reports}
-use Rattle.report.specs.Standing.{StateOf, HasToldFor, reporting}
+use Rattle.report.specs.ReportedSoFar.{StateOf, HasToldFor, reporting}
 use Rattle.report.specs.Tallies.{tally_of}
 use Rattle.report.specs.WrongCases.{wrong_cases_from}
 

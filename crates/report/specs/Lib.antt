@@ -6,5 +6,5 @@ pub mod Tallies
 pub mod FileReports
 pub mod ReportText
 pub mod Reporting
-pub mod Standing
+pub mod ReportedSoFar
 pub mod PrintedReports

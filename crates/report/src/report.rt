@@ -28,7 +28,7 @@ pub struct Report<'t> {
 
 impl<'t> Model for Report<'t> {
     ghost use Rattle.report.specs.Reporting.{Reporting};
-    ghost use Rattle.report.specs.Standing.{reporting};
+    ghost use Rattle.report.specs.ReportedSoFar.{reporting};
 
     ghost Value = { Reporting };
 
@@ -85,7 +85,7 @@ pub struct Ended {
 
 impl Model for Ended {
     ghost use Rattle.report.specs.Reporting.{EndedReport};
-    ghost use Rattle.report.specs.Standing.{ended_in};
+    ghost use Rattle.report.specs.ReportedSoFar.{ended_in};
 
     ghost Value = { EndedReport };
 

@@ -5,12 +5,12 @@ ghost use Rattle.units.specs.LineAnswers.{CutIsShort};
 ghost use Rattle.report.specs.declared.terms.Terms.{Terms as TermsOf};
 ghost use Rattle.units.specs.Text.{longest_line};
 ghost use Rattle.ucdfiles.specs.Tables.{TablesOf};
-ghost use Rattle.bidtests.specs.Standing.{tables_of};
+ghost use Rattle.bidtests.specs.JudgedSoFar.{tables_of};
 ghost use Rattle.report.specs.declared.wrong_case.WrongCase.{WrongCase as Told};
 ghost use Rattle.report.specs.FileReports.{report_of};
 ghost use Rattle.report.specs.Reporting.{IsAfterLast, IsAfterCut, HasNothingNew};
 ghost use Rattle.report.specs.Reporting.{malformed_by, malformed_last, report_at_end};
-ghost use Rattle.report.specs.Standing.{HasToldFor, TakesIn, ended_in};
+ghost use Rattle.report.specs.ReportedSoFar.{HasToldFor, TakesIn, ended_in};
 
 use crate::line_report::LineReport;
 use crate::tally::Tally;
@@ -35,7 +35,7 @@ pub struct ReportState {
 }
 
 impl Model for ReportState {
-    ghost use Rattle.report.specs.Standing.{StateOf};
+    ghost use Rattle.report.specs.ReportedSoFar.{StateOf};
 
     ghost Value = { StateOf };
 

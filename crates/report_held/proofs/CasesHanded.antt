@@ -5,7 +5,7 @@ use Rattle.std.specs.Arc.{arc_value}
 use Rattle.std.proofs.lemmas.List.{drop_more}
 use Rattle.units.specs.Limits.{LimitsOf}
 use Rattle.ucdfiles.specs.Tables.{TablesOf}
-use Rattle.bidtests.specs.Standing.{tables_of}
+use Rattle.bidtests.specs.JudgedSoFar.{tables_of}
 use Rattle.bidtests.specs.declared.kind.Kind.{Kind}
 use Rattle.bidtests.specs.declared.kind.Kind.TheVariants.{Classes, Characters}
 use Rattle.report.specs.declared.wrong_case.WrongCase.{WrongCase}
@@ -13,10 +13,10 @@ use Rattle.report.specs.FileReports.{FileReport, report_of, settled_cases}
 use Rattle.report.specs.declared.terms.Terms.{Terms}
 use Rattle.report.specs.ReadClaims.{strict_terms}
 use Rattle.report.specs.Reporting.{Reports, report_at_end}
-use Rattle.report.specs.Standing.{StateOf, HasToldFor, TakesIn, ended_in, reporting}
+use Rattle.report.specs.ReportedSoFar.{StateOf, HasToldFor, TakesIn, ended_in, reporting}
 use Rattle.report.proofs.SettledCases.{told-settled}
 use Rattle.bidi_held.specs.declared.table_report.TableReport.{TableReport}
-use Rattle.report_held.specs.HeldReports.{HasCome, HasHanded, HandsOutAll, cases_known, left_in, report_with}
+use Rattle.report_held.specs.HeldReports.{HasCome, ReportHandedOut, HandsOutAll, cases_known, left_in, report_with}
 use Rattle.report_held.specs.ToldReports.{counts_of, counts_told}
 use Rattle.report_held.specs.declared.told_counts.BidiCounts.{BidiCounts}
 use Rattle.report_held.specs.ReportCalls.{Ends, Hands, Takes}
@@ -55,7 +55,7 @@ hands-out-all limits tables ended report handed bytes h = come-known limits tabl
 -- where nothing is left, what was handed out is what was told
 module _ (old : TableReport) (none : left_in old ≡ []) where
   before : (limits : LimitsOf) (tables : Option TablesOf) (handed : List WrongCase) (bytes : List ℕ)
-      → HasHanded limits tables false old handed bytes → HasToldFor (strict_terms limits) tables old.state handed bytes
+      → ReportHandedOut limits tables false old handed bytes → HasToldFor (strict_terms limits) tables old.state handed bytes
   before limits tables handed bytes h =
       subst (λ (told : List WrongCase). HasToldFor (strict_terms limits) tables old.state told bytes) (ap (λ ws. handed ++ ws) none ∙ append-nil handed) h.so_far
 
@@ -96,7 +96,7 @@ hands-next old case within is = λ limits tables ended handed bytes h.
 -- one piece behind the other
 pub takes-both : (old mid new : TableReport) (a b : List ℕ) → Takes old mid a → Takes mid new b → Takes old new (a ++ b)
 takes-both old mid new a b first second = λ limits tables handed bytes h.
-    subst (λ (bs : List ℕ). HasHanded limits tables false new handed bs) (append_assoc bytes a b) (second limits tables handed (bytes ++ a) (first limits tables handed bytes h))
+    subst (λ (bs : List ℕ). ReportHandedOut limits tables false new handed bs) (append_assoc bytes a b) (second limits tables handed (bytes ++ a) (first limits tables handed bytes h))
 
 pub takes-nothing : (old : TableReport) → Takes old old []
-takes-nothing old = λ limits tables handed bytes h. subst (λ (bs : List ℕ). HasHanded limits tables false old handed bs) (sym (append-nil bytes)) h
+takes-nothing old = λ limits tables handed bytes h. subst (λ (bs : List ℕ). ReportHandedOut limits tables false old handed bs) (sym (append-nil bytes)) h

@@ -11,7 +11,7 @@ use Rattle.bidtests.specs.Verdicts.{Finding}
 use Rattle.report.specs.declared.wrong_case.WrongCase.{WrongCase}
 use Rattle.report.specs.FileReports.{FileReport, report_on}
 use Rattle.report.specs.ReadClaims.{strict_terms}
-use Rattle.report.specs.Standing.{StateOf, HasToldFor}
+use Rattle.report.specs.ReportedSoFar.{StateOf, HasToldFor}
 use Rattle.report.specs.WrongCases.{wrong_cases_from, sound_lines}
 use Rattle.bidi_held.specs.declared.held.Held.{Held}
 use Rattle.bidi_held.specs.declared.held.Held.TheVariants.{Report}
@@ -45,7 +45,7 @@ HasCome limits tables true state told bytes =
 
 -- the report lays out by these limits and tables, or without tables; it was handed these bytes, in any pieces, and the
 -- end of the file or not, and has handed out these wrong cases, with which those that are left are all that it has told
-pub record HasHanded (limits : LimitsOf) (tables : Option TablesOf) (ended : Bool) (report : TableReport) (handed : List WrongCase) (bytes : List ℕ) : Type 0 where
+pub record ReportHandedOut (limits : LimitsOf) (tables : Option TablesOf) (ended : Bool) (report : TableReport) (handed : List WrongCase) (bytes : List ℕ) : Type 0 where
   pub by : option_map arc_value report.tables ≡ tables
   pub ends : report.ended ≡ ended
   pub so_far : HasCome limits tables ended report.state (handed ++ left_in report) bytes
@@ -56,12 +56,12 @@ report_in (Some (Report report)) = Some report.value
 report_in _ = None
 
 -- the handle holds a report of which this is so
-abbrev pub HasHandedOut : LimitsOf → Option TablesOf → Bool → Option Held → List WrongCase → List ℕ → Type 0
-HasHandedOut limits tables ended handle handed bytes = MatchOption (report_in handle) ⊥ (λ report. HasHanded limits tables ended report handed bytes)
+abbrev pub HandleHandedOut : LimitsOf → Option TablesOf → Bool → Option Held → List WrongCase → List ℕ → Type 0
+HandleHandedOut limits tables ended handle handed bytes = MatchOption (report_in handle) ⊥ (λ report. ReportHandedOut limits tables ended report handed bytes)
 
 -- what was handed out, and what is left of the wrong cases that were found last, are together those that are known of
 -- the bytes that were handed over
 abbrev pub HandsOutAll : Type 0
 HandsOutAll =
     (limits : LimitsOf) (tables : Option TablesOf) (ended : Bool) (report : TableReport) (handed : List WrongCase) (bytes : List ℕ)
-    → HasHanded limits tables ended report handed bytes → handed ++ left_in report ≡ cases_known limits tables ended bytes
+    → ReportHandedOut limits tables ended report handed bytes → handed ++ left_in report ≡ cases_known limits tables ended bytes

@@ -11,7 +11,7 @@ use Rattle.bidi_held.specs.declared.refusal.Refusal.{Refusal}
 use Rattle.bidi_held.specs.declared.refusal.Refusal.TheVariants.{Memory, NoReport, NoCase, CasesLeft}
 use Rattle.report_held.specs.declared.told_case.BidiWrongCase.{BidiWrongCase}
 use Rattle.report_held.specs.declared.told_counts.BidiCounts.{BidiCounts}
-use Rattle.report_held.specs.HeldReports.{HasHanded, HasHandedOut, cases_known, left_in, report_in, report_with}
+use Rattle.report_held.specs.HeldReports.{ReportHandedOut, HandleHandedOut, cases_known, left_in, report_in, report_with}
 use Rattle.report_held.specs.ToldReports.{case_told, counts_told}
 
 -- a report is not made for this reason
@@ -20,13 +20,13 @@ RefusesReport refusal = refusal ≡ Memory
 
 -- what a call leaves in a handle that is to make a report on a BidiTest.txt by these limits
 abbrev pub MakesReport : LimitsOf → Option Held → Option Held → Outcome → Type 0
-MakesReport limits old new outcome = Puts (λ report. HasHandedOut limits None false report [] []) RefusesReport old new outcome
+MakesReport limits old new outcome = Puts (λ report. HandleHandedOut limits None false report [] []) RefusesReport old new outcome
 
 -- what a call leaves in a handle that is to make a report on a BidiCharacterTest.txt by these limits and the tables that
 -- another handle holds
 abbrev pub MakesTableReport : LimitsOf → Option Held → Option Held → Option Held → Outcome → Type 0
 MakesTableReport limits tables old new outcome =
-    Puts (λ report. IsSome (tables_in tables) × HasHandedOut limits (tables_in tables) false report [] []) (RefusesSharing tables)
+    Puts (λ report. IsSome (tables_in tables) × HandleHandedOut limits (tables_in tables) false report [] []) (RefusesSharing tables)
     old new outcome
 
 -- the report takes bytes, or the end of its file: that has not ended, and no wrong case is left
@@ -45,13 +45,13 @@ RefusesBytesOf (Some report) refusal =
 abbrev pub Takes : TableReport → TableReport → List ℕ → Type 0
 Takes old new piece =
     (limits : LimitsOf) (tables : Option TablesOf) (handed : List WrongCase) (bytes : List ℕ)
-    → HasHanded limits tables false old handed bytes → HasHanded limits tables false new handed (bytes ++ piece)
+    → ReportHandedOut limits tables false old handed bytes → ReportHandedOut limits tables false new handed (bytes ++ piece)
 
 -- a report that the handle holds was
 abbrev pub HandleTakes : Option Held → Option Held → List ℕ → Type 0
 HandleTakes old new piece =
     (limits : LimitsOf) (tables : Option TablesOf) (handed : List WrongCase) (bytes : List ℕ)
-    → HasHandedOut limits tables false old handed bytes → HasHandedOut limits tables false new handed (bytes ++ piece)
+    → HandleHandedOut limits tables false old handed bytes → HandleHandedOut limits tables false new handed (bytes ++ piece)
 
 -- wrong cases are left in the report that the handle holds
 abbrev pub HasCasesLeft : Option Held → Type 0
@@ -71,19 +71,19 @@ pub record TakesBytes (old new : Option Held) (piece : List ℕ) (before after :
 abbrev pub Hands : TableReport → TableReport → WrongCase → Type 0
 Hands old new case =
     (limits : LimitsOf) (tables : Option TablesOf) (ended : Bool) (handed : List WrongCase) (bytes : List ℕ)
-    → HasHanded limits tables ended old handed bytes → HasHanded limits tables ended new (handed ++ case ∷ []) bytes
+    → ReportHandedOut limits tables ended old handed bytes → ReportHandedOut limits tables ended new (handed ++ case ∷ []) bytes
 
 -- a report that the handle holds has
 abbrev pub HandleHands : Option Held → Option Held → WrongCase → Type 0
 HandleHands old new case =
     (limits : LimitsOf) (tables : Option TablesOf) (ended : Bool) (handed : List WrongCase) (bytes : List ℕ)
-    → HasHandedOut limits tables ended old handed bytes → HasHandedOut limits tables ended new (handed ++ case ∷ []) bytes
+    → HandleHandedOut limits tables ended old handed bytes → HandleHandedOut limits tables ended new (handed ++ case ∷ []) bytes
 
 -- the report that the handle holds has handed out all wrong cases that are known of the bytes that it was handed
 abbrev pub HasHandedAll : Option Held → Type 0
 HasHandedAll handle =
     (limits : LimitsOf) (tables : Option TablesOf) (ended : Bool) (handed : List WrongCase) (bytes : List ℕ)
-    → HasHandedOut limits tables ended handle handed bytes → handed ≡ cases_known limits tables ended bytes
+    → HandleHandedOut limits tables ended handle handed bytes → handed ≡ cases_known limits tables ended bytes
 
 -- no wrong case is handed out for this reason: there is no report, or it has handed out all
 abbrev pub RefusesCase : Option Held → Refusal → Type 0
@@ -103,15 +103,15 @@ pub record HandsOutNext (old new : Option Held) (before after : BidiWrongCase) (
 abbrev pub Ends : TableReport → TableReport → BidiCounts → Type 0
 Ends old new counts =
     (limits : LimitsOf) (tables : Option TablesOf) (handed : List WrongCase) (bytes : List ℕ)
-    → HasHanded limits tables false old handed bytes
-    → HasHanded limits tables true new handed bytes × (counts ≡ counts_told (report_with limits tables bytes))
+    → ReportHandedOut limits tables false old handed bytes
+    → ReportHandedOut limits tables true new handed bytes × (counts ≡ counts_told (report_with limits tables bytes))
 
 -- a report that the handle holds was
 abbrev pub HandleEnds : Option Held → Option Held → BidiCounts → Type 0
 HandleEnds old new counts =
     (limits : LimitsOf) (tables : Option TablesOf) (handed : List WrongCase) (bytes : List ℕ)
-    → HasHandedOut limits tables false old handed bytes
-    → HasHandedOut limits tables true new handed bytes × (counts ≡ counts_told (report_with limits tables bytes))
+    → HandleHandedOut limits tables false old handed bytes
+    → HandleHandedOut limits tables true new handed bytes × (counts ≡ counts_told (report_with limits tables bytes))
 
 -- what a call leaves that is to hand over the end of a file: where it is done the report is ended, and the counts are
 -- those of the report on all bytes that it was handed; else all is as it was, for a reason

@@ -4,7 +4,7 @@ ghost use Rattle.std.specs.Option.{option_map};
 ghost use Rattle.std.specs.Arc.{arc_value};
 ghost use Rattle.bidi_held.specs.Holdings.{tables_in, RefusesSharing};
 ghost use Rattle.report_held.specs.ReportCalls.{RefusesReport};
-ghost use Rattle.report_held.specs.HeldReports.{HasHandedOut};
+ghost use Rattle.report_held.specs.HeldReports.{HandleHandedOut};
 
 use bidi_held::held::Held;
 use bidi_held::refusal::Refusal;
@@ -23,7 +23,7 @@ fn report_by(
     tables: Option<Arc<Tables, Global>>,
     limits: Limits,
 ) -> Result<Held, Refusal>
-    ensures made { IfOk result (λ report. HasHandedOut limits (option_map arc_value tables) false (Some report) [] []) }
+    ensures made { IfOk result (λ report. HandleHandedOut limits (option_map arc_value tables) false (Some report) [] []) }
     ensures refused { IfErr result RefusesReport }
 {
     let Ok(state) = ReportState::new(alloc, Terms::strict(limits)) else {
@@ -43,7 +43,7 @@ fn report_by(
 
 /// A report on a BidiTest.txt before its first byte, by these limits.
 pub fn class_report(alloc: Global, limits: Limits) -> Result<Held, Refusal>
-    ensures made { IfOk result (λ report. HasHandedOut limits None false (Some report) [] []) }
+    ensures made { IfOk result (λ report. HandleHandedOut limits None false (Some report) [] []) }
     ensures refused { IfErr result RefusesReport }
 {
     report_by(alloc, None, limits)
@@ -53,7 +53,7 @@ pub fn class_report(alloc: Global, limits: Limits) -> Result<Held, Refusal>
 /// shares.
 pub fn table_report(alloc: Global, tables: &Held, limits: Limits) -> Result<Held, Refusal>
     ensures made { IfOk result (λ report.
-        HasHandedOut limits (tables_in (Some tables.now)) false (Some report) [] []) }
+        HandleHandedOut limits (tables_in (Some tables.now)) false (Some report) [] []) }
     ensures tables { IfOk result (λ _. IsSome (tables_in (Some tables.now))) }
     ensures refused { IfErr result (RefusesSharing (Some tables.now)) }
 {

@@ -11,7 +11,7 @@ use Rattle.ucdfiles.specs.PairFiles.{bracket_fault, bracket_file_fault, mirror_f
 use Rattle.ucdfiles.specs.Tables.{TablesOf}
 use Rattle.bidtests.specs.declared.kind.Kind.{Kind}
 use Rattle.rows.specs.TextLines.{first_long_line}
-use Rattle.requests.specs.FileRows.{HasRows}
+use Rattle.requests.specs.FileRows.{IsKindOfFile}
 use Rattle.requests.specs.ReadFiles.{AreTables, FileFacts, most_file_bytes, origin_of}
 use Rattle.requests.specs.TableSources.{AreTablesBy}
 use Rattle.requests.specs.FaultText.{EndsOpening, print_fault}
@@ -20,7 +20,7 @@ use Rattle.requests.specs.CodeWords.{codes_said}
 use Rattle.requests.specs.Printed.{HoldsText, most_text_bytes}
 use Rattle.requests.specs.Parts.{AreDone, EndsFile, EndsWriting, FailsIn, IsFirstFault, RequestPart, alphabet_parts, codes_parts, explaining_parts, file_part, kind_parts, lines_part, lines_parts, opening_part, printing_parts, row_parts_by, row_text_parts, rows_parts, sought_part, source_parts, parts_of, table_parts, text_parts, texts_part, whole_parts}
 use Rattle.requests.specs.DirectionWords.{SaysDirections}
-use Rattle.requests.specs.PrintedRows.{HasPrintedRows, HasRowsOf}
+use Rattle.requests.specs.RowsPrinted.{HasPrintedRows, IsKindBySource}
 use Rattle.requests.proofs.AskedLetters.{alphabet_done}
 use Rattle.requests.specs.declared.request.FileKind.{FileKind}
 use Rattle.requests.specs.declared.request.FileKind.TheVariants.{Classes, Characters}
@@ -141,7 +141,7 @@ printing_fails parts before after (Ok x) f done h = tt
 printing_fails parts before after (Err fault) f done h = inr (done, subst EndsWriting (sym h) (writing_ends f))
 
 -- what rows hold was read
-pub kind_done : (files : FileFacts) (k : FileKind) (source : TableSource) (kind : Kind) → HasRowsOf files k source kind → AreDone (kind_parts files k source)
+pub kind_done : (files : FileFacts) (k : FileKind) (source : TableSource) (kind : Kind) → IsKindBySource files k source kind → AreDone (kind_parts files k source)
 kind_done files Classes source kind h = tt
 kind_done files Characters source kind h = source_done files source h.0.now h.1
 
@@ -172,7 +172,7 @@ lines_done files asked directions says tables h text read short = (
 
 -- what a row that was found holds was read, and so was the file up to it
 pub row_done : (files : FileFacts) (k : FileKind) (folder : Option (Bor (List ℕ))) (sought : SoughtRow) (rows : Kind)
-    → HasRows files k folder rows → (sought_part files sought).Done → AreDone (row_parts_by files k folder sought)
+    → IsKindOfFile files k folder rows → (sought_part files sought).Done → AreDone (row_parts_by files k folder sought)
 row_done files Classes folder sought rows is found = (found, tt)
 row_done files Characters (Some folder) sought rows is found =
     all_done (table_parts files folder.now) (sought_part files sought ∷ []) (tables_done files folder.now is.0.now is.1) (found, tt)

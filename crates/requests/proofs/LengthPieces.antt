@@ -2,7 +2,7 @@
 use Rattle.std.proofs.Common.{◌≡◌, ℕ, ◌<◌, List, [], ◌∷◌, length, None, refl, arith}
 use Rattle.units.specs.Text.{cut_at}
 use Rattle.units.proofs.Ranges.{cut_at-some}
-use Rattle.requests.specs.RowWords.{lengths_of_pieces}
+use Rattle.requests.specs.LengthWords.{lengths_of_pieces}
 
 pub pieces-two : (a b : List ℕ) → lengths_of_pieces (a ∷ b ∷ []) ≡ None
 pieces-two a [] = refl

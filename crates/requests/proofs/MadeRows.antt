@@ -11,9 +11,9 @@ use Rattle.rows.specs.Letters.{letter_by}
 use Rattle.rows.specs.declared.letter.Letter.{Letter}
 use Rattle.requests.specs.CodeWords.{EndsCodes}
 use Rattle.requests.specs.DirectionWords.{EndsDirections, SaysDirections}
-use Rattle.requests.specs.PrintedRows.{HasRowsOf, chars_asked, letters_asked}
+use Rattle.requests.specs.RowsPrinted.{IsKindBySource, chars_asked, letters_asked}
 use Rattle.requests.specs.ReadFiles.{FileFacts}
-use Rattle.requests.specs.RowWords.{EndsLengths, lengths_named}
+use Rattle.requests.specs.LengthWords.{EndsLengths, lengths_named}
 use Rattle.requests.specs.Parts.{AreDone, FailsIn, IsFirstFault, RequestPart, alphabet_parts, directions_part, kind_parts, lengths_part, making_part, rows_parts, source_parts, texts_part}
 use Rattle.requests.specs.TableSources.{AreTablesBy}
 use Rattle.requests.specs.declared.fault.Fault.{Fault}
@@ -91,7 +91,7 @@ module _ (files : FileFacts) (asked : AskedRows) where
     texts_over letters = record { alphabet = letters; least = least; greatest = greatest }
 
     module _ (before after : Option (List ℕ)) (letters : List Letter) where
-      module _ (kind : Kind) (is : HasRowsOf files asked.kind asked.tables kind) (are : letters_asked kind asked.letters ≡ Some letters) where
+      module _ (kind : Kind) (is : IsKindBySource files asked.kind asked.tables kind) (are : letters_asked kind asked.letters ≡ Some letters) where
         texts_fail : (fault : Fault) → FailsIn (making_part asked.form (texts_over letters) ∷ []) before after fault
             → FailsIn (texts_part files asked ∷ []) before after fault
         texts_fail fault (inl (inl ended, same)) = inl (inl (kind, is, texts_over letters, record { letters = are; ends = e }, ended), same)
@@ -117,7 +117,7 @@ module _ (files : FileFacts) (asked : AskedRows) where
           → {T : Type 0} (r : Result T Fault) → IfErr r (FailsIn (making_part asked.form (texts_over letters) ∷ []) before after)
           → IfErr r (FailsIn (rows_parts files asked) before after)
       of_classes_fail k are r h =
-          rows_fail_if file.Classes (subst (λ (f : FileKind). HasRowsOf files f asked.tables file.Classes) (sym k) refl) are r h
+          rows_fail_if file.Classes (subst (λ (f : FileKind). IsKindBySource files f asked.tables file.Classes) (sym k) refl) are r h
 
       -- and of characters, by these tables
       pub of_characters_fail : (tables : TablesOf) (chars : List ℕ) → asked.kind ≡ Characters → AreTablesBy files asked.tables tables
@@ -126,6 +126,6 @@ module _ (files : FileFacts) (asked : AskedRows) where
           → IfErr r (FailsIn (rows_parts files asked) before after)
       of_characters_fail tables chars k stated read same r h =
           let borrowed : Bor TablesOf = record { ref_ptr = (0, 0); now = tables } in
-          let is = subst (λ (f : FileKind). HasRowsOf files f asked.tables (file.Characters borrowed)) (sym k) (borrowed, stated, refl) in
+          let is = subst (λ (f : FileKind). IsKindBySource files f asked.tables (file.Characters borrowed)) (sym k) (borrowed, stated, refl) in
           let are : letters_asked (file.Characters borrowed) asked.letters ≡ Some letters = ap (option_map (map (letter_by tables))) read ∙ ap Some (sym same) in
           rows_fail_if (file.Characters borrowed) is are r h

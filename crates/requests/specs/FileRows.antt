@@ -9,8 +9,8 @@ use Rattle.requests.specs.declared.request.FileKind.{FileKind}
 use Rattle.requests.specs.declared.request.FileKind.TheVariants.{Classes, Characters}
 
 -- what the rows of a file hold, of this kind and by the tables of this folder, which were read where they are needed
-abbrev pub HasRows : FileFacts → FileKind → Option (Bor (List ℕ)) → Kind → Type 0
-HasRows files Classes folder rows = rows ≡ rows_of.Classes
-HasRows files Characters (Some folder) rows =
+abbrev pub IsKindOfFile : FileFacts → FileKind → Option (Bor (List ℕ)) → Kind → Type 0
+IsKindOfFile files Classes folder rows = rows ≡ rows_of.Classes
+IsKindOfFile files Characters (Some folder) rows =
     (tables : Bor TablesOf) × AreTables files folder.now tables.now × (rows ≡ rows_of.Characters tables)
-HasRows files Characters None rows = ⊥
+IsKindOfFile files Characters None rows = ⊥

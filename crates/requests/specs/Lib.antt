@@ -1,7 +1,7 @@
 pub mod ClassWords
 pub mod CodeWords
 pub mod DirectionWords
-pub mod ExplainedRows
+pub mod RowsExplained
 pub mod FaultText
 pub mod FileRows
 pub mod ItemWords
@@ -10,10 +10,10 @@ pub mod Outcomes
 pub mod Printed
 pub mod PrintedFiles
 pub mod PrintedLines
-pub mod PrintedRows
+pub mod RowsPrinted
 pub mod ReadFiles
 pub mod ReportedFiles
-pub mod RowWords
+pub mod LengthWords
 pub mod Parts
 pub mod SystemFiles
 pub mod TableFaults

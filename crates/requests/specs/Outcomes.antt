@@ -9,13 +9,13 @@ use Rattle.requests.specs.declared.fault.Fault.{Fault}
 use Rattle.requests.specs.declared.outcome.Ended.{Ended}
 use Rattle.requests.specs.declared.outcome.Outcome.{Outcome}
 use Rattle.requests.specs.declared.outcome.Outcome.TheVariants.{Judged, Printed}
-use Rattle.requests.specs.ExplainedRows.{HasExplainedRow}
+use Rattle.requests.specs.RowsExplained.{HasExplainedRow}
 use Rattle.requests.specs.FaultText.{EndsBy}
 use Rattle.requests.specs.JudgedFiles.{HasJudged, HasJudgedBy, IsClassesVerdict}
 use Rattle.requests.specs.Printed.{HasExplained, HasExplainedCodes, HasPrinted, printed_text}
 use Rattle.requests.specs.PrintedFiles.{TextBreaksOff}
 use Rattle.requests.specs.PrintedLines.{HasPrintedLines}
-use Rattle.requests.specs.PrintedRows.{HasPrintedRows}
+use Rattle.requests.specs.RowsPrinted.{HasPrintedRows}
 use Rattle.requests.specs.ReadFiles.{FileFacts}
 use Rattle.requests.specs.ReportedFiles.{HasReported, HasBrokenOff}
 use Rattle.requests.specs.Parts.{FailsIn, MemoryLeaves, parts_of}

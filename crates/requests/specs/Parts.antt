@@ -30,12 +30,12 @@ use Rattle.requests.specs.declared.request.SoughtRow.{SoughtRow}
 use Rattle.requests.specs.declared.request.Request.TheVariants.{Text, ExplainClasses, ExplainCodes, ExplainRow, Judge, Report, Rows, RowsOf}
 use Rattle.requests.specs.declared.fault.Fault.{Fault}
 use Rattle.requests.specs.declared.fault.Fault.TheVariants.{TablesNeeded, ClassesTooLong, CodesTooLong, CannotRead, NotUtf8, LongLine, CannotWrite, OutOfMemory}
-use Rattle.requests.specs.ExplainedRows.{FindsNoRow, HasAtLine}
+use Rattle.requests.specs.RowsExplained.{FindsNoRow, HasAtLine}
 use Rattle.requests.specs.FaultText.{EndsOpening}
-use Rattle.requests.specs.FileRows.{HasRows}
+use Rattle.requests.specs.FileRows.{IsKindOfFile}
 use Rattle.requests.specs.Printed.{HoldsText, most_text_bytes}
-use Rattle.requests.specs.PrintedRows.{CanBeMade, EndsMaking, EndsTexts, refusal_in}
-use Rattle.requests.specs.RowWords.{EndsLengths, lengths_named}
+use Rattle.requests.specs.RowsPrinted.{CanBeMade, EndsMaking, EndsTexts, refusal_in}
+use Rattle.requests.specs.LengthWords.{EndsLengths, lengths_named}
 use Rattle.requests.specs.ReadFiles.{FileFacts, IsClassPath, bracket_name, mirror_name, in_folder, most_file_bytes, origin_of}
 use Rattle.requests.specs.TableFaults.{EndsClasses, EndsTable, IsFaultless}
 use Rattle.requests.specs.TableSources.{AreBuiltIn, EndsBuiltIn}
@@ -276,9 +276,9 @@ module _ (files : FileFacts) where
   -- the search for the row that is sought
   abbrev pub sought_part : SoughtRow → RequestPart
   sought_part sought = record {
-    Done = (rows : Kind) × HasRows files sought.kind sought.tables rows
+    Done = (rows : Kind) × IsKindOfFile files sought.kind sought.tables rows
         × ((row : RowView) × HasAtLine files rows sought.line.value sought.file.now (Ok row));
-    EndsBy = λ fault. (rows : Kind) × HasRows files sought.kind sought.tables rows × EndsSearch files rows sought.line.value sought.file.now fault;
+    EndsBy = λ fault. (rows : Kind) × IsKindOfFile files sought.kind sought.tables rows × EndsSearch files rows sought.line.value sought.file.now fault;
   }
 
   -- what is read to explain a row of a file of this kind, by the tables of this folder

@@ -25,7 +25,7 @@ naming_in Characters tables = naming.Codes tables
 
 -- no line of this text is too long for a row, and known bytes grew by the file of its lines that have a character, under
 -- these directions, by the standard limits; the judge's verdict on that is a yes
-pub record HasPrintedRowsOf (naming : Naming) (directions : List Direction) (text : List ℕ) (before after : Option (List ℕ)) : Type 0 where
+pub record HasPrintedTextRows (naming : Naming) (directions : List Direction) (text : List ℕ) (before after : Option (List ℕ)) : Type 0 where
   pub short : first_long_line text ≡ None
   pub said : Appends before after (cases_text standard (kind_of naming) (cases_of_text naming directions text))
   pub right : JudgeSaysYes standard (kind_of naming) (cases_of_text naming directions text)
@@ -39,4 +39,4 @@ pub record HasPrintedLines (files : FileFacts) (asked : AskedLines) (before afte
   pub stated : AreTablesBy files asked.tables tables.now
   pub text : List ℕ
   pub read : HoldsText files asked.file.now text
-  pub made : HasPrintedRowsOf (naming_in asked.kind tables) directions text before after
+  pub made : HasPrintedTextRows (naming_in asked.kind tables) directions text before after

@@ -9,7 +9,7 @@ use Rattle.bidtests.specs.declared.kind.Kind.{Kind}
 use Rattle.report.specs.FileReports.{is_right, report_of, settled_cases}
 use Rattle.report.specs.ReadClaims.{strict}
 use Rattle.report.specs.ReportText.{first_cases_text, report_text}
-use Rattle.requests.specs.FileRows.{HasRows}
+use Rattle.requests.specs.FileRows.{IsKindOfFile}
 use Rattle.requests.specs.JudgedFiles.{verdict_status}
 use Rattle.requests.specs.ReadFiles.{FileFacts, most_file_bytes, origin_of}
 use Rattle.requests.specs.Parts.{FailsIn, opening_part}
@@ -61,9 +61,9 @@ FailsAs files rows file options before after fault =
 -- the file is reported on, by the tables of the folder where they are needed
 abbrev pub HasReported : FileFacts → FileKind → Option (Bor (List ℕ)) → List ℕ → ReportOptions → Option (List ℕ) → Option (List ℕ) → ℕ → Type 0
 HasReported files kind folder file options before after status =
-    (rows : Kind) × HasRows files kind folder rows × HasReportedAs files rows file options before after status
+    (rows : Kind) × IsKindOfFile files kind folder rows × HasReportedAs files rows file options before after status
 
 -- the report on it breaks off by this fault
 abbrev pub HasBrokenOff : FileFacts → FileKind → Option (Bor (List ℕ)) → List ℕ → ReportOptions → Option (List ℕ) → Option (List ℕ) → Fault → Type 0
 HasBrokenOff files kind folder file options before after fault =
-    (rows : Kind) × HasRows files kind folder rows × BreaksOffAs files rows file options before after fault
+    (rows : Kind) × IsKindOfFile files kind folder rows × BreaksOffAs files rows file options before after fault

@@ -5,8 +5,8 @@ ghost use Rattle.bidtests.specs.declared.kind.Kind.TheVariants as file;
 ghost use Rattle.rows.specs.Letters.{IsLetterOf};
 ghost use Rattle.requests.specs.DirectionWords.{SaysDirections};
 ghost use Rattle.requests.specs.declared.request.RowsForm.TheVariants as form_of;
-ghost use Rattle.requests.specs.PrintedRows.{HasPrintedRows, HasPrintedTexts, chars_asked, letters_asked};
-ghost use Rattle.requests.specs.RowWords.{lengths_named};
+ghost use Rattle.requests.specs.RowsPrinted.{HasPrintedRows, HasPrintedTexts, chars_asked, letters_asked};
+ghost use Rattle.requests.specs.LengthWords.{lengths_named};
 ghost use Rattle.requests.specs.Parts.{FailsIn, IsFirstFault, MemoryLeaves, alphabet_parts, making_part, rows_parts};
 
 use crate::class_names::classes_of_names;

@@ -1,6 +1,6 @@
 // A file judged, and its verdict printed.
 ghost use Rattle.std.specs.Prelude.{◌≡◌, ◌≤◌, [], ◌∷◌, ℕ, List, IfOk, IfErr};
-ghost use Rattle.bidtests.specs.Standing.{IsVerdictBehind};
+ghost use Rattle.bidtests.specs.JudgedSoFar.{IsVerdictBehind};
 ghost use Rattle.requests.specs.JudgedFiles.{HasJudged, HasJudgedBy, IsClassesVerdict, verdict_status};
 ghost use Rattle.requests.specs.Outcomes.{IsDone};
 ghost use Rattle.requests.specs.ReadFiles.{most_file_bytes, origin_of};

@@ -1,7 +1,7 @@
 // Lengths read from a word of the command line.
 ghost use Rattle.std.specs.Prelude.{◌≡◌, ◌≤◌, Some, IfOk, IfErr};
 ghost use Rattle.units.specs.Text.{ends};
-ghost use Rattle.requests.specs.RowWords.{EndsLengths, length_of, lengths_named};
+ghost use Rattle.requests.specs.LengthWords.{EndsLengths, length_of, lengths_named};
 
 use crate::fault::Fault;
 use units::text::cut::cut;

@@ -1,7 +1,7 @@
 // A row of a conformance file explained.
 ghost use Rattle.std.specs.Prelude.{◌≡◌, [], ◌∷◌, Ok, IfErr, IfOk, OnOk};
-ghost use Rattle.requests.specs.ExplainedRows.{HasAtLine, HasExplainedRow, row_fault};
-ghost use Rattle.requests.specs.FileRows.{HasRows};
+ghost use Rattle.requests.specs.RowsExplained.{HasAtLine, HasExplainedRow, row_fault};
+ghost use Rattle.requests.specs.FileRows.{IsKindOfFile};
 ghost use Rattle.requests.specs.Parts.{EndsSearch, FailsIn, row_parts, sought_part};
 
 use crate::fault::Fault;
@@ -66,7 +66,7 @@ fn explain_row_as<'a, F: Files, W: Write>(
     files: &F,
     out: &mut W,
 ) -> Result<(), Fault<'a>>
-    requires { HasRows (F.facts files.now) sought.kind sought.tables rows }
+    requires { IsKindOfFile (F.facts files.now) sought.kind sought.tables rows }
     ensures printed { OnOk result
         (HasExplainedRow (F.facts files.now) sought.entry (W.contents out.old) (W.contents out.new)) }
     ensures fault { IfErr result (FailsIn (sought_part (F.facts files.now) sought.entry ∷ [])

@@ -19,12 +19,12 @@ PairsNest most_open bs =
     (o c o2 c2 : ℕ) → IsPair most_open bs o c → IsPair most_open bs o2 c2 → o < o2 → (c < o2) ⊎ (c2 < c)
 
 -- N0: an index stands strictly inside a pair
-abbrev pub stands_inside : ℕ → ℕ × ℕ → Bool
-stands_inside k pair = nat_lt pair.0 k && nat_lt k pair.1
+abbrev pub is_inside_pair : ℕ → ℕ × ℕ → Bool
+is_inside_pair k pair = nat_lt pair.0 k && nat_lt k pair.1
 
 -- BD16: an index stands inside no more pairs than there is room for open brackets
 abbrev pub PairsAreShallow : ℕ → List Bracket → Type 0
-PairsAreShallow most_open bs = (k : ℕ) → count_by (stands_inside k) (bracket_pairs_of most_open bs) ≤ most_open
+PairsAreShallow most_open bs = (k : ℕ) → count_by (is_inside_pair k) (bracket_pairs_of most_open bs) ≤ most_open
 
 -- how many indices stand inside the pairs, counted for each pair
 abbrev pub total_inside : List (ℕ × ℕ) → ℕ

@@ -11,7 +11,7 @@ use Rattle.units.specs.Classes.{classes_of, classes_at, is_separator}
 use Rattle.units.specs.Explicit.{explicit_of}
 use Rattle.units.specs.Implicit.{rise_at_even, rise_at_odd, implicit_level}
 use Rattle.units.specs.Isolates.{para_level_of}
-use Rattle.units.specs.Layout.{value_found, levels_in, after_rules, resolved_levels, text_levels, para_levels_of, layout_of, current_of}
+use Rattle.units.specs.Layout.{value_beside, levels_in, after_rules, resolved_levels, text_levels, para_levels_of, layout_of, current_of}
 use Rattle.units.specs.Limits.{LimitsOf}
 use Rattle.units.specs.Paragraphs.{paragraphs_of}
 use Rattle.units.specs.Positions.{positions_of}
@@ -65,7 +65,7 @@ module _ {A B : Type 0} (P : B → Type 0) (f : A → List B) where
   All-flat_map (x ∷ xs) each =
       All-append P (f x) (flat_map f xs) (All-head (λ y. All P (f y)) x xs each) (All-flat_map xs (All-tail (λ y. All P (f y)) x xs each))
 
-found-low : (found : List (ℕ × ℕ)) (p : ℕ) → All IsLow found → IsLevel (value_found found p)
+found-low : (found : List (ℕ × ℕ)) (p : ℕ) → All IsLow found → IsLevel (value_beside found p)
 found-low [] p low = tt
 found-low (x ∷ found) p low =
     elim (nat_eq x.0 p) as (λ b. IsLevel (option_map (λ (y : ℕ × ℕ). y.1) (cond b (Some x) (find (λ (y : ℕ × ℕ). y.0 == p) found)))) [
@@ -97,8 +97,8 @@ resolved-low limits us para deep low =
     All-weaker IsShallow (λ s. All IsLow (levels_in limits.brackets us current s))
     (λ s shallow. low-zip s.positions s.level (after_rules limits.brackets s us (classes_at current s.positions)) shallow) sequences
     (sequences-shallow (leveled_of limits.depth cs para) (leveled limits.depth cs para deep low)) in
-    All-map IsLevel (value_found found) (positions_of us)
-    (all-of-every (λ p. IsLevel (value_found found p)) (λ p. found-low found p (All-flat_map IsLow (levels_in limits.brackets us current) sequences each)) (positions_of us))
+    All-map IsLevel (value_beside found) (positions_of us)
+    (all-of-every (λ p. IsLevel (value_beside found p)) (λ p. found-low found p (All-flat_map IsLow (levels_in limits.brackets us current) sequences each)) (positions_of us))
 
 text-low : (limits : LimitsOf) (text : List BidiUnit) (direction : Direction) → limits.depth ≤ 125 → All IsLevel (text_levels limits text direction)
 text-low limits text direction deep =

@@ -21,10 +21,10 @@ use units::level::Level;
 const MOST_BYTES: usize = 21;
 
 /// How many bytes are gathered before they are written.
-const ROOM: usize = 256;
+const MOST_GATHERED: usize = 256;
 
 /// Text that is gathered.
-type Gathered = ArrayVec<u8, ROOM>;
+type Gathered = ArrayVec<u8, MOST_GATHERED>;
 
 /// An item of a list that is printed.
 pub trait RowItem: Copy {
@@ -157,7 +157,7 @@ fn add_items<T: RowItem>(to: &mut Gathered, items: &[T]) -> usize
     ensures some { 0 < length items.now → array_vec_len to.old + 21 ≤ 256 → 0 < result }
 {
     let mut count = 0;
-    while count < items.len() && to.len() + MOST_BYTES <= ROOM {
+    while count < items.len() && to.len() + MOST_BYTES <= MOST_GATHERED {
         to.push(b' ');
         items[count].add(to);
         count += 1;

@@ -10,7 +10,7 @@ use Rattle.units.specs.Positions.{positions_of}
 use Rattle.units.specs.Runs.{SequenceView}
 use Rattle.units.specs.declared.class.Class.{Class}
 use Rattle.units.specs.declared.class.Class.TheVariants.{L}
-use Rattle.units.specs.Layout.{value_found}
+use Rattle.units.specs.Layout.{value_beside}
 use Rattle.units.proofs.Positions.{length-positions_from, get_or-positions_from}
 use Rattle.sequences.specs.Once.{times}
 use Rattle.resolve.specs.Raised.{Raises, resolved_at}
@@ -23,7 +23,7 @@ use Rattle.rule_columns.proofs.Found.{SaysOwn, found_here, found_elsewhere}
 
 -- the levels once these sequences have theirs
 abbrev pub AreRaised : List Class → List SequenceView → List (Option ℕ) → Type 0
-AreRaised cs done levels = (p : ℕ) → resolved_at levels p ≡ value_found (flat_map (implicit_in cs) done) p
+AreRaised cs done levels = (p : ℕ) → resolved_at levels p ≡ value_beside (flat_map (implicit_in cs) done) p
 
 abbrev values_in : List Class → SequenceView → List ℕ
 values_in cs s = map (implicit_level s.level) (classes_at cs s.positions)
@@ -61,11 +61,11 @@ pub raised_end : (all : List SequenceView) (k : ℕ) (cs : List Class) (levels :
     AreRaised cs (take k all) levels → levels ≡ implicit_of all cs
 unfolding implicit_of
 raised_end all k cs levels e n w =
-    let f : ℕ → Option ℕ = value_found (flat_map (implicit_in cs) all) in
+    let f : ℕ → Option ℕ = value_beside (flat_map (implicit_in cs) all) in
     let m : length (positions_of cs) ≡ length cs = length-positions_from 0 (length cs) in
     let h : length (map f (positions_of cs)) ≡ length (positions_of cs) = length-map (positions_of cs) f in
     let whole : take k all ≡ all = take_all k all (omega arith) in
     ext_get_or None levels (map f (positions_of cs)) (omega arith)
     (λ i l.
     let at : slice_index (positions_of cs) i ≡ i = omega (arith, get_or-positions_from 0 (length cs) i 0 (omega arith)) in
-    w i ∙ ap (λ (done : List SequenceView). value_found (flat_map (implicit_in cs) done) i) whole ∙ ap f (sym at) ∙ sym (get_or-map f (positions_of cs) i 0 None (omega arith)))
+    w i ∙ ap (λ (done : List SequenceView). value_beside (flat_map (implicit_in cs) done) i) whole ∙ ap f (sym at) ∙ sym (get_or-map f (positions_of cs) i 0 None (omega arith)))

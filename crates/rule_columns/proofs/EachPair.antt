@@ -8,7 +8,7 @@ use Rattle.std.proofs.lemmas.List.{length-map, get_or-map, ext_get_or, take_all}
 use Rattle.std.proofs.lemmas.List.Elements.{All-append, All-cons, All-head, All-nil, All-tail, All-weaker}
 use Rattle.units.specs.Brackets.{bracket_pairs_of, closer_of, ended_with, pairs_before, is_open_at, closes, bracket_at}
 use Rattle.units.specs.Classes.{classes_at}
-use Rattle.units.specs.Layout.{brackets_of, value_found}
+use Rattle.units.specs.Layout.{brackets_of, value_beside}
 use Rattle.units.specs.Limits.{standard}
 use Rattle.units.specs.Positions.{last_below, positions_of}
 use Rattle.units.specs.Runs.{SequenceView}
@@ -57,7 +57,7 @@ placed_pair ps pair = (slice_index ps pair.0, slice_index ps pair.1)
 
 -- beside the position of an index stands what is said of the index
 found_at_index : (ps : List ℕ) → IsDistinct ps → (pairs : List (ℕ × ℕ)) → All (λ pair. pair.0 < length ps) pairs → (k : ℕ) → k < length ps →
-    value_found (map (placed_pair ps) pairs) (slice_index ps k) ≡ option_map (slice_index ps) (value_found pairs k)
+    value_beside (map (placed_pair ps) pairs) (slice_index ps k) ≡ option_map (slice_index ps) (value_beside pairs k)
 found_at_index ps are [] within k h = refl
 found_at_index ps are (x ∷ xs) within k h =
     let p : ℕ = slice_index ps k in
@@ -75,7 +75,7 @@ found_at_index ps are (x ∷ xs) within k h =
     ]
 
 -- beside a position that is none of these stands nothing
-found_nowhere : (ps : List ℕ) (pairs : List (ℕ × ℕ)) → All (λ pair. pair.0 < length ps) pairs → (p : ℕ) → times ps p ≡ 0 → value_found (map (placed_pair ps) pairs) p ≡ None
+found_nowhere : (ps : List ℕ) (pairs : List (ℕ × ℕ)) → All (λ pair. pair.0 < length ps) pairs → (p : ℕ) → times ps p ≡ 0 → value_beside (map (placed_pair ps) pairs) p ≡ None
 found_nowhere ps [] within p none = refl
 found_nowhere ps (x ∷ xs) within p none =
     let low : x.0 < length ps = All-head (λ (pair : ℕ × ℕ). pair.0 < length ps) x xs within in
@@ -96,14 +96,14 @@ module _ (us : List BidiUnit) (weak : List Class) where
 
   -- beside the position of an opening bracket stands that of its closing bracket
   pub pair_found : (s : SequenceView) → IsDistinct s.positions → (k : ℕ) → k < length s.positions →
-      value_found (pairs_in us weak s) (slice_index s.positions k)
+      value_beside (pairs_in us weak s) (slice_index s.positions k)
       ≡ option_map (slice_index s.positions) (closer_of (bracket_pairs_of standard.brackets (brackets_of s us (classes_at weak s.positions))) k)
   unfolding closer_of
   pair_found s are k h = found_at_index s.positions are _ (pairs_within s) k h
 
   -- the table once these sequences have their pairs
   abbrev pub ArePaired : List SequenceView → List (Option ℕ) → Type 0
-  ArePaired done table = (p : ℕ) → closer_in table p ≡ value_found (flat_map (pairs_in us weak) done) p
+  ArePaired done table = (p : ℕ) → closer_in table p ≡ value_beside (flat_map (pairs_in us weak) done) p
 
   module _ {extent : ℕ} {all : List SequenceView} (apart : AreDisjoint extent all) {k : ℕ} {s : SequenceView} (at : slice_get all k ≡ Some s) (inside : k < length all) where
     -- one sequence more
@@ -116,7 +116,7 @@ module _ (us : List BidiUnit) (weak : List Class) where
               (let z = index_in ps p some in
               let within : p < extent = within_extent apart at inside p (subst (Contains ps) z.2 (contains_index ps z.0 z.1)) in
               ap (closer_in next) (sym z.2) ∙ holds z.0 z.1 ∙ sym (pair_found s (distinct_in apart at inside) z.0 z.1)
-              ∙ ap (value_found (pairs_in us weak s)) z.2
+              ∙ ap (value_beside (pairs_in us weak s)) z.2
               ∙ sym (found_here (pairs_in us weak) says_own apart at inside p within some))
           | inr others ↦
               (let none : times ps p ≡ 0 = omega arith in
@@ -137,4 +137,4 @@ module _ (us : List BidiUnit) (weak : List Class) where
       ext_get_or None table (map f (positions_of us)) (omega arith)
       (λ i l.
       let at : slice_index (positions_of us) i ≡ i = omega (arith, get_or-positions_from 0 (length us) i 0 (omega arith)) in
-      w i ∙ ap (λ (done : List SequenceView). value_found (flat_map (pairs_in us weak) done) i) whole ∙ ap f (sym at) ∙ sym (get_or-map f (positions_of us) i 0 None (omega arith)))
+      w i ∙ ap (λ (done : List SequenceView). value_beside (flat_map (pairs_in us weak) done) i) whole ∙ ap f (sym at) ∙ sym (get_or-map f (positions_of us) i 0 None (omega arith)))

@@ -9,7 +9,7 @@ use Rattle.units.specs.Positions.{positions_of}
 use Rattle.units.specs.Runs.{SequenceView}
 use Rattle.units.specs.declared.class.Class.{Class}
 use Rattle.units.specs.declared.class.Class.TheVariants.{L}
-use Rattle.units.specs.Layout.{value_found}
+use Rattle.units.specs.Layout.{value_beside}
 use Rattle.units.proofs.Positions.{length-positions_from, get_or-positions_from}
 use Rattle.sequences.specs.Once.{times}
 use Rattle.resolve.specs.Rewritten.{Rewrites}
@@ -50,7 +50,7 @@ module _ {extent : ℕ} {all : List SequenceView} (apart : AreDisjoint extent al
         | inl some ↦
             (let z = zip_some ps values p long some d in
             let within : p < extent = within_extent apart at inside p (subst (Contains ps) z.2 (contains_index ps z.0 z.1)) in
-            let found : value_found (flat_map items (take (k + 1) all)) p ≡ Some (get_or values z.0 d) = found_here items own apart at inside p within some ∙ z.3 in
+            let found : value_beside (flat_map items (take (k + 1) all)) p ≡ Some (get_or values z.0 d) = found_here items own apart at inside p within some ∙ z.3 in
             ap (class_at next) (sym z.2) ∙ sym (class_at-classes_at next ps z.0 z.1)
             ∙ ap (λ (cs : List Class). class_at cs z.0) is
             ∙ get_or_default values z.0 L d (omega (arith, z.1, long))

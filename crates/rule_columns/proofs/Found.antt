@@ -5,7 +5,7 @@ use Rattle.std.proofs.Common.{arith, ap, sym, ◌∙◌, subst, inl, inr}
 use Rattle.std.proofs.lemmas.Bool.{cases_lt, cases_order}
 use Rattle.std.proofs.lemmas.List.{append-nil}
 use Rattle.std.proofs.lemmas.List.Concat.{flat_map-append}
-use Rattle.units.specs.Layout.{value_found}
+use Rattle.units.specs.Layout.{value_beside}
 use Rattle.units.specs.Runs.{SequenceView}
 use Rattle.sequences.specs.Once.{times}
 use Rattle.sequences.proofs.Once.{one_if-same, times-append, times-cons}
@@ -63,7 +63,7 @@ distinct_in {extent} {all} apart {k} {s} at inside =
 
 -- a sequence says nothing beside the positions that it does not hold
 abbrev pub SaysOwn : {V : Type 0} → (SequenceView → List (ℕ × V)) → Type 0
-SaysOwn {V} items = (s : SequenceView) (p : ℕ) → times s.positions p ≡ 0 → value_found (items s) p ≡ None
+SaysOwn {V} items = (s : SequenceView) (p : ℕ) → times s.positions p ≡ 0 → value_beside (items s) p ≡ None
 
 module _ {V : Type 0} (items : SequenceView → List (ℕ × V)) (own : SaysOwn items) where
   module _ {extent : ℕ} {all : List SequenceView} (apart : AreDisjoint extent all) {k : ℕ} {s : SequenceView} (at : slice_get all k ≡ Some s) (inside : k < length all) where
@@ -73,26 +73,26 @@ module _ {V : Type 0} (items : SequenceView → List (ℕ × V)) (own : SaysOwn 
         ∙ ap (λ (xs : List (ℕ × V)). flat_map items (take k all) ++ xs) (append-nil (items s))
 
     -- with one sequence more, what it says of its own positions is found there
-    pub found_here : (p : ℕ) → p < extent → 0 < times s.positions p → value_found (flat_map items (take (k + 1) all)) p ≡ value_found (items s) p
+    pub found_here : (p : ℕ) → p < extent → 0 < times s.positions p → value_beside (flat_map items (take (k + 1) all)) p ≡ value_beside (items s) p
     found_here p h some =
-        ap (λ (xs : List (ℕ × V)). value_found xs p) joined
+        ap (λ (xs : List (ℕ × V)). value_beside xs p) joined
         ∙ found-append (flat_map items (take k all)) (items s) p (none_beside items own (take k all) p (apart_from_earlier apart at inside p h some))
 
     -- and at all others what was found before
-    pub found_elsewhere : (p : ℕ) → times s.positions p ≡ 0 → value_found (flat_map items (take (k + 1) all)) p ≡ value_found (flat_map items (take k all)) p
+    pub found_elsewhere : (p : ℕ) → times s.positions p ≡ 0 → value_beside (flat_map items (take (k + 1) all)) p ≡ value_beside (flat_map items (take k all)) p
     found_elsewhere p none =
-        ap (λ (xs : List (ℕ × V)). value_found xs p) joined
+        ap (λ (xs : List (ℕ × V)). value_beside xs p) joined
         ∙ found-append_none (flat_map items (take k all)) (items s) p (own s p none)
 
   -- in the lists of all sequences, none of which shares a position, what the one that holds it says
   pub found_in : (all : List SequenceView) (k : ℕ) (s : SequenceView) → slice_get all k ≡ Some s → (p : ℕ) → 0 < times s.positions p → times (positions_in all) p ≤ 1 →
-      value_found (flat_map items all) p ≡ value_found (items s) p
+      value_beside (flat_map items all) p ≡ value_beside (items s) p
   found_in [] k s e p some once = absurd cc
   found_in (x ∷ all) zero s e p some once =
       let same : x ≡ s = cc in
       let t = times-append x.positions (positions_in all) p in
       let here = ap (λ (y : SequenceView). times y.positions p) same in
-      found-append_none (items x) (flat_map items all) p (none_beside items own all p (omega (arith, t, here))) ∙ ap (λ (y : SequenceView). value_found (items y) p) same
+      found-append_none (items x) (flat_map items all) p (none_beside items own all p (omega (arith, t, here))) ∙ ap (λ (y : SequenceView). value_beside (items y) p) same
   found_in (x ∷ all) (suc k) s e p some once =
       let t = times-append x.positions (positions_in all) p in
       let there = times_in all k s e p in

@@ -7,7 +7,7 @@ use Rattle.std.proofs.lemmas.List.{length-map}
 use Rattle.units.specs.Classes.{class_at, classes_at, classes_of}
 use Rattle.units.specs.Implicit.{implicit_level}
 use Rattle.units.specs.Isolates.{para_level_of}
-use Rattle.units.specs.Layout.{after_brackets, after_rules, levels_in, resolved_levels, value_found}
+use Rattle.units.specs.Layout.{after_brackets, after_rules, levels_in, resolved_levels, value_beside}
 use Rattle.units.specs.Limits.{standard}
 use Rattle.units.specs.Paragraphs.{SeparatorOnlyLast}
 use Rattle.units.specs.Positions.{positions_from}
@@ -132,5 +132,5 @@ module _ (us : List BidiUnit) (direction : Direction) (only : SeparatorOnlyLast 
   last_levels =
       let n : length columns.neutral.n2 ≡ length us = (columns_fit us direction).classes rule.N2 in
       let joined = flat_same (implicit_in columns.neutral.n2) (levels_in standard.brackets us columns.current) all_here same_levels in
-      ap (λ (found : List (ℕ × ℕ)). map (value_found found) (positions_from 0 (length columns.neutral.n2))) joined
-      ∙ ap (λ (size : ℕ). map (value_found (flat_map (levels_in standard.brackets us columns.current) all_here)) (positions_from 0 size)) n
+      ap (λ (found : List (ℕ × ℕ)). map (value_beside found) (positions_from 0 (length columns.neutral.n2))) joined
+      ∙ ap (λ (size : ℕ). map (value_beside (flat_map (levels_in standard.brackets us columns.current) all_here)) (positions_from 0 size)) n

@@ -9,7 +9,7 @@ use Rattle.std.proofs.lemmas.List.Elements.{All-append, All-filter, All-from_get
 use Rattle.units.specs.Brackets.{closer_of}
 use Rattle.units.specs.Classes.{classes_of}
 use Rattle.units.specs.Isolates.{first_strong}
-use Rattle.units.specs.Layout.{layout_of, lines_cut_at, value_found}
+use Rattle.units.specs.Layout.{layout_of, lines_cut_at, value_beside}
 use Rattle.units.specs.Limits.{standard}
 use Rattle.units.specs.Paragraphs.{SeparatorOnlyLast}
 use Rattle.units.specs.Positions.{first_from, positions_from, positions_of}
@@ -31,7 +31,7 @@ use Rattle.rule_columns.specs.Passes.{closers_of, pairs_in}
 use Rattle.rule_columns.proofs.EachPair.{LiesBelow, pairs_lie, placed_pair}
 
 -- what is found beside a position has what all values have
-value_holds : (P : ℕ → Type 0) (xs : List (ℕ × ℕ)) (p : ℕ) → All (λ x. P x.1) xs → IfSome (value_found xs p) P
+value_holds : (P : ℕ → Type 0) (xs : List (ℕ × ℕ)) (p : ℕ) → All (λ x. P x.1) xs → IfSome (value_beside xs p) P
 value_holds P [] p all = tt
 value_holds P (x ∷ xs) p all =
     let Q : Option (ℕ × ℕ) → Type 0 = λ found. IfSome (option_map (λ (y : ℕ × ℕ). y.1) found) P in

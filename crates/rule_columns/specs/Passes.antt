@@ -4,7 +4,7 @@ use Rattle.std.specs.List.{flat_map, zip}
 use Rattle.units.specs.Brackets.{bracket_pairs_of, closer_of}
 use Rattle.units.specs.Classes.{class_at, classes_at, is_neutral}
 use Rattle.units.specs.Implicit.{implicit_level}
-use Rattle.units.specs.Layout.{after_brackets, brackets_of, value_found}
+use Rattle.units.specs.Layout.{after_brackets, brackets_of, value_beside}
 use Rattle.units.specs.Limits.{standard}
 use Rattle.units.specs.Neutral.{by_sides}
 use Rattle.units.specs.Positions.{positions_of}
@@ -49,7 +49,7 @@ classes_in rule cs s = zip s.positions (rule s (classes_at cs s.positions))
 
 -- the class at p after a rule: what the rule leaves there, where p stands in a sequence, and else the class before it
 abbrev pub rewritten_at : (SequenceView → List Class → List Class) → List SequenceView → List Class → ℕ → Class
-rewritten_at rule all cs p = unwrap_or (value_found (flat_map (classes_in rule cs) all) p) (class_at cs p)
+rewritten_at rule all cs p = unwrap_or (value_beside (flat_map (classes_in rule cs) all) p) (class_at cs p)
 
 -- the classes of a paragraph after a rule, by its sequences
 unfoldable pub rewritten : (SequenceView → List Class → List Class) → List SequenceView → List Class → List Class
@@ -61,7 +61,7 @@ implicit_in cs s = zip s.positions (map (implicit_level s.level) (classes_at cs 
 
 -- I1, I2: the level of each position, none where it stands in no sequence
 unfoldable pub implicit_of : List SequenceView → List Class → List (Option ℕ)
-implicit_of all cs = map (value_found (flat_map (implicit_in cs) all)) (positions_of cs)
+implicit_of all cs = map (value_beside (flat_map (implicit_in cs) all)) (positions_of cs)
 
 -- BD16: the bracket pairs of a sequence that count, as positions of the paragraph, by its classes after W7
 abbrev pub pairs_in : List BidiUnit → List Class → SequenceView → List (ℕ × ℕ)

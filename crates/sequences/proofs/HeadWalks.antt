@@ -47,12 +47,6 @@ module _ (t : LeveledView) (k count end : ℕ) (heads : List Head) (column : Lis
 
 module _ {t : LeveledView} {k : ℕ} {heads : List Head} {column : List ℕ} {last : Option ℕ} (w : HeadWalk t k heads column last)
     {new : List Head} {more : List ℕ} (d : Stored t (k + 1) new more) where
-  last_more : last_remaining t (k + 1) ≡ (if remains t k then Some k else last_remaining t k)
-  last_more = let one : k + 1 ≡ suc k = omega arith in ap (last_remaining t) one
-
-  pub head_walk_here : remains t k ≡ true → HeadWalk t (k + 1) new more (Some k)
-  head_walk_here r = grind (arith, cond-true)
-
   pub head_walk_same : remains t k ≡ false → HeadWalk t (k + 1) new more last
   head_walk_same r = grind (arith, cond-false)
 

@@ -17,7 +17,7 @@ use units::optional_position::OptionalPosition;
 use units::steps::Steps;
 
 /// Writes all positions below `end` into the column, from the front on.
-fn place_all<L: Ledger>(end: usize, column: &mut [u32], steps: &mut Steps<L>)
+fn write_all<L: Ledger>(end: usize, column: &mut [u32], steps: &mut Steps<L>)
     requires small { end < u32.MAX }
     requires room { end ≤ length column.old }
     ensures placed { take end column.new ≡ positions_from 0 end }
@@ -30,7 +30,7 @@ fn place_all<L: Ledger>(end: usize, column: &mut [u32], steps: &mut Steps<L>)
 }
 
 /// Writes the positions that remain (X9) into the column, from the front on. Answers how many they are.
-fn place_remaining<L: Ledger>(para: &[Unit], column: &mut [u32], steps: &mut Steps<L>) -> usize
+fn write_remaining<L: Ledger>(para: &[Unit], column: &mut [u32], steps: &mut Steps<L>) -> usize
     requires small { length para.now < u32.MAX }
     requires room { length para.now ≤ length column.old }
     ensures count { result ≡ length (remaining_of (classes_of para.now)) }
@@ -90,7 +90,7 @@ fn only_head(level: Level, count: usize) -> Head
 
 /// Writes the positions that remain (X9) into the column, from the front on: all of them, and without a look at a
 /// class, if `all_remain`. Answers how many they are.
-fn place<L: Ledger>(
+fn write_positions<L: Ledger>(
     para: &[Unit],
     all_remain: bool,
     column: &mut [u32],
@@ -105,10 +105,10 @@ fn place<L: Ledger>(
     ensures steps { steps.new ≡ steps.old + length para.now }
 {
     if all_remain {
-        place_all(para.len(), column, steps);
+        write_all(para.len(), column, steps);
         return para.len();
     }
-    place_remaining(para, column, steps)
+    write_remaining(para, column, steps)
 }
 
 /// Links each position of a paragraph to the next.
@@ -126,8 +126,8 @@ fn link_successive<L: Ledger>(links: &mut [OptionalPosition], steps: &mut Steps<
     links[end - 1] = OptionalPosition::none();
 }
 
-/// Links each of the positions that were placed to the next: all of the paragraph, if `all_remain`.
-fn link_placed<L: Ledger>(
+/// Links each of the positions that were written to the next: all of the paragraph, if `all_remain`.
+fn link_written<L: Ledger>(
     positions: &[u32],
     all_remain: bool,
     links: &mut [OptionalPosition],
@@ -167,11 +167,11 @@ pub fn fill_one_sequence<L: Ledger>(
     ensures filled { HoldSequencesOf para.now (level_of_para level) result links.new heads.new column.new }
     ensures steps { steps.new ≡ steps.old + length para.now + length (remaining_of (classes_of para.now)) }
 {
-    let count = place(para, all_remain, column, steps);
+    let count = write_positions(para, all_remain, column, steps);
     if count == 0 {
         return 0;
     }
-    link_placed(
+    link_written(
         &column[..count],
         all_remain,
         &mut links[..para.len()],

@@ -14,7 +14,7 @@ use Rattle.ucdfiles.specs.declared.span.Span.{Span}
 use Rattle.ucdfiles.specs.declared.sided_bracket.SidedBracket.{SidedBracket}
 use Rattle.ucdfiles.specs.Faults.{first_fault}
 use Rattle.ucdfiles.specs.Spans.{holds, value_by}
-use Rattle.ucdfiles.specs.Statements.{Stated, Stands}
+use Rattle.ucdfiles.specs.Statements.{Stated, AreStatedBy}
 use Rattle.ucdfiles.specs.Keys.{number_in, IsNumbering, Keeps, key_in, keyed_value, keyed_span, IsNumbered, AreNumbered, AreKeyed}
 use Rattle.ucdfiles.specs.PairFiles.{pair_line_says, bracket_in, bracket_fault, bracket_file_fault, bracket_of, bracket_stated, bracket_with, IsEquivalent, IsKeyed, StatesBrackets}
 use Rattle.ucdfiles.proofs.Rising.{find-revalued}
@@ -72,7 +72,7 @@ bracket_stated-keyed : (key : ℕ → Key) (o : Option (Span SidedBracket)) → 
 bracket_stated-keyed key None = refl
 bracket_stated-keyed key (Some span) = refl
 
-module _ (bytes : List ℕ) (stated : Stated SidedBracket) (stands : Stands (pair_line_says bracket_in) stated (lines_of bytes)) (brackets : List (Span Bracket)) (keyed : AreKeyed stated.data_lines brackets) where
+module _ (bytes : List ℕ) (stated : Stated SidedBracket) (stands : AreStatedBy (pair_line_says bracket_in) stated (lines_of bytes)) (brackets : List (Span Bracket)) (keyed : AreKeyed stated.data_lines brackets) where
   bracket_of-data : (c : ℕ) → bracket_of bytes c ≡ value_by (find (holds c) stated.data_lines) None
   unfolding bracket_of
   bracket_of-data c = value_of-pairs bracket_in stated bytes c stands

@@ -3,7 +3,7 @@ pub mod Rising
 pub mod LinesWith
 pub mod Settled
 pub mod FirstFault
-pub mod Steps
+pub mod OneCut
 pub mod Pieces
 pub mod Stating
 pub mod States

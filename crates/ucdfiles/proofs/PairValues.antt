@@ -7,7 +7,7 @@ use Rattle.ucdfiles.specs.declared.span.Span.{Span}
 use Rattle.ucdfiles.specs.declared.span.FileLine.{FileLine}
 use Rattle.ucdfiles.specs.declared.span.FileLine.TheVariants.{Silent, Data, Default, Faulty}
 use Rattle.ucdfiles.specs.Spans.{holds, value_by}
-use Rattle.ucdfiles.specs.Statements.{Stated, Stands, defaults_of, value_of, span_says}
+use Rattle.ucdfiles.specs.Statements.{Stated, AreStatedBy, defaults_of, value_of, span_says}
 use Rattle.ucdfiles.specs.PairFiles.{pair_line_says, pair_content_says}
 use Rattle.ucdfiles.proofs.Stating.{value_in-stands}
 
@@ -42,5 +42,5 @@ module _ {V : Type 0} (read : List (List ℕ) → Result (Span V) Fault) where
   defaults_of-pairs (line ∷ lines) = defaults_of-plain (pair_line_says read line) (map (pair_line_says read) lines) (line-data line) ∙ defaults_of-pairs lines
 
   -- so the data lines alone state the values
-  pub value_of-pairs : (stated : Stated V) (bytes : List ℕ) (c : ℕ) → Stands (pair_line_says read) stated (lines_of bytes) → value_of (pair_line_says read) bytes c ≡ value_by (find (holds c) stated.data_lines) None
+  pub value_of-pairs : (stated : Stated V) (bytes : List ℕ) (c : ℕ) → AreStatedBy (pair_line_says read) stated (lines_of bytes) → value_of (pair_line_says read) bytes c ≡ value_by (find (holds c) stated.data_lines) None
   value_of-pairs stated bytes c stands = grind (arith, defaults_of-pairs, value_in-stands)

@@ -7,7 +7,7 @@ use Rattle.ucdfiles.specs.declared.span.Span.{Span}
 use Rattle.ucdfiles.specs.declared.span.FileLine.{FileLine}
 use Rattle.ucdfiles.specs.declared.span.FileLine.TheVariants.{Silent, Data, Default, Faulty}
 use Rattle.ucdfiles.specs.Spans.{Adds, default_fault, value_in}
-use Rattle.ucdfiles.specs.Statements.{data_of, defaults_of, fault_behind, line_fault, value_stated, Stated, stated_fault, Becomes, IsStatedBy, Stands}
+use Rattle.ucdfiles.specs.Statements.{data_of, defaults_of, fault_behind, line_fault, value_stated, Stated, stated_fault, Becomes, IsStatedBy, AreStatedBy}
 
 module _ {V : Type 0} where
   data_of-push : (lines : List (FileLine V)) (line : FileLine V) → data_of (lines ++ line ∷ []) ≡ data_of lines ++ data_of (line ∷ [])
@@ -50,8 +50,8 @@ module _ {V : Type 0} where
   becomes taken old new lines (Default span) h b = (sym (fault-same taken old lines (Default span) h) ∙ b.1, same_data old new lines (Default span) h b.2 refl b.0)
 
   module _ (says : List ℕ → FileLine V) (taken : Fault) where
-    pub stands-becomes : (old new : Stated V) (lines : List (List ℕ)) (line : List ℕ) (said : FileLine V) → says line ≡ said → Stands says old lines → Becomes taken old said new
-        → (line_fault says taken lines line ≡ None) × Stands says new (lines ++ line ∷ [])
+    pub stands-becomes : (old new : Stated V) (lines : List (List ℕ)) (line : List ℕ) (said : FileLine V) → says line ≡ said → AreStatedBy says old lines → Becomes taken old said new
+        → (line_fault says taken lines line ≡ None) × AreStatedBy says new (lines ++ line ∷ [])
     stands-becomes old new lines line said e s b =
         let made = becomes taken old new (map says lines) said s b in (
           ap (fault_behind taken (map says lines)) e ∙ made.0,
@@ -59,5 +59,5 @@ module _ {V : Type 0} where
         )
 
     -- what all lines state gives each code point its value
-    pub value_in-stands : (stated : Stated V) (lines : List (List ℕ)) (c : ℕ) → Stands says stated lines → value_in stated.data_lines stated.default_lines c ≡ value_stated (map says lines) c
+    pub value_in-stands : (stated : Stated V) (lines : List (List ℕ)) (c : ℕ) → AreStatedBy says stated lines → value_in stated.data_lines stated.default_lines c ≡ value_stated (map says lines) c
     value_in-stands stated lines c s = rw (s.finds c, s.defaults) refl

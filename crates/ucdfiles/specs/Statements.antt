@@ -78,8 +78,8 @@ pub record IsStatedBy {V : Type 0} (stated : Stated V) (lines : List (FileLine V
   pub defaults : stated.default_lines ≡ defaults_of lines
 
 -- the same of lines of bytes
-abbrev pub Stands : {V : Type 0} → (List ℕ → FileLine V) → Stated V → List (List ℕ) → Type 0
-Stands says stated lines = IsStatedBy stated (map says lines)
+abbrev pub AreStatedBy : {V : Type 0} → (List ℕ → FileLine V) → Stated V → List (List ℕ) → Type 0
+AreStatedBy says stated lines = IsStatedBy stated (map says lines)
 
 -- the span of a data line is not turned round
 abbrev pub IsRisingLine : {V : Type 0} → FileLine V → Type 0

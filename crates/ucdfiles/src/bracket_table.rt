@@ -16,10 +16,10 @@ use units::source::ByteSource;
 
 impl LineTable for Statements<SidedBracket> {
     ghost use Rattle.ucdfiles.specs.PairFiles.{bracket_fault, bracket_in, pair_line_says};
-    ghost use Rattle.ucdfiles.specs.Statements.{Stands};
+    ghost use Rattle.ucdfiles.specs.Statements.{AreStatedBy};
     ghost use Rattle.ucdfiles.specs.LongLines.{pair_fault-long};
 
-    ghost stands = { Stands (pair_line_says bracket_in) };
+    ghost stands = { AreStatedBy (pair_line_says bracket_in) };
 
     ghost fault = { bracket_fault };
 

@@ -8,7 +8,7 @@ ghost use Rattle.ucdfiles.specs.Statements.{IsRisingLine};
 use crate::fault::Fault;
 use crate::span::{FileLine, Span};
 use units::class::Class;
-use units::line_cut::ROOM;
+use units::line_cut::LONGEST_LINE;
 use units::text::code_point::ends;
 use units::text::cut::{cut, two_fields};
 use units::text::trim::{content, trim, trim_start};
@@ -65,7 +65,7 @@ pub fn class_line(line: &[u8]) -> FileLine<Class>
     ensures value { class_line_says line.now ≡ result }
     ensures rising { IsRisingLine result }
 {
-    if line.len() > ROOM {
+    if line.len() > LONGEST_LINE {
         return FileLine::Faulty(Fault::LineTooLong);
     }
     let (before, comment) = cut(line, b'#');

@@ -13,10 +13,10 @@ use units::source::ByteSource;
 
 impl LineTable for Statements<Class> {
     ghost use Rattle.ucdfiles.specs.ClassFile.{class_fault, class_line_says};
-    ghost use Rattle.ucdfiles.specs.Statements.{Stands};
+    ghost use Rattle.ucdfiles.specs.Statements.{AreStatedBy};
     ghost use Rattle.ucdfiles.specs.LongLines.{class_fault-long};
 
-    ghost stands = { Stands class_line_says };
+    ghost stands = { AreStatedBy class_line_says };
 
     ghost fault = { class_fault };
 

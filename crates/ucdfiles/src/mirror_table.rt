@@ -14,10 +14,10 @@ use units::source::ByteSource;
 
 impl LineTable for Statements<char> {
     ghost use Rattle.ucdfiles.specs.PairFiles.{mirror_fault, mirror_in, pair_line_says};
-    ghost use Rattle.ucdfiles.specs.Statements.{Stands};
+    ghost use Rattle.ucdfiles.specs.Statements.{AreStatedBy};
     ghost use Rattle.ucdfiles.specs.LongLines.{pair_fault-long};
 
-    ghost stands = { Stands (pair_line_says mirror_in) };
+    ghost stands = { AreStatedBy (pair_line_says mirror_in) };
 
     ghost fault = { mirror_fault };
 

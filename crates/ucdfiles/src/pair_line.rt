@@ -7,7 +7,7 @@ ghost use Rattle.ucdfiles.specs.Statements.{IsRisingLine};
 use crate::fault::Fault;
 use crate::sided_bracket::{BracketSide, SidedBracket};
 use crate::span::{FileLine, Span};
-use units::line_cut::ROOM;
+use units::line_cut::LONGEST_LINE;
 use units::text::code_point::code_point;
 use units::text::cut::{three_fields, two_fields};
 use units::text::trim::content;
@@ -73,7 +73,7 @@ pub fn mirror_line(line: &[u8]) -> FileLine<char>
     ensures value { pair_line_says mirror_in line.now ≡ result }
     ensures rising { IsRisingLine result }
 {
-    if line.len() > ROOM {
+    if line.len() > LONGEST_LINE {
         return FileLine::Faulty(Fault::LineTooLong);
     }
     let content = content(line);
@@ -91,7 +91,7 @@ pub fn bracket_line(line: &[u8]) -> FileLine<SidedBracket>
     ensures value { pair_line_says bracket_in line.now ≡ result }
     ensures rising { IsRisingLine result }
 {
-    if line.len() > ROOM {
+    if line.len() > LONGEST_LINE {
         return FileLine::Faulty(Fault::LineTooLong);
     }
     let content = content(line);

@@ -13,8 +13,8 @@ const MOST_DATA: usize = 65_536;
 /// The greatest number of default lines of a file.
 pub const MOST_DEFAULTS: usize = 1_024;
 
-// The place of the first span that does not end before the code point.
-fn place<V>(spans: &[Span<V>], code: u32) -> usize
+// How many of the spans, in order, end before the code point.
+fn ended_before<V>(spans: &[Span<V>], code: u32) -> usize
     requires { IsRising spans.now }
     ensures bound { result ≤ length spans.now }
     ensures below { AllWithin (λ s. s.last < code) spans.now 0 result }
@@ -41,18 +41,18 @@ pub fn add_span<V: Copy>(
     if spans.len() >= MOST_DATA {
         return Err(TableFault::TooMany(line));
     }
-    let place = place(spans, span.first);
-    if place < spans.len() && spans[place].first <= span.last {
+    let ended = ended_before(spans, span.first);
+    if ended < spans.len() && spans[ended].first <= span.last {
         return Err(at(taken, line));
     }
-    match spans.insert(place, span) {
+    match spans.insert(ended, span) {
         Ok(()) => Ok(()),
         Err(_) => Err(TableFault::Memory),
     }
 }
 
-// The place of the first span that begins behind the code point.
-fn place_behind<V>(spans: &[Span<V>], code: u32) -> usize
+// How many of the spans, in order, begin up to the code point.
+fn begun_by<V>(spans: &[Span<V>], code: u32) -> usize
     requires { IsRising spans.now }
     ensures bound { result ≤ length spans.now }
     ensures above { AllWithin (λ s. code < s.first) spans.now result (length spans.now) }
@@ -66,8 +66,8 @@ pub fn ending_from<V>(spans: &[Span<V>], code: u32) -> &[Span<V>]
     ensures rising { IsRising result.now }
     ensures finds { (c : ℕ) → code ≤ c → find (holds c) result.now ≡ find (holds c) spans.now }
 {
-    let place = place(spans, code);
-    &spans[place..]
+    let ended = ended_before(spans, code);
+    &spans[ended..]
 }
 
 /// The spans that do not begin behind the code point.
@@ -76,6 +76,6 @@ pub fn beginning_by<V>(spans: &[Span<V>], code: u32) -> &[Span<V>]
     ensures rising { IsRising result.now }
     ensures finds { (c : ℕ) → c ≤ code → find (holds c) result.now ≡ find (holds c) spans.now }
 {
-    let place = place_behind(spans, code);
-    &spans[..place]
+    let begun = begun_by(spans, code);
+    &spans[..begun]
 }

@@ -17,11 +17,11 @@ pub const BLOCK: usize = 128;
 /// How many blocks the code points have.
 pub const BLOCKS: u32 = 8_704;
 
-/// The place of each block of 128 code points, and the values of the blocks; blocks that follow one another with the
+/// The number of each block of 128 code points, and the values of the blocks; blocks that follow one another with the
 /// same values share them.
 #[derive(Drop)]
 pub struct TwoStage<V> {
-    places: Vec<u16>,
+    numbers: Vec<u16>,
     values: Vec<V>,
 }
 
@@ -30,14 +30,14 @@ impl<V> Model for TwoStage<V> {
 
     ghost Value = { Stages V };
 
-    ghost view = { λ t. record { places = t.places.items; values = t.values.items } };
+    ghost view = { λ t. record { numbers = t.numbers.items; values = t.values.items } };
 
-    ghost invariant = { λ t. AreStages (record { places = t.places.items; values = t.values.items }) };
+    ghost invariant = { λ t. AreStages (record { numbers = t.numbers.items; values = t.values.items }) };
 }
 
-// Which of so many code points, from `first` on, the span holds: those from the first place that is answered up to
+// Which of so many code points, from `first` on, the span holds: those from the first number that is answered up to
 // the second.
-fn held_places<V>(span: &Span<V>, first: u32, len: usize) -> (usize, usize)
+fn held_range<V>(span: &Span<V>, first: u32, len: usize) -> (usize, usize)
     ensures bound { result.1 ≤ len }
     ensures before { (k : ℕ) → k < result.0 → holds (first + k) span.now ≡ false }
     ensures inside { (k : ℕ) → result.0 ≤ k → k < result.1 → holds (first + k) span.now ≡ true }
@@ -57,7 +57,7 @@ fn paint<V: Copy>(block: &mut [V], first: u32, span: &Span<V>)
     ensures len { length block.new ≡ length block.old }
     ensures values { IsPainted first (λ c. value_over c span.now) block.old block.new }
 {
-    let (from, to) = held_places(span, first, block.len());
+    let (from, to) = held_range(span, first, block.len());
     for k in from..to {
         block[k] = span.value;
     }
@@ -109,8 +109,8 @@ fn fill_block<V: Copy>(
     paint_all(block, first, meeting(spans, first));
 }
 
-// The place of a block: that of the last, if it has the same values, else one more.
-fn place_of<V: Copy + PartialEq>(values: &mut Vec<V>, block: &[V]) -> Result<u16, AllocError>
+// The number of a block: that of the last, if it has the same values, else one more.
+fn number_of<V: Copy + PartialEq>(values: &mut Vec<V>, block: &[V]) -> Result<u16, AllocError>
     requires exact { (x y : V) → V.eq x y ≡ true → x ≡ y }
     requires block { length block.now ≡ 128 }
     requires whole { length values.old.items % 128 ≡ 0 }
@@ -118,8 +118,8 @@ fn place_of<V: Copy + PartialEq>(values: &mut Vec<V>, block: &[V]) -> Result<u16
     ensures whole { OnOk result (length values.new.items % 128 ≡ 0) }
     ensures most { OnOk result (length values.new.items ≤ length values.old.items + 128) }
     ensures kept { OnOk result ((more : List V) × (values.new.items ≡ values.old.items ++ more)) }
-    ensures within { IfOk result (λ place. place * 128 + 128 ≤ length values.new.items) }
-    ensures block { IfOk result (λ place. HasBlock values.new.items place block.now) }
+    ensures within { IfOk result (λ number. number * 128 + 128 ≤ length values.new.items) }
+    ensures block { IfOk result (λ number. HasBlock values.new.items number block.now) }
 {
     let len = values.len();
     if len >= BLOCK && &values[len - BLOCK..] == block {
@@ -144,23 +144,23 @@ impl<V: Copy + PartialEq> TwoStage<V> {
         ensures { IfOk result (λ stages. (c : ℕ) (d : V) → c ≤ 0x10FFFF
             → stage_at stages c d ≡ unwrap_or (value_in spans.now defaults.now c) none) }
     {
-        let mut places = Vec::with_capacity(alloc, BLOCKS as usize)?;
+        let mut numbers = Vec::with_capacity(alloc, BLOCKS as usize)?;
         let mut values = Vec::new(alloc);
         let mut room = Vec::from_elem(alloc, none, BLOCK)?;
         let block = room.as_mut_slice();
         for n in 0..BLOCKS {
             fill_block(block, n * BLOCK as u32, spans, defaults, none);
-            let place = place_of(&mut values, block)?;
-            places.push(place)?;
+            let number = number_of(&mut values, block)?;
+            numbers.push(number)?;
         }
-        Ok(TwoStage { places, values })
+        Ok(TwoStage { numbers, values })
     }
 }
 
 /// The two stages, lent: who looks up many code points by them needn't ask again where they lie.
 #[derive(Drop)]
 pub struct LentStages<'a, V> {
-    places: &'a [u16],
+    numbers: &'a [u16],
     values: &'a [V],
 }
 
@@ -169,9 +169,9 @@ impl<'a, V> Model for LentStages<'a, V> {
 
     ghost Value = { Stages V };
 
-    ghost view = { λ t. record { places = t.places.now; values = t.values.now } };
+    ghost view = { λ t. record { numbers = t.numbers.now; values = t.values.now } };
 
-    ghost invariant = { λ t. AreStages (record { places = t.places.now; values = t.values.now }) };
+    ghost invariant = { λ t. AreStages (record { numbers = t.numbers.now; values = t.values.now }) };
 }
 
 impl<'a, V: Copy> LentStages<'a, V> {
@@ -182,8 +182,8 @@ impl<'a, V: Copy> LentStages<'a, V> {
         ensures { (d : V) → result ≡ stage_at self.now c d }
     {
         let code = u32::from(c) as usize;
-        let place = self.places[code / BLOCK] as usize;
-        self.values[place * BLOCK + code % BLOCK]
+        let number = self.numbers[code / BLOCK] as usize;
+        self.values[number * BLOCK + code % BLOCK]
     }
 }
 
@@ -195,7 +195,7 @@ impl<V: Copy> TwoStage<V> {
         ensures { result ≡ self.now }
     {
         LentStages {
-            places: self.places.as_slice(),
+            numbers: self.numbers.as_slice(),
             values: self.values.as_slice(),
         }
     }

@@ -12,7 +12,7 @@ use Rattle.units.specs.Weak.{after_weak}
 use Rattle.units.specs.Brackets.{is_open, bracket_at, open_before, pairs_before, closer_of, after_paired}
 use Rattle.units.specs.Neutral.{after_neutral}
 use Rattle.units.specs.Implicit.{implicit_level}
-use Rattle.units.specs.Layout.{TextLayout, brackets_of, current_of, layout_of, value_found, para_levels_of, text_layout}
+use Rattle.units.specs.Layout.{TextLayout, brackets_of, current_of, layout_of, value_beside, para_levels_of, text_layout}
 use Rattle.units.specs.Limits.{standard}
 use Rattle.units.specs.declared.class.Class.{Class}
 use Rattle.units.specs.declared.bracket.Bracket.{Bracket}
@@ -89,7 +89,7 @@ standard_resolved_levels us para_level =
     let cs = classes_of us in
     let current = current_of (explicit_to_125 cs para_level) in
     let sequences = sequences_of (leveled_to_125 cs para_level) in
-    map (value_found (flat_map (standard_levels_in us current) sequences)) (positions_of us)
+    map (value_beside (flat_map (standard_levels_in us current) sequences)) (positions_of us)
 
 -- P1 to I2: the resolved levels of a text
 abbrev pub standard_text_levels : List BidiUnit → Direction → List (Option ℕ)

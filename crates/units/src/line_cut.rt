@@ -7,7 +7,7 @@ use memchr::memchr;
 use std::marker::Model;
 
 /// The bytes that a line may have before its line feed.
-pub const ROOM: usize = 65_536;
+pub const LONGEST_LINE: usize = 65_536;
 
 /// Where a cutter stands in its line.
 #[derive(Debug, Clone, Copy, PartialEq, Eq)]
@@ -36,7 +36,7 @@ pub enum Cut<'c> {
 /// over, joined.
 #[derive(Drop)]
 pub struct LineCut {
-    buffer: [u8; ROOM],
+    buffer: [u8; LONGEST_LINE],
     len: usize,
     done: u64,
     phase: Phase,
@@ -74,7 +74,7 @@ impl LineCut {
         ensures { StandsFor result [] }
     {
         LineCut {
-            buffer: [0; ROOM],
+            buffer: [0; LONGEST_LINE],
             len: 0,
             done: 0,
             phase: Phase::Within,
@@ -99,7 +99,7 @@ impl LineCut {
         ensures stands { GoesOn self.old text.now self.new }
         ensures open { self.new.phase ≢ Phase.Ended }
     {
-        if text.len() > ROOM - self.len {
+        if text.len() > LONGEST_LINE - self.len {
             self.phase = Phase::Failed;
         } else {
             put(&mut self.buffer, self.len, text);

@@ -1,4 +1,4 @@
-use std::alloc::{AllocError, AllocFailed};
+use std::alloc::AllocError;
 
 /// Memory was refused: a list could not be given the room that it was to have.
 #[derive(Clone, Copy, Debug, PartialEq, Eq)]

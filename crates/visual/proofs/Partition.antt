@@ -5,7 +5,7 @@ use Rattle.std.proofs.lemmas.Bool.{cases_lt}
 use Rattle.visual.specs.KeptLevels.{next_remaining}
 use Rattle.visual.specs.Spans.{AllRemoved}
 use Rattle.visual.specs.VisualRuns.{Covers, IsInOrder, IsLevelRun, IsRunAt, level_in}
-use Rattle.visual.specs.LineRuns.{AreRunsOf, IsRemovedRun, JoinTheLast, StandFrom, run_numbered}
+use Rattle.visual.specs.LineRuns.{AreRunsOf, IsRemovedRun, JoinTheLast, AreSideBySide, run_numbered}
 use Rattle.visual.specs.declared.line.OrderedLine.{OrderedLine}
 use Rattle.visual.specs.declared.runs.VisualRun.{VisualRun}
 use Rattle.visual.proofs.Kept.{kept-own, kept-end, kept-through}
@@ -35,7 +35,7 @@ same_span line run other p x r o c d h =
     r.level q inside.0 inside.1 ∙ sym (r.level p c.0 c.1) ∙ o.level p d.0 d.1)
 
 -- the position at a place is one of the runs'
-pub stand_at : (line : OrderedLine) (from : ℕ) (runs : List VisualRun) (to i : ℕ) → StandFrom line from runs to → from ≤ i → i < to → (k : ℕ) × (k < length runs) × Covers (run_numbered runs k) (slice_index line.order.now i) × IsLevelRun line (run_numbered runs k)
+pub stand_at : (line : OrderedLine) (from : ℕ) (runs : List VisualRun) (to i : ℕ) → AreSideBySide line from runs to → from ≤ i → i < to → (k : ℕ) × (k < length runs) × Covers (run_numbered runs k) (slice_index line.order.now i) × IsLevelRun line (run_numbered runs k)
 stand_at line from [] to i s a b = absurd (omega (arith, s))
 stand_at line from (run ∷ runs) to i s a b =
     elim (cases_lt i (from + run.shown)) [
@@ -46,7 +46,7 @@ stand_at line from (run ∷ runs) to i s a b =
     ]
 
 -- a run, and its place
-pub run_at : (line : OrderedLine) (from : ℕ) (runs : List VisualRun) (to k : ℕ) → StandFrom line from runs to → k < length runs → (place : ℕ) × (from ≤ place) × IsRunAt line place (run_numbered runs k)
+pub run_at : (line : OrderedLine) (from : ℕ) (runs : List VisualRun) (to k : ℕ) → AreSideBySide line from runs to → k < length runs → (place : ℕ) × (from ≤ place) × IsRunAt line place (run_numbered runs k)
 run_at line from [] to k s lt = absurd (omega arith)
 run_at line from (run ∷ runs) to zero s lt = (from, omega arith, s.0)
 run_at line from (run ∷ runs) to (suc k) s lt =
@@ -61,7 +61,7 @@ pub record StandApart (line : OrderedLine) (run other : VisualRun) : Type 0 wher
   pub second : IsRunAt line behind other
   pub apart : place + run.shown ≤ behind
 
-stand_apart : (line : OrderedLine) (from : ℕ) (runs : List VisualRun) (to i j : ℕ) → StandFrom line from runs to → i < j → j < length runs → StandApart line (run_numbered runs i) (run_numbered runs j)
+stand_apart : (line : OrderedLine) (from : ℕ) (runs : List VisualRun) (to i j : ℕ) → AreSideBySide line from runs to → i < j → j < length runs → StandApart line (run_numbered runs i) (run_numbered runs j)
 stand_apart line from [] to i j s lt within = absurd (omega arith)
 stand_apart line from (run ∷ runs) to i zero s lt within = absurd (omega arith)
 stand_apart line from (run ∷ runs) to zero (suc j) s lt within =
@@ -115,7 +115,7 @@ EndIsCovered line runs = JoinTheLast line ⊎ ((k : ℕ) × (k < length runs) ×
 at_para : (line : OrderedLine) (p : ℕ) → p ≤ line.end → AllRemoved line.levels.now p line.end → level_in line p ≡ para_of line
 at_para line p le gone = kept-through line.levels.now (para_of line) line.end p line.end le (omega arith) gone ∙ kept-end line.levels.now (para_of line) line.end
 
-covered_end : (line : OrderedLine) (runs : List VisualRun) (p : ℕ) → IsInOrder line → StandFrom line 0 runs (length line.order.now) → EndIsCovered line runs → line.start ≤ p → p < line.end → AllRemoved line.levels.now p line.end → (k : ℕ) × (k < length runs) × Covers (run_numbered runs k) p
+covered_end : (line : OrderedLine) (runs : List VisualRun) (p : ℕ) → IsInOrder line → AreSideBySide line 0 runs (length line.order.now) → EndIsCovered line runs → line.start ≤ p → p < line.end → AllRemoved line.levels.now p line.end → (k : ℕ) × (k < length runs) × Covers (run_numbered runs k) p
 covered_end line runs p o s e low high gone =
     elim e [
       | inl join ↦
@@ -152,7 +152,7 @@ covered_end line runs p o s e low high gone =
           )
     ]
 
-covered_by : (line : OrderedLine) (runs : List VisualRun) (p : ℕ) (next : Option ℕ) → next_remaining line.levels.now line.end p ≡ next → IsInOrder line → StandFrom line 0 runs (length line.order.now) → EndIsCovered line runs → line.start ≤ p → p < line.end → (k : ℕ) × (k < length runs) × Covers (run_numbered runs k) p
+covered_by : (line : OrderedLine) (runs : List VisualRun) (p : ℕ) (next : Option ℕ) → next_remaining line.levels.now line.end p ≡ next → IsInOrder line → AreSideBySide line 0 runs (length line.order.now) → EndIsCovered line runs → line.start ≤ p → p < line.end → (k : ℕ) × (k < length runs) × Covers (run_numbered runs k) p
 covered_by line runs p (Some q) is o s e low high =
     let n = next_is line.levels.now line.end p q is in
     let place = place_of line.levels.now line.start line.end line.order.now q n.level o (omega (arith, n.from)) n.within n.has in
@@ -170,7 +170,7 @@ covered_by line runs p None is o s e low high =
     covered_end line runs p o s e low high (removed_behind line.levels.now line.end p is)
 
 -- such runs are those of the line
-pub are_runs : (line : OrderedLine) (runs : List VisualRun) → IsInOrder line → StandFrom line 0 runs (length line.order.now) → OneEmpty runs → EndIsCovered line runs → AreRunsOf line runs
+pub are_runs : (line : OrderedLine) (runs : List VisualRun) → IsInOrder line → AreSideBySide line 0 runs (length line.order.now) → OneEmpty runs → EndIsCovered line runs → AreRunsOf line runs
 are_runs line runs o s one e =
     record {
       stand = s;

@@ -4,7 +4,7 @@ use Rattle.std.proofs.Common.{subst}
 use Rattle.std.specs.Prelude.{if◌then◌else◌}
 use Rattle.std.proofs.lemmas.Bool.{cases_lt}
 use Rattle.visual.specs.VisualRuns.{IsInOrder, IsRunAt}
-use Rattle.visual.specs.LineRuns.{AreRunsOf, IsRemovedRun, JoinTheLast, StandFrom, run_numbered}
+use Rattle.visual.specs.LineRuns.{AreRunsOf, IsRemovedRun, JoinTheLast, AreSideBySide, run_numbered}
 use Rattle.visual.specs.NextRuns.{AreNoneLeft, IsNextRun}
 use Rattle.visual.specs.declared.line.OrderedLine.{OrderedLine}
 use Rattle.visual.specs.declared.line_runs.Runs.{Runs}
@@ -12,7 +12,7 @@ use Rattle.visual.specs.declared.runs.VisualRun.{VisualRun}
 use Rattle.visual.proofs.Partition.{EndIsCovered, OneEmpty, are_runs}
 
 -- one more stands behind those that stand side by side
-stand_more : (line : OrderedLine) (from : ℕ) (runs : List VisualRun) (to : ℕ) (run : VisualRun) → StandFrom line from runs to → IsRunAt line to run → StandFrom line from (runs ++ run ∷ []) (to + run.shown)
+stand_more : (line : OrderedLine) (from : ℕ) (runs : List VisualRun) (to : ℕ) (run : VisualRun) → AreSideBySide line from runs to → IsRunAt line to run → AreSideBySide line from (runs ++ run ∷ []) (to + run.shown)
 stand_more line from [] to run s r = (subst (λ n. IsRunAt line n run) (sym s) r, ap (λ n. n + run.shown) s)
 stand_more line from (first ∷ runs) to run s r = (s.0, stand_more line (from + first.shown) runs to run s.1 r)
 
@@ -31,7 +31,7 @@ length_more runs run = length-append runs (run ∷ [])
 -- these runs were handed out before this state, from a line's first on
 pub record AreGiven (line : OrderedLine) (runs : List VisualRun) (now : Runs) : Type 0 where
   pub of : now.line ≡ line
-  pub stand : IsInOrder line → StandFrom line 0 runs now.place
+  pub stand : IsInOrder line → AreSideBySide line 0 runs now.place
   pub one : OneEmpty runs
   pub taken : (k : ℕ) → k < length runs → (run_numbered runs k).shown ≡ 0 → now.end_is_left ≡ false
   pub covered : (now.end_is_left ≡ true) ⊎ EndIsCovered line runs
@@ -81,7 +81,7 @@ given_more line runs old run new g n =
       of = n.line ∙ g.of;
       stand = λ o.
           let t : IsRunAt line old.place run = subst (λ l. IsRunAt l old.place run) g.of (n.run (subst IsInOrder (sym g.of) o)) in
-          subst (StandFrom line 0 (runs ++ run ∷ [])) (sym n.place) (stand_more line 0 runs old.place run (g.stand o) t);
+          subst (AreSideBySide line 0 (runs ++ run ∷ [])) (sym n.place) (stand_more line 0 runs old.place run (g.stand o) t);
       one = one_more runs run g.one (λ z k lt zk. elim n.either [
         | inl w ↦ omega (arith, w.0)
         | inr w ↦ let e : true ≡ false = sym w.1 ∙ g.taken k lt zk in cc
@@ -111,8 +111,8 @@ given_more line runs old run new g n =
 -- all are given: these are the line's runs
 pub all_given : (line : OrderedLine) (runs : List VisualRun) (now : Runs) → AreGiven line runs now → AreNoneLeft now → IsInOrder line → AreRunsOf line runs
 all_given line runs now g none o =
-    let s : StandFrom line 0 runs (length line.order.now) =
-    subst (StandFrom line 0 runs) (none.place ∙ ap (λ l. length l.order.now) g.of) (g.stand o) in
+    let s : AreSideBySide line 0 runs (length line.order.now) =
+    subst (AreSideBySide line 0 runs) (none.place ∙ ap (λ l. length l.order.now) g.of) (g.stand o) in
     let e : EndIsCovered line runs = elim g.covered [
       | inl e ↦ elim none.end [
         | inl f ↦ absurd (let z : true ≡ false = sym e ∙ f in cc)

@@ -8,9 +8,9 @@ use Rattle.visual.specs.declared.line.OrderedLine.{OrderedLine}
 use Rattle.visual.specs.declared.runs.VisualRun.{VisualRun}
 
 -- L2: the runs stand side by side, from one place of the line up to another
-abbrev pub StandFrom : OrderedLine → ℕ → List VisualRun → ℕ → Type 0
-StandFrom line from [] to = from ≡ to
-StandFrom line from (run ∷ runs) to = IsRunAt line from run × StandFrom line (from + run.shown) runs to
+abbrev pub AreSideBySide : OrderedLine → ℕ → List VisualRun → ℕ → Type 0
+AreSideBySide line from [] to = from ≡ to
+AreSideBySide line from (run ∷ runs) to = IsRunAt line from run × AreSideBySide line (from + run.shown) runs to
 
 -- what a read past the last run gives, and no clause asks
 abbrev pub no_run : VisualRun
@@ -23,7 +23,7 @@ run_numbered runs k = slice_index_or runs k no_run
 -- the runs of the line, from left to right: they stand side by side, one that shows nothing before all others where the
 -- paragraph's level is 1 and else behind them, and each position of the line is in one of them and in no other
 pub record AreRunsOf (line : OrderedLine) (runs : List VisualRun) : Type 0 where
-  pub stand : StandFrom line 0 runs (length line.order.now)
+  pub stand : AreSideBySide line 0 runs (length line.order.now)
   pub covered : (p : ℕ) → line.start ≤ p → p < line.end → (k : ℕ) × (k < length runs) × Covers (run_numbered runs k) p
   pub apart : (i j p : ℕ) → i < j → j < length runs → Covers (run_numbered runs i) p → Covers (run_numbered runs j) p → ⊥
 

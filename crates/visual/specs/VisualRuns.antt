@@ -40,7 +40,7 @@ end_place line = last_place line.para_level (length line.order.now)
 
 -- L2: the places from this one on, so many as the run shows, have its remaining positions and no others, from left to right
 -- rising at an even level and falling at an odd one; what shows nothing stands at the line's end
-pub record StandsAt (line : OrderedLine) (place : ℕ) (run : VisualRun) : Type 0 where
+pub record RunIsAt (line : OrderedLine) (place : ℕ) (run : VisualRun) : Type 0 where
   pub inside : place + run.shown ≤ length line.order.now
   pub own : (i : ℕ) → place ≤ i → i < place + run.shown → Covers run (slice_index line.order.now i)
   pub all : (p : ℕ) → Covers run p → IsSome (slice_index_or line.levels.now p None) →
@@ -54,4 +54,4 @@ pub record StandsAt (line : OrderedLine) (place : ℕ) (run : VisualRun) : Type 
 -- the run is one of the line, and is shown from this place on
 pub record IsRunAt (line : OrderedLine) (place : ℕ) (run : VisualRun) : Type 0 where
   pub level : IsLevelRun line run
-  pub stands : StandsAt line place run
+  pub stands : RunIsAt line place run

@@ -18,8 +18,8 @@ use Rattle.explicit.proofs.Matched.StillOpen.{bit}
 use Rattle.explicit.proofs.Holders.Roles.{IsOfKinds, Role, role, opens_isolate, opens_embedding, closes_isolate, closes_embedding, plain}
 use Rattle.explicit.proofs.Holders.Open.{below, holders}
 use Rattle.explicit.proofs.Holders.OpenIsolates.{AllBelow, OpenIsolates, OpenIsolates-next, holds-open_isolate}
-use Rattle.explicit.proofs.Holders.IsolateStep.{left_open-keeps}
-use Rattle.explicit.proofs.Holders.HoldersStep.{holders-are_open, holders-step}
+use Rattle.explicit.proofs.Holders.IsolatesBehind.{left_open-keeps}
+use Rattle.explicit.proofs.Holders.HoldersBehind.{holders-are_open, holders-step}
 use Rattle.explicit.proofs.LevelsFound.ExplicitAt.{explicit-leveled_in}
 
 -- behind each stand the initiators that hold it

@@ -10,7 +10,7 @@ use Rattle.units.specs.Classes.{class_at, is_isolate_initiator, is_removed, is_s
 use Rattle.units.specs.declared.class.Class.{Class}
 use Rattle.explicit.specs.OpenInitiators.{after_pdi, after_pdf, past_isolate}
 use Rattle.explicit.specs.StackChanges.{Closes}
-use Rattle.explicit.specs.StatusStacks.{state_within, is_taken, entry_of, entry_at, entries_of, refused_isolates, refused_embeddings, before_isolate, Represents, IsKept, leveled_in}
+use Rattle.explicit.specs.StatusStacks.{state_within, is_taken, entry_of, entry_at, entries_of, refused_isolates, refused_embeddings, before_isolate, Represents, IsReachedStack, leveled_in}
 use Rattle.explicit.specs.declared.status.Status.{Status}
 use Rattle.explicit.specs.declared.status.StatusStack.{StatusStack}
 use Rattle.explicit.proofs.Holders.Taken.{level-bound, entries-few, last_entry, refused_isolates-few, refused_embeddings-few, taken_isolates-few, taken_is, state-taken, asked, none_refused, some_refused}
@@ -85,7 +85,7 @@ last-is depth cs para qs n d r =
     let l = last_entry depth cs para qs in
     (l.1, ap (λ xs. last_of xs d) (r.entries ∙ l.2) ∙ last-of l.0 (entry_of (state_within depth cs para qs) l.1) d)
 
-pub kept-bounded : (n : StatusStack) → IsKept n → IsBounded n
+pub kept-bounded : (n : StatusStack) → IsReachedStack n → IsBounded n
 kept-bounded n k =
     let r = k.represents in
     let short : length n.entries.items ≡ length (entries_of k.depth k.classes k.para_level k.initiators) = ap length r.entries in
@@ -108,7 +108,7 @@ past_isolate-short cs (q ∷ qs) = grind (arith, past_isolate-short cs qs)
 after_pdi-short : (cs : List Class) (qs : List ℕ) → length (after_pdi cs qs) ≤ length qs
 after_pdi-short cs qs = grind (arith, past_isolate-short cs qs)
 
-pub pdi-leaves_kept : (n m : StatusStack) → IsKept n → Closes after_pdi n m → IsKept m
+pub pdi-leaves_kept : (n m : StatusStack) → IsReachedStack n → Closes after_pdi n m → IsReachedStack m
 pdi-leaves_kept n m k closes = record { depth = k.depth; classes = k.classes; para_level = k.para_level; initiators = after_pdi k.classes k.initiators; represents = closes k.depth k.classes k.para_level k.initiators k.represents; base = k.base; within = k.within; few = omega (arith, after_pdi-short k.classes k.initiators, k.few) }
 
 -- the level that is asked for is that above the last entry's

@@ -11,11 +11,11 @@ use Rattle.units.specs.declared.class.Class.{Class}
 use Rattle.explicit.specs.OpenInitiators.{opened, left_open}
 use Rattle.explicit.specs.StackChanges.{IsPassed}
 use Rattle.units.specs.declared.class.Class.TheVariants.{L, R, AL, EN, ES, ET, AN, CS, NSM, S, WS, ON}
-use Rattle.explicit.specs.StatusStacks.{state_within, leveled_in, is_ordinary, Represents, IsKept}
+use Rattle.explicit.specs.StatusStacks.{state_within, leveled_in, is_ordinary, Represents, IsReachedStack}
 use Rattle.explicit.specs.declared.status.StatusStack.{StatusStack}
 use Rattle.units.proofs.Positions.{positions_from-next}
 use Rattle.explicit.proofs.Holders.Open.{below, holders, holds}
-use Rattle.explicit.proofs.Holders.HoldersStep.{holders-step}
+use Rattle.explicit.proofs.Holders.HoldersBehind.{holders-step}
 
 -- the initiators that are open before p
 abbrev pub open_before : List Class → ℕ → List ℕ
@@ -68,7 +68,7 @@ before-few cs zero = omega arith
 before-few cs (suc p) = grind (arith, holders-few cs p)
 
 -- what the pass keeps when it comes to p
-pub kept-before : (depth : ℕ) (cs : List Class) (base p : ℕ) (n : StatusStack) → depth ≤ 125 → base ≤ 1 → p < 2 ^ 63 → Represents depth cs base (open_before cs p) n → IsKept n
+pub kept-before : (depth : ℕ) (cs : List Class) (base p : ℕ) (n : StatusStack) → depth ≤ 125 → base ≤ 1 → p < 2 ^ 63 → Represents depth cs base (open_before cs p) n → IsReachedStack n
 kept-before depth cs base p n d b l r = record { depth = depth; classes = cs; para_level = base; initiators = open_before cs p; represents = r; base = b; within = d; few = omega (arith, before-few cs p) }
 
 -- the chain is the same list the other way round

@@ -10,7 +10,7 @@ use Rattle.explicit.specs.Stretches.{IsStretch, leveled_by_status, with_leveled}
 use Rattle.explicit.specs.declared.status.Status.{Status}
 use Rattle.explicit.specs.declared.status.StatusStack.{StatusStack}
 use Rattle.explicit.proofs.Holders.Open.{holders}
-use Rattle.explicit.proofs.Stretched.{stretched_inside, stretched_length, stretched_next, stretched_none, stretched_outside}
+use Rattle.explicit.proofs.Matched.Stretched.{stretched_inside, stretched_length, stretched_next, stretched_none, stretched_outside}
 use Rattle.explicit.proofs.LevelsFound.ExplicitAt.{open_before, left_before, open_before-next, explicit-leveled_in, ordinary_is, ordinary_left, ordinary_opened}
 
 -- an ordinary class closes nothing and opens nothing

@@ -6,7 +6,7 @@ use Rattle.units.specs.Classes.{class_at, is_isolate_formatting, is_isolate_init
 use Rattle.units.specs.declared.class.Class.{Class}
 use Rattle.explicit.specs.Stops.{HasNoFormatting, ArePassed, is_passed, without_partners}
 use Rattle.explicit.proofs.Matched.Filling.{IsFilling, filling_other}
-use Rattle.explicit.proofs.Stretched.{stretched_further, stretched_length, stretched_next, stretched_none}
+use Rattle.explicit.proofs.Matched.Stretched.{stretched_further, stretched_length, stretched_next, stretched_none}
 
 -- no position
 pub cleared_none : (from : ℕ) (partners : List (Option ℕ)) → without_partners from from partners ≡ partners

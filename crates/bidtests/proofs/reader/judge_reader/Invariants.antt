@@ -1,7 +1,7 @@
 use Rattle.std.proofs.Common.{ℕ, List, ◌++◌}
 use Rattle.units.specs.Limits.{LimitsOf}
 use Rattle.bidtests.specs.declared.kind.Kind.{Kind}
-use Rattle.bidtests.specs.Standing.{Judges}
+use Rattle.bidtests.specs.JudgedSoFar.{Judges}
 use Rattle.bidtests.proofs.reader.judge_reader.Given as goal
 
 abbrev pub invariant-loop-judge : goal.invariant-loop-judge

@@ -1,6 +1,6 @@
 use Rattle.std.proofs.Common.{◌-◌, ◌≡◌, ◌<◌, ◌≤◌, ◌+◌, List, length}
 use Rattle.units.specs.declared.class.Class.{Class as BidiClass}
-use Rattle.lines.specs.LineEnds.{AreLineEnds, ArePassed, IsParagraphAt}
+use Rattle.lines.specs.LineEnds.{AreLineEnds, BreaksArePassed, IsParagraphAt}
 use Rattle.lines.proofs.cutting.cut_paragraph.Given as goal
 
 abbrev pub invariant-loop-position : goal.invariant-loop-position
@@ -8,7 +8,7 @@ invariant-loop-position g l =
     record {
       from : l.start ≤ l.position;
       within : l.position ≤ l.end;
-      passed : ArePassed l.at l.passed l.position;
+      passed : BreaksArePassed l.at l.passed l.position;
       few_passed : l.passed ≤ l.position;
       few_lines : l.lines ≤ l.fn.cut.lines + (l.position - l.start);
       more_lines : l.start < l.position → l.fn.cut.lines < l.lines;

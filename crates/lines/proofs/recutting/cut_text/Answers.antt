@@ -3,14 +3,14 @@ use Rattle.std.specs.Prelude.{slice_index}
 use Rattle.std.proofs.lemmas.List.{length-map}
 use Rattle.units.specs.Classes.{classes_of}
 use Rattle.lines.specs.LineBreaks.{AreBreaks}
-use Rattle.lines.specs.LineEnds.{AreLineEnds, ArePassed, IsParagraphAt, paragraph_start}
+use Rattle.lines.specs.LineEnds.{AreLineEnds, BreaksArePassed, IsParagraphAt, paragraph_start}
 use Rattle.lines.proofs.LineEnds.{ends_none}
 use Rattle.lines.proofs.NextLine.{passed_none}
 use Rattle.lines.proofs.recutting.cut_text.Goals as goal
 
 pub loop-paragraph-init : goal.loop-paragraph-init
 loop-paragraph-init g c = record {
-  passed = subst (λ n. ArePassed c.positions-at.result.now n 0) (sym c.start_cut-cut.ensures.passed) (passed_none c.positions-at.result.now c.args.breaks.now.len c.positions-at.ensures.breaks);
+  passed = subst (λ n. BreaksArePassed c.positions-at.result.now n 0) (sym c.start_cut-cut.ensures.passed) (passed_none c.positions-at.result.now c.args.breaks.now.len c.positions-at.ensures.breaks);
   ends =
       subst (λ n. AreLineEnds (classes_of c.args.text.now) c.positions-at.result.now n 0 c.start_cut-cut.new.bounds) (sym c.start_cut-cut.ensures.lines)
       (ends_none (classes_of c.args.text.now) c.positions-at.result.now c.start_cut-cut.new.bounds c.start_cut-cut.ensures.first);

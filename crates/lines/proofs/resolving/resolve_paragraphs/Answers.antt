@@ -12,13 +12,13 @@ use Rattle.explicit.specs.FirstParagraph.{first_length}
 use Rattle.explicit.proofs.LevelsFound.OneCutting.{paragraphs_of_split}
 use Rattle.units.specs.Classes.{classes_of}
 use Rattle.paragraph.specs.Contents.{keeps_level}
-use Rattle.lines.specs.Kept.{keeps_levels, keeps_own_level}
+use Rattle.lines.specs.Kept.{each_keeps_level, keeps_own_level}
 use Rattle.units.specs.declared.class.Class.TheVariants.{S}
 use Rattle.paragraph.specs.ClassSets.{is_class}
 use Rattle.lines.specs.Spaces.{has_segments}
 use Rattle.lines.proofs.Unsegmented.{segments_on}
 use Rattle.lines.specs.LineBreaks.{AreBreaks}
-use Rattle.lines.specs.LineEnds.{AreLineEnds, AreParagraphEnds, ArePassed}
+use Rattle.lines.specs.LineEnds.{AreLineEnds, AreParagraphEnds, BreaksArePassed}
 use Rattle.lines.proofs.LineEnds.{ends_none}
 use Rattle.lines.proofs.NextLine.{passed_none}
 use Rattle.lines.proofs.ParagraphFound.{paragraph_ends_more, paragraph_ends_none}
@@ -40,7 +40,7 @@ loop-start-init g c = record {
   written = written_none c.args.limits c.args.text.now c.args.direction c.deref_mut-levels.result.now;
   known = refl;
   segments = refl;
-  passed = subst (λ n. ArePassed c.positions-at.result.now n 0) (sym c.start_cut-cut.ensures.passed) (passed_none c.positions-at.result.now c.args.breaks.now.len c.positions-at.ensures.breaks);
+  passed = subst (λ n. BreaksArePassed c.positions-at.result.now n 0) (sym c.start_cut-cut.ensures.passed) (passed_none c.positions-at.result.now c.args.breaks.now.len c.positions-at.ensures.breaks);
   ends =
       subst (λ n. AreLineEnds (classes_of c.args.text.now) c.positions-at.result.now n 0 c.start_cut-cut.new.bounds) (sym c.start_cut-cut.ensures.lines)
       (ends_none (classes_of c.args.text.now) c.positions-at.result.now c.start_cut-cut.new.bounds c.start_cut-cut.ensures.first);
@@ -126,7 +126,7 @@ loop-start-preserved g c =
     }
 
 -- at the text's end no paragraph is left
-known_whole : (text : List BidiUnit) (direction : Direction) (start : ℕ) (uniform : Bool) → drop start text ≡ [] → (uniform && list_all (keeps_own_level direction) (paragraphs_of (drop start text))) ≡ keeps_levels text direction → uniform ≡ keeps_levels text direction
+known_whole : (text : List BidiUnit) (direction : Direction) (start : ℕ) (uniform : Bool) → drop start text ≡ [] → (uniform && list_all (keeps_own_level direction) (paragraphs_of (drop start text))) ≡ each_keeps_level text direction → uniform ≡ each_keeps_level text direction
 known_whole text direction start uniform done known =
     sym (and-true uniform) ∙ ap (λ us. uniform && list_all (keeps_own_level direction) (paragraphs_of us)) (sym done) ∙ known
 

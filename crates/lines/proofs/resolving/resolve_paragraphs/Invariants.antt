@@ -3,8 +3,8 @@ use Rattle.std.specs.Prelude.{◌&&◌}
 use Rattle.std.specs.List.{list_all}
 use Rattle.units.specs.Classes.{classes_of}
 use Rattle.units.specs.Paragraphs.{paragraphs_of}
-use Rattle.lines.specs.Kept.{keeps_levels, keeps_own_level}
-use Rattle.lines.specs.LineEnds.{AreLineEnds, AreParagraphEnds, ArePassed}
+use Rattle.lines.specs.Kept.{each_keeps_level, keeps_own_level}
+use Rattle.lines.specs.LineEnds.{AreLineEnds, AreParagraphEnds, BreaksArePassed}
 use Rattle.lines.specs.Spaces.{has_segments}
 use Rattle.lines.specs.StepBounds.{light_text_steps, text_steps}
 use Rattle.lines.proofs.TextLevels.{IsWritten}
@@ -13,9 +13,9 @@ use Rattle.lines.proofs.resolving.resolve_paragraphs.Given as goal
 abbrev pub invariant-loop-start : goal.invariant-loop-start
 invariant-loop-start g l = record {
   written : IsWritten l.limits l.text l.direction l.start (take l.paragraphs l.paras) l.levels (paragraphs_of (drop l.start l.text));
-  known : (l.uniform && list_all (keeps_own_level l.direction) (paragraphs_of (drop l.start l.text))) ≡ keeps_levels l.text l.direction;
+  known : (l.uniform && list_all (keeps_own_level l.direction) (paragraphs_of (drop l.start l.text))) ≡ each_keeps_level l.text l.direction;
   segments : l.segmented ≡ has_segments (take l.start l.text);
-  passed : ArePassed l.at l.cut.passed l.start;
+  passed : BreaksArePassed l.at l.cut.passed l.start;
   ends : AreLineEnds (classes_of l.text) l.at l.cut.lines l.start l.bounds;
   para_ends : AreParagraphEnds (classes_of l.text) (take l.paragraphs l.para_ends) l.start;
   few_passed : l.cut.passed ≤ l.start;

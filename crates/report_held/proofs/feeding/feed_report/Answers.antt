@@ -1,6 +1,6 @@
 use Rattle.std.proofs.Common.{false, sym, subst}
 use Rattle.bidi_held.specs.declared.table_report.TableReport.{TableReport}
-use Rattle.report_held.specs.HeldReports.{HasHanded}
+use Rattle.report_held.specs.HeldReports.{ReportHandedOut}
 use Rattle.report_held.specs.ReportCalls.{IsReady}
 use Rattle.report_held.proofs.feeding.feed_report.Goals as goal
 
@@ -8,7 +8,7 @@ pub returns : goal.returns
 returns c = rw c.in-Report.is (record {
   ready = subst IsReady c.deref.ensures c.in_ok-check_ready.ensures.ready;
   takes = λ limits tables handed bytes h. c.take_piece.ensures.takes limits tables handed bytes
-      (subst (λ (r : TableReport). HasHanded limits tables false r handed bytes) (sym c.deref_mut.ensures.value) h);
+      (subst (λ (r : TableReport). ReportHandedOut limits tables false r handed bytes) (sym c.deref_mut.ensures.value) h);
   used = c.take_piece.ensures.used;
   stops = c.take_piece.ensures.stops;
   kept = tt;

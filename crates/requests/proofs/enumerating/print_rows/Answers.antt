@@ -1,7 +1,7 @@
 use Rattle.std.proofs.Common.{◌≡◌, Some, rules}
 use Rattle.bidtests.specs.declared.kind.Kind.TheVariants as file
 use Rattle.requests.specs.DirectionWords.{SaysDirections}
-use Rattle.requests.specs.PrintedRows.{letters_asked}
+use Rattle.requests.specs.RowsPrinted.{letters_asked}
 use Rattle.requests.specs.Parts.{rows_parts}
 use Rattle.requests.proofs.MadeRows.{classes_fail, directions_fail, first_fails, lengths_fail, of_classes_fail}
 use Rattle.requests.proofs.enumerating.print_rows.Goals as goal

@@ -1,6 +1,6 @@
 use Rattle.std.proofs.Common.{◌-◌, ◌++◌, length, take, drop}
 use Rattle.std.proofs.lemmas.Result.{err_from_is_err_and}
-use Rattle.ucdfiles.proofs.Steps.{step-ok, step-err}
+use Rattle.ucdfiles.proofs.OneCut.{step-ok, step-err}
 use Rattle.ucdfiles.proofs.Pieces.{joined, within, rest_joined}
 use Rattle.ucdfiles.proofs.reading.feed.Goals as goal
 

@@ -8,5 +8,5 @@ use Rattle.ucdfiles.proofs.spans.ending_from.Goals as goal
 pub returns-clause-finds : goal.returns-clause-finds
 returns-clause-finds g c code low =
     let rs = c.args.spans.now in
-    let n = c.place-place.result in
-    ap (find (holds code)) (take_all (length rs - n) (drop n rs) (omega (arith, length-drop n rs))) ∙ find-drop rs n code (λ k d a b. omega (arith, c.place-place.ensures.below k d a b))
+    let n = c.ended_before-ended.result in
+    ap (find (holds code)) (take_all (length rs - n) (drop n rs) (omega (arith, length-drop n rs))) ∙ find-drop rs n code (λ k d a b. omega (arith, c.ended_before-ended.ensures.below k d a b))

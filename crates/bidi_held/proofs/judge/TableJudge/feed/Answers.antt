@@ -1,6 +1,6 @@
 use Rattle.std.proofs.Common.{◌∙◌, ◌++◌, Option, sym, subst}
 use Rattle.ucdfiles.specs.Tables.{TablesOf}
-use Rattle.bidtests.specs.Standing.{HoldsFor}
+use Rattle.bidtests.specs.JudgedSoFar.{HoldsFor}
 use Rattle.bidi_held.proofs.judge.TableJudge.feed.Goals as goal
 
 pub returns : goal.returns

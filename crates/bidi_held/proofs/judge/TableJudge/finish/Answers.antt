@@ -1,6 +1,6 @@
 use Rattle.std.proofs.Common.{◌∙◌, Option, sym, subst, ap}
 use Rattle.ucdfiles.specs.Tables.{TablesOf}
-use Rattle.bidtests.specs.Standing.{HoldsFor}
+use Rattle.bidtests.specs.JudgedSoFar.{HoldsFor}
 use Rattle.bidi_held.specs.TableJudges.{verdict_by}
 use Rattle.bidi_held.proofs.VerdictsBy.{verdict-by}
 use Rattle.bidi_held.proofs.judge.TableJudge.finish.Goals as goal

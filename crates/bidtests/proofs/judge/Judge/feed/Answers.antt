@@ -1,5 +1,5 @@
 use Rattle.std.proofs.Common.{◌++◌, sym, subst}
-use Rattle.bidtests.specs.Standing.{Judging, Judges, judging}
+use Rattle.bidtests.specs.JudgedSoFar.{Judging, Judges, judging}
 use Rattle.bidtests.proofs.SameTables.{state-of, judges-of}
 use Rattle.bidtests.proofs.judge.Judge.feed.Goals as goal
 

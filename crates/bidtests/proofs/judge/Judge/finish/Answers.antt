@@ -1,6 +1,6 @@
 use Rattle.std.proofs.Common.{ap, sym, subst, ◌∙◌}
 use Rattle.bidtests.specs.FileKinds.{verdict_of}
-use Rattle.bidtests.specs.Standing.{Judging, Judges, judging}
+use Rattle.bidtests.specs.JudgedSoFar.{Judging, Judges, judging}
 use Rattle.bidtests.proofs.FileVerdicts.{file-says}
 use Rattle.bidtests.proofs.SameTables.{state-of}
 use Rattle.bidtests.proofs.judge.Judge.finish.Goals as goal

@@ -1,5 +1,5 @@
 use Rattle.std.proofs.Common.{refl}
-use Rattle.bidtests.specs.Standing.{tables_of}
+use Rattle.bidtests.specs.JudgedSoFar.{tables_of}
 use Rattle.bidtests.proofs.judge.Judge.of_kind.Goals as goal
 
 pub returns : goal.returns

@@ -1,6 +1,6 @@
 use Rattle.std.proofs.Common.{length, take, drop, ◌-◌, ◌++◌, refl, sym, ◌∙◌}
 use Rattle.units.proofs.Options.{is_some_false}
-use Rattle.bidtests.specs.Standing.{StateOf, judging}
+use Rattle.bidtests.specs.JudgedSoFar.{StateOf, judging}
 use Rattle.bidtests.proofs.CutterSteps.{feeds-on, feeds-some, if-no-error}
 use Rattle.ucdfiles.proofs.Pieces.{joined, within}
 use Rattle.bidtests.proofs.SameTables.{holds-for}

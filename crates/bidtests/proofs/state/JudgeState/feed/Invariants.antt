@@ -1,6 +1,6 @@
 use Rattle.std.proofs.Common.{ℕ, List, ◌++◌, ◌-◌, ◌≤◌, length, take}
 use Rattle.units.specs.Limits.{LimitsOf}
-use Rattle.bidtests.specs.Standing.{HoldsFor, tables_of}
+use Rattle.bidtests.specs.JudgedSoFar.{HoldsFor, tables_of}
 use Rattle.bidtests.proofs.state.JudgeState.feed.Given as goal
 
 abbrev pub invariant-loop-at : goal.invariant-loop-at

@@ -1,5 +1,5 @@
 use Rattle.std.proofs.Common.{◌≡◌, None, ap, refl, sym, subst, ◌∙◌}
-use Rattle.bidtests.specs.Standing.{StateOf, JudgesBy, judging}
+use Rattle.bidtests.specs.JudgedSoFar.{StateOf, JudgesBy, judging}
 use Rattle.bidtests.proofs.CutterSteps.{finishes, finishes-decided}
 use Rattle.bidtests.proofs.state.JudgeState.finish.Goals as goal
 

@@ -4,7 +4,7 @@ use Rattle.std.specs.Str.{bytes_eq}
 use Rattle.std.proofs.lemmas.Iterator.{YieldsList-from_slice}
 use Rattle.std.proofs.lemmas.Iterator.Search.{find_from_yields_List}
 use Rattle.clap.proofs.WalkLemmas.{find-map}
-use Rattle.command_tests.specs.MemoryFiles.{StandsOver, Stored, StoredFile, stored_at, stored_file}
+use Rattle.command_tests.specs.MemoryFiles.{IsOpenedOver, Stored, StoredFile, stored_at, stored_file}
 use Rattle.requests.specs.ReadFiles.{FileNamed}
 use Rattle.command_tests.specs.declared.memory_files.MemoryFile.{MemoryFile}
 use Rattle.command_tests.proofs.memory_files.MemoryFilesFiles.file.Goals as goal
@@ -26,9 +26,9 @@ returns-in-Some-clause-opened c =
     ap (option_map stored) (ap (option_map (λ (b : Bor MemoryFile). b.now)) (sym is) ∙ first)
     ∙ find-map (λ (file : StoredFile). bytes_eq file.name name) stored files
     ∙ ap (λ (all : List StoredFile). find (λ (file : StoredFile). bytes_eq file.name name) all) shown in
-    let stands : StandsOver (Some (stored c.in-Some.file.now)) c.args.most c.new.result =
+    let stands : IsOpenedOver (Some (stored c.in-Some.file.now)) c.args.most c.new.result =
     (c.new.ensures.reader, c.new.ensures.left ∙ c.min.ensures, c.new.ensures.state) in
-    subst (λ (file : Option StoredFile). StandsOver file c.args.most c.new.result) found stands
+    subst (λ (file : Option StoredFile). IsOpenedOver file c.args.most c.new.result) found stands
 
 pub returns-in-None-clause-cannot : goal.returns-in-None-clause-cannot
 unfolding stored

@@ -1,7 +1,7 @@
 use Rattle.std.proofs.Common.{◌≤◌, ◌≡◌, arith, sym, subst}
 use Rattle.units.specs.Lines.{most_counted}
 use Rattle.explain_row.specs.Searching.{Searching, SearchesOn}
-use Rattle.explain_row.proofs.Steps.{ends-last, ends-none}
+use Rattle.explain_row.proofs.SearchedBytes.{ends-last, ends-none}
 use Rattle.explain_row.proofs.search.RowSearch.finish.Goals as goal
 
 pub returns-in-None-clause-ends : goal.returns-in-None-clause-ends

@@ -1,4 +1,4 @@
-use Rattle.explain_row.proofs.Steps.{search-start}
+use Rattle.explain_row.proofs.SearchedBytes.{search-start}
 use Rattle.explain_row.proofs.search.RowSearch.new.Goals as goal
 
 pub returns : goal.returns

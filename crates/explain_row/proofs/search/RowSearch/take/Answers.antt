@@ -1,7 +1,7 @@
 use Rattle.std.proofs.Common.{◌≡◌, ◌-◌, ◌++◌, ℕ, List, [], Err, ap, arith, drop, length, subst, sym, take, ◌∙◌}
 use Rattle.std.proofs.lemmas.Bool.{eqb-true}
 use Rattle.std.proofs.lemmas.List.{length-drop, nil_from_length, take_all}
-use Rattle.explain_row.proofs.Steps.{HasTaken, all-taken, comes-fault, goes-on, more-taken, nothing-taken, row-behind, settled-behind}
+use Rattle.explain_row.proofs.SearchedBytes.{HasTaken, all-taken, comes-fault, goes-on, more-taken, nothing-taken, row-behind, settled-behind}
 use Rattle.explain_row.proofs.search.RowSearch.take.Goals as goal
 
 pub loop-rest-init : goal.loop-rest-init

@@ -1,5 +1,5 @@
 use Rattle.std.proofs.Common.{length}
-use Rattle.explain_row.proofs.Steps.{HasTaken}
+use Rattle.explain_row.proofs.SearchedBytes.{HasTaken}
 use Rattle.explain_row.proofs.search.RowSearch.take.Given as goal
 
 abbrev pub invariant-loop-rest : goal.invariant-loop-rest

@@ -1,7 +1,7 @@
 use Rattle.std.proofs.Common.{◌≤◌, ◌≡◌, arith, sym, subst}
 use Rattle.units.specs.Lines.{most_counted}
 use Rattle.explain_row.specs.Searching.{Searching, SearchesOn}
-use Rattle.explain_row.proofs.Steps.{comes-by, refused-by, steps-fault}
+use Rattle.explain_row.proofs.SearchedBytes.{comes-by, refused-by, steps-fault}
 use Rattle.explain_row.proofs.search.RowSearch.take_next.Goals as goal
 
 pub returns-in_err-row-clause-comes : goal.returns-in_err-row-clause-comes

@@ -1,7 +1,7 @@
 use Rattle.std.proofs.Common.{ap, sym, subst, ◌∙◌}
 use Rattle.report.specs.FileReports.{report_of}
 use Rattle.report.specs.Reporting.{Reporting, Reports}
-use Rattle.report.specs.Standing.{reporting}
+use Rattle.report.specs.ReportedSoFar.{reporting}
 use Rattle.report.proofs.SameReports.{state-of}
 use Rattle.report.proofs.report.Report.finish.Goals as goal
 

@@ -1,5 +1,5 @@
 use Rattle.std.proofs.Common.{refl}
-use Rattle.bidtests.specs.Standing.{tables_of}
+use Rattle.bidtests.specs.JudgedSoFar.{tables_of}
 use Rattle.report.proofs.report.Report.new.Goals as goal
 
 pub returns-clause-stands : goal.returns-clause-stands

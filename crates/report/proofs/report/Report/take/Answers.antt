@@ -1,6 +1,6 @@
 use Rattle.std.proofs.Common.{◌++◌, sym, subst, take}
 use Rattle.report.specs.Reporting.{Reporting, Reports}
-use Rattle.report.specs.Standing.{reporting}
+use Rattle.report.specs.ReportedSoFar.{reporting}
 use Rattle.report.proofs.SameReports.{state-of, reports-of}
 use Rattle.report.proofs.report.Report.take.Goals as goal
 

@@ -2,7 +2,7 @@ use Rattle.std.proofs.Common.{refl, sym, subst, ap, not, ◌∙◌}
 use Rattle.units.proofs.Options.{is_some_false}
 use Rattle.bidtests.proofs.CutterSteps.{if-no-error}
 use Rattle.report.specs.Reporting.{Reports, ReportsBy}
-use Rattle.report.specs.Standing.{StateOf, reporting}
+use Rattle.report.specs.ReportedSoFar.{StateOf, reporting}
 use Rattle.report.proofs.ByteSteps.{if-error, ends, ends-ended}
 use Rattle.report.proofs.state.ReportState.finish.Goals as goal
 

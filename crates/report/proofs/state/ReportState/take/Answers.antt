@@ -3,7 +3,7 @@ use Rattle.std.proofs.lemmas.List.{take_all}
 use Rattle.units.proofs.Options.{is_some_false}
 use Rattle.bidtests.proofs.CutterSteps.{if-no-error}
 use Rattle.report.specs.Reporting.{Reports, ReportsBy}
-use Rattle.report.specs.Standing.{StateOf, reporting}
+use Rattle.report.specs.ReportedSoFar.{StateOf, reporting}
 use Rattle.report.proofs.ByteSteps.{if-error, takes, takes-ended}
 use Rattle.report.proofs.SameReports.{told-for}
 use Rattle.report.proofs.state.ReportState.take.Goals as goal

@@ -4,7 +4,6 @@ use Rattle.std.proofs.lemmas.Iterator.{YieldsList-from_slice}
 use Rattle.std.proofs.lemmas.Iterator.Adapters.{option_map_id}
 use Rattle.std.proofs.lemmas.Iterator.Consumers.{YieldsList-from_copied}
 use Rattle.std.proofs.lemmas.Iterator.Search.{find_from_yields_List}
-use Rattle.units.specs.declared.class.Class.{Class}
 use Rattle.units.specs.ClassNames.{is_long_name, class_of_long, classes}
 use Rattle.units.proofs.class.Class.from_long.Goals as goal
 

@@ -1,0 +1,113 @@
+-- What is printed of rows that are asked for: a conformance file of texts of some lengths, with right answers.
+use Rattle.std.specs.Prelude.{◌≡◌, ℕ, List, Option, None, Some, map}
+use Rattle.std.specs.Borrow.{Bor}
+use Rattle.std.specs.Io.KnownBytes.{Appends}
+use Rattle.std.specs.Option.{option_map}
+use Rattle.units.specs.Limits.{standard}
+use Rattle.units.specs.declared.class.Class.{Class}
+use Rattle.units.specs.declared.level.Direction.{Direction}
+use Rattle.ucdfiles.specs.Tables.{TablesOf}
+use Rattle.bidtests.specs.declared.kind.Kind.{Kind}
+use Rattle.bidtests.specs.declared.kind.Kind.TheVariants as file
+use Rattle.rows.specs.declared.fault.RowsFault.{RowsFault}
+use Rattle.rows.specs.declared.letter.Letter.{Letter}
+use Rattle.rows.specs.declared.letter.Letter.TheVariants as letter
+use Rattle.rows.specs.Exhaustive.{ExhaustiveOf, cases_in, refusal_of}
+use Rattle.rows.specs.Forms.{form_characters, form_classes}
+use Rattle.rows.specs.Letters.{letter_by}
+use Rattle.rows.specs.Random.{RandomOf, cases_drawn, no_drawing_of}
+use Rattle.rows.specs.Judged.{JudgeSaysYes}
+use Rattle.rows.specs.RowTexts.{Case, cases_text}
+use Rattle.requests.specs.ClassWords.{classes_named}
+use Rattle.requests.specs.CodeWords.{codes_said}
+use Rattle.requests.specs.DirectionWords.{SaysDirections}
+use Rattle.requests.specs.ReadFiles.{FileFacts}
+use Rattle.requests.specs.LengthWords.{lengths_named}
+use Rattle.requests.specs.TableSources.{AreTablesBy}
+use Rattle.requests.specs.declared.request.AskedRows.{AskedRows}
+use Rattle.requests.specs.declared.request.FileKind.{FileKind}
+use Rattle.requests.specs.declared.request.FileKind.TheVariants.{Classes, Characters}
+use Rattle.requests.specs.declared.request.RowLetters.{RowLetters}
+use Rattle.requests.specs.declared.request.RowLetters.TheVariants.{Alphabet, OfForm}
+use Rattle.requests.specs.declared.request.RowsForm.{RowsForm}
+use Rattle.requests.specs.declared.request.RowsForm.TheVariants.{Exhaustive, Random}
+use Rattle.requests.specs.declared.request.TableSource.{TableSource}
+use Rattle.requests.specs.declared.fault.Fault.{Fault}
+use Rattle.requests.specs.declared.fault.Fault.TheVariants.{NoRows, OutOfMemory}
+
+-- what the rows hold in a file of this kind: classes, or characters by the tables of this source
+abbrev pub IsKindBySource : FileFacts → FileKind → TableSource → Kind → Type 0
+IsKindBySource files Classes source kind = kind ≡ file.Classes
+IsKindBySource files Characters source kind = (tables : Bor TablesOf) × AreTablesBy files source tables.now × (kind ≡ file.Characters tables)
+
+-- the classes of which texts are to be made: those that a word names, or those of a form
+abbrev pub classes_asked : RowLetters → Option (List Class)
+classes_asked (Alphabet word) = classes_named word.now
+classes_asked (OfForm form) = Some (form_classes form)
+
+-- the characters of which they are to be made: those whose code points a word says, or those of a form
+abbrev pub chars_asked : RowLetters → Option (List ℕ)
+chars_asked (Alphabet word) = codes_said word.now
+chars_asked (OfForm form) = Some (form_characters form)
+
+-- these as letters of rows of this kind
+abbrev pub letters_asked : Kind → RowLetters → Option (List Letter)
+letters_asked file.Classes letters = option_map (map letter.Class) (classes_asked letters)
+letters_asked (file.Characters tables) letters = option_map (map (letter_by tables.now)) (chars_asked letters)
+
+-- so many of these texts, drawn by a seed
+abbrev pub drawn_from : ℕ → ℕ → ExhaustiveOf → RandomOf
+drawn_from seed count texts = record {
+  alphabet = texts.alphabet;
+  least = texts.least;
+  greatest = texts.greatest;
+  seed = seed;
+  count = count;
+}
+
+-- the first reason why there is no file of this form of these texts
+abbrev pub refusal_in : RowsForm → ExhaustiveOf → Option RowsFault
+refusal_in Exhaustive texts = refusal_of texts
+refusal_in (Random seed count) texts = no_drawing_of (drawn_from seed count texts)
+
+-- the cases of that file under these directions: of all these texts, or of those that are drawn
+abbrev pub cases_of_form : RowsForm → List Direction → ExhaustiveOf → List Case
+cases_of_form Exhaustive directions texts = cases_in texts directions
+cases_of_form (Random seed count) directions texts = cases_drawn (drawn_from seed count texts) directions
+
+-- there is such a file, and it is what known bytes grew by, by the standard limits; the judge's verdict on it is a yes
+pub record HasPrintedTexts (kind : Kind) (form : RowsForm) (directions : List Direction) (texts : ExhaustiveOf) (before after : Option (List ℕ)) : Type 0 where
+  pub some : refusal_in form texts ≡ None
+  pub said : Appends before after (cases_text standard kind (cases_of_form form directions texts))
+  pub right : JudgeSaysYes standard kind (cases_of_form form directions texts)
+
+-- what is asked for says the letters and the lengths of these texts
+pub record AreTextsOf (kind : Kind) (asked : AskedRows) (texts : ExhaustiveOf) : Type 0 where
+  pub letters : letters_asked kind asked.letters ≡ Some texts.alphabet
+  pub ends : lengths_named asked.lengths.now ≡ Some (texts.least, texts.greatest)
+
+-- the rows that are asked for were printed: the file of their kind and form, of their texts under their directions
+pub record HasPrintedRows (files : FileFacts) (asked : AskedRows) (before after : Option (List ℕ)) : Type 0 where
+  pub kind : Kind
+  pub is : IsKindBySource files asked.kind asked.tables kind
+  pub texts : ExhaustiveOf
+  pub are : AreTextsOf kind asked texts
+  pub directions : List Direction
+  pub named : SaysDirections asked.directions.now directions
+  pub made : HasPrintedTexts kind asked.form directions texts before after
+
+-- when a fault ends what is made of texts: there is no such file, for this reason, or memory was refused
+abbrev pub EndsMaking : RowsForm → ExhaustiveOf → Fault → Type 0
+EndsMaking form texts (NoRows fault) = refusal_in form texts ≡ Some fault
+EndsMaking form texts OutOfMemory = Unit {0}
+EndsMaking form texts _ = ⊥
+
+-- what is asked for says texts of which there is such a file
+abbrev pub CanBeMade : FileFacts → AskedRows → Type 0
+CanBeMade files asked = (kind : Kind) × IsKindBySource files asked.kind asked.tables kind
+    × (texts : ExhaustiveOf) × AreTextsOf kind asked texts × (refusal_in asked.form texts ≡ None)
+
+-- when a fault ends what is made of the texts that are asked for
+abbrev pub EndsTexts : FileFacts → AskedRows → Fault → Type 0
+EndsTexts files asked fault = (kind : Kind) × IsKindBySource files asked.kind asked.tables kind
+    × (texts : ExhaustiveOf) × AreTextsOf kind asked texts × EndsMaking asked.form texts fault
