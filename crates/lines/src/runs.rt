@@ -76,21 +76,21 @@ impl Stretch {
 
 /// Where the run of this level ends that begins at the position, in at most a step for each of its positions.
 fn end_of_run<L: Ledger>(
-    line: &LineSpan<'_>,
+    line: LineSpan<'_>,
     position: usize,
     level: Level,
     steps: &mut Steps<L>,
 ) -> usize
-    requires position { position < line.now.end }
-    requires level { HasLevel line.now.levels.now position level }
+    requires position { position < line.end }
+    requires level { HasLevel line.levels.now position level }
     ensures rises { position < result }
-    ensures within { result ≤ line.now.end }
-    ensures uniform { IsAtOneLevel line.now.levels.now position result level }
-    ensures stops { (result ≡ line.now.end) ⊎ ((v : ℕ) × HasLevel line.now.levels.now result v × (v ≢ level)) }
+    ensures within { result ≤ line.entry.end }
+    ensures uniform { IsAtOneLevel line.entry.levels.now position result level }
+    ensures stops { (result ≡ line.entry.end) ⊎ ((v : ℕ) × HasLevel line.entry.levels.now result v × (v ≢ level)) }
     ensures at_least { steps.old + (result - position) ≤ steps.new + 1 }
     ensures at_most { steps.new ≤ steps.old + (result - position) }
 {
-    let LineSpan { levels, end, .. } = *line;
+    let LineSpan { levels, end, .. } = line;
     for next in position + 1..end {
         steps.tick();
         if levels[next].is_some_and(|other| other.get() != level.get()) {
@@ -102,17 +102,17 @@ fn end_of_run<L: Ledger>(
 
 /// The stretch of the run of this level that begins at the position, in at most a step for each of its positions.
 fn link_run<L: Ledger>(
-    line: &LineSpan<'_>,
+    line: LineSpan<'_>,
     position: usize,
     level: Level,
     runs: &mut [Run],
     steps: &mut Steps<L>,
 ) -> Stretch
-    requires position { position < line.now.end }
-    requires room { line.now.end ≤ length runs.old }
-    requires small { line.now.end < 2 ^ 32 }
-    requires level { HasLevel line.now.levels.now position level }
-    ensures begins { BeginsRun line.now.levels.now position level line.now.end result runs.old runs.new }
+    requires position { position < line.end }
+    requires room { line.end ≤ length runs.old }
+    requires small { line.end < 2 ^ 32 }
+    requires level { HasLevel line.levels.now position level }
+    ensures begins { BeginsRun line.entry.levels.now position level line.entry.end result runs.old runs.new }
     ensures at_least { steps.old + (result.end - position) ≤ steps.new + 1 }
     ensures at_most { steps.new ≤ steps.old + (result.end - position) }
 {
@@ -152,8 +152,9 @@ fn link_from<L: Ledger>(
     ensures at_most { steps.new + 1 ≤ steps.old + linking_steps * (result.end - position) }
 {
     steps.tick();
-    let mut stretch = link_run(line, position, level, runs, steps);
-    let LineSpan { levels, end, .. } = *line;
+    let span = *line;
+    let LineSpan { levels, end, .. } = span;
+    let mut stretch = link_run(span, position, level, runs, steps);
     while stretch.end < end {
         steps.tick();
         let Some(level) = levels[stretch.end] else {
@@ -166,7 +167,7 @@ fn link_from<L: Ledger>(
         let later = if level.get() >= least_above {
             link_from(line, stretch.end, level, least_above, runs, steps)
         } else {
-            link_run(line, stretch.end, level, runs, steps)
+            link_run(span, stretch.end, level, runs, steps)
         };
         stretch = stretch.joined(later, runs);
     }
