@@ -76,7 +76,7 @@ fn resolve_unit<L: Ledger>(
     ensures room { KeepsTextRoom columns.old columns.new }
     ensures resolved { result ≡ true → (limits : LimitsOf) (breaks : List ℕ)
         → IsResolved limits text.now direction breaks one_unit columns.new bounds.new }
-    ensures steps { result ≡ true → steps.new ≡ steps.old + 4 }
+    ensures steps { result ≡ true → steps.new ≡ steps.old + light_text_steps }
     ensures left { result ≡ false → columns.new ≡ columns.old }
     ensures no_steps { result ≡ false → steps.new ≡ steps.old }
 {
