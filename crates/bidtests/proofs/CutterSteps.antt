@@ -8,7 +8,7 @@ use Rattle.std.proofs.lemmas.Bool.{lt-ltb, false≢true}
 use Rattle.std.specs.Borrow.{Bor}
 use Rattle.units.specs.LineCutting.{Cutting, StandsFor}
 use Rattle.units.specs.Limits.{LimitsOf}
-use Rattle.units.specs.Lines.{EndsByFeed, IsLine, CutsInto, IsTooLongAfter, line_number, ended_lines}
+use Rattle.units.specs.Lines.{EndsByFeed, IsLine, CutsInto, IsTooLongAfter, line_number}
 use Rattle.units.specs.LineAnswers.{AnswersPiece, Finishes}
 use Rattle.units.specs.declared.line_cut.Cut.{Cut}
 use Rattle.units.specs.declared.line_cut.Cut.TheVariants.{More, Line, TooLong}
@@ -73,20 +73,56 @@ module _ (limits : LimitsOf) (kind : Kind) (s : Carried) (lines : List (List ℕ
 pub same_count : (a c : List (List ℕ)) (x : List ℕ) → a ++ x ∷ [] ≡ c ++ x ∷ [] → length a ≡ length c
 same_count a c x e = omega (arith, ap length e, length-append a (x ∷ []), length-append c (x ∷ []))
 
+-- bytes that are cut into these lines and this rest
+module _ (b : List ℕ) (lines : List (List ℕ)) (rest : List ℕ) (cut : CutsInto b lines rest) where
+  -- where no line has begun, these are all
+  pub lines-ended : Finishes b None → lines_of b ≡ lines
+  lines-ended f = elim f [
+    | inl all ↦ lines_of-ended b all.0 all.1 ∙ sym (ended_lines-CutsInto b all.0 [] all.1) ∙ ended_lines-CutsInto b lines rest cut
+    | inr over ↦ absurd (never_both b over.0 lines rest over.1 cut)
+  ]
+
+  -- the line that has begun is the last
+  pub last-lines : (number : ℕ) (last : Bor (List ℕ)) → Finishes b (Some (number, last)) → (lines_of b ≡ lines ++ last.now ∷ []) × (number ≡ line_number (length lines))
+  last-lines number last f =
+      let same : f.1.0 ≡ lines = sym (ended_lines-CutsInto b f.1.0 last.now f.1.1) ∙ ended_lines-CutsInto b lines rest cut in (
+        lines_of-begun b f.1.0 last.now f.1.1 f.0 ∙ ap (λ ls. ls ++ last.now ∷ []) same,
+        f.1.2 ∙ ap (λ (ls : List (List ℕ)). line_number (length ls)) same,
+      )
+
+  -- what the cutter used of a piece, by what it answered
+  pub cut-more : (piece : List ℕ) (used : ℕ) → AnswersPiece b piece used More → (left : List ℕ) × CutsInto (b ++ take used piece) lines left
+  cut-more piece used a =
+      let all : take used piece ≡ piece = take_all used piece (omega (arith, a.1)) in
+      let C : List ℕ → Type 0 = λ xs. CutsInto (b ++ xs) a.3.0 a.3.1 in
+      let whole = subst C (sym all) a.3.2 in
+      let D : List (List ℕ) → Type 0 = λ ls. CutsInto (b ++ take used piece) ls a.3.1 in
+      (a.3.1, subst D (sym (ended_lines-CutsInto _ a.3.0 a.3.1 whole) ∙ a.2 ∙ ended_lines-CutsInto b lines rest cut) whole)
+
+  pub cut-line : (piece : List ℕ) (used number : ℕ) (text : Bor (List ℕ)) → AnswersPiece b piece used (Line number text)
+      → CutsInto (b ++ take used piece) (lines ++ text.now ∷ []) [] × (number ≡ line_number (length lines))
+  cut-line piece used number text a =
+      let same : a.2.0 ++ text.now ∷ [] ≡ lines ++ text.now ∷ [] =
+      sym (ended_lines-CutsInto _ (a.2.0 ++ text.now ∷ []) [] a.2.1) ∙ a.1 ∙ ap (λ ls. ls ++ text.now ∷ []) (ended_lines-CutsInto b lines rest cut) in
+      let D : List (List ℕ) → Type 0 = λ ls. CutsInto (b ++ take used piece) ls [] in
+      (subst D same a.2.1, a.2.2 ∙ ap (λ n. line_number n) (same_count a.2.0 lines text.now same))
+
+  pub cut-long : (piece : List ℕ) (used number : ℕ) → used ≤ length piece → EndsByFeed used piece → AnswersPiece b piece used (TooLong number)
+      → IsTooLongAfter (b ++ take used piece) lines × (number ≡ line_number (length lines))
+  cut-long piece used number within through a =
+      let same : a.0 ≡ lines = lines-before b piece used lines a.0 rest within through cut a.1 in
+      let D : List (List ℕ) → Type 0 = λ ls. IsTooLongAfter (b ++ take used piece) ls in
+      (subst D same a.1, a.2 ∙ ap (λ (ls : List (List ℕ)). line_number (length ls)) same)
+
 module _ (limits : LimitsOf) (kind : Kind) (old new : Cutting) (s t : Carried) (b piece : List ℕ) (used : ℕ) (o : IsOpen limits kind old s b)
     (within : used ≤ length piece) (through : EndsByFeed used piece) (stands : StandsFor new (b ++ take used piece)) where
-  abbrev ended-old : ended_lines b ≡ o.lines
-  ended-old = ended_lines-CutsInto b o.lines o.rest o.cut
-
   pub judges-on : (taken : Cut) → AnswersPiece b piece used taken → (no_by kind s taken ≡ None → t ≡ after_cut kind taken s)
       → JudgesBy limits kind (no_by kind s taken) new t (b ++ take used piece)
   judges-on More a after = grind (arith, take_all, ended_lines-CutsInto)
   judges-on (Line number text) a after = grind (arith, ended_lines-CutsInto, same_count, ends-line)
   judges-on (TooLong number) a after = λ more.
-      let same : a.0 ≡ o.lines = lines-before b piece used o.lines a.0 o.rest within through o.cut a.1 in
-      let D : List (List ℕ) → Type 0 = λ ls. IsTooLongAfter (b ++ take used piece) ls in
-      let is : number ≡ line_number (length o.lines) = a.2 ∙ ap (λ (ls : List (List ℕ)). line_number (length ls)) same in
-      decided-long limits kind s o.lines o.behind (b ++ take used piece) (subst D same a.1) more ∙ ap (λ n. Malformed n LineTooLong) (sym is)
+      let l = cut-long b o.lines o.rest o.cut piece used number within through a in
+      decided-long limits kind s o.lines o.behind (b ++ take used piece) l.0 more ∙ ap (λ n. Malformed n LineTooLong) (sym l.1)
 
 -- what is decided stays so
 pub judges-decided : (limits : LimitsOf) (kind : Kind) (v : Verdict) (old new : Cutting) (s t : Carried) (b xs : List ℕ) → JudgesBy limits kind (Some v) old s b → JudgesBy limits kind (Some v) new t (b ++ xs)
@@ -105,24 +141,12 @@ last-fault limits kind s lines last b h whole (Some v) e = sym (whole ∙ verdic
 module _ (limits : LimitsOf) (kind : Kind) (c : Cutting) (s : Carried) (b : List ℕ) (o : IsOpen limits kind c s b) where
   -- no line that has begun
   pub verdict-ended : Finishes b None → Yes s.rows s.cases ≡ verdict_of limits kind b
-  verdict-ended f = elim f [
-    | inl cut ↦ (
-        let same : cut.0 ≡ o.lines = sym (ended_lines-CutsInto b cut.0 [] cut.1) ∙ ended_lines-CutsInto b o.lines o.rest o.cut in
-        sym (verdict-by limits kind b o.lines (lines_of-ended b cut.0 cut.1 ∙ same) ∙ verdict-yes limits kind s o.lines o.behind))
-    | inr over ↦ absurd (never_both b over.0 o.lines o.rest over.1 o.cut)
-  ]
-
-  last-lines : (number : ℕ) (last : Bor (List ℕ)) → Finishes b (Some (number, last)) → (lines_of b ≡ o.lines ++ last.now ∷ []) × (number ≡ line_number (length o.lines))
-  last-lines number last f =
-      let same : f.1.0 ≡ o.lines = sym (ended_lines-CutsInto b f.1.0 last.now f.1.1) ∙ ended_lines-CutsInto b o.lines o.rest o.cut in (
-        lines_of-begun b f.1.0 last.now f.1.1 f.0 ∙ ap (λ ls. ls ++ last.now ∷ []) same,
-        f.1.2 ∙ ap (λ (ls : List (List ℕ)). line_number (length ls)) same,
-      )
+  verdict-ended f = sym (verdict-by limits kind b o.lines (lines-ended b o.lines o.rest o.cut f) ∙ verdict-yes limits kind s o.lines o.behind)
 
   last-by : (number : ℕ) (last : Bor (List ℕ)) → Finishes b (Some (number, last)) → (fault : Option Verdict) → no_at kind s number last.now ≡ fault
       → no_or_yes fault (after_line kind last.now s) ≡ verdict_of limits kind b
   last-by number last f fault e =
-      let l = last-lines number last f in
+      let l = last-lines b o.lines o.rest o.cut number last f in
       let at : no_at kind s (line_number (length o.lines)) last.now ≡ fault = ap (λ n. no_at kind s n last.now) (sym l.1) ∙ e in
       let whole : verdict_of limits kind b ≡ verdict_on limits (findings_by kind (o.lines ++ last.now ∷ [])) = verdict-by limits kind b _ l.0 in
       last-fault limits kind s o.lines last.now b o.behind whole fault at

@@ -11,9 +11,12 @@ use Rattle.units.specs.Limits.{LimitsOf}
 use Rattle.units.specs.declared.level.Direction.{Direction}
 use Rattle.bidtests.specs.declared.verdict.Place.{Place}
 use Rattle.bidtests.specs.declared.verdict.Place.TheVariants.{ParaLevel, Levels, Order}
-use Rattle.bidtests.specs.Verdicts.{Claim, first_difference, first_of, agrees, placed_in, wrong_place_under}
+use Rattle.bidtests.specs.Verdicts.{Claim, Row, first_difference, first_of, agrees, placed_in, wrong_place_under}
 use Rattle.std.specs.Option.{option_or}
 use Rattle.bidtests.specs.Headline.{layout_under, IsParaRight, IsCaseRight, IsFirstDifference, IsWrongAt}
+
+pub same-claim : (a b : Claim) → Row a ≡ Row b → a ≡ b
+same-claim a b e = cc
 
 -- the lists are one, or n is their first difference, counted from `at`
 abbrev Compared : {A : Type 0} → List A → List A → ℕ → Option ℕ → Type 0

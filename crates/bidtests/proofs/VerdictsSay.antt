@@ -13,7 +13,7 @@ use Rattle.bidtests.specs.Verdicts.{Claim, Finding, Silent, Row, Faulty, wrong_p
 use Rattle.std.specs.Option.{option_or}
 use Rattle.units.specs.Lines.{line_number}
 use Rattle.bidtests.specs.Headline.{IsMalformed, IsRow, IsCaseRight, IsWrongAt, ComesBefore, AreRight, FirstIsMalformed, FirstIsWrong, Says}
-use Rattle.bidtests.proofs.Places.{CaseIs, case-is, right-wrong, place-unique}
+use Rattle.bidtests.proofs.Places.{CaseIs, case-is, right-wrong, place-unique, same-claim}
 use Rattle.bidtests.proofs.Ordered.{IsOrdered, never-behind, earlier-before, contained-at, at-contained}
 
 module _ (limits : LimitsOf) where
@@ -53,9 +53,6 @@ module _ (limits : LimitsOf) where
       → (d : Direction) → Contains claim.directions d → IsCaseRight limits claim d
   claims-right n claim None e are d h = let at = contained-at claim.directions d h in are at.0 d at.1
   claims-right n claim (Some x) e are d h = absurd (none-some _ (sym e))
-
-  same-claim : (a b : Claim) → Row a ≡ Row b → a ≡ b
-  same-claim a b e = cc
 
   line-right : (n : ℕ) (f : Finding) → no_of limits n f ≡ None → IsLineRight f
   line-right n Silent e = record { well_formed = λ cause h. absurd (cc); right = λ claim d h k. absurd (cc) }

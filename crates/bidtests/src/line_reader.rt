@@ -72,7 +72,7 @@ fn list<T: Copy>(alloc: Global) -> Result<Vec<T>, Memory>
 }
 
 impl LineReader {
-    ghost use Rattle.bidtests.specs.LineReadings.{LineReading, levels_in, order_in, claim_in, finding_said, finding_read};
+    ghost use Rattle.bidtests.specs.LineReadings.{LineReading, claim_in, finding_said, finding_read};
     ghost use Rattle.bidtests.specs.LineReadings.{finding_behind, HasListed, HasNoList, IsBehindLine};
     ghost use Rattle.bidtests.specs.Readings.{claim_of};
 

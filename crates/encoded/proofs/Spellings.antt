@@ -1,11 +1,10 @@
 -- Characters in UTF-8, one by one.
-use Rattle.std.proofs.Common.{◌≡◌, ℕ, suc, ◌+◌, ◌*◌, ◌/◌, ◌%◌, ◌-◌, ◌<◌, ◌≤◌, List, [], ◌∷◌, ◌++◌, length, get_or, map, take, drop, drop-cons, append_assoc, append-nil, sym, ap, subst, ◌∙◌, arith}
-use Rattle.std.proofs.str.Laws.{one, two, three, four}
+use Rattle.std.proofs.Common.{◌≡◌, ℕ, suc, ◌+◌, ◌*◌, ◌/◌, ◌%◌, ◌-◌, ◌<◌, ◌≤◌, List, [], ◌∷◌, ◌++◌, length, get_or, map, take, drop, drop-cons, append-nil, sym, ap, subst, ◌∙◌, arith}
+use Rattle.std.proofs.str.Laws.{two, three, four}
 use Rattle.std.proofs.str.Faults.{no_char}
-use lib.Utf8.{low_scalar}
 use Rattle.std.specs.Char.{encode_utf8, IsScalar}
 use Rattle.std.specs.Str.{chars, IsUtf8, StartsWithNoChar}
-use Rattle.std.proofs.lemmas.List.{map-append, take_more}
+use Rattle.std.proofs.lemmas.List.{map-append}
 use Rattle.std.proofs.lemmas.Str.{chars-append, chars-nil, chars_past_char, encode_same, length-encode, len_utf8_bounds, IsUtf8-append, IsUtf8-encode}
 use Rattle.std.specs.Prelude.{Option, None, Some}
 use Rattle.std.specs.Option.{MatchOption, SomeIff}
@@ -35,58 +34,6 @@ of_four x y z w front back c least f g h at enough end is =
     let r : 128 + c / 64 % 64 ≡ z = omega (arith, f.least, f.most, g.least, g.most, h.least, h.most) in
     let s : 128 + c % 64 ≡ w = omega (arith, f.least, f.most, g.least, g.most, h.least, h.most) in
     four c (omega (arith, f.least, f.most, g.least, g.most, h.least, h.most)) ∙ (λ k. p k ∷ q k ∷ r k ∷ s k ∷ [])
-
--- a front, and the bytes behind it
-taken_two : (bs : List ℕ) (at : ℕ) → at + 1 < length bs → take (at + 2) bs ≡ take at bs ++ get_or bs at 0 ∷ get_or bs (at + 1) 0 ∷ []
-taken_two bs at lt =
-    ap (λ n. take n bs) (let e : at + 2 ≡ at + 1 + 1 = omega arith in e) ∙ take_more bs (at + 1) 0 lt
-    ∙ ap (λ (xs : List ℕ). xs ++ get_or bs (at + 1) 0 ∷ []) (take_more bs at 0 (omega arith)) ∙ append_assoc (take at bs) _ _
-
-taken_three : (bs : List ℕ) (at : ℕ) → at + 2 < length bs → take (at + 3) bs ≡ take at bs ++ get_or bs at 0 ∷ get_or bs (at + 1) 0 ∷ get_or bs (at + 2) 0 ∷ []
-taken_three bs at lt =
-    ap (λ n. take n bs) (let e : at + 3 ≡ at + 2 + 1 = omega arith in e) ∙ take_more bs (at + 2) 0 lt
-    ∙ ap (λ (xs : List ℕ). xs ++ get_or bs (at + 2) 0 ∷ []) (taken_two bs at (omega arith)) ∙ append_assoc (take at bs) _ _
-
-taken_four : (bs : List ℕ) (at : ℕ) → at + 3 < length bs
-    → take (at + 4) bs ≡ take at bs ++ get_or bs at 0 ∷ get_or bs (at + 1) 0 ∷ get_or bs (at + 2) 0 ∷ get_or bs (at + 3) 0 ∷ []
-taken_four bs at lt =
-    ap (λ n. take n bs) (let e : at + 4 ≡ at + 3 + 1 = omega arith in e) ∙ take_more bs (at + 3) 0 lt
-    ∙ ap (λ (xs : List ℕ). xs ++ get_or bs (at + 3) 0 ∷ []) (taken_three bs at (omega arith)) ∙ append_assoc (take at bs) _ _
-
--- the character that those bytes are
-pub spelled_one : (bs : List ℕ) (at c : ℕ) → at < length bs → c ≡ get_or bs at 0 → c < 128 → IsSpelled bs at (c, at + 1)
-spelled_one bs at c lt is small = record {
-  scalar = low_scalar c (omega (arith, small));
-  behind = ap (λ (e : List ℕ). at + length e) (sym (one c small));
-  inside = omega (arith, lt);
-  spelled = take_more bs at 0 lt ∙ ap (λ x. take at bs ++ x ∷ []) (sym is) ∙ ap (λ (e : List ℕ). take at bs ++ e) (sym (one c small));
-}
-
-pub spelled_two : (bs : List ℕ) (at c : ℕ) → at + 1 < length bs → IsOfBytes (get_or bs at 0 ∷ get_or bs (at + 1) 0 ∷ []) c → IsSpelled bs at (c, at + 2)
-spelled_two bs at c lt is = record {
-  scalar = is.scalar;
-  behind = ap (λ (e : List ℕ). at + length e) (sym is.bytes_of);
-  inside = omega (arith, lt);
-  spelled = taken_two bs at lt ∙ ap (λ (e : List ℕ). take at bs ++ e) (sym is.bytes_of);
-}
-
-pub spelled_three : (bs : List ℕ) (at c : ℕ) → at + 2 < length bs → IsOfBytes (get_or bs at 0 ∷ get_or bs (at + 1) 0 ∷ get_or bs (at + 2) 0 ∷ []) c
-    → IsSpelled bs at (c, at + 3)
-spelled_three bs at c lt is = record {
-  scalar = is.scalar;
-  behind = ap (λ (e : List ℕ). at + length e) (sym is.bytes_of);
-  inside = omega (arith, lt);
-  spelled = taken_three bs at lt ∙ ap (λ (e : List ℕ). take at bs ++ e) (sym is.bytes_of);
-}
-
-pub spelled_four : (bs : List ℕ) (at c : ℕ) → at + 3 < length bs
-    → IsOfBytes (get_or bs at 0 ∷ get_or bs (at + 1) 0 ∷ get_or bs (at + 2) 0 ∷ get_or bs (at + 3) 0 ∷ []) c → IsSpelled bs at (c, at + 4)
-spelled_four bs at c lt is = record {
-  scalar = is.scalar;
-  behind = ap (λ (e : List ℕ). at + length e) (sym is.bytes_of);
-  inside = omega (arith, lt);
-  spelled = taken_four bs at lt ∙ ap (λ (e : List ℕ). take at bs ++ e) (sym is.bytes_of);
-}
 
 -- the text up to there is one character more
 pub text_more : (bs : List ℕ) (at c behind : ℕ) → IsUtf8 (take at bs) → IsSpelled bs at (c, behind) → utf8_text (take behind bs) ≡ utf8_text (take at bs) ++ in_utf8 c ∷ []

@@ -4,8 +4,7 @@ use Rattle.std.specs.Prelude.{Option, None, Some, slice_index_or}
 use Rattle.std.specs.Option.{unwrap_or, IsSome, SomeIff}
 use Rattle.std.specs.Char.Escape.{encode_utf16}
 use Rattle.std.specs.Char.Utf16.{utf16_chars}
-use Rattle.std.proofs.lemmas.List.{get_or-map, get_or-drop, length-drop, length-map, drop-drop}
-use Rattle.std.proofs.lemmas.List.{take_all}
+use Rattle.std.proofs.lemmas.List.{get_or-map, get_or-drop, length-drop, length-map, drop-drop, take_all}
 use Rattle.std.proofs.str.Utf16.{utf16_chars-drop_all}
 use borrow.Author.Tests.{lt-ltb, le-ltb}
 use Rattle.encoded.specs.Encodings.{in_utf16, utf16_text}

@@ -1,10 +1,10 @@
 -- What a line does to a search.
-use Rattle.std.proofs.Common.{◌≡◌, ℕ, zero, suc, ◌+◌, ◌-◌, ◌<◌, ◌≤◌, Option, None, Some, List, [], ◌∷◌, ◌++◌, length, take, Result, Ok, Err, refl, sym, ap, ap₂, ◌∙◌, arith}
+use Rattle.std.proofs.Common.{◌≡◌, ℕ, zero, suc, ◌+◌, ◌-◌, ◌<◌, None, Some, List, [], ◌∷◌, ◌++◌, length, take, Ok, Err, refl, ap, ap₂, ◌∙◌, arith}
 use Rattle.std.specs.Prelude.{slice_index_or}
 use Rattle.std.specs.List.{slice_get}
 use Rattle.std.proofs.Math.Seq.{get_or-append_seam}
 use Rattle.std.proofs.lemmas.List.{take_all}
-use Rattle.std.proofs.lemmas.Option.{slice_get-get_or, slice_get_past}
+use Rattle.std.proofs.lemmas.Option.{slice_get_past}
 use Rattle.units.specs.Limits.{standard}
 use Rattle.units.specs.Lines.{line_number}
 use Rattle.bidtests.specs.declared.kind.Kind.{Kind}
@@ -18,7 +18,6 @@ use Rattle.bidtests.proofs.LineReads.{carried_by, comes-alike}
 use Rattle.report.specs.FileReports.{first_malformed}
 use Rattle.report.specs.Reporting.{cause_of}
 use Rattle.report.proofs.LineSteps.{malformed-behind, one-sound}
-use Rattle.explain_row.specs.declared.row_fault.RowFault.{RowFault}
 use Rattle.explain_row.specs.declared.row_fault.RowFault.TheVariants.{Malformed, NoRow}
 use Rattle.explain_row.specs.SoughtRows.{RowView, row_by, row_at, row_in_lines, unless_malformed}
 

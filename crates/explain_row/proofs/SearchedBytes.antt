@@ -1,28 +1,24 @@
 -- What bytes do to a search.
-use Rattle.std.proofs.Common.{◌≡◌, ℕ, ◌+◌, ◌<◌, ◌≤◌, Option, None, Some, List, [], ◌∷◌, ◌++◌, length, take, Result, Ok, Err, IsErrAnd, refl, sym, ap, is_some, true, false, subst, ◌∙◌, arith, append_assoc, append-nil, length-append, drop, inl, inr}
+use Rattle.std.proofs.Common.{◌≡◌, ℕ, ◌+◌, ◌<◌, ◌≤◌, Option, None, Some, List, [], ◌∷◌, ◌++◌, length, take, Result, Ok, Err, IsErrAnd, refl, sym, ap, is_some, true, false, subst, ◌∙◌, arith, append_assoc, append-nil, length-append, drop}
 use Rattle.std.specs.Borrow.{Bor}
-use Rattle.std.proofs.lemmas.List.{take_all, take-append-drop}
-use Rattle.units.specs.LineCutting.{Cutting, StandsFor}
+use Rattle.std.proofs.lemmas.List.{take-append-drop}
+use Rattle.units.specs.LineCutting.{StandsFor}
 use Rattle.units.specs.LineAnswers.{AnswersPiece, Finishes}
-use Rattle.units.specs.Lines.{EndsByFeed, CutsInto, IsTooLongAfter, line_number, ended_lines, most_counted}
+use Rattle.units.specs.Lines.{EndsByFeed, CutsInto, IsTooLongAfter, line_number, most_counted}
 use Rattle.units.specs.Text.{has_bytes, lines_of, settled_lines}
 use Rattle.units.specs.declared.line_cut.Cut.{Cut}
 use Rattle.units.specs.declared.line_cut.Cut.TheVariants.{More, Line, TooLong}
 use Rattle.units.proofs.FirstItem.{some_bytes}
-use Rattle.units.proofs.LineAppending.{ended_lines-CutsInto}
-use Rattle.units.proofs.LineReading.{never_both}
-use Rattle.units.proofs.LineRunning.{lines-before}
-use Rattle.ucdfiles.proofs.LinesWith.{lines_with-more, lines_with-long, lines_of-ended, lines_of-begun}
+use Rattle.ucdfiles.proofs.LinesWith.{lines_with-more, lines_with-long}
 use Rattle.ucdfiles.proofs.Settled.{settled-whole}
 use Rattle.bidtests.specs.declared.kind.Kind.{Kind}
 use Rattle.bidtests.specs.declared.kind.Kind.TheVariants.{Classes, Characters}
 use Rattle.bidtests.specs.declared.line_reader.Asked.{Asked}
-use Rattle.bidtests.specs.declared.verdict.Cause.{Cause}
 use Rattle.bidtests.specs.declared.verdict.Cause.TheVariants.{LineTooLong}
 use Rattle.bidtests.specs.Carried.{AreInForce}
 use Rattle.bidtests.specs.FileKinds.{findings_by}
 use Rattle.bidtests.specs.LineReadings.{finding_behind, levels_in, order_in, HasNoList}
-use Rattle.bidtests.proofs.CutterSteps.{nothing, same_count}
+use Rattle.bidtests.proofs.CutterSteps.{cut-line, cut-long, cut-more, last-lines, lines-ended, nothing}
 use Rattle.report.specs.FileReports.{first_malformed}
 use Rattle.report.proofs.LineSteps.{is-faulty, lists-after, over-long}
 use Rattle.explain_row.specs.declared.row_fault.RowFault.{RowFault}
@@ -96,9 +92,6 @@ settled-more kind sought b piece used found h more =
 
 module _ (kind : Kind) (sought : ℕ) (most : sought ≤ most_counted) (old new : Searching) (b piece : List ℕ) (used : ℕ) (o : SearchesOn kind sought old b)
     (within : used ≤ length piece) (through : EndsByFeed used piece) (stands : StandsFor new.cutting (b ++ take used piece)) where
-  abbrev ended-old : ended_lines b ≡ o.lines
-  ended-old = ended_lines-CutsInto b o.lines o.rest o.cut
-
   abbrev Comes : Result (Option Asked) RowFault → Type 0
   Comes result = SearchComesTo kind sought new (b ++ take used piece) result
 
@@ -106,34 +99,25 @@ module _ (kind : Kind) (sought : ℕ) (most : sought ≤ most_counted) (old new 
   pub comes-by : (step : Cut) → AnswersPiece b piece used step → (result : Result (Option Asked) RowFault)
       → SaysOfCut kind sought step old.rows new.rows result → SearchComesTo kind sought new (b ++ take used piece) result
   comes-by More a result says =
-      let all : take used piece ≡ piece = take_all used piece (omega (arith, a.1)) in
-      let C : List ℕ → Type 0 = λ xs. CutsInto (b ++ xs) a.3.0 a.3.1 in
-      let cut = subst C (sym all) a.3.2 in
-      let same : a.3.0 ≡ o.lines = sym (ended_lines-CutsInto _ a.3.0 a.3.1 cut) ∙ a.2 ∙ ended-old in
-      let D : List (List ℕ) → Type 0 = λ ls. CutsInto (b ++ take used piece) ls a.3.1 in
+      let l = cut-more b o.lines o.rest o.cut piece used a in
       let P : RowReading → Type 0 = λ rows. AreInForce kind (levels_in rows.reading) (order_in rows.reading) o.lines in
       subst Comes (sym says.0) (record {
         cutter = stands;
         lines = o.lines;
-        rest = a.3.1;
-        cut = subst D same cut;
+        rest = l.0;
+        cut = l.1;
         before = o.before;
         sound = o.sound;
         lists = subst P (sym says.1) o.lists;
       })
   comes-by (Line number text) a result says =
-      let same : a.2.0 ++ text.now ∷ [] ≡ o.lines ++ text.now ∷ [] =
-      sym (ended_lines-CutsInto _ (a.2.0 ++ text.now ∷ []) [] a.2.1) ∙ a.1 ∙ ap (λ ls. ls ++ text.now ∷ []) ended-old in
-      let D : List (List ℕ) → Type 0 = λ ls. CutsInto (b ++ take used piece) ls [] in
-      let is : number ≡ line_number (length o.lines) = a.2.2 ∙ ap (λ n. line_number n) (same_count a.2.0 o.lines text.now same) in
+      let l = cut-line b o.lines o.rest o.cut piece used number text a in
       let Says : ℕ → Type 0 = λ n. SaysOfRow kind sought n text.now old.rows new.rows result in
-      line-ended kind sought most old new b o (b ++ take used piece) text.now stands (subst D same a.2.1) result (subst Says is says)
+      line-ended kind sought most old new b o (b ++ take used piece) text.now stands l.0 result (subst Says l.1 says)
   comes-by (TooLong number) a result says =
-      let same : a.0 ≡ o.lines = lines-before b piece used o.lines a.0 o.rest within through o.cut a.1 in
-      let D : List (List ℕ) → Type 0 = λ ls. IsTooLongAfter (b ++ take used piece) ls in
-      let is : number ≡ line_number (length o.lines) = a.2 ∙ ap (λ (ls : List (List ℕ)). line_number (length ls)) same in
+      let l = cut-long b o.lines o.rest o.cut piece used number within through a in
       subst Comes (sym says)
-      (λ more. long-there kind sought most old new b o (b ++ take used piece) (subst D same a.1) more ∙ ap (λ n. Err (Malformed n LineTooLong)) (sym is))
+      (λ more. long-there kind sought most old new b o (b ++ take used piece) l.0 more ∙ ap (λ n. Err (Malformed n LineTooLong)) (sym l.1))
 
   -- where it ends the search
   pub refused-by : (step : Cut) → AnswersPiece b piece used step → (fault : RowFault)
@@ -179,25 +163,13 @@ all-taken kind sought before after piece rest h none b o =
 -- the end of a file
 module _ (kind : Kind) (sought : ℕ) (most : sought ≤ most_counted) (old new : Searching) (b : List ℕ) (o : SearchesOn kind sought old b) where
   pub ends-none : Finishes b None → sought_row kind sought b ≡ Err NoRow
-  ends-none f = elim f [
-    | inl cut ↦ (
-        let same : cut.0 ≡ o.lines = sym (ended_lines-CutsInto b cut.0 [] cut.1) ∙ ended_lines-CutsInto b o.lines o.rest o.cut in
-        ap (row_in_lines kind sought) (lines_of-ended b cut.0 cut.1 ∙ same) ∙ beyond kind o.lines sought o.sound o.before)
-    | inr over ↦ absurd (never_both b over.0 o.lines o.rest over.1 o.cut)
-  ]
-
-  last-lines : (number : ℕ) (last : Bor (List ℕ)) → Finishes b (Some (number, last)) → (lines_of b ≡ o.lines ++ last.now ∷ []) × (number ≡ line_number (length o.lines))
-  last-lines number last f =
-      let same : f.1.0 ≡ o.lines = sym (ended_lines-CutsInto b f.1.0 last.now f.1.1) ∙ ended_lines-CutsInto b o.lines o.rest o.cut in (
-        lines_of-begun b f.1.0 last.now f.1.1 f.0 ∙ ap (λ ls. ls ++ last.now ∷ []) same,
-        f.1.2 ∙ ap (λ (ls : List (List ℕ)). line_number (length ls)) same,
-      )
+  ends-none f = ap (row_in_lines kind sought) (lines-ended b o.lines o.rest o.cut f) ∙ beyond kind o.lines sought o.sound o.before
 
   -- the line that has begun is the last
   pub ends-last : (number : ℕ) (last : Bor (List ℕ)) → Finishes b (Some (number, last)) → (result : Result (Option Asked) RowFault)
       → SaysOfRow kind sought number last.now old.rows new.rows result → (ended : Result Asked RowFault) → EndsLast result ended → EndsWith kind sought new b ended
   ends-last number last f (Ok None) says ended e =
-      let l = last-lines number last f in
+      let l = last-lines b o.lines o.rest o.cut number last f in
       let Says : ℕ → Type 0 = λ n. SaysOfRow kind sought n last.now old.rows new.rows (Ok None) in
       let here = subst Says l.1 says in
       let all = ap (row_in_lines kind sought) l.0
@@ -205,12 +177,12 @@ module _ (kind : Kind) (sought : ℕ) (most : sought ≤ most_counted) (old new 
       (omega (arith, is-before (length o.lines) sought most here.0, length-append o.lines (last.now ∷ []))) in
       subst (EndsWith kind sought new b) (sym e) all
   ends-last number last f (Ok (Some asked)) says ended e =
-      let l = last-lines number last f in
+      let l = last-lines b o.lines o.rest o.cut number last f in
       let Says : ℕ → Type 0 = λ n. SaysOfRow kind sought n last.now old.rows new.rows (Ok (Some asked)) in
       subst (EndsWith kind sought new b) (sym e)
       (ap (row_in_lines kind sought) l.0 ∙ told kind sought most old new b o last.now asked (subst Says l.1 says) [])
   ends-last number last f (Err fault) says ended e =
-      let l = last-lines number last f in
+      let l = last-lines b o.lines o.rest o.cut number last f in
       let Says : ℕ → Type 0 = λ n. SaysOfRow kind sought n last.now old.rows new.rows (Err fault) in
       subst (EndsWith kind sought new b) (sym e)
       (ap (row_in_lines kind sought) l.0 ∙ refused kind sought most old new b o last.now fault (subst Says l.1 says) [])
@@ -233,10 +205,6 @@ on-unsettled kind sought s bytes o =
     }
 
 module _ (HasFailed HasEnded : Type 0) (kind : Kind) (sought : ℕ) (bytes : List ℕ) (s : RowReading) where
-  -- what bytes settle is so of each file that begins with them
-  pub finds-settled : (found : Result RowView RowFault) → IsSettled kind sought bytes found → IsSought HasEnded kind sought bytes found
-  finds-settled found h more none = h more
-
   -- what a file comes to that has ended is so of no longer one
   pub finds-ended : HasEnded → (found : Result RowView RowFault) → sought_row kind sought bytes ≡ found → IsSought HasEnded kind sought bytes found
   finds-ended ended found e more none =

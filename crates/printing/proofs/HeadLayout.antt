@@ -8,13 +8,13 @@ use Rattle.units.specs.Isolates.{para_level_of}
 use Rattle.units.specs.Layout.{TextLayout, layout_of, lines_cut_at, para_levels_of, resolved_levels, text_levels}
 use Rattle.units.specs.Limits.{LimitsOf}
 use Rattle.units.specs.Positions.{positions_from}
-use Rattle.units.specs.Paragraphs.{EndsWithSeparator, SeparatorOnlyLast, joined, paragraphs_of}
+use Rattle.units.specs.Paragraphs.{EndsWithSeparator, SeparatorOnlyLast, paragraphs_of}
 use Rattle.units.specs.Reordering.{after_resets, begins_line, cuts_of}
 use Rattle.units.specs.declared.bracket.Unit.{Unit as BidiUnit}
 use Rattle.units.specs.declared.class.Class.{Class}
 use Rattle.units.specs.declared.level.Direction.{Direction}
-use Rattle.units.proofs.Lengths.{length-resolved_levels}
 use Rattle.explicit.proofs.LevelsFound.OneCutting.{joined-paragraphs_of, IsCut-paragraphs_of, one_cutting}
+use Rattle.lines.proofs.LineHeld.{length-text_levels}
 use Rattle.lines.proofs.TextEnd.{length-after_resets}
 use Rattle.printing.proofs.HeadBreaks.{AreBelow, EndsAsParagraph, behind, begins_left, begins_right}
 use Rattle.printing.proofs.HeadLines.{lines_joined, moved_line}
@@ -62,16 +62,6 @@ paragraphs_joined us vs some only ends =
 pub paragraph_alone : (us : List BidiUnit) → 0 < length us → SeparatorOnlyLast us → paragraphs_of us ≡ us ∷ []
 paragraph_alone us some only =
     ap paragraphs_of (sym (append-nil us)) ∙ paragraphs_joined us [] some only (λ more. absurd (omega arith))
-
-length-levels_of : (f : List BidiUnit → List (Option ℕ)) → ((us : List BidiUnit) → length (f us) ≡ length us) → (pieces : List (List BidiUnit)) → length (flat_map f pieces) ≡ length (joined pieces)
-length-levels_of f kept [] = refl
-length-levels_of f kept (us ∷ pieces) =
-    omega (arith, length-append (f us) (flat_map f pieces), length-append us (joined pieces), kept us, length-levels_of f kept pieces)
-
-length-text_levels : (limits : LimitsOf) (text : List BidiUnit) (direction : Direction) → length (text_levels limits text direction) ≡ length text
-length-text_levels limits text direction =
-    length-levels_of (λ us. resolved_levels limits us (para_level_of (classes_of us) direction)) (λ us. length-resolved_levels limits us (para_level_of (classes_of us) direction)) (paragraphs_of text)
-    ∙ ap length (joined-paragraphs_of text)
 
 abbrev filter_by : (ℕ → Bool) → ℕ → List ℕ
 filter_by test count = filter test (positions_from 1 count)

@@ -3,10 +3,9 @@ use Rattle.std.proofs.Common.{◌≡◌, ℕ, zero, suc, ◌+◌, ◌-◌, min, 
 use Rattle.std.specs.Char.{IsScalar, encode_utf8}
 use Rattle.std.specs.Str.{IsUtf8, StartsWithNoChar, is_utf8, encode_utf8_all, all_scalars}
 use Rattle.std.specs.Str.Lossy.{utf8_valid_len, valid_len_up_to}
-use Rattle.std.proofs.Math.Seq.{take-append_seam, take-append-add, drop-append_seam}
+use Rattle.std.proofs.Math.Seq.{take-append_seam, take-append-add, drop-append_seam, paste}
 use Rattle.std.proofs.lemmas.List.{drop-take, length-take, nil_from_length, take-append-drop, take-append-le, take-take}
 use Rattle.std.proofs.lemmas.List.Edits.{take-paste}
-use Rattle.std.proofs.Math.Seq.{paste}
 use Rattle.std.specs.List.{copy_within}
 use Rattle.std.proofs.lemmas.Str.{IsCharBoundary-from_take, IsUtf8-append, IsUtf8-drop, IsUtf8-encode, IsUtf8-from_is_utf8, IsUtf8-nil, is_utf8-from_IsUtf8, len_utf8_bounds, length-encode, utf8_valid_len_le, utf8_valid_len-IsUtf8}
 use Rattle.std.proofs.lemmas.Bool.{and_parts, cases_lt, true≢false}

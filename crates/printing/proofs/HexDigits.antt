@@ -76,7 +76,7 @@ front_of_two front large small = rw (ne_eqb front 0 (λ e. omega (arith, large, 
 no_front : (n : ℕ) → n < 65536 → front_digits (n / 65536) ≡ []
 no_front n small = rw (eq-eqb (n / 65536) 0 (omega arith)) refl
 
-small_code : (n : ℕ) → n < 65536 → code_text n ≡ last_digits n
+pub small_code : (n : ℕ) → n < 65536 → code_text n ≡ last_digits n
 unfolding code_text
 small_code n small =
     let a : n < 4096 → n / 4096 % 16 ≡ 0 = λ h. omega arith in

@@ -9,7 +9,7 @@ pub mod form;
 mod layout_text;
 mod paragraphs;
 mod passed;
-mod pieces;
+pub mod pieces;
 mod position_line;
 pub mod print;
 pub mod reading;

@@ -1,4 +1,4 @@
-// Pieces of a printed line, each put before the others, from the end of a buffer.
+//! Pieces of a printed line, each put before the others, from the end of a buffer.
 ghost use Rattle.std.specs.Prelude.{◌≡◌, ◌<◌, ◌≤◌, ◌+◌, ◌/◌, ◌%◌, true, ◌∷◌, ◌++◌, length, drop};
 ghost use Rattle.std.specs.Fmt.{digit_glyph};
 ghost use Rattle.units.specs.ClassNames.{short_name};
@@ -13,7 +13,7 @@ use units::level::Level;
 pub(crate) const LONGEST_LINE: usize = 40;
 
 /// The last upper-case hex digit of a number.
-fn last_digit(number: u32) -> u8
+pub fn last_digit(number: u32) -> u8
     ensures { result ≡ digit_glyph true (number % 16) }
 {
     let digit = (number % 16) as u8;

@@ -1,10 +1,10 @@
 -- Items that are gathered before they are written.
-use Rattle.std.proofs.Common.{◌≡◌, ℕ, zero, suc, ◌+◌, ◌-◌, ◌<◌, Option, List, [], ◌∷◌, ◌++◌, length, take, drop, get_or, refl, sym, ap, ◌∙◌, append_assoc, arith, take-append-drop}
+use Rattle.std.proofs.Common.{◌≡◌, ℕ, zero, suc, ◌+◌, ◌-◌, ◌<◌, Option, List, [], ◌∷◌, ◌++◌, length, take, drop, refl, sym, ap, ◌∙◌, append_assoc, arith, take-append-drop}
 use Rattle.std.specs.Prelude.{codes}
 use Rattle.std.specs.List.{flat_map}
 use Rattle.std.specs.Io.KnownBytes.{Appends}
 use Rattle.std.proofs.lemmas.Grind.{flat_map-append}
-use Rattle.std.proofs.lemmas.List.{flat_map_more, take_all, take_more}
+use Rattle.std.proofs.lemmas.List.{take_all}
 use Rattle.printing.proofs.Appending.{Appends-joined, Appends-to}
 use Rattle.printing.proofs.Passing.{HasPrintedUpTo}
 use Rattle.rows.specs.RowTexts.{behind_blanks, between_blanks}
@@ -22,15 +22,6 @@ module _ {A : Type 0} (text : A → List ℕ) where
     joined = append_assoc h.passed xs others ∙ ap (λ v. h.passed ++ v) (sym is) ∙ h.joined;
     grown = Appends-to a c _ _ (sym (flat_map-append text h.passed xs)) (Appends-joined a b c _ _ h.grown grown);
   }
-
-  -- one item more behind those that were added
-  pub one_more_behind : (old mid new : List ℕ) (items : List A) (n : ℕ) (d : A) → n < length items
-      → mid ≡ old ++ behind_blanks text (take n items) → new ≡ mid ++ (codes " " ++ text (get_or items n d))
-      → new ≡ old ++ behind_blanks text (take (n + 1) items)
-  one_more_behind old mid new items n d within before added =
-      added ∙ ap (λ bs. bs ++ (codes " " ++ text (get_or items n d))) before
-      ∙ flat_map_more (λ x. codes " " ++ text x) old (take n items) (get_or items n d)
-      ∙ ap (λ xs. old ++ behind_blanks text xs) (sym (take_more items n d within))
 
   -- without the first blank
   pub behind-first : (items : List A) (n : ℕ) → 0 < n → 0 < length items → behind_blanks text (take n items) ≡ 32 ∷ between_blanks text (take n items)

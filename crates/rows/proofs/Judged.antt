@@ -10,6 +10,7 @@ use Rattle.units.specs.Layout.{TextLayout, all_orders}
 use Rattle.units.specs.Limits.{LimitsOf}
 use Rattle.units.specs.Lines.{HasNoFeed, saturated}
 use Rattle.units.specs.Positions.{same_position}
+use Rattle.units.proofs.Positions.{same_position_refl}
 use Rattle.units.specs.Text.{lines_of}
 use Rattle.units.specs.declared.bracket.Unit.{Unit as BidiUnit}
 use Rattle.ucdfiles.specs.Tables.{TablesOf, unit_by}
@@ -70,13 +71,9 @@ no-difference : {A : Type 0} (same : A → A → Bool) → ((x : A) → same x x
 no-difference same alike [] at = refl
 no-difference same alike (x ∷ xs) at = rw (alike x) (no-difference same alike xs (at + 1))
 
-alike-level : (level : Option ℕ) → same_position level level ≡ true
-alike-level None = refl
-alike-level (Some n) = eq-eqb n n refl
-
 no-wrong : (para : Option ℕ) (layout : TextLayout) → agrees para (first_of layout.paras) ≡ true → wrong_place para layout.levels (all_orders layout) layout ≡ None
 no-wrong para layout agree =
-    rw (agree, no-difference same_position alike-level layout.levels 0, no-difference nat_eq (λ n. eq-eqb n n refl) (all_orders layout) 0) refl
+    rw (agree, no-difference same_position same_position_refl layout.levels 0, no-difference nat_eq (λ n. eq-eqb n n refl) (all_orders layout) 0) refl
 
 no-wrong-case : (limits : LimitsOf) (c : Case) → wrong_case limits (claim_of_case limits c) (c.direction ∷ []) ≡ None
 no-wrong-case limits c = rw (no-wrong None (layout_of_case limits c) refl) refl

@@ -1,5 +1,5 @@
 -- No level of a layout is above 126.
-use Rattle.std.proofs.Common.{◌≡◌, ℕ, ◌≤◌, ◌%◌, ◌==◌, inl, inr, take, Bool, true, false, cond, Option, Some, None, List, [], ◌∷◌, length, map, filter, unwrap_or, slice_index_or, sym, arith, subst}
+use Rattle.std.proofs.Common.{◌≡◌, ℕ, ◌≤◌, ◌==◌, inl, inr, take, Bool, true, false, cond, Option, Some, None, List, [], ◌∷◌, length, map, filter, unwrap_or, slice_index_or, sym, arith, subst}
 use Rattle.std.specs.Prelude.{IfSome, find, nat_eq, count_by}
 use Rattle.std.proofs.lemmas.Bool.{cases_lt}
 use Rattle.std.proofs.lemmas.Bool.Decides.{nat_tests}
@@ -45,9 +45,6 @@ rise-odd L = omega arith
 rise-odd AN = omega arith
 rise-odd EN = omega arith
 rise-odd _ = omega arith
-
-odd-room : (level : ℕ) → level ≤ 125 → level % 2 ≡ 0 → level ≤ 124
-odd-room level within even = omega arith
 
 raised : (level : ℕ) (c : Class) → level ≤ 125 → implicit_level level c ≤ 126
 raised level c within = let e = rise-even c in let o = rise-odd c in grind (arith, nat_tests)

@@ -2,7 +2,6 @@ pub mod Items
 pub mod Contents
 pub mod ReadNumbers
 pub mod HexNumbers
-pub mod HexTexts
 pub mod Gathered
 pub mod FileOfLines
 pub mod LevelBounds

@@ -1,12 +1,11 @@
 -- Positions that are written line by line, a blank between each two.
 use Rattle.std.proofs.Common.{◌≡◌, ℕ, Bool, true, false, Option, List, [], ◌∷◌, ◌++◌, refl, sym, ap, ◌∙◌, append-nil, append_assoc}
-use Rattle.std.specs.Prelude.{◌||◌}
+use Rattle.std.specs.Prelude.{◌||◌, codes}
 use Rattle.std.specs.Io.KnownBytes.{Appends}
 use Rattle.std.proofs.lemmas.Grind.{flat_map-append}
 use Rattle.printing.proofs.Appending.{Appends-joined, Appends-nothing, Appends-to}
 use Rattle.rows.specs.Placing.{behind_or_between, has_some}
 use Rattle.rows.specs.RowTexts.{behind_blanks, between_blanks}
-use Rattle.std.specs.Prelude.{codes}
 
 module _ {A : Type 0} (text : A → List ℕ) where
   behind-joined : (xs ys : List A) → behind_blanks text (xs ++ ys) ≡ behind_blanks text xs ++ behind_blanks text ys

@@ -1,6 +1,5 @@
 pub mod Letters
 pub mod RowTexts
-pub mod HexDigits
 pub mod Placing
 pub mod Rooms
 pub mod Exhaustive

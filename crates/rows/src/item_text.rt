@@ -1,17 +1,18 @@
 //! Items of rows, gathered as text before they are written.
-ghost use Rattle.std.specs.Prelude.{◌≡◌, ◌+◌, ◌<◌, ◌≤◌, ◌∷◌, ◌++◌, [], ℕ, List, length, take, OnOk};
+ghost use Rattle.std.specs.Prelude.{◌≡◌, ◌+◌, ◌<◌, ◌≤◌, ◌++◌, ℕ, List, length, take, OnOk};
 ghost use Rattle.std.specs.Fmt.{decimal};
 ghost use Rattle.std.specs.Io.KnownBytes.{Appends};
 ghost use Rattle.arrayvec.specs.ArrayVec.{array_vec_len};
 ghost use Rattle.units.specs.ClassNames.{short_name};
+ghost use Rattle.printing.specs.HexDigits.{last_digits};
 ghost use Rattle.printing.specs.LevelsText.{code_text, level_text};
 ghost use Rattle.rows.specs.Letters.{letter_name};
 ghost use Rattle.rows.specs.RowTexts.{behind_blanks, between_blanks};
-ghost use Rattle.rows.specs.HexDigits.{hex_digit, four_digits};
 
 use crate::letter::Letter;
 use arrayvec::ArrayVec;
 use itoa::Buffer;
+use printing::pieces::last_digit;
 use std::io;
 use std::io::Write;
 use units::class::Class;
@@ -64,30 +65,16 @@ fn add_decimal(to: &mut Gathered, number: usize)
     }
 }
 
-/// Adds the last hex digit of a number.
-fn add_digit(to: &mut Gathered, number: u32)
-    requires room { array_vec_len to.old + 1 ≤ 256 }
-    ensures text { to.new.items ≡ to.old.items ++ hex_digit number ∷ [] }
-    ensures len { array_vec_len to.new ≡ array_vec_len to.old + 1 }
-{
-    let digit = (number % 16) as u8;
-    if digit < 10 {
-        to.push(b'0' + digit);
-    } else {
-        to.push(b'A' + (digit - 10));
-    }
-}
-
 /// Adds the last four hex digits of a number.
 fn add_four_digits(to: &mut Gathered, number: u32)
     requires room { array_vec_len to.old + 4 ≤ 256 }
-    ensures text { to.new.items ≡ to.old.items ++ four_digits number }
+    ensures text { to.new.items ≡ to.old.items ++ last_digits number }
     ensures len { array_vec_len to.new ≡ array_vec_len to.old + 4 }
 {
-    add_digit(to, number / 0x1000);
-    add_digit(to, number / 0x100);
-    add_digit(to, number / 0x10);
-    add_digit(to, number);
+    to.push(last_digit(number / 0x1000));
+    to.push(last_digit(number / 0x100));
+    to.push(last_digit(number / 0x10));
+    to.push(last_digit(number));
 }
 
 /// Adds a code point in upper-case hex digits, at least four.
@@ -100,11 +87,11 @@ fn add_code(to: &mut Gathered, code: char)
     if number < 0x1_0000 {
         add_four_digits(to, number);
     } else if number < 0x10_0000 {
-        add_digit(to, number / 0x1_0000);
+        to.push(last_digit(number / 0x1_0000));
         add_four_digits(to, number);
     } else {
-        add_digit(to, number / 0x10_0000);
-        add_digit(to, number / 0x1_0000);
+        to.push(last_digit(number / 0x10_0000));
+        to.push(last_digit(number / 0x1_0000));
         add_four_digits(to, number);
     }
 }

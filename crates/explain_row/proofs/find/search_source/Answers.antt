@@ -1,5 +1,5 @@
 use Rattle.std.proofs.Common.{rules, ◌≡◌, ◌++◌, ℕ, List, Ok, Err, ap, append-nil, subst, take, ◌∙◌}
-use Rattle.explain_row.proofs.SearchedBytes.{finds-ended, finds-fault, finds-settled, on-unsettled}
+use Rattle.explain_row.proofs.SearchedBytes.{finds-ended, finds-fault, on-unsettled}
 use Rattle.explain_row.specs.Searching.{row_in}
 use Rattle.explain_row.proofs.find.search_source.Goals as goal
 

@@ -1,4 +1,4 @@
-use Rattle.std.proofs.Common.{◌≡◌, ℕ, List, Option, OnOk, codes, subst}
+use Rattle.std.proofs.Common.{ℕ, List, Option, OnOk, codes, subst}
 use Rattle.std.specs.Io.KnownBytes.{Appends}
 use Rattle.printing.specs.LevelsText.{level_text}
 use Rattle.printing.proofs.Appending.{Appends-then}

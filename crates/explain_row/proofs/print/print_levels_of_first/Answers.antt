@@ -1,4 +1,4 @@
-use Rattle.std.proofs.Common.{◌≡◌, ◌∙◌, ℕ, Option, Some, OnOk, ap, codes, subst}
+use Rattle.std.proofs.Common.{◌∙◌, ℕ, Option, Some, OnOk, ap, codes, subst}
 use Rattle.std.specs.Io.KnownBytes.{Appends}
 use Rattle.units.specs.Isolates.{level_of_para}
 use Rattle.bidtests.specs.Verdicts.{first_of}

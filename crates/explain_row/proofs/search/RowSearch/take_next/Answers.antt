@@ -1,4 +1,4 @@
-use Rattle.std.proofs.Common.{◌≤◌, ◌≡◌, arith, sym, subst}
+use Rattle.std.proofs.Common.{◌≤◌, arith, sym, subst}
 use Rattle.units.specs.Lines.{most_counted}
 use Rattle.explain_row.specs.Searching.{Searching, SearchesOn}
 use Rattle.explain_row.proofs.SearchedBytes.{comes-by, refused-by, steps-fault}
