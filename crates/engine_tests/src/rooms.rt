@@ -6,7 +6,6 @@ use resolve::pairs::Pairs;
 use sequences::sequences::Sequences;
 use std::alloc::Global;
 use std::process::Abort;
-use std::test::Fail;
 use units::memory::Memory;
 
 /// What making each kind of room for so many positions answers, where it is refused.

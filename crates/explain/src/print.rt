@@ -8,7 +8,6 @@ ghost use Rattle.explain.specs.Explained.{explained, explained_classes, explaine
 use crate::paragraph_text::print_paragraph;
 use explicit::paragraphs;
 use printing::fault::PrintFault;
-use printing::text_units::units_of;
 use rule_columns::columns::columns_of;
 use std::alloc::Global;
 use std::io::{self, Write};
@@ -112,7 +111,7 @@ pub fn print_explained<W: Write>(
     ensures { OnOk result (Appends (W.contents w.old) (W.contents w.new)
         (explained tables.now text.now direction)) }
 {
-    let units = units_of(alloc, tables, text)?;
+    let units = tables.units_of(alloc, text).or(Err(PrintFault::Memory))?;
     print_units(alloc, w, text, &units, direction)
 }
 

@@ -14,5 +14,4 @@ mod position_line;
 pub mod print;
 pub mod reading;
 mod reorder_text;
-pub mod text_units;
 mod waiting;

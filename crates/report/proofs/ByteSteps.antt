@@ -1,28 +1,24 @@
 -- What bytes do to a report.
-use Rattle.std.proofs.Common.{◌≡◌, ℕ, ◌≤◌, Option, None, Some, List, [], ◌∷◌, ◌++◌, length, take, refl, sym, ap, subst, ◌∙◌, arith, append_assoc, append-nil, inl, inr, is_some, true}
+use Rattle.std.proofs.Common.{◌≡◌, ℕ, ◌≤◌, Option, None, Some, List, [], ◌∷◌, ◌++◌, length, take, refl, sym, ap, subst, ◌∙◌, arith, append_assoc, append-nil, is_some, true}
 use Rattle.std.specs.Borrow.{Bor}
 use Rattle.std.specs.Prelude.{Result, Ok, Err, OnErr}
 use Rattle.std.specs.Result.{result_err}
 use Rattle.std.proofs.lemmas.Bool.{false≢true}
-use Rattle.std.proofs.lemmas.List.{take_all}
 use Rattle.units.specs.LineCutting.{Cutting, StandsFor}
 use Rattle.units.specs.LineAnswers.{AnswersPiece, Finishes}
 use Rattle.report.specs.declared.terms.Terms.{Terms}
-use Rattle.units.specs.Lines.{EndsByFeed, CutsInto, IsTooLongAfter, line_number, ended_lines}
+use Rattle.units.specs.Lines.{EndsByFeed, CutsInto, IsTooLongAfter, line_number}
 use Rattle.units.specs.Text.{has_bytes, lines_of}
 use Rattle.units.specs.declared.line_cut.Cut.{Cut}
 use Rattle.units.specs.declared.line_cut.Cut.TheVariants.{More, Line, TooLong}
 use Rattle.units.proofs.FirstItem.{some_bytes}
-use Rattle.units.proofs.LineAppending.{ended_lines-CutsInto}
-use Rattle.units.proofs.LineReading.{never_both}
-use Rattle.units.proofs.LineRunning.{lines-before}
-use Rattle.ucdfiles.proofs.LinesWith.{lines_with-more, lines_with-long, lines_of-ended, lines_of-begun}
+use Rattle.ucdfiles.proofs.LinesWith.{lines_with-more, lines_with-long}
 use Rattle.bidtests.specs.declared.kind.Kind.{Kind}
 use Rattle.bidtests.specs.declared.verdict.Cause.{Cause}
 use Rattle.bidtests.specs.declared.verdict.Cause.TheVariants.{LineTooLong}
 use Rattle.bidtests.specs.FileKinds.{findings_by}
 use Rattle.bidtests.specs.LineReadings.{finding_behind}
-use Rattle.bidtests.proofs.CutterSteps.{same_count}
+use Rattle.bidtests.proofs.CutterSteps.{cut-line, cut-long, cut-more, last-lines, lines-ended}
 use Rattle.report.specs.declared.wrong_case.WrongCase.{WrongCase}
 use Rattle.report.specs.FileReports.{FileReport, report_on, report_of}
 use Rattle.report.specs.Reporting.{LineReporting, Reporting, Reports, IsAfterLine, HasNothingNew, IsReportBehind, GoesOn, ReportsBy, forgotten, IsAfterCut, IsAfterLast, cause_of, malformed_at, malformed_by, malformed_last}
@@ -86,39 +82,26 @@ none-more told s t same none = ap (λ (u : LineReporting). told ++ u.found) same
 
 module _ (terms : Terms) (kind : Kind) (old new : Cutting) (s t : LineReporting) (told : List WrongCase) (b piece : List ℕ) (used : ℕ)
     (o : GoesOn terms kind old s told b) (none : s.found ≡ []) (within : used ≤ length piece) (through : EndsByFeed used piece) (stands : StandsFor new (b ++ take used piece)) where
-  abbrev ended-old : ended_lines b ≡ o.lines
-  ended-old = ended_lines-CutsInto b o.lines o.rest o.cut
-
   pub reports-on : (taken : Cut) → AnswersPiece b piece used taken → (malformed_by kind s taken ≡ None → IsAfterCut kind taken s t)
       → ((m : ℕ × Cause) → malformed_by kind s taken ≡ Some m → HasNothingNew s t)
       → ReportsBy terms kind (malformed_by kind s taken) new t (told ++ t.found) (b ++ take used piece)
   reports-on More a after ended =
-      let all : take used piece ≡ piece = take_all used piece (omega (arith, a.1)) in
-      let C : List ℕ → Type 0 = λ xs. CutsInto (b ++ xs) a.3.0 a.3.1 in
-      let cut = subst C (sym all) a.3.2 in
-      let same : a.3.0 ≡ o.lines = sym (ended_lines-CutsInto _ a.3.0 a.3.1 cut) ∙ a.2 ∙ ended-old in
-      let D : List (List ℕ) → Type 0 = λ ls. CutsInto (b ++ take used piece) ls a.3.1 in
+      let l = cut-more b o.lines o.rest o.cut piece used a in
       let P : LineReporting → Type 0 = λ u. IsReportBehind terms kind u (told ++ t.found) o.lines in
       let Q : List WrongCase → Type 0 = λ ws. IsReportBehind terms kind s ws o.lines in
-      record { cutter = stands; lines = o.lines; rest = a.3.1; cut = subst D same cut; behind = subst P (sym (after refl)) (subst Q (sym (none-more told s t (after refl) none)) o.behind) }
+      record { cutter = stands; lines = o.lines; rest = l.0; cut = l.1; behind = subst P (sym (after refl)) (subst Q (sym (none-more told s t (after refl) none)) o.behind) }
   reports-on (Line number text) a after ended =
-      let same : a.2.0 ++ text.now ∷ [] ≡ o.lines ++ text.now ∷ [] =
-      sym (ended_lines-CutsInto _ (a.2.0 ++ text.now ∷ []) [] a.2.1) ∙ a.1 ∙ ap (λ ls. ls ++ text.now ∷ []) ended-old in
-      let D : List (List ℕ) → Type 0 = λ ls. CutsInto (b ++ take used piece) ls [] in
-      let count : length a.2.0 ≡ length o.lines = same_count a.2.0 o.lines text.now same in
-      let is : number ≡ line_number (length o.lines) = a.2.2 ∙ ap (λ n. line_number n) count in
+      let l = cut-line b o.lines o.rest o.cut piece used number text a in
       let cause = cause_of (finding_behind kind s.reading text.now) in
       let At : ℕ → Type 0 = λ n. IsAfterLine kind n text.now s t in
       let By : ℕ → Type 0 = λ n. ReportsBy terms kind (malformed_at n cause) new t (told ++ t.found) (b ++ take used piece) in
-      subst By (sym is)
-      (line-step terms kind s told o.lines o.behind cause new t (b ++ take used piece) text.now stands (subst D same a.2.1) refl
-      (λ e. subst At is (after (ap (malformed_at number) e))) (λ c e. ended (number, c) (malformed-some number cause c e)))
+      subst By (sym l.1)
+      (line-step terms kind s told o.lines o.behind cause new t (b ++ take used piece) text.now stands l.0 refl
+      (λ e. subst At l.1 (after (ap (malformed_at number) e))) (λ c e. ended (number, c) (malformed-some number cause c e)))
   reports-on (TooLong number) a after ended = λ more.
-      let same : a.0 ≡ o.lines = lines-before b piece used o.lines a.0 o.rest within through o.cut a.1 in
-      let D : List (List ℕ) → Type 0 = λ ls. IsTooLongAfter (b ++ take used piece) ls in
-      let is : number ≡ line_number (length o.lines) = a.2 ∙ ap (λ (ls : List (List ℕ)). line_number (length ls)) same in
+      let l = cut-long b o.lines o.rest o.cut piece used number within through a in
       let nothing = ended (number, LineTooLong) refl in
-      rw (nothing.found, nothing.tally, append-nil told, is) (ends-long terms kind s told o.lines o.behind (b ++ take used piece) (subst D same a.1) more)
+      rw (nothing.found, nothing.tally, append-nil told, l.1) (ends-long terms kind s told o.lines o.behind (b ++ take used piece) l.0 more)
 
 -- behind a malformed line nothing changes
 pub ended-on : (terms : Terms) (kind : Kind) (m : ℕ × Cause) (old new : Cutting) (s t : LineReporting) (told : List WrongCase) (b xs : List ℕ)
@@ -134,26 +117,15 @@ ended-whole terms kind m cutting s t told b nothing r =
 
 module _ (terms : Terms) (kind : Kind) (cutting : Cutting) (s t : LineReporting) (told : List WrongCase) (b : List ℕ)
     (o : GoesOn terms kind cutting s told b) (none : s.found ≡ []) where
-  last-lines : (number : ℕ) (last : Bor (List ℕ)) → Finishes b (Some (number, last)) → (lines_of b ≡ o.lines ++ last.now ∷ []) × (number ≡ line_number (length o.lines))
-  last-lines number last f =
-      let same : f.1.0 ≡ o.lines = sym (ended_lines-CutsInto b f.1.0 last.now f.1.1) ∙ ended_lines-CutsInto b o.lines o.rest o.cut in (
-        lines_of-begun b f.1.0 last.now f.1.1 f.0 ∙ ap (λ ls. ls ++ last.now ∷ []) same,
-        f.1.2 ∙ ap (λ (ls : List (List ℕ)). line_number (length ls)) same,
-      )
-
   -- the end of the file
   pub reports-whole : (last : Option (ℕ × Bor (List ℕ))) → Finishes b last → (malformed_last kind s last ≡ None → IsAfterLast kind last s t)
       → ((m : ℕ × Cause) → malformed_last kind s last ≡ Some m → HasNothingNew s t)
       → report_of terms kind b ≡ record { wrong = told ++ t.found; tally = t.tally; malformed = malformed_last kind s last }
-  reports-whole None f after ended = elim f [
-    | inl cut ↦ (
-        let same : cut.0 ≡ o.lines = sym (ended_lines-CutsInto b cut.0 [] cut.1) ∙ ended_lines-CutsInto b o.lines o.rest o.cut in
-        let is = whole-at terms kind s told o.lines o.behind b (lines_of-ended b cut.0 cut.1 ∙ same) in
-        rw (none-more told s t (after refl) none, ap (λ (u : LineReporting). u.tally) (after refl)) is)
-    | inr over ↦ absurd (never_both b over.0 o.lines o.rest over.1 o.cut)
-  ]
+  reports-whole None f after ended =
+      rw (none-more told s t (after refl) none, ap (λ (u : LineReporting). u.tally) (after refl))
+      (whole-at terms kind s told o.lines o.behind b (lines-ended b o.lines o.rest o.cut f))
   reports-whole (Some last) f after ended =
-      let l = last-lines last.0 last.1 f in
+      let l = last-lines b o.lines o.rest o.cut last.0 last.1 f in
       let cause = cause_of (finding_behind kind s.reading last.1.now) in
       let At : ℕ → Type 0 = λ n. IsAfterLine kind n last.1.now s t in
       let By : ℕ → Type 0 = λ n. report_of terms kind b ≡ record { wrong = told ++ t.found; tally = t.tally; malformed = malformed_at n cause } in

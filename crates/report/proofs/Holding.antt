@@ -11,7 +11,7 @@ use Rattle.bidtests.specs.declared.verdict.Cause.{Cause}
 use Rattle.bidtests.specs.declared.verdict.Place.{Place}
 use Rattle.bidtests.specs.Headline.{layout_under, IsMalformed, IsRow, IsWrongAt}
 use Rattle.bidtests.specs.Verdicts.{Claim, Finding, Silent, Row, Faulty}
-use Rattle.bidtests.proofs.Places.{CaseIs, case-is, right-wrong, place-unique}
+use Rattle.bidtests.proofs.Places.{CaseIs, case-is, right-wrong, place-unique, same-claim}
 use Rattle.report.specs.declared.wrong_case.WrongCase.{WrongCase}
 use Rattle.report.specs.FileReports.{IsWrongCase}
 use Rattle.report.specs.ReadClaims.{place_under, read_under}
@@ -125,9 +125,6 @@ module _ (terms : Terms) where
         | inl here ↦ let c = cases-in (line_number k) claim claim.directions w here in first k claim fs w c.0 c.1
         | inr there ↦ later k (Row claim) fs w (λ cause e. absurd cc) (lines-in (k + 1) fs w there)
       ]
-
-  same-claim : (a b : Claim) → Row a ≡ Row b → a ≡ b
-  same-claim a b e = cc
 
   in-lines : (k j : ℕ) (fs : List Finding) (w : WrongCase) (claim : Claim) → ((i : ℕ) (cause : Cause) → i ≤ j → ¬ IsMalformed fs i cause) → IsRow fs j claim
       → Contains claim.directions w.direction → IsCase (line_number (k + j)) claim w → Contains (wrong_cases_from terms k (sound_lines fs)) w

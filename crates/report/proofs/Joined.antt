@@ -1,7 +1,7 @@
 -- Where an index of joined lists stands.
-use Rattle.std.proofs.Common.{◌≡◌, ℕ, zero, suc, ◌+◌, ◌-◌, ◌<◌, ◌≤◌, None, Some, List, [], ◌∷◌, ◌++◌, length, drop, get_or, drop-cons, add-one, flat_map, refl, ap, ◌∙◌, arith, length-append}
+use Rattle.std.proofs.Common.{◌≡◌, ℕ, zero, suc, ◌+◌, ◌-◌, ◌<◌, ◌≤◌, Some, List, [], ◌∷◌, ◌++◌, length, drop, get_or, drop-cons, add-one, flat_map, refl, ap, ◌∙◌, arith, length-append}
 use Rattle.std.specs.List.{slice_get}
-use Rattle.std.proofs.lemmas.List.{get_or_append_left, drop_all}
+use Rattle.std.proofs.lemmas.List.{get_or_append_left}
 use Rattle.std.proofs.lemmas.Option.{slice_get-get_or}
 use Rattle.units.specs.Layout.{LineLayout}
 
@@ -19,7 +19,3 @@ joined-behind (x ∷ xs) ys (suc i) le = joined-behind xs ys i (omega arith) ∙
 pub orders-from : (lines : List LineLayout) (k : ℕ) (none : LineLayout) → k < length lines
     → flat_map (λ (l : LineLayout). l.order) (drop k lines) ≡ (get_or lines k none).order ++ flat_map (λ (l : LineLayout). l.order) (drop (k + 1) lines)
 orders-from lines k none lt = rw (add-one, drop-cons lines k none lt) refl
-
--- behind the last line
-pub no-orders-left : (lines : List LineLayout) (k i : ℕ) → length lines ≤ k → None ≡ slice_get (flat_map (λ (l : LineLayout). l.order) (drop k lines)) i
-no-orders-left lines k i le = rw (drop_all k lines le) refl

@@ -1,21 +1,18 @@
 -- What was printed of a report, piece by piece.
 use Rattle.std.proofs.Common.{◌≡◌, ℕ, suc, zero, ◌+◌, Option, List, [], ◌∷◌, ◌++◌, length, take, refl, sym, ap, subst, ◌∙◌, arith, append_assoc, append-nil, length-append, drop, Bool, Result, Ok, Err, IfErr, IsErrAnd}
-use Rattle.std.specs.Io.KnownBytes.{Appends}
 use Rattle.std.specs.List.{flat_map}
 use Rattle.std.proofs.lemmas.Grind.{flat_map-append}
 use Rattle.std.proofs.lemmas.List.{take-append-drop}
 use Rattle.report.specs.declared.terms.Terms.{Terms}
 use Rattle.bidtests.specs.declared.kind.Kind.{Kind}
-use Rattle.bidtests.specs.declared.verdict.Cause.{Cause}
 use Rattle.printing.proofs.Appending.{Appends-to, Appends-joined, Appends-nothing}
 use Rattle.report.specs.declared.wrong_case.WrongCase.{WrongCase}
 use Rattle.report.specs.declared.print.ReportFault.{ReportFault}
 use Rattle.report.specs.declared.print.ReportFault.TheVariants.{Write}
-use Rattle.report.specs.declared.tally.Tally.{Tally}
-use Rattle.report.specs.FileReports.{is_right, report_of, settled_cases}
+use Rattle.report.specs.FileReports.{report_of, settled_cases}
 use Rattle.report.specs.Reporting.{EndedReport, Reporting, Reports, report_at_end}
 use Rattle.report.specs.PrintedReports.{BreaksOff, HasTold, HasWrittenFirst, Prints, PrintsEnd, PrintsSettled}
-use Rattle.report.specs.ReportText.{first_cases_text, foot_text, report_text, wrong_case_text}
+use Rattle.report.specs.ReportText.{first_cases_text, report_text, wrong_case_text}
 use Rattle.report.proofs.SettledCases.{told-settled}
 
 -- the first cases of two lists, one behind the other, where so many more may follow those of the first

@@ -3,11 +3,12 @@ use Rattle.std.proofs.Common.{◌≡◌, ◌≢◌, ℕ, zero, suc, ◌+◌, ◌
 use Rattle.std.specs.Prelude.{if◌then◌else◌, nat_eq}
 use Rattle.std.specs.List.{slice_get}
 use Rattle.std.specs.Option.{option_or}
-use Rattle.std.proofs.lemmas.Bool.{eq-eqb, false≢true}
+use Rattle.std.proofs.lemmas.Bool.{false≢true}
 use Rattle.std.proofs.lemmas.List.{drop_more}
 use Rattle.std.proofs.lemmas.Option.{none-some, same_Some}
 use Rattle.units.specs.Layout.{TextLayout, all_orders}
 use Rattle.units.specs.Positions.{same_position}
+use Rattle.units.proofs.Positions.{same_position_refl}
 use Rattle.bidtests.specs.declared.verdict.Place.TheVariants.{ParaLevel as AtParaLevel, Levels as AtLevels, Order as AtOrder}
 use Rattle.bidtests.specs.Verdicts.{Claim, first_difference, placed_in}
 use Rattle.report.specs.declared.terms.Leniency.{Leniency}
@@ -72,13 +73,9 @@ levels-end compared levels claimed n i is low high ne e =
     ap (λ k. Some k) same ∙ sym (e ∙ level-ends compared (drop i levels) (drop i claimed) i none other)
 
 -- levels beside themselves
-same-level : (level : Option ℕ) → same_position level level ≡ true
-same-level None = refl
-same-level (Some n) = eq-eqb n n refl
-
 pub no-difference : (levels : Levels) (at : ℕ) → first_difference same_position levels levels at ≡ None
 no-difference [] at = refl
-no-difference (level ∷ levels) at = rw (same-level level) (no-difference levels (at + 1))
+no-difference (level ∷ levels) at = rw (same_position_refl level) (no-difference levels (at + 1))
 
 -- a difference stands behind those before it
 at-least : (xs ys : Levels) (at n : ℕ) → first_difference same_position xs ys at ≡ Some n → at ≤ n

@@ -8,8 +8,7 @@ ghost use Rattle.bidtests.specs.declared.verdict.Place.TheVariants.{Order};
 ghost use Rattle.bidtests.specs.Readings.{claim_of};
 ghost use Rattle.bidtests.specs.Verdicts.{first_difference, placed_in};
 ghost use Rattle.report.specs.Comparing.{PassesLine, order_left};
-ghost use Rattle.report.specs.ReadClaims.{all_parts_at, is_compared, levels_read, order_read};
-ghost use Rattle.report.specs.ReadClaims.{place_in, read_claim};
+ghost use Rattle.report.specs.ReadClaims.{all_parts_at, is_compared, levels_read, order_read, place_in, read_claim};
 ghost use Rattle.report.specs.declared.terms.Parts.TheVariants as parts_of;
 
 use crate::read_order::ReadOrder;

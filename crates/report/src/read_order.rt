@@ -1,5 +1,5 @@
 // A claimed order as it is read.
-ghost use Rattle.std.specs.Prelude.{◌≡◌, MatchOption};
+ghost use Rattle.std.specs.Prelude.{◌≡◌};
 ghost use Rattle.std.specs.List.{position};
 ghost use Rattle.report.specs.ReadClaims.{is_read as is_read_by, order_read};
 

@@ -1,5 +1,5 @@
 //! The lines that a report prints.
-ghost use Rattle.std.specs.Prelude.{◌≡◌, OnOk, Some};
+ghost use Rattle.std.specs.Prelude.{OnOk, Some};
 ghost use Rattle.std.specs.Io.KnownBytes.{Appends};
 ghost use Rattle.report.specs.ReportText.{directions_text, foot_text, item_text, malformed_text, parts_text};
 ghost use Rattle.report.specs.ReportText.{place_words, totals_text, wrong_case_text};

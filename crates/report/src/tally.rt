@@ -1,5 +1,5 @@
 //! The counts of a report.
-ghost use Rattle.std.specs.Prelude.{◌≡◌, length};
+ghost use Rattle.std.specs.Prelude.{◌≡◌};
 ghost use Rattle.std.specs.List.{count_by};
 ghost use Rattle.report.specs.Tallies.{is_under, is_of, part_of, with_row};
 

@@ -16,7 +16,7 @@ pub record PlaceOf (order : List ℕ) (p : ℕ) : Type 0 where
   pub inside : at < length order
   pub is : slice_index order at ≡ p
 
-some_from_level : (o : Option ℕ) (v : ℕ) → o ≡ Some v → IsSome o
+pub some_from_level : (o : Option ℕ) (v : ℕ) → o ≡ Some v → IsSome o
 some_from_level None v e = cc
 some_from_level (Some w) v e = refl
 

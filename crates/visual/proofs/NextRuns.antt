@@ -1,6 +1,5 @@
 -- The runs of a line, one after another.
-use Rattle.std.proofs.Common.{◌≡◌, ◌+◌, ◌<◌, ◌⊎◌, true, false, sym, ◌∙◌, inl, inr, arith}
-use Rattle.std.proofs.Common.{subst}
+use Rattle.std.proofs.Common.{◌≡◌, ◌+◌, ◌<◌, ◌⊎◌, true, false, sym, ◌∙◌, inl, inr, arith, subst}
 use Rattle.visual.specs.Spans.{BeginsAt}
 use Rattle.visual.specs.VisualRuns.{IsInOrder, IsRunAt, end_place}
 use Rattle.visual.specs.LineRuns.{IsRemovedRun, JoinTheLast}

@@ -9,7 +9,7 @@ use Rattle.visual.specs.LineRuns.{AreRunsOf, IsRemovedRun, JoinTheLast, AreSideB
 use Rattle.visual.specs.declared.line.OrderedLine.{OrderedLine}
 use Rattle.visual.specs.declared.runs.VisualRun.{VisualRun}
 use Rattle.visual.proofs.Kept.{kept-own, kept-end, kept-through}
-use Rattle.visual.proofs.InOrder.{place_of, remaining_at, left_at}
+use Rattle.visual.proofs.InOrder.{place_of, remaining_at, left_at, some_from_level}
 use Rattle.visual.proofs.LevelRuns.{next_is, removed_behind}
 use Rattle.visual.proofs.LineRuns.{para_of}
 
@@ -69,10 +69,6 @@ stand_apart line from (run ∷ runs) to zero (suc j) s lt within =
     record { place = from; behind = t.0; first = s.0; second = t.2; apart = t.1 }
 stand_apart line from (run ∷ runs) to (suc i) (suc j) s lt within =
     stand_apart line (from + run.shown) runs to i j s.1 (omega arith) (omega arith)
-
-some_from_level : (o : Option ℕ) (v : ℕ) → o ≡ Some v → IsSome o
-some_from_level None v e = cc
-some_from_level (Some w) v e = refl
 
 some_at : (line : OrderedLine) (i : ℕ) → IsInOrder line → i < length line.order.now → IsSome (slice_index_or line.levels.now (slice_index line.order.now i) None)
 some_at line i o lt =

@@ -37,17 +37,6 @@ pub record AreGiven (line : OrderedLine) (runs : List VisualRun) (now : Runs) : 
   pub covered : (now.end_is_left ≡ true) ⊎ EndIsCovered line runs
   pub few : length runs + (if now.end_is_left then 1 else 0) ≤ now.place + 1
 
-pub given_first : (line : OrderedLine) (first : Runs) → first.line ≡ line → first.place ≡ 0 → first.end_is_left ≡ true → AreGiven line [] first
-given_first line first l p e =
-    record {
-      of = l;
-      stand = λ o. sym p;
-      one = λ i j lt within a b. omega arith;
-      taken = λ k lt z. absurd (omega arith);
-      covered = inl e;
-      few = rw e (omega arith);
-    }
-
 one_more : (runs : List VisualRun) (run : VisualRun) → OneEmpty runs → (run.shown ≡ 0 → (k : ℕ) → k < length runs → (run_numbered runs k).shown ≡ 0 → ⊥) → OneEmpty (runs ++ run ∷ [])
 one_more runs run one first i j lt within a b =
     let n = length_more runs run in

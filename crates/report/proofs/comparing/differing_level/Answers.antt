@@ -1,4 +1,4 @@
-use Rattle.std.proofs.Common.{arith, ◌≡◌, None, false, get_or, ap₂, sym, ◌∙◌, ◌&&◌, not}
+use Rattle.std.proofs.Common.{arith, false, ap₂, sym, ◌∙◌, ◌&&◌, not}
 use Rattle.units.specs.Positions.{same_position}
 use Rattle.report.specs.ReadClaims.{is_compared}
 use Rattle.report.proofs.ReadLevels.{level-passed, levels-end}

@@ -1,4 +1,4 @@
-use Rattle.std.proofs.Common.{◌∙◌, refl}
+use Rattle.std.proofs.Common.{◌∙◌}
 use Rattle.lines.specs.Layouts.{view_of}
 use Rattle.bidtests.specs.Readings.{claim_of}
 use Rattle.report.proofs.ReadLevels.{order-place}
