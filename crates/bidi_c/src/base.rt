@@ -31,27 +31,11 @@ pub extern "C" fn bidi_base_level(
     }
 }
 
-fn base_levels(
-    tables: &mut BidiHandle,
-    codes: &[u32],
-    direction: u32,
-    levels: &mut [u8],
-    count: &mut usize,
-) -> Result<(), Refusal>
-    ensures tables { held_at tables.new ≡ held_at tables.old }
-    ensures levels { PutsBaseLevels (held_at tables.old) codes.now direction levels.old levels.new
-        count.old count.new result }
-{
-    match tables.held() {
-        Some(held) => base_levels_held(held, codes, direction, levels, count),
-        None => Err(Refusal::NoTables),
-    }
-}
-
 /// The level of each paragraph of a text of code points under a direction (P1 to P3), in their order, without a layout:
 /// `count` says how many paragraphs there are, and the levels are written to the front of `levels` if all fit there.
 /// Where it is refused as `bidi_base_level` is, both stay as they were.
 #[unsafe(no_mangle)]
+#[tactic(auto, using(crate::proofs::NothingHeld::no_tables_named))]
 pub extern "C" fn bidi_base_levels(
     tables: &mut BidiHandle,
     codes: &[u32],
@@ -64,8 +48,13 @@ pub extern "C" fn bidi_base_levels(
     ensures levels { AnswersNaming place_named (PutsBaseLevels (held_at tables.old) codes.now direction
         levels.old levels.new count.old count.new) result place.old place.new }
 {
-    let done = base_levels(tables, codes, direction, levels, count);
-    answer(done, place)
+    match tables.held() {
+        Some(held) => answer(
+            base_levels_held(held, codes, direction, levels, count),
+            place,
+        ),
+        None => answer(Err(Refusal::NoTables), place),
+    }
 }
 
 /// Whether a text of code points has only classes that stay at level 0 (1) or not (0), in one walk: if so, all of its

@@ -3,8 +3,9 @@ ghost use Rattle.std.specs.Prelude.{◌≡◌};
 ghost use Rattle.units.specs.Limits.{standard};
 ghost use Rattle.bidi_held.specs.LimitsGiven.{ByLimits};
 ghost use Rattle.bidi_held.specs.Statuses.{AnswersNaming, place_named};
-ghost use Rattle.encoded_held.specs.EncodedTexts.{LaysOutEncoded, LaysOutUtf8, LaysOutUtf8Lossy, LaysOutUtf16, LaysOutUtf16Lossy};
+ghost use Rattle.encoded_held.specs.EncodedTexts.{LaysOutEncoded};
 ghost use Rattle.encoded_held.specs.LinesAnew.{SetsEncodedLines};
+ghost use Rattle.encoded_held.specs.declared.encoded_text.EncodedText.TheVariants.{Utf16, Utf16Lossy, Utf8, Utf8Lossy};
 ghost use Rattle.bidi_c.specs.HeldAt.{held_at};
 
 use crate::bidi_handle::BidiHandle;
@@ -44,9 +45,8 @@ fn lay_out_text_with(
     limits: BidiLimits,
 ) -> Result<(), Refusal>
     ensures tables { held_at tables.new ≡ held_at tables.old }
-    ensures room { ByLimits limits (held_at room.new ≡ held_at room.old) (λ limits.
-        LaysOutEncoded text.entry limits (held_at tables.old) direction breaks.now
-        (held_at room.old) (held_at room.new)) result }
+    ensures room { ByLimits limits (λ limits. LaysOutEncoded text.entry limits
+        (held_at tables.old) direction breaks.now) (held_at room.old) (held_at room.new) result }
 {
     let allowed = limits.allowed()?;
     lay_out_text(room, tables, text, direction, breaks, allowed)
@@ -66,18 +66,12 @@ pub extern "C" fn bidi_lay_out_utf8(
     place: &mut u64,
 ) -> u32
     ensures tables { held_at tables.new ≡ held_at tables.old }
-    ensures room { AnswersNaming place_named (LaysOutUtf8 standard (held_at tables.old) text.now
-        direction breaks.now (held_at room.old) (held_at room.new)) result place.old place.new }
+    ensures room { AnswersNaming place_named (LaysOutEncoded (Utf8 text.entry) standard
+        (held_at tables.old) direction breaks.now (held_at room.old) (held_at room.new))
+        result place.old place.new }
 {
-    let limits = Limits::standard();
-    let done = lay_out_text(
-        room,
-        tables,
-        EncodedText::Utf8(text),
-        direction,
-        breaks,
-        limits,
-    );
+    let text = EncodedText::Utf8(text);
+    let done = lay_out_text(room, tables, text, direction, breaks, Limits::standard());
     answer(done, place)
 }
 
@@ -93,9 +87,9 @@ pub extern "C" fn bidi_lay_out_utf8_with(
     place: &mut u64,
 ) -> u32
     ensures tables { held_at tables.new ≡ held_at tables.old }
-    ensures room { AnswersNaming place_named (ByLimits limits (held_at room.new ≡ held_at room.old)
-        (λ limits. LaysOutUtf8 limits (held_at tables.old) text.now direction breaks.now
-        (held_at room.old) (held_at room.new))) result place.old place.new }
+    ensures room { AnswersNaming place_named (ByLimits limits (λ limits.
+        LaysOutEncoded (Utf8 text.entry) limits (held_at tables.old) direction breaks.now)
+        (held_at room.old) (held_at room.new)) result place.old place.new }
 {
     let text = EncodedText::Utf8(text);
     let done = lay_out_text_with(room, tables, text, direction, breaks, limits);
@@ -114,18 +108,12 @@ pub extern "C" fn bidi_lay_out_utf8_lossy(
     place: &mut u64,
 ) -> u32
     ensures tables { held_at tables.new ≡ held_at tables.old }
-    ensures room { AnswersNaming place_named (LaysOutUtf8Lossy standard (held_at tables.old) text.now
-        direction breaks.now (held_at room.old) (held_at room.new)) result place.old place.new }
+    ensures room { AnswersNaming place_named (LaysOutEncoded (Utf8Lossy text.entry) standard
+        (held_at tables.old) direction breaks.now (held_at room.old) (held_at room.new))
+        result place.old place.new }
 {
-    let limits = Limits::standard();
-    let done = lay_out_text(
-        room,
-        tables,
-        EncodedText::Utf8Lossy(text),
-        direction,
-        breaks,
-        limits,
-    );
+    let text = EncodedText::Utf8Lossy(text);
+    let done = lay_out_text(room, tables, text, direction, breaks, Limits::standard());
     answer(done, place)
 }
 
@@ -141,9 +129,9 @@ pub extern "C" fn bidi_lay_out_utf8_lossy_with(
     place: &mut u64,
 ) -> u32
     ensures tables { held_at tables.new ≡ held_at tables.old }
-    ensures room { AnswersNaming place_named (ByLimits limits (held_at room.new ≡ held_at room.old)
-        (λ limits. LaysOutUtf8Lossy limits (held_at tables.old) text.now direction breaks.now
-        (held_at room.old) (held_at room.new))) result place.old place.new }
+    ensures room { AnswersNaming place_named (ByLimits limits (λ limits.
+        LaysOutEncoded (Utf8Lossy text.entry) limits (held_at tables.old) direction breaks.now)
+        (held_at room.old) (held_at room.new)) result place.old place.new }
 {
     let text = EncodedText::Utf8Lossy(text);
     let done = lay_out_text_with(room, tables, text, direction, breaks, limits);
@@ -162,18 +150,12 @@ pub extern "C" fn bidi_lay_out_utf16(
     place: &mut u64,
 ) -> u32
     ensures tables { held_at tables.new ≡ held_at tables.old }
-    ensures room { AnswersNaming place_named (LaysOutUtf16 standard (held_at tables.old) text.now
-        direction breaks.now (held_at room.old) (held_at room.new)) result place.old place.new }
+    ensures room { AnswersNaming place_named (LaysOutEncoded (Utf16 text.entry) standard
+        (held_at tables.old) direction breaks.now (held_at room.old) (held_at room.new))
+        result place.old place.new }
 {
-    let limits = Limits::standard();
-    let done = lay_out_text(
-        room,
-        tables,
-        EncodedText::Utf16(text),
-        direction,
-        breaks,
-        limits,
-    );
+    let text = EncodedText::Utf16(text);
+    let done = lay_out_text(room, tables, text, direction, breaks, Limits::standard());
     answer(done, place)
 }
 
@@ -189,9 +171,9 @@ pub extern "C" fn bidi_lay_out_utf16_with(
     place: &mut u64,
 ) -> u32
     ensures tables { held_at tables.new ≡ held_at tables.old }
-    ensures room { AnswersNaming place_named (ByLimits limits (held_at room.new ≡ held_at room.old)
-        (λ limits. LaysOutUtf16 limits (held_at tables.old) text.now direction breaks.now
-        (held_at room.old) (held_at room.new))) result place.old place.new }
+    ensures room { AnswersNaming place_named (ByLimits limits (λ limits.
+        LaysOutEncoded (Utf16 text.entry) limits (held_at tables.old) direction breaks.now)
+        (held_at room.old) (held_at room.new)) result place.old place.new }
 {
     let text = EncodedText::Utf16(text);
     let done = lay_out_text_with(room, tables, text, direction, breaks, limits);
@@ -210,18 +192,12 @@ pub extern "C" fn bidi_lay_out_utf16_lossy(
     place: &mut u64,
 ) -> u32
     ensures tables { held_at tables.new ≡ held_at tables.old }
-    ensures room { AnswersNaming place_named (LaysOutUtf16Lossy standard (held_at tables.old) text.now
-        direction breaks.now (held_at room.old) (held_at room.new)) result place.old place.new }
+    ensures room { AnswersNaming place_named (LaysOutEncoded (Utf16Lossy text.entry) standard
+        (held_at tables.old) direction breaks.now (held_at room.old) (held_at room.new))
+        result place.old place.new }
 {
-    let limits = Limits::standard();
-    let done = lay_out_text(
-        room,
-        tables,
-        EncodedText::Utf16Lossy(text),
-        direction,
-        breaks,
-        limits,
-    );
+    let text = EncodedText::Utf16Lossy(text);
+    let done = lay_out_text(room, tables, text, direction, breaks, Limits::standard());
     answer(done, place)
 }
 
@@ -237,28 +213,20 @@ pub extern "C" fn bidi_lay_out_utf16_lossy_with(
     place: &mut u64,
 ) -> u32
     ensures tables { held_at tables.new ≡ held_at tables.old }
-    ensures room { AnswersNaming place_named (ByLimits limits (held_at room.new ≡ held_at room.old)
-        (λ limits. LaysOutUtf16Lossy limits (held_at tables.old) text.now direction breaks.now
-        (held_at room.old) (held_at room.new))) result place.old place.new }
+    ensures room { AnswersNaming place_named (ByLimits limits (λ limits.
+        LaysOutEncoded (Utf16Lossy text.entry) limits (held_at tables.old) direction breaks.now)
+        (held_at room.old) (held_at room.new)) result place.old place.new }
 {
     let text = EncodedText::Utf16Lossy(text);
     let done = lay_out_text_with(room, tables, text, direction, breaks, limits);
     answer(done, place)
 }
 
-fn set_encoded_lines(room: &mut BidiHandle, breaks: &[usize]) -> Result<(), Refusal>
-    ensures { SetsEncodedLines breaks.now (held_at room.old) (held_at room.new) result }
-{
-    match room.held() {
-        Some(held) => set_encoded_lines_held(held, breaks),
-        None => Err(Refusal::NoRoom),
-    }
-}
-
 /// Breaks the text in code units that the room holds into lines anew (L1, L2), at offsets: its levels before L1, its
 /// direction and its limits stay. Where the breaks are refused, the room holds the lines that it held, and `place`
 /// names the break.
 #[unsafe(no_mangle)]
+#[tactic(auto, using(crate::proofs::NothingHeld::no_room_named))]
 pub extern "C" fn bidi_encoded_set_lines(
     room: &mut BidiHandle,
     breaks: &[usize],
@@ -267,5 +235,8 @@ pub extern "C" fn bidi_encoded_set_lines(
     ensures { AnswersNaming place_named (SetsEncodedLines breaks.now (held_at room.old) (held_at room.new))
         result place.old place.new }
 {
-    answer(set_encoded_lines(room, breaks), place)
+    match room.held() {
+        Some(held) => answer(set_encoded_lines_held(held, breaks), place),
+        None => answer(Err(Refusal::NoRoom), place),
+    }
 }

@@ -7,7 +7,7 @@ ghost use Rattle.bidi_held.specs.Statuses.{Answers};
 ghost use Rattle.bidi_c.specs.HeldAt.{held_at};
 
 use crate::bidi_handle::BidiHandle;
-use bidi_held::judging::{class_judge, feed_held, finish_held, table_judge};
+use bidi_held::judging::{feed_held, finish_held, judge_by, table_judge};
 use bidi_held::limits::BidiLimits;
 use bidi_held::refusal::{DONE, Refusal, status};
 use bidi_held::told_verdict::{BidiVerdict, told};
@@ -17,7 +17,7 @@ use units::limits::Limits;
 fn make_classes_judge(alloc: Global, judge: &mut BidiHandle, limits: Limits) -> Result<(), Refusal>
     ensures { MakesJudge limits (held_at judge.old) (held_at judge.new) result }
 {
-    let made = class_judge(alloc, limits)?;
+    let made = judge_by(alloc, None, limits)?;
     judge.hold(alloc, made)
 }
 
@@ -30,18 +30,6 @@ pub extern "C" fn bidi_judge_new_classes(alloc: Global, judge: &mut BidiHandle) 
     status(make_classes_judge(alloc, judge, Limits::standard()))
 }
 
-fn make_classes_judge_with(
-    alloc: Global,
-    judge: &mut BidiHandle,
-    limits: BidiLimits,
-) -> Result<(), Refusal>
-    ensures { ByLimits limits (held_at judge.new ≡ held_at judge.old) (λ limits. MakesJudge limits
-        (held_at judge.old) (held_at judge.new)) result }
-{
-    let allowed = limits.allowed()?;
-    make_classes_judge(alloc, judge, allowed)
-}
-
 /// Makes a judge of a BidiTest.txt as `bidi_judge_new_classes` does, that lays out by these limits in place of the
 /// standard ones.
 #[unsafe(no_mangle)]
@@ -50,10 +38,12 @@ pub extern "C" fn bidi_judge_new_classes_with(
     judge: &mut BidiHandle,
     limits: BidiLimits,
 ) -> u32
-    ensures { Answers (ByLimits limits (held_at judge.new ≡ held_at judge.old) (λ limits.
-        MakesJudge limits (held_at judge.old) (held_at judge.new))) result }
+    ensures { Answers (ByLimits limits MakesJudge (held_at judge.old) (held_at judge.new)) result }
 {
-    status(make_classes_judge_with(alloc, judge, limits))
+    match limits.allowed() {
+        Ok(limits) => status(make_classes_judge(alloc, judge, limits)),
+        Err(refusal) => status(Err(refusal)),
+    }
 }
 
 fn make_characters_judge(
@@ -89,20 +79,6 @@ pub extern "C" fn bidi_judge_new_characters(
     status(make_characters_judge(alloc, tables, judge, Limits::standard()))
 }
 
-fn make_characters_judge_with(
-    alloc: Global,
-    tables: &mut BidiHandle,
-    judge: &mut BidiHandle,
-    limits: BidiLimits,
-) -> Result<(), Refusal>
-    ensures tables { held_at tables.new ≡ held_at tables.old }
-    ensures judge { ByLimits limits (held_at judge.new ≡ held_at judge.old) (λ limits.
-        MakesTableJudge limits (held_at tables.old) (held_at judge.old) (held_at judge.new)) result }
-{
-    let allowed = limits.allowed()?;
-    make_characters_judge(alloc, tables, judge, allowed)
-}
-
 /// Makes a judge of a BidiCharacterTest.txt as `bidi_judge_new_characters` does, that lays out by these limits in place
 /// of the standard ones.
 #[unsafe(no_mangle)]
@@ -113,10 +89,13 @@ pub extern "C" fn bidi_judge_new_characters_with(
     limits: BidiLimits,
 ) -> u32
     ensures tables { held_at tables.new ≡ held_at tables.old }
-    ensures judge { Answers (ByLimits limits (held_at judge.new ≡ held_at judge.old) (λ limits.
-        MakesTableJudge limits (held_at tables.old) (held_at judge.old) (held_at judge.new))) result }
+    ensures judge { Answers (ByLimits limits (λ limits. MakesTableJudge limits
+        (held_at tables.old)) (held_at judge.old) (held_at judge.new)) result }
 {
-    status(make_characters_judge_with(alloc, tables, judge, limits))
+    match limits.allowed() {
+        Ok(limits) => status(make_characters_judge(alloc, tables, judge, limits)),
+        Err(refusal) => status(Err(refusal)),
+    }
 }
 
 /// Frees a judge, and its tables where nothing else holds them. The handle is all zero then, as it may be before.

@@ -52,26 +52,8 @@ pub extern "C" fn bidi_lay_out(
     ensures room { AnswersNaming place_named (LaysOutCodes standard (held_at tables.old) codes.now
         direction breaks.now (held_at room.old) (held_at room.new)) result place.old place.new }
 {
-    let limits = Limits::standard();
-    let done = lay_out(room, tables, codes, direction, breaks, limits);
+    let done = lay_out(room, tables, codes, direction, breaks, Limits::standard());
     answer(done, place)
-}
-
-fn lay_out_with(
-    room: &mut BidiHandle,
-    tables: &mut BidiHandle,
-    codes: &[u32],
-    direction: u32,
-    breaks: &[usize],
-    limits: BidiLimits,
-) -> Result<(), Refusal>
-    ensures tables { held_at tables.new ≡ held_at tables.old }
-    ensures room { ByLimits limits (held_at room.new ≡ held_at room.old) (λ limits.
-        LaysOutCodes limits (held_at tables.old) codes.now direction breaks.now
-        (held_at room.old) (held_at room.new)) result }
-{
-    let allowed = limits.allowed()?;
-    lay_out(room, tables, codes, direction, breaks, allowed)
 }
 
 /// Lays out a text of code points as `bidi_lay_out` does, by these limits in place of the standard ones: how deep
@@ -87,12 +69,17 @@ pub extern "C" fn bidi_lay_out_with(
     place: &mut u64,
 ) -> u32
     ensures tables { held_at tables.new ≡ held_at tables.old }
-    ensures room { AnswersNaming place_named (ByLimits limits (held_at room.new ≡ held_at room.old)
-        (λ limits. LaysOutCodes limits (held_at tables.old) codes.now direction breaks.now
-        (held_at room.old) (held_at room.new))) result place.old place.new }
+    ensures room { AnswersNaming place_named (ByLimits limits (λ limits. LaysOutCodes limits
+        (held_at tables.old) codes.now direction breaks.now) (held_at room.old)
+        (held_at room.new)) result place.old place.new }
 {
-    let done = lay_out_with(room, tables, codes, direction, breaks, limits);
-    answer(done, place)
+    match limits.allowed() {
+        Ok(limits) => answer(
+            lay_out(room, tables, codes, direction, breaks, limits),
+            place,
+        ),
+        Err(refusal) => answer(Err(refusal), place),
+    }
 }
 
 fn lay_out_classes(
@@ -124,23 +111,8 @@ pub extern "C" fn bidi_lay_out_classes(
     ensures { AnswersNaming place_named (LaysOutClasses standard numbers.now direction breaks.now
         (held_at room.old) (held_at room.new)) result place.old place.new }
 {
-    let limits = Limits::standard();
-    let done = lay_out_classes(room, numbers, direction, breaks, limits);
+    let done = lay_out_classes(room, numbers, direction, breaks, Limits::standard());
     answer(done, place)
-}
-
-fn lay_out_classes_with(
-    room: &mut BidiHandle,
-    numbers: &[u8],
-    direction: u32,
-    breaks: &[usize],
-    limits: BidiLimits,
-) -> Result<(), Refusal>
-    ensures { ByLimits limits (held_at room.new ≡ held_at room.old) (λ limits. LaysOutClasses
-        limits numbers.now direction breaks.now (held_at room.old) (held_at room.new)) result }
-{
-    let allowed = limits.allowed()?;
-    lay_out_classes(room, numbers, direction, breaks, allowed)
 }
 
 /// Lays out a text of classes as `bidi_lay_out_classes` does, by these limits in place of the standard ones.
@@ -153,47 +125,30 @@ pub extern "C" fn bidi_lay_out_classes_with(
     limits: BidiLimits,
     place: &mut u64,
 ) -> u32
-    ensures { AnswersNaming place_named (ByLimits limits (held_at room.new ≡ held_at room.old)
-        (λ limits. LaysOutClasses limits numbers.now direction breaks.now
-        (held_at room.old) (held_at room.new))) result place.old place.new }
+    ensures { AnswersNaming place_named (ByLimits limits (λ limits. LaysOutClasses limits
+        numbers.now direction breaks.now) (held_at room.old) (held_at room.new))
+        result place.old place.new }
 {
-    let done = lay_out_classes_with(room, numbers, direction, breaks, limits);
-    answer(done, place)
-}
-
-fn set_lines(room: &mut BidiHandle, breaks: &[usize]) -> Result<(), Refusal>
-    ensures { SetsLines breaks.now (held_at room.old) (held_at room.new) result }
-{
-    match room.held() {
-        Some(held) => set_lines_held(held, breaks),
-        None => Err(Refusal::NoRoom),
+    match limits.allowed() {
+        Ok(limits) => answer(
+            lay_out_classes(room, numbers, direction, breaks, limits),
+            place,
+        ),
+        Err(refusal) => answer(Err(refusal), place),
     }
 }
 
 /// Breaks the text that the room holds into lines anew (L1, L2): its levels before L1, its direction and its limits
 /// stay. Where the breaks are refused, the room is what it was, and `place` names the break.
 #[unsafe(no_mangle)]
+#[tactic(auto, using(crate::proofs::NothingHeld::no_room_named))]
 pub extern "C" fn bidi_set_lines(room: &mut BidiHandle, breaks: &[usize], place: &mut u64) -> u32
     ensures { AnswersNaming place_named (SetsLines breaks.now (held_at room.old) (held_at room.new))
         result place.old place.new }
 {
-    answer(set_lines(room, breaks), place)
-}
-
-fn line_of(
-    room: &mut BidiHandle,
-    start: usize,
-    end: usize,
-    levels: &mut [u8],
-    order: &mut [usize],
-    shown: &mut usize,
-) -> Result<(), Refusal>
-    ensures { LaysOutLine start end (held_at room.old) (held_at room.new) levels.old levels.new
-        order.old order.new shown.old shown.new result }
-{
     match room.held() {
-        Some(held) => line_alone_held(held, start, end, levels, order, shown),
-        None => Err(Refusal::NoRoom),
+        Some(held) => answer(set_lines_held(held, breaks), place),
+        None => answer(Err(Refusal::NoRoom), place),
     }
 }
 
@@ -201,6 +156,7 @@ fn line_of(
 /// line, and writes its levels and its order to the fronts of the arrays, and to `shown` how many positions the order
 /// has. What the room holds stays. Where the line is refused, nothing is written.
 #[unsafe(no_mangle)]
+#[tactic(auto, using(crate::proofs::NothingHeld::no_room))]
 pub extern "C" fn bidi_line_of(
     room: &mut BidiHandle,
     start: usize,
@@ -212,5 +168,8 @@ pub extern "C" fn bidi_line_of(
     ensures { Answers (LaysOutLine start end (held_at room.old) (held_at room.new) levels.old levels.new
         order.old order.new shown.old shown.new) result }
 {
-    status(line_of(room, start, end, levels, order, shown))
+    match room.held() {
+        Some(held) => status(line_alone_held(held, start, end, levels, order, shown)),
+        None => status(Err(Refusal::NoRoom)),
+    }
 }

@@ -12,7 +12,7 @@ use bidi_held::refusal::{Refusal, status};
 use report_held::ending::end_report;
 use report_held::feeding::feed_report;
 use report_held::handing::next_case;
-use report_held::making::{class_report, table_report};
+use report_held::making::{report_by, table_report};
 use report_held::told_case::BidiWrongCase;
 use report_held::told_counts::BidiCounts;
 use std::alloc::Global;
@@ -25,7 +25,7 @@ fn make_classes_report(
 ) -> Result<(), Refusal>
     ensures { MakesReport limits (held_at report.old) (held_at report.new) result }
 {
-    let made = class_report(alloc, limits)?;
+    let made = report_by(alloc, None, limits)?;
     report.hold(alloc, made)
 }
 
@@ -38,18 +38,6 @@ pub extern "C" fn bidi_report_new_classes(alloc: Global, report: &mut BidiHandle
     status(make_classes_report(alloc, report, Limits::standard()))
 }
 
-fn make_classes_report_with(
-    alloc: Global,
-    report: &mut BidiHandle,
-    limits: BidiLimits,
-) -> Result<(), Refusal>
-    ensures { ByLimits limits (held_at report.new ≡ held_at report.old) (λ limits. MakesReport limits
-        (held_at report.old) (held_at report.new)) result }
-{
-    let allowed = limits.allowed()?;
-    make_classes_report(alloc, report, allowed)
-}
-
 /// Makes a report on a BidiTest.txt as `bidi_report_new_classes` does, that lays out by these limits in place of the
 /// standard ones.
 #[unsafe(no_mangle)]
@@ -58,10 +46,12 @@ pub extern "C" fn bidi_report_new_classes_with(
     report: &mut BidiHandle,
     limits: BidiLimits,
 ) -> u32
-    ensures { Answers (ByLimits limits (held_at report.new ≡ held_at report.old) (λ limits.
-        MakesReport limits (held_at report.old) (held_at report.new))) result }
+    ensures { Answers (ByLimits limits MakesReport (held_at report.old) (held_at report.new)) result }
 {
-    status(make_classes_report_with(alloc, report, limits))
+    match limits.allowed() {
+        Ok(limits) => status(make_classes_report(alloc, report, limits)),
+        Err(refusal) => status(Err(refusal)),
+    }
 }
 
 fn make_characters_report(
@@ -97,20 +87,6 @@ pub extern "C" fn bidi_report_new_characters(
     status(make_characters_report(alloc, tables, report, Limits::standard()))
 }
 
-fn make_characters_report_with(
-    alloc: Global,
-    tables: &mut BidiHandle,
-    report: &mut BidiHandle,
-    limits: BidiLimits,
-) -> Result<(), Refusal>
-    ensures tables { held_at tables.new ≡ held_at tables.old }
-    ensures report { ByLimits limits (held_at report.new ≡ held_at report.old) (λ limits.
-        MakesTableReport limits (held_at tables.old) (held_at report.old) (held_at report.new)) result }
-{
-    let allowed = limits.allowed()?;
-    make_characters_report(alloc, tables, report, allowed)
-}
-
 /// Makes a report on a BidiCharacterTest.txt as `bidi_report_new_characters` does, that lays out by these limits in
 /// place of the standard ones.
 #[unsafe(no_mangle)]
@@ -121,10 +97,13 @@ pub extern "C" fn bidi_report_new_characters_with(
     limits: BidiLimits,
 ) -> u32
     ensures tables { held_at tables.new ≡ held_at tables.old }
-    ensures report { Answers (ByLimits limits (held_at report.new ≡ held_at report.old) (λ limits.
-        MakesTableReport limits (held_at tables.old) (held_at report.old) (held_at report.new))) result }
+    ensures report { Answers (ByLimits limits (λ limits. MakesTableReport limits
+        (held_at tables.old)) (held_at report.old) (held_at report.new)) result }
 {
-    status(make_characters_report_with(alloc, tables, report, limits))
+    match limits.allowed() {
+        Ok(limits) => status(make_characters_report(alloc, tables, report, limits)),
+        Err(refusal) => status(Err(refusal)),
+    }
 }
 
 /// Frees a report, and its tables where nothing else holds them. The handle is all zero then, as it may be before.
@@ -139,7 +118,7 @@ pub extern "C" fn bidi_report_free(alloc: Global, report: &mut BidiHandle)
 /// how many they were. It takes no memory. Where the file has ended, or wrong cases are left of those that were found
 /// last, it is refused.
 #[unsafe(no_mangle)]
-#[tactic(auto, using(crate::proofs::NoReport::no_report_fed))]
+#[tactic(auto, using(crate::proofs::NothingHeld::no_report))]
 pub extern "C" fn bidi_report_feed(report: &mut BidiHandle, piece: &[u8], used: &mut usize) -> u32
     ensures { Answers (TakesBytes (held_at report.old) (held_at report.new) piece.now used.old used.new)
         result }
@@ -152,7 +131,7 @@ pub extern "C" fn bidi_report_feed(report: &mut BidiHandle, piece: &[u8], used: 
 
 /// Hands out the next of the wrong cases that were found last. It takes no memory. Where none is left, it is refused.
 #[unsafe(no_mangle)]
-#[tactic(auto, using(crate::proofs::NoReport::no_report_next))]
+#[tactic(auto, using(crate::proofs::NothingHeld::no_report))]
 pub extern "C" fn bidi_report_next(report: &mut BidiHandle, case: &mut BidiWrongCase) -> u32
     ensures { Answers (HandsOutNext (held_at report.old) (held_at report.new) case.old case.new) result }
 {
@@ -166,7 +145,7 @@ pub extern "C" fn bidi_report_next(report: &mut BidiHandle, case: &mut BidiWrong
 /// are handed out then. It takes no memory. Where the file has ended before, or wrong cases are left of those that were
 /// found last, it is refused.
 #[unsafe(no_mangle)]
-#[tactic(auto, using(crate::proofs::NoReport::no_report_ended))]
+#[tactic(auto, using(crate::proofs::NothingHeld::no_report))]
 pub extern "C" fn bidi_report_finish(report: &mut BidiHandle, counts: &mut BidiCounts) -> u32
     ensures { Answers (EndsReport (held_at report.old) (held_at report.new) counts.old counts.new) result }
 {

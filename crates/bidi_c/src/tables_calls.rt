@@ -11,10 +11,12 @@ ghost use Rattle.bidi_c.specs.HeldAt.{held_at, tables_at};
 
 use crate::bidi_handle::BidiHandle;
 use bidi_held::held::Held;
+use bidi_held::items_out::write_items;
 use bidi_held::read_tables::{BidiFault, kind_in, mirror_image, read_tables};
 use bidi_held::refusal::{Refusal, status};
-use bidi_held::standard_tables::{standard_tables, write_edition};
-use bidi_held::version::write_version;
+use bidi_held::standard_tables::standard_tables;
+use bidi_held::version::VERSION;
+use standard::facts::EDITION;
 use std::alloc::Global;
 use std::sync::Arc;
 use ucdfiles::tables::Tables;
@@ -87,7 +89,7 @@ pub extern "C" fn bidi_tables_standard(alloc: Global, tables: &mut BidiHandle) -
 pub extern "C" fn bidi_edition(text: &mut [u8]) -> usize
     ensures { WritesWhole EDITION.now result text.old text.new }
 {
-    write_edition(text)
+    write_items(EDITION.as_bytes(), text)
 }
 
 /// How many bytes the version of the product has, as "1.0.0". They are written to `text`, if all fit there.
@@ -95,7 +97,7 @@ pub extern "C" fn bidi_edition(text: &mut [u8]) -> usize
 pub extern "C" fn bidi_version(text: &mut [u8]) -> usize
     ensures { WritesWhole VERSION.now result text.old text.new }
 {
-    write_version(text)
+    write_items(VERSION.as_bytes(), text)
 }
 
 fn share_tables(

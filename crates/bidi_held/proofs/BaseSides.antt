@@ -1,21 +1,26 @@
 -- The side of the first strong class of a text's first paragraph, as a walk finds it that ends there.
-use Rattle.std.proofs.Common.{◌≡◌, ℕ, zero, suc, ◌+◌, ◌<◌, ◌==◌, ◌&&◌, true, false, List, length, None, [], ◌∷◌, inl, inr, refl, sym, ap, ◌∙◌, arith, take, drop}
+use Rattle.std.proofs.Common.{◌≡◌, ℕ, zero, suc, ◌+◌, ◌<◌, ◌==◌, ◌&&◌, if◌then◌else◌, true, false, List, length, None, [], ◌∷◌, inl, inr, refl, sym, ap, ◌∙◌, arith, take, drop}
 use Rattle.std.proofs.lemmas.Bool.{cases_Bool}
 use Rattle.std.proofs.lemmas.List.{drop_all, drop_more}
 use Rattle.units.specs.Classes.{class_at, classes_of, is_right_to_left, is_separator, is_strong}
 use Rattle.units.specs.Isolates.{first_strong}
 use Rattle.units.specs.declared.bracket.Unit.{Unit as BidiUnit}
-use Rattle.units.specs.declared.level.Direction.{Direction}
 use Rattle.units.specs.declared.class.Class.{Class}
 use Rattle.units.specs.declared.class.Class.TheVariants.{B, L}
 use Rattle.explicit.specs.FirstParagraph.{first_length}
-use Rattle.explicit.specs.SideLevels.{level_under}
 use Rattle.explicit.specs.Sides.{noted, side_at, strong_side}
 use Rattle.explicit.specs.declared.side.Side.{Side}
 use Rattle.explicit.specs.declared.side.Side.TheVariants.{Unknown}
-use Rattle.explicit.proofs.StrongSides.LevelUnder.{level_under-is}
-use Rattle.bidi_held.specs.BaseLevels.{base_level, depth_behind, side_from}
+use Rattle.bidi_held.specs.BaseLevels.{depth_behind, first_side}
 use Rattle.bidi_held.proofs.BaseWalk.{IsWalked, side_behind, walked_all, walked_more, walked_none}
+
+-- the side of the first strong class outside of isolates, up to a separator, where so many are open before
+abbrev pub side_from : List BidiUnit → ℕ → Side
+side_from [] depth = Unknown
+side_from (unit ∷ units) depth =
+    if is_separator unit.class then Unknown
+    else (if (depth == 0) && is_strong unit.class then strong_side unit.class
+    else side_from units (depth_behind unit.class depth))
 
 -- the side that is known behind all of these classes
 abbrev side_behind_all : List Class → ℕ → Side → Side
@@ -78,9 +83,8 @@ first_walked (unit ∷ units) depth =
       ]
     ]
 
--- the level of the first paragraph by the side that is found
-pub level_of_first : (units : List BidiUnit) (direction : Direction) → level_under direction (side_from units 0) ≡ base_level units direction
-level_of_first units direction =
+-- it is found by that walk
+pub side_found : (units : List BidiUnit) → first_side units ≡ side_from units 0
+side_found units =
     let cs : List Class = classes_of (take (first_length units) units) in
-    ap (level_under direction) (sym (first_walked units 0) ∙ others_walked cs (length cs) 0 0 Unknown (omega arith) (walked_none cs))
-    ∙ level_under-is cs direction
+    sym (sym (first_walked units 0) ∙ others_walked cs (length cs) 0 0 Unknown (omega arith) (walked_none cs))

@@ -1,8 +1,7 @@
 -- What the proofs share.
 mod BaseWalk
-mod BaseSides
+pub mod BaseSides
 mod BaseParagraphs
 mod FileRefusals
 mod VerdictsBy
 mod LineLengths
-mod LinesInOrder

@@ -1,17 +1,16 @@
 -- The direction of a text of code points, without a layout.
-use Rattle.std.specs.Prelude.{ℕ, ◌≡◌, ◌<◌, ◌+◌, ◌-◌, ◌==◌, ◌&&◌, ◌⊎◌, Option, None, IsSome, MatchOption, IfErr, OnErr, OnOk, List, [], ◌∷◌, if◌then◌else◌, length, slice_index, take}
+use Rattle.std.specs.Prelude.{ℕ, ◌≡◌, ◌<◌, ◌+◌, ◌-◌, ◌⊎◌, Option, None, IsSome, MatchOption, IfErr, OnErr, OnOk, List, if◌then◌else◌, length, slice_index, take}
 use Rattle.std.specs.Char.{IsScalar}
-use Rattle.units.specs.Classes.{classes_of, is_isolate_initiator, is_pdi, is_separator, is_strong}
-use Rattle.units.specs.Isolates.{para_level_of}
+use Rattle.units.specs.Classes.{classes_of, is_isolate_initiator, is_pdi}
+use Rattle.units.specs.Isolates.{first_strong, para_level_of}
 use Rattle.units.specs.Layout.{para_levels_of}
 use Rattle.units.specs.declared.bracket.Unit.{Unit as BidiUnit}
 use Rattle.units.specs.declared.class.Class.{Class}
 use Rattle.units.specs.declared.level.Direction.{Direction}
 use Rattle.directions.specs.StaysLeft.{all_stay_left}
 use Rattle.explicit.specs.FirstParagraph.{first_length}
-use Rattle.explicit.specs.Sides.{strong_side}
+use Rattle.explicit.specs.Sides.{side_at}
 use Rattle.explicit.specs.declared.side.Side.{Side}
-use Rattle.explicit.specs.declared.side.Side.TheVariants.{Unknown}
 use Rattle.ucdfiles.specs.Tables.{units_by}
 use Rattle.bidi_held.specs.Holdings.{tables_in}
 use Rattle.bidi_held.specs.Refusals.{RefusesCodes}
@@ -77,11 +76,7 @@ abbrev pub depth_behind : Class → ℕ → ℕ
 depth_behind class depth =
     if is_isolate_initiator class then depth + 1 else (if is_pdi class then depth - 1 else depth)
 
--- P1, P2: the side of the first strong class of the text's first paragraph outside of its isolates, where so many are
--- open before the text
-abbrev pub side_from : List BidiUnit → ℕ → Side
-side_from [] depth = Unknown
-side_from (unit ∷ units) depth =
-    if is_separator unit.class then Unknown
-    else (if (depth == 0) && is_strong unit.class then strong_side unit.class
-    else side_from units (depth_behind unit.class depth))
+-- P1, P2: the side of the first strong class of the text's first paragraph outside of its isolates
+abbrev pub first_side : List BidiUnit → Side
+first_side units =
+    let cs : List Class = classes_of (take (first_length units) units) in side_at cs (first_strong cs None)

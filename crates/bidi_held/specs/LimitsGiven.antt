@@ -1,7 +1,8 @@
 -- The limits that C hands in.
-use Rattle.std.specs.Prelude.{◌≡◌, ◌<◌, ◌≤◌, ◌⊎◌, IsErrAnd}
+use Rattle.std.specs.Prelude.{◌≡◌, ◌<◌, ◌≤◌, ◌⊎◌, Option, IsErrAnd}
 use Rattle.units.specs.Limits.{LimitsOf, AreAllowed}
 use Rattle.bidi_held.specs.Statuses.{Outcome}
+use Rattle.bidi_held.specs.declared.held.Held.{Held}
 use Rattle.bidi_held.specs.declared.limits.BidiLimits.{BidiLimits}
 use Rattle.bidi_held.specs.declared.refusal.Refusal.{Refusal}
 use Rattle.bidi_held.specs.declared.refusal.Refusal.TheVariants.{Depth, Brackets}
@@ -18,8 +19,8 @@ RefusesLimits limits Brackets = (1 ≤ limits.depth) × (limits.depth ≤ 125) �
 RefusesLimits limits _ = ⊥
 
 -- a call by limits that are handed in looks at them before all else: where they aren't allowed it is refused for that
--- and keeps what there is, else it comes to what it comes to by them
-pub record ByLimits (given : BidiLimits) (Keeps : Type 0) (IsSo : LimitsOf → Outcome → Type 0) (outcome : Outcome) : Type 0 where
+-- and what is held stays, else it comes to what it comes to by them
+pub record ByLimits (given : BidiLimits) (IsSo : LimitsOf → Option Held → Option Held → Outcome → Type 0) (old new : Option Held) (outcome : Outcome) : Type 0 where
   pub refused : (AreAllowed (limits_in given) → ⊥) → IsErrAnd outcome (RefusesLimits given)
-  pub kept : (AreAllowed (limits_in given) → ⊥) → Keeps
-  pub allowed : AreAllowed (limits_in given) → IsSo (limits_in given) outcome
+  pub kept : (AreAllowed (limits_in given) → ⊥) → new ≡ old
+  pub allowed : AreAllowed (limits_in given) → IsSo (limits_in given) old new outcome

@@ -6,7 +6,7 @@ ghost use Rattle.units.specs.Isolates.{level_of_para};
 ghost use Rattle.directions.specs.StaysLeft.{all_stay_left};
 ghost use Rattle.explicit.specs.FirstParagraph.{first_length};
 ghost use Rattle.ucdfiles.specs.Tables.{unit_by, units_by};
-ghost use Rattle.bidi_held.specs.BaseLevels.{base_level, IsBaseLevel, IsLeftToRight, RefusesBase, RefusesText, depth_behind, side_from};
+ghost use Rattle.bidi_held.specs.BaseLevels.{base_level, IsBaseLevel, IsLeftToRight, RefusesBase, RefusesText, depth_behind, first_side};
 
 use crate::held::Held;
 use crate::layouts::direction_numbered;
@@ -60,9 +60,10 @@ fn depth_behind(class: Class, depth: usize) -> usize
 
 /// P1, P2: the side of the first strong class of a text's first paragraph outside of all isolates. Nothing behind that
 /// class or behind the paragraph is looked at.
+#[tactic(auto, using(crate::proofs::BaseSides::side_found))]
 fn first_side(tables: &Tables, codes: &[u32]) -> Side
     requires { (k : ℕ) → k < length codes.now → IsScalar (slice_index codes.now k) }
-    ensures { result ≡ side_from (units_by tables.now codes.now) 0 }
+    ensures { result ≡ first_side (units_by tables.now codes.now) }
 {
     let mut depth = 0;
     for i in 0..codes.len() {

@@ -17,7 +17,7 @@ use units::limits::Limits;
 
 /// A judge before its first byte, by these limits: of a BidiCharacterTest.txt by tables, and without tables of a
 /// BidiTest.txt.
-fn judge_by(
+pub fn judge_by(
     alloc: Global,
     tables: Option<Arc<Tables, Global>>,
     limits: Limits,
@@ -32,14 +32,6 @@ fn judge_by(
         Ok(judge) => Ok(Held::Judge(judge)),
         Err(_) => Err(Refusal::Memory),
     }
-}
-
-/// A judge of a BidiTest.txt before its first byte, by these limits.
-pub fn class_judge(alloc: Global, limits: Limits) -> Result<Held, Refusal>
-    ensures made { IfOk result (λ judge. HandleWasHanded limits (Some judge) None []) }
-    ensures refused { IfErr result RefusesJudge }
-{
-    judge_by(alloc, None, limits)
 }
 
 /// A judge of a BidiCharacterTest.txt before its first byte, by these limits and the tables that are held, which it

@@ -5,6 +5,7 @@
 pub mod base;
 pub mod base_levels;
 pub mod held;
+pub mod items_out;
 pub mod judge;
 pub mod judging;
 pub mod layouts;
@@ -16,7 +17,6 @@ pub mod refusal;
 pub mod room;
 pub mod standard_tables;
 pub mod table_report;
-mod text_out;
 pub mod told_verdict;
 pub mod verdict_text;
 pub mod version;

@@ -8,6 +8,7 @@ ghost use Rattle.bidi_held.specs.LinesOut.{LayoutRefusesLine, TellsOf};
 ghost use Rattle.bidi_held.specs.Statuses.{Puts};
 ghost use Rattle.bidi_held.specs.Written.{WritesWhole};
 
+use crate::items_out::write_items;
 use crate::refusal::Refusal;
 use lines::layout::Layout;
 use units::level::{Level, ParaLevel};
@@ -58,16 +59,6 @@ pub fn write_para_levels(levels: &[ParaLevel], out: &mut [u8]) -> usize
     levels.len()
 }
 
-/// Writes positions to the front of `out`, if all fit there. It answers how many they are.
-fn write_order(order: &[usize], out: &mut [usize]) -> usize
-    ensures { WritesWhole order.now result out.old out.new }
-{
-    if order.len() <= out.len() {
-        out[..order.len()].copy_from_slice(order);
-    }
-    order.len()
-}
-
 /// Writes the order of the line with the number `k`, if there is one.
 pub fn write_order_of(layout: &Layout<'_>, k: usize, out: &mut [usize]) -> usize
     ensures { WritesWhole (line_numbered (view_of layout.now) k).order result out.old out.new }
@@ -75,7 +66,7 @@ pub fn write_order_of(layout: &Layout<'_>, k: usize, out: &mut [usize]) -> usize
     if layout.line_count() <= k {
         return 0;
     }
-    write_order(layout.line(k).order, out)
+    write_items(layout.line(k).order, out)
 }
 
 /// Tells of the line with the number `k`, if there is one.

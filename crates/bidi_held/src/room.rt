@@ -14,8 +14,10 @@ ghost use Rattle.bidi_held.specs.Refusals.{IsClassNumber, RefusesBreaks, Refuses
 
 use crate::lines_out::write_levels;
 use crate::refusal::{Refusal, of_span};
+use encoded::laying_out::{break_units, lay_out_nothing, lay_out_units};
+use encoded::room::unit_column;
 use lines::breaks::{BreakFault, Breaks};
-use lines::lay_out::{break_anew_into, lay_out_into_with, line_alone_into};
+use lines::lay_out::line_alone_into;
 use lines::scratch::{MOST, RoomFault, Scratch};
 use std::alloc::Global;
 use std::boxed::BoxedSlice;
@@ -170,62 +172,6 @@ fn breaks_of(at: &[usize], n: usize) -> Result<Breaks<'_>, Refusal>
     }
 }
 
-/// A column of `n` items, all with this value.
-fn column<T: Copy>(alloc: Global, value: T, n: usize) -> Result<BoxedSlice<T>, RoomFault>
-    ensures made { IfOk result (λ column. length (boxed_slice_items column) ≡ n) }
-    ensures refused { IfErr result (λ fault. fault ≡ RoomFault.Memory) }
-{
-    match vec![in alloc; value; n] {
-        Ok(items) => Ok(items.into_boxed_slice()),
-        Err(_) => Err(RoomFault::Memory),
-    }
-}
-
-/// Lays out a text that the scratch has room for, by these limits.
-fn lay_out_units(
-    scratch: &mut Scratch,
-    text: &[Unit],
-    direction: Direction,
-    breaks: &Breaks,
-    limits: Limits,
-)
-    requires len { breaks.now.len ≡ length text.now }
-    requires fits { length text.now ≤ room_of scratch.old }
-    ensures room { room_of scratch.new ≡ room_of scratch.old }
-    ensures filled { IsFilled scratch.new }
-    ensures laid_out { layout_in scratch.new ≡ layout_of limits text.now direction breaks.now.positions }
-    ensures holds { HoldsText limits text.now direction scratch.new }
-    ensures in_order { LinesHaveOrder (layout_in scratch.new) }
-{
-    let _done = lay_out_into_with(scratch, text, direction, breaks, limits);
-}
-
-/// Breaks the text that the scratch holds into lines anew.
-fn break_units(scratch: &mut Scratch, text: &[Unit], breaks: &Breaks)
-    requires len { breaks.now.len ≡ length text.now }
-    requires holds { HoldsSomeLayoutOf text.now scratch.old }
-    ensures room { room_of scratch.new ≡ room_of scratch.old }
-    ensures filled { IsFilled scratch.new }
-    ensures laid_out { IsBrokenAnew text.now breaks.now.positions scratch.old (layout_in scratch.new) }
-    ensures holds { StillHoldsText text.now scratch.old scratch.new }
-    ensures in_order { LinesHaveOrder (layout_in scratch.new) }
-{
-    break_anew_into(scratch, text, breaks);
-}
-
-/// Lays out an empty text, which any scratch has room for.
-fn lay_out_nothing(scratch: &mut Scratch)
-    ensures room { room_of scratch.new ≡ room_of scratch.old }
-    ensures filled { IsFilled scratch.new }
-    ensures empty { layout_in scratch.new ≡ layout_of standard [] Auto [] }
-    ensures holds { HoldsText standard [] Auto scratch.new }
-    ensures in_order { LinesHaveOrder (layout_in scratch.new) }
-{
-    if let Ok(breaks) = Breaks::new(&[], 0) {
-        lay_out_units(scratch, &[], Direction::Auto, &breaks, Limits::standard());
-    }
-}
-
 impl Room {
     ghost use Rattle.std.specs.Prelude.{◌≡◌, ◌<◌, ◌↔◌, [], Err, length, min, IfErr, IfOk, MatchResult, OnErr, OnOk};
     ghost use Rattle.std.specs.Char.{IsScalar};
@@ -238,7 +184,7 @@ impl Room {
     ghost use Rattle.lines.specs.Scratches.{room_of, text_len_of, layout_in};
     ghost use Rattle.bidi_held.specs.LineAlone.{RefusesLineAlone, WritesLineAlone};
     ghost use Rattle.bidi_held.specs.Refusals.{IsClassNumber, Refuses, RefusesBreaks, RefusesCodes, RefusesClassNumbers, Takes};
-    ghost use Rattle.bidi_held.specs.RoomTexts.{layout_with, text_held};
+    ghost use Rattle.bidi_held.specs.RoomTexts.{RoomLaysOut, text_held};
     ghost use Rattle.bidi_held.specs.Texts.{units_numbered};
 
     /// Room for texts of up to `n` units, at most 16,777,216, with the layout of an empty text.
@@ -251,18 +197,14 @@ impl Room {
         if n > MOST {
             return Err(RoomFault::TooBig);
         }
-        let none = Unit {
-            class: Class::L,
-            bracket: Bracket::No,
-        };
-        let units = column(alloc, none, n)?;
-        let line = column(alloc, None, n)?;
+        let units = unit_column(alloc, n).map_err(|_| RoomFault::Memory)?;
+        let line = Vec::from_elem(alloc, None, n).map_err(|_| RoomFault::Memory)?;
         let mut scratch = Scratch::with_room(alloc, n)?;
         lay_out_nothing(&mut scratch);
         Ok(Room {
             scratch,
             units,
-            line,
+            line: line.into_boxed_slice(),
             direction: Direction::Auto,
             limits: Limits::standard(),
         })
@@ -289,15 +231,10 @@ impl Room {
         at: &[usize],
         limits: Limits,
     ) -> Result<(), Refusal>
-        ensures room { room_of self.new.scratch ≡ room_of self.old.scratch }
-        ensures refused { IfErr result (Refuses (room_of self.old.scratch) (length codes.now) at.now
-            (RefusesCodes codes.now)) }
-        ensures kept { OnErr result (self.new ≡ self.old) }
-        ensures taken { OnOk result (Takes IsScalar (room_of self.old.scratch) codes.now at.now) }
-        ensures laid_out { OnOk result (layout_in self.new.scratch ≡ layout_of limits
-            (units_by tables.now codes.now) direction at.now) }
-        ensures holds { OnOk result (text_held self.new
-            ≡ record { units = units_by tables.now codes.now; direction = direction; limits = limits }) }
+        ensures { RoomLaysOut (Takes IsScalar (room_of self.old.scratch) codes.now at.now)
+            (Refuses (room_of self.old.scratch) (length codes.now) at.now (RefusesCodes codes.now))
+            (record { units = units_by tables.now codes.now; direction = direction; limits = limits }) at.now
+            self.old self.new result }
     {
         if self.scratch.room() < codes.len() {
             return Err(Refusal::TooLong);
@@ -320,16 +257,10 @@ impl Room {
         at: &[usize],
         limits: Limits,
     ) -> Result<(), Refusal>
-        ensures room { room_of self.new.scratch ≡ room_of self.old.scratch }
-        ensures refused { IfErr result (Refuses (room_of self.old.scratch) (length numbers.now)
-            at.now (RefusesClassNumbers numbers.now)) }
-        ensures kept { OnErr result (self.new ≡ self.old) }
-        ensures taken { OnOk result (Takes IsClassNumber (room_of self.old.scratch) numbers.now
-            at.now) }
-        ensures laid_out { OnOk result (layout_in self.new.scratch ≡ layout_of limits
-            (units_numbered numbers.now) direction at.now) }
-        ensures holds { OnOk result (text_held self.new
-            ≡ record { units = units_numbered numbers.now; direction = direction; limits = limits }) }
+        ensures { RoomLaysOut (Takes IsClassNumber (room_of self.old.scratch) numbers.now at.now)
+            (Refuses (room_of self.old.scratch) (length numbers.now) at.now (RefusesClassNumbers numbers.now))
+            (record { units = units_numbered numbers.now; direction = direction; limits = limits }) at.now
+            self.old self.new result }
     {
         if self.scratch.room() < numbers.len() {
             return Err(Refusal::TooLong);
@@ -347,12 +278,9 @@ impl Room {
     /// Breaks the text that it holds into lines anew (L1, L2), at these breaks; the text's direction and limits stay.
     /// The breaks are refused as those of a text that is laid out, and the room then is what it was.
     pub fn set_lines(&mut self, at: &[usize]) -> Result<(), Refusal>
-        ensures room { room_of self.new.scratch ≡ room_of self.old.scratch }
-        ensures refused { IfErr result (RefusesBreaks at.now (text_len_of self.old.scratch)) }
-        ensures kept { OnErr result (self.new ≡ self.old) }
-        ensures taken { OnOk result (AreBreaks at.now (text_len_of self.old.scratch)) }
-        ensures laid_out { OnOk result (layout_in self.new.scratch ≡ layout_with at.now (text_held self.old)) }
-        ensures holds { text_held self.new ≡ text_held self.old }
+        ensures { RoomLaysOut (AreBreaks at.now (text_len_of self.old.scratch))
+            (RefusesBreaks at.now (text_len_of self.old.scratch)) (text_held self.old) at.now
+            self.old self.new result }
     {
         let len = self.scratch.text_len();
         let breaks = breaks_of(at, len)?;

@@ -1,11 +1,11 @@
 -- The lines of a layout are in order (L2).
-use Rattle.std.proofs.Common.{◌≡◌, ℕ, zero, suc, ◌-◌, ◌<◌, ◌≤◌, List, [], ◌∷◌, ◌∙◌, Option, length, refl, subst, sym, arith}
-use Rattle.std.specs.Prelude.{slice_index_or}
+use Rattle.std.proofs.Common.{◌≡◌, ℕ, zero, suc, ◌-◌, ◌<◌, ◌≤◌, List, [], ◌∷◌, ◌∙◌, Option, Result, Ok, Err, length, refl, subst, sym, arith}
+use Rattle.std.specs.Prelude.{◌↔◌, IsErr, OnOk, slice_index_or}
 use Rattle.std.specs.List.{All}
 use Rattle.std.proofs.lemmas.List.{length-map}
 use Rattle.std.proofs.lemmas.List.Elements.{All-filter}
 use Rattle.units.specs.Classes.{classes_of}
-use Rattle.units.specs.Layout.{layout_of, lines_cut_at, lines_from}
+use Rattle.units.specs.Layout.{TextLayout, layout_of, lines_cut_at, lines_from}
 use Rattle.units.specs.Limits.{LimitsOf}
 use Rattle.units.specs.Positions.{positions_from}
 use Rattle.units.specs.Reordering.{IsLineOrder, begins_line, cuts_of}
@@ -39,10 +39,21 @@ of_cuts (level ∷ levels) own breaks k len lt =
     from_cuts (level ∷ levels) 0 (length (level ∷ levels)) (cuts_of own breaks) k (omega arith) (omega arith) (cuts_below own breaks (length (level ∷ levels)) len) lt
 
 -- each line of a defined layout begins within the text, and has the order of its levels
-pub layout_ordered : (limits : LimitsOf) (text : List BidiUnit) (direction : Direction) (breaks : List ℕ) → LinesHaveOrder (layout_of limits text direction breaks)
+layout_ordered : (limits : LimitsOf) (text : List BidiUnit) (direction : Direction) (breaks : List ℕ) → LinesHaveOrder (layout_of limits text direction breaks)
 unfolding layout_of
 layout_ordered limits text direction breaks k lt =
     of_cuts _ (classes_of text) breaks k (length-map text (λ (u : BidiUnit). u.class) ∙ sym (length-levels limits text direction breaks)) lt
+
+-- so of a layout that is the defined one
+pub in_order : (layout : TextLayout) (limits : LimitsOf) (text : List BidiUnit) (direction : Direction) (breaks : List ℕ)
+    → layout ≡ layout_of limits text direction breaks → LinesHaveOrder layout
+in_order layout limits text direction breaks is = subst LinesHaveOrder (sym is) (layout_ordered limits text direction breaks)
+
+-- of one that a call made which refuses only what is too long
+pub in_order_done : {E : Type 0} (done : Result (Unit {0}) E) (layout : TextLayout) (limits : LimitsOf) (text : List BidiUnit) (direction : Direction) (breaks : List ℕ) (room n : ℕ)
+    → IsErr done ↔ (room < n) → n ≤ room → OnOk done (layout ≡ layout_of limits text direction breaks) → LinesHaveOrder layout
+in_order_done (Ok all) layout limits text direction breaks room n long fits is = in_order layout limits text direction breaks is
+in_order_done (Err fault) layout limits text direction breaks room n long fits is = absurd (omega (arith, long.0 refl, fits))
 
 -- and so has the line that was laid out
 pub line_in_order : (levels levels_read : List (Option ℕ)) (start end : ℕ) (order : List ℕ) → start ≤ end → levels_read ≡ levels → HasOrder levels (record { start = start; end = end; order = order }) → IsLineOrder levels_read start end order

@@ -1,22 +1,29 @@
 -- The columns of a room, and what a text's offsets are in them.
-use Rattle.std.proofs.Common.{◌≡◌, ℕ, ◌+◌, ◌<◌, ◌≤◌, List, [], ◌∷◌, length, get_or, zero, suc, map, take, refl, sym, ap, ◌∙◌, inl, inr, arith}
-use Rattle.std.specs.Prelude.{slice_index, Result, Ok, Err, IfErr, OnOk}
+use Rattle.std.proofs.Common.{◌≡◌, ℕ, ◌+◌, ◌<◌, ◌≤◌, List, [], ◌∷◌, length, get_or, zero, suc, map, take, refl, sym, subst, ap, ◌∙◌, inl, inr, arith}
+use Rattle.std.specs.Prelude.{slice_index, Result, Ok, Err, IfErr, IsErr, OnErr, OnOk}
 use Rattle.std.specs.Box.{boxed_slice_items, boxed_slice_with_items}
 use Rattle.std.specs.declared.boxed.BoxedSlice.{BoxedSlice}
 use Rattle.std.specs.List.{All}
 use Rattle.std.specs.Char.Utf16.{utf16_lossy_chars}
 use Rattle.std.specs.Str.{chars, IsUtf8}
-use Rattle.std.proofs.lemmas.Bool.{cases_lt}
+use Rattle.std.proofs.lemmas.Bool.{cases_lt, true≢false}
 use Rattle.std.proofs.lemmas.List.{get_or-take, take-append-le, take_all}
 use Rattle.std.proofs.lemmas.List.Elements.{All-map}
 use Rattle.std.proofs.lemmas.List.Sums.{sum_by-cons, sum_by_more}
 use Rattle.std.proofs.lemmas.Str.{len_utf8_bounds, length-encode}
+use Rattle.units.specs.declared.bracket.Unit.{Unit as BidiUnit}
+use Rattle.ucdfiles.specs.Tables.{TablesOf}
+use Rattle.encoded.specs.Decoded.{AreDecoded}
 use Rattle.encoded.specs.Encodings.{in_utf16, in_utf8, utf16_text, utf8_text, IsUtf16}
 use Rattle.encoded.specs.LossyTexts.{utf8_lossy_text}
 use Rattle.encoded.specs.Offsets.{Spelled, AreStarts, IsSpelledOut, code_units, offset_of}
-use Rattle.encoded.specs.Refusals.{RefusesBreaks, RefusesUtf16, RefusesUtf16Lossy, RefusesUtf8, RefusesUtf8Lossy}
+use Rattle.encoded.specs.Refusals.{RefusesBreaks, RefusesUtf16By, RefusesUtf8, RefusesUtf8Lossy}
+use Rattle.encoded.specs.Rooms.{BreaksAnew, Holds, Keeps, room_for}
 use Rattle.encoded.specs.Starts.{AreFound, AreOffsets}
+use Rattle.encoded.specs.declared.decoding.Faults.{Faults}
+use Rattle.encoded.specs.declared.decoding.Faults.TheVariants.{Refused, Replaced}
 use Rattle.encoded.specs.declared.fault.EncodedFault.{EncodedFault}
+use Rattle.encoded.specs.declared.room.Room.{Room}
 use Rattle.encoded.proofs.Utf16Texts.{one_unit, two_units}
 use Rattle.encoded.specs.declared.fault.EncodedFault.TheVariants.{TooLong, IllFormed, Break, BreakInside}
 
@@ -25,6 +32,16 @@ pub refilled : {A Z : Type 0} (column : BoxedSlice A Z) (xs : List A) → length
 refilled column xs len =
     let same : length xs ≡ column.items.len = len ∙ sym column.items.ok.0 in
     take-append-le column.items.len xs _ (omega (arith, same)) ∙ take_all column.items.len xs (omega (arith, same))
+
+-- a text that was decoded to both spare columns
+pub decoded_to : {Y Z : Type 0} (tables : TablesOf) (text : List Spelled) (n : ℕ) (units : BoxedSlice BidiUnit Y) (starts : BoxedSlice ℕ Z) (us : List BidiUnit) (ss : List ℕ)
+    → length us ≡ length (boxed_slice_items units) → length ss ≡ length (boxed_slice_items starts) → AreDecoded tables text n us ss
+    → AreDecoded tables text n (boxed_slice_items (boxed_slice_with_items units us)) (boxed_slice_items (boxed_slice_with_items starts ss))
+decoded_to tables text n units starts us ss units_len starts_len d = record {
+  count = d.count;
+  units = ap (take n) (refilled units us units_len) ∙ d.units;
+  starts = subst (AreStarts text) (sym (refilled starts ss starts_len)) d.starts;
+}
 
 -- the offsets of a text rise
 offset_rises : (text : List Spelled) → IsSpelledOut text → (j k : ℕ) → j < k → k ≤ length text → offset_of text j < offset_of text k
@@ -66,10 +83,21 @@ pub begin_of_found : (text : List Spelled) (starts breaks indices : List ℕ) �
 begin_of_found text starts breaks indices whole at f =
     map_alike (offset_of text) (slice_index starts) indices (λ k d lt. sym (at (get_or indices k d) (omega (arith, f.inside k d lt, whole)))) ∙ f.found
 
--- what follows of a result that is done
+-- what follows of a result that is done, and of one that is not
 pub on_ok : {T E P Q : Type 0} (r : Result T E) → (P → Q) → OnOk r P → OnOk r Q
 on_ok (Ok x) then h = then h
 on_ok (Err e) then h = h
+
+pub on_err : {T E P Q : Type 0} (r : Result T E) → (P → Q) → OnErr r P → OnErr r Q
+on_err (Ok x) then h = h
+on_err (Err e) then h = then h
+
+-- refused breaks leave what the room holds
+pub keeps_lines : (breaks : List ℕ) (old new : Room) (done : Result (Unit {0}) EncodedFault) → IsErr done → room_for new ≡ room_for old → Keeps old new
+    → ((text : List Spelled) → Holds old text → IfErr done (RefusesBreaks text breaks)) → BreaksAnew breaks old new done
+keeps_lines breaks old new (Ok all) is room keeps refused = absurd (true≢false (sym is))
+keeps_lines breaks old new (Err fault) is room keeps refused =
+    record { room = room; refused = refused; kept = keeps; taken = λ _ _. tt; held = keeps.text; laid_out = λ _ _ _ _ _. tt }
 
 -- faulty breaks of bytes that are well formed
 pub refuses_utf8 : {T : Type 0} (room : ℕ) (bytes breaks : List ℕ) (r : Result T EncodedFault) → length bytes ≤ room → IsUtf8 bytes → IfErr r (RefusesBreaks (utf8_text bytes) breaks) → IfErr r (RefusesUtf8 room bytes breaks)
@@ -95,20 +123,15 @@ utf16_spelled units = All-map (λ (s : Spelled). 0 < s.width) in_utf16 (utf16_lo
       | inr above ↦ omega (arith, two_units x above)
     ])
 
--- faulty breaks of code units of 16 bits that are well formed, and of any
-pub refuses_utf16 : {T : Type 0} (room : ℕ) (units breaks : List ℕ) (r : Result T EncodedFault) → length units ≤ room → IsUtf16 units → IfErr r (RefusesBreaks (utf16_text units) breaks) → IfErr r (RefusesUtf16 room units breaks)
-refuses_utf16 room units breaks (Ok x) fits is h = h
-refuses_utf16 room units breaks (Err TooLong) fits is h = absurd h
-refuses_utf16 room units breaks (Err (IllFormed at)) fits is h = absurd h
-refuses_utf16 room units breaks (Err (Break fault)) fits is h = (fits, is, h)
-refuses_utf16 room units breaks (Err (BreakInside index)) fits is h = (fits, is, h)
-
-pub refuses_utf16_lossy : {T : Type 0} (room : ℕ) (units breaks : List ℕ) (r : Result T EncodedFault) → length units ≤ room → IfErr r (RefusesBreaks (utf16_text units) breaks) → IfErr r (RefusesUtf16Lossy room units breaks)
-refuses_utf16_lossy room units breaks (Ok x) fits h = h
-refuses_utf16_lossy room units breaks (Err TooLong) fits h = absurd h
-refuses_utf16_lossy room units breaks (Err (IllFormed at)) fits h = absurd h
-refuses_utf16_lossy room units breaks (Err (Break fault)) fits h = (fits, h)
-refuses_utf16_lossy room units breaks (Err (BreakInside index)) fits h = (fits, h)
+-- faulty breaks of code units of 16 bits
+pub refuses_utf16_by : {T : Type 0} (room : ℕ) (units breaks : List ℕ) (faults : Faults) (r : Result T EncodedFault) → length units ≤ room → (faults ≡ Refused → IsUtf16 units) → IfErr r (RefusesBreaks (utf16_text units) breaks) → IfErr r (RefusesUtf16By faults room units breaks)
+refuses_utf16_by room units breaks faults (Ok x) fits is h = h
+refuses_utf16_by room units breaks faults (Err TooLong) fits is h = absurd h
+refuses_utf16_by room units breaks faults (Err (IllFormed at)) fits is h = absurd h
+refuses_utf16_by room units breaks Refused (Err (Break fault)) fits is h = (fits, is refl, h)
+refuses_utf16_by room units breaks Replaced (Err (Break fault)) fits is h = (fits, h)
+refuses_utf16_by room units breaks Refused (Err (BreakInside index)) fits is h = (fits, is refl, h)
+refuses_utf16_by room units breaks Replaced (Err (BreakInside index)) fits is h = (fits, h)
 
 -- there are no more characters than code units
 pub few_characters : (text : List Spelled) → IsSpelledOut text → length text ≤ code_units text

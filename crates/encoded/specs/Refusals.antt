@@ -6,6 +6,8 @@ use Rattle.lines.specs.LineBreaks.{AreBreaks, IsFirstBreakFault}
 use Rattle.encoded.specs.Encodings.{utf16_text, utf8_text, IsFirstLone, IsUtf16}
 use Rattle.encoded.specs.LossyTexts.{utf8_lossy_text}
 use Rattle.encoded.specs.Offsets.{Spelled, code_units, offset_of}
+use Rattle.encoded.specs.declared.decoding.Faults.{Faults}
+use Rattle.encoded.specs.declared.decoding.Faults.TheVariants.{Refused, Replaced}
 use Rattle.encoded.specs.declared.fault.EncodedFault.{EncodedFault}
 use Rattle.encoded.specs.declared.fault.EncodedFault.TheVariants.{TooLong, IllFormed, Break, BreakInside}
 
@@ -64,6 +66,11 @@ abbrev pub RefusesUtf16Lossy : ℕ → List ℕ → List ℕ → EncodedFault �
 RefusesUtf16Lossy room units breaks TooLong = room < length units
 RefusesUtf16Lossy room units breaks (IllFormed at) = ⊥
 RefusesUtf16Lossy room units breaks fault = (length units ≤ room) × RefusesBreaks (utf16_text units) breaks fault
+
+-- the same by what becomes of such surrogates
+abbrev pub RefusesUtf16By : Faults → ℕ → List ℕ → List ℕ → EncodedFault → Type 0
+RefusesUtf16By Refused = RefusesUtf16
+RefusesUtf16By Replaced = RefusesUtf16Lossy
 
 -- code units of 16 bits that are laid out: there is room for them, and the breaks rise within them
 pub record TakesUtf16 (room : ℕ) (units breaks : List ℕ) : Type 0 where

@@ -5,6 +5,7 @@ mod breaking;
 mod decoding;
 pub mod fault;
 mod indices;
+pub mod laying_out;
 pub mod lookups;
 mod lossy;
 pub mod orders;

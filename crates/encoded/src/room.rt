@@ -12,11 +12,10 @@ ghost use Rattle.encoded.specs.Starts.{AreOffsets};
 use crate::breaking::{breaks_at, find_breaks};
 use crate::decoding::Faults;
 use crate::fault::EncodedFault;
+use crate::laying_out::{break_units, lay_out_nothing, lay_out_units};
 use crate::lossy::decode_utf8_lossy;
 use crate::utf8::decode_utf8;
 use crate::utf16::decode_utf16;
-use lines::breaks::Breaks;
-use lines::lay_out::{break_anew_into, lay_out_into, lay_out_into_with};
 use lines::layout::Layout;
 use lines::scratch::{MOST, RoomFault, Scratch};
 use std::alloc::{AllocError, Global};
@@ -51,7 +50,7 @@ pub struct Room {
 }
 
 /// A column of units.
-fn unit_column(alloc: Global, n: usize) -> Result<BoxedSlice<Unit>, AllocError>
+pub fn unit_column(alloc: Global, n: usize) -> Result<BoxedSlice<Unit>, AllocError>
     ensures { IfOk result (λ units. length (boxed_slice_items units) ≡ n) }
 {
     let none = Unit {
@@ -67,25 +66,6 @@ fn offset_column(alloc: Global, n: usize) -> Result<BoxedSlice<u32>, AllocError>
     ensures zero { IfOk result (λ starts. slice_index (boxed_slice_items starts) 0 ≡ 0) }
 {
     Ok(Vec::from_elem(alloc, 0, n)?.into_boxed_slice())
-}
-
-/// A column of indices.
-fn index_column(alloc: Global, n: usize) -> Result<BoxedSlice<usize>, AllocError>
-    ensures { IfOk result (λ indices. length (boxed_slice_items indices) ≡ n) }
-{
-    Ok(Vec::from_elem(alloc, 0, n)?.into_boxed_slice())
-}
-
-/// Lays out an empty text, which any scratch has room for.
-fn lay_out_nothing(scratch: &mut Scratch)
-    ensures room { room_of scratch.new ≡ room_of scratch.old }
-    ensures filled { IsFilled scratch.new }
-    ensures empty { layout_in scratch.new ≡ layout_of standard [] Auto [] }
-    ensures holds { HoldsText standard [] Auto scratch.new }
-{
-    if let Ok(breaks) = Breaks::new(&[], 0) {
-        let _done = lay_out_into(scratch, &[], Direction::Auto, &breaks);
-    }
 }
 
 impl Room {
@@ -104,12 +84,12 @@ impl Room {
     ghost use Rattle.encoded.specs.Encodings.{utf16_text, utf8_text, IsUtf16};
     ghost use Rattle.encoded.specs.LossyTexts.{utf8_lossy_text};
     ghost use Rattle.encoded.specs.Offsets.{Spelled, AreStarts, code_units};
-    ghost use Rattle.encoded.specs.Refusals.{RefusesBreaks, RefusesUtf16, RefusesUtf16Lossy, RefusesUtf8, RefusesUtf8Lossy};
+    ghost use Rattle.encoded.specs.Refusals.{RefusesBreaks, RefusesUtf16, RefusesUtf16By, RefusesUtf16Lossy, RefusesUtf8, RefusesUtf8Lossy};
     ghost use Rattle.encoded.specs.Refusals.{TakesUtf16, TakesUtf8, TakesUtf8Lossy};
-    ghost use Rattle.encoded.specs.Rooms.{Holds, HoldsLayout, HoldsTextBy, Keeps, characters_in, layout_held, layout_with};
+    ghost use Rattle.encoded.specs.Rooms.{BreaksAnew, Holds, HoldsLayout, HoldsTextBy, Keeps, LaysOut, characters_in, layout_held, layout_with};
     ghost use Rattle.encoded.specs.Rooms.{room_for, starts_in, units_held};
     ghost use Rattle.encoded.specs.Starts.{AreOffsets};
-    ghost use Rattle.encoded.specs.declared.decoding.Faults.TheVariants.{Refused, Replaced};
+    ghost use Rattle.encoded.specs.declared.decoding.Faults.TheVariants.{Refused};
 
     /// Room for texts of up to `n` code units, at most 16,777,216, with the layout of an empty text.
     pub fn with_room(alloc: Global, n: usize) -> Result<Room, RoomFault>
@@ -137,7 +117,7 @@ impl Room {
         let spare_units = unit_column(alloc, n)?;
         let starts = offset_column(alloc, n + 1)?;
         let spare = offset_column(alloc, n + 1)?;
-        let indices = index_column(alloc, n)?;
+        let indices = Vec::from_elem(alloc, 0, n)?.into_boxed_slice();
         let mut scratch = Scratch::reserve(alloc, n).map_err(|_| AllocError)?;
         lay_out_nothing(&mut scratch);
         Ok(Room {
@@ -195,7 +175,7 @@ impl Room {
     {
         let breaks = breaks_at(&self.indices[..found], count);
         let text = &self.spare_units[..count];
-        lay_out_into_with(&mut self.scratch, text, direction, &breaks, limits).unwrap();
+        lay_out_units(&mut self.scratch, text, direction, &breaks, limits);
         swap(&mut self.starts, &mut self.spare);
         swap(&mut self.units, &mut self.spare_units);
         self.direction = direction;
@@ -243,13 +223,9 @@ impl Room {
         breaks: &[usize],
         limits: Limits,
     ) -> Result<(), EncodedFault>
-        ensures room { room_for self.new ≡ room_for self.old }
-        ensures refused { IfErr result (RefusesUtf8 (room_for self.old) bytes.now breaks.now) }
-        ensures kept { OnErr result (Keeps self.old self.new) }
-        ensures taken { OnOk result (TakesUtf8 (room_for self.old) bytes.now breaks.now) }
-        ensures laid_out { OnOk result (HoldsLayout limits tables.now (utf8_text bytes.now) direction breaks.now
-            self.new) }
-        ensures held { OnOk result (HoldsTextBy limits tables.now (utf8_text bytes.now) direction self.new) }
+        ensures { LaysOut (TakesUtf8 (room_for self.old) bytes.now breaks.now)
+            (RefusesUtf8 (room_for self.old) bytes.now breaks.now) limits tables.now (utf8_text bytes.now)
+            direction breaks.now self.old self.new result }
     {
         if self.room() < bytes.len() {
             return Err(EncodedFault::TooLong);
@@ -271,13 +247,9 @@ impl Room {
         breaks: &[usize],
         limits: Limits,
     ) -> Result<(), EncodedFault>
-        ensures room { room_for self.new ≡ room_for self.old }
-        ensures refused { IfErr result (RefusesUtf8Lossy (room_for self.old) bytes.now breaks.now) }
-        ensures kept { OnErr result (Keeps self.old self.new) }
-        ensures taken { OnOk result (TakesUtf8Lossy (room_for self.old) bytes.now breaks.now) }
-        ensures laid_out { OnOk result (HoldsLayout limits tables.now (utf8_lossy_text bytes.now) direction breaks.now
-            self.new) }
-        ensures held { OnOk result (HoldsTextBy limits tables.now (utf8_lossy_text bytes.now) direction self.new) }
+        ensures { LaysOut (TakesUtf8Lossy (room_for self.old) bytes.now breaks.now)
+            (RefusesUtf8Lossy (room_for self.old) bytes.now breaks.now) limits tables.now (utf8_lossy_text bytes.now)
+            direction breaks.now self.old self.new result }
     {
         if self.room() < bytes.len() {
             return Err(EncodedFault::TooLong);
@@ -286,7 +258,7 @@ impl Room {
         self.lay_out_decoded(count, direction, breaks, limits)
     }
 
-    /// Decodes a text in UTF-16 and lays it out.
+    /// Lays out a text in UTF-16, if there is room for it.
     fn lay_out_units16(
         &mut self,
         tables: &Tables,
@@ -296,18 +268,13 @@ impl Room {
         breaks: &[usize],
         limits: Limits,
     ) -> Result<(), EncodedFault>
-        requires { length text.now ≤ room_for self.old }
-        ensures room { room_for self.new ≡ room_for self.old }
-        ensures kept { OnErr result (Keeps self.old self.new) }
-        ensures strict { faults ≡ Refused → IfErr result (RefusesUtf16 (room_for self.old) text.now breaks.now) }
-        ensures lossy { faults ≡ Replaced
-            → IfErr result (RefusesUtf16Lossy (room_for self.old) text.now breaks.now) }
-        ensures well_formed { OnOk result (faults ≡ Refused → IsUtf16 text.now) }
-        ensures taken { OnOk result (TakesUtf16 (room_for self.old) text.now breaks.now) }
-        ensures laid_out { OnOk result (HoldsLayout limits tables.now (utf16_text text.now) direction breaks.now
-            self.new) }
-        ensures held { OnOk result (HoldsTextBy limits tables.now (utf16_text text.now) direction self.new) }
+        ensures { LaysOut ((faults ≡ Refused → IsUtf16 text.now) × TakesUtf16 (room_for self.old) text.now breaks.now)
+            (RefusesUtf16By faults (room_for self.old) text.now breaks.now) limits tables.now (utf16_text text.now)
+            direction breaks.now self.old self.new result }
     {
+        if self.room() < text.len() {
+            return Err(EncodedFault::TooLong);
+        }
         match decode_utf16(text, faults, tables, &mut self.spare_units, &mut self.spare) {
             Ok(count) => self.lay_out_decoded(count, direction, breaks, limits),
             Err(at) => Err(EncodedFault::IllFormed(at)),
@@ -324,18 +291,10 @@ impl Room {
         breaks: &[usize],
         limits: Limits,
     ) -> Result<(), EncodedFault>
-        ensures room { room_for self.new ≡ room_for self.old }
-        ensures refused { IfErr result (RefusesUtf16 (room_for self.old) text.now breaks.now) }
-        ensures kept { OnErr result (Keeps self.old self.new) }
-        ensures well_formed { OnOk result (IsUtf16 text.now) }
-        ensures taken { OnOk result (TakesUtf16 (room_for self.old) text.now breaks.now) }
-        ensures laid_out { OnOk result (HoldsLayout limits tables.now (utf16_text text.now) direction breaks.now
-            self.new) }
-        ensures held { OnOk result (HoldsTextBy limits tables.now (utf16_text text.now) direction self.new) }
+        ensures { LaysOut (IsUtf16 text.now × TakesUtf16 (room_for self.old) text.now breaks.now)
+            (RefusesUtf16 (room_for self.old) text.now breaks.now) limits tables.now (utf16_text text.now)
+            direction breaks.now self.old self.new result }
     {
-        if self.room() < text.len() {
-            return Err(EncodedFault::TooLong);
-        }
         self.lay_out_units16(tables, text, Faults::Refused, direction, breaks, limits)
     }
 
@@ -348,17 +307,10 @@ impl Room {
         breaks: &[usize],
         limits: Limits,
     ) -> Result<(), EncodedFault>
-        ensures room { room_for self.new ≡ room_for self.old }
-        ensures refused { IfErr result (RefusesUtf16Lossy (room_for self.old) text.now breaks.now) }
-        ensures kept { OnErr result (Keeps self.old self.new) }
-        ensures taken { OnOk result (TakesUtf16 (room_for self.old) text.now breaks.now) }
-        ensures laid_out { OnOk result (HoldsLayout limits tables.now (utf16_text text.now) direction breaks.now
-            self.new) }
-        ensures held { OnOk result (HoldsTextBy limits tables.now (utf16_text text.now) direction self.new) }
+        ensures { LaysOut (TakesUtf16 (room_for self.old) text.now breaks.now)
+            (RefusesUtf16Lossy (room_for self.old) text.now breaks.now) limits tables.now (utf16_text text.now)
+            direction breaks.now self.old self.new result }
     {
-        if self.room() < text.len() {
-            return Err(EncodedFault::TooLong);
-        }
         self.lay_out_units16(tables, text, Faults::Replaced, direction, breaks, limits)
     }
 
@@ -374,7 +326,7 @@ impl Room {
     {
         let count = self.characters();
         let breaks = breaks_at(&self.indices[..found], count);
-        break_anew_into(&mut self.scratch, &self.units[..count], &breaks);
+        break_units(&mut self.scratch, &self.units[..count], &breaks);
     }
 
     /// Breaks the text that it holds into lines anew (L1, L2), for those who lay out a text, shape its runs, and know
@@ -383,15 +335,7 @@ impl Room {
     ///
     /// They are refused for their first fault, and the room then holds what it held.
     pub fn break_anew(&mut self, breaks: &[usize]) -> Result<(), EncodedFault>
-        ensures room { room_for self.new ≡ room_for self.old }
-        ensures refused { (text : List Spelled) → Holds self.old text → IfErr result (RefusesBreaks text breaks.now) }
-        ensures kept { OnErr result (Keeps self.old self.new) }
-        ensures taken { (text : List Spelled) → Holds self.old text
-            → OnOk result (AreBreaks breaks.now (code_units text)) }
-        ensures held { units_held self.new ≡ units_held self.old }
-        ensures laid_out { (limits : LimitsOf) (tables : TablesOf) (text : List Spelled) (direction : BidiDirection)
-            → HoldsTextBy limits tables text direction self.old
-            → OnOk result (HoldsLayout limits tables text direction breaks.now self.new) }
+        ensures { BreaksAnew breaks.now self.old self.new result }
     {
         let count = self.characters();
         find_breaks(&self.starts[..count + 1], breaks, &mut self.indices)?;

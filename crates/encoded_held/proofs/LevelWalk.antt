@@ -1,9 +1,10 @@
 -- The levels of code units, written one after another.
 use Rattle.std.proofs.Common.{◌≡◌, ℕ, ◌+◌, ◌<◌, ◌≤◌, List, ◌++◌, length, set, take, drop, refl, sym, ap, ◌∙◌, inl, inr, subst, arith}
-use Rattle.std.specs.Prelude.{Option, Some, None, MatchOption, slice_index, slice_index_or}
+use Rattle.std.specs.Prelude.{Some, None, slice_index, slice_index_or}
 use Rattle.std.proofs.Math.Seq.{take-append_seam, drop-append_seam}
 use Rattle.std.proofs.lemmas.Bool.{cases_eq, cases_lt}
 use Rattle.std.proofs.lemmas.List.{get_or-set_same, get_or-set_other}
+use Rattle.units.specs.Layout.{TextLayout}
 use Rattle.encoded.specs.Offsets.{Spelled, IsOf, code_units, offset_of}
 use Rattle.encoded.specs.Rooms.{Holds, characters_in, layout_held, starts_in}
 use Rattle.encoded.specs.declared.room.Room.{Room}
@@ -12,9 +13,8 @@ use Rattle.bidi_held.specs.Holdings.{encoded_in}
 use Rattle.bidi_held.specs.Texts.{level_byte}
 use Rattle.bidi_held.specs.Written.{Writes}
 use Rattle.bidi_held.specs.declared.held.Held.{Held}
-use Rattle.bidi_held.specs.declared.held.Held.TheVariants as held
-use Rattle.encoded_held.specs.EncodedTexts.{HoldsText}
 use Rattle.encoded_held.specs.InCodeUnits.{byte_of_character, AreEncodedLevels, IsAt}
+use Rattle.encoded_held.proofs.HeldRooms.{held_layout}
 use Rattle.encoded_held.proofs.HeldTexts.{starts_rise}
 
 -- the level of a character as a byte
@@ -27,22 +27,6 @@ pub record Walked (room : Room) (out : List ℕ) (at k : ℕ) : Type 0 where
   pub from : slice_index (starts_in room) k ≤ at
   pub upto : 0 < length out → at ≤ slice_index (starts_in room) (k + 1)
   pub written : (i j : ℕ) → i < at → IsAt room i j → slice_index out i ≡ byte room j
-
--- none yet
-pub walked_none : (room : Room) (out : List ℕ) → length out ≡ slice_index (starts_in room) (characters_in room) → Walked room out 0 0
-walked_none room out all =
-    let first : slice_index (starts_in room) 0 ≡ 0 = room.begun.first in
-    record {
-      inside = λ some. elim (cases_lt 0 (characters_in room)) [
-        | inl lt ↦ lt
-        | inr none ↦
-            let end : slice_index (starts_in room) (characters_in room) ≡ slice_index (starts_in room) 0 = ap (slice_index (starts_in room)) {x = characters_in room} {y = 0} (omega (arith, none)) in
-            absurd (omega (arith, some, all, end, first))
-      ];
-      from = omega (arith, first);
-      upto = λ some. omega arith;
-      written = λ i j lt _. absurd (omega (arith, lt));
-    }
 
 -- a code unit is one of a single character
 one_at : (room : Room) (at j k : ℕ) → IsAt room at j → IsAt room at k → j ≡ k
@@ -96,21 +80,13 @@ pub stays_at : (room : Room) (at k : ℕ) → k < characters_in room → slice_i
     → at < slice_index (starts_in room) (k + 1) → IsAt room at k
 stays_at room at k inside from before = record { inside = inside; from = from; before = before }
 
--- the room that is held holds the text that what is held holds
-pub held_room : (held : Held) (room : Room) (text : List Spelled) → encoded_in (Some held) ≡ Some room → HoldsText (Some held) text → Holds room text
-held_room held room text is hold = subst (λ (r : Option Room). MatchOption r ⊥ (λ room. Holds room text)) is hold
-
 -- the offset of the text's end counts its code units
 pub counted : (room : Room) (text : List Spelled) (n count : ℕ) → n ≡ characters_in room → Holds room text → count ≡ offset_of text n → count ≡ code_units text
 counted room text n count all h is = is ∙ ap (offset_of text) (all ∙ h.characters) ∙ offset-end text
 
 -- the layout that is held is that of the room
 byte_held : (what : Held) (room : Room) (k : ℕ) → encoded_in (Some what) ≡ Some room → byte room k ≡ byte_of_character (Some what) k
-byte_held (held.Encoded room) other k is = subst (λ (o : Option Room). MatchOption o ⊥ (λ (r : Room). byte r k ≡ byte room k)) is refl
-byte_held (held.Tables tables) other k is = absurd (subst (λ (o : Option Room). MatchOption o (Unit {0}) (λ (r : Room). ⊥)) is tt)
-byte_held (held.Room room) other k is = absurd (subst (λ (o : Option Room). MatchOption o (Unit {0}) (λ (r : Room). ⊥)) is tt)
-byte_held (held.Judge judge) other k is = absurd (subst (λ (o : Option Room). MatchOption o (Unit {0}) (λ (r : Room). ⊥)) is tt)
-byte_held (held.Report report) other k is = absurd (subst (λ (o : Option Room). MatchOption o (Unit {0}) (λ (r : Room). ⊥)) is tt)
+byte_held what room k is = ap (λ (v : TextLayout). level_byte (slice_index_or v.levels k None)) (sym (held_layout (Some what) room is))
 
 -- all levels are written in front
 pub levels_written : (held : Held) (room : Room) (text : List Spelled) (count : ℕ) (old filled : List ℕ) → encoded_in (Some held) ≡ Some room → count ≡ code_units text

@@ -1,5 +1,5 @@
 -- A text in code units, laid out in what a handle holds.
-use Rattle.std.specs.Prelude.{ℕ, ◌≡◌, ◌⊎◌, Option, Some, None, [], List, MatchOption, IfErr, OnErr, OnOk}
+use Rattle.std.specs.Prelude.{ℕ, ◌≡◌, ◌⊎◌, Option, Some, None, [], List, MatchOption}
 use Rattle.units.specs.Layout.{layout_of}
 use Rattle.units.specs.Limits.{LimitsOf, standard}
 use Rattle.units.specs.declared.level.Direction.TheVariants.{Auto}
@@ -12,6 +12,7 @@ use Rattle.encoded.specs.Rooms.{Holds, HoldsLayout, HoldsTextBy, Keeps, room_for
 use Rattle.encoded.specs.declared.fault.EncodedFault.{EncodedFault}
 use Rattle.encoded.specs.declared.fault.EncodedFault.TheVariants.{TooLong, IllFormed, Break, BreakInside}
 use Rattle.bidi_held.specs.Holdings.{capacity_in, encoded_in, layout_held, tables_in}
+use Rattle.bidi_held.specs.LaidOut.{LaysOut}
 use Rattle.bidi_held.specs.Statuses.{Outcome}
 use Rattle.bidi_held.specs.Texts.{direction_numbered}
 use Rattle.bidi_held.specs.declared.held.Held.{Held}
@@ -52,60 +53,30 @@ RefusesText RoomRefuses room tables direction refusal =
     ⊎ ((fault : EncodedFault) × (refusal ≡ refusal_of fault)
     × MatchOption (encoded_in room) ⊥ (λ held. RoomRefuses (room_for held) fault))))
 
--- P1 to L2: there are room for code units and tables, the number is a direction, and by these limits the room holds the
--- layout of this text, broken at the characters that begin at the breaks
+-- P1 to L2: there are room for code units and tables, the number is a direction, and by these limits the room holds this
+-- text and its layout, broken at the characters that begin at the breaks
 abbrev pub IsLaidOut : LimitsOf → Option Held → List Spelled → ℕ → List ℕ → Option Held → Type 0
 IsLaidOut limits tables text number breaks room =
-    MatchOption (tables_in tables) ⊥ (λ by. MatchOption (direction_numbered number) ⊥
-    (λ direction. MatchOption (encoded_in room) ⊥ (HoldsLayout limits by text direction breaks)))
+    MatchOption (tables_in tables) ⊥ (λ by. MatchOption (direction_numbered number) ⊥ (λ direction. MatchOption (encoded_in room) ⊥
+    (λ held. HoldsTextBy limits by text direction held × HoldsLayout limits by text direction breaks held)))
 
--- there are tables, the number is a direction, and by these limits the room holds this text, however it is broken
-abbrev pub IsTextHeld : LimitsOf → Option Held → List Spelled → ℕ → Option Held → Type 0
-IsTextHeld limits tables text number room =
-    MatchOption (tables_in tables) ⊥ (λ by. MatchOption (direction_numbered number) ⊥
-    (λ direction. MatchOption (encoded_in room) ⊥ (HoldsTextBy limits by text direction)))
+-- what is held before and after a call that is to lay out a text in code units
+abbrev pub LaysOutText : (ℕ → Type 0) → (ℕ → EncodedFault → Type 0) → List Spelled → LimitsOf → Option Held → ℕ → List ℕ → Option Held → Option Held → Outcome → Type 0
+LaysOutText RoomTakes RoomRefuses text limits tables direction breaks old new outcome =
+    LaysOut (MatchOption (encoded_in old) ⊥ (λ held. RoomTakes (room_for held))) (Stays old new)
+    (IsLaidOut limits tables text direction breaks new) (RefusesText RoomRefuses old tables direction) old new outcome
 
--- what is held before and after a call that is to lay out a text in code units: there is as much room as before, and
--- what is no room for code units stays; where the call is done the text was taken, it is the one that is held, and so
--- is its layout; else what is held stays
-pub record LaysOutText (RoomTakes : ℕ → Type 0) (RoomRefuses : ℕ → EncodedFault → Type 0) (text : List Spelled) (limits : LimitsOf) (tables : Option Held) (direction : ℕ) (breaks : List ℕ) (old new : Option Held) (outcome : Outcome) : Type 0 where
-  pub capacity : capacity_in new ≡ capacity_in old
-  pub other : encoded_in old ≡ None → new ≡ old
-  pub kept : OnErr outcome (Stays old new)
-  pub refused : IfErr outcome (RefusesText RoomRefuses old tables direction)
-  pub taken : OnOk outcome (MatchOption (encoded_in old) ⊥ (λ held. RoomTakes (room_for held)))
-  pub holds : OnOk outcome (IsTextHeld limits tables text direction new)
-  pub laid_out : OnOk outcome (IsLaidOut limits tables text direction breaks new)
-
--- what is held before and after a call that is to lay out a text in UTF-8
-abbrev pub LaysOutUtf8 : LimitsOf → Option Held → List ℕ → ℕ → List ℕ → Option Held → Option Held → Outcome → Type 0
-LaysOutUtf8 limits tables bytes direction breaks old new outcome =
-    LaysOutText (λ room. TakesUtf8 room bytes breaks) (λ room. RefusesUtf8 room bytes breaks) (utf8_text bytes)
-    limits tables direction breaks old new outcome
-
--- what is held before and after a call that is to lay out a text in UTF-8, where U+FFFD is read for each maximal subpart
--- of what is ill-formed
-abbrev pub LaysOutUtf8Lossy : LimitsOf → Option Held → List ℕ → ℕ → List ℕ → Option Held → Option Held → Outcome → Type 0
-LaysOutUtf8Lossy limits tables bytes direction breaks old new outcome =
-    LaysOutText (λ room. TakesUtf8Lossy room bytes breaks) (λ room. RefusesUtf8Lossy room bytes breaks)
-    (utf8_lossy_text bytes) limits tables direction breaks old new outcome
-
--- what is held before and after a call that is to lay out a text in UTF-16
-abbrev pub LaysOutUtf16 : LimitsOf → Option Held → List ℕ → ℕ → List ℕ → Option Held → Option Held → Outcome → Type 0
-LaysOutUtf16 limits tables units direction breaks old new outcome =
-    LaysOutText (λ room. IsUtf16 units × TakesUtf16 room units breaks) (λ room. RefusesUtf16 room units breaks)
-    (utf16_text units) limits tables direction breaks old new outcome
-
--- what is held before and after a call that is to lay out a text in UTF-16, where U+FFFD is read for each surrogate that
--- stands alone
-abbrev pub LaysOutUtf16Lossy : LimitsOf → Option Held → List ℕ → ℕ → List ℕ → Option Held → Option Held → Outcome → Type 0
-LaysOutUtf16Lossy limits tables units direction breaks old new outcome =
-    LaysOutText (λ room. TakesUtf16 room units breaks) (λ room. RefusesUtf16Lossy room units breaks)
-    (utf16_text units) limits tables direction breaks old new outcome
-
--- what is held before and after a call that is to lay out a text in code units, as its caller has it
+-- what is held before and after a call that is to lay out a text in UTF-8 or UTF-16, as its caller has it
 abbrev pub LaysOutEncoded : EncodedText → LimitsOf → Option Held → ℕ → List ℕ → Option Held → Option Held → Outcome → Type 0
-LaysOutEncoded (Utf8 bytes) limits tables = LaysOutUtf8 limits tables bytes.now
-LaysOutEncoded (Utf8Lossy bytes) limits tables = LaysOutUtf8Lossy limits tables bytes.now
-LaysOutEncoded (Utf16 units) limits tables = LaysOutUtf16 limits tables units.now
-LaysOutEncoded (Utf16Lossy units) limits tables = LaysOutUtf16Lossy limits tables units.now
+LaysOutEncoded (Utf8 bytes) limits tables direction breaks =
+    LaysOutText (λ room. TakesUtf8 room bytes.now breaks) (λ room. RefusesUtf8 room bytes.now breaks)
+    (utf8_text bytes.now) limits tables direction breaks
+LaysOutEncoded (Utf8Lossy bytes) limits tables direction breaks =
+    LaysOutText (λ room. TakesUtf8Lossy room bytes.now breaks) (λ room. RefusesUtf8Lossy room bytes.now breaks)
+    (utf8_lossy_text bytes.now) limits tables direction breaks
+LaysOutEncoded (Utf16 units) limits tables direction breaks =
+    LaysOutText (λ room. IsUtf16 units.now × TakesUtf16 room units.now breaks) (λ room. RefusesUtf16 room units.now breaks)
+    (utf16_text units.now) limits tables direction breaks
+LaysOutEncoded (Utf16Lossy units) limits tables direction breaks =
+    LaysOutText (λ room. TakesUtf16 room units.now breaks) (λ room. RefusesUtf16Lossy room units.now breaks)
+    (utf16_text units.now) limits tables direction breaks

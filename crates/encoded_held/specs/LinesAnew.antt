@@ -1,5 +1,5 @@
 -- The text in code units that a handle holds, broken into lines anew.
-use Rattle.std.specs.Prelude.{ℕ, ◌≡◌, ◌⊎◌, Option, None, IsSome, List, MatchOption, IfErr, OnErr, OnOk}
+use Rattle.std.specs.Prelude.{ℕ, ◌≡◌, ◌⊎◌, Option, None, IsSome, List, MatchOption}
 use Rattle.units.specs.Limits.{LimitsOf}
 use Rattle.units.specs.declared.level.Direction.{Direction}
 use Rattle.ucdfiles.specs.Tables.{TablesOf}
@@ -8,7 +8,8 @@ use Rattle.encoded.specs.Offsets.{Spelled, code_units}
 use Rattle.encoded.specs.Refusals.{RefusesBreaks}
 use Rattle.encoded.specs.Rooms.{HoldsLayout, HoldsTextBy}
 use Rattle.encoded.specs.declared.fault.EncodedFault.{EncodedFault}
-use Rattle.bidi_held.specs.Holdings.{capacity_in, encoded_in}
+use Rattle.bidi_held.specs.Holdings.{encoded_in}
+use Rattle.bidi_held.specs.LaidOut.{LaysOut}
 use Rattle.bidi_held.specs.Statuses.{Outcome}
 use Rattle.bidi_held.specs.declared.held.Held.{Held}
 use Rattle.bidi_held.specs.declared.refusal.Refusal.{Refusal}
@@ -30,18 +31,11 @@ OfEachHeld old IsSo =
     (limits : LimitsOf) (tables : TablesOf) (text : List Spelled) (direction : Direction)
     → MatchOption (encoded_in old) ⊥ (HoldsTextBy limits tables text direction) → IsSo limits tables text direction
 
--- what is held before and after a call that is to break the text in code units that a room holds into lines anew: there
--- is as much room as before, what is no room for code units stays, and so does the text; where the call is done, the
--- breaks were taken, and the layout is that of the text, broken at the characters that begin at them; else what is held
--- stays
-pub record SetsEncodedLines (breaks : List ℕ) (old new : Option Held) (outcome : Outcome) : Type 0 where
-  pub capacity : capacity_in new ≡ capacity_in old
-  pub other : encoded_in old ≡ None → new ≡ old
-  pub kept : OnErr outcome (Stays old new)
-  pub refused : IfErr outcome (RefusesEncodedLines old breaks)
-  pub some : OnOk outcome (IsSome (encoded_in old))
-  pub taken : OnOk outcome (OfItsText old (λ text. AreBreaks breaks (code_units text)))
-  pub holds : OfEachHeld old (λ limits tables text direction.
-      MatchOption (encoded_in new) ⊥ (HoldsTextBy limits tables text direction))
-  pub laid_out : OfEachHeld old (λ limits tables text direction.
-      OnOk outcome (MatchOption (encoded_in new) ⊥ (HoldsLayout limits tables text direction breaks)))
+-- what is held before and after a call that is to break the text in code units that a room holds into lines anew: where
+-- it is done, the text stays, and its layout is broken at the characters that begin at the breaks
+abbrev pub SetsEncodedLines : List ℕ → Option Held → Option Held → Outcome → Type 0
+SetsEncodedLines breaks old new outcome =
+    LaysOut (IsSome (encoded_in old) × OfItsText old (λ text. AreBreaks breaks (code_units text))) (Stays old new)
+    (OfEachHeld old (λ limits tables text direction. MatchOption (encoded_in new) ⊥ (λ room.
+    HoldsTextBy limits tables text direction room × HoldsLayout limits tables text direction breaks room)))
+    (RefusesEncodedLines old breaks) old new outcome

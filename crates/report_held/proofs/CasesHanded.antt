@@ -1,8 +1,7 @@
 -- What a report that is held is handed, and what it hands out.
-use Rattle.std.proofs.Common.{◌≡◌, ℕ, ◌+◌, ◌<◌, ◌++◌, Bool, true, false, Option, Some, None, List, [], ◌∷◌, drop, get_or, length, refl, sym, ap, subst, ◌∙◌, append-nil, append_assoc}
+use Rattle.std.proofs.Common.{◌≡◌, ℕ, ◌+◌, ◌++◌, Bool, true, false, Option, Some, None, List, [], refl, sym, ap, subst, ◌∙◌, append-nil}
 use Rattle.std.specs.Option.{option_map}
 use Rattle.std.specs.Arc.{arc_value}
-use Rattle.std.proofs.lemmas.List.{drop_more}
 use Rattle.units.specs.Limits.{LimitsOf}
 use Rattle.ucdfiles.specs.Tables.{TablesOf}
 use Rattle.bidtests.specs.JudgedSoFar.{tables_of}
@@ -19,7 +18,7 @@ use Rattle.bidi_held.specs.declared.table_report.TableReport.{TableReport}
 use Rattle.report_held.specs.HeldReports.{HasCome, ReportHandedOut, HandsOutAll, cases_known, left_in, report_with}
 use Rattle.report_held.specs.ToldReports.{counts_of, counts_told}
 use Rattle.report_held.specs.declared.told_counts.BidiCounts.{BidiCounts}
-use Rattle.report_held.specs.ReportCalls.{Ends, Hands, Takes}
+use Rattle.report_held.specs.ReportCalls.{Ends, Takes}
 
 -- the report depends on the tables of its kind alone
 report-with : (limits : LimitsOf) (kind : Kind) (b : List ℕ) → report_of (strict_terms limits) kind b ≡ report_with limits (tables_of kind) b
@@ -79,24 +78,3 @@ module _ (old : TableReport) (none : left_in old ≡ []) where
         let whole : report_with limits tables bytes ≡ report_at_end handed (ended_in state) =
         ap (λ t. report_with limits t bytes) (sym by) ∙ sym (report-with limits kind bytes) ∙ ends (strict_terms limits) handed bytes told in
         (record { by = h.by; ends = refl; so_far = whole }, is ∙ sym (ap counts_told whole))
-
--- the next of the wrong cases that are left
-pub hands-next : (old : TableReport) (case : WrongCase) → old.handed < length old.state.lines.found → case ≡ get_or old.state.lines.found old.handed case
-    → Hands old (record { tables = old.tables; state = old.state; handed = old.handed + 1; ended = old.ended }) case
-hands-next old case within is = λ limits tables ended handed bytes h.
-    let found = old.state.lines.found in
-    let left : left_in old ≡ case ∷ drop (old.handed + 1) found = drop_more found old.handed case within ∙ ap (λ (w : WrongCase). w ∷ drop (old.handed + 1) found) (sym is) in
-    record {
-      by = h.by;
-      ends = h.ends;
-      so_far = subst (λ (told : List WrongCase). HasCome limits tables ended old.state told bytes)
-          (ap (λ ws. handed ++ ws) left ∙ sym (append_assoc handed (case ∷ []) (drop (old.handed + 1) found))) h.so_far;
-    }
-
--- one piece behind the other
-pub takes-both : (old mid new : TableReport) (a b : List ℕ) → Takes old mid a → Takes mid new b → Takes old new (a ++ b)
-takes-both old mid new a b first second = λ limits tables handed bytes h.
-    subst (λ (bs : List ℕ). ReportHandedOut limits tables false new handed bs) (append_assoc bytes a b) (second limits tables handed (bytes ++ a) (first limits tables handed bytes h))
-
-pub takes-nothing : (old : TableReport) → Takes old old []
-takes-nothing old = λ limits tables handed bytes h. subst (λ (bs : List ℕ). ReportHandedOut limits tables false old handed bs) (sym (append-nil bytes)) h

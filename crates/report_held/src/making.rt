@@ -1,5 +1,5 @@
 // Reports made.
-ghost use Rattle.std.specs.Prelude.{[], None, Some, IsSome, IfOk, IfErr, false};
+ghost use Rattle.std.specs.Prelude.{[], Some, IsSome, IfOk, IfErr, false};
 ghost use Rattle.std.specs.Option.{option_map};
 ghost use Rattle.std.specs.Arc.{arc_value};
 ghost use Rattle.bidi_held.specs.Holdings.{tables_in, RefusesSharing};
@@ -18,7 +18,7 @@ use units::limits::Limits;
 
 /// A report before its first byte, by these limits: on a BidiCharacterTest.txt by tables, and without tables on a
 /// BidiTest.txt.
-fn report_by(
+pub fn report_by(
     alloc: Global,
     tables: Option<Arc<Tables, Global>>,
     limits: Limits,
@@ -39,14 +39,6 @@ fn report_by(
         Ok(report) => Ok(Held::Report(report)),
         Err(_) => Err(Refusal::Memory),
     }
-}
-
-/// A report on a BidiTest.txt before its first byte, by these limits.
-pub fn class_report(alloc: Global, limits: Limits) -> Result<Held, Refusal>
-    ensures made { IfOk result (λ report. HandleHandedOut limits None false (Some report) [] []) }
-    ensures refused { IfErr result RefusesReport }
-{
-    report_by(alloc, None, limits)
 }
 
 /// A report on a BidiCharacterTest.txt before its first byte, by these limits and the tables that are held, which it

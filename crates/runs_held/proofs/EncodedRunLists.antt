@@ -1,6 +1,6 @@
 -- Runs that are told in characters, told in code units.
-use Rattle.std.proofs.Common.{◌≡◌, ℕ, ◌+◌, ◌<◌, ◌≤◌, Option, Some, List, [], ◌∷◌, ◌++◌, length, map, take, drop, sym, ap, ◌∙◌, inl, inr, subst, arith}
-use Rattle.std.specs.Prelude.{◌-◌, MatchOption, slice_index_or}
+use Rattle.std.proofs.Common.{◌≡◌, ℕ, ◌+◌, ◌<◌, ◌≤◌, Some, List, [], ◌∷◌, ◌++◌, length, map, take, drop, sym, ap, ◌∙◌, inl, inr, subst, arith}
+use Rattle.std.specs.Prelude.{◌-◌, slice_index_or}
 use Rattle.std.specs.List.{All}
 use Rattle.std.proofs.Math.Seq.{drop-append_seam, get_or-append_seam, take-append_seam}
 use Rattle.std.proofs.lemmas.Bool.{cases_lt}
@@ -12,12 +12,11 @@ use Rattle.visual.specs.LineRuns.{no_run, run_numbered}
 use Rattle.visual.specs.declared.runs.VisualRun.{VisualRun}
 use Rattle.visual.proofs.SameCount.{level_run}
 use Rattle.encoded.specs.Offsets.{Spelled, offset_of}
-use Rattle.encoded.specs.Rooms.{Holds, characters_in}
+use Rattle.encoded.specs.Rooms.{characters_in}
 use Rattle.encoded.specs.declared.room.Room.{Room}
 use Rattle.bidi_held.specs.Holdings.{encoded_in, layout_held}
 use Rattle.bidi_held.specs.declared.held.Held.{Held}
 use Rattle.bidi_held.specs.declared.visual_lines.BidiRun.{BidiRun}
-use Rattle.encoded_held.specs.EncodedTexts.{HoldsText}
 use Rattle.encoded_held.proofs.HeldRooms.{held_layout}
 use Rattle.runs_held.specs.HeldRuns.{AreRunsHeld, TellsRuns, WritesRunsHeld, in_code_units, told_run}
 
@@ -94,7 +93,3 @@ all_in_code_units held text k count old mid filled w len fits is =
         kept = λ few. absurd (omega (arith, few, n, fits, len));
       };
     }
-
--- a text of the room that is held
-pub held_here : (held : Held) (room : Room) (text : List Spelled) → encoded_in (Some held) ≡ Some room → HoldsText (Some held) text → Holds room text
-held_here held room text is hold = subst (λ (found : Option Room). MatchOption found ⊥ (λ it. Holds it text)) is hold

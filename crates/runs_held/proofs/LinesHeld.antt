@@ -1,30 +1,13 @@
 -- The lines of a layout that is held.
-use Rattle.std.proofs.Common.{◌≡◌, ℕ, ◌<◌, ◌≤◌, Option, Some, None, List, [], length, refl, sym, arith, subst}
-use Rattle.std.specs.Prelude.{IsSome, MatchOption}
+use Rattle.std.proofs.Common.{◌≡◌, ℕ, ◌<◌, ◌≤◌, Option, List, [], length, refl, sym, arith, subst}
 use Rattle.units.specs.declared.level.ParaLevel.{ParaLevel}
 use Rattle.visual.specs.declared.line.OrderedLine.{OrderedLine}
 use Rattle.encoded.specs.EncodedRuns.{IsOrderedLine}
-use Rattle.encoded.specs.OrderedLines.{LinesHaveOrder}
 use Rattle.bidi_held.specs.HeldParagraphs.{HasParaLevelHeld}
 use Rattle.bidi_held.specs.Holdings.{layout_held}
 use Rattle.bidi_held.specs.declared.held.Held.{Held}
-use Rattle.bidi_held.specs.declared.held.Held.TheVariants.{Tables, Room, Encoded, Judge, Report}
 use Rattle.bidi_held.specs.declared.visual_lines.BidiRun.{BidiRun}
 use Rattle.runs_held.specs.HeldRuns.{WritesLineRuns, WritesRunsHeld}
-
--- they are in order
-pub held_in_order : (held : Held) → LinesHaveOrder (layout_held (Some held))
-held_in_order (Room room) = room.in_order
-held_in_order (Encoded room) = room.in_order
-held_in_order (Tables tables) = λ k lt. absurd (omega (arith, lt))
-held_in_order (Judge judge) = λ k lt. absurd (omega (arith, lt))
-held_in_order (Report report) = λ k lt. absurd (omega (arith, lt))
-
--- a position of the text has a paragraph
-pub some_level : (held : Option Held) (position : ℕ) (found : Option ParaLevel) → position < length (layout_held held).levels
-    → MatchOption found (length (layout_held held).levels ≤ position) (HasParaLevelHeld held position) → IsSome found
-some_level held position None lt m = absurd (omega (arith, m, lt))
-some_level held position (Some level) lt m = refl
 
 -- the runs of a line of what is held are told
 pub told_of_line : (held : Option Held) (k : ℕ) (para : ParaLevel) (line : OrderedLine) (counted : ℕ) (old new : List BidiRun)

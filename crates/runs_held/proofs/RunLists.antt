@@ -2,7 +2,6 @@
 use Rattle.std.proofs.Common.{◌≡◌, ℕ, ◌+◌, ◌<◌, ◌≤◌, List, [], ◌∷◌, ◌++◌, length, map, take, drop, refl, sym, ap, ◌∙◌, arith}
 use Rattle.std.proofs.Math.Seq.{take-length, take-append_seam, drop-append_seam}
 use Rattle.std.proofs.lemmas.List.{length-map, map-append}
-use Rattle.visual.specs.LineRuns.{AreRunsOf}
 use Rattle.visual.specs.declared.line.OrderedLine.{OrderedLine}
 use Rattle.visual.specs.declared.runs.VisualRun.{VisualRun}
 use Rattle.visual.proofs.SameCount.{same_count}

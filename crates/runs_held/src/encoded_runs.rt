@@ -1,5 +1,5 @@
 //! All visual runs of a line of a text in code units, told in these.
-ghost use Rattle.std.specs.Prelude.{ℕ, ◌≡◌, ◌≤◌, ◌+◌, List, None, Some, length, map};
+ghost use Rattle.std.specs.Prelude.{◌≡◌, ◌≤◌, ◌+◌, List, None, Some, length, map};
 ghost use Rattle.std.specs.List.{All};
 ghost use Rattle.encoded.specs.Offsets.{Spelled};
 ghost use Rattle.encoded.specs.Rooms.{Holds, characters_in};

@@ -2,7 +2,8 @@ use Rattle.std.proofs.Common.{◌∙◌, ap, arith}
 use Rattle.std.specs.Prelude.{slice_index}
 use Rattle.std.proofs.lemmas.List.{length-take-le}
 use Rattle.encoded_held.proofs.HeldTexts.{start_of}
-use Rattle.encoded_held.proofs.LevelWalk.{counted, held_room, levels_written, levels_left}
+use Rattle.encoded_held.proofs.HeldRooms.{held_room}
+use Rattle.encoded_held.proofs.LevelWalk.{counted, levels_written, levels_left}
 use Rattle.encoded_held.proofs.encoded_levels.write_encoded_levels.Goals as goal
 
 pub fill_levels-requires : goal.fill_levels-requires

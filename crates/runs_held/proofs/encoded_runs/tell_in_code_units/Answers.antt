@@ -1,9 +1,7 @@
-use Rattle.std.proofs.Common.{◌≡◌, ◌∙◌, ◌+◌, ◌<◌, ◌≤◌, List, ap, arith, length, subst, sym}
+use Rattle.std.proofs.Common.{◌≡◌, ◌∙◌, ◌<◌, List, ap, arith, length, subst, sym}
 use Rattle.std.specs.Prelude.{slice_index_or, slice_set}
 use Rattle.std.proofs.lemmas.List.{get_or_default}
 use Rattle.std.proofs.lemmas.List.Edits.{map_over_more}
-use Rattle.encoded.specs.Offsets.{Spelled}
-use Rattle.encoded.specs.Rooms.{Holds, characters_in}
 use Rattle.bidi_held.specs.declared.visual_lines.BidiRun.{BidiRun}
 use Rattle.encoded_held.proofs.HeldTexts.{held_text}
 use Rattle.runs_held.specs.HeldRuns.{in_code_units}

@@ -6,9 +6,7 @@ use Rattle.units.specs.declared.level.Direction.TheVariants.{Auto}
 use Rattle.lines.proofs.Lengths.{length-levels}
 use Rattle.lines.specs.Scratches.{layout_in, room_of, HoldsText}
 use Rattle.encoded.specs.Offsets.{offset_of}
-use Rattle.encoded.specs.OrderedLines.{LinesHaveOrder}
 use Rattle.encoded.specs.Starts.{AreOffsets}
-use Rattle.encoded.proofs.HeldLines.{layout_ordered}
 use Rattle.encoded.proofs.room.Room.reserve.Goals as goal
 
 pub invariant_of-result : goal.invariant_of-result
@@ -22,7 +20,7 @@ invariant_of-result c =
         for_spare_units = c.in_ok-spare_units.ensures ∙ sym room;
         for_starts = c.in_ok-starts.ensures.len ∙ ap (λ (n : ℕ). n + 1) (sym room);
         for_spare = c.in_ok-spare.ensures.len ∙ ap (λ (n : ℕ). n + 1) (sym room);
-        for_indices = c.in_ok-indices.ensures ∙ sym room;
+        for_indices = sym c.into_boxed_slice-indices.result.items.ok.0 ∙ c.into_boxed_slice-indices.ensures.len ∙ c.in_ok-from_elem.ensures.len ∙ sym room;
       };
       begun = subst (λ (k : ℕ). AreOffsets k (boxed_slice_items c.in_ok-starts.starts)) (sym none) (record {
         inside = omega (arith, c.in_ok-starts.ensures.len);
@@ -30,7 +28,7 @@ invariant_of-result c =
         rising = λ j k lt le. absurd (omega (arith, lt, le));
       });
       ends = omega (arith, ap (slice_index (boxed_slice_items c.in_ok-starts.starts)) none, c.in_ok-starts.ensures.zero);
-      in_order = subst LinesHaveOrder (sym c.lay_out_nothing.ensures.empty) (layout_ordered standard [] Auto []);
+      in_order = c.lay_out_nothing.ensures.in_order;
       held = subst (λ (l : LimitsOf). HoldsText l (take (length (layout_in c.lay_out_nothing.new.scratch).levels) (boxed_slice_items c.in_ok-units.units)) Auto c.lay_out_nothing.new.scratch) (sym c.standard.ensures)
           (subst (λ (k : ℕ). HoldsText standard (take k (boxed_slice_items c.in_ok-units.units)) Auto c.lay_out_nothing.new.scratch) (sym none) c.lay_out_nothing.ensures.holds);
     }

@@ -1,6 +1,6 @@
 use Rattle.lines.specs.Scratches.{layout_in}
-use Rattle.bidi_held.proofs.LinesInOrder.{in_order}
-use Rattle.bidi_held.proofs.room.break_units.Goals as goal
+use Rattle.encoded.proofs.HeldLines.{in_order}
+use Rattle.encoded.proofs.laying_out.break_units.Goals as goal
 
 pub returns-clause-in_order : goal.returns-clause-in_order
 returns-clause-in_order c =

@@ -1,7 +1,7 @@
 use Rattle.std.proofs.Common.{length}
 use Rattle.lines.specs.Scratches.{layout_in, room_of}
-use Rattle.bidi_held.proofs.LinesInOrder.{in_order_done}
-use Rattle.bidi_held.proofs.room.lay_out_units.Goals as goal
+use Rattle.encoded.proofs.HeldLines.{in_order_done}
+use Rattle.encoded.proofs.laying_out.lay_out_units.Goals as goal
 
 pub returns-clause-in_order : goal.returns-clause-in_order
 returns-clause-in_order c =

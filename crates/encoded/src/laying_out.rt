@@ -1,0 +1,59 @@
+//! Units laid out in a scratch that has room for them, for rooms that hold a text and its layout.
+ghost use Rattle.std.specs.Prelude.{◌≡◌, ◌≤◌, [], length};
+ghost use Rattle.units.specs.Layout.{layout_of};
+ghost use Rattle.units.specs.Limits.{standard};
+ghost use Rattle.units.specs.declared.level.Direction.TheVariants.{Auto};
+ghost use Rattle.lines.specs.Scratches.{room_of, layout_in, HoldsSomeLayoutOf, HoldsText, IsBrokenAnew, IsFilled, StillHoldsText};
+ghost use Rattle.encoded.specs.OrderedLines.{LinesHaveOrder};
+
+use lines::breaks::Breaks;
+use lines::lay_out::{break_anew_into, lay_out_into_with};
+use lines::scratch::Scratch;
+use units::bracket::Unit;
+use units::level::Direction;
+use units::limits::Limits;
+
+/// Lays out a text that the scratch has room for, by these limits.
+pub fn lay_out_units(
+    scratch: &mut Scratch,
+    text: &[Unit],
+    direction: Direction,
+    breaks: &Breaks,
+    limits: Limits,
+)
+    requires len { breaks.now.len ≡ length text.now }
+    requires fits { length text.now ≤ room_of scratch.old }
+    ensures room { room_of scratch.new ≡ room_of scratch.old }
+    ensures filled { IsFilled scratch.new }
+    ensures laid_out { layout_in scratch.new ≡ layout_of limits text.now direction breaks.now.positions }
+    ensures holds { HoldsText limits text.now direction scratch.new }
+    ensures in_order { LinesHaveOrder (layout_in scratch.new) }
+{
+    let _done = lay_out_into_with(scratch, text, direction, breaks, limits);
+}
+
+/// Breaks the text that the scratch holds into lines anew.
+pub fn break_units(scratch: &mut Scratch, text: &[Unit], breaks: &Breaks)
+    requires len { breaks.now.len ≡ length text.now }
+    requires holds { HoldsSomeLayoutOf text.now scratch.old }
+    ensures room { room_of scratch.new ≡ room_of scratch.old }
+    ensures filled { IsFilled scratch.new }
+    ensures laid_out { IsBrokenAnew text.now breaks.now.positions scratch.old (layout_in scratch.new) }
+    ensures holds { StillHoldsText text.now scratch.old scratch.new }
+    ensures in_order { LinesHaveOrder (layout_in scratch.new) }
+{
+    break_anew_into(scratch, text, breaks);
+}
+
+/// Lays out an empty text, which any scratch has room for.
+pub fn lay_out_nothing(scratch: &mut Scratch)
+    ensures room { room_of scratch.new ≡ room_of scratch.old }
+    ensures filled { IsFilled scratch.new }
+    ensures empty { layout_in scratch.new ≡ layout_of standard [] Auto [] }
+    ensures holds { HoldsText standard [] Auto scratch.new }
+    ensures in_order { LinesHaveOrder (layout_in scratch.new) }
+{
+    if let Ok(breaks) = Breaks::new(&[], 0) {
+        lay_out_units(scratch, &[], Direction::Auto, &breaks, Limits::standard());
+    }
+}
