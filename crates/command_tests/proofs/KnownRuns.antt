@@ -32,7 +32,7 @@ use Rattle.rule_columns.specs.Columns.{columns_of}
 use Rattle.rule_columns.specs.Passes.{rewritten, implicit_of, closers_of}
 use Rattle.explain_row.specs.RowTexts.{row_text}
 use Rattle.explain_row.specs.SoughtRows.{RowView, sought_row}
-use Rattle.requests.specs.ClassWords.{classes_named}
+use Rattle.requests.specs.ItemWords.{classes_named}
 use Rattle.command_tests.specs.KnownRuns.{alef_line, neutral_explained, neutral_row_explained}
 use Rattle.requests.specs.RowsExplained.{HasAtLine}
 use Rattle.requests.specs.JudgedFiles.{HasJudged, IsClassesVerdict, IsCharactersVerdict}

@@ -3,7 +3,6 @@ use Rattle.std.proofs.Common.{◌≡◌, ℕ, List, Option, None, Some, map, sub
 use Rattle.std.specs.Option.{option_map}
 use Rattle.units.specs.declared.class.Class.{Class}
 use Rattle.bidtests.specs.declared.kind.Kind.{Kind}
-use Rattle.bidtests.specs.declared.kind.Kind.TheVariants as file
 use Rattle.rows.specs.Letters.{letter_by}
 use Rattle.rows.specs.declared.letter.Letter.{Letter}
 use Rattle.rows.specs.declared.letter.Letter.TheVariants as letter

@@ -1,8 +1,7 @@
 -- The fault of the first step that fails, where parts are joined; and what ends a part.
 use Rattle.std.proofs.Common.{◌≡◌, ℕ, List, [], ◌∷◌, ◌++◌, ◌≤◌, length, Option, None, Some, Result, Ok, Err, IfErr, IsErrAnd, inl, inr, subst, sym}
 use Rattle.std.specs.Borrow.{Bor}
-use Rattle.std.specs.Io.KnownBytes.{Appends}
-use Rattle.std.specs.Str.{IsUtf8, chars}
+use Rattle.std.specs.Str.{chars}
 use Rattle.units.specs.Text.{lines_of}
 use Rattle.units.specs.declared.level.Direction.{Direction}
 use Rattle.ucdfiles.specs.ClassFile.{class_fault, class_file_fault}
@@ -11,14 +10,14 @@ use Rattle.ucdfiles.specs.PairFiles.{bracket_fault, bracket_file_fault, mirror_f
 use Rattle.ucdfiles.specs.Tables.{TablesOf}
 use Rattle.bidtests.specs.declared.kind.Kind.{Kind}
 use Rattle.rows.specs.TextLines.{first_long_line}
-use Rattle.requests.specs.FileRows.{IsKindOfFile}
+use Rattle.requests.specs.FileRows.{AreRowsBy, HasRowTables, IsKindOfFile}
 use Rattle.requests.specs.ReadFiles.{AreTables, FileFacts, most_file_bytes, origin_of}
 use Rattle.requests.specs.TableSources.{AreTablesBy}
-use Rattle.requests.specs.FaultText.{EndsOpening, print_fault}
+use Rattle.requests.specs.FaultText.{print_fault}
 use Rattle.requests.specs.Outcomes.{IsDone}
-use Rattle.requests.specs.CodeWords.{codes_said}
+use Rattle.requests.specs.ItemWords.{codes_said}
 use Rattle.requests.specs.Printed.{HoldsText, most_text_bytes}
-use Rattle.requests.specs.Parts.{AreDone, EndsFile, EndsWriting, FailsIn, IsFirstFault, RequestPart, alphabet_parts, codes_parts, explaining_parts, file_part, kind_parts, lines_part, lines_parts, opening_part, printing_parts, row_parts_by, row_text_parts, rows_parts, sought_part, source_parts, parts_of, table_parts, text_parts, texts_part, whole_parts}
+use Rattle.requests.specs.Parts.{AreDone, EndsWriting, FailsIn, IsFirstFault, RequestPart, alphabet_parts, codes_parts, explaining_parts, file_part, kind_parts, lines_part, lines_parts, opening_part, printing_parts, row_parts, row_table_parts, row_text_parts, rows_parts, sought_part, source_parts, parts_of, table_parts, text_parts, texts_part, whole_parts}
 use Rattle.requests.specs.DirectionWords.{SaysDirections}
 use Rattle.requests.specs.RowsPrinted.{HasPrintedRows, IsKindBySource}
 use Rattle.requests.proofs.AskedLetters.{alphabet_done}
@@ -33,11 +32,15 @@ use Rattle.requests.specs.declared.request.AskedLines.{AskedLines}
 use Rattle.requests.specs.declared.request.AskedRows.{AskedRows}
 use Rattle.requests.specs.declared.request.SoughtRow.{SoughtRow}
 use Rattle.requests.specs.declared.fault.Fault.{Fault}
-use Rattle.requests.specs.declared.fault.Fault.TheVariants.{WordNotUtf8, TablesNeeded, ClassesTooLong, CodesTooLong, NoClass, NoCodePoint, NoLengths, NoDirection, NoDirections, NoRows, LineIsNoRow, CannotRead, FaultyLine, NotUtf8, LongLine, MalformedLine, CannotWrite, OutOfMemory}
 use Rattle.printing.specs.declared.fault.PrintFault.{PrintFault}
 use Rattle.printing.specs.declared.fault.PrintFault.TheVariants.{Write, Memory}
 use Rattle.requests.specs.declared.outcome.Outcome.{Outcome}
 use Rattle.requests.specs.declared.outcome.Outcome.TheVariants.{Judged, Printed}
+
+-- a fault that is handed on
+pub handed_on : (Ends : Fault → Type 0) {T : Type 0} (r : Result T Fault) (e : Fault) → IsErrAnd r (λ given. given ≡ e) → Ends e → IfErr r Ends
+handed_on Ends (Ok x) e same h = tt
+handed_on Ends (Err given) e same h = subst Ends (sym same) h
 
 pub first_of_all : (xs ys : List RequestPart) (fault : Fault) → IsFirstFault xs fault → IsFirstFault (xs ++ ys) fault
 first_of_all [] ys fault h = absurd h
@@ -57,28 +60,6 @@ pub FailsIn-behind : (xs ys : List RequestPart) (before after : Option (List ℕ
     → FailsIn (xs ++ ys) before after fault
 FailsIn-behind xs ys before after fault done (inl h) = inl (first_behind xs ys fault done h.0, h.1)
 FailsIn-behind xs ys before after fault done (inr h) = inr (all_done xs ys done h.0, h.1)
-
--- what ends the opening of what FILE names ends its reading
-pub opening_ends : (files : FileFacts) (most : ℕ) (file : List ℕ) (fault : Fault) → EndsOpening (files.Refuses (origin_of file) most) file fault
-    → EndsFile files most file fault
-opening_ends files most file (CannotRead said unread) h = (h.0, inl h.1)
-opening_ends files most file OutOfMemory h = tt
-opening_ends files most file WordNotUtf8 h = absurd h
-opening_ends files most file TablesNeeded h = absurd h
-opening_ends files most file ClassesTooLong h = absurd h
-opening_ends files most file CodesTooLong h = absurd h
-opening_ends files most file (NoClass name) h = absurd h
-opening_ends files most file (NoCodePoint item) h = absurd h
-opening_ends files most file (NoLengths word) h = absurd h
-opening_ends files most file (NoDirection item) h = absurd h
-opening_ends files most file NoDirections h = absurd h
-opening_ends files most file (NoRows refusal) h = absurd h
-opening_ends files most file (LineIsNoRow name line) h = absurd h
-opening_ends files most file (FaultyLine name line e) h = absurd h
-opening_ends files most file (NotUtf8 name) h = absurd h
-opening_ends files most file (LongLine name line) h = absurd h
-opening_ends files most file (MalformedLine name line cause) h = absurd h
-opening_ends files most file CannotWrite h = absurd h
 
 -- the tables that were read state no fault
 pub class_faultless : (bytes : List ℕ) → class_file_fault bytes ≡ None → first_fault class_fault [] (lines_of bytes) ≡ None
@@ -101,6 +82,21 @@ tables_done files folder tables h = (
     ((h.mirror_bytes, h.mirror_file, mirror_faultless h.mirror_bytes h.mirrors.faultless), tt),
   ),
 )
+
+-- the tables that rows need, and what they hold by these
+pub has_rows : (files : FileFacts) (kind : FileKind) (folder : Option (Bor (List ℕ))) (tables : Option TablesOf) (rows : Kind)
+    → HasRowTables files kind folder tables → AreRowsBy tables rows → IsKindOfFile files kind folder rows
+has_rows files Classes folder tables rows h by = subst (λ (t : Option TablesOf). AreRowsBy t rows) h by
+has_rows files Characters (Some folder) tables rows h by =
+    let is = subst (λ (t : Option TablesOf). AreRowsBy t rows) h.2 by in
+    (is.0, subst (AreTables files folder.now) (sym is.1) h.1, is.2)
+has_rows files Characters None tables rows h by = absurd h
+
+pub row_tables_done : (files : FileFacts) (kind : FileKind) (folder : Option (Bor (List ℕ))) (rows : Kind) → IsKindOfFile files kind folder rows
+    → AreDone (row_table_parts files kind folder)
+row_tables_done files Classes folder rows is = tt
+row_tables_done files Characters (Some folder) rows is = tables_done files folder.now is.0.now is.1
+row_tables_done files Characters None rows is = absurd is
 
 pub source_done : (files : FileFacts) (source : TableSource) (tables : TablesOf) → AreTablesBy files source tables → AreDone (source_parts files source)
 source_done files (Folder folder) tables h = tables_done files folder.now tables h
@@ -171,12 +167,10 @@ lines_done files asked directions says tables h text read short = (
 )
 
 -- what a row that was found holds was read, and so was the file up to it
-pub row_done : (files : FileFacts) (k : FileKind) (folder : Option (Bor (List ℕ))) (sought : SoughtRow) (rows : Kind)
-    → IsKindOfFile files k folder rows → (sought_part files sought).Done → AreDone (row_parts_by files k folder sought)
-row_done files Classes folder sought rows is found = (found, tt)
-row_done files Characters (Some folder) sought rows is found =
-    all_done (table_parts files folder.now) (sought_part files sought ∷ []) (tables_done files folder.now is.0.now is.1) (found, tt)
-row_done files Characters None sought rows is found = absurd is
+pub row_done : (files : FileFacts) (sought : SoughtRow) (rows : Kind) → IsKindOfFile files sought.kind sought.tables rows → (sought_part files sought).Done
+    → AreDone (row_parts files sought)
+row_done files sought rows is found = all_done (row_table_parts files sought.kind sought.tables) (sought_part files sought ∷ [])
+    (row_tables_done files sought.kind sought.tables rows is) (found, tt)
 
 -- what was done was read before
 pub request_done : (files : FileFacts) (before after : Option (List ℕ)) (request : Request) (outcome : Outcome)
@@ -191,17 +185,14 @@ request_done files before after (ExplainClasses word direction) Printed h = (h.s
 request_done files before after (ExplainCodes word source direction) Printed h =
     codes_done files word.now source h.tables h.stated h.short h.chars h.said_by
 request_done files before after (ExplainRow sought) Printed h =
-    row_done files sought.kind sought.tables sought h.rows h.is (h.rows, h.is, (h.row, h.found))
+    row_done files sought h.rows h.is (h.rows, h.is, (h.row, h.found))
 request_done files before after (Judge Classes tables file) (Judged status) h = ((h.bytes, h.read), tt)
 request_done files before after (Judge Characters (Some folder) file) (Judged status) h =
     all_done (table_parts files folder.now) (file_part files most_file_bytes file.now ∷ [])
     (tables_done files folder.now h.is.0 h.is.1) ((h.bytes, h.read), tt)
-request_done files before after (Report Classes tables file options) (Judged status) h = ((h.2.bytes, h.2.begins), tt)
-request_done files before after (Report Characters (Some folder) file options) (Judged status) h =
-    let read = h.1 in
-    all_done (table_parts files folder.now) (opening_part files most_file_bytes file.now ∷ [])
-    (tables_done files folder.now read.0.now read.1) ((h.2.bytes, h.2.begins), tt)
-request_done files before after (Report Characters None file options) (Judged status) h = absurd h.1
+request_done files before after (Report kind folder file options) (Judged status) h =
+    all_done (row_table_parts files kind folder) (opening_part files most_file_bytes file.now ∷ [])
+    (row_tables_done files kind folder h.0 h.1) ((h.2.bytes, h.2.begins), tt)
 request_done files before after (Rows asked) Printed h = rows_done files asked before after h
 request_done files before after (RowsOf asked) Printed h = lines_done files asked h.directions h.named h.tables.now h.stated h.text h.read h.made.short
 request_done files before after (Text source direction file print) (Judged status) h = absurd h
@@ -212,8 +203,6 @@ request_done files before after (Judge Classes tables file) Printed h = absurd h
 request_done files before after (Judge Characters (Some folder) file) Printed h = absurd h
 request_done files before after (Judge Characters None file) (Judged status) h = absurd h
 request_done files before after (Judge Characters None file) Printed h = absurd h
-request_done files before after (Report Classes tables file options) Printed h = absurd h
-request_done files before after (Report Characters (Some folder) file options) Printed h = absurd h
-request_done files before after (Report Characters None file options) Printed h = absurd h
+request_done files before after (Report kind folder file options) Printed h = absurd h
 request_done files before after (Rows asked) (Judged status) h = absurd h
 request_done files before after (RowsOf asked) (Judged status) h = absurd h

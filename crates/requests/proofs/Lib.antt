@@ -5,5 +5,4 @@ pub mod MadeRows
 pub mod PrintedFails
 pub mod Refused
 pub mod TableEnds
-pub mod WordItems
 pub mod Reported

@@ -3,34 +3,34 @@ use Rattle.std.proofs.Common.{◌≡◌, ℕ, List, [], ◌∷◌, ◌++◌, map
 use Rattle.std.specs.Borrow.{Bor}
 use Rattle.std.specs.Option.{option_map}
 use Rattle.units.specs.declared.level.Direction.{Direction}
+use Rattle.ucdfiles.specs.PairFiles.{char_of}
 use Rattle.ucdfiles.specs.Tables.{TablesOf}
 use Rattle.bidtests.specs.declared.kind.Kind.{Kind}
 use Rattle.bidtests.specs.declared.kind.Kind.TheVariants as file
 use Rattle.rows.specs.Exhaustive.{ExhaustiveOf}
 use Rattle.rows.specs.Letters.{letter_by}
 use Rattle.rows.specs.declared.letter.Letter.{Letter}
-use Rattle.requests.specs.CodeWords.{EndsCodes}
 use Rattle.requests.specs.DirectionWords.{EndsDirections, SaysDirections}
-use Rattle.requests.specs.RowsPrinted.{IsKindBySource, chars_asked, letters_asked}
+use Rattle.requests.specs.RowsPrinted.{IsKindBySource, chars_asked, letters_asked, texts_over}
+use Rattle.requests.specs.ItemWords.{EndsItems}
 use Rattle.requests.specs.ReadFiles.{FileFacts}
 use Rattle.requests.specs.LengthWords.{EndsLengths, lengths_named}
 use Rattle.requests.specs.Parts.{AreDone, FailsIn, IsFirstFault, RequestPart, alphabet_parts, directions_part, kind_parts, lengths_part, making_part, rows_parts, source_parts, texts_part}
 use Rattle.requests.specs.TableSources.{AreTablesBy}
 use Rattle.requests.specs.declared.fault.Fault.{Fault}
-use Rattle.requests.specs.declared.fault.Fault.TheVariants.{OutOfMemory}
+use Rattle.requests.specs.declared.fault.Fault.TheVariants.{NoCodePoint, OutOfMemory}
 use Rattle.requests.specs.declared.request.AskedRows.{AskedRows}
 use Rattle.requests.specs.declared.request.FileKind.{FileKind}
 use Rattle.requests.specs.declared.request.FileKind.TheVariants.{Classes, Characters}
 use Rattle.requests.specs.declared.request.RowLetters.TheVariants.{Alphabet}
 use Rattle.requests.specs.declared.request.RowsForm.{RowsForm}
 use Rattle.requests.proofs.AskedLetters.{alphabet_done, chars_read}
-use Rattle.requests.proofs.FirstFaults.{FailsIn-behind, first_behind, first_of_all, kind_done}
+use Rattle.requests.proofs.FirstFaults.{FailsIn-behind, first_behind, first_of_all, handed_on, kind_done}
 
 -- what ends a part before all else ends the request, and nothing is written
 pub first_fails : (parts : List RequestPart) (known : Option (List ℕ)) {T : Type 0} (r : Result T Fault) (e : Fault) → IsErrAnd r (λ given. given ≡ e)
     → IsFirstFault parts e → IfErr r (FailsIn parts known known)
-first_fails parts known (Ok x) e same h = tt
-first_fails parts known (Err given) e same h = inl (subst (IsFirstFault parts) (sym same) h, refl)
+first_fails parts known r e same h = handed_on (FailsIn parts known known) r e same (inl (h, refl))
 
 -- refused memory ends the making of texts
 pub memory_fails : (form : RowsForm) (texts : ExhaustiveOf) (known : Option (List ℕ)) {T : Type 0} (r : Result T Fault)
@@ -76,7 +76,7 @@ module _ (files : FileFacts) (asked : AskedRows) where
     classes_fail fault k h =
         in_kind Classes fault k (first_of_all (alphabet_parts Classes asked.letters) (kind_parts files Classes asked.tables ++ texts_part files asked ∷ []) fault h)
 
-    pub codes_fail : (word : Bor (List ℕ)) (fault : Fault) → asked.kind ≡ Characters → asked.letters ≡ Alphabet word → EndsCodes word.now fault
+    pub codes_fail : (word : Bor (List ℕ)) (fault : Fault) → asked.kind ≡ Characters → asked.letters ≡ Alphabet word → EndsItems char_of NoCodePoint word.now fault
         → IsFirstFault (rows_parts files asked) fault
     codes_fail word fault k l h = letters_fail fault (rw (k, l) (inl h))
 
@@ -86,19 +86,15 @@ module _ (files : FileFacts) (asked : AskedRows) where
         in_kind Characters fault k (first_behind (alphabet_parts Characters asked.letters) (source_parts files asked.tables ++ texts_part files asked ∷ []) fault
         (chars_read asked.letters chars read) (first_of_all (source_parts files asked.tables) (texts_part files asked ∷ []) fault h))
 
-    -- the texts over these letters
-    abbrev texts_over : List Letter → ExhaustiveOf
-    texts_over letters = record { alphabet = letters; least = least; greatest = greatest }
-
     module _ (before after : Option (List ℕ)) (letters : List Letter) where
       module _ (kind : Kind) (is : IsKindBySource files asked.kind asked.tables kind) (are : letters_asked kind asked.letters ≡ Some letters) where
-        texts_fail : (fault : Fault) → FailsIn (making_part asked.form (texts_over letters) ∷ []) before after fault
+        texts_fail : (fault : Fault) → FailsIn (making_part asked.form (texts_over letters least greatest) ∷ []) before after fault
             → FailsIn (texts_part files asked ∷ []) before after fault
-        texts_fail fault (inl (inl ended, same)) = inl (inl (kind, is, texts_over letters, record { letters = are; ends = e }, ended), same)
+        texts_fail fault (inl (inl ended, same)) = inl (inl (kind, is, texts_over letters least greatest, record { letters = are; ends = e }, ended), same)
         texts_fail fault (inl (inr (done, more), same)) = absurd more
-        texts_fail fault (inr (done, ended)) = inr (((kind, is, texts_over letters, record { letters = are; ends = e }, done.0), tt), ended)
+        texts_fail fault (inr (done, ended)) = inr (((kind, is, texts_over letters least greatest, record { letters = are; ends = e }, done.0), tt), ended)
 
-        rows_fail : (fault : Fault) → FailsIn (making_part asked.form (texts_over letters) ∷ []) before after fault → FailsIn (rows_parts files asked) before after fault
+        rows_fail : (fault : Fault) → FailsIn (making_part asked.form (texts_over letters least greatest) ∷ []) before after fault → FailsIn (rows_parts files asked) before after fault
         unfolding rows_parts
         rows_fail fault h =
             let behind_tables = FailsIn-behind (kind_parts files asked.kind asked.tables) (texts_part files asked ∷ []) before after fault
@@ -107,14 +103,14 @@ module _ (files : FileFacts) (asked : AskedRows) where
             before after fault (alphabet_done files asked.kind asked.tables kind asked.letters letters is are) behind_tables in
             FailsIn-behind word_parts letter_parts before after fault words_done behind_letters
 
-        rows_fail_if : {T : Type 0} (r : Result T Fault) → IfErr r (FailsIn (making_part asked.form (texts_over letters) ∷ []) before after)
+        rows_fail_if : {T : Type 0} (r : Result T Fault) → IfErr r (FailsIn (making_part asked.form (texts_over letters least greatest) ∷ []) before after)
             → IfErr r (FailsIn (rows_parts files asked) before after)
         rows_fail_if (Ok x) h = h
         rows_fail_if (Err fault) h = rows_fail fault h
 
       -- what ends the making of texts of classes
       pub of_classes_fail : asked.kind ≡ Classes → letters_asked file.Classes asked.letters ≡ Some letters
-          → {T : Type 0} (r : Result T Fault) → IfErr r (FailsIn (making_part asked.form (texts_over letters) ∷ []) before after)
+          → {T : Type 0} (r : Result T Fault) → IfErr r (FailsIn (making_part asked.form (texts_over letters least greatest) ∷ []) before after)
           → IfErr r (FailsIn (rows_parts files asked) before after)
       of_classes_fail k are r h =
           rows_fail_if file.Classes (subst (λ (f : FileKind). IsKindBySource files f asked.tables file.Classes) (sym k) refl) are r h
@@ -122,7 +118,7 @@ module _ (files : FileFacts) (asked : AskedRows) where
       -- and of characters, by these tables
       pub of_characters_fail : (tables : TablesOf) (chars : List ℕ) → asked.kind ≡ Characters → AreTablesBy files asked.tables tables
           → chars_asked asked.letters ≡ Some chars → letters ≡ map (letter_by tables) chars
-          → {T : Type 0} (r : Result T Fault) → IfErr r (FailsIn (making_part asked.form (texts_over letters) ∷ []) before after)
+          → {T : Type 0} (r : Result T Fault) → IfErr r (FailsIn (making_part asked.form (texts_over letters least greatest) ∷ []) before after)
           → IfErr r (FailsIn (rows_parts files asked) before after)
       of_characters_fail tables chars k stated read same r h =
           let borrowed : Bor TablesOf = record { ref_ptr = (0, 0); now = tables } in

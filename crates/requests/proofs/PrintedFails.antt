@@ -1,5 +1,5 @@
 -- How the printing of a text fails before it breaks off.
-use Rattle.std.proofs.Common.{◌≡◌, ℕ, List, [], ◌∷◌, Option, Result, Ok, Err, IfErr, IsErrAnd, inl, inr, refl, subst, sym}
+use Rattle.std.proofs.Common.{◌≡◌, ℕ, List, [], ◌∷◌, Option, Result, IfErr, IsErrAnd, inl, inr, refl, subst, sym}
 use Rattle.units.specs.declared.level.Direction.{Direction}
 use Rattle.ucdfiles.specs.Tables.{TablesOf}
 use Rattle.printing.specs.declared.fault.PrintFault.{PrintFault}
@@ -12,17 +12,15 @@ use Rattle.requests.specs.ReadFiles.{FileFacts, origin_of}
 use Rattle.requests.specs.TableSources.{AreTablesBy}
 use Rattle.requests.specs.declared.fault.Fault.{Fault}
 use Rattle.requests.specs.declared.request.TableSource.{TableSource}
-use Rattle.requests.proofs.FirstFaults.{begun_done, first_behind, first_of_all, source_done, writing_ends}
+use Rattle.requests.proofs.FirstFaults.{begun_done, first_behind, first_of_all, handed_on, source_done, writing_ends}
 
 module _ (files : FileFacts) (form : Form) (direction : Direction) (source : TableSource) (file : List ℕ) (before : Option (List ℕ)) where
   -- by the tables, before anything is written
   pub tables_fail : {T : Type 0} (r : Result T Fault) (e : Fault) → IsErrAnd r (λ given. given ≡ e) → IsFirstFault (source_parts files source) e
       → IfErr r (FailsToPrint files form direction source file before before)
   unfolding printing_parts
-  tables_fail (Ok x) e same h = tt
-  tables_fail (Err given) e same h =
-      let ends = subst (IsFirstFault (source_parts files source)) (sym same) h in
-      inl (inl (first_of_all (source_parts files source) (opening_part files most_text_bytes file ∷ []) given ends, refl))
+  tables_fail r e same h = handed_on (FailsToPrint files form direction source file before before) r e same
+      (inl (inl (first_of_all (source_parts files source) (opening_part files most_text_bytes file ∷ []) e h, refl)))
 
   module _ (tables : TablesOf) (stated : AreTablesBy files source tables) where
     -- as what FILE names is opened
@@ -30,11 +28,8 @@ module _ (files : FileFacts) (form : Form) (direction : Direction) (source : Tab
         → EndsOpening (files.Refuses (origin_of file) most_text_bytes) file e
         → IfErr r (FailsToPrint files form direction source file before before)
     unfolding printing_parts
-    opening_fails (Ok x) e same h = tt
-    opening_fails (Err given) e same h =
-        let ends = subst (EndsOpening (files.Refuses (origin_of file) most_text_bytes) file) (sym same) h in
-        let done = source_done files source tables stated in
-        inl (inl (first_behind (source_parts files source) (opening_part files most_text_bytes file ∷ []) given done (inl ends), refl))
+    opening_fails r e same h = handed_on (FailsToPrint files form direction source file before before) r e same
+        (inl (inl (first_behind (source_parts files source) (opening_part files most_text_bytes file ∷ []) e (source_done files source tables stated) (inl h), refl)))
 
     -- behind its first bytes, by a write or by memory
     pub writing_fails : (after : Option (List ℕ)) (bytes : List ℕ) → files.Begins (origin_of file) most_text_bytes bytes

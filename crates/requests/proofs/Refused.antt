@@ -1,5 +1,5 @@
 -- What refused memory leaves, handed on.
-use Rattle.std.proofs.Common.{◌≡◌, ℕ, List, Option, Result, Ok, Err, IfErr, IsErrAnd, true, false, sym, ◌∙◌}
+use Rattle.std.proofs.Common.{◌≡◌, ℕ, List, Option, Result, Ok, Err, IfErr, IsErrAnd, false}
 use Rattle.printing.specs.declared.fault.PrintFault.{PrintFault}
 use Rattle.printing.specs.declared.fault.PrintFault.TheVariants.{Write, Memory}
 use Rattle.rows.specs.Rooms.{FaultLeaves}
@@ -7,8 +7,9 @@ use Rattle.requests.specs.FaultText.{print_fault}
 use Rattle.requests.specs.Outcomes.{RefusalLeaves, takes_memory_first}
 use Rattle.requests.specs.Parts.{MemoryLeaves}
 use Rattle.requests.specs.declared.fault.Fault.{Fault}
-use Rattle.requests.specs.declared.fault.Fault.TheVariants.{CannotWrite, OutOfMemory}
+use Rattle.requests.specs.declared.fault.Fault.TheVariants.{CannotWrite}
 use Rattle.requests.specs.declared.request.Request.{Request}
+use Rattle.requests.proofs.FirstFaults.{handed_on}
 
 module _ (before after : Option (List ℕ)) where
   -- by the printing of rows
@@ -26,8 +27,7 @@ module _ (before after : Option (List ℕ)) where
 
     pub leaves_on : {T : Type 0} (r : Result T Fault) (e : Fault) → IsErrAnd r (λ given. given ≡ e) → MemoryLeaves before after e
         → IfErr r (RefusalLeaves before after request)
-    leaves_on (Ok x) e same h = tt
-    leaves_on (Err given) e same h = λ first refused. h (sym same ∙ refused)
+    leaves_on r e same h = handed_on (RefusalLeaves before after request) r e same (λ first. h)
 
     -- of a request that takes memory behind its first write nothing is said
     pub leaves_open : takes_memory_first request ≡ false → {T : Type 0} (r : Result T Fault) → IfErr r (RefusalLeaves before after request)

@@ -1,13 +1,13 @@
 -- The directions that a word of the command line names.
-use Rattle.std.specs.Prelude.{◌≡◌, ◌<◌, Bool, ℕ, List, [], ◌∷◌, length, Option, Some, find}
+use Rattle.std.specs.Prelude.{◌≡◌, ◌<◌, ◌⊎◌, Bool, ℕ, List, [], ◌∷◌, length, Option, Some, find}
 use Rattle.std.specs.Str.{bytes_eq}
 use Rattle.units.specs.Text.{each_read, items_of}
 use Rattle.units.specs.declared.level.Direction.{Direction}
 use Rattle.units.specs.declared.level.Direction.TheVariants.{Auto, Ltr, Rtl, AutoRtl}
 use Rattle.bidtests.specs.VerdictText.{direction_word}
-use Rattle.requests.specs.ItemWords.{first_unread}
+use Rattle.requests.specs.ItemWords.{EndsItems}
 use Rattle.requests.specs.declared.fault.Fault.{Fault}
-use Rattle.requests.specs.declared.fault.Fault.TheVariants.{NoDirection, NoDirections, OutOfMemory}
+use Rattle.requests.specs.declared.fault.Fault.TheVariants.{NoDirection, NoDirections}
 
 -- the word for this direction
 abbrev pub is_direction_word : List ℕ → Direction → Bool
@@ -26,9 +26,7 @@ pub record SaysDirections (word : List ℕ) (directions : List Direction) : Type
   pub named : directions_named word ≡ Some directions
   pub some : 0 < length directions
 
--- when a fault ends the reading of directions: the first item that is none, a word without an item, or memory was refused
+-- when a fault ends the reading of directions: it ends that of the items, the first that is none, or there is no item
 abbrev pub EndsDirections : List ℕ → Fault → Type 0
-EndsDirections word (NoDirection item) = first_unread direction_of (items_of word) ≡ Some item.now
-EndsDirections word NoDirections = directions_named word ≡ Some []
-EndsDirections word OutOfMemory = Unit {0}
-EndsDirections word _ = ⊥
+EndsDirections word fault =
+    EndsItems direction_of NoDirection word fault ⊎ ((fault ≡ NoDirections) × (directions_named word ≡ Some []))

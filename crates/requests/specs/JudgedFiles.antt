@@ -3,6 +3,8 @@ use Rattle.std.specs.Prelude.{◌≡◌, ℕ, List, Option}
 use Rattle.std.specs.Io.KnownBytes.{Appends}
 use Rattle.units.specs.Limits.{standard}
 use Rattle.ucdfiles.specs.Tables.{TablesOf, unit_by}
+use Rattle.bidtests.specs.FileKinds.{verdict_of}
+use Rattle.bidtests.specs.declared.kind.Kind.{Kind}
 use Rattle.bidtests.specs.declared.verdict.Verdict.{Verdict}
 use Rattle.bidtests.specs.declared.verdict.Verdict.TheVariants.{Yes, Malformed, Wrong}
 use Rattle.bidtests.specs.VerdictText.{verdict_text}
@@ -30,6 +32,10 @@ IsClassesVerdict bytes verdict = verdict ≡ classes_verdict standard bytes
 abbrev pub IsCharactersVerdict : FileFacts → List ℕ → List ℕ → Verdict → Type 0
 IsCharactersVerdict files folder bytes verdict =
     (tables : TablesOf) × AreTables files folder tables × (verdict ≡ characters_verdict standard (unit_by tables) bytes)
+
+-- the verdict on the bytes of a file of such rows, by the standard limits
+abbrev pub IsVerdictOn : Kind → List ℕ → Verdict → Type 0
+IsVerdictOn rows bytes verdict = verdict ≡ verdict_of standard rows bytes
 
 -- what FILE names was read whole, and what was written and the exit status say the verdict on its bytes
 pub record HasJudged (files : FileFacts) (IsVerdict : List ℕ → Verdict → Type 0) (file : List ℕ) (before after : Option (List ℕ)) (status : ℕ) : Type 0 where

@@ -1,5 +1,3 @@
-pub mod ClassWords
-pub mod CodeWords
 pub mod DirectionWords
 pub mod RowsExplained
 pub mod FaultText

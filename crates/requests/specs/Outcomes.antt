@@ -58,7 +58,7 @@ BreaksOff files before after _ fault = ⊥
 abbrev pub Fails : FileFacts → Option (List ℕ) → Option (List ℕ) → Request → Fault → Type 0
 Fails files before after request fault = FailsIn (parts_of files request) before after fault ⊎ BreaksOff files before after request fault
 
--- all memory is taken before the first write where a file is judged or reported on, or rows are printed
+-- the requests of which refused memory leaves nothing written: a file is judged or reported on, or rows are printed
 abbrev pub takes_memory_first : Request → Bool
 takes_memory_first (Judge kind tables file) = true
 takes_memory_first (Report kind tables file options) = true

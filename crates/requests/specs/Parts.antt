@@ -3,17 +3,16 @@ use Rattle.std.specs.Prelude.{◌≡◌, ◌<◌, ◌≤◌, ◌⊎◌, ℕ, Lis
 use Rattle.std.specs.Borrow.{Bor}
 use Rattle.std.specs.Str.{IsUtf8}
 use Rattle.ucdfiles.specs.ClassFile.{class_fault}
-use Rattle.ucdfiles.specs.PairFiles.{bracket_fault, mirror_fault}
+use Rattle.ucdfiles.specs.PairFiles.{bracket_fault, char_of, mirror_fault}
 use Rattle.ucdfiles.specs.declared.fault.Fault.{Fault as LineFault}
 use Rattle.ucdfiles.specs.Tables.{TablesOf}
 use Rattle.bidtests.specs.declared.kind.Kind.{Kind}
 use Rattle.explain_row.specs.SoughtRows.{RowView}
+use Rattle.units.specs.ClassNames.{class_of_short}
 use Rattle.units.specs.declared.class.Class.{Class}
 use Rattle.rows.specs.Exhaustive.{ExhaustiveOf}
 use Rattle.rows.specs.TextLines.{first_long_line}
 use Rattle.units.specs.declared.level.Direction.{Direction}
-use Rattle.requests.specs.ClassWords.{EndsNames, classes_named}
-use Rattle.requests.specs.CodeWords.{EndsCodes, codes_said}
 use Rattle.requests.specs.DirectionWords.{EndsDirections, SaysDirections}
 use Rattle.requests.specs.declared.request.AskedLines.{AskedLines}
 use Rattle.requests.specs.declared.request.AskedRows.{AskedRows}
@@ -29,10 +28,11 @@ use Rattle.requests.specs.declared.request.RowsForm.{RowsForm}
 use Rattle.requests.specs.declared.request.SoughtRow.{SoughtRow}
 use Rattle.requests.specs.declared.request.Request.TheVariants.{Text, ExplainClasses, ExplainCodes, ExplainRow, Judge, Report, Rows, RowsOf}
 use Rattle.requests.specs.declared.fault.Fault.{Fault}
-use Rattle.requests.specs.declared.fault.Fault.TheVariants.{TablesNeeded, ClassesTooLong, CodesTooLong, CannotRead, NotUtf8, LongLine, CannotWrite, OutOfMemory}
+use Rattle.requests.specs.declared.fault.Fault.TheVariants.{TablesNeeded, ClassesTooLong, CodesTooLong, NoClass, NoCodePoint, CannotRead, NotUtf8, LongLine, CannotWrite, OutOfMemory}
 use Rattle.requests.specs.RowsExplained.{FindsNoRow, HasAtLine}
 use Rattle.requests.specs.FaultText.{EndsOpening}
 use Rattle.requests.specs.FileRows.{IsKindOfFile}
+use Rattle.requests.specs.ItemWords.{EndsItems, classes_named, codes_said}
 use Rattle.requests.specs.Printed.{HoldsText, most_text_bytes}
 use Rattle.requests.specs.RowsPrinted.{CanBeMade, EndsMaking, EndsTexts, refusal_in}
 use Rattle.requests.specs.LengthWords.{EndsLengths, lengths_named}
@@ -95,7 +95,7 @@ length_part too_long word = record {
 abbrev pub names_part : List ℕ → RequestPart
 names_part word = record {
   Done = (classes : List Class) × (classes_named word ≡ Some classes);
-  EndsBy = EndsNames word;
+  EndsBy = EndsItems class_of_short NoClass word;
 }
 
 -- what is read of a word for classes
@@ -106,7 +106,7 @@ classes_parts word = length_part ClassesTooLong word ∷ names_part word ∷ []
 abbrev pub codes_part : List ℕ → RequestPart
 codes_part word = record {
   Done = (chars : List ℕ) × (codes_said word ≡ Some chars);
-  EndsBy = EndsCodes word;
+  EndsBy = EndsItems char_of NoCodePoint word;
 }
 
 -- what is read of a word for code points
@@ -162,8 +162,7 @@ EndsWriting CannotWrite = Unit {0}
 EndsWriting OutOfMemory = Unit {0}
 EndsWriting _ = ⊥
 
--- what refused memory leaves of what was written before, where all memory is taken before the first write: all of it and
--- no more
+-- what refused memory leaves, where it leaves nothing written: what was written before, and no more
 abbrev pub MemoryLeaves : Option (List ℕ) → Option (List ℕ) → Fault → Type 0
 MemoryLeaves before after fault = fault ≡ OutOfMemory → after ≡ before
 
@@ -265,13 +264,11 @@ module _ (files : FileFacts) where
   unfoldable pub explaining_parts : List ℕ → TableSource → List RequestPart
   explaining_parts word source = codes_parts word ++ source_parts source
 
-  -- what is read to judge a file of characters
-  abbrev pub characters_parts : List ℕ → List ℕ → List RequestPart
-  characters_parts folder file = table_parts folder ++ file_part most_file_bytes file ∷ []
-
-  -- what is read to report on a file of characters, before its first byte
-  abbrev pub opening_parts : List ℕ → List ℕ → List RequestPart
-  opening_parts folder file = table_parts folder ++ opening_part most_file_bytes file ∷ []
+  -- what is read for the rows of a file of this kind: the tables of this folder, where they are needed
+  abbrev pub row_table_parts : FileKind → Option (Bor (List ℕ)) → List RequestPart
+  row_table_parts Classes folder = []
+  row_table_parts Characters (Some folder) = table_parts folder.now
+  row_table_parts Characters None = record { Done = ⊥; EndsBy = EndsUnnamed } ∷ []
 
   -- the search for the row that is sought
   abbrev pub sought_part : SoughtRow → RequestPart
@@ -281,15 +278,9 @@ module _ (files : FileFacts) where
     EndsBy = λ fault. (rows : Kind) × IsKindOfFile files sought.kind sought.tables rows × EndsSearch files rows sought.line.value sought.file.now fault;
   }
 
-  -- what is read to explain a row of a file of this kind, by the tables of this folder
-  abbrev pub row_parts_by : FileKind → Option (Bor (List ℕ)) → SoughtRow → List RequestPart
-  row_parts_by Classes tables sought = sought_part sought ∷ []
-  row_parts_by Characters (Some folder) sought = table_parts folder.now ++ sought_part sought ∷ []
-  row_parts_by Characters None sought = record { Done = ⊥; EndsBy = EndsUnnamed } ∷ []
-
   -- what is read to explain a row
   abbrev pub row_parts : SoughtRow → List RequestPart
-  row_parts sought = row_parts_by sought.kind sought.tables sought
+  row_parts sought = row_table_parts sought.kind sought.tables ++ sought_part sought ∷ []
 
   -- what is read for a request, in this order
   abbrev pub parts_of : Request → List RequestPart
@@ -299,11 +290,7 @@ module _ (files : FileFacts) where
   parts_of (ExplainClasses word direction) = classes_parts word.now
   parts_of (ExplainCodes word source direction) = explaining_parts word.now source
   parts_of (ExplainRow sought) = row_parts sought
-  parts_of (Judge Classes tables file) = file_part most_file_bytes file.now ∷ []
-  parts_of (Judge Characters (Some folder) file) = characters_parts folder.now file.now
-  parts_of (Judge Characters None file) = record { Done = ⊥; EndsBy = EndsUnnamed } ∷ []
-  parts_of (Report Classes tables file options) = opening_part most_file_bytes file.now ∷ []
-  parts_of (Report Characters (Some folder) file options) = opening_parts folder.now file.now
-  parts_of (Report Characters None file options) = record { Done = ⊥; EndsBy = EndsUnnamed } ∷ []
+  parts_of (Judge kind tables file) = row_table_parts kind tables ++ file_part most_file_bytes file.now ∷ []
+  parts_of (Report kind tables file options) = row_table_parts kind tables ++ opening_part most_file_bytes file.now ∷ []
   parts_of (Rows asked) = rows_parts asked
   parts_of (RowsOf asked) = lines_parts asked

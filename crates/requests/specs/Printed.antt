@@ -7,8 +7,7 @@ use Rattle.units.specs.declared.level.Direction.{Direction}
 use Rattle.ucdfiles.specs.Tables.{TablesOf}
 use Rattle.explain.specs.Explained.{explained, explained_classes}
 use Rattle.printing.specs.PrintedTexts.{printed_levels, printed_reorder}
-use Rattle.requests.specs.ClassWords.{classes_named}
-use Rattle.requests.specs.CodeWords.{codes_said}
+use Rattle.requests.specs.ItemWords.{classes_named, codes_said}
 use Rattle.requests.specs.declared.request.Print.{Print}
 use Rattle.requests.specs.declared.request.Print.TheVariants.{Levels, Reorder, Explained}
 use Rattle.requests.specs.declared.request.TableSource.{TableSource}

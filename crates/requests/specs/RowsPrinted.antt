@@ -18,9 +18,8 @@ use Rattle.rows.specs.Letters.{letter_by}
 use Rattle.rows.specs.Random.{RandomOf, cases_drawn, no_drawing_of}
 use Rattle.rows.specs.Judged.{JudgeSaysYes}
 use Rattle.rows.specs.RowTexts.{Case, cases_text}
-use Rattle.requests.specs.ClassWords.{classes_named}
-use Rattle.requests.specs.CodeWords.{codes_said}
 use Rattle.requests.specs.DirectionWords.{SaysDirections}
+use Rattle.requests.specs.ItemWords.{classes_named, codes_said}
 use Rattle.requests.specs.ReadFiles.{FileFacts}
 use Rattle.requests.specs.LengthWords.{lengths_named}
 use Rattle.requests.specs.TableSources.{AreTablesBy}
@@ -54,6 +53,10 @@ chars_asked (OfForm form) = Some (form_characters form)
 abbrev pub letters_asked : Kind → RowLetters → Option (List Letter)
 letters_asked file.Classes letters = option_map (map letter.Class) (classes_asked letters)
 letters_asked (file.Characters tables) letters = option_map (map (letter_by tables.now)) (chars_asked letters)
+
+-- the texts of these lengths over these letters
+abbrev pub texts_over : List Letter → ℕ → ℕ → ExhaustiveOf
+texts_over letters least greatest = record { alphabet = letters; least = least; greatest = greatest }
 
 -- so many of these texts, drawn by a seed
 abbrev pub drawn_from : ℕ → ℕ → ExhaustiveOf → RandomOf

@@ -3,7 +3,7 @@ ghost use Rattle.std.specs.Prelude.{IfOk, IfErr};
 ghost use Rattle.requests.specs.DirectionWords.{EndsDirections, SaysDirections};
 
 use crate::fault::Fault;
-use crate::items::{ItemFault, ReadsItem, read_all};
+use crate::items::{ReadsItem, read_all};
 use std::alloc::Global;
 use units::level::Direction;
 
@@ -13,8 +13,11 @@ struct DirectionWords;
 
 impl ReadsItem<Direction> for DirectionWords {
     ghost use Rattle.requests.specs.DirectionWords.{direction_of};
+    ghost use Rattle.requests.specs.declared.fault.Fault.TheVariants.{NoDirection};
 
     ghost reading = { λ _. direction_of };
+
+    ghost unread = { λ _ item. NoDirection item };
 
     fn read(&self, item: &[u8]) -> Option<Direction> {
         match item {
@@ -25,6 +28,10 @@ impl ReadsItem<Direction> for DirectionWords {
             _ => None,
         }
     }
+
+    fn fault<'a>(&self, item: &'a [u8]) -> Fault<'a> {
+        Fault::NoDirection(item)
+    }
 }
 
 /// The directions that a word names, with blanks between them: one or more. The faults are the first item that is none,
@@ -33,11 +40,7 @@ pub fn directions_in<'a>(alloc: Global, word: &'a str) -> Result<Vec<Direction>,
     ensures directions { IfOk result (λ directions. SaysDirections word.now directions.items) }
     ensures fault { IfErr result (EndsDirections word.now) }
 {
-    let directions = match read_all(alloc, &DirectionWords, word.as_bytes()) {
-        Ok(directions) => directions,
-        Err(ItemFault::Unread(item)) => return Err(Fault::NoDirection(item)),
-        Err(ItemFault::Memory) => return Err(Fault::OutOfMemory),
-    };
+    let directions = read_all(alloc, &DirectionWords, word.as_bytes())?;
     if directions.is_empty() {
         return Err(Fault::NoDirections);
     }

@@ -4,16 +4,14 @@ ghost use Rattle.std.specs.List.{All};
 ghost use Rattle.bidtests.specs.declared.kind.Kind.TheVariants as file;
 ghost use Rattle.rows.specs.Letters.{IsLetterOf};
 ghost use Rattle.requests.specs.DirectionWords.{SaysDirections};
-ghost use Rattle.requests.specs.declared.request.RowsForm.TheVariants as form_of;
-ghost use Rattle.requests.specs.RowsPrinted.{HasPrintedRows, HasPrintedTexts, chars_asked, letters_asked};
+ghost use Rattle.requests.specs.RowsPrinted.{HasPrintedRows, HasPrintedTexts, chars_asked, letters_asked, texts_over};
 ghost use Rattle.requests.specs.LengthWords.{lengths_named};
 ghost use Rattle.requests.specs.Parts.{FailsIn, IsFirstFault, MemoryLeaves, alphabet_parts, making_part, rows_parts};
 
-use crate::class_names::classes_of_names;
-use crate::code_points::chars_of_items;
 use crate::directions::directions_in;
 use crate::fault::Fault;
 use crate::files::Files;
+use crate::items::{ClassNames, CodePoints, read_all};
 use crate::lengths::{Lengths, lengths_in};
 use crate::request::{AskedRows, FileKind, RowLetters, RowsForm};
 use crate::table_source::tables_by;
@@ -28,62 +26,6 @@ use std::alloc::Global;
 use std::io::Write;
 use units::level::Direction;
 
-/// Prints all texts of these lengths over such letters, each under these directions.
-fn print_all<'a, W: Write>(
-    alloc: Global,
-    kind: Kind<'_>,
-    letters: &[Letter],
-    lengths: Lengths,
-    directions: &[Direction],
-    out: &mut W,
-) -> Result<(), Fault<'a>>
-    requires { All (IsLetterOf kind) letters.now }
-    ensures printed { OnOk result (HasPrintedTexts kind.entry form_of.Exhaustive directions.now
-        (record { alphabet = letters.now; least = lengths.least; greatest = lengths.greatest }) (W.contents out.old) (W.contents out.new)) }
-    ensures fault { IfErr result (FailsIn (making_part form_of.Exhaustive
-        (record { alphabet = letters.now; least = lengths.least; greatest = lengths.greatest }) ∷ []) (W.contents out.old) (W.contents out.new)) }
-    ensures memory { IfErr result (MemoryLeaves (W.contents out.old) (W.contents out.new)) }
-{
-    let texts = match Exhaustive::new(letters, lengths.least, lengths.greatest) {
-        Ok(texts) => texts,
-        Err(fault) => return Err(Fault::NoRows(fault)),
-    };
-    print_exhaustive(alloc, out, kind, &texts, directions)?;
-    Ok(())
-}
-
-/// Prints so many texts of these lengths over such letters, drawn by a seed, each under these directions.
-fn print_drawn<'a, W: Write>(
-    alloc: Global,
-    kind: Kind<'_>,
-    letters: &[Letter],
-    lengths: Lengths,
-    directions: &[Direction],
-    seed: u64,
-    count: u64,
-    out: &mut W,
-) -> Result<(), Fault<'a>>
-    requires { All (IsLetterOf kind) letters.now }
-    ensures printed { OnOk result (HasPrintedTexts kind.entry (form_of.Random seed count) directions.now
-        (record { alphabet = letters.now; least = lengths.least; greatest = lengths.greatest }) (W.contents out.old) (W.contents out.new)) }
-    ensures fault { IfErr result (FailsIn (making_part (form_of.Random seed count)
-        (record { alphabet = letters.now; least = lengths.least; greatest = lengths.greatest }) ∷ []) (W.contents out.old) (W.contents out.new)) }
-    ensures memory { IfErr result (MemoryLeaves (W.contents out.old) (W.contents out.new)) }
-{
-    let texts = match Random::new(
-        letters,
-        lengths.least,
-        lengths.greatest,
-        seed,
-        count as usize,
-    ) {
-        Ok(texts) => texts,
-        Err(fault) => return Err(Fault::NoRows(fault)),
-    };
-    print_random(alloc, out, kind, &texts, directions)?;
-    Ok(())
-}
-
 /// Prints the texts of this form, of these lengths over such letters, each under these directions.
 fn print_form<'a, W: Write>(
     alloc: Global,
@@ -96,17 +38,29 @@ fn print_form<'a, W: Write>(
 ) -> Result<(), Fault<'a>>
     requires { All (IsLetterOf kind) letters.now }
     ensures printed { OnOk result (HasPrintedTexts kind.entry form directions.now
-        (record { alphabet = letters.now; least = lengths.least; greatest = lengths.greatest }) (W.contents out.old) (W.contents out.new)) }
+        (texts_over letters.now lengths.least lengths.greatest) (W.contents out.old) (W.contents out.new)) }
     ensures fault { IfErr result (FailsIn (making_part form
-        (record { alphabet = letters.now; least = lengths.least; greatest = lengths.greatest }) ∷ []) (W.contents out.old) (W.contents out.new)) }
+        (texts_over letters.now lengths.least lengths.greatest) ∷ []) (W.contents out.old) (W.contents out.new)) }
     ensures memory { IfErr result (MemoryLeaves (W.contents out.old) (W.contents out.new)) }
 {
     match form {
-        RowsForm::Exhaustive => print_all(alloc, kind, letters, lengths, directions, out),
+        RowsForm::Exhaustive => {
+            let texts = match Exhaustive::new(letters, lengths.least, lengths.greatest) {
+                Ok(texts) => texts,
+                Err(fault) => return Err(Fault::NoRows(fault)),
+            };
+            print_exhaustive(alloc, out, kind, &texts, directions)?;
+        }
         RowsForm::Random { seed, count } => {
-            print_drawn(alloc, kind, letters, lengths, directions, seed, count, out)
+            let Lengths { least, greatest } = lengths;
+            let texts = match Random::new(letters, least, greatest, seed, count as usize) {
+                Ok(texts) => texts,
+                Err(fault) => return Err(Fault::NoRows(fault)),
+            };
+            print_random(alloc, out, kind, &texts, directions)?;
         }
     }
+    Ok(())
 }
 
 /// The letters that are asked for, which are classes. The faults are the first name of no class, and refused memory.
@@ -117,7 +71,7 @@ fn letters_of_classes<'a>(alloc: Global, letters: RowLetters<'a>) -> Result<Vec<
 {
     match letters {
         RowLetters::Alphabet(names) => {
-            let classes = classes_of_names(alloc, names.as_bytes())?;
+            let classes = read_all(alloc, &ClassNames, names.as_bytes())?;
             Ok(class_letters(alloc, &classes)?)
         }
         RowLetters::OfForm(form) => Ok(class_letters(alloc, form.classes())?),
@@ -158,43 +112,6 @@ fn print_of_characters<'a, F: Files, W: Write>(
     )
 }
 
-/// Prints the rows that are asked for, of characters, with these lengths and directions.
-fn print_rows_of_characters<'a, F: Files, W: Write>(
-    alloc: Global,
-    asked: AskedRows<'a>,
-    lengths: Lengths,
-    directions: &[Direction],
-    files: &F,
-    out: &mut W,
-) -> Result<(), Fault<'a>>
-    requires kind { asked.kind ≡ FileKind.Characters }
-    requires lengths { lengths_named asked.lengths.now ≡ Some (lengths.least, lengths.greatest) }
-    requires directions { SaysDirections asked.directions.now directions.now }
-    ensures printed { OnOk result
-        (HasPrintedRows (F.facts files.now) asked.entry (W.contents out.old) (W.contents out.new)) }
-    ensures fault { IfErr result
-        (FailsIn (rows_parts (F.facts files.now) asked.entry) (W.contents out.old) (W.contents out.new)) }
-    ensures memory { IfErr result (MemoryLeaves (W.contents out.old) (W.contents out.new)) }
-{
-    match asked.letters {
-        RowLetters::Alphabet(codes) => {
-            let characters = chars_of_items(alloc, codes.as_bytes())?;
-            print_of_characters(alloc, asked, &characters, lengths, directions, files, out)
-        }
-        RowLetters::OfForm(form) => {
-            print_of_characters(
-                alloc,
-                asked,
-                form.characters(),
-                lengths,
-                directions,
-                files,
-                out,
-            )
-        }
-    }
-}
-
 /// Prints the rows that are asked for, with what the rules give. The faults are a word that says no lengths, one that
 /// names no directions, the first item of the alphabet that is no class or no code point, what `tables_by` ends with,
 /// why the texts can't be enumerated or drawn, refused memory, and a failed write.
@@ -225,8 +142,15 @@ pub fn print_rows<'a, F: Files, W: Write>(
                 out,
             )
         }
-        FileKind::Characters => {
-            print_rows_of_characters(alloc, asked, lengths, &directions, files, out)
-        }
+        FileKind::Characters => match asked.letters {
+            RowLetters::Alphabet(codes) => {
+                let characters = read_all(alloc, &CodePoints, codes.as_bytes())?;
+                print_of_characters(alloc, asked, &characters, lengths, &directions, files, out)
+            }
+            RowLetters::OfForm(form) => {
+                let characters = form.characters();
+                print_of_characters(alloc, asked, characters, lengths, &directions, files, out)
+            }
+        },
     }
 }

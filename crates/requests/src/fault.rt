@@ -1,11 +1,10 @@
 // What goes wrong in a run, and how it is said.
-ghost use Rattle.std.specs.Prelude.{◌≡◌, [], ◌∷◌, codes, OnOk, option_map};
+ghost use Rattle.std.specs.Prelude.{◌≡◌, [], ◌∷◌, ◌++◌, codes, OnOk, option_map};
 ghost use Rattle.std.specs.List.{concat};
 ghost use Rattle.std.specs.Io.KnownBytes.{Appends};
 ghost use Rattle.printing.specs.LevelsText.{line_feed};
-ghost use Rattle.requests.specs.FaultText.{EndsBy, SaysFault, fault_status, faulty_line_text, no_class_text};
-ghost use Rattle.requests.specs.FaultText.{long_line_text, malformed_line_text, no_code_point_text, no_direction_text};
-ghost use Rattle.requests.specs.FaultText.{no_row_text, no_rows_text, not_utf8_text};
+ghost use Rattle.requests.specs.FaultText.{EndsBy, SaysFault, fault_status, faulty_line_text, long_line_text};
+ghost use Rattle.requests.specs.FaultText.{malformed_line_text, no_row_text, no_rows_text, not_utf8_text};
 ghost use Rattle.requests.specs.FaultText.{rows_refusal, unread_text, unread_words};
 
 use crate::outcome::Ended;
@@ -204,31 +203,13 @@ fn print_malformed_line<E: Write>(
     writeln!(err, "bidi: {name}: line {line}: malformed: {cause}")
 }
 
-/// Writes the line that says that a name is that of no class.
-fn print_no_class<E: Write>(err: &mut E, name: &[u8]) -> io::Result<()>
-    ensures { OnOk result (Appends (E.contents err.old) (E.contents err.new) (no_class_text name.now)) }
-{
-    err.write_all(b"bidi: ")?;
-    err.write_all(name)?;
-    err.write_all(b" is no class\n")
-}
-
-/// Writes the line that says that an item is no code point.
-fn print_no_code_point<E: Write>(err: &mut E, item: &[u8]) -> io::Result<()>
-    ensures { OnOk result (Appends (E.contents err.old) (E.contents err.new) (no_code_point_text item.now)) }
+/// Writes a line that says this of an item of a word.
+fn print_item<E: Write>(err: &mut E, item: &[u8], said: &[u8]) -> io::Result<()>
+    ensures { OnOk result (Appends (E.contents err.old) (E.contents err.new) (codes "bidi: " ++ item.now ++ said.now)) }
 {
     err.write_all(b"bidi: ")?;
     err.write_all(item)?;
-    err.write_all(b" is no code point\n")
-}
-
-/// Writes the line that says that an item is no direction.
-fn print_no_direction<E: Write>(err: &mut E, item: &[u8]) -> io::Result<()>
-    ensures { OnOk result (Appends (E.contents err.old) (E.contents err.new) (no_direction_text item.now)) }
-{
-    err.write_all(b"bidi: ")?;
-    err.write_all(item)?;
-    err.write_all(b" is no direction\n")
+    err.write_all(said)
 }
 
 /// Writes the line that says that a word is no range of lengths.
@@ -285,10 +266,10 @@ impl Fault<'_> {
             Fault::TablesNeeded => print_line(err, "bidi: --tables is needed"),
             Fault::ClassesTooLong => print_line(err, "bidi: --classes is too long"),
             Fault::CodesTooLong => print_line(err, "bidi: --codes is too long"),
-            Fault::NoClass(name) => print_no_class(err, name),
-            Fault::NoCodePoint(item) => print_no_code_point(err, item),
+            Fault::NoClass(name) => print_item(err, name, b" is no class\n"),
+            Fault::NoCodePoint(item) => print_item(err, item, b" is no code point\n"),
             Fault::NoLengths(word) => print_no_lengths(err, word),
-            Fault::NoDirection(item) => print_no_direction(err, item),
+            Fault::NoDirection(item) => print_item(err, item, b" is no direction\n"),
             Fault::NoDirections => print_line(err, "bidi: --directions has no direction"),
             Fault::NoRows(fault) => print_no_rows(err, *fault),
             Fault::LineIsNoRow { name, line } => print_no_row(err, name, *line),

@@ -1,38 +1,34 @@
-// The items of a word, each read.
-ghost use Rattle.std.specs.Prelude.{◌≡◌, ◌≤◌, ℕ, List, Option, Some, length, IfOk, IfErr};
+// The items of a word of the command line, each read.
+ghost use Rattle.std.specs.Borrow.{Bor};
+ghost use Rattle.std.specs.Prelude.{◌≡◌, ◌≤◌, ℕ, List, Option, Some, length, IfOk, IfErr, OnOk};
+ghost use Rattle.units.specs.Layout.{longest_text};
 ghost use Rattle.units.specs.Text.{each_read, items_of};
-ghost use Rattle.requests.specs.ItemWords.{EndsItems};
+ghost use Rattle.requests.specs.ItemWords.{EndsItems, classes_named, codes_said};
+ghost use Rattle.requests.specs.Parts.{IsFirstFault, classes_parts, codes_parts};
+ghost use Rattle.requests.specs.Printed.{most_text_bytes};
+ghost use Rattle.requests.specs.declared.fault.Fault.{Fault as FaultOf};
 
-use std::alloc::{AllocFailed, Global};
+use crate::fault::Fault;
+use crate::opening::MOST_TEXT_BYTES;
+use std::alloc::Global;
+use units::class::Class;
+use units::text::code_point::code_point;
 use units::text::items::next_item;
 
 /// How an item of a word is read.
 pub trait ReadsItem<T> {
     ghost reading: { Self → List ℕ → Option T };
 
+    // How it is said of an item that it says nothing.
+    ghost unread: { Self → Bor (List ℕ) → FaultOf };
+
     /// What the item says, if it says something.
     fn read(&self, item: &[u8]) -> Option<T>
         ensures { result ≡ reading self.now item.now };
-}
 
-/// Why the items of a word are not read.
-#[derive(Clone, Copy, Debug, PartialEq, Eq)]
-pub enum ItemFault<'a> {
-    /// This one says nothing.
-    Unread(&'a [u8]),
-    /// Memory was refused.
-    Memory,
-}
-
-impl<T: Drop> From<AllocFailed<T>> for ItemFault<'_> {
-    ghost use Rattle.std.specs.Prelude.{◌≡◌};
-    ghost use Rattle.requests.specs.declared.items.ItemFault.TheVariants.{Memory};
-
-    ghost from_gives = { λ _ fault. fault ≡ Memory };
-
-    fn from(_error: AllocFailed<T>) -> Self {
-        ItemFault::Memory
-    }
+    /// The fault that the item says nothing.
+    fn fault<'a>(&self, item: &'a [u8]) -> Fault<'a>
+        ensures { result ≡ unread self.now item.entry };
 }
 
 /// What each item of a word says, by this reader. The faults are the first item that says nothing, and refused memory.
@@ -40,19 +36,89 @@ pub fn read_all<'a, T: Copy, R: ReadsItem<T>>(
     alloc: Global,
     reader: &R,
     word: &'a [u8],
-) -> Result<Vec<T>, ItemFault<'a>>
+) -> Result<Vec<T>, Fault<'a>>
     ensures values { IfOk result (λ values. each_read (R.reading reader.now) (items_of word.now) ≡ Some values.items) }
     ensures count { IfOk result (λ values. length values.items ≤ length word.now) }
-    ensures fault { IfErr result (EndsItems (R.reading reader.now) word.now) }
+    ensures fault { IfErr result (EndsItems (R.reading reader.now) (R.unread reader.now) word.now) }
 {
     let mut values = Vec::new(alloc);
     let mut left = word;
     while let Some((item, rest)) = next_item(left) {
         match reader.read(item) {
-            None => return Err(ItemFault::Unread(item)),
+            None => return Err(reader.fault(item)),
             Some(value) => values.push(value)?,
         }
         left = rest;
     }
     Ok(values)
+}
+
+/// The short name of a class.
+#[derive(Drop)]
+pub struct ClassNames;
+
+impl ReadsItem<Class> for ClassNames {
+    ghost use Rattle.units.specs.ClassNames.{class_of_short};
+    ghost use Rattle.requests.specs.declared.fault.Fault.TheVariants.{NoClass};
+
+    ghost reading = { λ _. class_of_short };
+
+    ghost unread = { λ _ name. NoClass name };
+
+    fn read(&self, item: &[u8]) -> Option<Class> {
+        Class::from_short(item)
+    }
+
+    fn fault<'a>(&self, item: &'a [u8]) -> Fault<'a> {
+        Fault::NoClass(item)
+    }
+}
+
+/// A code point that is no surrogate.
+#[derive(Drop)]
+pub struct CodePoints;
+
+impl ReadsItem<char> for CodePoints {
+    ghost use Rattle.ucdfiles.specs.PairFiles.{char_of};
+    ghost use Rattle.requests.specs.declared.fault.Fault.TheVariants.{NoCodePoint};
+
+    ghost reading = { λ _. char_of };
+
+    ghost unread = { λ _ item. NoCodePoint item };
+
+    fn read(&self, item: &[u8]) -> Option<char> {
+        char::from_u32(code_point(item)?)
+    }
+
+    fn fault<'a>(&self, item: &'a [u8]) -> Fault<'a> {
+        Fault::NoCodePoint(item)
+    }
+}
+
+/// The classes whose short names stand in a word, with blanks between them: as many as there are, or none. The faults
+/// are a word of more bytes than a text may have, the first name of no class, and refused memory.
+pub fn classes_in<'a>(alloc: Global, word: &'a str) -> Result<Vec<Class>, Fault<'a>>
+    ensures classes { IfOk result (λ classes. classes_named word.now ≡ Some classes.items) }
+    ensures bound { IfOk result (λ classes. length classes.items ≤ longest_text) }
+    ensures short { OnOk result (length word.now ≤ most_text_bytes) }
+    ensures fault { IfErr result (IsFirstFault (classes_parts word.now)) }
+{
+    if word.len() as u64 > MOST_TEXT_BYTES {
+        return Err(Fault::ClassesTooLong);
+    }
+    read_all(alloc, &ClassNames, word.as_bytes())
+}
+
+/// The characters whose code points stand in a word, with blanks between them: as many as there are, or none. The
+/// faults are a word of more bytes than a text may have, the first item that is no code point, and refused memory.
+pub fn chars_in<'a>(alloc: Global, word: &'a str) -> Result<Vec<char>, Fault<'a>>
+    ensures chars { IfOk result (λ chars. codes_said word.now ≡ Some chars.items) }
+    ensures bound { IfOk result (λ chars. length chars.items ≤ longest_text) }
+    ensures short { OnOk result (length word.now ≤ most_text_bytes) }
+    ensures fault { IfErr result (IsFirstFault (codes_parts word.now)) }
+{
+    if word.len() as u64 > MOST_TEXT_BYTES {
+        return Err(Fault::CodesTooLong);
+    }
+    read_all(alloc, &CodePoints, word.as_bytes())
 }

@@ -1,10 +1,11 @@
 // A file judged, and its verdict printed.
-ghost use Rattle.std.specs.Prelude.{◌≡◌, ◌≤◌, [], ◌∷◌, ℕ, List, IfOk, IfErr};
-ghost use Rattle.bidtests.specs.JudgedSoFar.{IsVerdictBehind};
-ghost use Rattle.requests.specs.JudgedFiles.{HasJudged, HasJudgedBy, IsClassesVerdict, verdict_status};
+ghost use Rattle.std.specs.Prelude.{◌≡◌, [], ◌∷◌, ℕ, List, IfOk, IfErr};
+ghost use Rattle.units.specs.Limits.{standard};
+ghost use Rattle.bidtests.specs.JudgedSoFar.{IsVerdictBehind, Judges};
+ghost use Rattle.requests.specs.JudgedFiles.{HasJudged, IsVerdictOn, verdict_status};
 ghost use Rattle.requests.specs.Outcomes.{IsDone};
 ghost use Rattle.requests.specs.ReadFiles.{most_file_bytes, origin_of};
-ghost use Rattle.requests.specs.Parts.{EndsFile, FailsIn, MemoryLeaves, characters_parts, file_part, parts_of};
+ghost use Rattle.requests.specs.Parts.{EndsFile, FailsIn, MemoryLeaves, file_part, parts_of};
 ghost use Rattle.requests.specs.declared.request.Request.TheVariants.{Judge as JudgeOf};
 
 use crate::fault::Fault;
@@ -12,13 +13,15 @@ use crate::files::Files;
 use crate::opening::{MOST_FILE_BYTES, open};
 use crate::outcome::Outcome;
 use crate::request::FileKind;
-use crate::table_files::read_tables;
+use crate::row_tables::{row_tables, rows_by};
 use crate::verdict_line::print_verdict;
 use bidtests::judge::Judge;
+use bidtests::kind::Kind;
 use bidtests::reader::judge_reader;
 use bidtests::verdict::Verdict;
 use std::alloc::Global;
 use std::io::Write;
+use units::memory::Memory;
 
 /// The exit status of a verdict: 0 for a yes, 1 for a no.
 fn status_of(verdict: Verdict) -> u8
@@ -52,60 +55,34 @@ fn verdict_on<'a, F: Files>(
     }
 }
 
-/// Judges what FILE names, prints the verdict's line and answers its exit status.
-fn judge_file_by<'a, F: Files, W: Write>(
+/// A judge of such rows, before the first byte of their file.
+fn judge_of<'t>(alloc: Global, rows: Kind<'t>) -> Result<Judge<'t>, Memory>
+    ensures { IfOk result (λ judge. Judges standard rows.entry judge []) }
+{
+    match rows {
+        Kind::Classes => Judge::for_classes(alloc),
+        Kind::Characters(tables) => Judge::for_characters(alloc, tables),
+    }
+}
+
+/// Judges what FILE names, as a file of such rows, prints the verdict's line and answers its exit status.
+fn judge_as<'a, F: Files, W: Write>(
     alloc: Global,
-    judge: Judge<'_>,
+    rows: Kind<'_>,
     file: &'a str,
     files: &F,
     out: &mut W,
 ) -> Result<u8, Fault<'a>>
     ensures judged { IfOk result (HasJudged (F.facts files.now)
-        (IsVerdictBehind judge.entry) file.now (W.contents out.old) (W.contents out.new)) }
+        (IsVerdictOn rows.entry) file.now (W.contents out.old) (W.contents out.new)) }
     ensures fault { IfErr result (FailsIn (file_part (F.facts files.now) most_file_bytes file.now ∷ [])
         (W.contents out.old) (W.contents out.new)) }
     ensures memory { IfErr result (MemoryLeaves (W.contents out.old) (W.contents out.new)) }
 {
+    let judge = judge_of(alloc, rows)?;
     let verdict = verdict_on(alloc, judge, file, files)?;
     print_verdict(out, &verdict)?;
     Ok(status_of(verdict))
-}
-
-/// Judges what FILE names, whose rows are lists of classes, and answers the verdict's exit status.
-fn judge_file_of_classes<'a, F: Files, W: Write>(
-    alloc: Global,
-    file: &'a str,
-    files: &F,
-    out: &mut W,
-) -> Result<u8, Fault<'a>>
-    ensures judged { IfOk result (HasJudged (F.facts files.now)
-        IsClassesVerdict file.now (W.contents out.old) (W.contents out.new)) }
-    ensures fault { IfErr result (FailsIn (file_part (F.facts files.now) most_file_bytes file.now ∷ [])
-        (W.contents out.old) (W.contents out.new)) }
-    ensures memory { IfErr result (MemoryLeaves (W.contents out.old) (W.contents out.new)) }
-{
-    let judge = Judge::for_classes(alloc)?;
-    judge_file_by(alloc, judge, file, files, out)
-}
-
-/// Judges what FILE names, whose rows are lists of code points, by the tables of the folder, which are read
-/// first. Answers the verdict's exit status.
-fn judge_file_of_characters<'a, F: Files, W: Write>(
-    alloc: Global,
-    folder: &str,
-    file: &'a str,
-    files: &F,
-    out: &mut W,
-) -> Result<u8, Fault<'a>>
-    ensures judged { IfOk result (HasJudgedBy (F.facts files.now) folder.now
-        file.now (W.contents out.old) (W.contents out.new)) }
-    ensures fault { IfErr result (FailsIn (characters_parts (F.facts files.now) folder.now file.now)
-        (W.contents out.old) (W.contents out.new)) }
-    ensures memory { IfErr result (MemoryLeaves (W.contents out.old) (W.contents out.new)) }
-{
-    let tables = read_tables(alloc, files, folder)?;
-    let judge = Judge::for_characters(alloc, &tables)?;
-    judge_file_by(alloc, judge, file, files, out)
 }
 
 /// Judges what FILE names, as a file of this kind. Where tables are needed and none are named, nothing is opened.
@@ -123,12 +100,7 @@ pub fn judge_file<'a, F: Files, W: Write>(
         (W.contents out.old) (W.contents out.new)) }
     ensures memory { IfErr result (MemoryLeaves (W.contents out.old) (W.contents out.new)) }
 {
-    let status = match (kind, tables) {
-        (FileKind::Classes, _) => judge_file_of_classes(alloc, file, files, out)?,
-        (FileKind::Characters, Some(folder)) => {
-            judge_file_of_characters(alloc, folder, file, files, out)?
-        }
-        (FileKind::Characters, None) => return Err(Fault::TablesNeeded),
-    };
+    let tables = row_tables(alloc, files, kind, tables)?;
+    let status = judge_as(alloc, rows_by(&tables), file, files, out)?;
     Ok(Outcome::Judged(status))
 }

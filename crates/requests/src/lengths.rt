@@ -1,5 +1,5 @@
 // Lengths read from a word of the command line.
-ghost use Rattle.std.specs.Prelude.{◌≡◌, ◌≤◌, Some, IfOk, IfErr};
+ghost use Rattle.std.specs.Prelude.{◌≡◌, Some, IfOk, IfErr};
 ghost use Rattle.units.specs.Text.{ends};
 ghost use Rattle.requests.specs.LengthWords.{EndsLengths, length_of, lengths_named};
 

@@ -3,8 +3,6 @@
 //! reported on and written.
 #![tactic(auto)]
 
-mod class_names;
-mod code_points;
 mod directions;
 mod enumerating;
 pub mod fault;
@@ -19,6 +17,7 @@ mod reading;
 mod reporting;
 pub mod request;
 mod row_explaining;
+mod row_tables;
 pub mod run;
 mod table_files;
 mod table_source;

@@ -1,19 +1,14 @@
 // What a request asks for, done.
-ghost use Rattle.std.specs.Prelude.{◌≡◌, ◌≤◌, Some, length, IfOk, IfErr, OnOk};
-ghost use Rattle.units.specs.Layout.{longest_text};
-ghost use Rattle.requests.specs.CodeWords.{codes_said};
+ghost use Rattle.std.specs.Prelude.{IfOk, IfErr, OnOk};
 ghost use Rattle.requests.specs.Outcomes.{Fails, IsDone, RefusalLeaves};
-ghost use Rattle.requests.specs.Printed.{HasExplained, HasExplainedCodes, HasPrinted, HoldsText, most_text_bytes};
-ghost use Rattle.requests.specs.Printed.{printed_text};
-ghost use Rattle.requests.specs.Parts.{FailsIn, IsFirstFault, classes_parts, explaining_parts, whole_parts};
-ghost use Rattle.requests.specs.TableSources.{AreTablesBy};
+ghost use Rattle.requests.specs.Printed.{HasExplained, HasExplainedCodes, HasPrinted, printed_text};
+ghost use Rattle.requests.specs.Parts.{FailsIn, classes_parts, explaining_parts, whole_parts};
 ghost use Rattle.requests.specs.declared.request.Request.TheVariants.{Text as TextOf};
 
-use crate::class_names::classes_in;
-use crate::code_points::chars_in;
 use crate::enumerating::print_rows;
 use crate::fault::Fault;
 use crate::files::Files;
+use crate::items::{chars_in, classes_in};
 use crate::judging::judge_file;
 use crate::outcome::Outcome;
 use crate::reading::text_in_file;
@@ -27,33 +22,7 @@ use explain::print::{print_explained, print_explained_classes};
 use printing::form::Form;
 use std::alloc::Global;
 use std::io::Write;
-use ucdfiles::tables::Tables;
 use units::level::Direction;
-
-/// A text, and the tables by which it is printed.
-#[derive(Drop)]
-struct TextWithTables {
-    tables: Tables,
-    text: Vec<char>,
-}
-
-/// The tables of this source, which are read first, and the text in what FILE names.
-fn text_with_tables<'a, F: Files>(
-    alloc: Global,
-    source: TableSource<'_>,
-    file: &'a str,
-    files: &F,
-) -> Result<TextWithTables, Fault<'a>>
-    ensures tables { IfOk result (λ read. AreTablesBy (F.facts files.now) source.entry read.tables) }
-    ensures text { IfOk result (λ read. HoldsText (F.facts files.now) file.now read.text.items) }
-    ensures bound { IfOk result (λ read. length read.text.items ≤ longest_text) }
-    ensures fault { IfErr result
-        (IsFirstFault (whole_parts (F.facts files.now) source.entry file.now)) }
-{
-    let tables = tables_by(alloc, files, source)?;
-    let text = text_in_file(alloc, file, files)?;
-    Ok(TextWithTables { tables, text })
-}
 
 /// Prints what each rule does to the text in what FILE names, by the tables of this source, which are read first.
 fn explain_file<'a, F: Files, W: Write>(
@@ -69,8 +38,9 @@ fn explain_file<'a, F: Files, W: Write>(
     ensures fault { IfErr result (FailsIn (whole_parts (F.facts files.now) source.entry file.now)
         (W.contents out.old) (W.contents out.new)) }
 {
-    let read = text_with_tables(alloc, source, file, files)?;
-    print_explained(alloc, out, &read.tables, &read.text, direction)?;
+    let tables = tables_by(alloc, files, source)?;
+    let text = text_in_file(alloc, file, files)?;
+    print_explained(alloc, out, &tables, &text, direction)?;
     Ok(())
 }
 
@@ -115,27 +85,8 @@ fn explain_classes<'a, W: Write>(
     Ok(())
 }
 
-/// The characters whose code points stand in the word, which is read first, and the tables of this source.
-fn chars_with_tables<'a, F: Files>(
-    alloc: Global,
-    word: &'a str,
-    source: TableSource<'_>,
-    files: &F,
-) -> Result<TextWithTables, Fault<'a>>
-    ensures text { IfOk result (λ read. codes_said word.now ≡ Some read.text.items) }
-    ensures tables { IfOk result (λ read. AreTablesBy (F.facts files.now) source.entry read.tables) }
-    ensures short { OnOk result (length word.now ≤ most_text_bytes) }
-    ensures bound { IfOk result (λ read. length read.text.items ≤ longest_text) }
-    ensures fault { IfErr result
-        (IsFirstFault (explaining_parts (F.facts files.now) word.now source.entry)) }
-{
-    let text = chars_in(alloc, word)?;
-    let tables = tables_by(alloc, files, source)?;
-    Ok(TextWithTables { tables, text })
-}
-
-/// Prints what each rule does to a text of the characters whose code points stand in the word, by the tables of this
-/// source.
+/// Prints what each rule does to a text of the characters whose code points stand in the word, which is read first, by
+/// the tables of this source.
 fn explain_codes<'a, F: Files, W: Write>(
     alloc: Global,
     word: &'a str,
@@ -149,8 +100,9 @@ fn explain_codes<'a, F: Files, W: Write>(
     ensures fault { IfErr result (FailsIn (explaining_parts (F.facts files.now) word.now source.entry)
         (W.contents out.old) (W.contents out.new)) }
 {
-    let read = chars_with_tables(alloc, word, source, files)?;
-    print_explained(alloc, out, &read.tables, &read.text, direction)?;
+    let text = chars_in(alloc, word)?;
+    let tables = tables_by(alloc, files, source)?;
+    print_explained(alloc, out, &tables, &text, direction)?;
     Ok(())
 }
 

@@ -1,9 +1,8 @@
 // A file reported on.
-ghost use Rattle.std.specs.Prelude.{◌≡◌, Some, IfOk, IfErr};
-ghost use Rattle.bidtests.specs.declared.kind.Kind.TheVariants as rows_of;
+ghost use Rattle.std.specs.Prelude.{◌≡◌, IfOk, IfErr};
 ghost use Rattle.requests.specs.Outcomes.{Fails, IsDone};
 ghost use Rattle.requests.specs.Parts.{MemoryLeaves};
-ghost use Rattle.requests.specs.ReportedFiles.{FailsAs, HasReported, HasReportedAs, report_status};
+ghost use Rattle.requests.specs.ReportedFiles.{FailsAs, HasReportedAs, report_status};
 ghost use Rattle.requests.specs.declared.request.Request.TheVariants.{Report as ReportOf};
 
 use crate::fault::Fault;
@@ -11,7 +10,7 @@ use crate::files::Files;
 use crate::opening::{MOST_FILE_BYTES, open};
 use crate::outcome::Outcome;
 use crate::request::{FileKind, ReportOptions};
-use crate::table_files::read_tables;
+use crate::row_tables::{row_tables, rows_by};
 use bidtests::kind::Kind;
 use report::print::{ReportFault, print_report};
 use report::report::Report;
@@ -59,26 +58,6 @@ fn report_as<'a, F: Files, W: Write>(
     }
 }
 
-/// Reports on what FILE names, whose rows are lists of code points, by the tables of the folder, which are read first.
-/// Answers the exit status.
-fn report_on_characters<'a, F: Files, W: Write>(
-    alloc: Global,
-    folder: &'a str,
-    file: &'a str,
-    options: ReportOptions,
-    files: &F,
-    out: &mut W,
-) -> Result<u8, Fault<'a>>
-    ensures reported { IfOk result (HasReported (F.facts files.now) FileKind.Characters (Some folder.entry)
-        file.now options (W.contents out.old) (W.contents out.new)) }
-    ensures fault { IfErr result (Fails (F.facts files.now) (W.contents out.old) (W.contents out.new)
-        (ReportOf FileKind.Characters (Some folder.entry) file.entry options)) }
-    ensures memory { IfErr result (MemoryLeaves (W.contents out.old) (W.contents out.new)) }
-{
-    let tables = read_tables(alloc, files, folder)?;
-    report_as(alloc, Kind::Characters(&tables), file, options, files, out)
-}
-
 /// Reports on what FILE names, as a file of this kind. Where tables are needed and none are named, nothing is opened.
 pub fn report_file<'a, F: Files, W: Write>(
     alloc: Global,
@@ -95,12 +74,7 @@ pub fn report_file<'a, F: Files, W: Write>(
         (W.contents out.old) (W.contents out.new) (ReportOf kind tables.entry file.entry options)) }
     ensures memory { IfErr result (MemoryLeaves (W.contents out.old) (W.contents out.new)) }
 {
-    let status = match (kind, tables) {
-        (FileKind::Classes, _) => report_as(alloc, Kind::Classes, file, options, files, out)?,
-        (FileKind::Characters, Some(folder)) => {
-            report_on_characters(alloc, folder, file, options, files, out)?
-        }
-        (FileKind::Characters, None) => return Err(Fault::TablesNeeded),
-    };
+    let tables = row_tables(alloc, files, kind, tables)?;
+    let status = report_as(alloc, rows_by(&tables), file, options, files, out)?;
     Ok(Outcome::Judged(status))
 }

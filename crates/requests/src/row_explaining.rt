@@ -1,14 +1,13 @@
 // A row of a conformance file explained.
-ghost use Rattle.std.specs.Prelude.{◌≡◌, [], ◌∷◌, Ok, IfErr, IfOk, OnOk};
+ghost use Rattle.std.specs.Prelude.{◌≡◌, Ok, IfErr, IfOk, OnOk};
 ghost use Rattle.requests.specs.RowsExplained.{HasAtLine, HasExplainedRow, row_fault};
-ghost use Rattle.requests.specs.FileRows.{IsKindOfFile};
-ghost use Rattle.requests.specs.Parts.{EndsSearch, FailsIn, row_parts, sought_part};
+ghost use Rattle.requests.specs.Parts.{EndsSearch, FailsIn, row_parts};
 
 use crate::fault::Fault;
 use crate::files::Files;
 use crate::opening::{MOST_FILE_BYTES, open};
-use crate::request::{FileKind, SoughtRow};
-use crate::table_files::read_tables;
+use crate::request::SoughtRow;
+use crate::row_tables::{row_tables, rows_by};
 use bidtests::kind::Kind;
 use explain_row::find::find_row;
 use explain_row::found_row::FoundRow;
@@ -58,25 +57,6 @@ fn row_in_file<'a, F: Files>(
     }
 }
 
-/// Explains the row that is sought, of a file of such rows.
-fn explain_row_as<'a, F: Files, W: Write>(
-    alloc: Global,
-    rows: Kind<'_>,
-    sought: SoughtRow<'a>,
-    files: &F,
-    out: &mut W,
-) -> Result<(), Fault<'a>>
-    requires { IsKindOfFile (F.facts files.now) sought.kind sought.tables rows }
-    ensures printed { OnOk result
-        (HasExplainedRow (F.facts files.now) sought.entry (W.contents out.old) (W.contents out.new)) }
-    ensures fault { IfErr result (FailsIn (sought_part (F.facts files.now) sought.entry ∷ [])
-        (W.contents out.old) (W.contents out.new)) }
-{
-    let row = row_in_file(alloc, rows, sought.line, sought.file, files)?;
-    print_row(alloc, out, sought.line.get(), &row)?;
-    Ok(())
-}
-
 /// Explains the row that is sought: under each direction that it names, what each rule does to its text, and what it
 /// claims beside what is defined. Where tables are needed and none are named, nothing is opened. The faults are those
 /// of `read_tables`, that FILE can't be opened or read, that a line up to the one that is sought is malformed, that
@@ -92,12 +72,8 @@ pub fn explain_row<'a, F: Files, W: Write>(
     ensures fault { IfErr result (FailsIn (row_parts (F.facts files.now) sought.entry)
         (W.contents out.old) (W.contents out.new)) }
 {
-    match (sought.kind, sought.tables) {
-        (FileKind::Classes, _) => explain_row_as(alloc, Kind::Classes, sought, files, out),
-        (FileKind::Characters, Some(folder)) => {
-            let tables = read_tables(alloc, files, folder)?;
-            explain_row_as(alloc, Kind::Characters(&tables), sought, files, out)
-        }
-        (FileKind::Characters, None) => Err(Fault::TablesNeeded),
-    }
+    let tables = row_tables(alloc, files, sought.kind, sought.tables)?;
+    let row = row_in_file(alloc, rows_by(&tables), sought.line, sought.file, files)?;
+    print_row(alloc, out, sought.line.get(), &row)?;
+    Ok(())
 }

@@ -3,9 +3,7 @@ ghost use Rattle.std.specs.Prelude.{◌≡◌, None, IfErr, IfOk, OnOk};
 ghost use Rattle.rows.specs.TextLines.{first_long_line};
 ghost use Rattle.requests.specs.Printed.{HoldsText};
 ghost use Rattle.requests.specs.PrintedLines.{HasPrintedLines, naming_in};
-ghost use Rattle.requests.specs.DirectionWords.{SaysDirections};
 ghost use Rattle.requests.specs.Parts.{FailsIn, IsFirstFault, MemoryLeaves, lines_parts, row_text_parts};
-ghost use Rattle.requests.specs.TableSources.{AreTablesBy};
 
 use crate::directions::directions_in;
 use crate::fault::Fault;
@@ -19,7 +17,6 @@ use rows::text_lines::first_long_line;
 use std::alloc::Global;
 use std::io::Write;
 use ucdfiles::tables::Tables;
-use units::level::Direction;
 
 /// How the rows of a file of this kind name characters, by these tables.
 fn naming_in(kind: FileKind, tables: &Tables) -> Naming<'_>
@@ -49,29 +46,6 @@ fn row_text_in_file<'a, F: Files>(
     }
 }
 
-/// Prints the lines of the text that is asked for as rows, by its tables and under these directions.
-fn print_rows_by<'a, F: Files, W: Write>(
-    alloc: Global,
-    asked: AskedLines<'a>,
-    directions: &[Direction],
-    tables: &Tables,
-    files: &F,
-    out: &mut W,
-) -> Result<(), Fault<'a>>
-    requires directions { SaysDirections asked.directions.now directions.now }
-    requires tables { AreTablesBy (F.facts files.now) asked.tables tables.now }
-    ensures printed { OnOk result
-        (HasPrintedLines (F.facts files.now) asked.entry (W.contents out.old) (W.contents out.new)) }
-    ensures fault { IfErr result
-        (FailsIn (lines_parts (F.facts files.now) asked.entry) (W.contents out.old) (W.contents out.new)) }
-    ensures memory { IfErr result (MemoryLeaves (W.contents out.old) (W.contents out.new)) }
-{
-    let text = row_text_in_file(alloc, asked.file, files)?;
-    let naming = naming_in(asked.kind, tables);
-    print_lines(alloc, out, naming, &text, directions)?;
-    Ok(())
-}
-
 /// Prints the lines of the text that is asked for as rows, with what the rules give. The faults are those of
 /// `directions_in`, `tables_by` and `text_in_file`, the first line that is too long for a row, refused memory, and a
 /// failed write.
@@ -89,5 +63,8 @@ pub fn print_text_rows<'a, F: Files, W: Write>(
 {
     let directions = directions_in(alloc, asked.directions)?;
     let tables = tables_by(alloc, files, asked.tables)?;
-    print_rows_by(alloc, asked, &directions, &tables, files, out)
+    let text = row_text_in_file(alloc, asked.file, files)?;
+    let naming = naming_in(asked.kind, &tables);
+    print_lines(alloc, out, naming, &text, &directions)?;
+    Ok(())
 }

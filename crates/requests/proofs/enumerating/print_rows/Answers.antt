@@ -1,9 +1,11 @@
 use Rattle.std.proofs.Common.{◌≡◌, Some, rules}
 use Rattle.bidtests.specs.declared.kind.Kind.TheVariants as file
-use Rattle.requests.specs.DirectionWords.{SaysDirections}
+use Rattle.ucdfiles.specs.PairFiles.{char_of}
+use Rattle.requests.specs.ItemWords.{EndsItems}
 use Rattle.requests.specs.RowsPrinted.{letters_asked}
 use Rattle.requests.specs.Parts.{rows_parts}
-use Rattle.requests.proofs.MadeRows.{classes_fail, directions_fail, first_fails, lengths_fail, of_classes_fail}
+use Rattle.requests.proofs.MadeRows.{classes_fail, codes_fail, directions_fail, first_fails, lengths_fail, of_classes_fail}
+use Rattle.requests.specs.declared.fault.Fault.TheVariants.{NoCodePoint}
 use Rattle.requests.proofs.enumerating.print_rows.Goals as goal
 
 pub returns-in_err-lengths-clause-fault : goal.returns-in_err-lengths-clause-fault
@@ -31,3 +33,12 @@ returns-in-Classes-clause-fault g c =
     of_classes_fail (g.F.Files.facts c.args.files.now) c.args.asked c.in_ok-lengths.lengths.least c.in_ok-lengths.lengths.greatest _
     c.in_ok-lengths.ensures.lengths c.in_ok-directions.ensures.directions _ _ c.deref.result.now
     c.in-Classes.is are c.print_form.result c.print_form.ensures.fault
+
+pub returns-in_err-characters-in-Alphabet-clause-fault : goal.returns-in_err-characters-in-Alphabet-clause-fault
+returns-in_err-characters-in-Alphabet-clause-fault g c =
+    let files = g.F.Files.facts c.args.files.now in
+    let ends : EndsItems char_of NoCodePoint c.in-Alphabet.codes.now c.in_err-characters-in-Alphabet.field-0.0 = search rules in
+    let first = codes_fail files c.args.asked c.in_ok-lengths.lengths.least c.in_ok-lengths.lengths.greatest _
+    c.in_ok-lengths.ensures.lengths c.in_ok-directions.ensures.directions c.in-Alphabet.codes _ c.in-Characters.is c.in-Alphabet.is ends in
+    first_fails (rows_parts files c.args.asked) _ c.from_residual-in_err-characters-in-Alphabet.result _
+    c.from_residual-in_err-characters-in-Alphabet.ensures.1 first

@@ -1,6 +1,13 @@
-use Rattle.std.proofs.Common.{length}
-use Rattle.requests.proofs.WordItems.{Reads}
+use Rattle.std.proofs.Common.{◌≡◌, ℕ, Option, List, length}
+use Rattle.units.specs.Text.{items_of}
+use Rattle.bidtests.proofs.Filling.{Fills}
+use Rattle.requests.specs.ItemWords.{first_unread}
 use Rattle.requests.proofs.items.read_all.Given as goal
+
+-- these were read, and of the word this is left: the first item that says nothing is in it
+pub record Reads {A : Type 0} (reading : List ℕ → Option A) (word left : List ℕ) (values : List A) : Type 0 where
+  pub fills : Fills reading word left values
+  pub faultless : first_unread reading (items_of left) ≡ first_unread reading (items_of word)
 
 abbrev pub invariant-loop-item : goal.invariant-loop-item
 invariant-loop-item g l = Reads (g.R.ReadsItem.reading l.reader) l.word l.left l.values.items

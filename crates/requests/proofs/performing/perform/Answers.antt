@@ -1,14 +1,15 @@
 use Rattle.std.proofs.Common.{ap}
+use Rattle.requests.proofs.FirstFaults.{handed_on}
 use Rattle.requests.proofs.Refused.{leaves_all, leaves_on, leaves_open}
-use Rattle.requests.proofs.Reported.{failed_on, handed_fail, steps_fail}
-use Rattle.requests.specs.Outcomes.{takes_memory_first}
+use Rattle.requests.proofs.Reported.{handed_fail, steps_fail}
+use Rattle.requests.specs.Outcomes.{Fails, takes_memory_first}
 use Rattle.requests.specs.declared.request.Request.TheVariants as requested
 use Rattle.requests.proofs.performing.perform.Goals as goal
 
 pub returns-in_err-print_file-in-Text-clause-fault : goal.returns-in_err-print_file-in-Text-clause-fault
 returns-in_err-print_file-in-Text-clause-fault g c =
-    rw c.in-Text.is (failed_on (g.F.Files.facts c.args.files.now) (g.W.Write.contents c.args.out.now) (g.W.Write.contents c.print_file.new.out)
-    (requested.Text c.in-Text.tables c.in-Text.direction c.in-Text.file c.in-Text.print) _ _ c.from_residual.ensures.1
+    rw c.in-Text.is (handed_on (Fails (g.F.Files.facts c.args.files.now) (g.W.Write.contents c.args.out.now) (g.W.Write.contents c.print_file.new.out)
+    (requested.Text c.in-Text.tables c.in-Text.direction c.in-Text.file c.in-Text.print)) _ _ c.from_residual.ensures.1
     c.in_err-print_file-in-Text.ensures.fault)
 
 pub returns-in_err-explain_classes-in-ExplainClasses-clause-fault : goal.returns-in_err-explain_classes-in-ExplainClasses-clause-fault

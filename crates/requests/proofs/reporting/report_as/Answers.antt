@@ -1,4 +1,4 @@
-use Rattle.std.proofs.Common.{rules, ◌≡◌, [], ap, ◌∙◌, inl, inr, refl, subst}
+use Rattle.std.proofs.Common.{[], ap, ◌∙◌, inl, inr, refl, subst}
 use Rattle.units.specs.Limits.{LimitsOf}
 use Rattle.report.specs.declared.terms.Leniency.{Leniency}
 use Rattle.report.specs.FileReports.{is_right, report_of}

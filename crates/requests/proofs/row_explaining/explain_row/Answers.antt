@@ -1,27 +1,36 @@
-use Rattle.std.proofs.Common.{◌≡◌, ℕ, List, [], ◌∷◌, Option, Some, Result, Ok, Err, IfErr, subst, sym}
-use Rattle.std.specs.Borrow.{Bor}
-use Rattle.ucdfiles.specs.Tables.{TablesOf}
-use Rattle.requests.proofs.FirstFaults.{FailsIn-behind, tables_done}
-use Rattle.requests.specs.ReadFiles.{AreTables, FileFacts}
-use Rattle.requests.specs.Parts.{FailsIn, row_parts_by, sought_part, table_parts}
-use Rattle.requests.specs.declared.fault.Fault.{Fault}
-use Rattle.requests.specs.declared.request.FileKind.{FileKind}
-use Rattle.requests.specs.declared.request.FileKind.TheVariants.{Characters}
-use Rattle.requests.specs.declared.request.SoughtRow.{SoughtRow}
+use Rattle.std.proofs.Common.{rules, [], ◌∷◌, inl}
+use Rattle.std.specs.Io.KnownBytes.{Appends}
+use Rattle.explain_row.specs.RowTexts.{row_text}
+use Rattle.requests.proofs.FirstFaults.{first_behind, first_of_all, has_rows, printing_fails, row_done, row_tables_done}
+use Rattle.requests.proofs.MadeRows.{first_fails}
+use Rattle.requests.specs.Parts.{row_parts, row_table_parts, sought_part}
 use Rattle.requests.proofs.row_explaining.explain_row.Goals as goal
 
--- behind tables that were read, what ends the search for a row ends its request
-search_fails : (files : FileFacts) (folder : Bor (List ℕ)) (sought : SoughtRow) (tables : TablesOf) (before after : Option (List ℕ)) {T : Type 0}
-    (r : Result T Fault) (k : FileKind) (named : Option (Bor (List ℕ))) → k ≡ Characters → named ≡ Some folder → AreTables files folder.now tables
-    → IfErr r (FailsIn (sought_part files sought ∷ []) before after) → IfErr r (FailsIn (row_parts_by files k named sought) before after)
-search_fails files folder sought tables before after (Ok x) k named e f are h = h
-search_fails files folder sought tables before after (Err fault) k named e f are h =
-    subst (λ (j : FileKind). FailsIn (row_parts_by files j named sought) before after fault) (sym e)
-    (subst (λ (n : Option (Bor (List ℕ))). FailsIn (row_parts_by files Characters n sought) before after fault) (sym f)
-    (FailsIn-behind (table_parts files folder.now) (sought_part files sought ∷ []) before after fault (tables_done files folder.now tables are) h))
+pub returns-in_err-tables-clause-fault : goal.returns-in_err-tables-clause-fault
+returns-in_err-tables-clause-fault g c =
+    let files = g.F.Files.facts c.args.files.now in
+    let sought = c.args.sought in
+    first_fails (row_parts files sought) _ c.from_residual.result _ c.from_residual.ensures.1
+    (first_of_all (row_table_parts files sought.kind sought.tables) (sought_part files sought ∷ []) _ c.in_err-tables.ensures.fault)
 
-pub returns-in_ok-tables-in-Characters-Some-clause-fault : goal.returns-in_ok-tables-in-Characters-Some-clause-fault
-returns-in_ok-tables-in-Characters-Some-clause-fault g c =
-    search_fails (g.F.Files.facts c.args.files.now) c.in-Characters-Some.folder c.args.sought _ _ _ c.explain_row_as-in-Characters-Some.result
-    c.args.sought.kind c.args.sought.tables c.in-Characters-Some.is-0 c.in-Characters-Some.is-1
-    c.in_ok-tables-in-Characters-Some.ensures.tables c.explain_row_as-in-Characters-Some.ensures.fault
+pub returns-in_err-row-clause-fault : goal.returns-in_err-row-clause-fault
+returns-in_err-row-clause-fault g c =
+    let files = g.F.Files.facts c.args.files.now in
+    let sought = c.args.sought in
+    let is = has_rows files sought.kind sought.tables _ _ c.in_ok-tables.ensures.tables c.rows_by.ensures in
+    first_fails (row_parts files sought) _ c.from_residual-in_err-row.result _ c.from_residual-in_err-row.ensures.1
+    (first_behind (row_table_parts files sought.kind sought.tables) (sought_part files sought ∷ []) _
+    (row_tables_done files sought.kind sought.tables _ is) (inl (_, is, c.in_err-row.ensures.fault)))
+
+pub returns-in_err-print_row-clause-fault : goal.returns-in_err-print_row-clause-fault
+returns-in_err-print_row-clause-fault g c =
+    let files = g.F.Files.facts c.args.files.now in
+    let sought = c.args.sought in
+    let is = has_rows files sought.kind sought.tables _ _ c.in_ok-tables.ensures.tables c.rows_by.ensures in
+    printing_fails (row_parts files sought) _ _ _ _ (row_done files sought _ is (_, is, (_, c.in_ok-row.ensures.row))) c.from_residual-in_err-print_row.ensures.1
+
+pub returns-clause-printed : goal.returns-clause-printed
+returns-clause-printed g c =
+    let is = has_rows (g.F.Files.facts c.args.files.now) c.args.sought.kind c.args.sought.tables _ _ c.in_ok-tables.ensures.tables c.rows_by.ensures in
+    let said : Appends (g.W.Write.contents c.args.out.now) (g.W.Write.contents c.print_row.new.w) (row_text c.args.sought.line.value c.in_ok-row.row) = search rules in
+    record { rows = _; is = is; row = _; found = c.in_ok-row.ensures.row; said = said }

@@ -1,5 +1,5 @@
 use Rattle.printing.proofs.Appending.{Appends-joined, Appends-then}
-use Rattle.requests.proofs.fault.print_no_direction.Goals as goal
+use Rattle.requests.proofs.fault.print_item.Goals as goal
 
 pub returns : goal.returns
 returns g c =
