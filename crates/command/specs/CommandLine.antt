@@ -1,6 +1,6 @@
 -- The command line, as it is read: the command with its subcommands and arguments, and the request that the values of a
 -- subcommand make.
-use Rattle.std.specs.Prelude.{◌≡◌, ◌≢◌, ◌⊎◌, ℕ, List, [], ◌∷◌, Option, None, Some, Result, Ok, Err, IfOk, codes, map, option_map, unwrap_or, is_some, pos, Bool, true, false, if◌then◌else◌}
+use Rattle.std.specs.Prelude.{◌≡◌, ◌≢◌, ◌⊎◌, ℕ, List, [], ◌∷◌, Option, None, Some, Result, Ok, Err, IfOk, codes, fold, map, option_map, unwrap_or, is_some, pos, Bool, true, false, if◌then◌else◌}
 use Rattle.std.specs.Borrow.{Bor}
 use Rattle.std.specs.declared.num.NonZeroU16.{NonZeroU16}
 use Rattle.std.specs.declared.num.NonZeroU64.{NonZeroU64}
@@ -10,11 +10,10 @@ use Rattle.std.specs.Str.Parse.{ParsesNonZeroUnsigned, ParsesUnsigned, digits_va
 use Rattle.clap.specs.Faults.{fault_of}
 use Rattle.clap.specs.Kinds.{IsAmong}
 use Rattle.clap.specs.Matches.{ReadsOne}
-use Rattle.clap.specs.Simple.{App, new_app, new_rule, on_top, subcommand_of, with_rule, with_subcommand}
+use Rattle.clap.specs.Simple.{App, new_app, new_rule, on_top, subcommand_of, with_subcommand}
 use Rattle.clap.specs.Values.{kind_of}
 use Rattle.clap.specs.Walk.{Row, Rule, Text, first_of, one_of}
 use Rattle.clap.specs.declared.error.Error.{Error}
-use Rattle.clap.specs.declared.error.kind.ErrorKind.{ErrorKind}
 use Rattle.clap.specs.declared.error.kind.ErrorKind.TheVariants.{OutOfMemory}
 use Rattle.clap.specs.declared.builder.value_parser.ValueParser.TheVariants as parser
 use Rattle.clap.specs.declared.builder.action.ArgAction.TheVariants.{SetTrue}
@@ -53,9 +52,24 @@ Choice = Bor (List (Bor Text))
 abbrev pub words_of : Choice → List Text
 words_of choice = map (λ word. word.now) choice.now
 
+-- the words that name directions, kinds and forms
+abbrev pub direction_words : List Text
+direction_words = codes "auto" ∷ codes "ltr" ∷ codes "rtl" ∷ codes "auto-rtl" ∷ []
+
+abbrev pub kind_words : List Text
+kind_words = codes "classes" ∷ codes "characters" ∷ []
+
+abbrev pub form_words : List Text
+form_words = codes "exhaustive" ∷ codes "random" ∷ codes "nest" ∷ codes "brackets" ∷ codes "marks" ∷ codes "numbers"
+    ∷ codes "isolates" ∷ codes "separators" ∷ []
+
 -- an option with a value, `--NAME VALUE`
 abbrev pub option_rule : Text → Rule
 option_rule name = record (new_rule name) { long = Some name; value_names = 1 }
+
+-- one whose value is among these words
+abbrev pub choice_rule : Text → Choice → Rule
+choice_rule name words = record (option_rule name) { parser = Some (parser.Names words) }
 
 -- FILE
 abbrev pub file_rule : Rule
@@ -65,13 +79,9 @@ file_rule = record (new_rule (codes "file")) { value_names = 1; required = true 
 abbrev pub tables_rule : Rule
 tables_rule = record (option_rule (codes "tables")) { parser = Some parser.NonEmptyString }
 
--- --direction of what `explain` prints
-abbrev pub bare_direction_rule : Choice → Rule
-bare_direction_rule choice = record (option_rule (codes "direction")) { parser = Some (parser.Names choice) }
-
 -- --direction, which is `auto` where it is not given
 abbrev pub direction_rule : Choice → Rule
-direction_rule choice = record (bare_direction_rule choice) { defaults = codes "auto" ∷ [] }
+direction_rule directions = record (choice_rule (codes "direction") directions) { defaults = codes "auto" ∷ [] }
 
 -- --row, 1 or more, of 64 bits
 abbrev pub row_rule : Rule
@@ -81,37 +91,9 @@ row_rule = record (option_rule (codes "row")) { parser = Some (parser.Unsigned 1
 abbrev pub columns_rule : Rule
 columns_rule = record (option_rule (codes "columns")) { parser = Some (parser.Signed (pos 1) (pos 65535)) }
 
--- --classes
-abbrev pub classes_rule : Rule
-classes_rule = option_rule (codes "classes")
-
--- --codes
-abbrev pub codes_rule : Rule
-codes_rule = option_rule (codes "codes")
-
--- --kind
+-- --kind, which is needed
 abbrev pub kind_rule : Choice → Rule
-kind_rule choice = record (option_rule (codes "kind")) { required = true; parser = Some (parser.Names choice) }
-
--- --kind of the file that has a row, or that rows make
-abbrev pub bare_kind_rule : Choice → Rule
-bare_kind_rule choice = record (option_rule (codes "kind")) { parser = Some (parser.Names choice) }
-
--- --form
-abbrev pub form_rule : Choice → Rule
-form_rule choice = record (option_rule (codes "form")) { parser = Some (parser.Names choice) }
-
--- --of
-abbrev pub of_rule : Rule
-of_rule = option_rule (codes "of")
-
--- --alphabet
-abbrev pub alphabet_rule : Rule
-alphabet_rule = option_rule (codes "alphabet")
-
--- --length
-abbrev pub length_rule : Rule
-length_rule = option_rule (codes "length")
+kind_rule kinds = record (choice_rule (codes "kind") kinds) { required = true }
 
 -- --directions, which are `auto`, `ltr` and `rtl` where they are not given
 abbrev pub directions_rule : Rule
@@ -125,117 +107,53 @@ number_rule name = record (option_rule name) { parser = Some (parser.Unsigned 0 
 abbrev pub flag_rule : Text → Rule
 flag_rule name = record (new_rule name) { long = Some name; action = Some SetTrue }
 
-abbrev pub not_required : Rule → Rule
-not_required rule = record rule { required = false }
+-- a command of this name with these arguments
+abbrev pub app_with : Text → List Rule → App
+app_with name rules = on_top (λ s. record s { rules = rules }) (new_app name)
 
 abbrev pub levels_app : Choice → App
-levels_app directions = with_rule (with_rule (with_rule (new_app (codes "levels")) tables_rule) (direction_rule directions)) file_rule
+levels_app directions = app_with (codes "levels") (tables_rule ∷ direction_rule directions ∷ file_rule ∷ [])
 
 abbrev pub reorder_app : Choice → App
-reorder_app directions =
-    with_rule (with_rule (with_rule (with_rule (new_app (codes "reorder")) tables_rule) (direction_rule directions)) columns_rule) file_rule
+reorder_app directions = app_with (codes "reorder") (tables_rule ∷ direction_rule directions ∷ columns_rule ∷ file_rule ∷ [])
 
--- the choices of `explain`: of kinds, of directions
-pub record ExplainChoices : Type 0 where
-  pub kinds : Choice
-  pub directions : Choice
-
--- with what may be explained in the place of a text: classes, code points, a row
-abbrev pub with_others : App → App
-with_others app = with_rule (with_rule (with_rule app classes_rule) codes_rule) row_rule
-
-abbrev pub explain_app : ExplainChoices → App
-explain_app c =
-    with_rule (with_rule (with_rule (with_others (with_rule (new_app (codes "explain")) tables_rule)) (bare_kind_rule c.kinds)) (bare_direction_rule c.directions)) (not_required file_rule)
+abbrev pub explain_app : Choice → Choice → App
+explain_app kinds directions = app_with (codes "explain") (tables_rule ∷ option_rule (codes "classes") ∷ option_rule (codes "codes") ∷ row_rule
+    ∷ choice_rule (codes "kind") kinds ∷ choice_rule (codes "direction") directions ∷ record file_rule { required = false } ∷ [])
 
 abbrev pub judge_app : Choice → App
-judge_app kinds = with_rule (with_rule (with_rule (new_app (codes "judge")) (kind_rule kinds)) tables_rule) file_rule
-
--- with the flags that say what of a claim is compared
-abbrev pub with_leniency : App → App
-with_leniency app = with_rule (with_rule app (flag_rule (codes "order"))) (flag_rule (codes "shown"))
+judge_app kinds = app_with (codes "judge") (kind_rule kinds ∷ tables_rule ∷ file_rule ∷ [])
 
 abbrev pub report_app : Choice → App
-report_app kinds =
-    with_rule (with_leniency (with_rule (with_rule (with_rule (new_app (codes "report")) (kind_rule kinds)) tables_rule) (number_rule (codes "most")))) file_rule
+report_app kinds = app_with (codes "report") (kind_rule kinds ∷ tables_rule ∷ number_rule (codes "most") ∷ flag_rule (codes "order")
+    ∷ flag_rule (codes "shown") ∷ file_rule ∷ [])
 
--- the choices of `rows`: of forms, of kinds
-pub record RowChoices : Type 0 where
-  pub forms : Choice
-  pub kinds : Choice
-
--- with what the file of rows is: its form, its kind, and the tables by which it is right
-abbrev pub with_rows_kind : RowChoices → App → App
-with_rows_kind c app = with_rule (with_rule (with_rule app (form_rule c.forms)) (bare_kind_rule c.kinds)) tables_rule
-
--- with what its texts are: their letters, their lengths, and the directions under which they stand
-abbrev pub with_rows_texts : App → App
-with_rows_texts app = with_rule (with_rule (with_rule app alphabet_rule) length_rule) directions_rule
-
--- with which of them are drawn, and the text that may stand in the place of all these
-abbrev pub with_rows_which : App → App
-with_rows_which app = with_rule (with_rule (with_rule app (number_rule (codes "seed"))) (number_rule (codes "count"))) of_rule
-
-abbrev pub rows_app : RowChoices → App
-rows_app c = with_rows_which (with_rows_texts (with_rows_kind c (new_app (codes "rows"))))
-
--- the words that name directions, kinds and forms
-abbrev pub direction_words : List Text
-direction_words = codes "auto" ∷ codes "ltr" ∷ codes "rtl" ∷ codes "auto-rtl" ∷ []
-
-abbrev pub kind_words : List Text
-kind_words = codes "classes" ∷ codes "characters" ∷ []
-
-abbrev pub form_words : List Text
-form_words = codes "exhaustive" ∷ codes "random" ∷ codes "nest" ∷ codes "brackets" ∷ codes "marks" ∷ codes "numbers"
-    ∷ codes "isolates" ∷ codes "separators" ∷ []
-
--- the choices of `explain` are of these words
-pub record HasExplainWords (c : ExplainChoices) : Type 0 where
-  pub kinds : words_of c.kinds ≡ kind_words
-  pub directions : words_of c.directions ≡ direction_words
-
--- the choices of `rows` are of these words
-pub record HasRowWords (c : RowChoices) : Type 0 where
-  pub forms : words_of c.forms ≡ form_words
-  pub kinds : words_of c.kinds ≡ kind_words
+abbrev pub rows_app : Choice → Choice → App
+rows_app forms kinds = app_with (codes "rows") (choice_rule (codes "form") forms ∷ choice_rule (codes "kind") kinds ∷ tables_rule
+    ∷ option_rule (codes "alphabet") ∷ option_rule (codes "length") ∷ directions_rule ∷ number_rule (codes "seed")
+    ∷ number_rule (codes "count") ∷ option_rule (codes "of") ∷ [])
 
 -- the command without its subcommands: one is needed, but for help and the version
 abbrev pub bidi_top : App
 bidi_top = on_top (λ s. record s { has_version = true; subcommand_required = true }) (new_app (codes "bidi"))
 
--- the choices of the six subcommands: of directions, of kinds, of forms and kinds
+-- the choices of directions, of kinds and of forms
 pub record Choices : Type 0 where
-  pub of_levels : Choice
-  pub of_reorder : Choice
-  pub of_explain : ExplainChoices
-  pub of_judge : Choice
-  pub of_report : Choice
-  pub of_rows : RowChoices
-
--- with the subcommands that print of a text
-abbrev pub with_texts : Choices → App → App
-with_texts c top =
-    with_subcommand (with_subcommand (with_subcommand top (levels_app c.of_levels).top) (reorder_app c.of_reorder).top) (explain_app c.of_explain).top
-
--- with those of conformance files
-abbrev pub with_files : Choices → App → App
-with_files c top =
-    with_subcommand (with_subcommand (with_subcommand top (judge_app c.of_judge).top) (report_app c.of_report).top) (rows_app c.of_rows).top
+  pub directions : Choice
+  pub kinds : Choice
+  pub forms : Choice
 
 -- the command, whose six subcommands have these choices
 abbrev pub bidi_app : Choices → App
-bidi_app c = with_files c (with_texts c bidi_top)
+bidi_app c = fold with_subcommand bidi_top ((levels_app c.directions).top ∷ (reorder_app c.directions).top ∷ (explain_app c.kinds c.directions).top
+    ∷ (judge_app c.kinds).top ∷ (report_app c.kinds).top ∷ (rows_app c.forms c.kinds).top ∷ [])
 
 -- the command line of `bidi`
 pub record IsBidi (app : App) : Type 0 where
   pub choices : Choices
-  pub levels_words : words_of choices.of_levels ≡ direction_words
-  pub reorder_words : words_of choices.of_reorder ≡ direction_words
-  pub explain_words : HasExplainWords choices.of_explain
-  pub judge_words : words_of choices.of_judge ≡ kind_words
-  pub report_words : words_of choices.of_report ≡ kind_words
-  pub rows_words : HasRowWords choices.of_rows
+  pub directions : words_of choices.directions ≡ direction_words
+  pub kinds : words_of choices.kinds ≡ kind_words
+  pub forms : words_of choices.forms ≡ form_words
   pub is : app ≡ bidi_app choices
 
 -- the word for a kind of file
@@ -400,28 +318,18 @@ pub record HasMet (words : List Text) (met : Option (Text × List Row)) : Type 0
   pub same : met ≡ subcommand_of app words
 
 -- the words make this request
-pub record IsRead (words : List Text) (request : Request) : Type 0 where
-  pub app : App
-  pub is : IsBidi app
-  pub passes : fault_of app words ≡ []
-  pub asked : IsAskedBy (subcommand_of app words) request
+abbrev pub IsRead : List Text → Request → Type 0
+IsRead words request = (met : Option (Text × List Row)) × HasMet words met × IsAskedBy met request
 
--- the words are refused with this kind of error, or ask for help or the version
-pub record WordsAreRefused (words : List Text) (kind : ErrorKind) : Type 0 where
-  pub app : App
-  pub is : IsBidi app
-  pub refused : IsAmong kind (fault_of app words)
-
--- so says an error of `clap`, unless memory was refused
+-- so says an error of `clap`: memory was refused, or the words are refused with this kind of error, or ask for help or
+-- the version
 abbrev pub IsRefusedByClap : List Text → Error → Type 0
-IsRefusedByClap words error = (kind_of error ≡ OutOfMemory) ⊎ WordsAreRefused words (kind_of error)
+IsRefusedByClap words error = (kind_of error ≡ OutOfMemory)
+    ⊎ ((app : App) × IsBidi app × IsAmong (kind_of error) (fault_of app words))
 
 -- the words pass, and make no request, for this reason
-pub record WordsMakeNone (words : List Text) (why : NoRequest) : Type 0 where
-  pub app : App
-  pub is : IsBidi app
-  pub passes : fault_of app words ≡ []
-  pub none : MakesNone (subcommand_of app words) why
+abbrev pub WordsMakeNone : List Text → NoRequest → Type 0
+WordsMakeNone words why = (met : Option (Text × List Row)) × HasMet words met × MakesNone met why
 
 -- why the words are no request
 abbrev pub IsUnread : List Text → WordsFault → Type 0

@@ -4,6 +4,7 @@ use Rattle.clap.proofs.OnLiterals.{clap_on_literals}
 use Rattle.clap.specs.Faults.{fault_of}
 use Rattle.clap.specs.Simple.{subcommand_of}
 use Rattle.clap.specs.Walk.{Row, Text, first_of, one_of}
+use Rattle.clap.specs.declared.error.kind.ErrorKind.{ErrorKind}
 use Rattle.clap.specs.declared.error.kind.ErrorKind.TheVariants.{DisplayVersion, InvalidValue, TooManyValues, ValueValidation}
 use Rattle.report.specs.ReadClaims.{strict}
 use Rattle.report.specs.declared.terms.Parts.TheVariants as parts
@@ -12,9 +13,20 @@ use Rattle.units.specs.declared.level.Direction.{Direction}
 use Rattle.units.specs.declared.level.Direction.TheVariants.{Auto, Rtl}
 use Rattle.command.specs.CommandLine.{Choices, bidi_app, direction_named, kind_named, leniency_in, rows_kind}
 use Rattle.command.specs.Refusals.{refusal_without_request}
+use Rattle.command.specs.declared.refusal.NoRequest.{NoRequest}
 use Rattle.command.specs.declared.refusal.NoRequest.TheVariants.{AlphabetAndForm, ClassesAndText, CodesAndText, KindWithoutRow, NoAlphabet, NoForm, NoLength, NoText, RowAndText, RowWithoutFile, RowWithoutKind, TextAndForm}
 use Rattle.requests.specs.declared.request.FileKind.{FileKind}
 use Rattle.requests.specs.declared.request.FileKind.TheVariants.{Characters}
+
+-- what is met where these words stand behind the program's name, what is wrong with them, and why they make no request
+abbrev meets : Choices → List Text → Option (Text × List Row)
+meets c words = subcommand_of (bidi_app c) (codes "bidi" ∷ words)
+
+abbrev faults : Choices → List Text → List ErrorKind
+faults c words = fault_of (bidi_app c) (codes "bidi" ∷ words)
+
+abbrev refusal : Choices → List Text → NoRequest
+refusal c words = refusal_without_request (meets c words)
 
 -- a subcommand, with its folder, classes, code points, direction, text of columns, kind and file
 pub record Met : Type 0 where
@@ -39,89 +51,49 @@ met p = record {
   file = first_of (codes "file") p.1;
 }
 
+-- a subcommand that is given nothing
+abbrev bare : Text → Met
+bare name = record { name = name; tables = None; classes = None; codes = None; direction = Auto; columns = None; kind = None; file = None }
+
 -- the direction is auto where none is given
-pub levels_words : (c : Choices) → option_map met (subcommand_of (bidi_app c)
-    (codes "bidi" ∷ codes "levels" ∷ codes "--tables" ∷ codes "t" ∷ codes "FILE" ∷ [])) ≡ Some (record {
-      name = codes "levels";
-      tables = Some (codes "t");
-      classes = None;
-      codes = None;
-      direction = Auto;
-      columns = None;
-      kind = None;
-      file = Some (codes "FILE");
-    })
+pub levels_words : (c : Choices) → option_map met (meets c (codes "levels" ∷ codes "--tables" ∷ codes "t" ∷ codes "FILE" ∷ []))
+    ≡ Some (record (bare (codes "levels")) { tables = Some (codes "t"); file = Some (codes "FILE") })
 unfolding clap_on_literals
 levels_words c = refl
 
 -- without a folder
-pub standard_words : (c : Choices) → option_map met (subcommand_of (bidi_app c)
-    (codes "bidi" ∷ codes "levels" ∷ codes "FILE" ∷ [])) ≡ Some (record {
-      name = codes "levels";
-      tables = None;
-      classes = None;
-      codes = None;
-      direction = Auto;
-      columns = None;
-      kind = None;
-      file = Some (codes "FILE");
-    })
+pub standard_words : (c : Choices) → option_map met (meets c (codes "levels" ∷ codes "FILE" ∷ []))
+    ≡ Some (record (bare (codes "levels")) { file = Some (codes "FILE") })
 unfolding clap_on_literals
 standard_words c = refl
 
 -- a folder without a name
-pub no_folder_words : (c : Choices) → fault_of (bidi_app c)
-    (codes "bidi" ∷ codes "levels" ∷ codes "--tables" ∷ codes "" ∷ codes "FILE" ∷ []) ≡ InvalidValue ∷ []
+pub no_folder_words : (c : Choices) → faults c (codes "levels" ∷ codes "--tables" ∷ codes "" ∷ codes "FILE" ∷ []) ≡ InvalidValue ∷ []
 unfolding clap_on_literals
 no_folder_words c = refl
 
 -- standard input
-pub input_words : (c : Choices) → option_map met (subcommand_of (bidi_app c)
-    (codes "bidi" ∷ codes "levels" ∷ codes "--tables" ∷ codes "t" ∷ codes "-" ∷ [])) ≡ Some (record {
-      name = codes "levels";
-      tables = Some (codes "t");
-      classes = None;
-      codes = None;
-      direction = Auto;
-      columns = None;
-      kind = None;
-      file = Some (codes "-");
-    })
+pub input_words : (c : Choices) → option_map met (meets c (codes "levels" ∷ codes "--tables" ∷ codes "t" ∷ codes "-" ∷ []))
+    ≡ Some (record (bare (codes "levels")) { tables = Some (codes "t"); file = Some (codes "-") })
 unfolding clap_on_literals
 input_words c = refl
 
 -- the version is asked for
-pub version_words : (c : Choices) → fault_of (bidi_app c) (codes "bidi" ∷ codes "--version" ∷ []) ≡ DisplayVersion ∷ []
+pub version_words : (c : Choices) → faults c (codes "--version" ∷ []) ≡ DisplayVersion ∷ []
 unfolding clap_on_literals
 version_words c = refl
 
 -- options in any order, with values behind `=` too
-pub reorder_words : (c : Choices) → option_map met (subcommand_of (bidi_app c)
-    (codes "bidi" ∷ codes "reorder" ∷ codes "--columns=2" ∷ codes "FILE" ∷ codes "--direction" ∷ codes "rtl" ∷ codes "--tables=t" ∷ [])) ≡ Some (record {
-      name = codes "reorder";
-      tables = Some (codes "t");
-      classes = None;
-      codes = None;
-      direction = Rtl;
-      columns = Some (codes "2");
-      kind = None;
-      file = Some (codes "FILE");
-    })
+pub reorder_words : (c : Choices) → option_map met (meets c
+    (codes "reorder" ∷ codes "--columns=2" ∷ codes "FILE" ∷ codes "--direction" ∷ codes "rtl" ∷ codes "--tables=t" ∷ []))
+    ≡ Some (record (bare (codes "reorder")) { tables = Some (codes "t"); direction = Rtl; columns = Some (codes "2"); file = Some (codes "FILE") })
 unfolding clap_on_literals
 reorder_words c = refl
 
 -- of a kind, with tables
-pub judge_words : (c : Choices) → option_map met (subcommand_of (bidi_app c)
-    (codes "bidi" ∷ codes "judge" ∷ codes "--kind" ∷ codes "characters" ∷ codes "--tables" ∷ codes "t" ∷ codes "FILE" ∷ [])) ≡ Some (record {
-      name = codes "judge";
-      tables = Some (codes "t");
-      classes = None;
-      codes = None;
-      direction = Auto;
-      columns = None;
-      kind = Some Characters;
-      file = Some (codes "FILE");
-    })
+pub judge_words : (c : Choices) → option_map met (meets c
+    (codes "judge" ∷ codes "--kind" ∷ codes "characters" ∷ codes "--tables" ∷ codes "t" ∷ codes "FILE" ∷ []))
+    ≡ Some (record (bare (codes "judge")) { tables = Some (codes "t"); kind = Some Characters; file = Some (codes "FILE") })
 unfolding clap_on_literals
 judge_words c = refl
 
@@ -129,109 +101,72 @@ judge_words c = refl
 abbrev report_met : Text × List Row → Text × Option Text × Option Text × Option Text
 report_met p = (p.0, first_of (codes "kind") p.1, one_of (codes "most") p.1, first_of (codes "file") p.1)
 
-pub report_words : (c : Choices) → option_map report_met (subcommand_of (bidi_app c)
-    (codes "bidi" ∷ codes "report" ∷ codes "--most" ∷ codes "0" ∷ codes "--kind=classes" ∷ codes "FILE" ∷ []))
+pub report_words : (c : Choices) → option_map report_met (meets c
+    (codes "report" ∷ codes "--most" ∷ codes "0" ∷ codes "--kind=classes" ∷ codes "FILE" ∷ []))
     ≡ Some (codes "report", Some (codes "classes"), Some (codes "0"), Some (codes "FILE"))
 unfolding clap_on_literals
 report_words c = refl
 
-pub report_default_words : (c : Choices) → option_map report_met (subcommand_of (bidi_app c)
-    (codes "bidi" ∷ codes "report" ∷ codes "--kind" ∷ codes "classes" ∷ codes "FILE" ∷ []))
+pub report_default_words : (c : Choices) → option_map report_met (meets c
+    (codes "report" ∷ codes "--kind" ∷ codes "classes" ∷ codes "FILE" ∷ []))
     ≡ Some (codes "report", Some (codes "classes"), None, Some (codes "FILE"))
 unfolding clap_on_literals
 report_default_words c = refl
 
 -- what of each claim is compared: all of it where no flag is given, and with two flags the order of what is shown
-pub report_strict_words : (c : Choices) → option_map (λ p. leniency_in p.1) (subcommand_of (bidi_app c)
-    (codes "bidi" ∷ codes "report" ∷ codes "--kind" ∷ codes "classes" ∷ codes "FILE" ∷ [])) ≡ Some strict
+pub report_strict_words : (c : Choices) → option_map (λ p. leniency_in p.1) (meets c
+    (codes "report" ∷ codes "--kind" ∷ codes "classes" ∷ codes "FILE" ∷ [])) ≡ Some strict
 unfolding clap_on_literals
 report_strict_words c = refl
 
-pub report_lenient_words : (c : Choices) → option_map (λ p. leniency_in p.1) (subcommand_of (bidi_app c)
-    (codes "bidi" ∷ codes "report" ∷ codes "--shown" ∷ codes "--kind" ∷ codes "classes" ∷ codes "--order" ∷ codes "FILE" ∷ []))
+pub report_lenient_words : (c : Choices) → option_map (λ p. leniency_in p.1) (meets c
+    (codes "report" ∷ codes "--shown" ∷ codes "--kind" ∷ codes "classes" ∷ codes "--order" ∷ codes "FILE" ∷ []))
     ≡ Some (record { parts = parts.OrderAlone; positions = positions.Shown })
 unfolding clap_on_literals
 report_lenient_words c = refl
 
 -- a flag takes no value
-pub report_flag_value_words : (c : Choices) → fault_of (bidi_app c)
-    (codes "bidi" ∷ codes "report" ∷ codes "--kind" ∷ codes "classes" ∷ codes "--order=true" ∷ codes "FILE" ∷ []) ≡ TooManyValues ∷ []
+pub report_flag_value_words : (c : Choices) → faults c
+    (codes "report" ∷ codes "--kind" ∷ codes "classes" ∷ codes "--order=true" ∷ codes "FILE" ∷ []) ≡ TooManyValues ∷ []
 unfolding clap_on_literals
 report_flag_value_words c = refl
 
 -- what is explained of a text by tables of a folder
-pub explain_words : (c : Choices) → option_map met (subcommand_of (bidi_app c)
-    (codes "bidi" ∷ codes "explain" ∷ codes "--tables" ∷ codes "t" ∷ codes "FILE" ∷ [])) ≡ Some (record {
-      name = codes "explain";
-      tables = Some (codes "t");
-      classes = None;
-      codes = None;
-      direction = Auto;
-      columns = None;
-      kind = None;
-      file = Some (codes "FILE");
-    })
+pub explain_words : (c : Choices) → option_map met (meets c (codes "explain" ∷ codes "--tables" ∷ codes "t" ∷ codes "FILE" ∷ []))
+    ≡ Some (record (bare (codes "explain")) { tables = Some (codes "t"); file = Some (codes "FILE") })
 unfolding clap_on_literals
 explain_words c = refl
 
 -- by those that are built in
-pub explain_standard_words : (c : Choices) → option_map met (subcommand_of (bidi_app c)
-    (codes "bidi" ∷ codes "explain" ∷ codes "FILE" ∷ [])) ≡ Some (record {
-      name = codes "explain";
-      tables = None;
-      classes = None;
-      codes = None;
-      direction = Auto;
-      columns = None;
-      kind = None;
-      file = Some (codes "FILE");
-    })
+pub explain_standard_words : (c : Choices) → option_map met (meets c (codes "explain" ∷ codes "FILE" ∷ []))
+    ≡ Some (record (bare (codes "explain")) { file = Some (codes "FILE") })
 unfolding clap_on_literals
 explain_standard_words c = refl
 
 -- and of classes, whose blanks stand within one word
-pub explain_classes_words : (c : Choices) → option_map met (subcommand_of (bidi_app c)
-    (codes "bidi" ∷ codes "explain" ∷ codes "--direction" ∷ codes "rtl" ∷ codes "--classes" ∷ codes "R ON L" ∷ [])) ≡ Some (record {
-      name = codes "explain";
-      tables = None;
-      classes = Some (codes "R ON L");
-      codes = None;
-      direction = Rtl;
-      columns = None;
-      kind = None;
-      file = None;
-    })
+pub explain_classes_words : (c : Choices) → option_map met (meets c
+    (codes "explain" ∷ codes "--direction" ∷ codes "rtl" ∷ codes "--classes" ∷ codes "R ON L" ∷ []))
+    ≡ Some (record (bare (codes "explain")) { classes = Some (codes "R ON L"); direction = Rtl })
 unfolding clap_on_literals
 explain_classes_words c = refl
 
 -- of code points, likewise
-pub explain_codes_words : (c : Choices) → option_map met (subcommand_of (bidi_app c)
-    (codes "bidi" ∷ codes "explain" ∷ codes "--codes" ∷ codes "05D0 0028" ∷ [])) ≡ Some (record {
-      name = codes "explain";
-      tables = None;
-      classes = None;
-      codes = Some (codes "05D0 0028");
-      direction = Auto;
-      columns = None;
-      kind = None;
-      file = None;
-    })
+pub explain_codes_words : (c : Choices) → option_map met (meets c (codes "explain" ∷ codes "--codes" ∷ codes "05D0 0028" ∷ []))
+    ≡ Some (record (bare (codes "explain")) { codes = Some (codes "05D0 0028") })
 unfolding clap_on_literals
 explain_codes_words c = refl
 
 -- none of these, and two of them: no request, and the reason for that
-pub explain_nothing_words : (c : Choices)
-    → refusal_without_request (subcommand_of (bidi_app c) (codes "bidi" ∷ codes "explain" ∷ [])) ≡ NoText
+pub explain_nothing_words : (c : Choices) → refusal c (codes "explain" ∷ []) ≡ NoText
 unfolding clap_on_literals
 explain_nothing_words c = refl
 
-pub explain_both_words : (c : Choices) → refusal_without_request (subcommand_of (bidi_app c)
-    (codes "bidi" ∷ codes "explain" ∷ codes "--classes" ∷ codes "R" ∷ codes "FILE" ∷ [])) ≡ ClassesAndText
+pub explain_both_words : (c : Choices) → refusal c (codes "explain" ∷ codes "--classes" ∷ codes "R" ∷ codes "FILE" ∷ []) ≡ ClassesAndText
 unfolding clap_on_literals
 explain_both_words c = refl
 
-pub explain_codes_and_classes_words : (c : Choices) → refusal_without_request (subcommand_of (bidi_app c)
-    (codes "bidi" ∷ codes "explain" ∷ codes "--classes" ∷ codes "R" ∷ codes "--codes" ∷ codes "05D0" ∷ [])) ≡ CodesAndText
+pub explain_codes_and_classes_words : (c : Choices) → refusal c
+    (codes "explain" ∷ codes "--classes" ∷ codes "R" ∷ codes "--codes" ∷ codes "05D0" ∷ []) ≡ CodesAndText
 unfolding clap_on_literals
 explain_codes_and_classes_words c = refl
 
@@ -239,112 +174,95 @@ explain_codes_and_classes_words c = refl
 abbrev row_met : Text × List Row → Option Text × Option FileKind × Option Text × Option Text
 row_met p = (one_of (codes "row") p.1, kind_named (first_of (codes "kind") p.1), first_of (codes "tables") p.1, first_of (codes "file") p.1)
 
-pub explain_row_words : (c : Choices) → option_map row_met (subcommand_of (bidi_app c)
-    (codes "bidi" ∷ codes "explain" ∷ codes "--row=12" ∷ codes "--kind" ∷ codes "characters" ∷ codes "FILE" ∷ codes "--tables" ∷ codes "t" ∷ []))
+pub explain_row_words : (c : Choices) → option_map row_met (meets c
+    (codes "explain" ∷ codes "--row=12" ∷ codes "--kind" ∷ codes "characters" ∷ codes "FILE" ∷ codes "--tables" ∷ codes "t" ∷ []))
     ≡ Some (Some (codes "12"), Some Characters, Some (codes "t"), Some (codes "FILE"))
 unfolding clap_on_literals
 explain_row_words c = refl
 
 -- no line has the number 0
-pub explain_no_row_words : (c : Choices) → fault_of (bidi_app c)
-    (codes "bidi" ∷ codes "explain" ∷ codes "--row" ∷ codes "0" ∷ codes "--kind" ∷ codes "classes" ∷ codes "FILE" ∷ []) ≡ ValueValidation ∷ []
+pub explain_no_row_words : (c : Choices) → faults c
+    (codes "explain" ∷ codes "--row" ∷ codes "0" ∷ codes "--kind" ∷ codes "classes" ∷ codes "FILE" ∷ []) ≡ ValueValidation ∷ []
 unfolding clap_on_literals
 explain_no_row_words c = refl
 
 -- a direction beside a row, a row without a kind or a file, and a kind without a row: no request, and the reason for that
-pub explain_row_and_direction_words : (c : Choices) → refusal_without_request (subcommand_of (bidi_app c)
-    (codes "bidi" ∷ codes "explain" ∷ codes "--row" ∷ codes "1" ∷ codes "--direction" ∷ codes "auto" ∷ codes "--kind" ∷ codes "classes" ∷ codes "FILE" ∷ [])) ≡ RowAndText
+pub explain_row_and_direction_words : (c : Choices) → refusal c
+    (codes "explain" ∷ codes "--row" ∷ codes "1" ∷ codes "--direction" ∷ codes "auto" ∷ codes "--kind" ∷ codes "classes" ∷ codes "FILE" ∷ [])
+    ≡ RowAndText
 unfolding clap_on_literals
 explain_row_and_direction_words c = refl
 
-pub explain_row_without_kind_words : (c : Choices) → refusal_without_request (subcommand_of (bidi_app c)
-    (codes "bidi" ∷ codes "explain" ∷ codes "--row" ∷ codes "1" ∷ codes "FILE" ∷ [])) ≡ RowWithoutKind
+pub explain_row_without_kind_words : (c : Choices) → refusal c (codes "explain" ∷ codes "--row" ∷ codes "1" ∷ codes "FILE" ∷ [])
+    ≡ RowWithoutKind
 unfolding clap_on_literals
 explain_row_without_kind_words c = refl
 
-pub explain_row_without_file_words : (c : Choices) → refusal_without_request (subcommand_of (bidi_app c)
-    (codes "bidi" ∷ codes "explain" ∷ codes "--row" ∷ codes "1" ∷ codes "--kind" ∷ codes "classes" ∷ [])) ≡ RowWithoutFile
+pub explain_row_without_file_words : (c : Choices) → refusal c
+    (codes "explain" ∷ codes "--row" ∷ codes "1" ∷ codes "--kind" ∷ codes "classes" ∷ []) ≡ RowWithoutFile
 unfolding clap_on_literals
 explain_row_without_file_words c = refl
 
-pub explain_kind_without_row_words : (c : Choices) → refusal_without_request (subcommand_of (bidi_app c)
-    (codes "bidi" ∷ codes "explain" ∷ codes "--kind" ∷ codes "classes" ∷ codes "FILE" ∷ [])) ≡ KindWithoutRow
+pub explain_kind_without_row_words : (c : Choices) → refusal c (codes "explain" ∷ codes "--kind" ∷ codes "classes" ∷ codes "FILE" ∷ [])
+    ≡ KindWithoutRow
 unfolding clap_on_literals
 explain_kind_without_row_words c = refl
 
 -- rows: their form, kind, alphabet, lengths and directions, which are three where none are given
-pub record RowsMet : Type 0 where
-  pub form : Option Text
-  pub kind : Option FileKind
-  pub alphabet : Option Text
-  pub lengths : Option Text
-  pub directions : Option Text
+abbrev rows_met : Text × List Row → Option Text × Option FileKind × Option Text × Option Text × Option Text
+rows_met p = (
+  first_of (codes "form") p.1,
+  kind_named (first_of (codes "kind") p.1),
+  first_of (codes "alphabet") p.1,
+  first_of (codes "length") p.1,
+  first_of (codes "directions") p.1,
+)
 
-abbrev rows_met : Text × List Row → RowsMet
-rows_met p = record {
-  form = first_of (codes "form") p.1;
-  kind = kind_named (first_of (codes "kind") p.1);
-  alphabet = first_of (codes "alphabet") p.1;
-  lengths = first_of (codes "length") p.1;
-  directions = first_of (codes "directions") p.1;
-}
-
-pub rows_words : (c : Choices) → option_map rows_met (subcommand_of (bidi_app c)
-    (codes "bidi" ∷ codes "rows" ∷ codes "--form" ∷ codes "exhaustive" ∷ codes "--alphabet" ∷ codes "R ON L" ∷ codes "--length=1..3" ∷ [])) ≡ Some (record {
-      form = Some (codes "exhaustive");
-      kind = None;
-      alphabet = Some (codes "R ON L");
-      lengths = Some (codes "1..3");
-      directions = Some (codes "auto ltr rtl");
-    })
+pub rows_words : (c : Choices) → option_map rows_met (meets c
+    (codes "rows" ∷ codes "--form" ∷ codes "exhaustive" ∷ codes "--alphabet" ∷ codes "R ON L" ∷ codes "--length=1..3" ∷ []))
+    ≡ Some (Some (codes "exhaustive"), None, Some (codes "R ON L"), Some (codes "1..3"), Some (codes "auto ltr rtl"))
 unfolding clap_on_literals
 rows_words c = refl
 
 -- of a form of hard texts
-pub hard_rows_words : (c : Choices) → option_map rows_met (subcommand_of (bidi_app c)
-    (codes "bidi" ∷ codes "rows" ∷ codes "--form=nest" ∷ codes "--kind" ∷ codes "characters" ∷ codes "--length" ∷ codes "9" ∷ codes "--directions" ∷ codes "rtl" ∷ [])) ≡ Some (record {
-      form = Some (codes "nest");
-      kind = Some Characters;
-      alphabet = None;
-      lengths = Some (codes "9");
-      directions = Some (codes "rtl");
-    })
+pub hard_rows_words : (c : Choices) → option_map rows_met (meets c
+    (codes "rows" ∷ codes "--form=nest" ∷ codes "--kind" ∷ codes "characters" ∷ codes "--length" ∷ codes "9" ∷ codes "--directions" ∷ codes "rtl" ∷ []))
+    ≡ Some (Some (codes "nest"), Some Characters, None, Some (codes "9"), Some (codes "rtl"))
 unfolding clap_on_literals
 hard_rows_words c = refl
 
 -- an alphabet that is missing, and one too many: no request, and the reason for that
-pub rows_without_alphabet_words : (c : Choices) → refusal_without_request (subcommand_of (bidi_app c)
-    (codes "bidi" ∷ codes "rows" ∷ codes "--form" ∷ codes "random" ∷ codes "--length" ∷ codes "1" ∷ [])) ≡ NoAlphabet
+pub rows_without_alphabet_words : (c : Choices) → refusal c
+    (codes "rows" ∷ codes "--form" ∷ codes "random" ∷ codes "--length" ∷ codes "1" ∷ []) ≡ NoAlphabet
 unfolding clap_on_literals
 rows_without_alphabet_words c = refl
 
-pub rows_with_two_letters_words : (c : Choices) → refusal_without_request (subcommand_of (bidi_app c)
-    (codes "bidi" ∷ codes "rows" ∷ codes "--form" ∷ codes "nest" ∷ codes "--alphabet" ∷ codes "L" ∷ codes "--length" ∷ codes "1" ∷ [])) ≡ AlphabetAndForm
+pub rows_with_two_letters_words : (c : Choices) → refusal c
+    (codes "rows" ∷ codes "--form" ∷ codes "nest" ∷ codes "--alphabet" ∷ codes "L" ∷ codes "--length" ∷ codes "1" ∷ []) ≡ AlphabetAndForm
 unfolding clap_on_literals
 rows_with_two_letters_words c = refl
 
 -- rows of the lines of a text, and the kind that they are of where none is named
-pub text_rows_words : (c : Choices) → option_map (λ p. first_of (codes "of") p.1) (subcommand_of (bidi_app c)
-    (codes "bidi" ∷ codes "rows" ∷ codes "--of" ∷ codes "-" ∷ [])) ≡ Some (Some (codes "-"))
+pub text_rows_words : (c : Choices) → option_map (λ p. first_of (codes "of") p.1) (meets c (codes "rows" ∷ codes "--of" ∷ codes "-" ∷ []))
+    ≡ Some (Some (codes "-"))
 unfolding clap_on_literals
 text_rows_words c = refl
 
-pub text_rows_kind : (c : Choices) → option_map (λ p. rows_kind Characters p.1) (subcommand_of (bidi_app c)
-    (codes "bidi" ∷ codes "rows" ∷ codes "--of" ∷ codes "-" ∷ [])) ≡ Some Characters
+pub text_rows_kind : (c : Choices) → option_map (λ p. rows_kind Characters p.1) (meets c (codes "rows" ∷ codes "--of" ∷ codes "-" ∷ []))
+    ≡ Some Characters
 unfolding clap_on_literals
 text_rows_kind c = refl
 
 -- a text beside a form, neither of them, and a form without lengths: no request, and the reason for that
-pub rows_of_text_and_form_words : (c : Choices) → refusal_without_request (subcommand_of (bidi_app c)
-    (codes "bidi" ∷ codes "rows" ∷ codes "--of" ∷ codes "t" ∷ codes "--seed" ∷ codes "1" ∷ [])) ≡ TextAndForm
+pub rows_of_text_and_form_words : (c : Choices) → refusal c (codes "rows" ∷ codes "--of" ∷ codes "t" ∷ codes "--seed" ∷ codes "1" ∷ [])
+    ≡ TextAndForm
 unfolding clap_on_literals
 rows_of_text_and_form_words c = refl
 
-pub rows_of_nothing_words : (c : Choices) → refusal_without_request (subcommand_of (bidi_app c) (codes "bidi" ∷ codes "rows" ∷ [])) ≡ NoForm
+pub rows_of_nothing_words : (c : Choices) → refusal c (codes "rows" ∷ []) ≡ NoForm
 unfolding clap_on_literals
 rows_of_nothing_words c = refl
 
-pub rows_without_length_words : (c : Choices) → refusal_without_request (subcommand_of (bidi_app c)
-    (codes "bidi" ∷ codes "rows" ∷ codes "--form" ∷ codes "nest" ∷ [])) ≡ NoLength
+pub rows_without_length_words : (c : Choices) → refusal c (codes "rows" ∷ codes "--form" ∷ codes "nest" ∷ []) ≡ NoLength
 unfolding clap_on_literals
 rows_without_length_words c = refl

@@ -42,6 +42,11 @@ pub const EXPLAIN_TABLES_HELP: &str =
 pub const JUDGE_TABLES_HELP: &str =
     "The folder of DerivedBidiClass.txt, BidiBrackets.txt and BidiMirroring.txt, of the edition of the test file";
 
+/// What `--direction` says.
+pub const DIRECTION_HELP: &str =
+    "The direction of each paragraph, which `auto` finds by rules P2 and P3; \
+     `auto-rtl` takes right to left where they find none";
+
 /// What `levels` prints, and with which status it ends.
 pub const LEVELS_LONG_ABOUT: &str = "Prints the levels of a text, in UTF-8.
 
@@ -70,6 +75,9 @@ end is read, and stands printed where what is behind it can't be read or is not 
 Ends with status 0, 2 where the command line is refused, and 3 where a file can't be
 read, a line of a table is faulty, the text is not UTF-8, a write fails or memory is
 refused.";
+
+/// What `--columns` says.
+pub const COLUMNS_HELP: &str = "Breaks each paragraph's lines at every N characters, 1 to 65535";
 
 /// What stands at the end of the help of `reorder`.
 pub const REORDER_EXAMPLE: &str =
@@ -109,6 +117,23 @@ pub const EXPLAIN_KIND_HELP: &str =
     "The form of the file that has the row: that of BidiTest.txt, or that of BidiCharacterTest.txt, which needs \
      --tables";
 
+/// What `--direction` says, of `explain`, where a row names its own.
+pub const EXPLAIN_DIRECTION_HELP: &str =
+    "The direction of each paragraph, which `auto`, where it is left out, finds by rules P2 and P3; \
+     `auto-rtl` takes right to left where they find none";
+
+/// What `--row` says.
+pub const ROW_HELP: &str =
+    "Explains the row at this line of a conformance file, counted from 1, in the place of a text";
+
+/// What `--classes` says.
+pub const CLASSES_HELP: &str =
+    "Short names of classes, with blanks between them, in the place of a text";
+
+/// What `--codes` says.
+pub const CODES_HELP: &str =
+    "Code points in hex digits, with blanks between them, in the place of a text";
+
 /// What stands at the end of the help of `explain`.
 pub const EXPLAIN_EXAMPLE: &str = "Examples:
   bidi explain text.txt
@@ -127,6 +152,10 @@ or wrong, and what is wrong there.
 Ends with status 0 after a yes, 1 after a no, 2 where the command line is refused
 or `--tables` is needed, and 3 where a file can't be read, a line of a table is
 faulty, a write fails or memory is refused.";
+
+/// What `--kind` says, where it is required.
+pub const KIND_HELP: &str =
+    "The file's form: that of BidiTest.txt, or that of BidiCharacterTest.txt, which needs --tables";
 
 /// What stands at the end of the help of `judge`.
 pub const JUDGE_EXAMPLE: &str =
@@ -201,6 +230,29 @@ pub const ROWS_USAGE: &str =
 pub const ROWS_KIND_HELP: &str =
     "The file's form: that of BidiTest.txt, or that of BidiCharacterTest.txt, which holds with --of where it is \
      left out";
+
+/// What `--form` says.
+pub const FORM_HELP: &str =
+    "Which texts the rows have: with `exhaustive` all of these lengths over the alphabet, \
+     with `random` as many as --count says, drawn from it by --seed; with each other form \
+     as many, drawn from letters of its own";
+
+/// What `--alphabet` says.
+pub const ALPHABET_HELP: &str =
+    "The letters of `--form exhaustive` and `--form random`, with blanks between them: short names \
+     of classes, or with `--kind characters` code points in hex digits";
+
+/// What `--length` says.
+pub const LENGTH_HELP: &str =
+    "The lengths of the texts, 1 to 4095: `N`, or `A..B` for all from A up to B";
+
+/// What `--directions` says.
+pub const DIRECTIONS_HELP: &str =
+    "The directions under which each text stands, with blanks between them: auto, ltr, rtl or auto-rtl";
+
+/// What `--of` says.
+pub const OF_HELP: &str =
+    "The text whose lines the rows have, or `-` for standard input, in the place of texts of a form";
 
 /// What `--seed` says, and of which rows.
 pub const ROWS_SEED_HELP: &str = "The seed by which texts are drawn, 0 where it is left out";

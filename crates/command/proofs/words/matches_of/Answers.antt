@@ -1,19 +1,13 @@
-use Rattle.std.proofs.Common.{◌≡◌, List, Result, Ok, Err, IfOk, IfErr, true, inl, inr, ap, refl}
+use Rattle.std.proofs.Common.{◌≡◌, List, Result, Ok, Err, IfOk, IfErr, true, inl, inr, ap}
 use Rattle.std.proofs.lemmas.Result.{IfOk-weaker}
 use Rattle.clap.specs.Faults.{fault_of, is_simple_and_free}
-use Rattle.clap.specs.Kinds.{FailsBy, HasKind}
+use Rattle.clap.specs.Kinds.{FailsBy}
 use Rattle.clap.specs.Simple.{App, HasMatchesOf, app_of, is_simple, subcommand_rows_of}
 use Rattle.clap.specs.Walk.{Text, texts}
 use Rattle.clap.specs.declared.error.Error.{Error}
 use Rattle.clap.specs.declared.parser.matches.ArgMatches.{ArgMatches}
-use Rattle.command.specs.CommandLine.{Choices, HasMet, IsBidi, IsRefusedByClap, bidi_app}
+use Rattle.command.specs.CommandLine.{HasMet, IsBidi, IsRefusedByClap}
 use Rattle.command.proofs.words.matches_of.Goals as goal
-
-bidi_is_simple : (c : Choices) → is_simple (bidi_app c) ≡ true
-bidi_is_simple c = refl
-
-bidi_is_free : (c : Choices) → is_simple_and_free (bidi_app c) ≡ true
-bidi_is_free c = refl
 
 simple : (app : App) → IsBidi app → is_simple app ≡ true
 simple app h = ap is_simple h.is
@@ -26,24 +20,21 @@ met : (app : App) (words : List Text) (r : Result ArgMatches Error) → IsBidi a
 met app words (Ok m) h passes found = record { app = app; is = h; passes = passes; same = (found (simple app h)).1 }
 met app words (Err e) h fails found = tt
 
-refused_by : (app : App) (words : List Text) (e : Error) → IsBidi app → HasKind (fault_of app words) e → IsRefusedByClap words e
-refused_by app words e h (inl memory) = inl memory
-refused_by app words e h (inr kind) = inr (record { app = app; is = h; refused = kind })
-
 refused : (app : App) (words : List Text) (r : Result ArgMatches Error) → IsBidi app → FailsBy (fault_of app words) r
     → IfErr r (IsRefusedByClap words)
 refused app words (Ok m) h passes = tt
-refused app words (Err e) h fails = refused_by app words e h fails
+refused app words (Err e) h (inl memory) = inl memory
+refused app words (Err e) h (inr kind) = inr (app, h, kind)
 
 pub returns-clause-met : goal.returns-clause-met
 returns-clause-met c =
-    let bidi = c.in_ok-command.ensures.app in
+    let bidi = c.in_ok-command.ensures in
     let app = app_of c.in_ok-command.command in
     met app (texts c.args.words.now) c.try_get_matches_from_mut.result bidi (c.try_get_matches_from_mut.ensures.kinds (free app bidi))
     (IfOk-weaker c.try_get_matches_from_mut.result _ _ (λ m h. h.2) c.try_get_matches_from_mut.ensures.ok)
 
 pub returns-clause-refused : goal.returns-clause-refused
 returns-clause-refused c =
-    let bidi = c.in_ok-command.ensures.app in
+    let bidi = c.in_ok-command.ensures in
     let app = app_of c.in_ok-command.command in
     refused app (texts c.args.words.now) c.try_get_matches_from_mut.result bidi (c.try_get_matches_from_mut.ensures.kinds (free app bidi))
