@@ -1,5 +1,5 @@
 -- What a search for a row holds, and the bytes that it stands for.
-use Rattle.std.specs.Prelude.{◌≡◌, ◌<◌, ◌≤◌, Option, Result, Ok, Err, Some, None, ℕ, List, [], ◌++◌, length, take}
+use Rattle.std.specs.Prelude.{◌≡◌, ◌<◌, ◌≤◌, Option, Result, Ok, Err, Some, None, ℕ, List, ◌++◌, length, take}
 use Rattle.units.specs.LineCutting.{Cutting, StandsFor}
 use Rattle.units.specs.Lines.{CutsInto}
 use Rattle.units.specs.declared.line_cut.Cut.{Cut}
@@ -16,7 +16,7 @@ use Rattle.report.specs.Reporting.{cause_of}
 use Rattle.explain_row.specs.declared.row_fault.RowFault.{RowFault}
 use Rattle.explain_row.specs.declared.row_fault.RowFault.TheVariants.{Malformed, NoRow}
 use Rattle.explain_row.specs.declared.row_fault.SearchFault.{SearchFault}
-use Rattle.explain_row.specs.SoughtRows.{RowView, Finds, IsSettled, row_by, sought_row}
+use Rattle.explain_row.specs.SoughtRows.{RowView, IsSettled, row_by, sought_row}
 
 -- what is kept from line to line, and the characters of the row that was found
 pub record RowReading : Type 0 where

@@ -1,5 +1,5 @@
 -- The row of a test file that stands at a line's number.
-use Rattle.std.specs.Prelude.{Option, Some, None, Result, Ok, Err, ◌≡◌, ◌<◌, ℕ, ◌+◌, ◌-◌, List, [], ◌∷◌, ◌++◌, length, take, slice_index_or}
+use Rattle.std.specs.Prelude.{Option, Some, None, Result, Ok, Err, ◌≡◌, ◌<◌, ℕ, ◌+◌, ◌-◌, List, [], ◌++◌, length, take, slice_index_or}
 use Rattle.std.specs.List.{slice_get}
 use Rattle.units.specs.Text.{lines_of, settled_lines, content_of, fields_of, items_of, each_read}
 use Rattle.ucdfiles.specs.PairFiles.{char_of}

@@ -1,5 +1,5 @@
 //! The row of a line found in a file.
-ghost use Rattle.std.specs.Prelude.{◌≡◌, ◌≤◌, ◌<◌, ℕ, List, [], IfOk, IfErr, OnOk, length};
+ghost use Rattle.std.specs.Prelude.{◌≡◌, ◌≤◌, ◌<◌, ℕ, List, [], OnOk, length};
 ghost use Rattle.bidtests.specs.declared.line_reader.TheConstants.{MOST_UNITS};
 ghost use Rattle.explain_row.specs.Searching.{SearchesOn, row_or_fault};
 ghost use Rattle.explain_row.specs.SoughtRows.{Finds};

@@ -1,5 +1,5 @@
 //! What is printed of a row.
-ghost use Rattle.std.specs.Prelude.{◌≡◌, ◌≤◌, Some, codes, length, map, IfOk, OnOk};
+ghost use Rattle.std.specs.Prelude.{◌≡◌, ◌≤◌, codes, length, map, OnOk};
 ghost use Rattle.std.specs.Fmt.{decimal};
 ghost use Rattle.std.specs.Io.KnownBytes.{Appends};
 ghost use Rattle.std.specs.List.{flat_map};
@@ -22,7 +22,7 @@ use bidtests::claim::Claim;
 use bidtests::verdict_line::word_of_direction;
 use explain::print::print_units;
 use lines::breaks::Breaks;
-use lines::lay_out::lay_out_into_with;
+use lines::lay_out::lay_out_into;
 use lines::layout::Layout;
 use lines::scratch::Scratch;
 use printing::fault::PrintFault;
@@ -31,8 +31,6 @@ use std::alloc::Global;
 use std::io;
 use std::io::Write;
 use units::level::{Direction, Level, ParaLevel};
-use units::limits::Limits;
-use units::memory::Memory;
 
 /// Writes the line of a paragraph's level, behind this name.
 fn print_level_line<W: Write>(w: &mut W, name: &str, level: Option<ParaLevel>) -> io::Result<()>
@@ -148,7 +146,7 @@ fn print_beside<W: Write>(
     ensures room { room_of scratch.new ≡ room_of scratch.old }
 {
     let breaks = Breaks::new(&[], claim.text.len()).unwrap();
-    lay_out_into_with(scratch, claim.text, direction, &breaks, Limits::standard()).unwrap();
+    lay_out_into(scratch, claim.text, direction, &breaks).unwrap();
     print_claim(w, claim, &scratch.layout())
 }
 
@@ -179,13 +177,6 @@ fn print_case<W: Write>(
     print_units(alloc, w, row.chars(), claim.text, direction)?;
     print_beside(w, claim, direction, scratch)?;
     Ok(())
-}
-
-/// Room for the layout of a row's text.
-fn room_for(alloc: Global, row: &FoundRow) -> Result<Scratch, Memory>
-    ensures { IfOk result (λ scratch. length row.now.claim.text ≤ room_of scratch) }
-{
-    Scratch::with_room(alloc, row.claim().text.len()).map_err(|_| Memory)
 }
 
 /// Writes what is printed of the row at the line of this number under each of these directions.
@@ -222,7 +213,7 @@ pub fn print_row<W: Write>(
 ) -> Result<(), PrintFault>
     ensures { OnOk result (Appends (W.contents w.old) (W.contents w.new) (row_text number row.now)) }
 {
-    let mut scratch = room_for(alloc, row)?;
     let claim = row.claim();
+    let mut scratch = Scratch::reserve(alloc, claim.text.len())?;
     print_cases(alloc, w, number, row, claim.directions, &mut scratch)
 }

@@ -1,5 +1,5 @@
 // Lines read one behind the other, up to a row that is sought.
-ghost use Rattle.std.specs.Prelude.{◌≡◌, ◌*◌, ◌≤◌, [], IfOk, IfSome, IsSome, length, vec_capacity};
+ghost use Rattle.std.specs.Prelude.{◌≡◌, ◌*◌, ◌≤◌, IfOk, IsSome, length, vec_capacity};
 ghost use Rattle.units.specs.Text.{longest_line};
 ghost use Rattle.bidtests.specs.declared.line_reader.TheConstants.{MOST_UNITS};
 
