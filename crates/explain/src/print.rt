@@ -3,6 +3,7 @@ ghost use Rattle.std.specs.Prelude.{◌≡◌, ◌≤◌, length, map, Err, IfOk
 ghost use Rattle.std.specs.Io.KnownBytes.{Appends};
 ghost use Rattle.units.specs.Layout.{longest_text};
 ghost use Rattle.units.specs.Paragraphs.{SeparatorOnlyLast};
+ghost use Rattle.ucdfiles.specs.Tables.{units_by};
 ghost use Rattle.explain.specs.Explained.{explained, explained_classes, explained_from, explained_units, plain_unit};
 
 use crate::paragraph_text::print_paragraph;
@@ -33,6 +34,13 @@ fn plain_units(alloc: Global, classes: &[Class]) -> Result<Vec<Unit>, Memory>
         }
     }
     Ok(units)
+}
+
+/// The units of these characters, by tables. The error is refused memory.
+fn text_units(alloc: Global, tables: &Tables, chars: &[char]) -> Result<Vec<Unit>, Memory>
+    ensures { IfOk result (λ units. units.items ≡ units_by tables.now chars.now) }
+{
+    Ok(tables.units_of(alloc, chars)?)
 }
 
 /// What a write came to, with the fault of a write in place of its error.
@@ -111,7 +119,7 @@ pub fn print_explained<W: Write>(
     ensures { OnOk result (Appends (W.contents w.old) (W.contents w.new)
         (explained tables.now text.now direction)) }
 {
-    let units = tables.units_of(alloc, text).or(Err(PrintFault::Memory))?;
+    let units = text_units(alloc, tables, text)?;
     print_units(alloc, w, text, &units, direction)
 }
 
