@@ -1,9 +1,9 @@
 //! Rows of several lines: breaks, and what a room holds after a refusal.
 ghost use Rattle.lines.specs.Scratches.{IsFilled};
-ghost use Rattle.std.specs.Prelude.{OnOk};
+ghost use Rattle.std.specs.Prelude.{◌≡◌, OnOk};
 
 use crate::given::{levels, numbers, shows, unit, units_of};
-use lines::alone::SpanFault;
+use lines::alone::{SEARCH_STEPS, SpanFault};
 use lines::breaks::{BreakFault, Breaks};
 use lines::lay_out::{TooLong, break_anew_into, lay_out_into, line_alone_into};
 use lines::layout::Layout;
@@ -135,6 +135,18 @@ fn refuses_alone(rt: &impl Abort, room: &mut Scratch) -> Result<(), Fail> {
     assert_eq!(rt; levels, [None; 2]);
     assert_eq!(rt; order, [7; 2]);
     Ok(())
+}
+
+/// What a search through the paragraphs of a text counts as, where one line of it is laid out alone.
+fn steps_of_a_search() -> usize
+    ensures { result ≡ 25 }
+{
+    SEARCH_STEPS
+}
+
+#[test]
+fn counts_a_search_through_the_paragraphs_as_25_steps(rt: HostRuntime) {
+    assert_eq!(rt; steps_of_a_search(), 25);
 }
 
 #[test]
