@@ -33,6 +33,7 @@ pub extern "C" fn bidi_judge_new_classes(alloc: Global, judge: &mut BidiHandle) 
 /// Makes a judge of a BidiTest.txt as `bidi_judge_new_classes` does, that lays out by these limits in place of the
 /// standard ones.
 #[unsafe(no_mangle)]
+#[tactic(auto, using(crate::proofs::LimitsRefused::limits_refused))]
 pub extern "C" fn bidi_judge_new_classes_with(
     alloc: Global,
     judge: &mut BidiHandle,
@@ -82,6 +83,7 @@ pub extern "C" fn bidi_judge_new_characters(
 /// Makes a judge of a BidiCharacterTest.txt as `bidi_judge_new_characters` does, that lays out by these limits in place
 /// of the standard ones.
 #[unsafe(no_mangle)]
+#[tactic(auto, using(crate::proofs::LimitsRefused::limits_refused))]
 pub extern "C" fn bidi_judge_new_characters_with(
     alloc: Global,
     tables: &mut BidiHandle,

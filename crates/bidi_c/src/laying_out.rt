@@ -59,6 +59,7 @@ pub extern "C" fn bidi_lay_out(
 /// Lays out a text of code points as `bidi_lay_out` does, by these limits in place of the standard ones: how deep
 /// explicit levels go (BD2), and how many brackets can be open at once (BD16).
 #[unsafe(no_mangle)]
+#[tactic(auto, using(crate::proofs::LimitsRefused::limits_refused_named))]
 pub extern "C" fn bidi_lay_out_with(
     room: &mut BidiHandle,
     tables: &mut BidiHandle,
@@ -117,6 +118,7 @@ pub extern "C" fn bidi_lay_out_classes(
 
 /// Lays out a text of classes as `bidi_lay_out_classes` does, by these limits in place of the standard ones.
 #[unsafe(no_mangle)]
+#[tactic(auto, using(crate::proofs::LimitsRefused::limits_refused_named))]
 pub extern "C" fn bidi_lay_out_classes_with(
     room: &mut BidiHandle,
     numbers: &[u8],

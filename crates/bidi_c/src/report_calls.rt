@@ -41,6 +41,7 @@ pub extern "C" fn bidi_report_new_classes(alloc: Global, report: &mut BidiHandle
 /// Makes a report on a BidiTest.txt as `bidi_report_new_classes` does, that lays out by these limits in place of the
 /// standard ones.
 #[unsafe(no_mangle)]
+#[tactic(auto, using(crate::proofs::LimitsRefused::limits_refused))]
 pub extern "C" fn bidi_report_new_classes_with(
     alloc: Global,
     report: &mut BidiHandle,
@@ -90,6 +91,7 @@ pub extern "C" fn bidi_report_new_characters(
 /// Makes a report on a BidiCharacterTest.txt as `bidi_report_new_characters` does, that lays out by these limits in
 /// place of the standard ones.
 #[unsafe(no_mangle)]
+#[tactic(auto, using(crate::proofs::LimitsRefused::limits_refused))]
 pub extern "C" fn bidi_report_new_characters_with(
     alloc: Global,
     tables: &mut BidiHandle,
