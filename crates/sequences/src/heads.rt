@@ -1,5 +1,5 @@
 //! Where sequences begin: their first positions, and what is said of each (BD13, X10).
-ghost use Rattle.std.specs.Prelude.{◌≡◌, ◌≤◌, ◌+◌, ◌-◌, ◌++◌, ◌<◌, IfSome, Some, length, take, true};
+ghost use Rattle.std.specs.Prelude.{◌≡◌, ◌≤◌, ◌+◌, ◌-◌, ◌++◌, ◌<◌, ◌↔◌, IfSome, IsTrue, Some, length, take};
 ghost use Rattle.units.specs.Runs.{size_of, last_remaining, begins_sequence, sequence_from};
 ghost use Rattle.sequences.specs.Links.{IsLinkedStretch, link_at, linked, LinksForward};
 ghost use Rattle.sequences.specs.Heads.{IsMarked, HasEnds, AreSuccessors, head_at, heads_of, column_of};
@@ -44,7 +44,7 @@ struct Written {
 fn leads_on(links: &[OptionalPosition], p: usize) -> bool
     requires small { length links.now < u32.MAX }
     requires here { p < length links.now }
-    ensures { result ≡ true → link_at links.now p ≡ Some (p + 1) }
+    ensures { IsTrue result ↔ (link_at links.now p ≡ Some (p + 1)) }
 {
     links[p] == OptionalPosition::some(p + 1)
 }

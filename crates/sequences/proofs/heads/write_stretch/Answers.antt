@@ -26,7 +26,7 @@ loop-p-init g c =
 pub bounds-column-start-in-loop-p : goal.bounds-column-start-in-loop-p
 bounds-column-start-in-loop-p g c =
     let l = c.loop-p in
-    let step = pushed_step c.requires.linked l.invariant.pushed (l.p + 1) (c.leads_on.ensures c.loop-p-test.true) in
+    let step = pushed_step c.requires.linked l.invariant.pushed (l.p + 1) (c.leads_on.ensures.0 c.loop-p-test.true) in
     omega (arith, l.invariant.stretch.later, c.requires.room, l.invariant.rest, ap length step, l.auto.column, length-set c.args.column.now c.args.start c.args.first)
 
 pub loop-p-preserved : goal.loop-p-preserved
@@ -34,7 +34,7 @@ loop-p-preserved g c =
     let l = c.loop-p in
     let p : ℕ = l.p in
     let w = l.invariant.pushed in
-    let e = c.leads_on.ensures c.loop-p-test.true in
+    let e = c.leads_on.ensures.0 c.loop-p-test.true in
     let step = pushed_step c.requires.linked w (p + 1) e in
     let k : ℕ = c.args.start + (p + 1 - c.args.first) in
     let same : k ≡ c.args.start + (p - c.args.first) + 1 = omega (arith, l.invariant.stretch.later) in
