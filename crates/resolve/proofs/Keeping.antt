@@ -9,8 +9,8 @@ use Rattle.units.specs.declared.class.Class.{Class}
 use Rattle.units.specs.declared.class.Class.TheVariants.{L, R, AL, EN, ES, ET, CS, NSM, ON}
 use Rattle.sequences.specs.Links.{ArePositions}
 use Rattle.resolve.specs.Ahead.{first_class}
-use Rattle.resolve.specs.ClassSets.{is_leaning}
-use Rattle.resolve.specs.Contexts.{by_w4_w5, settled_by, context_past, by_context, kept_past, past_leaning, owed_in}
+use Rattle.resolve.specs.ClassSets.{is_passed}
+use Rattle.resolve.specs.Contexts.{by_w4_w5, settled_by, context_past, by_context, kept_past, past_passed, owed_in}
 use Rattle.resolve.specs.Sought.{may_weaken}
 use Rattle.resolve.specs.ThroughW3.{by_w1_to_w3, preceding_past, all_by_w1_to_w3, is_no_terminator}
 use Rattle.resolve.specs.declared.preceding.Preceding.{Preceding}
@@ -56,40 +56,40 @@ owes-idle x c cs h =
     owes_not_here x.settled (by_w1_to_w3 x.preceding c) (all_by_w1_to_w3 (preceding_past x.preceding c) cs)
     (λ e. idle_is_no_terminator c h (sym (through_w3-idle x.preceding c h) ∙ e))
 
--- what is neutral or has a direction is left as it is
-leaning-idle : (d c : Class) → is_leaning d c ≡ true → may_weaken c ≡ false
-leaning-idle L AL h = cc
-leaning-idle L EN h = cc
-leaning-idle L ES h = cc
-leaning-idle L ET h = cc
-leaning-idle L CS h = cc
-leaning-idle L NSM h = cc
-leaning-idle R AL h = cc
-leaning-idle R EN h = cc
-leaning-idle R ES h = cc
-leaning-idle R ET h = cc
-leaning-idle R CS h = cc
-leaning-idle R NSM h = cc
-leaning-idle d AL h = cc
-leaning-idle d EN h = cc
-leaning-idle d ES h = cc
-leaning-idle d ET h = cc
-leaning-idle d CS h = cc
-leaning-idle d NSM h = cc
-leaning-idle d c h = refl
+-- what is passed is left as it is
+passed-idle : (d c : Class) → is_passed d c ≡ true → may_weaken c ≡ false
+passed-idle L AL h = cc
+passed-idle L EN h = cc
+passed-idle L ES h = cc
+passed-idle L ET h = cc
+passed-idle L CS h = cc
+passed-idle L NSM h = cc
+passed-idle R AL h = cc
+passed-idle R EN h = cc
+passed-idle R ES h = cc
+passed-idle R ET h = cc
+passed-idle R CS h = cc
+passed-idle R NSM h = cc
+passed-idle d AL h = cc
+passed-idle d EN h = cc
+passed-idle d ES h = cc
+passed-idle d ET h = cc
+passed-idle d CS h = cc
+passed-idle d NSM h = cc
+passed-idle d c h = refl
 
--- and behind it the last strong class is still this direction
-strong-leaning : (d c : Class) → is_leaning d c ≡ true → (if is_strong c then c else d) ≡ d
-strong-leaning L L h = refl
-strong-leaning R R h = refl
-strong-leaning L R h = cc
-strong-leaning L AL h = cc
-strong-leaning R L h = cc
-strong-leaning R AL h = cc
-strong-leaning d L h = cc
-strong-leaning d R h = cc
-strong-leaning d AL h = cc
-strong-leaning d c h = refl
+-- and behind it the last strong class is still this one
+strong-passed : (d c : Class) → is_passed d c ≡ true → (if is_strong c then c else d) ≡ d
+strong-passed L L h = refl
+strong-passed R R h = refl
+strong-passed L R h = cc
+strong-passed L AL h = cc
+strong-passed R L h = cc
+strong-passed R AL h = cc
+strong-passed d L h = cc
+strong-passed d R h = cc
+strong-passed d AL h = cc
+strong-passed d c h = refl
 
 base-idle : (base c : Class) → may_weaken c ≡ false → (if is_base c then c else base) ≡ c
 base-idle base NSM h = cc
@@ -98,23 +98,23 @@ base-idle base c h = refl
 abbrev after : Class → Class → Preceding
 after d c = record { base = c; strong = d }
 
-preceding-leaning : (f : Preceding) (c : Class) → is_leaning f.strong c ≡ true → preceding_past f c ≡ after f.strong c
-preceding-leaning f c h =
-    let idle : may_weaken c ≡ false = leaning-idle f.strong c h in
+preceding-passed : (f : Preceding) (c : Class) → is_passed f.strong c ≡ true → preceding_past f c ≡ after f.strong c
+preceding-passed f c h =
+    let idle : may_weaken c ≡ false = passed-idle f.strong c h in
     let base : (if is_base c then c else f.base) ≡ c = base-idle f.base c idle in
     let strong : (if is_strong (by_w1 f.base c) then by_w1 f.base c else f.strong) ≡ f.strong =
-    ap (λ (d : Class). if is_strong d then d else f.strong) (by_w1-idle f.base c idle) ∙ strong-leaning f.strong c h in
+    ap (λ (d : Class). if is_strong d then d else f.strong) (by_w1-idle f.base c idle) ∙ strong-passed f.strong c h in
     cc (base, strong)
 
 abbrev with_preceding : Preceding → Class → Context
 with_preceding f c = record { preceding = f; before = c; settled = c }
 
 -- the last one tells all
-kept_twice : (x : Context) (b c : Class) → is_leaning x.preceding.strong b ≡ true → is_leaning x.preceding.strong c ≡ true → kept_past (kept_past x b) c ≡ kept_past x c
+kept_twice : (x : Context) (b c : Class) → is_passed x.preceding.strong b ≡ true → is_passed x.preceding.strong c ≡ true → kept_past (kept_past x b) c ≡ kept_past x c
 kept_twice x b c hb hc =
     let d : Class = x.preceding.strong in
-    ap (λ (f : Preceding). with_preceding (preceding_past f c) c) (preceding-leaning x.preceding b hb)
-    ∙ ap (λ (f : Preceding). with_preceding f c) (preceding-leaning (after d b) c hc ∙ sym (preceding-leaning x.preceding c hc))
+    ap (λ (f : Preceding). with_preceding (preceding_past f c) c) (preceding-passed x.preceding b hb)
+    ∙ ap (λ (f : Preceding). with_preceding f c) (preceding-passed (after d b) c hc ∙ sym (preceding-passed x.preceding c hc))
 
 module _ {begin : Context} {ps : List ℕ} {start now : List Class} {x : Context} {k : ℕ} (w : Walk by_context context_past begin ps start now x k) (inside : k < length ps)
     (idle : may_weaken (class_at now (slice_index ps k)) ≡ false) (y : Context) (known : y ≡ kept_past x (class_at now (slice_index ps k))) where
@@ -135,39 +135,39 @@ module _ {begin : Context} {ps : List ℕ} {start now : List Class} {x : Context
 
 module _ {begin : Context} {ps : List ℕ} {start now : List Class} {x : Context} {k : ℕ} (w : Walk by_context context_past begin ps start now x k) where
   -- what is known one index further on
-  known_further : (n : ℕ) → ((i : ℕ) → k ≤ i → i < k + suc n → is_leaning x.preceding.strong (class_at now (slice_index ps i)) ≡ true) →
-      past_leaning x ps k (suc n) now ≡ kept_past (past_leaning x ps k n now) (class_at now (slice_index ps (k + n)))
+  known_further : (n : ℕ) → ((i : ℕ) → k ≤ i → i < k + suc n → is_passed x.preceding.strong (class_at now (slice_index ps i)) ≡ true) →
+      past_passed x ps k (suc n) now ≡ kept_past (past_passed x ps k n now) (class_at now (slice_index ps (k + n)))
   known_further zero h = refl
   known_further (suc m) h =
       sym (kept_twice x (class_at now (slice_index ps (k + m))) (class_at now (slice_index ps (k + suc m))) (h (k + m) (omega arith) (omega arith)) (h (k + suc m) (omega arith) (omega arith)))
 
-  -- the walk goes on over what leans to the last strong class
-  pub walk_past_leaning : (n : ℕ) → k + n ≤ length ps → ((i : ℕ) → k ≤ i → i < k + n → is_leaning x.preceding.strong (class_at now (slice_index ps i)) ≡ true) →
-      Walk by_context context_past begin ps start now (past_leaning x ps k n now) (k + n)
-  walk_past_leaning zero within h = let e : k ≡ k + 0 = omega arith in subst (λ m. Walk by_context context_past begin ps start now x m) e w
-  walk_past_leaning (suc n) within h =
-      let before : Walk by_context context_past begin ps start now (past_leaning x ps k n now) (k + n) = walk_past_leaning n (omega arith) (λ i low high. h i low (omega arith)) in
+  -- the walk goes on over what is passed
+  pub walk_past_passed : (n : ℕ) → k + n ≤ length ps → ((i : ℕ) → k ≤ i → i < k + n → is_passed x.preceding.strong (class_at now (slice_index ps i)) ≡ true) →
+      Walk by_context context_past begin ps start now (past_passed x ps k n now) (k + n)
+  walk_past_passed zero within h = let e : k ≡ k + 0 = omega arith in subst (λ m. Walk by_context context_past begin ps start now x m) e w
+  walk_past_passed (suc n) within h =
+      let before : Walk by_context context_past begin ps start now (past_passed x ps k n now) (k + n) = walk_past_passed n (omega arith) (λ i low high. h i low (omega arith)) in
       let inside : k + n < length ps = omega arith in
-      let idle : may_weaken (class_at now (slice_index ps (k + n))) ≡ false = leaning-idle x.preceding.strong (class_at now (slice_index ps (k + n))) (h (k + n) (omega arith) (omega arith)) in
+      let idle : may_weaken (class_at now (slice_index ps (k + n))) ≡ false = passed-idle x.preceding.strong (class_at now (slice_index ps (k + n))) (h (k + n) (omega arith) (omega arith)) in
       let e : k + n + 1 ≡ k + suc n = omega arith in
-      subst (λ m. Walk by_context context_past begin ps start now (past_leaning x ps k (suc n) now) m) e
-      (walk_kept before inside idle (past_leaning x ps k (suc n) now) (known_further n h))
+      subst (λ m. Walk by_context context_past begin ps start now (past_passed x ps k (suc n) now) m) e
+      (walk_kept before inside idle (past_passed x ps k (suc n) now) (known_further n h))
 
   -- a step for each
-  pub walk_steps_past_leaning : (first last : ℕ) → WalkSteps owed_in (classes_at start ps) x k first last →
-      (n : ℕ) → k + n ≤ length ps → ((i : ℕ) → k ≤ i → i < k + n → is_leaning x.preceding.strong (class_at now (slice_index ps i)) ≡ true) →
-      WalkSteps owed_in (classes_at start ps) (past_leaning x ps k n now) (k + n) first (last + n)
-  walk_steps_past_leaning first last s zero within h =
+  pub walk_steps_past_passed : (first last : ℕ) → WalkSteps owed_in (classes_at start ps) x k first last →
+      (n : ℕ) → k + n ≤ length ps → ((i : ℕ) → k ≤ i → i < k + n → is_passed x.preceding.strong (class_at now (slice_index ps i)) ≡ true) →
+      WalkSteps owed_in (classes_at start ps) (past_passed x ps k n now) (k + n) first (last + n)
+  walk_steps_past_passed first last s zero within h =
       let e : k ≡ k + 0 = omega arith in
       let f : last ≡ last + 0 = omega arith in
       subst (λ m. WalkSteps owed_in (classes_at start ps) x m first (last + 0)) e (subst (λ m. WalkSteps owed_in (classes_at start ps) x k first m) f s)
-  walk_steps_past_leaning first last s (suc n) within h =
-      let before : Walk by_context context_past begin ps start now (past_leaning x ps k n now) (k + n) = walk_past_leaning n (omega arith) (λ i low high. h i low (omega arith)) in
+  walk_steps_past_passed first last s (suc n) within h =
+      let before : Walk by_context context_past begin ps start now (past_passed x ps k n now) (k + n) = walk_past_passed n (omega arith) (λ i low high. h i low (omega arith)) in
       let inside : k + n < length ps = omega arith in
-      let idle : may_weaken (class_at now (slice_index ps (k + n))) ≡ false = leaning-idle x.preceding.strong (class_at now (slice_index ps (k + n))) (h (k + n) (omega arith) (omega arith)) in
-      let less = walk_steps_past_leaning first last s n (omega arith) (λ i low high. h i low (omega arith)) in
+      let idle : may_weaken (class_at now (slice_index ps (k + n))) ≡ false = passed-idle x.preceding.strong (class_at now (slice_index ps (k + n))) (h (k + n) (omega arith) (omega arith)) in
+      let less = walk_steps_past_passed first last s n (omega arith) (λ i low high. h i low (omega arith)) in
       let e : k + n + 1 ≡ k + suc n = omega arith in
       let f : last + n + 1 ≡ last + suc n = omega arith in
-      subst (λ m. WalkSteps owed_in (classes_at start ps) (past_leaning x ps k (suc n) now) m first (last + suc n)) e
-      (subst (λ m. WalkSteps owed_in (classes_at start ps) (past_leaning x ps k (suc n) now) (k + n + 1) first m) f
-      (walk_steps_kept before inside idle (past_leaning x ps k (suc n) now) (known_further n h) first (last + n) less))
+      subst (λ m. WalkSteps owed_in (classes_at start ps) (past_passed x ps k (suc n) now) m first (last + suc n)) e
+      (subst (λ m. WalkSteps owed_in (classes_at start ps) (past_passed x ps k (suc n) now) (k + n + 1) first m) f
+      (walk_steps_kept before inside idle (past_passed x ps k (suc n) now) (known_further n h) first (last + n) less))

@@ -41,3 +41,9 @@ abbrev pub is_leaning : Class → Class → Bool
 is_leaning L L = true
 is_leaning R R = true
 is_leaning direction c = is_neutral c
+
+-- what W1 to W7 leave as it is, and behind which the last strong class is still this one: this class, if it is L or R, a
+-- neutral, or AN
+abbrev pub is_passed : Class → Class → Bool
+is_passed strong AN = true
+is_passed strong c = is_leaning strong c

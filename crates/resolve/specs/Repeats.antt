@@ -2,7 +2,7 @@
 use Rattle.std.specs.Prelude.{Bool, true, false, ℕ, zero, suc, ◌+◌, ◌<◌, ◌≤◌, ◌≡◌, List, length, set, slice_index}
 use Rattle.units.specs.Classes.{class_at}
 use Rattle.units.specs.declared.class.Class.{Class}
-use Rattle.resolve.specs.ClassSets.{is_leaning}
+use Rattle.resolve.specs.ClassSets.{is_leaning, is_passed}
 use Rattle.units.specs.declared.class.Class.TheVariants.{L, R, AL, AN, S, WS, ON}
 
 -- letters, Arabic numbers and spaces: what W1 to W7 make of one is what they make of the next of its kind, whatever comes
@@ -30,6 +30,10 @@ IsRunOf class = AreAll (λ c. c ≡ class)
 -- they are neutral or this direction
 abbrev pub AreLeaning : Class → List ℕ → ℕ → ℕ → List Class → Type 0
 AreLeaning direction = AreAll (λ c. is_leaning direction c ≡ true)
+
+-- W1 to W7 leave them as they are, and know behind each the same last strong class
+abbrev pub ArePassed : Class → List ℕ → ℕ → ℕ → List Class → Type 0
+ArePassed strong = AreAll (λ c. is_passed strong c ≡ true)
 
 -- a list by position, with one value at the positions of n indices, from start on
 abbrev pub with_along : {X : Type 0} → List ℕ → ℕ → ℕ → X → List X → List X

@@ -1,7 +1,7 @@
 //! Sets of classes.
 ghost use Rattle.std.specs.Prelude.{◌≡◌, not};
 ghost use Rattle.units.specs.declared.class.Class.{Class as BidiClass};
-ghost use Rattle.resolve.specs.ClassSets.{holds, is_leaning};
+ghost use Rattle.resolve.specs.ClassSets.{holds, is_leaning, is_passed};
 ghost use Rattle.resolve.specs.Sought.{may_weaken};
 
 use units::class::Class;
@@ -14,6 +14,9 @@ pub(crate) struct ClassSet {
 
 /// B, S, WS, ON, LRI, RLI, FSI and PDI.
 const NEUTRALS: u32 = 0b111_1000_0011_1100_0000_0000;
+
+/// The neutrals and AN.
+const PASSED: u32 = NEUTRALS | 0b100_0000;
 
 /// All but AL, EN, ES, ET, CS and NSM.
 const KEPT: u32 = 0b111_1111_1111_1110_0100_0011;
@@ -34,6 +37,19 @@ impl ClassSet {
             Class::L => NEUTRALS | 0b01,
             Class::R => NEUTRALS | 0b10,
             _ => NEUTRALS,
+        };
+        ClassSet { bits }
+    }
+
+    /// The neutrals, AN, and L or R if it is this last strong class: W1 to W7 leave these as they are, and know behind
+    /// them the same last strong class.
+    pub(crate) fn passed(strong: Class) -> ClassSet
+        ensures { (class : BidiClass) → holds result class ≡ is_passed strong class }
+    {
+        let bits = match strong {
+            Class::L => PASSED | 0b01,
+            Class::R => PASSED | 0b10,
+            _ => PASSED,
         };
         ClassSet { bits }
     }

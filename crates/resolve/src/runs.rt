@@ -2,7 +2,7 @@
 ghost use Rattle.std.specs.Prelude.{◌≡◌, ℕ, ◌+◌, ◌-◌, ◌<◌, ◌≤◌, Some, length, slice_index};
 ghost use Rattle.sequences.specs.Links.{ArePositions};
 ghost use Rattle.units.specs.Classes.{class_at};
-ghost use Rattle.resolve.specs.Repeats.{with_along, AreLeaning, IsRunOf};
+ghost use Rattle.resolve.specs.Repeats.{with_along, AreLeaning, ArePassed, IsRunOf};
 
 use crate::class_set::ClassSet;
 use crate::rules::is_same;
@@ -96,23 +96,23 @@ pub(crate) fn give_direction<L: Ledger>(
     k
 }
 
-/// Passes the positions of a sequence from the index `start` on, as long as they are neutral or have this direction. It
-/// answers the index behind them, and takes a step for each.
-pub(crate) fn pass_leaning<L: Ledger>(
+/// Passes the positions of a sequence from the index `start` on, as long as they are neutral, AN, or this last strong
+/// class. It answers the index behind them, and takes a step for each.
+pub(crate) fn pass_over<L: Ledger>(
     positions: &[u32],
     start: usize,
-    direction: Class,
+    strong: Class,
     classes: &[Class],
     steps: &mut Steps<L>,
 ) -> usize
     requires positions { ArePositions positions.now (length classes.now) }
     requires start { start ≤ length positions.now }
-    ensures leaning { AreLeaning direction positions.now start result classes.now }
+    ensures passed { ArePassed strong positions.now start result classes.now }
     ensures steps { steps.new + start ≡ steps.old + result }
 {
-    let leaning = ClassSet::leaning(direction);
+    let passed = ClassSet::passed(strong);
     let mut k = start;
-    while k < positions.len() && leaning.holds(classes[positions[k] as usize]) {
+    while k < positions.len() && passed.holds(classes[positions[k] as usize]) {
         steps.tick();
         k += 1;
     }
