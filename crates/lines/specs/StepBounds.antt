@@ -47,7 +47,8 @@ light_layout_steps = light_text_steps + light_line_steps
 abbrev pub least_layout_steps : ℕ
 least_layout_steps = 2 + 1
 
--- where a text is cut into lines anew, at most: the ends of its paragraphs are looked for, and each has a line
+-- where a text is cut into new lines, at most: the end of each paragraph is a step, and so is each line, which makes two
+-- for each unit; a third is allowed
 abbrev pub cutting_steps : ℕ
 cutting_steps = 1 + 2
 
@@ -59,7 +60,8 @@ breaking_steps = cutting_steps + 1 + arranging_steps
 abbrev pub light_breaking_steps : ℕ
 light_breaking_steps = cutting_steps + light_line_steps
 
--- L1 and L2 at least, where a text is broken anew: the ends of its paragraphs are looked for, and the order is written
+-- L1 and L2 at least, where a text is broken anew: its levels before L1 are put back, or what remains of it is looked
+-- for, and the order is written
 abbrev pub least_breaking_steps : ℕ
 least_breaking_steps = 1 + 1
 
