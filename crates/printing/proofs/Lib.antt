@@ -1,6 +1,7 @@
 pub mod Appending
 pub mod Breaks
 pub mod Codes
+pub mod DecimalPairs
 pub mod HeadBreaks
 pub mod HeadColumns
 pub mod HeadLayout
@@ -12,6 +13,7 @@ pub mod HeadTexts
 pub mod HeldLemmas
 pub mod HexDigits
 pub mod Passing
+pub mod PiecesTaken
 pub mod Printing
 pub mod ReadSources
 pub mod Showing

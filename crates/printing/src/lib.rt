@@ -4,8 +4,10 @@
 mod begun;
 mod columns;
 mod cutting;
+pub mod decimals;
 pub mod fault;
 pub mod form;
+pub mod handing;
 mod layout_text;
 mod paragraphs;
 mod passed;

@@ -5,7 +5,7 @@ ghost use Rattle.units.specs.ClassNames.{short_name};
 ghost use Rattle.printing.specs.LevelsText.{code_text, level_text};
 ghost use Rattle.printing.specs.HexDigits.{front_digits};
 
-use itoa::write_digits;
+use crate::decimals::put_decimal;
 use units::class::Class;
 use units::level::Level;
 
@@ -112,7 +112,7 @@ pub(crate) fn put_level(level: Option<Level>, line: &mut [u8; LONGEST_LINE], end
     ensures written { drop result line.new ≡ level_text level ++ drop end line.old }
 {
     match level {
-        Some(level) => write_digits(u64::from(level.get()), line, end),
+        Some(level) => put_decimal(u64::from(level.get()), line, end),
         None => put_byte(b'x', line, end),
     }
 }

@@ -4,8 +4,9 @@ ghost use Rattle.std.specs.Io.KnownBytes.{Appends};
 ghost use Rattle.units.specs.Isolates.{level_of_para};
 ghost use Rattle.printing.specs.LevelsText.{position_text, paragraph_text};
 
+use crate::decimals::put_decimal;
+use crate::handing::{Pieces, hand_over};
 use crate::pieces::{LONGEST_LINE, put_byte, put_bytes, put_code, put_level, put_name};
-use itoa::write_digits;
 use std::io;
 use std::io::Write;
 use units::class::Class;
@@ -29,7 +30,7 @@ fn put_position(
     let start = put_byte(b' ', line, start);
     let start = put_code(character, line, start);
     let start = put_byte(b' ', line, start);
-    write_digits(position as u64, line, start)
+    put_decimal(position as u64, line, start)
 }
 
 /// Writes the line of a position of the text: where it stands, its code point, original class and level after L1.
@@ -45,7 +46,7 @@ pub fn print_position<W: Write>(
 {
     let mut line = [0; LONGEST_LINE];
     let start = put_position(position, character, class, level, &mut line);
-    w.write_all(&line[start..])
+    hand_over(w, &line[start..], Pieces::Words)
 }
 
 /// Puts the line of a paragraph at the end of a buffer, and answers where it begins.
@@ -54,9 +55,9 @@ fn put_paragraph(number: usize, level: ParaLevel, line: &mut [u8; LONGEST_LINE])
     ensures written { drop result line.new ≡ paragraph_text number (level_of_para level) }
 {
     let start = put_byte(b'\n', line, LONGEST_LINE);
-    let start = write_digits(u64::from(level.level().get()), line, start);
+    let start = put_decimal(u64::from(level.level().get()), line, start);
     let start = put_bytes(b" level ", line, start);
-    let start = write_digits(number as u64, line, start);
+    let start = put_decimal(number as u64, line, start);
     put_bytes(b"paragraph ", line, start)
 }
 
@@ -66,5 +67,5 @@ pub fn print_paragraph<W: Write>(w: &mut W, number: usize, level: ParaLevel) -> 
 {
     let mut line = [0; LONGEST_LINE];
     let start = put_paragraph(number, level, &mut line);
-    w.write_all(&line[start..])
+    hand_over(w, &line[start..], Pieces::Numbers)
 }

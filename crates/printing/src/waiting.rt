@@ -4,6 +4,7 @@ ghost use Rattle.std.specs.Char.{encode_utf8};
 ghost use Rattle.std.specs.Io.KnownBytes.{Appends};
 ghost use Rattle.printing.specs.WaitingBytes.{with_waiting};
 
+use crate::handing::{Pieces, hand_over};
 use arrayvec::ArrayVec;
 use std::io;
 use std::io::Write;
@@ -69,7 +70,7 @@ impl Waiting {
         ensures none { OnOk result (self.new ≡ []) }
         ensures written { OnOk result (Appends (W.contents w.old) (W.contents w.new) self.old) }
     {
-        w.write_all(self.bytes.as_slice())?;
+        hand_over(w, self.bytes.as_slice(), Pieces::Characters)?;
         self.bytes.clear();
         Ok(())
     }

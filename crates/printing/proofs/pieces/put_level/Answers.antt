@@ -2,8 +2,8 @@ use Rattle.std.proofs.Common.{rules, arith}
 use Rattle.std.proofs.lemmas.Fmt.{length-decimal-le}
 use Rattle.printing.proofs.pieces.put_level.Goals as goal
 
-pub write_digits-requires : goal.write_digits-requires
-write_digits-requires c =
+pub put_decimal-requires : goal.put_decimal-requires
+put_decimal-requires c =
     let few = length-decimal-le 3 c.from.result (omega arith) (omega arith) (omega arith) in
     (omega arith, search rules)
 

@@ -3,15 +3,15 @@ use Rattle.std.proofs.lemmas.Fmt.{length-decimal-le}
 use Rattle.std.proofs.lemmas.List.{drop_all}
 use Rattle.printing.proofs.position_line.put_position.Goals as goal
 
-pub write_digits-requires : goal.write_digits-requires
-write_digits-requires c =
+pub put_decimal-requires : goal.put_decimal-requires
+put_decimal-requires c =
     let few = length-decimal-le 20 c.args.position (omega arith) (omega arith) (omega arith) in
     (omega arith, search rules)
 
 pub returns-clause-written : goal.returns-clause-written
 returns-clause-written c =
     rw (
-      c.write_digits.ensures.written,
+      c.put_decimal.ensures.written,
       c.put_byte-start-4.ensures.written,
       c.put_code-start.ensures.written,
       c.put_byte-start-3.ensures.written,
