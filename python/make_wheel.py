@@ -1,6 +1,6 @@
 """Makes the wheel of bidi_proved for pip: the package, and in it the shared object of the library.
 
-The shared object is the one that tools/c/build_library.py or tools/c/build_shared.sh made, or that BIDI_LIBRARY names.
+The shared object is the one that tools/c/build_library.sh or tools/c/build_shared.sh made, or that BIDI_LIBRARY names.
 """
 import base64
 import hashlib

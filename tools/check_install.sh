@@ -8,14 +8,14 @@
 #
 # usage: tools/check_install.sh
 #
-# It installs what `rt ci` and tools/c/build_library.py leave, or what was built by hand, and takes some seconds.
+# It installs what `rt ci` and tools/c/build_library.sh leave, or what was built by hand, and takes some seconds.
 set -u
 tools=$(cd "$(dirname "$0")" && pwd)
 top=$(dirname "$tools")
 version=$(cat "$top/VERSION") || exit 2
 command -v gcc > /dev/null || { echo "no gcc: what is installed is not looked at"; exit 0; }
 for file in crates/bidi/out/bidi crates/bidi_c/out/libbidi_c.a; do
-    [ -e "$top/$file" ] || { echo "no $top/$file: run rt ci and tools/c/build_library.py" >&2; exit 2; }
+    [ -e "$top/$file" ] || { echo "no $top/$file: run rt ci and tools/c/build_library.sh" >&2; exit 2; }
 done
 work=$(mktemp -d) || exit 2
 trap 'rm -r "$work"' EXIT

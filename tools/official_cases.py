@@ -203,7 +203,7 @@ def main():
         return
     root = os.path.dirname(os.path.dirname(os.path.abspath(__file__)))
     with tempfile.TemporaryDirectory() as workspace:
-        shutil.copytree(root + '/crates/units', workspace + '/crates/units')
+        shutil.copytree(root + '/crates/units', workspace + '/crates/units', ignore=shutil.ignore_patterns('out'))
         with open(workspace + '/crates.txt', 'w') as file:
             file.write('units: memchr\n')
         with open(workspace + '/crates/units/specs/Lib.antt', 'a') as file:

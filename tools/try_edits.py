@@ -1,48 +1,94 @@
 #!/usr/bin/env python3
-"""Tries wrong bodies, many in one check: the prover must refuse each for an open goal of its own function.
+"""Checks that the prover rejects wrong bodies, many in one check.
 
 usage: tools/try_edits.py [--all] [--read] [CRATE | CRATE/EDIT ..]      (at the top; with no name: every crate)
 
-It takes the edits of crates/CRATE/wrong/, with --all those of must-fail/ too; an edit that is named it takes from
-either. With --read it checks nothing, and says which edits can't be applied to the files as they are. Callers rest on
-contracts alone, so a wrong body hides no other: the edits of a crate that change different functions go into one copy,
-of which these functions are checked, and what they call, in one check. An edit counts as refused there if a goal of the
-function that it changes is open, by a proof file of that function or by the check's own search. What was not refused
-so, as where the function waits for a wrong one that it calls, goes into a further round, and then is tried singly: in
-the same way, and at last over the whole crate, as rt ci does. A function that no edit of a round changes must be proved
-where it is checked, and at the end the right code of what the last edit changed, over what all rounds kept, which shows
-that this serves. That the right code of all else is proved, rt ci or rt check has to have said before. For each edit a
-line is printed, and the last line is 'N passed, M failed'; the status is 1 where one failed.
+An edit is a file that describes a wrong body (docs/CHANGING.md). The tool takes the edits in crates/CRATE/wrong/ and,
+with --all, those in must-fail/ too. A named edit may be in either folder. With --read it checks nothing and lists the
+edits that can't be applied to the files as they are. It prints a line for each edit, and the last line is 'N passed, M
+failed'. The status is 1 if any failed.
 
-A crate is checked over a copy of what rt check kept of it in out/, or from nothing. The libraries below are those that
-rt check or rt lib built, or those that rt ci left; where neither fit the files, rt builds them. As many crates are
-tried side by side as there are processors and memory, or as RT_JOBS says, each by one job.
+The tool works in copies of crates/, crates.txt and HANDLES outside the checkout, and uses the commands of the kit
+alone. So the checkout may change meanwhile. Callers depend on contracts alone, so a wrong body hides no other. The
+tool applies the edits of a crate that change different functions together, and runs one `rt check` over these functions
+and their callees. An edit passes there only if two things hold:
+
+- a goal of its own function is open: of a contract, of safety, or that a loop keeps its invariant, and not a missing
+  invariant, measure or ghost value;
+- no proof file of that function cites a missing name.
+
+A second edit of the same function goes into a further check. The tool tries what was not rejected once more in the same
+way, because a check may give up on a function that calls a wrong one. It tries the rest alone with `rt must-fail`, and
+so each edit that changes no function. An edit passes there only if the kit says 'refused, as it must be' and adds no
+reservation.
+
+A rejected body says something only if the right body is proved. In .ci/run `rt ci` has proved it before. Here, each
+callee that no edit changes must be proved, and so must the right code of one function of each crate, in the same copy
+and over the same libraries. Otherwise all edits of the crate fail.
+
+The tool works on as many crates at once as processors and memory allow, or RT_JOBS says. Each crate gets one job. A
+check reads all crates below its own, so each job has its own copy. It takes next the crate that needs the fewest new
+libraries there.
 """
 import contextlib
-import copy
 import dataclasses
 import glob
 import os
 import re
 import shutil
+import signal
+import subprocess
 import sys
 import tempfile
 import threading
 
-from kit import crates_here, left_by_gate, rt
-
 FOLDERS = ("wrong", "must-fail")
-FLAGS = ["--jobs", "1"]
+BYTES_OF_A_CHECK = 5 << 30
 FUNCTION = re.compile(r"( *)(?:pub(?:\([a-z]+\))? )?(?:const )?(?:unsafe )?(?:extern \"C\" )?fn (\w+)")
 OWNER = re.compile(r"(?:unsafe )?impl\b[^{;]*|(?:pub(?:\([a-z]+\))? )?trait \w+")
-OPEN = re.compile(r"^fn (\S+): (?:not proved|no proof)[^\n]*?did not prove (`[^`]*`)", re.M)
-PROOF_FILE = r"^(?:\./)?proofs/(\S+)/(?:Answers|Invariants|Proof|Send)\.antt"
-STUCK = re.compile(PROOF_FILE + r":\d+:\d+: error: (`[^`]*`): (.*)", re.M)
+OPEN = r"^fn {}::(\S+): (?:not proved|no proof)[^\n]*?did not prove (`[^`]*`)"
+IN_PROOF = re.compile(
+    r"^(?:\./)?proofs/(\S+)/(?:Answers|Invariants|Proof|Send)\.antt:\d+:\d+: error: ([^\n]*)", re.M)
+STUCK = re.compile(r"(`[^`]*`): (.*)")
 NOTED = re.compile(r"^note: (?:\./)?(src/\S+?):(\d+):\d+: it is not proved that [^\n]*?\((`[^`]*`)\)", re.M)
-NAMES_GONE = re.compile(r"has no field|is not in scope|has no `|was not admitted")
-LOST = re.compile(PROOF_FILE + r":\d+:\d+: error: [^\n]*?(?:" + NAMES_GONE.pattern + ")", re.M)
+NAMES_GONE = re.compile(r"has no|is not in scope|was not admitted|cannot find")
 OF_PROOF = re.compile(r"`(?:invariant|decreases|ghosts)-")
+MISREAD = re.compile(r"^(?:\./)?(src/\S+?):(\d+):\d+: error", re.M)
+NO_FUNCTION = re.compile(r"error: `\w+` has no function `([^`]*)`")
+REACHED = r"^crate {}: modules "
+AS_IT_MUST = "refused, as it must be: "
 printing = threading.Lock()
+choosing = threading.Lock()
+running = set()
+is_ending = threading.Event()
+
+
+@dataclasses.dataclass
+class Crate:
+    """A crate of crates.txt, in a folder that is the top of the repository or of a copy of it."""
+
+    name: str
+    below: set
+    top: str = "."
+
+    @property
+    def folder(self):
+        return f"{self.top}/crates/{self.name}"
+
+    def text(self, path):
+        """Returns the text of a file of the crate."""
+        with open(f"{self.folder}/{path}", encoding="utf-8") as it:
+            return it.read()
+
+    def put(self, path, text):
+        """Writes a file of the crate."""
+        os.makedirs(os.path.dirname(f"{self.folder}/{path}"), exist_ok=True)
+        with open(f"{self.folder}/{path}", "w", encoding="utf-8") as it:
+            it.write(text)
+
+    def check(self, words):
+        """Runs `rt check` over it. Returns the status and what was said."""
+        return command(["check", "--jobs", "1", *words], self.folder)
 
 
 @dataclasses.dataclass
@@ -50,11 +96,47 @@ class Edit:
     """A wrong body: its pairs of texts, the functions that it changes, and all that it changes, which no other may."""
 
     label: str
-    file: str
+    text: str
     pairs: list
     functions: set
     touched: set
     fault: str
+
+
+def command(words, folder):
+    """Runs a command of the kit in a folder. Returns its status, and what it said."""
+    if is_ending.is_set():
+        sys.exit()
+    into = {"stdin": subprocess.DEVNULL, "stdout": subprocess.PIPE, "stderr": subprocess.STDOUT}
+    with subprocess.Popen(["rt", *words], cwd=folder, encoding="utf-8", errors="replace", **into) as ran:
+        running.add(ran)
+        said, _ = ran.communicate()
+        running.discard(ran)
+    return ran.returncode, said
+
+
+def crates_here():
+    """Returns the crates of the repository at whose top the tool runs, by name."""
+    if not os.path.isfile("crates.txt"):
+        sys.exit("no crates.txt: this runs at the top of the repository")
+    named = {}
+    with open("crates.txt", encoding="utf-8") as lines:
+        for line in lines:
+            words, _, below = line.partition("#")[0].partition(":")
+            if words.strip():
+                named[words.split()[0]] = below.split()
+    return {name: Crate(name, all_below(name, named)) for name in named}
+
+
+def all_below(name, named):
+    """Returns the crates of the repository that a crate stands on, by way of others too."""
+    found, left = set(), list(named[name])
+    while left:
+        dep = left.pop()
+        if dep in named and dep not in found:
+            found.add(dep)
+            left += named[dep]
+    return found
 
 
 def parameters_of(header):
@@ -84,9 +166,9 @@ def owner_of(header):
 
 def home_of(crate, name, path):
     """Returns the file that defines a type: by it the check names the methods that the type has by itself."""
-    sources = [os.path.relpath(it, crate.folder) for it in rt.rtlib.files_of(crate.folder) if it.endswith(".rt")]
+    sources = sorted(glob.glob("src/**/*.rt", root_dir=crate.folder, recursive=True))
     defines = re.compile(rf"^(?:pub(?:\(\w+\))? )?(?:struct|enum|union) {name}\b", re.M)
-    return next((it for it in [path, *sources] if defines.search(text_in(crate, it))), path)
+    return next((it for it in [path, *sources] if defines.search(crate.text(it))), path)
 
 
 def function_at(crate, path, text, row):
@@ -120,47 +202,50 @@ def pairs_of(text):
     return pairs
 
 
+def applied(crate, pairs, texts):
+    """Returns texts of files with these pairs put in, and what keeps one from it."""
+    texts = dict(texts)
+    for path, old, new in pairs:
+        if not os.path.isfile(f"{crate.folder}/{path}"):
+            return texts, f"there is no file {path!r}"
+        text = texts.get(path) or crate.text(path)
+        if not old or text.count(old) != 1:
+            return texts, f"an 'old:' text is in {path} {text.count(old) if old else 0} times, and not once"
+        texts[path] = text.replace(old, new)
+    is_changed = any(text != crate.text(path) for path, text in texts.items())
+    return texts, "" if is_changed else "it changes nothing"
+
+
 def read_edit(crate, file):
     """Reads an edit and finds what it changes in the crate's files."""
     label = f"{crate.name}/{os.path.basename(file).removesuffix('.edit')}"
-    _, fault = rt.read_edit(file, crate.folder)
-    if fault:
-        return Edit(label, file, [], set(), set(), fault)
     with open(file, encoding="utf-8") as it:
-        pairs = pairs_of(it.read())
+        content = it.read()
+    pairs = pairs_of(content)
     functions, touched, texts = set(), set(), {}
-    for path, old, new in pairs:
-        text = texts.get(path) or text_in(crate, path)
+    for at, (path, old, _) in enumerate(pairs):
+        if applied(crate, pairs[: at + 1], {})[1] not in ("", "it changes nothing"):
+            break
+        text = texts.get(path) or crate.text(path)
         row = text[: text.index(old)].count("\n")
         function = function_at(crate, path, text, row)
         functions |= {function} - {None}
         touched.add(function or (path, row))
-        texts[path] = text.replace(old, new)
-    return Edit(label, file, pairs, functions, touched, "")
+        texts, _ = applied(crate, [pairs[at]], texts)
+    return Edit(label, content, pairs, functions, touched, applied(crate, pairs, {})[1])
 
 
-def text_in(crate, path):
-    with open(f"{crate.folder}/{path}", encoding="utf-8") as it:
-        return it.read()
-
-
-def applied(crate, edits):
-    """Returns the texts of all files that these edits change."""
-    texts = {}
+def round_of(crate, edits):
+    """Returns edits that change different things, as many as come first and can be put in together."""
+    chosen, touched, texts = [], set(), {}
     for edit in edits:
-        for path, old, new in edit.pairs:
-            text = texts.get(path) or text_in(crate, path)
-            texts[path] = text.replace(old, new, 1)
-    return texts
-
-
-def round_of(edits):
-    """Returns edits that change different things, as many as come first."""
-    chosen, touched = [], set()
-    for edit in edits:
-        if not touched & edit.touched:
+        if touched & edit.touched:
+            continue
+        more, fault = applied(crate, edit.pairs, texts)
+        if not fault:
             chosen.append(edit)
             touched |= edit.touched
+            texts = more
     return chosen
 
 
@@ -169,18 +254,23 @@ def parts_of(path):
     return tuple(it.lstrip("+") for it in path if it != "fn")
 
 
-def open_goals(crate, texts, said):
-    """Returns the functions with an open goal of their own, by path, and one such goal of each."""
-    goals = {parts_of(path.split("::")[1:]): goal for path, goal in OPEN.findall(said) if not OF_PROOF.match(goal)}
-    for folder, goal, why in STUCK.findall(said):
-        if not NAMES_GONE.search(why) and not OF_PROOF.match(goal):
-            goals.setdefault(parts_of(folder.split("/")), goal)
-    lost = {parts_of(folder.split("/")) for folder in LOST.findall(said)}
+def goals_of(crate, texts, said):
+    """Returns the functions with an open goal of a contract, by path, and one such goal of each; and those of which a
+    proof file is refused for anything else, as a name that is gone."""
+    found = re.findall(OPEN.format(crate.name), said, re.M)
+    goals = {parts_of(path.split("::")): goal for path, goal in found if not OF_PROOF.match(goal)}
+    lost = set()
+    for folder, error in IN_PROOF.findall(said):
+        stuck = STUCK.match(error)
+        if not stuck or NAMES_GONE.search(stuck[2]):
+            lost.add(parts_of(folder.split("/")))
+        elif not OF_PROOF.match(stuck[1]):
+            goals.setdefault(parts_of(folder.split("/")), stuck[1])
     for path, row, goal in NOTED.findall(said):
-        function = function_at(crate, path, texts.get(path) or text_in(crate, path), int(row) - 1)
-        if function and function not in lost and not OF_PROOF.match(goal):
+        function = function_at(crate, path, texts.get(path) or crate.text(path), int(row) - 1)
+        if function and not OF_PROOF.match(goal):
             goals.setdefault(function, goal)
-    return goals
+    return goals, lost
 
 
 def is_part(path, functions):
@@ -189,75 +279,88 @@ def is_part(path, functions):
 
 
 def words_of(edits):
-    """Returns the words by which a check looks only at the functions that these edits change; where one changes no
-    function, those by which it looks at the whole crate."""
-    if not all(it.functions for it in edits):
-        return FLAGS
+    """Returns the words by which a check looks only at the functions that these edits change."""
     paths = sorted({"::".join(path) for it in edits for path in it.functions})
-    return [*FLAGS, *(word for path in paths for word in ("--only", path))]
-
-
-def check(crate, edits, kept):
-    """Checks the functions that these edits change, with all of them. Returns its status, None where it did not reach
-    the prover, and what it said."""
-    texts = applied(crate, edits)
-    ran = rt.checked(crate, texts, words_of(edits), kept)
-    lines = ran.stdout.rstrip("\n").split("\n")
-    reads = not any(rt.unread(it, texts) for it in lines) and not rt.rtlib.STALE.search(ran.stdout)
-    return (ran.returncode if reads and lines[-1].startswith("only=") else None), ran.stdout
-
-
-def own_goals(edit, goals):
-    """Returns those of the open goals that are of a function that the edit changes."""
-    return [goal for path, goal in goals.items() if is_part(path, edit.functions)]
-
-
-def try_round(crate, edits, kept):
-    """Checks once what all these edits change. Returns what refuses each, and what should not have been refused."""
-    status, said = check(crate, edits, kept)
-    if status != 1:
-        return {}, []
-    goals = open_goals(crate, applied(crate, edits), said)
-    changed = set().union(*(it.functions for it in edits))
-    others = ["::".join(path) for path in goals if not is_part(path, changed)]
-    return {it.label: own[0] for it in edits if (own := own_goals(it, goals))}, others
+    return [word for path in paths for word in ("--only", path)]
 
 
 @contextlib.contextmanager
-def kept_work(crate, shared):
-    """Gives a folder for a check's kept work: a copy of the crate's own, or one for all rounds where it has none that
-    fits the libraries below."""
-    own = f"{crate.folder}/out/incremental"
-    if not os.path.isdir(own) or any(left_by_gate(it) for it in crate.below()):
-        yield shared
-        return
-    with tempfile.TemporaryDirectory(prefix="rt-kept-") as room:
-        yield shutil.copytree(own, f"{room}/incremental")
+def put_in(crate, texts):
+    """Puts these texts into the crate's files, and at the end those that stood there."""
+    right = {path: crate.text(path) for path in texts}
+    try:
+        for path, text in texts.items():
+            crate.put(path, text)
+        yield
+    finally:
+        for path, text in right.items():
+            crate.put(path, text)
 
 
-def try_joined(crate, edits, shared, tell):
-    """Tries edits in rounds as long as a round refuses some. Returns those that are to be tried singly."""
-    left, alone = [it for it in edits if it.functions], [it for it in edits if not it.functions]
+def own_goal(edit, goals, lost):
+    """Returns an open goal of a function that the edit changes, none where a proof file of one names what is gone."""
+    if any(is_part(path, edit.functions) for path in lost):
+        return None
+    return next((goal for path, goal in goals.items() if is_part(path, edit.functions)), None)
+
+
+def unread(crate, edits, texts, said):
+    """Returns those of the edits for which a check did not come to the prover."""
+    at = {function_at(crate, path, texts.get(path) or crate.text(path), int(row) - 1)
+          for path, row in MISREAD.findall(said)}
+    at |= {tuple(path.split("::")) for path in NO_FUNCTION.findall(said)}
+    return [it for it in edits if at & it.functions]
+
+
+def try_round(crate, edits, tell):
+    """Checks once what these edits change, all of them together, and says which are refused. Returns the others."""
+    texts, _ = applied(crate, [pair for it in edits for pair in it.pairs], {})
+    with put_in(crate, texts):
+        status, said = crate.check(words_of(edits))
+    if not re.search(REACHED.format(crate.name), said, re.M):
+        bad = unread(crate, edits, texts, said)
+        rest = [it for it in edits if it not in bad]
+        return bad + try_round(crate, rest, tell) if bad and rest else edits
+    if status != 1:
+        return edits
+    goals, lost = goals_of(crate, texts, said)
+    changed = set().union(*(it.functions for it in edits))
+    for path in sorted({*goals, *lost}):
+        if not is_part(path, changed):
+            tell(False, f"{crate.name}: {'::'.join(path)} IS REFUSED, and no edit of its round changes it")
+    missed = []
+    for it in edits:
+        if goal := own_goal(it, goals, lost):
+            tell(True, f"{it.label}: refused (joint): {goal}")
+        else:
+            missed.append(it)
+    return missed
+
+
+def in_rounds(crate, edits, tell):
+    """Tries each of these edits once, together with others. Returns those that were not refused."""
+    missed, left = [], edits
     while left:
-        chosen = round_of(left)
-        refused, others = {}, []
-        if len(chosen) > 1:
-            with kept_work(crate, shared) as kept:
-                refused, others = try_round(crate, chosen, kept)
-        for it in others:
-            tell(False, f"{crate.name}: {it} IS REFUSED, and no edit of its round changes it")
-        for it in chosen:
-            if it.label in refused:
-                tell(True, f"{it.label}: refused, as it must be: {refused[it.label]}")
-        alone += [] if refused else chosen
-        left = [it for it in left if it.label not in refused and it not in alone]
-    return alone
+        chosen = round_of(crate, left)
+        missed += try_round(crate, chosen, tell)
+        left = [it for it in left if it not in chosen]
+    return missed
 
 
-def is_proved(crate, edit, kept):
-    """Returns whether the right code is proved over this kept work: that of what the edit changes, where a check can
-    look at that alone, or of the whole crate."""
-    return any(rt.checked(crate, {}, words, kept).returncode == 0 for words in (words_of([edit]), FLAGS))
+def try_alone(crate, edit):
+    """Tries one edit by `rt must-fail`. Returns whether it is refused for what it says, and what to say."""
+    name = edit.label.partition("/")[2]
+    crate.put(f"must-fail/{name}.edit", edit.text)
+    try:
+        status, said = command(["must-fail", crate.name], crate.top)
+    finally:
+        os.remove(f"{crate.folder}/must-fail/{name}.edit")
+    found = re.findall(rf"^rt: must-fail {re.escape(edit.label)}\.edit: (.*(?:\nsrc/.*)?)", said, re.M)
+    if len(found) != 1:
+        return False, f"NOT TRIED: {said.strip()[-500:]}"
+    if status == 0 and found[0].startswith(AS_IT_MUST):
+        return True, f"refused (singly): {found[0].removeprefix(AS_IT_MUST)}"
+    return False, f"FAILED (singly): {found[0]}"
 
 
 def try_edits(crate, files):
@@ -269,104 +372,70 @@ def try_edits(crate, files):
         with printing:
             print(text, flush=True)
 
-    edits = [read_edit(crate, it) for it in files]
+    edits = [read_edit(crate, f"{crate.folder}/{it}") for it in files]
+    for name in names_in(f"{crate.folder}/must-fail"):
+        os.remove(f"{crate.folder}/must-fail/{name}")
     for it in edits:
         if it.fault:
             tell(False, f"{it.label}: BAD EDIT: {it.fault}")
-    with tempfile.TemporaryDirectory(prefix="rt-kept-") as shared:
-        tried = [it for it in edits if not it.fault]
-        for it in try_joined(crate, tried, shared, tell):
-            with kept_work(crate, shared) as kept:
-                is_well, text = try_alone(crate, it, kept)
-            tell(is_well, f"{it.label}: (singly) {text}")
-        if os.listdir(shared) and not is_proved(crate, tried[-1], shared):
-            tell(False, f"{crate.name}: NOT PROVED over what its rounds kept, so what they refused says nothing")
+    tried = [it for it in edits if not it.fault]
+    if tried and (said := unproved(crate, tried)):
+        tell(False, f"{crate.name}: NOT JUDGED, since its right code is not proved here: {said.strip()[-500:]}")
+        return [counts[0], counts[1] + len(tried)]
+    joined = [it for it in tried if it.functions]
+    missed = in_rounds(crate, joined, tell)
+    if len(missed) < len(joined):
+        missed = in_rounds(crate, missed, tell)
+    for it in [*missed, *(it for it in tried if not it.functions)]:
+        is_well, text = try_alone(crate, it)
+        tell(is_well, f"{it.label}: {text}")
     return counts
 
 
-def try_alone(crate, edit, kept):
-    """Tries one edit. Returns whether the prover refuses it for what it says, and what to say."""
-    if edit.functions:
-        status, said = check(crate, [edit], kept)
-        if status == 0:
-            return False, "NOT REFUSED: what it changes is still proved"
-        if status == 1 and (own := own_goals(edit, open_goals(crate, applied(crate, [edit]), said))):
-            return True, f"refused, as it must be: {own[0]}"
-    is_well, text = rt.must_fail(crate, edit.file, FLAGS, kept)
-    is_by_contract = "only because a proof file names" not in text
-    return is_well and is_by_contract, text.partition(".edit: ")[2]
+def unproved(crate, edits):
+    """Returns what a check says of the right code of a function that one of these edits changes, or of the whole crate
+    where they change none; nothing where that is proved."""
+    status, said = crate.check(words_of([it for it in edits if it.functions][:1]))
+    return said if status else ""
 
 
 def names_in(folder):
     return sorted(it for it in os.listdir(folder) if it.endswith(".edit")) if os.path.isdir(folder) else []
 
 
-def strays():
+def strays(crates):
     """Returns what lies below a folder of wrong bodies and is none of a crate's edits."""
-    known = {it.folder for it in crates_here()}
     found = []
-    for folder in sorted(glob.glob(f"{os.getcwd()}/crates/*/wrong")):
+    for folder in sorted(glob.glob("crates/*/wrong")):
         for at, _, names in os.walk(folder):
-            is_read = at == folder and os.path.dirname(folder) in known
+            is_read = at == folder and folder.split("/")[1] in crates
             found += [f"{at}/{it}" for it in sorted(names) if not is_read or not it.endswith(".edit")]
-    return [os.path.relpath(it) for it in found]
+    return found
 
 
 def files_of(crate, is_all, names):
-    """Returns the files of the crate's edits that were asked for."""
+    """Returns the files of the crate's edits that were asked for, from its folder on."""
     chosen = {it.partition("/")[2] for it in names if it.partition("/")[0] == crate.name}
     files = []
     for part in FOLDERS:
         for name in names_in(f"{crate.folder}/{part}"):
             is_asked = (not names or "" in chosen) and (is_all or part == "wrong")
             if is_asked or name.removesuffix(".edit") in chosen:
-                files.append(f"{crate.folder}/{part}/{name}")
+                files.append(f"{part}/{name}")
     return files
 
 
 def unknown(crates, names):
     """Returns the names that name no crate and no edit of one."""
-    known = {it.name for it in crates}
-    for crate in crates:
+    known = set(crates)
+    for crate in crates.values():
         known |= {f"{crate.name}/{it[:-5]}" for part in FOLDERS for it in names_in(f"{crate.folder}/{part}")}
     return [it for it in names if it not in known]
 
 
-def build(library, jobs):
-    """Builds a library as rt does, and returns its status; what is said of it is printed where it is not proved."""
-    library = copy.copy(library)
-    with tempfile.TemporaryFile("w+", errors="replace") as library.out:
-        status = library.build_rlib(["--jobs", str(jobs)], anew=False)
-        library.out.seek(0)
-        said = library.out.read() if status else ""
-    with printing:
-        print(said, end="", flush=True)
-    return status
-
-
-def build_tasks(libraries):
-    """Returns the work to build the libraries that are not built, none where rt ci left them all."""
-    if all(left_by_gate(it) for it in libraries):
-        return {}
-    return {
-        (it.name, "library"): (
-            [(dep.name, "library") for dep in it.below()],
-            it.count(rb"\n"),
-            rt.need(it),
-            lambda given, jobs, library=it: build(library, jobs),
-        )
-        for it in libraries
-    }
-
-
-def edits_task(crate, files, libraries):
-    """Returns the work to try a crate's edits, nothing where one of the libraries below it is not proved."""
-    return lambda given, jobs: [0, 0] if any(given[it] for it in libraries) else try_edits(crate, files)
-
-
-def read_all(asked):
+def read_all(crates, asked):
     """Says which edits can't be applied, and returns the status."""
-    edits = [read_edit(crate, file) for crate, files in asked.values() for file in files]
+    edits = [read_edit(crates[name], f"{crates[name].folder}/{it}") for name, files in asked.items() for it in files]
     faults = [it for it in edits if it.fault]
     for it in faults:
         print(f"{it.label}: BAD EDIT: {it.fault}")
@@ -374,35 +443,76 @@ def read_all(asked):
     return 1 if faults else 0
 
 
-def main(words):
-    names = [it for it in words if it not in ("--all", "--read")]
-    rt.rtlib.guarded()
-    crates = sorted(crates_here(), key=lambda it: len(it.below()))
-    if wrong := unknown(crates, names):
-        sys.exit(f"no crate and no edit: {' '.join(wrong)}\n\n{__doc__}")
-    if lost := strays():
-        sys.exit(f"no edits of a crate, so nothing tries them: {' '.join(lost)}")
-    asked = {it.name: (it, files) for it in crates if (files := files_of(it, "--all" in words, names))}
-    if "--read" in words:
-        return read_all(asked)
-    return try_all(crates, asked)
+def lanes(count):
+    """Returns how many of so many crates are tried side by side."""
+    memory = os.sysconf("SC_PAGE_SIZE") * os.sysconf("SC_PHYS_PAGES")
+    most = int(os.environ.get("RT_JOBS") or min(os.cpu_count() or 1, memory // BYTES_OF_A_CHECK))
+    return max(1, min(most, count))
+
+
+def copied(top):
+    """Copies the files of the repository that a check reads."""
+    os.mkdir(top)
+    shutil.copytree("crates", f"{top}/crates", ignore=shutil.ignore_patterns("out"))
+    for name in ("crates.txt", "HANDLES"):
+        if os.path.exists(name):
+            shutil.copy(name, top)
+
+
+def work_through(crates, left, top, counts):
+    """Tries in a copy the edits of one crate after another, as long as some are left."""
+    built = set()
+    while True:
+        with choosing:
+            if not left:
+                return
+            name = min(left, key=lambda it: (len(crates[it].below - built), -len(left[it])))
+            files = left.pop(name)
+        built |= crates[name].below
+        counts[name] = try_edits(dataclasses.replace(crates[name], top=top), files)
 
 
 def try_all(crates, asked):
-    """Tries the edits of each crate, behind the libraries that they stand on, and returns the status."""
-    below = {dep.name: dep for it, _ in asked.values() for dep in it.below()}
-    tasks = build_tasks([it for it in crates if it.name in below])
-    builds = set(tasks)
-    for name, (crate, files) in asked.items():
-        waits = [it for it in builds if it[0] in {dep.name for dep in crate.below()}]
-        tasks[name, "edits"] = (waits, crate.count(rb"\n"), rt.need(crate), edits_task(crate, files, waits))
-    given = rt.in_lanes(tasks) if tasks else {}
-    broken = sorted(key[0] for key in builds if given[key])
-    for it in broken:
-        print(f"{it} is not proved, so nothing above it was tried")
-    passed, failed = (sum(given[name, "edits"][at] for name in asked) for at in (0, 1))
-    print(f"{passed} passed, {failed + len(broken)} failed")
-    return 1 if failed or broken else 0
+    """Tries the edits of all these crates, and returns the status. What a copy didn't come to the end of has failed."""
+    counts, left = {}, dict(asked)
+    signal.signal(signal.SIGTERM, lambda *_: sys.exit(143))
+    with tempfile.TemporaryDirectory(prefix="try-edits-") as room:
+        tops = [f"{room}/{number}" for number in range(lanes(len(asked)))]
+        for it in tops:
+            copied(it)
+        workers = [threading.Thread(target=work_through, args=(crates, left, it, counts), daemon=True) for it in tops]
+        try:
+            for it in workers:
+                it.start()
+            for it in workers:
+                it.join()
+        finally:
+            end_all(workers)
+    passed = sum(counts[name][0] for name in counts)
+    failed = sum(counts[name][1] if name in counts else len(asked[name]) for name in asked)
+    print(f"{passed} passed, {failed} failed")
+    return 1 if failed else 0
+
+
+def end_all(workers):
+    """Ends the commands that still run, where this ends early, and waits for all."""
+    is_ending.set()
+    for it in list(running):
+        it.terminate()
+    for it in workers:
+        if it.is_alive():
+            it.join()
+
+
+def main(words):
+    names = [it for it in words if it not in ("--all", "--read")]
+    crates = crates_here()
+    if wrong := unknown(crates, names):
+        sys.exit(f"no crate and no edit: {' '.join(wrong)}\n\n{__doc__}")
+    if lost := strays(crates):
+        sys.exit(f"no edits of a crate, so nothing tries them: {' '.join(lost)}")
+    asked = {name: files for name, it in crates.items() if (files := files_of(it, "--all" in words, names))}
+    return read_all(crates, asked) if "--read" in words else try_all(crates, asked)
 
 
 if __name__ == "__main__":

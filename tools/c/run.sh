@@ -10,9 +10,9 @@
 #
 # usage: tools/c/run.sh [FOLDER]      (FOLDER, with the files of the Unicode database: /usr/share/unicode)
 #
-# build_library.py makes the library: over what rt ci left, else by rt lib, in seconds over what `rt check` or `rt lib`
-# kept in crates/*/out, and by proving each crate below it where nothing is kept. It ends with 0 where all is as it
-# should be, with 1 where not, and with 2 where the library can't be made.
+# build_library.sh makes the library with `rt lib`: in seconds if `rt check` or `rt lib` kept work on this machine, else
+# by proving each crate below it. It ends with 0 where all is as it should be, with 1 where not, and with 2 where the
+# library can't be made.
 set -u
 here=$(cd "$(dirname "$0")" && pwd)
 folder=${1:-/usr/share/unicode}
@@ -28,7 +28,7 @@ kit=${RATTLE_C:-$(dirname "$(readlink -f "$(command -v rt)")")/../c}
 heap=$kit/liblibc_c.a
 work=$(mktemp -d) || exit 2
 trap 'rm -r "$work"' EXIT
-if ! "$here/build_library.py" > "$work/lib" 2>&1 || [ ! -e "$library" ] || [ ! -e "$heap" ]; then
+if ! "$here/build_library.sh" > "$work/lib" 2>&1 || [ ! -e "$library" ] || [ ! -e "$heap" ]; then
     tail -n 5 "$work/lib" >&2
     echo "no $library, or no $heap (RATTLE_C names its folder)" >&2
     exit 2

@@ -13,7 +13,7 @@
 # engines, so that `bidi explain --row` can show one; without it they go with the run.
 #
 # It takes the program that `rt ci` leaves, or `rt run` in crates/bidi (BIDI may name another), and the library that
-# tools/c/build_library.py builds (BIDI_LIBRARY may name a shared object).
+# tools/c/build_library.sh builds (BIDI_LIBRARY may name a shared object).
 set -u
 folder=${2:-/usr/share/unicode}
 here=$(cd "$(dirname "$0")" && pwd)
