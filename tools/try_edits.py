@@ -50,8 +50,9 @@ OPEN = r"^fn {}::(\S+): (?:not proved|no proof)[^\n]*?did not prove (`[^`]*`)"
 IN_PROOF = re.compile(
     r"^(?:\./)?proofs/(\S+)/(?:Answers|Invariants|Proof|Send)\.antt:\d+:\d+: error: ([^\n]*)", re.M)
 STUCK = re.compile(r"(`[^`]*`): (.*)")
+NOT_CHECKED = re.compile(r"\d+ declarations? that depends? on `[^`]*`, which was rejected")
 NOTED = re.compile(r"^note: (?:\./)?(src/\S+?):(\d+):\d+: it is not proved that [^\n]*?\((`[^`]*`)\)", re.M)
-NAMES_GONE = re.compile(r"has no|is not in scope|was not admitted|cannot find")
+NAMES_GONE = re.compile(r"has no field|has no `|is not in scope|was not admitted")
 OF_PROOF = re.compile(r"`(?:invariant|decreases|ghosts)-")
 MISREAD = re.compile(r"^(?:\./)?(src/\S+?):(\d+):\d+: error", re.M)
 NO_FUNCTION = re.compile(r"error: `\w+` has no function `([^`]*)`")
@@ -262,6 +263,8 @@ def goals_of(crate, texts, said):
     lost = set()
     for folder, error in IN_PROOF.findall(said):
         stuck = STUCK.match(error)
+        if NOT_CHECKED.match(error):
+            continue
         if not stuck or NAMES_GONE.search(stuck[2]):
             lost.add(parts_of(folder.split("/")))
         elif not OF_PROOF.match(stuck[1]):
