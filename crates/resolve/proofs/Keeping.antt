@@ -1,15 +1,15 @@
 -- W1 to W7 over classes that they leave as they are: what is known behind them, told by the last one alone where the last
 -- strong class stays.
-use Rattle.std.specs.Prelude.{Bool, true, false, not, ℕ, zero, suc, ◌+◌, ◌-◌, ◌<◌, ◌≤◌, ◌≡◌, List, ◌∷◌, length, slice_index, if◌then◌else◌, refl}
+use Rattle.std.specs.Prelude.{true, false, ℕ, zero, suc, ◌+◌, ◌-◌, ◌<◌, ◌≤◌, ◌≡◌, List, ◌∷◌, length, slice_index, if◌then◌else◌, refl}
 use Rattle.std.proofs.Common.{arith, ap, sym, subst, ◌∙◌, take, drop}
 use Rattle.std.proofs.lemmas.List.{get_or-drop, length-drop, set-get_or, take_rest}
 use Rattle.units.specs.Classes.{class_at, classes_at, is_base, is_strong}
-use Rattle.units.specs.Weak.{by_w1, by_w2, by_w3, is_any}
+use Rattle.units.specs.Weak.{by_w1, by_w2, by_w3, by_w6, by_w7, is_any}
 use Rattle.units.specs.declared.class.Class.{Class}
 use Rattle.units.specs.declared.class.Class.TheVariants.{L, R, AL, EN, ES, ET, CS, NSM, ON}
 use Rattle.sequences.specs.Links.{ArePositions}
 use Rattle.resolve.specs.Ahead.{first_class}
-use Rattle.resolve.specs.ClassSets.{is_passed}
+use Rattle.resolve.specs.ClassSets.{is_passed, stands_alone}
 use Rattle.resolve.specs.Contexts.{by_w4_w5, settled_by, context_past, by_context, kept_past, past_passed, owed_in}
 use Rattle.resolve.specs.Sought.{may_weaken}
 use Rattle.resolve.specs.ThroughW3.{by_w1_to_w3, preceding_past, all_by_w1_to_w3, is_no_terminator}
@@ -19,9 +19,43 @@ use Rattle.resolve.proofs.ByKind.{owes_not_here}
 use Rattle.resolve.proofs.Idle.{by_w1-idle, by_w2-idle, by_w3-idle, by_w4_w5-idle, by_context-idle}
 use Rattle.resolve.proofs.Walked.{Walk, WalkSteps, walk_next, walk_steps_next}
 
-pub not_weakened : (weakens : Bool) → not weakens ≡ true → weakens ≡ false
-not_weakened true h = cc
-not_weakened false h = refl
+-- what stands alone is AL or left as it is
+pub alone-idle : (c : Class) → stands_alone c ≡ true → (c ≡ AL → ⊥) → may_weaken c ≡ false
+alone-idle AL h other = absurd (other refl)
+alone-idle EN h other = cc
+alone-idle ES h other = cc
+alone-idle ET h other = cc
+alone-idle CS h other = cc
+alone-idle NSM h other = cc
+alone-idle c h other = refl
+
+-- W1 to W7 make R of AL, whatever is known before it and comes behind it
+by_w2-letter : (strong : Class) → by_w2 strong AL ≡ AL
+by_w2-letter AL = refl
+by_w2-letter strong = refl
+
+pub through_w3-letter : (f : Preceding) → by_w1_to_w3 f AL ≡ R
+through_w3-letter f = ap by_w3 (by_w2-letter f.strong)
+
+pub settled-letter : (x : Context) (cs : List Class) → settled_by x AL cs ≡ R
+settled-letter x cs =
+    let ds : List Class = all_by_w1_to_w3 (preceding_past x.preceding AL) cs in
+    let next : Class = first_class is_any ds ON in
+    let ahead : Class = first_class is_no_terminator ds ON in
+    ap (λ (d : Class). by_w4_w5 x.before x.settled d next ahead) (through_w3-letter x.preceding)
+
+pub by_context-letter : (x : Context) (cs : List Class) → by_context x AL cs ≡ R
+by_context-letter x cs = ap (λ (d : Class). by_w7 AL (by_w6 d)) (settled-letter x cs)
+
+letter_is_no_terminator : (c : Class) → c ≡ R → c ≡ ET → ⊥
+letter_is_no_terminator ET e t = cc
+letter_is_no_terminator c e t = cc
+
+-- nothing is owed before it
+pub owes-letter : (x : Context) (cs : List Class) → owed_in x (AL ∷ cs) ≡ 0
+owes-letter x cs =
+    owes_not_here x.settled (by_w1_to_w3 x.preceding AL) (all_by_w1_to_w3 (preceding_past x.preceding AL) cs)
+    (letter_is_no_terminator (by_w1_to_w3 x.preceding AL) (through_w3-letter x.preceding))
 
 -- the positions behind an index
 pub within_rest : (ps : List ℕ) (extent n : ℕ) → ArePositions ps extent → (k : ℕ) → k < length (take (length ps - n) (drop n ps)) →

@@ -1,9 +1,10 @@
 -- Sets of classes, as numbers with a bit for each class.
-use Rattle.std.specs.Prelude.{ℕ, Bool, true, ◌==◌, ◌/◌, ◌^◌}
+use Rattle.std.specs.Prelude.{ℕ, Bool, true, not, ◌==◌, ◌/◌, ◌^◌}
 use Rattle.std.specs.Int.RustNames.{bit_and}
 use Rattle.units.specs.Classes.{is_neutral}
 use Rattle.units.specs.declared.class.Class.{Class}
 use Rattle.units.specs.declared.class.Class.TheVariants.{L, R, AL, EN, ES, ET, AN, CS, NSM, BN, B, S, WS, ON, LRE, LRO, RLE, RLO, PDF, LRI, RLI, FSI, PDI}
+use Rattle.resolve.specs.Sought.{may_weaken}
 use Rattle.resolve.specs.declared.class_set.ClassSet.{ClassSet}
 
 -- the number of a class among the 23
@@ -41,6 +42,11 @@ abbrev pub is_leaning : Class → Class → Bool
 is_leaning L L = true
 is_leaning R R = true
 is_leaning direction c = is_neutral c
+
+-- what W1 to W7 make the same of, wherever it stands: R of AL, and each other is left as it is
+abbrev pub stands_alone : Class → Bool
+stands_alone AL = true
+stands_alone c = not (may_weaken c)
 
 -- what W1 to W7 leave as it is, and behind which the last strong class is still this one: this class, if it is L or R, a
 -- neutral, or AN

@@ -1,8 +1,7 @@
 //! Sets of classes.
-ghost use Rattle.std.specs.Prelude.{◌≡◌, not};
+ghost use Rattle.std.specs.Prelude.{◌≡◌};
 ghost use Rattle.units.specs.declared.class.Class.{Class as BidiClass};
-ghost use Rattle.resolve.specs.ClassSets.{holds, is_leaning, is_passed};
-ghost use Rattle.resolve.specs.Sought.{may_weaken};
+ghost use Rattle.resolve.specs.ClassSets.{holds, is_leaning, is_passed, stands_alone};
 
 use units::class::Class;
 
@@ -18,15 +17,15 @@ const NEUTRALS: u32 = 0b111_1000_0011_1100_0000_0000;
 /// The neutrals and AN.
 const PASSED: u32 = NEUTRALS | 0b100_0000;
 
-/// All but AL, EN, ES, ET, CS and NSM.
-const KEPT: u32 = 0b111_1111_1111_1110_0100_0011;
+/// All but EN, ES, ET, CS and NSM.
+const ALONE: u32 = 0b111_1111_1111_1110_0100_0111;
 
 impl ClassSet {
-    /// The classes that W1 to W7 leave as they are, wherever they stand.
-    pub(crate) fn kept() -> ClassSet
-        ensures { (class : BidiClass) → holds result class ≡ not (may_weaken class) }
+    /// The classes of which W1 to W7 make the same wherever they stand: R of AL, and each other is left as it is.
+    pub(crate) fn alone() -> ClassSet
+        ensures { (class : BidiClass) → holds result class ≡ stands_alone class }
     {
-        ClassSet { bits: KEPT }
+        ClassSet { bits: ALONE }
     }
 
     /// The neutrals, and L or R if it is this direction.
