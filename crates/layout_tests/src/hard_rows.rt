@@ -16,7 +16,7 @@ struct Row {
     order: &'static str,
 }
 
-const ROWS: [Row; 16] = [
+const ROWS: [Row; 17] = [
     // I1: a number alone has level 2 on a line at level 0
     Row {
         text: "\u{661}",
@@ -121,6 +121,13 @@ const ROWS: [Row; 16] = [
         direction: Direction::Ltr,
         levels: "0 2 0 0 1",
         order: "0 1 2 3 4",
+    },
+    // X5a: an isolate initiator under an override is overridden
+    Row {
+        text: "\u{202D}\u{2067}a\u{2069}",
+        direction: Direction::Ltr,
+        levels: "x 2 4 0",
+        order: "1 2 3",
     },
     // X5a: an isolate initiator under an override is overridden, and so is its PDI (X6a)
     Row {
