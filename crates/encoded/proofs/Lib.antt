@@ -2,6 +2,8 @@ pub mod OffsetLemmas
 pub mod Writing
 pub mod Utf8Texts
 pub mod Spellings
+pub mod Utf8Tests
+pub mod KnownChars
 pub mod LossyChunks
 pub mod LossyReading
 pub mod Indexing

@@ -71,18 +71,18 @@ no_fourth x y z w rest least stops = no_char (x ∷ y ∷ z ∷ w ∷ rest) 0 (�
 left_one : (bs : List ℕ) (at : ℕ) → at < length bs → drop at bs ≡ get_or bs at 0 ∷ drop (at + 1) bs
 left_one bs at lt = drop-cons bs at 0 lt ∙ ap (λ n. get_or bs at 0 ∷ drop n bs) (let e : suc at ≡ at + 1 = omega arith in e)
 
-left_two : (bs : List ℕ) (at : ℕ) → at + 1 < length bs → drop at bs ≡ get_or bs at 0 ∷ get_or bs (at + 1) 0 ∷ drop (at + 2) bs
+pub left_two : (bs : List ℕ) (at : ℕ) → at + 1 < length bs → drop at bs ≡ get_or bs at 0 ∷ get_or bs (at + 1) 0 ∷ drop (at + 2) bs
 left_two bs at lt =
     left_one bs at (omega arith)
     ∙ ap (λ (xs : List ℕ). get_or bs at 0 ∷ xs) (left_one bs (at + 1) lt ∙ ap (λ n. get_or bs (at + 1) 0 ∷ drop n bs) (let e : at + 1 + 1 ≡ at + 2 = omega arith in e))
 
-left_three : (bs : List ℕ) (at : ℕ) → at + 2 < length bs → drop at bs ≡ get_or bs at 0 ∷ get_or bs (at + 1) 0 ∷ get_or bs (at + 2) 0 ∷ drop (at + 3) bs
+pub left_three : (bs : List ℕ) (at : ℕ) → at + 2 < length bs → drop at bs ≡ get_or bs at 0 ∷ get_or bs (at + 1) 0 ∷ get_or bs (at + 2) 0 ∷ drop (at + 3) bs
 left_three bs at lt =
     left_two bs at (omega arith)
     ∙ ap (λ (xs : List ℕ). get_or bs at 0 ∷ get_or bs (at + 1) 0 ∷ xs)
     (left_one bs (at + 2) lt ∙ ap (λ n. get_or bs (at + 2) 0 ∷ drop n bs) (let e : at + 2 + 1 ≡ at + 3 = omega arith in e))
 
-left_four : (bs : List ℕ) (at : ℕ) → at + 3 < length bs
+pub left_four : (bs : List ℕ) (at : ℕ) → at + 3 < length bs
     → drop at bs ≡ get_or bs at 0 ∷ get_or bs (at + 1) 0 ∷ get_or bs (at + 2) 0 ∷ get_or bs (at + 3) 0 ∷ drop (at + 4) bs
 left_four bs at lt =
     left_three bs at (omega arith)

@@ -5,6 +5,7 @@ mod breaking;
 mod decoding;
 pub mod fault;
 mod indices;
+mod known;
 pub mod laying_out;
 pub mod lookups;
 mod lossy;

@@ -1,13 +1,12 @@
 use Rattle.std.proofs.Common.{◌∙◌, ◌+◌, ◌-◌, ◌<◌, ℕ, List, ap, arith, length, map, refl, set, subst, sym, take}
-use Rattle.std.proofs.lemmas.Str.{chars-nil, IsUtf8-nil, utf8_valid_len-IsValidUpTo}
-use Rattle.std.proofs.str.Faults.{not_text, valid_to}
+use Rattle.std.proofs.lemmas.Str.{chars-nil, IsUtf8-nil}
 use Rattle.ucdfiles.specs.UnitStages.{UnitStages, unit_by_stages}
 use Rattle.encoded.specs.Decoded.{IsWritten}
 use Rattle.encoded.specs.Encodings.{in_utf8, utf8_text}
 use Rattle.encoded.specs.Offsets.{Spelled}
 use Rattle.encoded.proofs.Spellings.{forward, text_more, utf8_more}
 use Rattle.encoded.proofs.Writing.{written_more, written_none}
-use Rattle.encoded.proofs.utf8.decode_utf8.Goals as goal
+use Rattle.encoded.proofs.utf8.decode_well_formed.Goals as goal
 
 pub loop-at-init : goal.loop-at-init
 loop-at-init c = record {
@@ -20,8 +19,8 @@ loop-at-init c = record {
 
 pub loop-at-smaller : goal.loop-at-smaller
 loop-at-smaller c =
-    let more = forward c.args.bytes.now c.loop-at.at c.in-Some.c c.in-Some.behind c.in-Some.ensures in
-    let less : length c.args.bytes.now - c.in-Some.behind < length c.args.bytes.now - c.loop-at.at = omega (arith, more, c.loop-at-test.true) in
+    let more = forward c.args.bytes.now c.loop-at.at c.known_char_at-c.result.0 c.known_char_at-c.result.1 c.known_char_at-c.ensures in
+    let less : length c.args.bytes.now - c.known_char_at-c.result.1 < length c.args.bytes.now - c.loop-at.at = omega (arith, more, c.loop-at-test.true) in
     less
 
 pub loop-at-preserved : goal.loop-at-preserved
@@ -29,9 +28,9 @@ loop-at-preserved c =
     let l = c.loop-at in
     let bytes = c.args.bytes.now in
     let tables = c.args.tables.now in
-    let d = c.in-Some.c in
-    let behind = c.in-Some.behind in
-    let is = c.in-Some.ensures in
+    let d = c.known_char_at-c.result.0 in
+    let behind = c.known_char_at-c.result.1 in
+    let is = c.known_char_at-c.ensures in
     let more = forward bytes l.at d behind is in
     let unit = c.write_unit.ensures ∙ ap (λ (s : UnitStages). unit_by_stages s d) c.units-lent.ensures in
     record {
@@ -44,10 +43,3 @@ loop-at-preserved c =
           (omega (arith, l.invariant.few, c.loop-at-test.true, l.auto.units, c.requires.units)) (omega (arith, l.invariant.few, c.loop-at-test.true, l.auto.starts, c.requires.starts))
           unit refl is.behind l.invariant.written);
     }
-
-pub returns-in_default-clause-fault : goal.returns-in_default-clause-fault
-returns-in_default-clause-fault c =
-    let bytes = c.args.bytes.now in
-    let at = c.loop-at.at in
-    let longest = valid_to bytes at c.loop-at-test.true c.loop-at.invariant.front c.in_default.ensures in
-    (not_text bytes at longest, sym (utf8_valid_len-IsValidUpTo bytes at longest))

@@ -2,7 +2,7 @@ use Rattle.std.proofs.Common.{◌≤◌, ◌-◌, length, take}
 use Rattle.std.specs.Str.{IsUtf8}
 use Rattle.encoded.specs.Decoded.{IsWritten}
 use Rattle.encoded.specs.Encodings.{utf8_text}
-use Rattle.encoded.proofs.utf8.decode_utf8.Given as goal
+use Rattle.encoded.proofs.utf8.decode_well_formed.Given as goal
 
 abbrev pub invariant-loop-at : goal.invariant-loop-at
 invariant-loop-at l =
