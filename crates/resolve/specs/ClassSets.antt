@@ -48,8 +48,8 @@ abbrev pub stands_alone : Class → Bool
 stands_alone AL = true
 stands_alone c = not (may_weaken c)
 
--- what W1 to W7 leave as it is, and behind which the last strong class is still this one: this class, if it is L or R, a
--- neutral, or AN
+-- what W1 to W7 leave as it is, and behind which the last strong class is still this one: this class, if it is L or R,
+-- a neutral, or AN
 abbrev pub is_passed : Class → Class → Bool
 is_passed strong AN = true
 is_passed strong c = is_leaning strong c
