@@ -6,7 +6,7 @@ use Rattle.printing.proofs.position_line.put_paragraph.Goals as goal
 pub put_decimal-start-requires : goal.put_decimal-start-requires
 put_decimal-start-requires c =
     let one = length-decimal-le 1 c.from.result (omega arith) (omega arith) (omega arith) in
-    (omega arith, search rules)
+    record { room = omega arith; within = search rules }
 
 pub put_bytes-start-requires-clause-room : goal.put_bytes-start-requires-clause-room
 put_bytes-start-requires-clause-room c =
@@ -17,7 +17,7 @@ pub put_decimal-start-requires-2 : goal.put_decimal-start-requires-2
 put_decimal-start-requires-2 c =
     let one = length-decimal-le 1 c.from.result (omega arith) (omega arith) (omega arith) in
     let few = length-decimal-le 20 c.args.number (omega arith) (omega arith) (omega arith) in
-    (omega arith, search rules)
+    record { room = omega arith; within = search rules }
 
 pub put_bytes-requires-clause-room : goal.put_bytes-requires-clause-room
 put_bytes-requires-clause-room c =

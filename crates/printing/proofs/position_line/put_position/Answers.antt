@@ -6,7 +6,7 @@ use Rattle.printing.proofs.position_line.put_position.Goals as goal
 pub put_decimal-requires : goal.put_decimal-requires
 put_decimal-requires c =
     let few = length-decimal-le 20 c.args.position (omega arith) (omega arith) (omega arith) in
-    (omega arith, search rules)
+    record { room = omega arith; within = search rules }
 
 pub returns-clause-written : goal.returns-clause-written
 returns-clause-written c =
