@@ -11,15 +11,19 @@ ghost use Rattle.rows.specs.RowTexts.{behind_blanks, between_blanks};
 
 use crate::letter::Letter;
 use arrayvec::ArrayVec;
-use itoa::Buffer;
+use printing::decimals::put_decimal;
+use printing::handing::{Pieces, hand_over};
 use printing::pieces::last_digit;
 use std::io;
 use std::io::Write;
 use units::class::Class;
 use units::level::Level;
 
-/// The most bytes that an item takes with the blank before it: a position has 20 digits at most.
-const MOST_BYTES: usize = 21;
+/// The most digits of a position.
+const MOST_DIGITS: usize = 20;
+
+/// The most bytes that an item takes with the blank before it.
+const MOST_BYTES: usize = MOST_DIGITS + 1;
 
 /// How many bytes are gathered before they are written.
 const MOST_GATHERED: usize = 256;
@@ -44,9 +48,9 @@ fn add_longer(to: &mut Gathered, number: usize)
     ensures text { to.new.items ≡ to.old.items ++ decimal number }
     ensures few { array_vec_len to.new ≤ array_vec_len to.old + 20 }
 {
-    let mut digits = Buffer::new();
-    to.try_extend_from_slice(digits.format(number).as_bytes())
-        .unwrap();
+    let mut digits = [0; MOST_DIGITS];
+    let start = put_decimal(number as u64, &mut digits, MOST_DIGITS);
+    to.try_extend_from_slice(&digits[start..]).unwrap();
 }
 
 /// Adds a number in decimal digits.
@@ -152,7 +156,7 @@ fn add_items<T: RowItem>(to: &mut Gathered, items: &[T]) -> usize
     count
 }
 
-/// Writes each item behind a blank.
+/// Writes each item behind a blank, many of them by one call of `write`.
 pub fn print_behind_blanks<W: Write, T: RowItem>(w: &mut W, items: &[T]) -> io::Result<()>
     ensures { OnOk result (Appends (W.contents w.old) (W.contents w.new) (behind_blanks T.text items.now)) }
 {
@@ -161,7 +165,7 @@ pub fn print_behind_blanks<W: Write, T: RowItem>(w: &mut W, items: &[T]) -> io::
     while !left.is_empty() {
         text.clear();
         let count = add_items(&mut text, left);
-        w.write_all(text.as_slice())?;
+        hand_over(w, text.as_slice(), Pieces::Items)?;
         left = left.split_at(count).1;
     }
     Ok(())
@@ -176,6 +180,6 @@ pub fn print_between_blanks<W: Write, T: RowItem>(w: &mut W, items: &[T]) -> io:
     }
     let mut text = ArrayVec::new();
     let count = add_items(&mut text, items);
-    w.write_all(&text.as_slice()[1..])?;
+    hand_over(w, &text.as_slice()[1..], Pieces::Items)?;
     print_behind_blanks(w, items.split_at(count).1)
 }

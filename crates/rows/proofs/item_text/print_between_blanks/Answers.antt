@@ -14,7 +14,7 @@ returns g c =
     let there : 0 < length items = search (rules, arith) in
     let some : 0 < n = c.add_items-count.ensures.some there (omega (arith, ap (λ (bs : List ℕ). length bs) c.new-text.ensures)) in
     let first = c.as_slice.ensures.value ∙ c.add_items-count.ensures.text ∙ ap (λ bs. bs ++ behind_blanks text (take n items)) c.new-text.ensures ∙ behind-first text items n some there in
-    let written = Appends-to _ _ _ _ (sliced-behind 32 _ _ first) c.in_ok-write_all.ensures.bytes in
+    let written = Appends-to _ _ _ _ (sliced-behind 32 _ _ first) c.in_ok-hand_over.ensures in
     let whole = ap (λ xs. between_blanks text (take n items) ++ behind_blanks text xs) c.split_at.ensures.back ∙ between-parts text items n some there in
     subst (λ bs. OnOk c.print_behind_blanks.result (Appends (g.W.Write.contents c.args.w.now) (g.W.Write.contents c.print_behind_blanks.new.w) bs)) whole
     (Appends-then c.print_behind_blanks.result _ _ _ _ _ written c.print_behind_blanks.ensures)
