@@ -15,6 +15,8 @@ pub enum Manner {
     Parts(usize),
     /// Takes so many bytes, and then none of any call.
     Ends(usize),
+    /// Takes so many bytes, of a call the part that fits, and then fails.
+    Fills(usize),
     /// Fails with the call of this number, counted from 1, and takes all others whole.
     FailsOnce(usize),
     /// Is interrupted at each second call, and takes all others whole.
@@ -58,10 +60,11 @@ impl FailingWriter {
                 Err(ErrorKind::StorageFull)
             }
             Manner::Short(most) if len > most => Err(ErrorKind::OutOfMemory),
+            Manner::Fills(most) if self.len >= most => Err(ErrorKind::StorageFull),
             Manner::FailsOnce(call) if self.calls == call => Err(ErrorKind::BrokenPipe),
             Manner::Interrupted if self.calls % 2 == 0 => Err(ErrorKind::Interrupted),
             Manner::Parts(most) => Ok(len.min(most)),
-            Manner::Ends(most) => Ok(len.min(most.saturating_sub(self.len))),
+            Manner::Ends(most) | Manner::Fills(most) => Ok(len.min(most.saturating_sub(self.len))),
             _ => Ok(len),
         }
     }

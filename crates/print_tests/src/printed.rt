@@ -43,8 +43,9 @@ fn agree_up_to<P: Printed, R: Abort>(rt: &R, printed: &P, most: usize) {
     for bytes in 0..most {
         agrees(rt, printed, Manner::Holds(bytes));
         agrees(rt, printed, Manner::Ends(bytes));
+        agrees(rt, printed, Manner::Fills(bytes));
     }
-    for bytes in (0..64).chain(250..260) {
+    for bytes in 0..260 {
         agrees(rt, printed, Manner::Short(bytes));
         agrees(rt, printed, Manner::Parts(bytes));
     }

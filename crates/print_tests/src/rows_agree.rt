@@ -230,7 +230,7 @@ fn lines_of_classes_as_at_first(rt: HostRuntime) -> Result<(), Fail> {
 
 #[test]
 fn long_lines_of_classes_as_at_first(rt: HostRuntime) -> Result<(), Fail> {
-    let text = repeated(rt.alloc(), &REPEATED, 18)?;
+    let text = repeated(rt.alloc(), &REPEATED, 24)?;
     class_lines_agree(&rt, rt.alloc(), &text, &[Direction::Rtl])
 }
 

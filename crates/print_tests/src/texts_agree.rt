@@ -32,17 +32,13 @@ impl Printed for Text<'_> {
     fn in_pieces<R: Abort>(&self, rt: &R, w: &mut FailingWriter) -> Outcome {
         let room = Scratch::with_room(self.alloc, self.chars.len());
         let mut room = room.ok().expect(rt, "room");
-        let Text {
-            tables,
-            paragraphs,
-            direction,
-            ..
-        } = self;
-        let mirrors = tables.mirrors();
+        let paragraphs = self.paragraphs;
+        let direction = self.direction;
+        let mirrors = self.tables.mirrors();
         untold(match self.form {
-            Form::Levels => levels_in_pieces::print_levels(w, paragraphs, *direction, &mut room),
+            Form::Levels => levels_in_pieces::print_levels(w, paragraphs, direction, &mut room),
             Form::Reorder { .. } => {
-                reorder_in_pieces::print_reorder(w, mirrors, paragraphs, *direction, &mut room)
+                reorder_in_pieces::print_reorder(w, mirrors, paragraphs, direction, &mut room)
             }
         })
     }
