@@ -1,6 +1,6 @@
-//! A digest of results.
+//! Digests of inputs and of results.
 
-use units::level::Level;
+use units::level::{Level, ParaLevel};
 
 /// Two sums over all that was added, of which the second depends on its order, and how much it was.
 #[derive(Clone, Copy)]
@@ -18,6 +18,13 @@ impl Digest {
             first: 0,
             second: 0,
         }
+    }
+
+    /// Returns the digest of bytes.
+    pub fn of_bytes(bytes: &[u8]) -> Digest {
+        let mut digest = Digest::new();
+        digest.add_bytes(bytes);
+        digest
     }
 
     /// Adds a number.
@@ -56,6 +63,20 @@ impl Digest {
             digest.add_level(*level);
         }
         *self = digest;
+    }
+
+    /// Adds the levels of paragraphs.
+    pub fn add_para_levels(&mut self, levels: &[ParaLevel]) {
+        for level in levels {
+            self.add_level(Some(level.level()));
+        }
+    }
+
+    /// Adds characters.
+    pub fn add_characters(&mut self, characters: &[char]) {
+        for character in characters {
+            self.add(u64::from(*character));
+        }
     }
 
     /// Adds bytes, eight at a time.

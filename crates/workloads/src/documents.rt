@@ -1,7 +1,8 @@
 //! Documents printed as the command prints them: what is shown of them, or their levels.
 
 use crate::digest::Digest;
-use crate::script::SCRIPTS;
+use crate::inputs::Inputs;
+use crate::script::{SCRIPTS, Script};
 use crate::text_maker::TextMaker;
 use printing::form::Form;
 use printing::reading::print_source;
@@ -25,18 +26,49 @@ pub fn tables(alloc: Global) -> io::Result<Tables> {
     }
 }
 
-/// Makes the document of this number in `text`, in place of what was there.
-fn make(text: &mut String, number: usize, seed: u64) -> io::Result<()> {
-    let mut maker = TextMaker::new(seed, number);
-    let script = SCRIPTS[number % 8];
-    text.clear();
-    for _ in 0..DOCUMENT_BYTES {
-        if text.len() >= DOCUMENT_BYTES {
-            break;
+/// Makes documents. All paragraphs of all of them differ.
+#[derive(Drop)]
+struct DocumentMaker {
+    seed: u64,
+    text: String,
+    paragraph: String,
+    paragraphs: Inputs,
+}
+
+impl DocumentMaker {
+    fn new(alloc: Global, seed: u64) -> DocumentMaker {
+        DocumentMaker {
+            seed,
+            text: String::new(alloc),
+            paragraph: String::new(alloc),
+            paragraphs: Inputs::new(alloc),
         }
-        maker.push_paragraph(script, text)?;
     }
-    Ok(())
+
+    /// Draws a paragraph, and adds it to the document if it differs from all earlier ones.
+    fn push_paragraph(&mut self, maker: &mut TextMaker, script: Script) -> io::Result<()> {
+        self.paragraph.clear();
+        maker.push_paragraph(script, &mut self.paragraph)?;
+        let digest = Digest::of_bytes(self.paragraph.as_bytes());
+        if self.paragraphs.add(digest)? {
+            self.text.push_str(self.paragraph.as_str())?;
+        }
+        Ok(())
+    }
+
+    /// Makes the document with this number. It replaces the one before.
+    fn make(&mut self, number: usize) -> io::Result<()> {
+        let mut maker = TextMaker::new(self.seed, number);
+        let script = SCRIPTS[number % 8];
+        self.text.clear();
+        for _ in 0..DOCUMENT_BYTES {
+            if self.text.len() >= DOCUMENT_BYTES {
+                break;
+            }
+            self.push_paragraph(&mut maker, script)?;
+        }
+        Ok(())
+    }
 }
 
 /// Prints a document into `printed`, in place of what was there.
@@ -65,14 +97,13 @@ fn print_each(
     tables: &Tables,
     form: Form,
     count: usize,
-    seed: u64,
-    text: &mut String,
+    maker: &mut DocumentMaker,
     printed: &mut Vec<u8>,
 ) -> io::Result<Digest> {
     let mut digest = Digest::new();
     for number in 0..count {
-        make(text, number, seed)?;
-        print(alloc, tables, form, text.as_str(), printed)?;
+        maker.make(number)?;
+        print(alloc, tables, form, maker.text.as_str(), printed)?;
         digest.add_bytes(printed);
     }
     Ok(digest)
@@ -81,7 +112,7 @@ fn print_each(
 /// Prints so many documents.
 pub fn print_documents(alloc: Global, form: Form, count: usize, seed: u64) -> io::Result<Digest> {
     let tables = tables(alloc)?;
-    let mut text = String::new(alloc);
+    let mut maker = DocumentMaker::new(alloc, seed);
     let mut printed = Vec::new(alloc);
-    print_each(alloc, &tables, form, count, seed, &mut text, &mut printed)
+    print_each(alloc, &tables, form, count, &mut maker, &mut printed)
 }

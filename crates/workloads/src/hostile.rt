@@ -1,6 +1,7 @@
 //! Texts that nobody writes but to be awkward: each is some letters, and then the same few units over and over.
 
 use crate::digest::Digest;
+use crate::inputs::{Inputs, MOST_DRAWS, no_new_input};
 use crate::text_maker::TextMaker;
 use lines::breaks::Breaks;
 use lines::lay_out::lay_out_into;
@@ -13,6 +14,9 @@ use units::level::Direction;
 
 /// The most units of a text.
 const MOST: usize = 65_536;
+
+/// The number of units at the start of a text that, with its length, tell it apart from other texts.
+const START: usize = 128;
 
 /// How many texts there are, and how many units each has at least: from half of this number to all of it.
 #[derive(Clone, Copy)]
@@ -146,24 +150,52 @@ fn push_stretches(units: &mut Vec<Unit>, stretch: &[Unit], least: usize) -> io::
     Ok(())
 }
 
-/// Makes the text of this number, in place of what was there, of half as many units as these or more.
+/// Draws a text of at least half as many units as `most`: letters, and then a stretch again and again. It replaces what
+/// was in `units`.
+fn draw(
+    maker: &mut TextMaker,
+    stretch: &[Unit],
+    most: usize,
+    units: &mut Vec<Unit>,
+) -> io::Result<()> {
+    let least = (most / 2).saturating_add(maker.below(most / 2));
+    let letters = 8 + maker.below(64);
+    units.clear();
+    push_letters(units, letters, maker)?;
+    push_stretches(units, stretch, least)
+}
+
+/// Returns the digest of a text's length and of the classes at its start.
+fn digest_of(units: &[Unit]) -> Digest {
+    let mut digest = Digest::new();
+    digest.add_size(units.len());
+    for unit in units.iter().take(START) {
+        digest.add_bytes(unit.class.short().as_bytes());
+    }
+    digest
+}
+
+/// Makes the text with this number, which differs from all earlier ones. It replaces what was in `units`.
 fn make(
     alloc: Global,
     number: usize,
     seed: u64,
     most: usize,
     units: &mut Vec<Unit>,
+    texts: &mut Inputs,
 ) -> io::Result<()> {
     let mut maker = TextMaker::new(seed, number);
-    let least = (most / 2).saturating_add(maker.below(most / 2));
-    let letters = 8 + maker.below(64);
-    units.clear();
-    push_letters(units, letters, &mut maker)?;
     let stretch = stretch(alloc, PATTERNS[number % 9])?;
-    push_stretches(units, &stretch, least)
+    for _ in 0..MOST_DRAWS {
+        draw(&mut maker, &stretch, most, units)?;
+        if texts.add(digest_of(units))? {
+            return Ok(());
+        }
+    }
+    Err(no_new_input())
 }
 
-/// Lays a text out, and tells its levels and its order.
+/// Lays out a text, and adds the levels of its paragraphs, its levels and its order to the digest.
 fn lay_out(room: &mut Scratch, text: &[Unit], digest: &mut Digest) -> io::Result<()> {
     let Ok(breaks) = Breaks::new(&[], text.len()) else {
         return Err(io::ErrorKind::InvalidData.into());
@@ -172,6 +204,7 @@ fn lay_out(room: &mut Scratch, text: &[Unit], digest: &mut Digest) -> io::Result
         return Err(io::ErrorKind::InvalidData.into());
     };
     let layout = room.layout();
+    digest.add_para_levels(layout.para_levels());
     digest.add_levels(layout.levels());
     for k in 0..layout.line_count() {
         digest.add_sizes(layout.line(k).order);
@@ -188,8 +221,9 @@ fn lay_out_each(
     room: &mut Scratch,
 ) -> io::Result<Digest> {
     let mut digest = Digest::new();
+    let mut texts = Inputs::new(alloc);
     for number in 0..amount.texts {
-        make(alloc, number, seed, amount.units, units)?;
+        make(alloc, number, seed, amount.units, units, &mut texts)?;
         lay_out(room, units, &mut digest)?;
     }
     Ok(digest)

@@ -4,6 +4,7 @@ ghost use Rattle.lines.specs.Scratches.{IsFilled};
 
 use crate::digest::Digest;
 use crate::documents::tables;
+use crate::inputs::Inputs;
 use crate::script::SCRIPTS;
 use crate::text_maker::TextMaker;
 use encoded::runs::ordered_line;
@@ -29,6 +30,9 @@ const STRETCH_WORDS: usize = 1_000;
 /// How many characters the longest paragraph has.
 const MOST_LENGTH: usize = 9_100;
 
+/// The number of characters at the start of a paragraph that, with its length, tell it apart from other paragraphs.
+const START: usize = 64;
+
 /// What is used again and again.
 #[derive(Drop)]
 struct Typesetter {
@@ -36,6 +40,7 @@ struct Typesetter {
     breaks: Vec<usize>,
     room: Scratch,
     maker: TextMaker,
+    paragraphs: Inputs,
 }
 
 /// A text of so many characters and some more, of all scripts.
@@ -86,19 +91,31 @@ impl Typesetter {
             breaks: Vec::new(alloc),
             room,
             maker: TextMaker::new(seed, 1),
+            paragraphs: Inputs::new(alloc),
         })
     }
 
-    /// Tells the levels of the paragraph, and its lines run by run.
+    /// Returns whether no earlier paragraph has the length and the start of this one.
+    fn is_new(&mut self, text: &[char]) -> io::Result<bool> {
+        let mut digest = Digest::new();
+        digest.add_size(text.len());
+        digest.add_characters(text.get(..START).unwrap_or(text));
+        self.paragraphs.add(digest)
+    }
+
+    /// Adds the level of the paragraph to the digest, and of each line the levels, the runs and the order.
     fn tell(&self, para_level: ParaLevel, digest: &mut Digest)
         requires { IsFilled self.now.room }
     {
         let layout = self.room.layout();
+        digest.add_para_levels(layout.para_levels());
         for k in 0..layout.line_count() {
+            digest.add_levels(layout.line(k).levels);
             for run in Runs::of(ordered_line(&layout, k, para_level)) {
                 digest.add_size(run.start);
                 digest.add_size(run.end);
                 digest.add_level(Some(run.level));
+                digest.add_size(run.shown);
             }
             digest.add_sizes(layout.line(k).order);
         }
@@ -131,7 +148,7 @@ impl Typesetter {
     }
 }
 
-/// Lays out the paragraphs of a pass over a text.
+/// Lays out the paragraphs of a pass over a text. Leaves out one that may equal an earlier one.
 fn lay_out_pass(
     tables: &Tables,
     text: &[char],
@@ -140,7 +157,9 @@ fn lay_out_pass(
     digest: &mut Digest,
 ) -> io::Result<()> {
     for paragraph in text.chunks_exact(length.max(1)) {
-        typesetter.lay_out(tables, paragraph, digest)?;
+        if typesetter.is_new(paragraph)? {
+            typesetter.lay_out(tables, paragraph, digest)?;
+        }
     }
     Ok(())
 }

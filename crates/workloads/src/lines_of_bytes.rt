@@ -3,6 +3,7 @@
 
 use crate::digest::Digest;
 use crate::documents::tables;
+use crate::inputs::{Inputs, MOST_DRAWS, no_new_input};
 use crate::script::SCRIPTS;
 use crate::text_maker::TextMaker;
 use encoded::room::Room;
@@ -29,12 +30,14 @@ impl Editor {
         Editor { room, order, runs }
     }
 
-    /// Tells the only line from left to right, by runs and by characters.
+    /// Adds the level of the paragraph to the digest, and of its only line the levels, the runs and the order.
     fn tell(&mut self, digest: &mut Digest) {
         let layout = self.room.layout();
         if layout.line_count() == 0 {
             return;
         }
+        digest.add_para_levels(layout.para_levels());
+        digest.add_levels(layout.line(0).levels);
         let para_level = layout.para_levels().first().copied();
         let para_level = para_level.unwrap_or(ParaLevel::Zero);
         let runs = self.room.write_runs(0, para_level, &mut self.runs);
@@ -42,6 +45,7 @@ impl Editor {
             digest.add_size(run.start);
             digest.add_size(run.end);
             digest.add_level(Some(run.level));
+            digest.add_size(run.shown);
         }
         let shown = self.room.write_order(0, &mut self.order);
         digest.add_sizes(self.order.get(..shown).unwrap_or(&[]));
@@ -79,11 +83,36 @@ impl Editor {
     }
 }
 
-/// Makes a line, of which each script has some, in place of what was there.
-fn make(maker: &mut TextMaker, number: usize, line: &mut String) -> io::Result<()> {
-    line.clear();
-    let count = 2 + maker.below(24);
-    maker.push_words(SCRIPTS[number / 64 % 8], count, line)
+/// Makes lines, some in each script. All lines differ.
+#[derive(Drop)]
+struct LineMaker {
+    maker: TextMaker,
+    line: String,
+    lines: Inputs,
+}
+
+impl LineMaker {
+    fn new(alloc: Global, seed: u64) -> LineMaker {
+        LineMaker {
+            maker: TextMaker::new(seed, 2),
+            line: String::new(alloc),
+            lines: Inputs::new(alloc),
+        }
+    }
+
+    /// Makes the line with this number. It replaces the one before.
+    fn make(&mut self, number: usize) -> io::Result<()> {
+        let script = SCRIPTS[number / 64 % 8];
+        let count = 2 + self.maker.below(24);
+        for _ in 0..MOST_DRAWS {
+            self.line.clear();
+            self.maker.push_words(script, count, &mut self.line)?;
+            if self.lines.add(Digest::of_bytes(self.line.as_bytes()))? {
+                return Ok(());
+            }
+        }
+        Err(no_new_input())
+    }
 }
 
 /// A run, of which lists are made.
@@ -108,14 +137,13 @@ fn room(alloc: Global) -> io::Result<Room> {
 fn edit_each(
     tables: &Tables,
     count: usize,
-    maker: &mut TextMaker,
-    line: &mut String,
+    lines: &mut LineMaker,
     editor: &mut Editor,
 ) -> io::Result<Digest> {
     let mut digest = Digest::new();
     for number in 0..count {
-        make(maker, number, line)?;
-        editor.edit(tables, line.as_str(), maker, &mut digest)?;
+        lines.make(number)?;
+        editor.edit(tables, lines.line.as_str(), &mut lines.maker, &mut digest)?;
     }
     Ok(digest)
 }
@@ -124,14 +152,13 @@ fn edit_each(
 fn edit_with(
     tables: &Tables,
     count: usize,
-    maker: &mut TextMaker,
-    line: &mut String,
+    lines: &mut LineMaker,
     order: Vec<usize>,
     runs: Vec<EncodedRun>,
     room: Room,
 ) -> io::Result<Digest> {
     let mut editor = Editor::new(room, order, runs);
-    edit_each(tables, count, maker, line, &mut editor)
+    edit_each(tables, count, lines, &mut editor)
 }
 
 /// Lays out so many lines one by one, by these tables.
@@ -139,20 +166,18 @@ fn edit_lines(
     alloc: Global,
     tables: &Tables,
     count: usize,
-    maker: &mut TextMaker,
-    line: &mut String,
+    lines: &mut LineMaker,
 ) -> io::Result<Digest> {
     let run = no_run()?;
     let order = Vec::from_elem(alloc, 0, MOST_BYTES)?;
     let runs = Vec::from_elem(alloc, run, MOST_BYTES)?;
     let room = room(alloc)?;
-    edit_with(tables, count, maker, line, order, runs, room)
+    edit_with(tables, count, lines, order, runs, room)
 }
 
 /// Lays out so many lines one by one.
 pub fn lay_out_lines(alloc: Global, count: usize, seed: u64) -> io::Result<Digest> {
     let tables = tables(alloc)?;
-    let mut maker = TextMaker::new(seed, 2);
-    let mut line = String::new(alloc);
-    edit_lines(alloc, &tables, count, &mut maker, &mut line)
+    let mut lines = LineMaker::new(alloc, seed);
+    edit_lines(alloc, &tables, count, &mut lines)
 }

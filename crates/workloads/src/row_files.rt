@@ -3,6 +3,7 @@
 
 use crate::digest::Digest;
 use crate::documents::tables;
+use crate::inputs::{Inputs, MOST_DRAWS, no_new_input};
 use bidtests::judge::Judge;
 use bidtests::kind::Kind;
 use bidtests::verdict_line::print_verdict;
@@ -24,14 +25,14 @@ use units::slice_source::SliceSource;
 /// How many texts a file has.
 const TEXTS: usize = 400;
 
-/// The forms of hard texts.
+/// The forms of hard texts. The last one is of characters only, since classes carry no brackets.
 const FORMS: [Form; 6] = [
     Form::Nest,
-    Form::Brackets,
     Form::Marks,
     Form::Numbers,
     Form::Isolates,
     Form::Separators,
+    Form::Brackets,
 ];
 
 const DIRECTIONS: [Direction; 3] = [Direction::Auto, Direction::Ltr, Direction::Rtl];
@@ -50,8 +51,15 @@ fn letters_of(alloc: Global, kind: Kind<'_>, form: Form) -> io::Result<Vec<Lette
     letters.map_err(|_| refused())
 }
 
-/// Writes a file of this kind of texts of this form, in place of what was there. There are no brackets among classes,
-/// so the file is empty then.
+/// Returns the form of the file with this number and kind.
+fn form_of(number: usize, kind: Kind<'_>) -> Form {
+    match kind {
+        Kind::Classes => FORMS[number / 2 % 5],
+        Kind::Characters(_) => FORMS[number / 2 % 6],
+    }
+}
+
+/// Writes a file of this kind of texts of this form, in place of what was there.
 fn write_file(
     alloc: Global,
     kind: Kind<'_>,
@@ -62,9 +70,30 @@ fn write_file(
     file.clear();
     let letters = letters_of(alloc, kind, form)?;
     let Ok(texts) = Random::new(&letters, 1, 48, seed, TEXTS) else {
-        return Ok(());
+        return Err(refused());
     };
     print_random(alloc, file, kind, &texts, &DIRECTIONS).map_err(|_| refused())
+}
+
+/// Writes the file with this number and kind, which differs from all earlier ones and is not empty. It replaces what
+/// was in `file`.
+fn write_new_file(
+    alloc: Global,
+    kind: Kind<'_>,
+    number: usize,
+    seed: u64,
+    file: &mut Vec<u8>,
+    files: &mut Inputs,
+) -> io::Result<()> {
+    let seed = seed.wrapping_mul(65_536).wrapping_add(number as u64);
+    for draw in 0..MOST_DRAWS {
+        let seed = seed.wrapping_add(draw << 48);
+        write_file(alloc, kind, form_of(number, kind), seed, file)?;
+        if !file.is_empty() && files.add(Digest::of_bytes(file))? {
+            return Ok(());
+        }
+    }
+    Err(no_new_input())
 }
 
 /// Judges a file that comes in pieces, and adds the line of the verdict.
@@ -98,6 +127,7 @@ fn work_on(
     number: usize,
     seed: u64,
     file: &mut Vec<u8>,
+    files: &mut Inputs,
     digest: &mut Digest,
 ) -> io::Result<()> {
     let kind = if number % 2 == 0 {
@@ -105,8 +135,7 @@ fn work_on(
     } else {
         Kind::Classes
     };
-    let seed = seed.wrapping_mul(65_536).wrapping_add(number as u64);
-    write_file(alloc, kind, FORMS[number / 2 % 6], seed, file)?;
+    write_new_file(alloc, kind, number, seed, file, files)?;
     let mut told = Vec::new(alloc);
     if number / 12 % 2 == 0 {
         judge(alloc, kind, file, &mut told)?;
@@ -122,9 +151,18 @@ fn work_on(
 pub fn judge_files(alloc: Global, count: usize, seed: u64) -> io::Result<Digest> {
     let tables = tables(alloc)?;
     let mut file = Vec::new(alloc);
+    let mut files = Inputs::new(alloc);
     let mut digest = Digest::new();
     for number in 0..count {
-        work_on(alloc, &tables, number, seed, &mut file, &mut digest)?;
+        work_on(
+            alloc,
+            &tables,
+            number,
+            seed,
+            &mut file,
+            &mut files,
+            &mut digest,
+        )?;
     }
     Ok(digest)
 }
