@@ -130,7 +130,7 @@ def crates_here():
 
 
 def all_below(name, named):
-    """Returns the crates of the repository that a crate stands on, by way of others too."""
+    """Returns the crates of the repository that a crate depends on, directly or not."""
     found, left = set(), list(named[name])
     while left:
         dep = left.pop()
@@ -257,7 +257,7 @@ def parts_of(path):
 
 def goals_of(crate, texts, said):
     """Returns the functions with an open goal of a contract, by path, and one such goal of each; and those of which a
-    proof file is refused for anything else, as a name that is gone."""
+    proof file is rejected for anything else, such as a missing name."""
     found = re.findall(OPEN.format(crate.name), said, re.M)
     goals = {parts_of(path.split("::")): goal for path, goal in found if not OF_PROOF.match(goal)}
     lost = set()

@@ -20,7 +20,7 @@ CODE = """//! Numbers.
 ghost use Rattle.small.specs.Same.{same_as};
 ghost use Rattle.std.specs.Prelude.{◌≡◌, ◌≤◌};
 
-/// Answers the number that it is handed.
+/// Returns its argument.
 pub fn same(x: usize) -> usize
     ensures { result ≡ same_as x }
 {
