@@ -1,4 +1,4 @@
--- W1 to W7 over classes that they leave as they are: what is known behind them, told by the last one alone where the last
+-- W1 to W7 over classes that they leave unchanged: what is known after them follows from the last one of them if the last
 -- strong class stays.
 use Rattle.std.specs.Prelude.{true, false, ℕ, zero, suc, ◌+◌, ◌-◌, ◌<◌, ◌≤◌, ◌≡◌, List, ◌∷◌, length, slice_index, if◌then◌else◌, refl}
 use Rattle.std.proofs.Common.{arith, ap, sym, subst, ◌∙◌, take, drop}
@@ -9,8 +9,8 @@ use Rattle.units.specs.declared.class.Class.{Class}
 use Rattle.units.specs.declared.class.Class.TheVariants.{L, R, AL, EN, ES, ET, CS, NSM, ON}
 use Rattle.sequences.specs.Links.{ArePositions}
 use Rattle.resolve.specs.Ahead.{first_class}
-use Rattle.resolve.specs.ClassSets.{is_passed, stands_alone}
-use Rattle.resolve.specs.Contexts.{by_w4_w5, settled_by, context_past, by_context, kept_past, past_passed, owed_in}
+use Rattle.resolve.specs.ClassSets.{is_context_free, is_passed}
+use Rattle.resolve.specs.Contexts.{by_w4_w5, settled_by, context_past, by_context, context_past_run, kept_past, owed_in}
 use Rattle.resolve.specs.Sought.{may_weaken}
 use Rattle.resolve.specs.ThroughW3.{by_w1_to_w3, preceding_past, all_by_w1_to_w3, is_no_terminator}
 use Rattle.resolve.specs.declared.preceding.Preceding.{Preceding}
@@ -19,15 +19,15 @@ use Rattle.resolve.proofs.ByKind.{owes_not_here}
 use Rattle.resolve.proofs.Idle.{by_w1-idle, by_w2-idle, by_w3-idle, by_w4_w5-idle, by_context-idle}
 use Rattle.resolve.proofs.Walked.{Walk, WalkSteps, walk_next, walk_steps_next}
 
--- what stands alone is AL or left as it is
-pub alone-idle : (c : Class) → stands_alone c ≡ true → (c ≡ AL → ⊥) → may_weaken c ≡ false
-alone-idle AL h other = absurd (other refl)
-alone-idle EN h other = cc
-alone-idle ES h other = cc
-alone-idle ET h other = cc
-alone-idle CS h other = cc
-alone-idle NSM h other = cc
-alone-idle c h other = refl
+-- a class that needs no context is AL or unchanged
+pub context_free_idle : (c : Class) → is_context_free c ≡ true → (c ≡ AL → ⊥) → may_weaken c ≡ false
+context_free_idle AL h other = absurd (other refl)
+context_free_idle EN h other = cc
+context_free_idle ES h other = cc
+context_free_idle ET h other = cc
+context_free_idle CS h other = cc
+context_free_idle NSM h other = cc
+context_free_idle c h other = refl
 
 -- W1 to W7 make R of AL, whatever is known before it and comes behind it
 by_w2-letter : (strong : Class) → by_w2 strong AL ≡ AL
@@ -170,38 +170,38 @@ module _ {begin : Context} {ps : List ℕ} {start now : List Class} {x : Context
 module _ {begin : Context} {ps : List ℕ} {start now : List Class} {x : Context} {k : ℕ} (w : Walk by_context context_past begin ps start now x k) where
   -- what is known one index further on
   known_further : (n : ℕ) → ((i : ℕ) → k ≤ i → i < k + suc n → is_passed x.preceding.strong (class_at now (slice_index ps i)) ≡ true) →
-      past_passed x ps k (suc n) now ≡ kept_past (past_passed x ps k n now) (class_at now (slice_index ps (k + n)))
+      context_past_run x ps k (suc n) now ≡ kept_past (context_past_run x ps k n now) (class_at now (slice_index ps (k + n)))
   known_further zero h = refl
   known_further (suc m) h =
       sym (kept_twice x (class_at now (slice_index ps (k + m))) (class_at now (slice_index ps (k + suc m))) (h (k + m) (omega arith) (omega arith)) (h (k + suc m) (omega arith) (omega arith)))
 
   -- the walk goes on over what is passed
-  pub walk_past_passed : (n : ℕ) → k + n ≤ length ps → ((i : ℕ) → k ≤ i → i < k + n → is_passed x.preceding.strong (class_at now (slice_index ps i)) ≡ true) →
-      Walk by_context context_past begin ps start now (past_passed x ps k n now) (k + n)
-  walk_past_passed zero within h = let e : k ≡ k + 0 = omega arith in subst (λ m. Walk by_context context_past begin ps start now x m) e w
-  walk_past_passed (suc n) within h =
-      let before : Walk by_context context_past begin ps start now (past_passed x ps k n now) (k + n) = walk_past_passed n (omega arith) (λ i low high. h i low (omega arith)) in
+  pub walk_past_run : (n : ℕ) → k + n ≤ length ps → ((i : ℕ) → k ≤ i → i < k + n → is_passed x.preceding.strong (class_at now (slice_index ps i)) ≡ true) →
+      Walk by_context context_past begin ps start now (context_past_run x ps k n now) (k + n)
+  walk_past_run zero within h = let e : k ≡ k + 0 = omega arith in subst (λ m. Walk by_context context_past begin ps start now x m) e w
+  walk_past_run (suc n) within h =
+      let before : Walk by_context context_past begin ps start now (context_past_run x ps k n now) (k + n) = walk_past_run n (omega arith) (λ i low high. h i low (omega arith)) in
       let inside : k + n < length ps = omega arith in
       let idle : may_weaken (class_at now (slice_index ps (k + n))) ≡ false = passed-idle x.preceding.strong (class_at now (slice_index ps (k + n))) (h (k + n) (omega arith) (omega arith)) in
       let e : k + n + 1 ≡ k + suc n = omega arith in
-      subst (λ m. Walk by_context context_past begin ps start now (past_passed x ps k (suc n) now) m) e
-      (walk_kept before inside idle (past_passed x ps k (suc n) now) (known_further n h))
+      subst (λ m. Walk by_context context_past begin ps start now (context_past_run x ps k (suc n) now) m) e
+      (walk_kept before inside idle (context_past_run x ps k (suc n) now) (known_further n h))
 
   -- a step for each
-  pub walk_steps_past_passed : (first last : ℕ) → WalkSteps owed_in (classes_at start ps) x k first last →
+  pub walk_steps_past_run : (first last : ℕ) → WalkSteps owed_in (classes_at start ps) x k first last →
       (n : ℕ) → k + n ≤ length ps → ((i : ℕ) → k ≤ i → i < k + n → is_passed x.preceding.strong (class_at now (slice_index ps i)) ≡ true) →
-      WalkSteps owed_in (classes_at start ps) (past_passed x ps k n now) (k + n) first (last + n)
-  walk_steps_past_passed first last s zero within h =
+      WalkSteps owed_in (classes_at start ps) (context_past_run x ps k n now) (k + n) first (last + n)
+  walk_steps_past_run first last s zero within h =
       let e : k ≡ k + 0 = omega arith in
       let f : last ≡ last + 0 = omega arith in
       subst (λ m. WalkSteps owed_in (classes_at start ps) x m first (last + 0)) e (subst (λ m. WalkSteps owed_in (classes_at start ps) x k first m) f s)
-  walk_steps_past_passed first last s (suc n) within h =
-      let before : Walk by_context context_past begin ps start now (past_passed x ps k n now) (k + n) = walk_past_passed n (omega arith) (λ i low high. h i low (omega arith)) in
+  walk_steps_past_run first last s (suc n) within h =
+      let before : Walk by_context context_past begin ps start now (context_past_run x ps k n now) (k + n) = walk_past_run n (omega arith) (λ i low high. h i low (omega arith)) in
       let inside : k + n < length ps = omega arith in
       let idle : may_weaken (class_at now (slice_index ps (k + n))) ≡ false = passed-idle x.preceding.strong (class_at now (slice_index ps (k + n))) (h (k + n) (omega arith) (omega arith)) in
-      let less = walk_steps_past_passed first last s n (omega arith) (λ i low high. h i low (omega arith)) in
+      let less = walk_steps_past_run first last s n (omega arith) (λ i low high. h i low (omega arith)) in
       let e : k + n + 1 ≡ k + suc n = omega arith in
       let f : last + n + 1 ≡ last + suc n = omega arith in
-      subst (λ m. WalkSteps owed_in (classes_at start ps) (past_passed x ps k (suc n) now) m first (last + suc n)) e
-      (subst (λ m. WalkSteps owed_in (classes_at start ps) (past_passed x ps k (suc n) now) (k + n + 1) first m) f
-      (walk_steps_kept before inside idle (past_passed x ps k (suc n) now) (known_further n h) first (last + n) less))
+      subst (λ m. WalkSteps owed_in (classes_at start ps) (context_past_run x ps k (suc n) now) m first (last + suc n)) e
+      (subst (λ m. WalkSteps owed_in (classes_at start ps) (context_past_run x ps k (suc n) now) (k + n + 1) first m) f
+      (walk_steps_kept before inside idle (context_past_run x ps k (suc n) now) (known_further n h) first (last + n) less))

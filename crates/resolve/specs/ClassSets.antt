@@ -43,12 +43,12 @@ is_leaning L L = true
 is_leaning R R = true
 is_leaning direction c = is_neutral c
 
--- what W1 to W7 make the same of, wherever it stands: R of AL, and each other is left as it is
-abbrev pub stands_alone : Class → Bool
-stands_alone AL = true
-stands_alone c = not (may_weaken c)
+-- what W1 to W7 change in the same way in every context: AL becomes R, the others are unchanged
+abbrev pub is_context_free : Class → Bool
+is_context_free AL = true
+is_context_free c = not (may_weaken c)
 
--- what W1 to W7 leave as it is, and behind which the last strong class is still this one: this class, if it is L or R,
+-- what W1 to W7 leave unchanged, and after which the last strong class is still this one: this class if it is L or R,
 -- a neutral, or AN
 abbrev pub is_passed : Class → Class → Bool
 is_passed strong AN = true

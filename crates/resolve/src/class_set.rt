@@ -1,7 +1,7 @@
 //! Sets of classes.
 ghost use Rattle.std.specs.Prelude.{◌≡◌};
 ghost use Rattle.units.specs.declared.class.Class.{Class as BidiClass};
-ghost use Rattle.resolve.specs.ClassSets.{holds, is_leaning, is_passed, stands_alone};
+ghost use Rattle.resolve.specs.ClassSets.{holds, is_context_free, is_leaning, is_passed};
 
 use units::class::Class;
 
@@ -18,14 +18,14 @@ const NEUTRALS: u32 = 0b111_1000_0011_1100_0000_0000;
 const PASSED: u32 = NEUTRALS | 0b100_0000;
 
 /// All but EN, ES, ET, CS and NSM.
-const ALONE: u32 = 0b111_1111_1111_1110_0100_0111;
+const CONTEXT_FREE: u32 = 0b111_1111_1111_1110_0100_0111;
 
 impl ClassSet {
-    /// The classes of which W1 to W7 make the same wherever they stand: R of AL, and each other is left as it is.
-    pub(crate) fn alone() -> ClassSet
-        ensures { (class : BidiClass) → holds result class ≡ stands_alone class }
+    /// The classes that W1 to W7 change in the same way in every context: AL becomes R, the others are unchanged.
+    pub(crate) fn context_free() -> ClassSet
+        ensures { (class : BidiClass) → holds result class ≡ is_context_free class }
     {
-        ClassSet { bits: ALONE }
+        ClassSet { bits: CONTEXT_FREE }
     }
 
     /// The neutrals, and L or R if it is this direction.
@@ -40,8 +40,8 @@ impl ClassSet {
         ClassSet { bits }
     }
 
-    /// The neutrals, AN, and L or R if it is this last strong class: W1 to W7 leave these as they are, and know behind
-    /// them the same last strong class.
+    /// The neutrals, AN, and L or R if it is this last strong class: W1 to W7 leave these unchanged, and the
+    /// last strong class is the same after them.
     pub(crate) fn passed(strong: Class) -> ClassSet
         ensures { (class : BidiClass) → holds result class ≡ is_passed strong class }
     {
@@ -53,8 +53,7 @@ impl ClassSet {
         ClassSet { bits }
     }
 
-    /// Whether it has this class. No two classes are told apart on the way, so that a loop over classes of several
-    /// kinds has one branch for all of them.
+    /// Whether it has this class. One shift tests any class, so a loop over several kinds of classes has one branch.
     pub(crate) fn holds(self, class: Class) -> bool
         ensures { result ≡ holds self class }
     {

@@ -97,7 +97,7 @@ pub(crate) fn give_direction<L: Ledger>(
 }
 
 /// Passes the positions of a sequence from the index `start` on, as long as they are neutral, AN, or this last strong
-/// class. It answers the index behind them, and takes a step for each.
+/// class. Returns the index after them; each is a step.
 pub(crate) fn pass_over<L: Ledger>(
     positions: &[u32],
     start: usize,
