@@ -153,6 +153,7 @@ pub(crate) fn decode_utf8(
     ensures units_len { length units.new ≡ length units.old }
     ensures starts_len { length starts.new ≡ length starts.old }
     ensures fault { IfErr result (λ at. (IsUtf8 bytes.now → ⊥) × (at ≡ utf8_valid_len bytes.now)) }
+    ensures unchanged { IfErr result (λ _. (units.new ≡ units.old) × (starts.new ≡ starts.old)) }
     ensures well_formed { OnOk result (IsUtf8 bytes.now) }
     ensures decoded { IfOk result (λ count.
         AreDecoded tables.now (utf8_text bytes.now) count units.new starts.new) }

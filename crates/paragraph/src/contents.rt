@@ -209,9 +209,10 @@ fn pass_fours<L: Ledger>(
 }
 
 /// P1: the first paragraph of a text that was scanned up to `start`: `before` are the classes of the units before it,
-/// and `strong` is the first strong one of them (P2). A step for each unit from `start` on. They are passed four at a
-/// time up to the first four that have a separator.
-fn scan_behind<L: Ledger>(
+/// and `strong` is the first strong one of them (P2). Each unit from `start` on is a step. Passes four units at a time
+/// up to the first four that have a separator. Never inlined, so that short paragraphs don't pay for it.
+#[inline(never)]
+fn scan_far<L: Ledger>(
     text: &[Unit],
     start: usize,
     strong: Class,
@@ -245,9 +246,51 @@ fn scan_behind<L: Ledger>(
     }
 }
 
+/// How many units after the first strong one are looked at one by one.
+const NEAR: usize = 16;
+
+/// P1: the first paragraph of a text that was scanned up to `start`: `before` are the classes of the units before it,
+/// and `strong` is the first strong one of them (P2). Each unit from `start` on is a step. Looks at `NEAR` units one by
+/// one, because in a paragraph that ends among them four at a time cost more.
+fn scan_near<L: Ledger>(
+    text: &[Unit],
+    start: usize,
+    strong: Class,
+    before: ClassSet,
+    steps: &mut Steps<L>,
+) -> FirstParagraph
+    requires front { IsFront start before text.now }
+    requires strong { find is_strong (classes_of (take start text.now)) ≡ Some strong }
+    ensures first { IsFirstOf result text.now }
+    ensures within { result.length ≤ length text.now }
+    ensures some { start ≤ result.length }
+    ensures steps { steps.new + start ≡ steps.old + result.length }
+{
+    let side = Side::Unknown.noting(strong);
+    let mut classes = before;
+    for position in start..text.len() {
+        if position - start == NEAR {
+            return scan_far(text, position, strong, classes, steps);
+        }
+        steps.tick();
+        let class = text[position].class;
+        classes = classes.with(class);
+        if class.is_separator() {
+            return FirstParagraph {
+                length: position + 1,
+                contents: Contents { classes, side },
+            };
+        }
+    }
+    FirstParagraph {
+        length: text.len(),
+        contents: Contents { classes, side },
+    }
+}
+
 impl FirstParagraph {
-    /// P1: the first paragraph of a text, and what it contains, a step for each of its units. Behind its first strong
-    /// class only classes and the separator are looked for.
+    /// P1: the first paragraph of a text, and what it contains, a step for each of its units. After its first strong
+    /// class it looks for classes and the separator alone.
     pub fn of<L: Ledger>(text: &[Unit], steps: &mut Steps<L>) -> FirstParagraph
         ensures first { IsFirstOf result text.now }
         ensures within { result.length ≤ length text.now }
@@ -267,7 +310,7 @@ impl FirstParagraph {
                 };
             }
             if class.is_strong() {
-                return scan_behind(text, k + 1, class, classes, steps);
+                return scan_near(text, k + 1, class, classes, steps);
             }
         }
         FirstParagraph {

@@ -24,10 +24,10 @@ returns-then-is_separator-clause-first g c =
       };
     }
 
-pub scan_behind-requires-clause-front : goal.scan_behind-requires-clause-front
-scan_behind-requires-clause-front g c =
+pub scan_near-requires-clause-front : goal.scan_near-requires-clause-front
+scan_near-requires-clause-front g c =
     front_more c.loop-k.invariant.front c.loop-k-test.true (sym c.is_separator.ensures ∙ c.if-is_separator.false) (c.with-classes.ensures _ c.loop-k.invariant.front.set)
 
-pub scan_behind-requires-clause-strong : goal.scan_behind-requires-clause-strong
-scan_behind-requires-clause-strong g c =
+pub scan_near-requires-clause-strong : goal.scan_near-requires-clause-strong
+scan_near-requires-clause-strong g c =
     strong_found c.args.text.now c.loop-k.k no_unit c.loop-k-test.true (sym c.is_strong.ensures ∙ c.if-is_strong.true) c.loop-k.invariant.strong

@@ -2,7 +2,7 @@ use Rattle.std.proofs.Common.{◌≡◌, ◌+◌, take}
 use Rattle.std.specs.Prelude.{find, Some}
 use Rattle.units.specs.Classes.{classes_of, is_strong}
 use Rattle.paragraph.specs.Contents.{IsFront}
-use Rattle.paragraph.proofs.contents.scan_behind.Given as goal
+use Rattle.paragraph.proofs.contents.scan_far.Given as goal
 
 abbrev pub invariant-loop-p : goal.invariant-loop-p
 invariant-loop-p g l = record {

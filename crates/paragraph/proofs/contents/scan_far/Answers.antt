@@ -2,7 +2,7 @@ use Rattle.std.proofs.Common.{arith, ap, refl, sym, ◌+◌, ◌∙◌, ℕ}
 use Rattle.units.specs.Layout.{no_unit}
 use Rattle.paragraph.specs.FirstSides.{side_by}
 use Rattle.paragraph.proofs.Scan.{ends_here, front_more, set_more, still_found, still_found_later}
-use Rattle.paragraph.proofs.contents.scan_behind.Goals as goal
+use Rattle.paragraph.proofs.contents.scan_far.Goals as goal
 
 pub loop-p-init : goal.loop-p-init
 loop-p-init g c =
