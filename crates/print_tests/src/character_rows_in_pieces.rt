@@ -53,13 +53,18 @@ fn print_line_positions<W: Write>(w: &mut W, order: &[usize], begun: bool) -> io
     Ok(())
 }
 
+/// Whether a position was written, behind those of a line.
+fn has_begun(begun: bool, order: &[usize]) -> bool {
+    begun || !order.is_empty()
+}
+
 /// Writes the orders of all lines, one behind another, a blank between each two positions.
 fn print_orders_between<W: Write>(w: &mut W, layout: &Layout<'_>) -> io::Result<()> {
     let mut begun = false;
     for k in 0..layout.line_count() {
         let order = layout.line(k).order;
         print_line_positions(w, order, begun)?;
-        begun |= !order.is_empty();
+        begun = has_begun(begun, order);
     }
     Ok(())
 }

@@ -149,6 +149,11 @@ fn levels_of_long_texts_as_at_first(rt: HostRuntime) -> Result<(), Fail> {
 }
 
 #[test]
+fn levels_of_many_paragraphs_as_at_first(rt: HostRuntime) -> Result<(), Fail> {
+    agree(&rt, rt.alloc(), &[&['\r']; 12], Form::Levels)
+}
+
+#[test]
 fn lines_as_at_first(rt: HostRuntime) -> Result<(), Fail> {
     for columns in [0, 1, 2, 5] {
         let columns = NonZeroU16::new(columns);
