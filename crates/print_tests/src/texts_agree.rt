@@ -150,7 +150,8 @@ fn levels_of_long_texts_as_at_first(rt: HostRuntime) -> Result<(), Fail> {
 
 #[test]
 fn levels_of_many_paragraphs_as_at_first(rt: HostRuntime) -> Result<(), Fail> {
-    agree(&rt, rt.alloc(), &[&['\r']; 12], Form::Levels)
+    let paragraph: &[char] = &['\r'];
+    agree(&rt, rt.alloc(), &[paragraph; 12], Form::Levels)
 }
 
 #[test]
