@@ -240,6 +240,26 @@ wait $!
 is 'status of a row in a pipe that stays open' 0 $?
 is 'a row in a pipe that stays open' "$row" "$found"
 
+# FILE is opened and read once: it names a pipe into which its text is written once. Who opens it again waits in vain.
+mkfifo once
+once() {
+    local text=$1 out=$2
+    shift 2
+    timeout 20 cat "$text" > once &
+    timeout 20 "$program" "$@" once > found_out 2> found_err
+    is "status of $* of a pipe" 0 $?
+    is "standard output of $* of a pipe" "$out" "$(cat found_out)"
+    is "standard error of $* of a pipe" '' "$(cat found_err)"
+    wait $!
+}
+once row.txt "$row" explain --row 3 --kind classes
+once text.txt '05D0 0020 0028 0061;1;1;1 1 1 2;3 2 1 0' rows --directions rtl --of
+once text.txt $'paragraph 0 level 1: R at 0\n'"$explained" explain
+once yes.txt 'yes: 1 rows, 1 cases' judge --kind classes
+"$program" rows --directions rtl --of - < text.txt > found_out 2> found_err
+is 'status of rows of standard input' 0 $?
+is 'rows of standard input' '05D0 0020 0028 0061;1;1;1 1 1 2;3 2 1 0' "$(cat found_out)"
+
 # Texts as long as a file can be, printed, with one of a quarter of that and one character more, and one of 1,048,576
 # characters explained.
 head -c 16777216 /dev/zero | tr '\0' a > most.txt
