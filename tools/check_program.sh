@@ -245,7 +245,7 @@ mkfifo once
 once() {
     local text=$1 out=$2
     shift 2
-    timeout 20 cat "$text" > once &
+    timeout 20 sh -c 'cat "$1" > once' sh "$text" &
     timeout 20 "$program" "$@" once > found_out 2> found_err
     is "status of $* of a pipe" 0 $?
     is "standard output of $* of a pipe" "$out" "$(cat found_out)"
