@@ -53,7 +53,7 @@ fn print_line_positions<W: Write>(w: &mut W, order: &[usize], begun: bool) -> io
     Ok(())
 }
 
-/// Whether a position was written, behind those of a line.
+/// Whether a position was written, in an earlier line or in this one.
 fn has_begun(begun: bool, order: &[usize]) -> bool {
     begun || !order.is_empty()
 }
