@@ -240,7 +240,7 @@ wait $!
 is 'status of a row in a pipe that stays open' 0 $?
 is 'a row in a pipe that stays open' "$row" "$found"
 
-# FILE is opened and read once: it names a pipe into which its text is written once. Who opens it again waits in vain.
+# FILE is opened and read once. Here it is a pipe into which its text is written once, so a second read finds nothing.
 mkfifo once
 once() {
     local text=$1 out=$2
