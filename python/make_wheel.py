@@ -1,18 +1,42 @@
 """Makes the wheel of bidi_proved for pip: the package, and in it the shared object of the library.
 
 The shared object is the one that tools/c/build_library.sh or tools/c/build_shared.sh made, or that BIDI_LIBRARY names.
+The same files make the same bytes: all times in the wheel are that of SOURCE_DATE_EPOCH, or else 1980.
 """
 import base64
 import hashlib
 import os
 import pathlib
 import re
+import time
 import zipfile
 
 HERE = pathlib.Path(__file__).resolve().parent
 PACKAGE = HERE / "bidi_proved"
 TAG = "py3-none-linux_x86_64"
 SONAME = "libbidi_c.so.1"
+SUMMARY = "The Unicode Bidirectional Algorithm (UAX #9), proved, and a judge of its conformance files"
+LICENCES = ("LICENSE-MIT", "LICENSE-APACHE", "LICENSE-UNICODE", "NOTICES")
+METADATA = """Metadata-Version: 2.1
+Name: bidi_proved
+Version: {version}
+Summary: {summary}
+Author: The Dafnyrg authors
+License: MIT OR Apache-2.0
+{licences}Keywords: unicode,bidi,bidirectional,rtl,uax9
+Classifier: Operating System :: POSIX :: Linux
+Classifier: Programming Language :: Python :: 3
+Classifier: Topic :: Text Processing :: Linguistic
+Requires-Python: >=3.8
+Description-Content-Type: text/plain
+
+bidi_proved lays out texts by the Unicode Bidirectional Algorithm (UAX #9, rules P1 to L2 and L4), and judges and
+reports on its conformance files. The library in it is proved; the module is tested. It runs on Linux, on processors of
+level x86-64-v2. docs/PYTHON.md of the source is the manual.
+
+    import bidi_proved as bidi
+    print(bidi.display("a (\u05d3) b", bidi.Tables.standard()))
+"""
 
 
 def version():
@@ -31,13 +55,26 @@ def shared_object():
 
 def contents(info):
     """The wheel's files, by their names in it, without its list of them."""
-    about = f"Metadata-Version: 2.1\nName: bidi_proved\nVersion: {version()}\nRequires-Python: >=3.8\n"
+    names = "".join(f"License-File: {name}\n" for name in licences())
+    about = METADATA.format(version=version(), summary=SUMMARY, licences=names)
     made_by = f"Wheel-Version: 1.0\nGenerator: make_wheel\nRoot-Is-Purelib: false\nTag: {TAG}\n"
-    files = {f"bidi_proved/{file.name}": file.read_bytes() for file in sorted(PACKAGE.glob("*.py"))}
+    sources = [*sorted(PACKAGE.glob("*.py")), PACKAGE / "py.typed"]
+    files = {f"bidi_proved/{file.name}": file.read_bytes() for file in sources}
     files[f"bidi_proved/{SONAME}"] = shared_object().read_bytes()
     files[f"{info}/METADATA"] = about.encode()
     files[f"{info}/WHEEL"] = made_by.encode()
-    return files
+    return {**files, **{f"{info}/{name}": text for name, text in licences().items()}}
+
+
+def licences():
+    """The licences, as far as they are there: pip builds in a copy of this folder alone."""
+    found = ((name, HERE.parent / name) for name in LICENCES)
+    return {name: file.read_bytes() for name, file in found if file.exists()}
+
+
+def written_at():
+    """The time of all files in the wheel."""
+    return time.gmtime(max(int(os.environ.get("SOURCE_DATE_EPOCH") or 0), 315532800))[:6]
 
 
 def listed(name, content):
@@ -54,7 +91,9 @@ def build_wheel(wheel_directory, config_settings=None, metadata_directory=None):
     name = f"bidi_proved-{version()}-{TAG}.whl"
     with zipfile.ZipFile(pathlib.Path(wheel_directory) / name, "w", zipfile.ZIP_DEFLATED) as wheel:
         for path, content in {**files, f"{info}/RECORD": record.encode()}.items():
-            wheel.writestr(path, content)
+            entry = zipfile.ZipInfo(path, written_at())
+            entry.compress_type, entry.external_attr = zipfile.ZIP_DEFLATED, 0o100644 << 16
+            wheel.writestr(entry, content)
     return name
 
 

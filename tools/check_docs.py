@@ -1,31 +1,39 @@
 #!/usr/bin/env python3
 """Runs the transcripts of the documents by the built program, and compares what it writes with what they say.
 
-usage: tools/check_docs.py [FOLDER]      (FOLDER, with the property and test files: /usr/share/unicode)
+usage: tools/check_docs.py [--store] [FOLDER]      (FOLDER, with the property and test files: /usr/share/unicode)
 
 A transcript is a block of a document (README.md and those of docs/) with lines `$ COMMAND`; what stands behind such a
 line, up to the next one, is what the command writes to a terminal. Commands that begin with one of the words in RUN
 are run by bash, those of a document one after another in one folder; others are passed over. A file that no command
 has made is made of what `cat FILE`, or `od -A n -t x1 FILE`, shows of it. `ucd` is a folder with the published
-property files and test files; where FOLDER has none, commands that name it are passed over, and it says so.
+property files and test files; where FOLDER has none, commands that name it are passed over, and it says so. RUN_IN has
+further words for single documents; commands whose tool is not installed are passed over too. Each example in C must be
+part of tools/c/manual.c, where it may be indented.
 
-It ends with 0 where all is as it is written, with 1 where not, and with 2 where the program is missing. It also looks
-whether docs/crates.svg is the drawing of the crates, and docs/layout.svg that of the layout in docs/WALK.md. It runs
-what `rt ci` leaves, or `rt run` in crates/bidi.
+It ends with 0 where all is as it is written, with 1 where not, and with 2 where the program is missing. A drawing that
+a command makes, as docs/layout.svg, is compared with the one of that name in docs/; with --store it is stored there. It
+also looks whether docs/crates.svg is the drawing of the crates. It runs what `rt ci` leaves, or `rt run` in
+crates/bidi.
 """
 
 import bz2
+import collections
 import gzip
 import os
 import pathlib
+import re
+import shutil
 import subprocess
 import sys
 import tempfile
 
 TOP = pathlib.Path(__file__).resolve().parent.parent
-RUN = ("bidi", "cat", "od", "printf", "mkdir")
+RUN = ("bidi", "bidi-draw", "cat", "od", "printf", "mkdir")
+RUN_IN = {"JUDGE.md": ("python3", "gcc", "./harness")}
+TOOLS = {"./harness": "gcc"}  # a program that a command of the document builds, and the tool that builds it
 UCD = ("DerivedBidiClass.txt", "BidiBrackets.txt", "BidiMirroring.txt", "BidiTest.txt", "BidiCharacterTest.txt")
-DRAWERS = ("draw_crates.py", "draw_layout.py")
+STORE = "--store"
 SECONDS = 60
 BYTES = "od -A n -t x1 "
 PACKED = {".gz": gzip.decompress, ".bz2": bz2.decompress}
@@ -82,20 +90,50 @@ def written(command, work, path):
     return [line.rstrip() for line in done.stdout.decode(errors="replace").splitlines()]
 
 
+def wrong_examples(file):
+    """How many examples in C of a document are no part of tools/c/manual.c."""
+    source = (TOP / "tools/c/manual.c").read_text()
+    indented = re.sub("^  ", "", source, flags=re.MULTILINE)
+    examples = re.findall(r"^```c\n(.*?)^```$", file.read_text(), re.MULTILINE | re.DOTALL)
+    wrong = [example for example in examples if example not in source and example not in indented]
+    for example in wrong:
+        print(f"{file.name}: an example is no part of tools/c/manual.c:\n{example}")
+    return len(wrong)
+
+
+def wrong_drawings(work):
+    """How many drawings that the commands of a document made are not those in docs/. With --store it stores them."""
+    wrong = 0
+    for made in sorted(work.glob("*.svg")):
+        stored = TOP / "docs" / made.name
+        if STORE in sys.argv[1:]:
+            stored.write_bytes(made.read_bytes())
+        elif not stored.exists() or stored.read_bytes() != made.read_bytes():
+            wrong += 1
+            print(f"docs/{made.name} is not the drawing that is made: tools/check_docs.py {STORE}")
+    return wrong
+
+
 def run_document(file, folder, program):
-    """Runs the transcripts of a document: how many were run, were wrong, and were passed over for want of files."""
-    ran = wrong = passed = 0
+    """Runs the transcripts of a document: how many ran, how many were wrong, and what the ones passed over lack."""
+    ran, wrong, lacking = 0, 0, []
     with tempfile.TemporaryDirectory() as made:
         work = pathlib.Path(made)
         (work / ".bin").mkdir()
         (work / ".bin/bidi").symlink_to(program)
+        (work / ".bin/bidi-draw").symlink_to(TOP / "tools/bidi-draw")
         has_published = published(folder, work / "ucd")
         path = f"{work / '.bin'}:{os.environ['PATH']}"
         for command, shown in transcripts(file.read_text()):
-            if command.split()[0] not in RUN:
+            word = command.split()[0]
+            if word not in (*RUN, *RUN_IN.get(file.name, ())):
                 continue
+            tool = TOOLS.get(word, word)
             if "ucd" in command and not has_published:
-                passed += 1
+                lacking.append(f"published files in {folder} (package unicode-data)")
+                continue
+            if not shutil.which(tool, path=path):
+                lacking.append(tool)
                 continue
             make_shown(work, command, shown)
             found = written(command, work, path)
@@ -103,23 +141,26 @@ def run_document(file, folder, program):
             if found != [line.rstrip() for line in shown]:
                 wrong += 1
                 print(f"{file.name}: $ {command}\nit says\n" + "\n".join(shown) + "\nfound\n" + "\n".join(found))
-    return ran, wrong, passed
+        wrong += wrong_drawings(work) + wrong_examples(file)
+    return ran, wrong, lacking
 
 
 def main():
-    folder = pathlib.Path(sys.argv[1] if len(sys.argv) > 1 else "/usr/share/unicode")
+    folders = [word for word in sys.argv[1:] if word != STORE]
+    folder = pathlib.Path(folders[0] if folders else "/usr/share/unicode")
     program = TOP / "crates/bidi/out/bidi"
     if not program.exists():
         print(f"no program at {program}: run rt ci, or rt run -- --help in crates/bidi", file=sys.stderr)
         sys.exit(2)
     files = [TOP / "README.md", *sorted((TOP / "docs").glob("*.md"))]
     counts = [run_document(file, folder, program) for file in files]
-    ran, wrong, passed = (sum(column) for column in zip(*counts))
-    drawings = [subprocess.run([TOP / "tools" / tool, "--check"]).returncode for tool in DRAWERS]
-    if passed:
-        print(f"no published files in {folder} (package unicode-data): {passed} commands are not run")
+    ran, wrong = (sum(column) for column in list(zip(*counts))[:2])
+    lacking = collections.Counter(name for _, _, names in counts for name in names)
+    crates = subprocess.run([TOP / "tools/draw_crates.py", "--check"], check=False).returncode
+    for name, count in lacking.items():
+        print(f"no {name}: {count} commands are not run")
     print(f"{ran} commands of the documents, {wrong} wrong")
-    sys.exit(1 if wrong or any(drawings) else 0)
+    sys.exit(1 if wrong or crates else 0)
 
 
 main()

@@ -2,7 +2,7 @@
 # Installs the program and the library for C into folders whose names have blanks, quotes and other signs, below DESTDIR
 # and beside where one stands, and looks at what is there: the program runs, the manual page is the one of docs, and
 # programs in C are built by what pkg-config says, over the archive and over the shared object, and print what is
-# stored. Then it removes everything again. Words that are unknown are refused. Of the manual page no line is wider than
+# stored. Then it removes everything again. Words that are unknown are refused. No line of a manual page is wider than
 # 80 columns. It ends with 0 where all is as it is to be, with 1 where not, and with 2 where the program or the library
 # is missing. Without gcc it does nothing, and says so.
 #
@@ -24,8 +24,6 @@ unset DESTDIR
 wrong=0
 checks=0
 "$tools/c/build_shared.sh" || wrong=1
-parts="bin/bidi include/bidi.h lib/libbidi_c.a lib/libbidi_c.so lib/libbidi_c.so.${version%%.*}
-lib/libbidi_c.so.$version lib/libbidi_c_heap.a lib/pkgconfig/bidi_c.pc share/man/man1/bidi.1"
 
 # is WHAT EXPECTED FOUND: counts a comparison, and says where it fails.
 is() {
@@ -41,8 +39,16 @@ files() {
     (cd "$1" && find . ! -type d | sed 's|^\./||' | LC_ALL=C sort)
 }
 
-# shellcheck disable=SC2086
-expected=$(printf '%s\n' $parts | LC_ALL=C sort)
+# parts LIBDIR: all files that are installed, by name, with this folder of libraries.
+parts() {
+    {
+        printf '%s\n' bin/bidi bin/bidi-draw include/bidi.h share/man/man1/bidi.1 share/man/man1/bidi-draw.1 \
+            "$1/libbidi_c.a" "$1/libbidi_c_heap.a" "$1/pkgconfig/bidi_c.pc" "$1/libbidi_c.so" \
+            "$1/libbidi_c.so.${version%%.*}" "$1/libbidi_c.so.$version"
+        (cd "$top" && printf 'share/doc/bidi/%s\n' LICENSE-* NOTICES ./*.md docs/*.md docs/*.svg | sed 's|/\./|/|')
+    } | LC_ALL=C sort
+}
+libdir=lib
 
 # installs ROOT WORD..: with these words everything is installed below a folder, is what it is to be, and goes again.
 installs() {
@@ -50,16 +56,19 @@ installs() {
     shift
     "$tools/install.sh" "$@" > "$work/said" 2>&1
     is "status of install.sh $*" 0 $?
-    is "what install.sh $* installed" "$expected" "$(files "$root")"
+    is "what install.sh $* installed" "$(parts "$libdir")" "$(files "$root")"
     is "the program in $root" 0 "$("$root/bin/bidi" --version > /dev/null 2>&1; echo $?)"
     is "the manual page in $root" 0 "$(cmp -s "$root/share/man/man1/bidi.1" "$top/docs/bidi.1"; echo $?)"
+    if command -v python3 > /dev/null; then
+        is "bidi-draw in $root" "bidi-draw $version" "$("$root/bin/bidi-draw" --version 2>&1)"
+    fi
 }
 
 # goes ROOT WORD..: with these words all of it is removed, and nothing else.
 goes() {
     local root=$1
     shift
-    touch "$root/lib/other"
+    mkdir -p "$root/lib" && touch "$root/lib/other"
     "$tools/install.sh" --uninstall "$@" > "$work/said" 2>&1
     is "status of install.sh --uninstall $*" 0 $?
     is "what install.sh --uninstall $* left" lib/other "$(files "$root")"
@@ -70,26 +79,45 @@ goes() {
 flags() {
     local prefix=$1
     shift
-    mapfile -d '' said_flags < <(PKG_CONFIG_PATH=$prefix/lib/pkgconfig pkg-config "$@" bidi_c |
+    mapfile -d '' said_flags < <(PKG_CONFIG_PATH=$prefix/$libdir/pkgconfig pkg-config "$@" bidi_c |
         python3 -c 'import shlex, sys; print(*shlex.split(sys.stdin.read()), sep="\0", end="\0")')
 }
 
-# runs PREFIX: the demo, built by what pkg-config says, prints what is stored, over the shared object and the archive.
+# prints NAME WORD..: the demo of this name, begun by these words, prints what is stored.
+prints() {
+    local name=$1
+    shift
+    is "the demo $name" "$(cat "$tools/c/demo.out")" "$("$@" "$tools/c/ucd" 20 < "$tools/c/demo.txt" 2>&1)"
+}
+
+# builds NAME WORD..: a demo, built by these words.
+builds() {
+    local name=$1
+    shift
+    gcc -O2 -o "$name" "$tools/c/demo.c" "$@" 2> "$work/said" || cat "$work/said" >&2
+}
+
+# runs PREFIX: the demo, built by what pkg-config says, prints what is stored, over the shared object, whose folder is
+# named at the start, and over the archives.
 runs() {
-    local prefix=$1 demo=$tools/c/demo word words=()
+    local prefix=$1
     flags "$prefix" --cflags --libs
-    gcc -O2 -o shared_demo "$demo.c" "${said_flags[@]}" 2> "$work/said" || cat "$work/said" >&2
-    is "the demo over the shared object of $prefix" "$(cat "$demo.out")" \
-        "$(LD_LIBRARY_PATH=$prefix/lib ./shared_demo "$tools/c/ucd" 20 < "$demo.txt")"
+    builds shared_demo "${said_flags[@]}"
+    prints "over the shared object of $prefix" env "LD_LIBRARY_PATH=$prefix/$libdir" ./shared_demo
     is "what the demo needs of $prefix" "libbidi_c.so.${version%%.*}" \
         "$(readelf -d shared_demo | sed -n 's/.*NEEDED.*\[\(libbidi_c.*\)\]/\1/p')"
-    for word in "${said_flags[@]}"; do
-        [ "$word" = -lbidi_c ] && word=-l:libbidi_c.a
-        words+=("$word")
-    done
-    gcc -O2 -o archive_demo "$demo.c" "${words[@]}" 2> "$work/said" || cat "$work/said" >&2
-    is "the demo over the archive of $prefix" "$(cat "$demo.out")" "$(./archive_demo "$tools/c/ucd" 20 < "$demo.txt")"
-    is "the version of $prefix" "$version" "$(PKG_CONFIG_PATH=$prefix/lib/pkgconfig pkg-config --modversion bidi_c)"
+    flags "$prefix" --cflags
+    builds archive_demo "${said_flags[@]}" "$prefix/$libdir/libbidi_c.a" "$prefix/$libdir/libbidi_c_heap.a"
+    prints "over the archives of $prefix" ./archive_demo
+    is "the version of $prefix" "$version" \
+        "$(PKG_CONFIG_PATH=$prefix/$libdir/pkgconfig pkg-config --modversion bidi_c)"
+}
+
+# starts PREFIX: the demo that has the folder of the shared object noted in it starts, with no further word.
+starts() {
+    flags "$1" --cflags --libs
+    builds noted_demo "${said_flags[@]}" "-Wl,-rpath,$1/$libdir"
+    prints "with the folder of $1 noted" ./noted_demo
 }
 
 odd="$work/a b'c\"d\$e\${f}&g|h\\i(k)*[l]#m"
@@ -98,8 +126,24 @@ for command in pkg-config readelf python3; do
     command -v "$command" > /dev/null || has_tools=no
 done
 installs "$work/plain" "$work/plain"
-[ "$has_tools" = no ] || runs "$work/plain"
+[ "$has_tools" = no ] || { runs "$work/plain"; starts "$work/plain"; }
 goes "$work/plain" "$work/plain"
+# The shared object is installed whatever its time is, and not if it is of another build of the library.
+shared=$top/crates/bidi_c/out/libbidi_c.so.$version
+touch -r "$top/crates/bidi_c/out/libbidi_c.a" "$shared"
+installs "$work/plain" "$work/plain"
+mv "$shared.of" "$shared.was" && echo other > "$shared.of"
+goes "$work/plain" "$work/plain"
+"$tools/install.sh" "$work/plain" > "$work/said" 2>&1
+is "a shared object of another build" "no 0" \
+    "$([ -e "$work/plain/lib/libbidi_c.so" ] || echo no) $(grep -q 'of another build' "$work/said"; echo $?)"
+mv "$shared.was" "$shared.of"
+goes "$work/plain" "$work/plain"
+libdir="lib/x86_64 linux"
+installs "$work/plain" --libdir "$libdir" "$work/plain"
+[ "$has_tools" = no ] || { runs "$work/plain"; starts "$work/plain"; }
+goes "$work/plain" "--libdir=$work/plain/$libdir" "$work/plain"
+libdir=lib
 installs "$odd" "$odd"
 [ "$has_tools" = no ] || runs "$odd"
 goes "$odd" "$odd"
@@ -128,21 +172,34 @@ refused --unknown
 refused one --uninstall
 refused --uninstall
 refused --uninstall --uninstall one
+refused --libdir one
+refused --libdir
+refused --libdir '' one
+refused --libdir /usr/lib one
+refused --libdir ../lib one
+refused --libdir . one
 refused $'one\ntwo'
 DESTDIR=$work/empty refused relative
 is "what refused words installed" "" "$(files .)"
 is "status of --help" 0 "$("$tools/install.sh" --help > /dev/null; echo $?)"
 
-# The manual page at 80 columns: no line is wider, and in the synopsis no call is broken elsewhere than the page says.
-if command -v man > /dev/null && command -v col > /dev/null; then
-    page=$(LC_ALL=C MANWIDTH=80 man -l "$top/docs/bidi.1" | col -bx)
+# manual NAME: a manual page at 80 columns has no wider line, and in its synopsis no call is broken elsewhere than the
+# page says.
+manual() {
+    local page synopsis
+    page=$(LC_ALL=C MANWIDTH=80 man -l "$top/docs/$1" | col -bx)
     synopsis=$(sed -n '/^SYNOPSIS/,/^DESCRIPTION/p' <<< "$page")
-    is "lines of the manual page above 80 columns" "" "$(grep -E '.{81}' <<< "$page")"
-    is "lines of its synopsis that begin no call" "" "$(grep -E '^ {7}[^ ]' <<< "$synopsis" | grep -v '^ *bidi ')"
-    is "calls of its synopsis" "$(sed -n '/^\.SH SYNOPSIS/,/^\.SH DESCRIPTION/p' "$top/docs/bidi.1" |
-        grep -c '^\.B bidi ')" "$(grep -c '^ *bidi ' <<< "$synopsis")"
+    is "lines of $1 above 80 columns" "" "$(grep -E '.{81}' <<< "$page")"
+    is "lines of the synopsis of $1 that begin no call" "" \
+        "$(grep -E '^ {7}[^ ]' <<< "$synopsis" | grep -v '^ *bidi[ -]')"
+    is "calls of the synopsis of $1" "$(sed -n '/^\.SH SYNOPSIS/,/^\.SH DESCRIPTION/p' "$top/docs/$1" |
+        grep -c '^\.B bidi[ \\]')" "$(grep -c '^ *bidi[ -]' <<< "$synopsis")"
+}
+if command -v man > /dev/null && command -v col > /dev/null; then
+    manual bidi.1
+    manual bidi-draw.1
 else
-    echo "no man or col: the manual page is not looked at"
+    echo "no man or col: the manual pages are not looked at"
 fi
 [ "$has_tools" = yes ] || echo "no pkg-config, readelf or python3: no program in C is built over what is installed"
 echo "$checks comparisons of what is installed, $wrong wrong"

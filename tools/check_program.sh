@@ -2,17 +2,19 @@
 # Runs the built program over files of the system, and compares its statuses and what it writes: a yes, a no, a missing
 # file, texts by tables, by those built in, from standard input and in a pipe that shows the first line before the next
 # is written, reports, one of them on a thousand faults that are planted here, a full disk, a closed pipe. Where the
-# package unicode-data is installed it reads the published property files and judges and reports on the official test
-# files too; else it says that it does not. It ends with 0 where all is as it is to be, with 1 where not, and with 2
-# where the program is missing.
+# package unicode-data is installed it judges and reports on the official test files too, with the property files of
+# data/ and with the tables that are built in; else it says that it does not. It ends with 0 where all is as it is to
+# be, with 1 where not, and with 2 where the program is missing.
 #
-# usage: tools/check_program.sh [FOLDER]      (FOLDER, with the property and test files: /usr/share/unicode)
+# usage: tools/check_program.sh [FOLDER]      (FOLDER, with the test files and their property files: /usr/share/unicode)
 #
 # It runs what `rt ci` leaves, or `rt run` in crates/bidi, and takes some seconds.
 set -u
 folder=${1:-/usr/share/unicode}
 tools=$(cd "$(dirname "$0")" && pwd)
 program=$tools/../crates/bidi/out/bidi
+data=$(cd "$tools/../data" && pwd)
+data=$data/unicode-$(cat "$data/EDITION")
 if [ ! -x "$program" ]; then
     echo "no program at $program: run rt ci, or rt run -- --help in crates/bidi" >&2
     exit 2
@@ -57,15 +59,59 @@ head -c 16777217 /dev/zero > large.txt
 ends 0 'yes: 1 rows, 1 cases' '' judge --kind classes yes.txt
 ends 1 'no: line 3: rtl: levels at 0' '' judge --kind classes no.txt
 ends 0 'yes: 1 rows, 1 cases' '' judge --kind characters --tables t characters.txt
-ends 3 '' 'bidi: cannot read missing.txt: no such file' judge --kind classes missing.txt
-ends 3 '' 'bidi: cannot read t: a folder' judge --kind classes t
-ends 3 '' 'bidi: cannot read no.txt/no.txt: no such file' judge --kind classes no.txt/no.txt
-# Whoever may read all files is refused none.
-if [ "$(id -u)" != 0 ]; then
-    cp no.txt kept.txt
-    chmod 0 kept.txt
-    ends 3 '' 'bidi: cannot read kept.txt: permission denied' judge --kind classes kept.txt
-fi
+ends 0 'yes: 1 rows, 1 cases' '' judge --kind characters --built-in characters.txt
+ends 3 '' 'bidi: cannot read missing.txt' judge --kind classes missing.txt
+ends 3 '' 'bidi: cannot read t' judge --kind classes t
+ends 3 '' 'bidi: cannot read no.txt/no.txt' judge --kind classes no.txt/no.txt
+# The reason, which -v adds: by either of its names, at any place after the subcommand, and only if there is one.
+unread=$'bidi: cannot read missing.txt\nbidi: reason: no such file'
+for word in -v --verbose; do
+    ends 3 '' "$unread" judge "$word" --kind classes missing.txt
+    ends 3 '' "$unread" judge --kind classes missing.txt "$word"
+done
+for words in levels reorder explain 'report --kind classes' 'explain --row 1 --kind classes' 'rows --of'; do
+    # shellcheck disable=SC2086
+    ends 3 '' "$unread" $words missing.txt -v
+done
+ends 3 '' $'bidi: cannot read t\nbidi: reason: a folder' judge -v --kind classes t
+ends 3 '' $'bidi: cannot read no.txt/no.txt\nbidi: reason: no such file' judge -v --kind classes no.txt/no.txt
+ends 0 'yes: 1 rows, 1 cases' '' judge -v --kind classes yes.txt
+ends 1 'no: line 3: rtl: levels at 0' '' judge -v --kind classes no.txt
+ends 2 '' 'bidi: --tables is needed' judge -v --kind characters characters.txt
+ends 2 '' $'bidi: X1 is no class\nbidi: reason: in \'ON X1 X2\', allowed: L R AL EN ES ET AN CS NSM BN B S WS ON LRE LRO RLE RLO PDF LRI RLI FSI PDI' \
+    explain -v --classes 'ON X1 X2'
+# A file that this user may not read, and one that the user may: as another user if this one may read all files.
+cp no.txt kept.txt
+chmod 0 kept.txt
+chmod 755 .
+cp "$program" program
+another=()
+if [ "$(id -u)" = 0 ]; then another=(setpriv --reuid=65534 --regid=65534 --clear-groups); fi
+# by_another STATUS OUT ERR WORD..: as `ends`, as that user.
+by_another() {
+    local status=$1 out=$2 err=$3
+    shift 3
+    "${another[@]}" ./program "$@" > found_out 2> found_err
+    is "status of $* by another user" "$status" $?
+    is "standard output of $* by another user" "$out" "$(cat found_out)"
+    is "standard error of $* by another user" "$err" "$(cat found_err)"
+}
+by_another 3 '' 'bidi: cannot read kept.txt' judge --kind classes kept.txt
+by_another 3 '' $'bidi: cannot read kept.txt\nbidi: reason: permission denied' judge -v --kind classes kept.txt
+by_another 3 '' $'bidi: cannot read missing.txt\nbidi: reason: no such file' judge -v --kind classes missing.txt
+by_another 0 'yes: 1 rows, 1 cases' '' judge --kind classes yes.txt
+rm program
+# Blanks at the ends of a name are part of it.
+cp yes.txt 'no.txt '
+cp yes.txt ' no.txt'
+ends 0 'yes: 1 rows, 1 cases' '' judge --kind classes 'no.txt '
+ends 0 'yes: 1 rows, 1 cases' '' judge --kind classes ' no.txt'
+ends 3 '' 'bidi: cannot read yes.txt ' judge --kind classes 'yes.txt '
+mkdir 't '
+cp t/*.txt 't '
+printf '0061 ; R\n' > 't /DerivedBidiClass.txt'
+ends 0 $'paragraph 0 level 1\n0 0061 R 1' '' levels --tables 't ' - < <(printf a)
+ends 0 $'paragraph 0 level 0\n0 0061 L 0' '' levels --tables t - < <(printf a)
 ends 2 '' 'bidi: --tables is needed' judge --kind characters characters.txt
 ends 0 $'@Levels: 1\n@Reorder: 0\nR; 1\n@Levels: 1\n@Reorder: 0\nR; 2\n@Levels: 1\n@Reorder: 0\nR; 4' '' \
     rows --form exhaustive --alphabet R --length 1
@@ -119,6 +165,8 @@ is 'status of a row of standard input' 0 $?
 is 'a row of standard input' "$row" "$(cat found_out)"
 ends 2 '' 'bidi: row.txt: line 2 is no row' explain --row 2 --kind classes row.txt
 ends 3 '' 'bidi: row.txt: line 4: malformed: BitSet' explain --row 5 --kind classes row.txt
+ends 3 '' $'bidi: row.txt: line 4: malformed: BitSet\nbidi: reason: field 1, the bit set' \
+    explain -v --row 5 --kind classes row.txt
 ends 2 '' 'bidi: --tables is needed' explain --row 1 --kind characters characters.txt
 # Classes in a word of 131,071 bytes, the longest that Linux hands to a program.
 "$program" explain --classes "ON$(printf '%131069s' '')" > found_out 2> found_err
@@ -137,6 +185,7 @@ is 'status of a word of many code points' 0 "${PIPESTATUS[0]}"
 is 'end of explain of a word of many code points' ' 25999' "$(cat found_out)"
 # As many paragraphs as a text can have bytes for.
 yes '' | head -c 16777216 > paragraphs.txt
+ends 0 '' '' rows --of paragraphs.txt
 "$program" reorder paragraphs.txt > found_out 2> found_err
 is 'status of reorder of many paragraphs' 0 $?
 is 'lines of reorder of many paragraphs' 16777216 "$(wc -l < found_out)"
@@ -144,12 +193,16 @@ is 'lines of reorder of many paragraphs' 16777216 "$(wc -l < found_out)"
 is 'status of levels of many paragraphs' 0 "${PIPESTATUS[0]}"
 is 'end of levels of many paragraphs' '16777215 000A B 0' "$(cat found_out)"
 rm paragraphs.txt
-ends 3 '' 'bidi: cannot read missing.txt: no such file' explain --tables t missing.txt
+ends 3 '' 'bidi: cannot read missing.txt' explain --tables t missing.txt
 ends 2 '' 'bidi: a word is not UTF-8' judge --kind classes $'\xff'
-ends 3 '' 'bidi: cannot read missing.txt: no such file' levels --tables t missing.txt
+ends 3 '' 'bidi: cannot read missing.txt' levels --tables t missing.txt
 ends 3 '' 'bidi: bytes.txt: not UTF-8' reorder --tables t bytes.txt
-ends 3 '' 'bidi: cannot read large.txt: too large' reorder --tables t large.txt
-ends 3 '' 'bidi: cannot read DerivedBidiClass.txt: no such file' levels --tables none text.txt
+ends 3 '' $'bidi: bytes.txt: not UTF-8\nbidi: reason: line 1, byte offset 0' reorder -v --tables t bytes.txt
+ends 3 '' 'bidi: cannot read large.txt' reorder --tables t large.txt
+ends 3 '' 'bidi: cannot read DerivedBidiClass.txt' levels --tables none text.txt
+ends 3 '' $'bidi: cannot read large.txt\nbidi: reason: more than 16777216 bytes' reorder -v --tables t large.txt
+ends 3 '' $'bidi: cannot read DerivedBidiClass.txt\nbidi: reason: no such file, folder of tables none' \
+    levels -v --tables none text.txt
 
 # The tables that are built in, where no folder is named: they mirror a guillemet. A folder without a name is refused.
 printf '\xd7\x90\xc2\xab' > guillemet.txt
@@ -158,7 +211,7 @@ ends 0 $'a) \xd7\x90' '' reorder text.txt
 ends 0 $'\xc2\xbb\xd7\x90' '' reorder guillemet.txt
 ends 0 $'\xc2\xab\xd7\x90' '' reorder --tables t guillemet.txt
 ends 0 $'paragraph 0 level 1: R at 0\n'"$explained" '' explain text.txt
-ends 3 '' 'bidi: cannot read missing.txt: no such file' levels missing.txt
+ends 3 '' 'bidi: cannot read missing.txt' levels missing.txt
 "$program" levels --tables '' text.txt > found_out 2> found_err
 is 'status of a folder without a name' 2 $?
 is 'standard output of a folder without a name' '' "$(cat found_out)"
@@ -172,13 +225,17 @@ printf '05D0 ; R\n05D0 ; R\n' > e/extracted/DerivedBidiClass.txt
 ends 3 '' 'bidi: DerivedBidiClass.txt: line 2: Overlap' levels --tables e text.txt
 mv t/DerivedBidiClass.txt e/extracted
 ends 0 $'a) \xd7\x90' '' reorder --tables e text.txt
-ends 3 '' 'bidi: cannot read DerivedBidiClass.txt: no such file' levels --tables t text.txt
+ends 3 '' 'bidi: cannot read DerivedBidiClass.txt' levels --tables t text.txt
 cp e/extracted/DerivedBidiClass.txt t
 mkdir e/DerivedBidiClass.txt
-ends 3 '' 'bidi: cannot read DerivedBidiClass.txt: a folder' levels --tables e text.txt
+ends 3 '' 'bidi: cannot read DerivedBidiClass.txt' levels --tables e text.txt
+ends 3 '' $'bidi: cannot read DerivedBidiClass.txt\nbidi: reason: a folder, folder of tables e' \
+    levels -v --tables e text.txt
 
 printf '0041 ; Left_To_Right\n' > t/BidiMirroring.txt
 ends 3 '' 'bidi: BidiMirroring.txt: line 1: CodePoint' levels --tables t text.txt
+ends 3 '' $'bidi: BidiMirroring.txt: line 1: CodePoint\nbidi: reason: the folder of tables is t' \
+    levels -v --tables t text.txt
 printf '0028; 0029\n0029; 0028\n' > t/BidiMirroring.txt
 
 # Standard input in the place of a file, also where it is closed or a file has its name.
@@ -189,9 +246,9 @@ ends 1 'no: line 3: rtl: levels at 0' '' judge --kind classes - < no.txt
 ends 0 'yes: 1 rows, 1 cases' '' judge --kind characters --tables t - < <(cat characters.txt)
 ends 3 '' 'bidi: bytes.txt: not UTF-8' reorder --tables t bytes.txt < text.txt
 ends 3 '' 'bidi: -: not UTF-8' reorder --tables t - < bytes.txt
-ends 3 '' 'bidi: cannot read -: too large' reorder --tables t - < large.txt
+ends 3 '' 'bidi: cannot read -' reorder --tables t - < large.txt
 ends 3 '' 'bidi: cannot read -' levels --tables t - <&-
-ends 3 '' 'bidi: cannot read -: a folder' levels --tables t - < t
+ends 3 '' 'bidi: cannot read -' levels --tables t - < t
 cp text.txt ./-
 ends 0 'yes: 1 rows, 1 cases' '' judge --kind classes - < yes.txt
 ends 0 $'a) \xd7\x90' '' reorder --tables t ./- < yes.txt
@@ -202,20 +259,58 @@ ends 3 ab 'bidi: broken.txt: not UTF-8' reorder broken.txt
 ends 3 $'paragraph 0 level 0\n0 0061 L 0\n1 0062 L 0\n2 000A B 0' 'bidi: -: not UTF-8' levels - < broken.txt
 ends 3 '' 'bidi: broken.txt: not UTF-8' explain broken.txt
 { printf 'ab\n'; head -c 16777217 /dev/zero | tr '\0' a; } > broken.txt
-ends 3 ab 'bidi: cannot read broken.txt: too large' reorder broken.txt
+ends 3 ab 'bidi: cannot read broken.txt' reorder broken.txt
 rm broken.txt
 "$program" reorder bytes.txt > /dev/full 2> found_err
 is 'status of bytes that are not UTF-8 to a full disk' 3 $?
 is 'standard error of bytes that are not UTF-8 to a full disk' 'bidi: bytes.txt: not UTF-8' "$(cat found_err)"
 
-# A pipe shows a line before the next one is written to the other pipe.
+# Of two faults a failed read or a text that is not UTF-8 comes before a failed write, also if the write fails first.
+printf 'ab\nc\xff\nd\n' > broken.txt
+"$program" reorder broken.txt > /dev/full 2> found_err
+is 'status of a text that is not UTF-8 to a full disk' 3 $?
+is 'standard error of it' 'bidi: broken.txt: not UTF-8' "$(cat found_err)"
+{ printf 'ab\n'; head -c 16777217 /dev/zero | tr '\0' a; } > broken.txt
+"$program" levels broken.txt > /dev/full 2> found_err
+is 'status of a text that is too long to a full disk' 3 $?
+is 'standard error of it' 'bidi: cannot read broken.txt' "$(cat found_err)"
+rm broken.txt
+
+# If nobody reads what is printed any more, no more of FILE is read.
+for word in levels reorder; do
+    { yes | timeout 60 "$program" "$word" - 2> found_err; echo "${PIPESTATUS[1]}" > status; } | head -n 1 > found_out
+    is "status of $word that nobody reads" 3 "$(cat status)"
+    is "standard error of $word that nobody reads" 'bidi: cannot write' "$(cat found_err)"
+    case $word in levels) first='paragraph 0 level 0' ;; reorder) first=y ;; esac
+    is "the first line of $word that nobody reads" "$first" "$(cat found_out)"
+done
+
+{ { printf '@Levels: 1\n@Reorder: 0\n'; yes 'L; 1'; } |
+    timeout 60 "$program" report --kind classes --most 1000000000 - 2> found_err
+    echo "${PIPESTATUS[1]}" > status; } | head -n 1 > found_out
+is 'status of a report that nobody reads' 3 "$(cat status)"
+is 'standard error of a report that nobody reads' 'bidi: cannot write' "$(cat found_err)"
+is 'the first line of a report that nobody reads' 'line 3: auto: levels at 0: claimed 1, defined 0' "$(cat found_out)"
+
+# A pipe shows each paragraph before the next one is written to the other pipe.
 mkfifo written shown
+# Prints as many lines of the pipe as are asked for.
+shown_lines() {
+    local line
+    for ((k = 0; k < $1; k++)); do
+        IFS= read -r -t 20 line <&4 || return
+        printf '%s\n' "$line"
+    done
+}
 for word in reorder levels; do
     timeout 60 "$program" "$word" - < written > shown 2> found_err &
     exec 3> written 4< shown
+    case $word in reorder) most=1 ;; levels) most=4 ;; esac
     (printf 'ab\n') >&3
-    IFS= read -r -t 20 first <&4
-    (printf 'c\n') >&3
+    first=$(shown_lines "$most")
+    (printf 'cd\n') >&3
+    second=$(shown_lines "$most")
+    (printf 'e\n') >&3
     exec 3>&-
     rest=$(cat <&4)
     exec 4<&-
@@ -223,10 +318,15 @@ for word in reorder levels; do
     is "status of $word in a pipe" 0 $?
     is "standard error of $word in a pipe" '' "$(cat found_err)"
     case $word in
-        reorder) is 'the first line of reorder in a pipe' ab "$first"; is 'the rest of it' c "$rest" ;;
+        reorder)
+            is 'the first paragraph of reorder in a pipe' ab "$first"
+            is 'the second one' cd "$second"
+            is 'the last one' e "$rest"
+            ;;
         levels)
-            is 'the first line of levels in a pipe' 'paragraph 0 level 0' "$first"
-            is 'the last line of it' '4 000A B 0' "$(tail -n 1 <<< "$rest")"
+            is 'the first paragraph of levels in a pipe' $'paragraph 0 level 0\n0 0061 L 0\n1 0062 L 0\n2 000A B 0' "$first"
+            is 'the second one' $'paragraph 1 level 0\n3 0063 L 0\n4 0064 L 0\n5 000A B 0' "$second"
+            is 'the last one' $'paragraph 2 level 0\n6 0065 L 0\n7 000A B 0' "$rest"
             ;;
     esac
 done
@@ -301,8 +401,7 @@ printf x >> line.txt
 ends 3 '' 'bidi: line.txt: line 1: too long' rows --of line.txt
 
 # Rows of each form of hard texts and of each kind, by the tables that are built in, which the judge says yes to by
-# those of Unicode 15.0, where they are installed. Among 20 texts some pass the greatest depth, and the most open
-# brackets.
+# the published files of the same edition. Among 20 texts some pass the greatest depth, and the most open brackets.
 for form in nest marks numbers isolates separators; do
     "$program" rows --form "$form" --count 20 --length 300..600 --directions 'ltr auto-rtl' > rows.txt 2> found_err
     is "status of rows of $form" 0 $?
@@ -312,14 +411,24 @@ for form in nest brackets marks numbers isolates separators; do
     "$program" rows --form "$form" --kind characters --count 20 --length 300..900 > rows.txt 2> found_err
     is "status of rows of $form, of characters" 0 $?
     is "lines of rows of $form, of characters" 60 "$(wc -l < rows.txt)"
-    if [ -f "$folder/BidiBrackets.txt" ]; then
-        ends 0 'yes: 60 rows, 60 cases' '' judge --kind characters --tables "$folder" rows.txt
-    fi
+    ends 0 'yes: 60 rows, 60 cases' '' judge --kind characters --tables "$data" rows.txt
+    ends 0 'yes: 60 rows, 60 cases' '' judge --kind characters --built-in - < rows.txt
 done
 ends 2 '' 'bidi: up is no direction' rows --form nest --length 1 --directions 'auto up'
 # Each option of rows in one run.
 ends 0 $'05D0 05D0;1;1;1 1;1 0\n05D0 05D0;1;1;1 1;1 0' '' rows --kind characters --tables t --form random \
     --alphabet 05D0 --length 2..2 --seed 7 --count 2 --directions rtl
+
+# Rows of characters in a pipe, by the tables that are built in, which exclude a folder.
+found=$({ "$program" rows --kind characters --form nest --count 20 --length 300..600 |
+    "$program" judge --kind characters --built-in -; echo "${PIPESTATUS[*]}"; } 2> found_err)
+is 'verdict on rows of characters in a pipe' $'yes: 60 rows, 60 cases\n0 0' "$found"
+is 'standard error of it' '' "$(cat found_err)"
+"$program" judge --kind characters --tables t --built-in characters.txt > found_out 2> found_err
+is 'status of two sources of tables' 2 $?
+is 'text of two sources of tables' "error: the argument '--tables <DIR>' cannot be used with '--built-in'" \
+    "$(head -n 1 found_err)"
+is 'output of two sources of tables' '' "$(cat found_out)"
 
 # Reports: what they print and count, where they end, and the first of the wrong cases.
 printf '@Levels: x 3\n@Reorder:\nLRE R; 3\nL; 16\nL; 1\n' > faults.txt
@@ -332,8 +441,8 @@ ends 1 "$counts" '' report --kind classes --most=0 - < faults.txt
 none=$'wrong by direction: auto 0, ltr 0, rtl 0, auto-rtl 0\nwrong by place: paragraph level 0, levels 0, order 0'
 ends 0 $'1 rows, 0 wrong; 1 cases, 0 wrong\n'"$none" '' report --kind characters --tables t characters.txt
 ends 2 '' 'bidi: --tables is needed' report --kind characters characters.txt
-ends 3 '' 'bidi: cannot read missing.txt: no such file' report --kind classes missing.txt
-ends 3 '' 'bidi: cannot read t: a folder' report --kind classes t
+ends 3 '' 'bidi: cannot read missing.txt' report --kind classes missing.txt
+ends 3 '' 'bidi: cannot read t' report --kind classes t
 "$program" report --kind classes --most many faults.txt > found_out 2> found_err
 is 'status of a word that is no number of wrong cases' 2 $?
 
@@ -351,8 +460,8 @@ ends 1 $'line 3: ltr: levels at 0: claimed 0, defined x\n'"$last"$'\n'"$(counted
 ends 1 "$last"$'\n'"$(counted 1 1 0)" '' report --kind classes --shown engine.txt
 ends 1 $'line 3: ltr: order at 0: claimed 0, defined 1\n'"$(counted 1 0 1)" '' report --kind classes --order engine.txt
 ends 0 "$(counted 0 0 0)" '' report --kind classes --order --shown engine.txt
-ends 3 '' 'bidi: cannot read missing.txt: no such file' rows --of missing.txt
-ends 3 '' 'bidi: cannot read t: a folder' explain --row 1 --kind classes t
+ends 3 '' 'bidi: cannot read missing.txt' rows --of missing.txt
+ends 3 '' 'bidi: cannot read t' explain --row 1 --kind classes t
 
 # Rows of the hard texts pass the limits: in some of those of nest a level is as deep as can be, and in some of those of
 # brackets more than 63 are open, by a walk of its own over each text.
@@ -434,7 +543,7 @@ is 'standard output of refused words' '' "$(cat found_out)"
 is 'status of --help' 0 $?
 is 'standard error of --help' '' "$(cat found_err)"
 
-ends 0 $'bidi 1.0.0 (rules P1 to L2 and L4 of UAX #9, Unicode 15.0)\ntables of Unicode 15.0.0 built in\nproved with rattle-kit-13f logic dac8208d650f15bf' '' --version
+ends 0 $'bidi 1.1.0 (rules P1 to L2 and L4 of UAX #9, Unicode 17.0)\ntables of Unicode 17.0.0 built in\nproved with rattle-kit-13f logic dac8208d650f15bf' '' --version
 
 # A full disk, and a pipe that no one reads.
 for words in 'judge --kind classes yes.txt' 'judge --kind classes no.txt' 'report --kind classes yes.txt' \
@@ -452,15 +561,19 @@ for words in 'judge --kind classes yes.txt' 'judge --kind classes no.txt' 'repor
     is "standard error of $words to a closed pipe" 'bidi: cannot write' "$(cat found_err)"
 done
 
-# The published files.
+# The constants that are built in, and the published files of their edition.
+"$tools/standard_tables.py" --check
+is 'status of the tables that are built in' 0 $?
+ln -s "$data" real
+ends 0 $'paragraph 0 level 1\n0 05D0 R 1\n1 0020 WS 1\n2 0028 ON 1\n3 0061 L 2' '' levels --tables real text.txt
+ends 0 $'a) \xd7\x90' '' reorder --tables real text.txt
+
+# The official test files, with those property files.
 found=$(find "$folder" -name 'BidiCharacterTest.txt*' 2> /dev/null | head -n 1)
 if [ -n "$found" ]; then
     official=$("$tools/judge_official_files.sh" "$folder")
     is 'status of the official files' 0 $?
     echo "$official"
-    "$tools/standard_tables.py" --check "$folder"
-    is 'status of the facts that are built in' 0 $?
-    mkdir real
     for name in BidiTest.txt BidiCharacterTest.txt; do
         published=$(find "$folder" -name "$name*" | sort | head -n 1)
         case $published in
@@ -470,18 +583,17 @@ if [ -n "$found" ]; then
             *) cp "$published" "$name" ;;
         esac
     done
-    for name in DerivedBidiClass.txt BidiBrackets.txt BidiMirroring.txt; do
-        cp "$(find "$folder" -name "$name" | sort | head -n 1)" real
-    done
     # As many rows and cases as the judge says yes to, of which none is wrong.
-    for words in '--kind classes BidiTest.txt' '--kind characters --tables real BidiCharacterTest.txt'; do
+    for words in '--kind classes BidiTest.txt' '--kind characters --tables real BidiCharacterTest.txt' \
+        '--kind characters --built-in BidiCharacterTest.txt'; do
         # shellcheck disable=SC2086
         read -r _ rows _ cases _ <<< "$("$program" judge $words)"
         # shellcheck disable=SC2086
         ends 0 "$rows rows, 0 wrong; $cases cases, 0 wrong"$'\n'"$none" '' report $words
     done
     # Of the last row of each, what is claimed and what is defined are the same, under each of its directions.
-    for words in '--kind classes BidiTest.txt' '--kind characters --tables real BidiCharacterTest.txt'; do
+    for words in '--kind classes BidiTest.txt' '--kind characters --tables real BidiCharacterTest.txt' \
+        '--kind characters --built-in BidiCharacterTest.txt'; do
         last=$(grep -n -v '^[#@]' "${words##* }" | grep ';' | tail -n 1 | cut -d : -f 1)
         # shellcheck disable=SC2086
         "$program" explain --row "$last" $words > found_out 2> found_err
@@ -492,11 +604,6 @@ if [ -n "$found" ]; then
         is "what is defined, $words" "$(grep '^claimed' found_out | sed 's/^claimed//')" \
             "$(grep '^defined' found_out | sed 's/^defined//')"
     done
-    ends 0 $'paragraph 0 level 1\n0 05D0 R 1\n1 0020 WS 1\n2 0028 ON 1\n3 0061 L 2' '' levels --tables real text.txt
-    ends 0 $'a) \xd7\x90' '' reorder --tables real text.txt
-    if [ -f "$folder/extracted/DerivedBidiClass.txt" ] && [ -f "$folder/BidiBrackets.txt" ]; then
-        ends 0 $'a) \xd7\x90' '' reorder --tables "$folder" text.txt
-    fi
 else
     echo "no official files in $folder (package unicode-data): they are not judged"
 fi

@@ -2,13 +2,17 @@
 # Runs the tests of the module for Python (python/tests) over the shared object of the library for C, and installs the
 # module by pip into a folder, without a network, and runs it there. It ends with 0 where all is as it is to be, with 1
 # where not, and with 2 where the shared object can't be made. Without python3 or gcc it does nothing, and says so.
+# Texts are compared with what python-bidi shows, as python/tests/peer.txt stores it, and where python3 or the system's
+# Python has it with python-bidi itself; it says so if neither has.
 #
 # usage: tools/check_python.sh
 #
+# PYTHON_BIDI in the environment names a folder with the source of python-bidi, whose own tests are then run too.
 # Build the library first, as tools/c/run.sh does.
 set -u
 tools=$(cd "$(dirname "$0")" && pwd)
 python=$tools/../python
+[ -n "${PYTHON_BIDI:-}" ] || echo "PYTHON_BIDI names no source of python-bidi: its own tests are not run"
 for command in python3 gcc; do
     command -v "$command" > /dev/null || { echo "no $command: the module for Python is not tested"; exit 0; }
 done
@@ -18,6 +22,14 @@ work=$(mktemp -d) || exit 2
 trap 'rm -r "$work"' EXIT
 wrong=0
 (cd "$python" && BIDI_LIBRARY=$shared timeout 300 python3 -B -m unittest) || wrong=1
+if ! python3 -c 'import bidi.algorithm' 2> /dev/null; then
+    if /usr/bin/python3 -c 'import bidi.algorithm' 2> /dev/null; then
+        (cd "$python" && BIDI_LIBRARY=$shared timeout 300 /usr/bin/python3 -B -m unittest tests.test_algorithm \
+            tests.test_pairs) || wrong=1
+    else
+        echo "no python-bidi (package python3-bidi): what it shows is compared as stored alone"
+    fi
+fi
 if python3 -m pip --version > /dev/null 2>&1; then
     # pip builds where the files lie: in a copy, so that it leaves nothing.
     cp -r "$python" "$work/python"

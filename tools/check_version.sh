@@ -1,8 +1,11 @@
 #!/bin/bash
 # Looks whether all that says the version of the product says what the file VERSION does: the command, the library for
-# C, the header, the manual page, the module for Python, the file for pkg-config that is installed, and the soname's
-# number; and, where the program is built, `bidi --version`. Likewise whether the header and the command name the
-# edition of Unicode whose facts are built in. It ends with 0 where all agree, and with 1 where not.
+# C, the header, the manual pages, `bidi-draw`, the changelog, the module for Python, the crate for Rust, the file for
+# pkg-config that is installed, and the soname's number; and, if the program is built, `bidi --version`. Likewise whether
+# all that names the edition of Unicode that is built in says what data/EDITION does: the facts, the header, the command
+# with its version and its help, the manual page, the documents, the module for Python, the crate for Rust and the tests.
+# Likewise whether the command and the documents name the kit that `rt version` names, if there is `rt`. It ends with 0
+# if all agree, and with 1 if not.
 #
 # usage: tools/check_version.sh
 set -u
@@ -19,30 +22,60 @@ says() {
     fi
 }
 
-# says_edition WHERE FOUND: compares the edition that a place says with that of the facts.
-edition=$(sed -n 's/^pub const EDITION: &str = "\(.*\)";$/\1/p' crates/standard/src/facts.rt)
+# says_edition WHERE FOUND: compares the edition that a place says with data/EDITION.
+edition=$(cat data/EDITION) || exit 2
 says_edition() {
     if [ -z "$edition" ] || [ "$2" != "$edition" ]; then
-        echo "$1 says the edition '$2', and the facts '$edition'" >&2
+        echo "$1 says the edition '$2', and data/EDITION '$edition'" >&2
         wrong=$((wrong + 1))
     fi
 }
 
+# names_edition FILE: each edition of Unicode that the file names is that of data/EDITION, whole or without its last
+# number, and it names one.
+names_edition() {
+    local named found=0
+    while read -r named; do
+        found=1
+        [ "$named" = "${edition%.*}" ] || says_edition "$1" "$named"
+    done < <(tr '\n' ' ' < "$1" | grep -oE 'Unicode +\\? *`?[0-9]+\.[0-9]+(\.[0-9]+)?' | grep -oE '[0-9.]+$')
+    [ "$found" -eq 1 ] || says_edition "$1" none
+}
+
 [[ $version =~ ^[0-9]+\.[0-9]+\.[0-9]+$ ]] || { echo "VERSION is no version: '$version'" >&2; wrong=1; }
 says crates/command "$(sed -n 's/^pub const BIDI_VERSION: &str = "\([^ ]*\) .*$/\1/p' crates/command/src/help.rt)"
-says crates/bidi_held "$(sed -n 's/^pub const VERSION: &str = "\(.*\)";$/\1/p' crates/bidi_held/src/version.rt)"
+says crates/for_c "$(sed -n 's/^pub const VERSION: &str = "\(.*\)";$/\1/p' crates/for_c/src/version.rt)"
 says tools/c/bidi.h "$(sed -n 's/^#define BIDI_VERSION "\(.*\)"$/\1/p' tools/c/bidi.h)"
 numbers=$(sed -n 's/^#define BIDI_VERSION_\(MAJOR\|MINOR\|PATCH\) \([0-9]*\)$/\2/p' tools/c/bidi.h)
 says "tools/c/bidi.h, by numbers," "$(tr '\n' . <<< "$numbers" | sed 's/\.$//')"
+says_edition crates/standard "$(sed -n 's/^pub const EDITION: &str = "\(.*\)";$/\1/p' crates/standard/src/facts.rt)"
 says_edition tools/c/bidi.h "$(sed -n 's/^#define BIDI_EDITION "\(.*\)"$/\1/p' tools/c/bidi.h)"
+for file in crates/command/src/help.rt crates/command_tests/src/words.rt docs/COMMAND.md docs/bidi.1 README.md \
+    tools/c/calls.out; do
+    names_edition "$file"
+done
+for file in tools/c/bidi.h docs/{C,PYTHON,RUST}.md python/bidi_proved/tables.py rust/bidi-proved/src/lib.rs; do
+    says_edition "$file" "$(grep -oE '(as|like) ["`]?[0-9]+\.[0-9]+\.[0-9]+' "$file" | grep -oE '[0-9.]+$' |
+        grep -vxF "$version" | sort -u | tr '\n' ' ' | sed 's/ $//')"
+done
 says_edition crates/command "$(sed -n 's/^tables of Unicode \(.*\) built in$/\1/p' crates/command/src/help.rt)"
 says docs/bidi.1 "$(sed -n 's/^\.TH BIDI 1 "[^"]*" "bidi \(.*\)" "User Commands"$/\1/p' docs/bidi.1)"
+says docs/bidi-draw.1 "$(sed -n 's/^\.TH BIDI-DRAW 1 "[^"]*" "bidi \(.*\)" "User Commands"$/\1/p' docs/bidi-draw.1)"
+says tools/bidi-draw "$(sed -n 's/^VERSION = "\(.*\)"$/\1/p' tools/bidi-draw)"
+says CHANGELOG.md "$(sed -n 's/^## \([0-9.]*\)$/\1/p' CHANGELOG.md | head -n 1)"
 says python/bidi_proved "$(sed -n 's/^__version__ = "\(.*\)"$/\1/p' python/bidi_proved/__init__.py)"
+says rust/bidi-proved "$(sed -n 's/^version = "\(.*\)"$/\1/p' rust/bidi-proved/Cargo.toml)"
 for file in python/bidi_proved/library.py python/make_wheel.py; do
     soname=$(sed -n 's/^SONAME = "\(.*\)"$/\1/p' "$file")
     [ "$soname" = "libbidi_c.so.${version%%.*}" ] || { echo "$file names '$soname'" >&2; wrong=$((wrong + 1)); }
 done
 grep -q '^Version: @version@$' tools/c/bidi_c.pc.in || says tools/c/bidi_c.pc.in 'something else than @version@'
+if command -v rt > /dev/null; then
+    kit=$(rt version | head -n 1)
+    for file in crates/command/src/help.rt README.md docs/COMMAND.md; do
+        grep -qF "$kit" "$file" || { echo "$file does not name the kit '$kit'" >&2; wrong=$((wrong + 1)); }
+    done
+fi
 program=crates/bidi/out/bidi
 if [ -x "$program" ]; then
     says "bidi --version" "$("$program" --version | sed -n '1s/^bidi \([^ ]*\) .*$/\1/p')"

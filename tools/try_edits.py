@@ -2,16 +2,31 @@
 """Checks that the prover rejects wrong bodies, many in one check.
 
 usage: tools/try_edits.py [--all] [--read] [CRATE | CRATE/EDIT ..]      (at the top; with no name: every crate)
+       tools/try_edits.py --record [--here] [CRATE ..]
+       tools/try_edits.py [--changed] [--minutes=N] --here [CRATE ..]
 
 An edit is a file that describes a wrong body (docs/CHANGING.md). The tool takes the edits in crates/CRATE/wrong/ and,
 with --all, those in must-fail/ too. A named edit may be in either folder. With --read it checks nothing and lists the
 edits that can't be applied to the files as they are. It prints a line for each edit, and the last line is 'N passed, M
 failed'. The status is 1 if any failed.
 
+With --record it tries all edits of both folders. If all of a crate's were rejected, it writes that to a record in the
+crate (edit_records.py), with a sum over all that it depends on. With --changed it tries all edits in wrong/ of each
+crate whose sum differs from that of its record, or that has none. Besides, it tries a tenth of all edits in wrong/,
+which the hash of the commit draws. So a record that isn't true makes a run fail sooner or later. It tries the drawn
+edits of a crate first.
+
+With --minutes=N it starts no check after N minutes. It names the crates with edits that it didn't come to, and counts
+these. They are neither passed nor failed, and a crate that has some gets no record, so the next run tries them.
+
 The tool works in copies of crates/, crates.txt and HANDLES outside the checkout, and uses the commands of the kit
-alone. So the checkout may change meanwhile. Callers depend on contracts alone, so a wrong body hides no other. The
-tool applies the edits of a crate that change different functions together, and runs one `rt check` over these functions
-and their callees. An edit passes there only if two things hold:
+alone. So the checkout may change meanwhile. A check in a copy proves all crates below its own there. With --here the
+tool works in the checkout itself, over what `rt check` and `rt lib` kept there, and puts back each file that it
+changed. It starts only if git knows all files of crates/ as they are.
+
+Callers depend on contracts alone, so a wrong body hides no other. The tool applies the edits of a crate that change
+different functions together, and runs one `rt check` over these functions and their callees. An edit passes there only
+if two things hold:
 
 - a goal of its own function is open: of a contract, of safety, or that a loop keeps its invariant, and not a missing
   invariant, measure or ghost value;
@@ -28,11 +43,14 @@ and over the same libraries. Otherwise all edits of the crate fail.
 
 The tool works on as many crates at once as processors and memory allow, or RT_JOBS says. Each crate gets one job. A
 check reads all crates below its own, so each job has its own copy. It takes next the crate that needs the fewest new
-libraries there.
+libraries there. With --here it goes from the highest crates down: it begins a crate once it has come to the end of all
+that stand on it, so that no wrong body is ever below a crate that is checked. Then each check gets as many jobs.
 """
+import concurrent.futures as futures
 import contextlib
 import dataclasses
 import glob
+import graphlib
 import os
 import re
 import shutil
@@ -41,9 +59,13 @@ import subprocess
 import sys
 import tempfile
 import threading
+import time
+
+import edit_records
 
 FOLDERS = ("wrong", "must-fail")
 BYTES_OF_A_CHECK = 5 << 30
+CRATES_AT_ONCE = 2
 FUNCTION = re.compile(r"( *)(?:pub(?:\([a-z]+\))? )?(?:const )?(?:unsafe )?(?:extern \"C\" )?fn (\w+)")
 OWNER = re.compile(r"(?:unsafe )?impl\b[^{;]*|(?:pub(?:\([a-z]+\))? )?trait \w+")
 OPEN = r"^fn {}::(\S+): (?:not proved|no proof)[^\n]*?did not prove (`[^`]*`)"
@@ -62,6 +84,8 @@ printing = threading.Lock()
 choosing = threading.Lock()
 running = set()
 is_ending = threading.Event()
+ends_at = float("inf")
+untried = {}
 
 
 @dataclasses.dataclass
@@ -69,8 +93,10 @@ class Crate:
     """A crate of crates.txt, in a folder that is the top of the repository or of a copy of it."""
 
     name: str
+    deps: list
     below: set
     top: str = "."
+    jobs: int = 1
 
     @property
     def folder(self):
@@ -89,7 +115,7 @@ class Crate:
 
     def check(self, words):
         """Runs `rt check` over it. Returns the status and what was said."""
-        return command(["check", "--jobs", "1", *words], self.folder)
+        return command(["check", "--jobs", str(self.jobs), *words], self.folder)
 
 
 @dataclasses.dataclass
@@ -126,7 +152,7 @@ def crates_here():
             words, _, below = line.partition("#")[0].partition(":")
             if words.strip():
                 named[words.split()[0]] = below.split()
-    return {name: Crate(name, all_below(name, named)) for name in named}
+    return {name: Crate(name, named[name], all_below(name, named)) for name in named}
 
 
 def all_below(name, named):
@@ -288,6 +314,19 @@ def words_of(edits):
 
 
 @contextlib.contextmanager
+def without(crate, folder):
+    """Takes the edits out of a folder of the crate, and at the end puts them back."""
+    texts = {f"{folder}/{it}": crate.text(f"{folder}/{it}") for it in names_in(f"{crate.folder}/{folder}")}
+    try:
+        for path in texts:
+            os.remove(f"{crate.folder}/{path}")
+        yield
+    finally:
+        for path, text in texts.items():
+            crate.put(path, text)
+
+
+@contextlib.contextmanager
 def put_in(crate, texts):
     """Puts these texts into the crate's files, and at the end those that stood there."""
     right = {path: crate.text(path) for path in texts}
@@ -340,14 +379,19 @@ def try_round(crate, edits, tell):
     return missed
 
 
+def is_over():
+    """Returns whether no further check is to start."""
+    return time.monotonic() >= ends_at
+
+
 def in_rounds(crate, edits, tell):
-    """Tries each of these edits once, together with others. Returns those that were not refused."""
+    """Tries each of these edits once, together with others, while there is time. Returns those that were not refused."""
     missed, left = [], edits
-    while left:
+    while left and not is_over():
         chosen = round_of(crate, left)
         missed += try_round(crate, chosen, tell)
         left = [it for it in left if it not in chosen]
-    return missed
+    return missed + left
 
 
 def try_alone(crate, edit):
@@ -376,12 +420,13 @@ def try_edits(crate, files):
             print(text, flush=True)
 
     edits = [read_edit(crate, f"{crate.folder}/{it}") for it in files]
-    for name in names_in(f"{crate.folder}/must-fail"):
-        os.remove(f"{crate.folder}/must-fail/{name}")
     for it in edits:
         if it.fault:
             tell(False, f"{it.label}: BAD EDIT: {it.fault}")
     tried = [it for it in edits if not it.fault]
+    if is_over():
+        untried[crate.name] = len(tried)
+        return counts
     if tried and (said := unproved(crate, tried)):
         tell(False, f"{crate.name}: NOT JUDGED, since its right code is not proved here: {said.strip()[-500:]}")
         return [counts[0], counts[1] + len(tried)]
@@ -389,9 +434,14 @@ def try_edits(crate, files):
     missed = in_rounds(crate, joined, tell)
     if len(missed) < len(joined):
         missed = in_rounds(crate, missed, tell)
-    for it in [*missed, *(it for it in tried if not it.functions)]:
-        is_well, text = try_alone(crate, it)
-        tell(is_well, f"{it.label}: {text}")
+    with without(crate, "must-fail"):
+        singly = [*missed, *(it for it in tried if not it.functions)]
+        while singly and not is_over():
+            it = singly.pop(0)
+            is_well, text = try_alone(crate, it)
+            tell(is_well, f"{it.label}: {text}")
+    if singly:
+        untried[crate.name] = len(singly)
     return counts
 
 
@@ -446,6 +496,44 @@ def read_all(crates, asked):
     return 1 if faults else 0
 
 
+def sums_of(crates, names):
+    """Returns the sum of each of these crates, by name."""
+    deps = {it.name: it.deps for it in crates.values()}
+    return {name: edit_records.sum_of(name, deps, crates[name].below) for name in names}
+
+
+def changed(crates, names):
+    """Returns the edits of these crates (without names: of all) to try with --changed, by crate, and says why: those of
+    crates whose record doesn't fit, and those that the commit draws of all crates' edits."""
+    all_files = {name: files for name, it in crates.items() if (files := files_of(it, False, []))}
+    labels = [f"{name}/{it}" for name, files in all_files.items() for it in files]
+    chosen = edit_records.drawn(labels, edit_records.commit_here())
+    asked = {}
+    for name, found in sums_of(crates, [it for it in all_files if not names or it in names]).items():
+        files, noted = all_files[name], edit_records.recorded(crates[name].folder)
+        if noted == found:
+            files = [it for it in files if f"{name}/{it}" in chosen]
+            print(f"{name}: its record fits; drawn: {len(files)} of {len(all_files[name])}")
+        else:
+            files = sorted(files, key=lambda it: f"{name}/{it}" not in chosen)
+            print(f"{name}: {'its record is of other files' if noted else 'no record'}; all {len(files)}")
+        if files:
+            asked[name] = files
+    sys.stdout.flush()
+    return asked
+
+
+def record_all(crates, asked, try_these):
+    """Tries all of these edits, and records each crate when all of its edits were rejected. Returns the status."""
+    before = sums_of(crates, asked)
+
+    def record(name, counts):
+        if counts == [len(asked[name]), 0] and sums_of(crates, [name]) == {name: before[name]}:
+            edit_records.record(crates[name].folder, len(asked[name]), before[name])
+
+    return status_of(try_these(crates, asked, record), asked)
+
+
 def lanes(count):
     """Returns how many of so many crates are tried side by side."""
     memory = os.sysconf("SC_PAGE_SIZE") * os.sysconf("SC_PHYS_PAGES")
@@ -462,8 +550,8 @@ def copied(top):
             shutil.copy(name, top)
 
 
-def work_through(crates, left, top, counts):
-    """Tries in a copy the edits of one crate after another, as long as some are left."""
+def work_through(crates, left, top, counts, ended):
+    """Tries in a copy the edits of one crate after another, as long as some are left. Says of each that it ended."""
     built = set()
     while True:
         with choosing:
@@ -473,49 +561,94 @@ def work_through(crates, left, top, counts):
             files = left.pop(name)
         built |= crates[name].below
         counts[name] = try_edits(dataclasses.replace(crates[name], top=top), files)
+        ended(name, counts[name])
 
 
-def try_all(crates, asked):
-    """Tries the edits of all these crates, and returns the status. What a copy didn't come to the end of has failed."""
+def try_all(crates, asked, ended):
+    """Tries the edits of all these crates in copies, and says of each crate that it ended. Returns how many of each
+    passed and failed; what it didn't come to the end of is missing there."""
     counts, left = {}, dict(asked)
-    signal.signal(signal.SIGTERM, lambda *_: sys.exit(143))
     with tempfile.TemporaryDirectory(prefix="try-edits-") as room:
         tops = [f"{room}/{number}" for number in range(lanes(len(asked)))]
         for it in tops:
             copied(it)
-        workers = [threading.Thread(target=work_through, args=(crates, left, it, counts), daemon=True) for it in tops]
-        try:
-            for it in workers:
-                it.start()
-            for it in workers:
-                it.join()
-        finally:
-            end_all(workers)
+        with futures.ThreadPoolExecutor() as workers, ending_all():
+            list(workers.map(lambda top: work_through(crates, left, top, counts, ended), tops))
+    return counts
+
+
+def try_here(crates, asked, ended):
+    """Tries the edits of all these crates in the checkout, each crate after those that stand on it. Says and returns
+    the same."""
+    run = subprocess.run(["git", "status", "--porcelain", "crates"], capture_output=True, text=True, check=False)
+    if run.returncode or run.stdout:
+        sys.exit(f"--here needs a checkout in which git knows all files of crates/ as they are\n{run.stdout}")
+    counts, tried = {}, {}
+    order = graphlib.TopologicalSorter({name: {it for it in asked if name in crates[it].below} for name in asked})
+    order.prepare()
+    with futures.ThreadPoolExecutor(lanes(CRATES_AT_ONCE)) as workers, ending_all():
+        while order.is_active():
+            for name in order.get_ready():
+                crate = dataclasses.replace(crates[name], jobs=lanes(sys.maxsize))
+                tried[workers.submit(try_edits, crate, asked[name])] = name
+            for it in futures.wait(tried, return_when=futures.FIRST_COMPLETED).done:
+                name = tried.pop(it)
+                counts[name] = it.result()
+                ended(name, counts[name])
+                order.done(name)
+    return counts
+
+
+@contextlib.contextmanager
+def ending_all():
+    """Ends the commands that still run, where what it holds ends early."""
+    signal.signal(signal.SIGTERM, lambda *_: sys.exit(143))
+    try:
+        yield
+    finally:
+        is_ending.set()
+        for it in list(running):
+            it.terminate()
+
+
+def status_of(counts, asked):
+    """Prints how many edits passed and failed, and returns the status. What has no count has failed."""
+    for name, count in sorted(untried.items()):
+        print(f"{name}: {count} not tried in time")
     passed = sum(counts[name][0] for name in counts)
     failed = sum(counts[name][1] if name in counts else len(asked[name]) for name in asked)
     print(f"{passed} passed, {failed} failed")
     return 1 if failed else 0
 
 
-def end_all(workers):
-    """Ends the commands that still run, where this ends early, and waits for all."""
-    is_ending.set()
-    for it in list(running):
-        it.terminate()
-    for it in workers:
-        if it.is_alive():
-            it.join()
-
-
 def main(words):
-    names = [it for it in words if it not in ("--all", "--read")]
+    global ends_at
+    options = {it for it in words if it.startswith("--")}
+    names = [it for it in words if it not in options]
+    if minutes := next((it for it in options if re.fullmatch(r"--minutes=\d+", it)), None):
+        options.remove(minutes)
+        ends_at = time.monotonic() + 60 * int(minutes.partition("=")[2])
     crates = crates_here()
-    if wrong := unknown(crates, names):
-        sys.exit(f"no crate and no edit: {' '.join(wrong)}\n\n{__doc__}")
+    known = {"--all", "--read", "--record", "--changed", "--here"}
+    if wrong := [*(options - known), *unknown(crates, names)]:
+        sys.exit(f"no option, no crate and no edit: {' '.join(wrong)}\n\n{__doc__}")
+    if "--record" in options and (options - {"--record", "--here"} or any(it not in crates for it in names)):
+        sys.exit(f"--record takes crates, and no other option but --here\n\n{__doc__}")
+    if "--changed" in options and options - {"--changed", "--here"}:
+        sys.exit(f"--changed takes no other option but --here\n\n{__doc__}")
+    if "--changed" in options and any(it not in crates for it in names):
+        sys.exit(f"--changed takes crates\n\n{__doc__}")
     if lost := strays(crates):
         sys.exit(f"no edits of a crate, so nothing tries them: {' '.join(lost)}")
-    asked = {name: files for name, it in crates.items() if (files := files_of(it, "--all" in words, names))}
-    return read_all(crates, asked) if "--read" in words else try_all(crates, asked)
+    is_all = bool(options & {"--all", "--record"})
+    asked = {name: files for name, it in crates.items() if (files := files_of(it, is_all, names))}
+    if "--read" in options:
+        return read_all(crates, asked)
+    try_these = try_here if "--here" in options else try_all
+    if "--record" in options:
+        return record_all(crates, asked, try_these)
+    asked = changed(crates, names) if "--changed" in options else asked
+    return status_of(try_these(crates, asked, lambda *_: None), asked)
 
 
 if __name__ == "__main__":

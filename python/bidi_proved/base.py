@@ -1,50 +1,115 @@
 """What is known of a text without a layout."""
+import typing
+
 from . import library
 from .errors import refuse
-from .layout import Direction
-from .library import CALL, address, codes_of, items
+from .layout import AnyDirection, Direction
+from .library import CALL, address, bytes_of, codes_of, items
+from .tables import Tables, default_tables
+from .utf8 import Text
 
 
-def base_level(text, tables, direction=Direction.AUTO):
-    """The level of the first paragraph of a str (P1 to P3), 0 or 1, by tables, under a direction.
+def base_level(
+    text: str, tables: typing.Optional[Tables] = None, direction: AnyDirection = Direction.AUTO
+) -> int:
+    """Returns the level of the first paragraph of a str (P1 to P3), 0 or 1, with tables, or with those that are built
+    in, under a direction.
 
-    Refused with NoCharacter. NotImplementedError: the library is an older one.
+    Fails with NoCharacter. NotImplementedError: the library is an older one.
     """
-    return _asked(text, tables, "bidi_base_level", Direction(direction))
+    _need_base_level()
+    codes = codes_of(text)
+    return _said(CALL.bidi_base_level, tables, address(codes), len(text), Direction(direction))
 
 
-def base_levels(text, tables, direction=Direction.AUTO):
-    """The levels of the paragraphs of a str (P1 to P3), each 0 or 1, in their order, by tables, under a direction.
+def base_level_utf8(
+    text: Text, tables: typing.Optional[Tables] = None, direction: AnyDirection = Direction.AUTO
+) -> int:
+    """Returns what base_level does, of bytes of UTF-8, or of a str as its UTF-8.
 
-    Refused with NoCharacter. NotImplementedError: the library is an older one.
+    Fails with IllFormed. NotImplementedError: the library is an older one.
+    """
+    _need_utf8()
+    encoded = bytes_of(text)
+    return _said(CALL.bidi_base_level_utf8, tables, encoded, len(encoded), Direction(direction))
+
+
+def base_levels(
+    text: str, tables: typing.Optional[Tables] = None, direction: AnyDirection = Direction.AUTO
+) -> typing.List[int]:
+    """Returns the levels of the paragraphs of a str (P1 to P3), each 0 or 1, in their order, with tables, or with those
+    that are built in, under a direction.
+
+    Fails with NoCharacter. NotImplementedError: the library is an older one.
     """
     if not library.HAS_BASE_LEVELS:
         raise NotImplementedError("this library tells the level of the first paragraph alone")
-    codes, levels, direction = codes_of(text), items("B", len(text)), Direction(direction)
-    count, place = library.c_size_t(0), library.c_uint64(0)
+    codes = codes_of(text)
+    return _levels(CALL.bidi_base_levels, tables, address(codes), len(text), direction)
+
+
+def base_levels_utf8(
+    text: Text, tables: typing.Optional[Tables] = None, direction: AnyDirection = Direction.AUTO
+) -> typing.List[int]:
+    """Returns what base_levels does, of bytes of UTF-8, or of a str as its UTF-8.
+
+    Fails with IllFormed. NotImplementedError: the library is an older one.
+    """
+    _need_utf8()
+    encoded = bytes_of(text)
+    return _levels(CALL.bidi_base_levels_utf8, tables, encoded, len(encoded), direction)
+
+
+def is_left_to_right(text: str, tables: typing.Optional[Tables] = None) -> bool:
+    """Returns whether a str has only classes that stay at level 0: no R, AL and AN, and nothing that begins an
+    embedding, an override or an isolate. If so, all levels of a layout under LTR or AUTO are 0, apart from positions
+    that X9 removes.
+
+    Fails with NoCharacter. NotImplementedError: the library is an older one.
+    """
+    _need_base_level()
+    codes = codes_of(text)
+    return bool(_said(CALL.bidi_is_left_to_right, tables, address(codes), len(text)))
+
+
+def is_left_to_right_utf8(text: Text, tables: typing.Optional[Tables] = None) -> bool:
+    """Returns what is_left_to_right does, of bytes of UTF-8, or of a str as its UTF-8.
+
+    Fails with IllFormed. NotImplementedError: the library is an older one.
+    """
+    _need_utf8()
+    encoded = bytes_of(text)
+    return bool(_said(CALL.bidi_is_left_to_right_utf8, tables, encoded, len(encoded)))
+
+
+def _levels(call, tables, text, n, direction):
+    """Returns the levels that a call writes of a text of n items."""
+    levels, count, place = items("B", n), library.c_size_t(0), library.c_uint64(0)
+    direction = Direction(direction)
+    tables = default_tables() if tables is None else tables
     with tables._lock:
-        status = CALL.bidi_base_levels(
-            tables._handle, address(codes), len(text), direction, address(levels), len(text), count, place
-        )
+        status = call(tables._handle, text, n, direction, address(levels), n, count, place)
     refuse(status, place=place.value)
     return levels[: count.value].tolist()
 
 
-def is_left_to_right(text, tables):
-    """Whether a str has only classes that stay at level 0: no R, AL and AN, and nothing that begins an embedding, an
-    override or an isolate. If so, all levels of a layout under LTR or AUTO are 0, but where X9 removes a position.
-
-    Refused with NoCharacter. NotImplementedError: the library is an older one.
-    """
-    return bool(_asked(text, tables, "bidi_is_left_to_right"))
-
-
-def _asked(text, tables, name, *words):
-    """What a call of the library says of a text."""
-    if not library.HAS_BASE_LEVEL:
-        raise NotImplementedError("this library says nothing of a text without a layout")
-    codes, said, place = codes_of(text), library.c_uint8(0), library.c_uint64(0)
+def _said(call, tables, *words):
+    """Returns the number that a call of the library says of a text."""
+    said, place = library.c_uint8(0), library.c_uint64(0)
+    tables = default_tables() if tables is None else tables
     with tables._lock:
-        status = getattr(CALL, name)(tables._handle, address(codes), len(text), *words, said, place)
+        status = call(tables._handle, *words, said, place)
     refuse(status, place=place.value)
     return said.value
+
+
+def _need_base_level():
+    """Fails with NotImplementedError if the library has no call for a text without a layout."""
+    if not library.HAS_BASE_LEVEL:
+        raise NotImplementedError("this library says nothing of a text without a layout")
+
+
+def _need_utf8():
+    """Fails with NotImplementedError if it has none for UTF-8."""
+    if not library.HAS_UTF8_BASE_LEVELS:
+        raise NotImplementedError("this library says nothing of UTF-8 without a layout")

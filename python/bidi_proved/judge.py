@@ -9,7 +9,10 @@ from . import library
 from .errors import refuse
 from .layout import Direction, Limits
 from .library import CALL, Handle, address, items
+from .tables import Tables, default_tables
 
+Piece = typing.Union[bytes, bytearray, memoryview]
+Source = typing.Union[Piece, typing.BinaryIO, typing.Iterable[bytes]]
 PIECE = 65536
 LINE = 72
 
@@ -64,18 +67,18 @@ class Verdict(typing.NamedTuple):
     cases: typing.Optional[int]
     words: str
 
-    def __bool__(self):
+    def __bool__(self) -> bool:
         return self.answer == Answer.YES
 
-    def __str__(self):
+    def __str__(self) -> str:
         return self.words
 
 
 class Judge:
-    """A judge of one file, which is handed over in pieces of any length."""
+    """A judge of one file, which is given in pieces of any length."""
 
-    def __init__(self, tables=None, limits=Limits()):
-        """A judge of a BidiCharacterTest.txt by tables, or of a BidiTest.txt where none are given."""
+    def __init__(self, tables: typing.Optional[Tables] = None, limits: Limits = Limits()) -> None:
+        """Makes a judge of a BidiCharacterTest.txt with tables, or of a BidiTest.txt if none are given."""
         self._handle = Handle()
         self._lock = threading.Lock()
         limits = Limits(*limits)._for_call()
@@ -89,14 +92,14 @@ class Judge:
                 CALL.bidi_tables_free(of_its_own)
         weakref.finalize(self, CALL.bidi_judge_free, self._handle)
 
-    def feed(self, piece):
-        """Hands over the next bytes of the file. NoJudge: the verdict was told."""
+    def feed(self, piece: Piece) -> None:
+        """Takes the next bytes of the file. NoJudge: the verdict was returned."""
         piece = bytes(memoryview(piece))
         with self._lock:
             refuse(CALL.bidi_judge_feed(self._handle, piece, len(piece)))
 
-    def finish(self):
-        """The verdict on all bytes that were handed over. NoJudge: it was told."""
+    def finish(self) -> Verdict:
+        """Returns the verdict on all bytes that were given. NoJudge: it was returned before."""
         told = library.Verdict()
         with self._lock:
             refuse(CALL.bidi_judge_finish(self._handle, told))
@@ -137,12 +140,14 @@ def _judged(judge, source):
     return judge.finish()
 
 
-def judge_classes(source, limits=Limits()):
-    """The verdict on a BidiTest.txt: bytes, a file that is open for reading bytes, or what yields bytes."""
+def judge_classes(source: Source, limits: Limits = Limits()) -> Verdict:
+    """Returns the verdict on a BidiTest.txt: bytes, a file that is open for reading bytes, or what yields bytes."""
     return _judged(Judge(None, limits), source)
 
 
-def judge_characters(source, tables, limits=Limits()):
-    """The verdict on a BidiCharacterTest.txt by tables: bytes, a file that is open for reading bytes, or what yields
-    bytes."""
-    return _judged(Judge(tables, limits), source)
+def judge_characters(
+    source: Source, tables: typing.Optional[Tables] = None, limits: Limits = Limits()
+) -> Verdict:
+    """Returns the verdict on a BidiCharacterTest.txt with tables, or with those that are built in: bytes, a file that
+    is open for reading bytes, or what yields bytes."""
+    return _judged(Judge(default_tables() if tables is None else tables, limits), source)

@@ -7,27 +7,37 @@ import functools
 import itertools
 import threading
 import typing
+import warnings
 import weakref
 
 from . import library
 from .errors import StaleLayout, refuse
 from .library import CALL, Handle, address, codes_of, copied, items
-from .tables import Lent
+from .tables import CLASSES, Lent, Tables, default_tables
 
 REMOVED = 255
 NOWHERE = library.MOST
-CLASSES = "L R AL EN ES ET AN CS NSM BN B S WS ON LRE LRO RLE RLO PDF LRI RLI FSI PDI".split()
 NUMBERS = {name: number for number, name in enumerate(CLASSES)}
 
 
 class Direction(enum.IntEnum):
     """The direction of all paragraphs; AUTO and AUTO_RTL find that of each (P2, P3), and take left-to-right and
-    right-to-left where it has no strong character."""
+    right-to-left if it has no strong character. Calls also take the names, such as "rtl" or "auto"."""
 
     LTR = 0
     RTL = 1
     AUTO = 2
     AUTO_RTL = 3
+
+    @classmethod
+    def _missing_(cls, value):
+        """Returns the direction with this name, in letters of any case and with "-" for "_"."""
+        return cls.__members__.get(value.upper().replace("-", "_")) if isinstance(value, str) else None
+
+
+AnyDirection = typing.Union[Direction, int, str]
+Breaks = typing.Iterable[int]
+Levels = typing.List[typing.Optional[int]]
 
 
 class Limits(typing.NamedTuple):
@@ -73,10 +83,15 @@ def _number_of(item):
     return number if 0 <= number <= REMOVED else REMOVED
 
 
+def _without_removed(levels):
+    """Levels as lists have them: None for the number of one that X9 removes."""
+    return [None if level == REMOVED else level for level in levels]
+
+
 class AnyRoom:
     """Memory for texts and for the layout of the last one."""
 
-    def __init__(self, size, make, items_of):
+    def __init__(self, size: int, make: typing.Callable[..., int], items_of: str) -> None:
         if size < 0:
             raise ValueError(f"a room for {size} {items_of}")
         self.size = size
@@ -86,8 +101,13 @@ class AnyRoom:
         refuse(make(min(size, NOWHERE), self._handle))
         weakref.finalize(self, CALL.bidi_room_free, self._handle)
 
+    def __repr__(self) -> str:
+        return f"{type(self).__name__}({self.size})"
+
     def _by_tables(self, call, tables, *text):
-        """The call on this room by tables, of a text."""
+        """The call on this room by tables, or by those that are built in, of a text."""
+        if tables is None:
+            tables = default_tables()
 
         def called(*words):
             if self._lent is None or self._lent.tables is not tables:
@@ -111,26 +131,39 @@ class AnyRoom:
 class Room(AnyRoom):
     """Memory for texts of up to `size` characters, 86 bytes for each, and for the layout of the last one.
 
-    Whoever lays out many texts makes one for each thread. A layout of it can be asked until it lays out the next
-    text or breaks this one anew, and raises StaleLayout from then on. A call waits while another thread is in a call
-    on the same room.
+    A program that lays out many texts makes one for each thread. A layout of it can be used until the room lays out the
+    next text or breaks this one into other lines, and raises StaleLayout from then on. A call waits while another
+    thread is in a call on the same room.
     """
 
-    def __init__(self, size):
+    def __init__(self, size: int) -> None:
         super().__init__(size, CALL.bidi_room_new, "characters")
 
-    def lay_out(self, text, tables, direction=Direction.AUTO, breaks=(), limits=Limits()):
-        """Lays out a str, by tables, under a direction, with lines that begin at its start, behind each paragraph
-        separator and at each of `breaks`: rising positions above 0 and below its length.
+    def lay_out(
+        self,
+        text: str,
+        tables: typing.Optional[Tables] = None,
+        direction: AnyDirection = Direction.AUTO,
+        breaks: Breaks = (),
+        limits: Limits = Limits(),
+    ) -> "Layout":
+        """Lays out a str with tables, or with those that are built in, under a direction. Lines begin at its start,
+        after each paragraph separator and at each of `breaks`: rising positions above 0 and below its length.
 
-        Refused with TextTooLong, BreakOutOfRange, BreakNotRising, NoCharacter, DepthRefused or BracketsRefused; the
-        room holds what it held then.
+        Fails with TextTooLong, BreakOutOfRange, BreakNotRising, NoCharacter, DepthRefused or BracketsRefused; the room
+        is unchanged then. TypeError: the text is bytes, which Utf8Room lays out.
         """
         codes = codes_of(text)
         call = self._by_tables(CALL.bidi_lay_out_with, tables, address(codes), len(text))
         return self._hold(call, lambda *held: Layout(*held, text, codes), direction, breaks, limits)
 
-    def lay_out_classes(self, classes, direction=Direction.AUTO, breaks=(), limits=Limits()):
+    def lay_out_classes(
+        self,
+        classes: typing.Sequence[typing.Union[str, int]],
+        direction: AnyDirection = Direction.AUTO,
+        breaks: Breaks = (),
+        limits: Limits = Limits(),
+    ) -> "Layout":
         """The same for a text of classes, by their short names (such as "AL") or numbers; it has no brackets."""
         numbers = bytes(_number_of(it) for it in classes)
 
@@ -147,12 +180,17 @@ class AnyLayout:
         self._room, self._number, self._lent = room, number, lent
 
     @property
-    def paragraph_levels(self):
+    def paragraph_levels(self) -> typing.List[int]:
         """The level of each paragraph (P2, P3)."""
         return self._asked("B", CALL.bidi_para_levels).tolist()
 
-    def _anew(self, call, breaks, laid_out):
-        """What the call makes of the text by these breaks: `laid_out(room, number, lent)`."""
+    def with_lines(self, breaks: Breaks) -> "AnyLayout":
+        """The old name of `set_lines`."""
+        warnings.warn("with_lines is set_lines now", DeprecationWarning, stacklevel=2)
+        return self.set_lines(breaks)
+
+    def _broken(self, call, breaks, laid_out):
+        """What the call makes of the text with these breaks: `laid_out(room, number, lent)`."""
         placed, count = _placed(breaks)
         place = library.c_uint64(0)
         with self._held() as handle:
@@ -163,6 +201,23 @@ class AnyLayout:
     def _line_count(self):
         with self._held() as handle:
             return CALL.bidi_line_count(handle)
+
+    def _line_alone(self, start, end):
+        """Returns the levels and the order of one line alone."""
+        start, end = _span(start, end, self._room.size)
+        n, shown = end - start, library.c_size_t(0)
+        levels, order = items("B", n), items("Q", n)
+        with self._held() as handle:
+            self._lay_out_line(handle, start, end, address(levels), n, address(order), n, shown)
+        return _without_removed(levels), order[: shown.value].tolist()
+
+    def _without_separator(self, line, shown):
+        """Returns the characters that a line shows without the paragraph separator at its end."""
+        last, at = self._last_character(line)
+        if not self._lent.tables._separates(last):
+            return shown
+        place = line.order.index(at)
+        return shown[:place] + shown[place + 1 :]
 
     def _asked(self, code, call, *words):
         """What a look-up of the library writes."""
@@ -197,39 +252,52 @@ class Layout(AnyLayout):
         self._text, self._codes = text, codes
 
     @property
-    def levels(self):
-        """The level of each position after L1, None where X9 removes it."""
-        return [None if level == REMOVED else level for level in self._asked("B", CALL.bidi_levels)]
+    def levels(self) -> Levels:
+        """The level of each position after L1, None if X9 removes it."""
+        return _without_removed(self._asked("B", CALL.bidi_levels))
 
-    def with_lines(self, breaks):
-        """The same text with lines that begin at these breaks (L1, L2): for those who shape a text and know only then
-        where its lines end. Levels are not found anew. This layout raises StaleLayout from then on.
+    def __repr__(self) -> str:
+        return f"<Layout of {len(self._items)} positions>"
 
-        Refused with BreakOutOfRange or BreakNotRising; the room holds what it held then. NotImplementedError: the
-        library is an older one.
+    def set_lines(self, breaks: Breaks) -> "Layout":
+        """Returns the layout of the same text with lines that begin at these breaks (L1, L2): for programs that shape a
+        text and know only then where its lines end. It doesn't find levels again. This layout raises StaleLayout from
+        then on.
+
+        Fails with BreakOutOfRange or BreakNotRising; the room is unchanged then. NotImplementedError: the library is an
+        older one.
         """
         if not library.SETS_LINES:
-            raise NotImplementedError("this library breaks no text anew")
-        return self._anew(CALL.bidi_set_lines, breaks, lambda *held: Layout(*held, self._text, self._codes))
+            raise NotImplementedError("this library breaks no text into other lines")
+        return self._broken(CALL.bidi_set_lines, breaks, lambda *held: Layout(*held, self._text, self._codes))
 
-    def line_of(self, start, end):
-        """One line alone of the text (L1, L2), from `start` to before `end`, at the cost of that line, wherever other
-        lines end: for those who show a part of a long text, or measure where lines may end. Levels are not found anew,
-        and this layout and its lines stay as they are.
+    def line_of(self, start: int, end: int) -> "LineAlone":
+        """Returns one line alone of the text (L1, L2), from `start` to before `end`, at the cost of that line, wherever
+        other lines end: for programs that show a part of a long text, or measure where lines may end. It doesn't find
+        levels again, and this layout and its lines are unchanged.
 
-        Refused with LineNotForward, LineBeyondText or LineCrossesParagraph. NotImplementedError: the library is an
-        older one.
+        Fails with LineNotForward, LineBeyondText or LineCrossesParagraph. NotImplementedError: the library is an older
+        one.
         """
         if not library.HAS_LINE_OF:
             raise NotImplementedError("this library lays out no line alone")
         return LineAlone(self, start, end)
 
+    def para_level_at(self, position: int) -> typing.Optional[int]:
+        """Returns the level of the paragraph (P2, P3) in which a position lies, None if there is no such position."""
+        if position < 0:
+            raise ValueError(f"no position: {position}")
+        separators, levels = self._paragraphs
+        with self._held():
+            beyond = position >= len(self._items)
+            return None if beyond else levels[bisect.bisect_left(separators, position)]
+
     @property
-    def lines(self):
+    def lines(self) -> typing.List["Line"]:
         """Its lines, in the order of the text."""
         return [Line(self, number) for number in range(self._line_count())]
 
-    def display(self):
+    def display(self) -> typing.List[str]:
         """Its lines as they are shown, each a str from left to right with mirror images (L4), without the paragraph
         separator at its end and without what X9 removes. What shows them may not reorder them once more."""
         return [line.display() for line in self.lines]
@@ -240,57 +308,64 @@ class Layout(AnyLayout):
             raise ValueError("a text of classes has no characters")
         return self._text
 
+    @property
+    def _items(self):
+        """What was laid out: a str, or the numbers of classes."""
+        return self._codes if self._text is None else self._text
+
     @functools.cached_property
     def _paragraphs(self):
         """The positions of the paragraph separators, and the level of each paragraph."""
         separates = NUMBERS["B"].__eq__ if self._text is None else self._lent.tables._separates
-        items = self._codes if self._text is None else self._text
-        separators = {item for item in set(items) if separates(item)}
-        return [at for at, item in enumerate(items) if item in separators], self.paragraph_levels
+        separators = {item for item in set(self._items) if separates(item)}
+        return [at for at, item in enumerate(self._items) if item in separators], self.paragraph_levels
 
-    def _paragraph_level(self, at):
-        """The level of the paragraph in which a position lies."""
-        separators, levels = self._paragraphs
-        return levels[bisect.bisect_left(separators, at)]
+    def _lay_out_line(self, *words):
+        """Makes the call for one line alone."""
+        refuse(CALL.bidi_line_of(*words))
 
-    def _displayed(self, line):
-        """What one of its lines shows, without a paragraph separator."""
-        shown, last = line.shown, line.end - 1
-        if last < line.start or not self._lent.tables._separates(self._text[last]):
-            return shown
-        at = line.order.index(last)
-        return shown[:at] + shown[at + 1 :]
+    def _last_character(self, line):
+        """Returns the last character of a line and its position."""
+        return self._text[line.end - 1], line.end - 1
 
 
 class Line:
     """A line of a layout: positions [start, end) of the text."""
 
-    def __init__(self, layout, number):
+    def __init__(self, layout: Layout, number: int) -> None:
         self._layout, self._number = layout, number
         line = library.Line()
         with layout._held() as handle:
             refuse(CALL.bidi_line(handle, number, line))
         self.start, self.end = line.start, line.end
 
+    def __repr__(self) -> str:
+        return f"<Line from {self.start} to {self.end}>"
+
     @property
-    def order(self):
+    def levels(self) -> Levels:
+        """The level of each of its positions after L1, None if X9 removes it."""
+        return self._layout.levels[self.start : self.end]
+
+    @property
+    def order(self) -> typing.List[int]:
         """Its shown positions from left to right (L2)."""
         return self._layout._asked("Q", CALL.bidi_order, self._number).tolist()
 
     @property
-    def places(self):
-        """The place of each of its positions, from `start` on, None where X9 removes it."""
+    def places(self) -> typing.List[typing.Optional[int]]:
+        """The place of each of its positions, from `start` on, None if X9 removes it."""
         found = self._layout._asked("Q", CALL.bidi_places, self._number)
         return [None if place == NOWHERE else place for place in found]
 
     @property
-    def runs(self):
+    def runs(self) -> typing.List[Run]:
         """Its visual runs from left to right; each of its positions is in one of them. NotImplementedError: the library
         is an older one."""
         return self._layout._runs("bidi_runs", self._number)
 
     @property
-    def shown(self):
+    def shown(self) -> str:
         """Its characters as they are shown, from left to right, with mirror images (L4); a paragraph separator is one
         of them. ValueError: a text of classes has no characters."""
         layout = self._layout
@@ -302,57 +377,51 @@ class Line:
 
         return layout._asked("I", call).tobytes().decode("utf-32-le")
 
-    def display(self):
+    def display(self) -> str:
         """`shown` without a paragraph separator."""
-        return self._layout._displayed(self)
+        return self._layout._without_separator(self, self.shown)
 
 
-class LineAlone:
-    """A line of a text that was laid out, found without the text's other lines: positions [start, end) of the text.
+class AnyLineAlone:
+    """A line of a text that was laid out, found without the text's other lines: [start, end) of the text. All of it
+    stays when the room lays out another text."""
 
-    `levels` has the level of each of them after L1, None where X9 removes it, and `order` those that are shown, from
-    left to right (L2). All of it stays when the room lays out another text.
-    """
+    levels: Levels
+    order: typing.List[int]
 
-    def __init__(self, layout, start, end):
+    def __init__(self, layout: AnyLayout, start: int, end: int) -> None:
         self._layout, self.start, self.end = layout, start, end
-        start, end = _span(start, end, layout._room.size)
-        n, shown = end - start, library.c_size_t(0)
-        levels, order = items("B", n), items("Q", n)
-        with layout._held() as handle:
-            refuse(CALL.bidi_line_of(handle, start, end, address(levels), n, address(order), n, shown))
-        self.levels = [None if level == REMOVED else level for level in levels]
-        self.order = order[: shown.value].tolist()
+        self.levels, self.order = layout._line_alone(start, end)
         # Its paragraph's level, which only positions have that are removed at its end.
-        self._end_level = layout._paragraph_level(start) if self.levels[-1] is None else None
+        self._end_level = layout.para_level_at(start) if self.levels[-1] is None else None
+
+    def __repr__(self) -> str:
+        return f"<{type(self).__name__} from {self.start} to {self.end}>"
 
     @property
-    def places(self):
-        """The place of each of its positions, from `start` on, None where X9 removes it."""
-        found = {at: place for place, at in enumerate(self.order)}
-        return [found.get(at) for at in range(self.start, self.end)]
+    def places(self) -> typing.List[typing.Optional[int]]:
+        """The place of each of its positions, or bytes, from `start` on, None if X9 removes it."""
+        begins, found, last = {at: place for place, at in enumerate(self.order)}, [], None
+        for at, level in enumerate(self.levels, self.start):
+            last = begins.get(at, last)
+            found.append(None if level is None else last)
+        return found
 
     @property
-    def runs(self):
-        """Its visual runs from left to right; each of its positions is in one of them."""
+    def runs(self) -> typing.List[Run]:
+        """Its visual runs from left to right; each of its positions, or bytes, is in one of them."""
         kept, places, found = self._kept_levels(), self.places, []
         for level, group in itertools.groupby(range(len(kept)), kept.__getitem__):
             positions = list(group)
-            taken = [places[at] for at in positions if places[at] is not None]
+            taken = {places[at] for at in positions} - {None}
             first = min(taken, default=-1 if level % 2 else len(self.order))
             found.append((first, Run(self.start + positions[0], len(positions), len(taken), level)))
         return [run for _, run in sorted(found)]
 
-    @property
-    def shown(self):
-        """Its characters as they are shown, from left to right, with mirror images (L4); a paragraph separator is one
-        of them. ValueError: a text of classes has no characters."""
-        text, mirror = self._layout._characters(), self._layout._lent.tables.mirror
-        return "".join(mirror(text[at]) if self._level(at) % 2 else text[at] for at in self.order)
-
-    def display(self):
-        """`shown` without a paragraph separator."""
-        return self._layout._displayed(self)
+    def _shown(self, character_at):
+        """Its characters as they are shown, of which `character_at` returns the one at a position."""
+        mirror = self._layout._lent.tables.mirror
+        return "".join(mirror(character_at(at)) if self._level(at) % 2 else character_at(at) for at in self.order)
 
     def _kept_levels(self):
         """The level of each of its positions: where X9 removes it, that of the next one that is shown, and the
@@ -367,16 +436,51 @@ class LineAlone:
         return self.levels[at - self.start]
 
 
-def lay_out(text, tables, direction=Direction.AUTO, breaks=(), limits=Limits()):
+class LineAlone(AnyLineAlone):
+    """A line of a text that was laid out, found without the text's other lines: positions [start, end) of the text.
+
+    `levels` has the level of each of them after L1, None where X9 removes it, and `order` those that are shown, from
+    left to right (L2). All of it stays when the room lays out another text.
+    """
+
+    @property
+    def shown(self) -> str:
+        """Its characters as they are shown, from left to right, with mirror images (L4); a paragraph separator is one
+        of them. ValueError: a text of classes has no characters."""
+        return self._shown(self._layout._characters().__getitem__)
+
+    def display(self) -> str:
+        """`shown` without a paragraph separator."""
+        return self._layout._without_separator(self, self.shown)
+
+
+def lay_out(
+    text: str,
+    tables: typing.Optional[Tables] = None,
+    direction: AnyDirection = Direction.AUTO,
+    breaks: Breaks = (),
+    limits: Limits = Limits(),
+) -> Layout:
     """Lays out a str in a room of its own: Room.lay_out says how. The layout stays."""
     return Room(len(text)).lay_out(text, tables, direction, breaks, limits)
 
 
-def lay_out_classes(classes, direction=Direction.AUTO, breaks=(), limits=Limits()):
+def lay_out_classes(
+    classes: typing.Sequence[typing.Union[str, int]],
+    direction: AnyDirection = Direction.AUTO,
+    breaks: Breaks = (),
+    limits: Limits = Limits(),
+) -> Layout:
     """Lays out a list of classes in a room of its own: Room.lay_out_classes says how. The layout stays."""
     return Room(len(classes)).lay_out_classes(classes, direction, breaks, limits)
 
 
-def display(text, tables, direction=Direction.AUTO, breaks=(), limits=Limits()):
+def display(
+    text: str,
+    tables: typing.Optional[Tables] = None,
+    direction: AnyDirection = Direction.AUTO,
+    breaks: Breaks = (),
+    limits: Limits = Limits(),
+) -> typing.List[str]:
     """The lines of a str as they are shown: Layout.display says how."""
     return lay_out(text, tables, direction, breaks, limits).display()

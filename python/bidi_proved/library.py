@@ -116,6 +116,8 @@ NEWER_CALLS = {
     "bidi_is_left_to_right": (c_uint32, [HANDLE, c_void_p, c_size_t, BYTE, PLACE]),
     "bidi_runs": (c_size_t, RUNS),
     "bidi_encoded_runs": (c_size_t, RUNS),
+    "bidi_class": (c_uint32, [HANDLE, c_uint32, BYTE]),
+    "bidi_bracket": (c_uint32, [HANDLE, c_uint32, BYTE]),
 }
 # Those for texts in UTF-8.
 UTF8_TEXT = [HANDLE, HANDLE, c_char_p, c_size_t, c_uint32, c_void_p, c_size_t, Limits, PLACE]
@@ -130,6 +132,24 @@ UTF8_CALLS = {
     "bidi_encoded_levels": (c_size_t, [HANDLE, c_void_p, c_size_t]),
     "bidi_encoded_line": (c_uint32, [HANDLE, c_size_t, POINTER(Line)]),
     "bidi_encoded_order": (c_size_t, [HANDLE, c_size_t, c_void_p, c_size_t]),
+}
+# Those for one line alone of such a text, and for the place and the paragraph of each byte.
+UTF8_LINE_CALLS = {
+    "bidi_encoded_line_of": (c_uint32, [HANDLE, c_size_t, c_size_t, *[c_void_p, c_size_t] * 2, POINTER(c_size_t)]),
+    "bidi_encoded_places": (c_size_t, [HANDLE, c_size_t, c_void_p, c_size_t]),
+    "bidi_encoded_para_level_at": (c_uint8, [HANDLE, c_size_t]),
+}
+# Those for such texts without a layout.
+UTF8_BASE_CALLS = {
+    "bidi_base_level_utf8": (c_uint32, [HANDLE, c_char_p, c_size_t, c_uint32, BYTE, PLACE]),
+    "bidi_base_levels_utf8": (
+        c_uint32, [HANDLE, c_char_p, c_size_t, c_uint32, c_void_p, c_size_t, POINTER(c_size_t), PLACE],
+    ),
+    "bidi_is_left_to_right_utf8": (c_uint32, [HANDLE, c_char_p, c_size_t, BYTE, PLACE]),
+}
+# That for a line of such a text as it is shown.
+UTF8_SHOWN_CALLS = {
+    "bidi_encoded_shown_utf8": (c_size_t, [HANDLE, HANDLE, c_char_p, c_size_t, c_size_t, c_void_p, c_size_t]),
 }
 # Those for reports on test files.
 REPORT_CALLS = {
@@ -170,7 +190,8 @@ def load():
 
 def declare(found):
     """Declares what the calls take and answer."""
-    newer = {**NEWER_CALLS, **UTF8_CALLS, **REPORT_CALLS}
+    utf8 = {**UTF8_CALLS, **UTF8_LINE_CALLS, **UTF8_BASE_CALLS, **UTF8_SHOWN_CALLS}
+    newer = {**NEWER_CALLS, **utf8, **REPORT_CALLS}
     known = {**CALLS, **{name: types for name, types in newer.items() if hasattr(found, name)}}
     for name, (result, words) in known.items():
         call = getattr(found, name)
@@ -181,7 +202,7 @@ CALL = load()
 HAS_STANDARD_TABLES = hasattr(CALL, "bidi_tables_standard") and hasattr(CALL, "bidi_edition")
 # Whether several handles can hold the same tables, so that threads use them at once.
 SHARES_TABLES = hasattr(CALL, "bidi_tables_share")
-# Whether a text that is laid out can be broken into lines anew.
+# Whether a text that is laid out can be broken into other lines.
 SETS_LINES = hasattr(CALL, "bidi_set_lines")
 # Whether one line alone of such a text can be laid out.
 HAS_LINE_OF = hasattr(CALL, "bidi_line_of")
@@ -193,6 +214,12 @@ HAS_BASE_LEVEL = hasattr(CALL, "bidi_base_level") and hasattr(CALL, "bidi_is_lef
 HAS_BASE_LEVELS = hasattr(CALL, "bidi_base_levels")
 # Whether it lays out texts in UTF-8, refused or read with U+FFFD where they are ill-formed, and breaks them anew.
 HAS_UTF8 = all(hasattr(CALL, name) for name in UTF8_CALLS)
+# Whether one line alone of such a text can be laid out, and each byte has a place and the level of its paragraph.
+HAS_UTF8_LINE_OF = all(hasattr(CALL, name) for name in UTF8_LINE_CALLS)
+# Whether it returns the levels of paragraphs of such a text without a layout.
+HAS_UTF8_BASE_LEVELS = all(hasattr(CALL, name) for name in UTF8_BASE_CALLS)
+# Whether it returns a line of such a text as it is shown.
+HAS_UTF8_SHOWN = all(hasattr(CALL, name) for name in UTF8_SHOWN_CALLS)
 # Whether it reports on test files.
 HAS_REPORTS = all(hasattr(CALL, name) for name in REPORT_CALLS)
 
@@ -219,12 +246,22 @@ def copied(code, ask):
 
 
 def codes_of(text):
-    """The code points of a str. Half of a surrogate pair stays what it is, and the library refuses it."""
+    """Returns the code points of a str. Half of a surrogate pair is unchanged, and the library rejects it. Fails with
+    TypeError if the text is bytes."""
+    if not isinstance(text, str):
+        kind = type(text).__name__
+        raise TypeError(f"a text is a str, not {kind}: lay_out_utf8 and Utf8Room lay out bytes of UTF-8")
     codes = array.array("I")
     codes.frombytes(text.encode("utf-32-le", "surrogatepass"))
     return codes or items("I", 0)
 
 
+def bytes_of(text):
+    """Returns the bytes of a text, those of its UTF-8 if it is a str. Half of a surrogate pair becomes bytes that are
+    not UTF-8, which the library rejects or replaces."""
+    return text.encode("utf-8", "surrogatepass") if isinstance(text, str) else bytes(text)
+
+
 def version():
-    """The version of the library that was loaded, such as "1.0.0", or None where it tells none."""
+    """The version of the library that was loaded, such as "1.1.0", or None where it tells none."""
     return copied("B", CALL.bidi_version).tobytes().decode("ascii") if hasattr(CALL, "bidi_version") else None

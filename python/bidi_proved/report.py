@@ -7,9 +7,10 @@ import weakref
 
 from . import library
 from .errors import BidiError, NoReport, refuse
-from .judge import Cause, Wrong, _pieces
+from .judge import Cause, Piece, Source, Wrong, _pieces
 from .layout import Direction, Limits
 from .library import CALL, Handle
+from .tables import Tables, default_tables
 
 NO_CASE = 27
 LEVEL, POSITION, REMOVED = 2, 3, 1
@@ -49,7 +50,7 @@ class WrongCase(typing.NamedTuple):
     claimed: Item
     defined: Item
 
-    def __str__(self):
+    def __str__(self) -> str:
         place = PLACES[self.place].format(self.index)
         differs = f"claimed {_words(self.claimed)}, defined {_words(self.defined)}"
         return f"line {self.line}: {WORDS[self.direction]}: {place}: {differs}"
@@ -71,7 +72,7 @@ class Counts(typing.NamedTuple):
     malformed: typing.Optional[int]
     cause: typing.Optional[Cause]
 
-    def __bool__(self):
+    def __bool__(self) -> bool:
         return self.wrong_cases == 0 and self.malformed is None
 
 
@@ -79,7 +80,7 @@ class MalformedLine(BidiError, ValueError):
     """A line of a test file is malformed: `line` is the first such line, from 1, and `cause` says why. What stands
     behind it is not reported on."""
 
-    def __init__(self, line, cause):
+    def __init__(self, line: int, cause: int) -> None:
         super().__init__(f"line {line}: malformed: {Cause(cause).name}")
         self.line, self.cause = line, Cause(cause)
 
@@ -111,10 +112,10 @@ def _counts_of(told):
 
 
 class Report:
-    """A report on one file, which is handed over in pieces of any length."""
+    """A report on one file, which is given in pieces of any length."""
 
-    def __init__(self, tables=None, limits=Limits()):
-        """A report on a BidiCharacterTest.txt by tables, or on a BidiTest.txt where none are given."""
+    def __init__(self, tables: typing.Optional[Tables] = None, limits: Limits = Limits()) -> None:
+        """Makes a report on a BidiCharacterTest.txt with tables, or on a BidiTest.txt if none are given."""
         if not library.HAS_REPORTS:
             raise NotImplementedError("this library has no reports")
         self._handle = Handle()
@@ -140,9 +141,9 @@ class Report:
         refuse(status)
         return _case_of(told)
 
-    def feed(self, piece):
-        """Hands over the next bytes of the file, and answers the list of the wrong cases on the lines that end in them.
-        NoReport: the file has ended."""
+    def feed(self, piece: Piece) -> typing.List[WrongCase]:
+        """Takes the next bytes of the file, and returns the wrong cases on the lines that end in them. NoReport: the
+        file has ended."""
         piece = bytes(memoryview(piece))
         found, used = [], ctypes.c_size_t(0)
         with self._lock:
@@ -154,9 +155,9 @@ class Report:
                 piece = piece[used.value :]
         return found
 
-    def finish(self):
-        """Hands over the end of the file, and answers the list of the wrong cases on a last line without LF. NoReport:
-        the file has ended before."""
+    def finish(self) -> typing.List[WrongCase]:
+        """Takes the end of the file, and returns the wrong cases on a last line without LF. NoReport: the file has
+        ended before."""
         told = library.Counts()
         with self._lock:
             refuse(CALL.bidi_report_finish(self._handle, told))
@@ -164,8 +165,8 @@ class Report:
             return list(iter(self._next, None))
 
     @property
-    def counts(self):
-        """The counts of the file, or None where its end was not handed over."""
+    def counts(self) -> typing.Optional[Counts]:
+        """The counts of the file, or None if its end was not given."""
         return self._counts
 
 
@@ -179,12 +180,15 @@ def _reported(report, source):
     return counts
 
 
-def report_classes(source, limits=Limits()):
+def report_classes(source: Source, limits: Limits = Limits()) -> typing.Iterator[WrongCase]:
     """Yields the wrong cases of a BidiTest.txt, in its order: bytes, a file that is open for reading bytes, or what
-    yields bytes. MalformedLine is raised behind those before the first malformed line, if there is one."""
+    yields bytes. MalformedLine is raised after those before the first malformed line, if there is one."""
     return _reported(Report(None, limits), source)
 
 
-def report_characters(source, tables, limits=Limits()):
-    """Yields the wrong cases of a BidiCharacterTest.txt by tables, in its order, as `report_classes` does."""
-    return _reported(Report(tables, limits), source)
+def report_characters(
+    source: Source, tables: typing.Optional[Tables] = None, limits: Limits = Limits()
+) -> typing.Iterator[WrongCase]:
+    """Yields the wrong cases of a BidiCharacterTest.txt with tables, or with those that are built in, in its order, as
+    `report_classes` does."""
+    return _reported(Report(default_tables() if tables is None else tables, limits), source)

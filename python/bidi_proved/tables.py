@@ -1,12 +1,27 @@
 """Tables: the class, the bracket and the mirror image of each character."""
 import contextlib
 import ctypes
+import enum
+import functools
+import os
 import pathlib
 import threading
+import typing
 import weakref
 
+from . import library
 from .errors import refuse
 from .library import CALL, HAS_STANDARD_TABLES, SHARES_TABLES, Fault, Handle, copied
+
+CLASSES = "L R AL EN ES ET AN CS NSM BN B S WS ON LRE LRO RLE RLO PDF LRI RLI FSI PDI".split()
+
+
+class Bracket(enum.IntEnum):
+    """What a character is as a bracket (BD14, BD15)."""
+
+    NONE = 0
+    OPENING = 1
+    CLOSING = 2
 
 
 def _file_of(folder, name):
@@ -15,8 +30,8 @@ def _file_of(folder, name):
     return here if here.exists() or not (folder / "extracted" / name).exists() else folder / "extracted" / name
 
 
-def edition():
-    """The edition of Unicode whose tables are built into the library, such as "15.0.0", or None where it has none."""
+def edition() -> typing.Optional[str]:
+    """The edition of Unicode whose tables are built into the library, such as "17.0.0", or None where it has none."""
     return copied("B", CALL.bidi_edition).tobytes().decode("ascii") if HAS_STANDARD_TABLES else None
 
 
@@ -26,7 +41,7 @@ class Tables:
     Any number of threads may use one at once. A pickled one is made anew where it is loaded.
     """
 
-    def __init__(self, classes, brackets, mirrors):
+    def __init__(self, classes: bytes, brackets: bytes, mirrors: bytes) -> None:
         """Reads them from the bytes of DerivedBidiClass.txt, BidiBrackets.txt and BidiMirroring.txt.
 
         A faulty file is refused with ClassFileFault, BracketFileFault or MirrorFileFault, which name the line.
@@ -34,14 +49,14 @@ class Tables:
         self._begin((bytes(classes), bytes(brackets), bytes(mirrors)))
 
     @classmethod
-    def read(cls, folder):
+    def read(cls, folder: typing.Union[str, "os.PathLike[str]"]) -> "Tables":
         """Reads them from the three files in a folder; DerivedBidiClass.txt may lie in its folder `extracted`."""
         folder = pathlib.Path(folder)
         names = ("DerivedBidiClass.txt", "BidiBrackets.txt", "BidiMirroring.txt")
         return cls(*(_file_of(folder, name).read_bytes() for name in names))
 
     @classmethod
-    def standard(cls):
+    def standard(cls) -> "Tables":
         """The tables that are built into the library. NotImplementedError: this library has none."""
         if not HAS_STANDARD_TABLES:
             raise NotImplementedError("this libbidi_c has no tables built in: use Tables.read")
@@ -49,10 +64,37 @@ class Tables:
         made._begin(None)
         return made
 
-    def mirror(self, character):
-        """The mirror image of a character (L4), or itself where it has none."""
+    def mirror(self, character: str) -> str:
+        """Returns the mirrored form of a character (L4), or the character itself if it has none."""
         with self._lock:
             return chr(CALL.bidi_mirror(self._handle, ord(character)))
+
+    def class_of(self, character: str) -> str:
+        """Returns the short name of a character's class, such as "AL".
+
+        Fails with NoCharacter if it is half of a surrogate pair. NotImplementedError: the library is an older one.
+        """
+        return CLASSES[self._asked("bidi_class", character)]
+
+    def bracket_of(self, character: str) -> Bracket:
+        """Returns whether a character is an opening or a closing bracket.
+
+        Fails with NoCharacter if it is half of a surrogate pair. NotImplementedError: the library is an older one.
+        """
+        return Bracket(self._asked("bidi_bracket", character))
+
+    def __repr__(self) -> str:
+        return "Tables.standard()" if self._files is None else "<Tables of three property files>"
+
+    def _asked(self, name, character):
+        """Returns the number that a call of the library returns for a character."""
+        if not hasattr(CALL, name):
+            raise NotImplementedError("this library returns no properties of single characters")
+        found = library.c_uint8(0)
+        with self._lock:
+            status = getattr(CALL, name)(self._handle, ord(character), found)
+        refuse(status, place=0)
+        return found.value
 
     def __reduce__(self):
         return (Tables, self._files) if self._files else (Tables.standard, ())
@@ -90,6 +132,12 @@ class Tables:
 
             self._separators[character] = len(lay_out(character + "a", self).paragraph_levels) == 2
         return self._separators[character]
+
+
+@functools.lru_cache(maxsize=None)
+def default_tables() -> Tables:
+    """Returns the built-in tables that calls use if they are given none."""
+    return Tables.standard()
 
 
 class Lent:

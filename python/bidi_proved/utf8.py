@@ -1,38 +1,53 @@
 """Texts in UTF-8 laid out, and told of by the offsets of their bytes."""
+import typing
+
 from . import library
 from .errors import refuse
-from .layout import REMOVED, AnyLayout, AnyRoom, Direction, Limits
-from .library import CALL
+from .layout import (
+    NOWHERE, REMOVED, AnyDirection, AnyLayout, AnyLineAlone, AnyRoom, Breaks, Direction, Levels, Limits, Run,
+)
+from .library import CALL, bytes_of
+from .tables import Tables
+
+Text = typing.Union[str, bytes, bytearray, memoryview]
 
 # The call for each way to read what is ill-formed.
 _CALLS = {"strict": "bidi_lay_out_utf8_with", "replace": "bidi_lay_out_utf8_lossy_with"}
 
 
 class Utf8Room(AnyRoom):
-    """Memory for texts of up to `size` bytes of UTF-8, 112 bytes for each, and for the layout of the last one.
+    """Memory for texts of up to `size` bytes of UTF-8, 114 bytes for each, and for the layout of the last one.
 
-    Whoever lays out many texts makes one for each thread. A layout of it can be asked until it lays out the next
-    text or breaks this one anew, and raises StaleLayout from then on. A call waits while another thread is in a call
-    on the same room.
+    A program that lays out many texts makes one for each thread. A layout of it can be used until the room lays out the
+    next text or breaks this one into other lines, and raises StaleLayout from then on. A call waits while another
+    thread is in a call on the same room.
     """
 
-    def __init__(self, size):
+    def __init__(self, size: int) -> None:
         if not library.HAS_UTF8:
             raise NotImplementedError("this library lays out no UTF-8")
         super().__init__(size, CALL.bidi_room_new_encoded, "bytes")
 
-    def lay_out(self, text, tables, direction=Direction.AUTO, breaks=(), limits=Limits(), errors="strict"):
-        """Lays out bytes of UTF-8, or a str as its UTF-8, by tables, under a direction, with lines that begin at its
-        start, behind each paragraph separator and at each of `breaks`: rising offsets above 0 and below the number of
-        its bytes, at each of which a character begins.
+    def lay_out(
+        self,
+        text: Text,
+        tables: typing.Optional[Tables] = None,
+        direction: AnyDirection = Direction.AUTO,
+        breaks: Breaks = (),
+        limits: Limits = Limits(),
+        errors: str = "strict",
+    ) -> "Utf8Layout":
+        """Lays out bytes of UTF-8, or a str as its UTF-8, with tables, or with those that are built in, under a
+        direction. Lines begin at its start, after each paragraph separator and at each of `breaks`: rising offsets
+        above 0 and below the number of its bytes, at each of which a character begins.
 
         With errors="replace" each maximal subpart of what is no UTF-8 is read as U+FFFD, as bytes.decode does it; such
         a part is one character.
 
-        Refused with TextTooLong, IllFormed, BreakOutOfRange, BreakNotRising, BreakInside, DepthRefused or
-        BracketsRefused; the room holds what it held then.
+        Fails with TextTooLong, IllFormed, BreakOutOfRange, BreakNotRising, BreakInside, DepthRefused or
+        BracketsRefused; the room is unchanged then.
         """
-        encoded = _encoded(text)
+        encoded = bytes_of(text)
         call = self._by_tables(getattr(CALL, _CALLS[errors]), tables, encoded, len(encoded))
         return self._hold(call, lambda *held: Utf8Layout(*held, encoded), direction, breaks, limits)
 
@@ -44,37 +59,78 @@ class Utf8Layout(AnyLayout):
         super().__init__(room, number, lent)
         self.text = text
 
+    def __repr__(self) -> str:
+        return f"<Utf8Layout of {len(self.text)} bytes>"
+
     @property
-    def levels(self):
-        """The level of each byte after L1, that of its character: None where X9 removes it."""
+    def levels(self) -> Levels:
+        """The level of each byte after L1, that of its character: None if X9 removes it."""
         return [None if level == REMOVED else level for level in self._asked("B", CALL.bidi_encoded_levels)]
 
-    def level_at(self, offset):
-        """The level of the byte at an offset: None where X9 removes its character, and where there is no such byte."""
+    def level_at(self, offset: int) -> typing.Optional[int]:
+        """The level of the byte at an offset: None if X9 removes its character, and if there is no such byte."""
         level = self._told(CALL.bidi_level_at, offset)
         return None if level == REMOVED else level
 
-    def index_of(self, offset):
+    def para_level_at(self, offset: int) -> typing.Optional[int]:
+        """Returns the level of the paragraph (P2, P3) in which the byte at an offset lies, None if there is no such
+        byte. NotImplementedError: the library is an older one."""
+        _need_lines()
+        level = self._told(CALL.bidi_encoded_para_level_at, offset)
+        return None if level == REMOVED else level
+
+    def index_of(self, offset: int) -> int:
         """The index of the character that the byte at an offset belongs to; from the text's end on how many characters
         it has."""
         return self._told(CALL.bidi_index_of, offset)
 
-    def offset_of(self, index):
+    def offset_of(self, index: int) -> int:
         """The offset at which the character with an index begins, from their number on how many bytes there are."""
         return self._told(CALL.bidi_offset_of, index)
 
-    def with_lines(self, breaks):
-        """The same text with lines that begin at these offsets (L1, L2). Levels are not found anew. This layout raises
-        StaleLayout from then on.
+    def set_lines(self, breaks: Breaks) -> "Utf8Layout":
+        """Returns the layout of the same text with lines that begin at these offsets (L1, L2). It doesn't find levels
+        again. This layout raises StaleLayout from then on.
 
-        Refused with BreakOutOfRange, BreakNotRising or BreakInside; the room holds what it held then.
+        Fails with BreakOutOfRange, BreakNotRising or BreakInside; the room is unchanged then.
         """
-        return self._anew(CALL.bidi_encoded_set_lines, breaks, lambda *held: Utf8Layout(*held, self.text))
+        return self._broken(CALL.bidi_encoded_set_lines, breaks, lambda *held: Utf8Layout(*held, self.text))
+
+    def line_of(self, start: int, end: int) -> "Utf8LineAlone":
+        """Returns one line alone of the text (L1, L2), from the offset `start` to before `end`, at the cost of that
+        line, as Layout.line_of does. This layout and its lines are unchanged.
+
+        Fails with LineNotForward, LineBeyondText, BreakInside or LineCrossesParagraph. The place of BreakInside is 0 if
+        `start` is inside a character, and 1 if only `end` is. NotImplementedError: the library is an older one.
+        """
+        _need_lines()
+        return Utf8LineAlone(self, start, end)
 
     @property
-    def lines(self):
+    def lines(self) -> typing.List["Utf8Line"]:
         """Its lines, in the order of the text."""
         return [Utf8Line(self, number) for number in range(self._line_count())]
+
+    def display(self) -> typing.List[bytes]:
+        """Returns its lines as they are shown, each in UTF-8 from left to right with mirrored characters (L4), without
+        the paragraph separator at its end and without what X9 removes. What shows them must not reorder them again.
+        NotImplementedError: the library is an older one."""
+        return [line.display() for line in self.lines]
+
+    def _lay_out_line(self, handle, start, *words):
+        """Makes the call for one line alone."""
+        status = CALL.bidi_encoded_line_of(handle, start, *words)
+        begins = CALL.bidi_offset_of(handle, CALL.bidi_index_of(handle, start)) == start
+        refuse(status, place=int(begins))
+
+    def _character_at(self, offset):
+        """Returns the character that begins at an offset, or U+FFFD for bytes that are not UTF-8."""
+        return self.text[offset : offset + 4].decode("utf-8", "replace")[0]
+
+    def _last_character(self, line):
+        """Returns the last character of a line and its offset. A character has at most four bytes."""
+        last = self.text[max(line.end - 4, line.start) : line.end].decode("utf-8", "replace")[-1]
+        return last, line.end - len(last.encode("utf-8"))
 
     def _told(self, call, number):
         if number < 0:
@@ -86,31 +142,93 @@ class Utf8Layout(AnyLayout):
 class Utf8Line:
     """A line of such a layout: the bytes at offsets [start, end)."""
 
-    def __init__(self, layout, number):
+    def __init__(self, layout: Utf8Layout, number: int) -> None:
         self._layout, self._number = layout, number
         line = library.Line()
         with layout._held() as handle:
             refuse(CALL.bidi_encoded_line(handle, number, line))
         self.start, self.end = line.start, line.end
 
+    def __repr__(self) -> str:
+        return f"<Utf8Line from {self.start} to {self.end}>"
+
     @property
-    def order(self):
+    def levels(self) -> Levels:
+        """The level of each of its bytes after L1, that of its character: None if X9 removes it."""
+        return self._layout.levels[self.start : self.end]
+
+    @property
+    def order(self) -> typing.List[int]:
         """The offsets at which its shown characters begin, from left to right (L2)."""
         return self._layout._asked("Q", CALL.bidi_encoded_order, self._number).tolist()
 
     @property
-    def runs(self):
+    def places(self) -> typing.List[typing.Optional[int]]:
+        """The place of each of its bytes, from `start` on, that of its character: None if X9 removes it.
+        NotImplementedError: the library is an older one."""
+        _need_lines()
+        found = self._layout._asked("Q", CALL.bidi_encoded_places, self._number)
+        return [None if place == NOWHERE else place for place in found]
+
+    @property
+    def runs(self) -> typing.List[Run]:
         """Its visual runs from left to right, with `start` and `length` in bytes; each of its bytes is in one of them.
         NotImplementedError: the library is an older one."""
         return self._layout._runs("bidi_encoded_runs", self._number)
 
+    @property
+    def shown(self) -> bytes:
+        """Its characters in UTF-8 as they are shown, from left to right, with mirrored characters (L4) and with U+FFFD
+        for bytes that are not UTF-8. A paragraph separator is one of them. NotImplementedError: the library is an older
+        one."""
+        if not library.HAS_UTF8_SHOWN:
+            raise NotImplementedError("this library shows no line in UTF-8")
+        layout = self._layout
 
-def lay_out_utf8(text, tables, direction=Direction.AUTO, breaks=(), limits=Limits(), errors="strict"):
+        def call(handle, *words):
+            with layout._lent.guard:
+                text = layout.text
+                return CALL.bidi_encoded_shown_utf8(handle, layout._lent.handle, text, len(text), self._number, *words)
+
+        return layout._asked("B", call).tobytes()
+
+    def display(self) -> bytes:
+        """Returns `shown` without a paragraph separator."""
+        return self._layout._without_separator(self, self.shown.decode("utf-8")).encode("utf-8")
+
+
+class Utf8LineAlone(AnyLineAlone):
+    """A line of such a layout, found without the text's other lines: the bytes at offsets [start, end).
+
+    `levels` has the level of each byte after L1, that of its character, None if X9 removes it, and `order` the offsets
+    at which its shown characters begin, from left to right (L2). All of it stays when the room lays out another text.
+    """
+
+    @property
+    def shown(self) -> bytes:
+        """Its characters in UTF-8 as they are shown, as those of Utf8Line."""
+        return self._shown(self._layout._character_at).encode("utf-8")
+
+    def display(self) -> bytes:
+        """Returns `shown` without a paragraph separator."""
+        shown = self._shown(self._layout._character_at)
+        return self._layout._without_separator(self, shown).encode("utf-8")
+
+
+def lay_out_utf8(
+    text: Text,
+    tables: typing.Optional[Tables] = None,
+    direction: AnyDirection = Direction.AUTO,
+    breaks: Breaks = (),
+    limits: Limits = Limits(),
+    errors: str = "strict",
+) -> Utf8Layout:
     """Lays out UTF-8 in a room of its own: Utf8Room.lay_out says how. The layout stays."""
-    text = _encoded(text)
+    text = bytes_of(text)
     return Utf8Room(len(text)).lay_out(text, tables, direction, breaks, limits, errors)
 
 
-def _encoded(text):
-    """The bytes of a text. Half of a surrogate pair becomes bytes that are no UTF-8, and are refused or replaced."""
-    return text.encode("utf-8", "surrogatepass") if isinstance(text, str) else bytes(text)
+def _need_lines():
+    """Fails with NotImplementedError if the library is older than lines alone of texts in UTF-8."""
+    if not library.HAS_UTF8_LINE_OF:
+        raise NotImplementedError("this library tells no line alone, place or paragraph of UTF-8")

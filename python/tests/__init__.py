@@ -1,11 +1,12 @@
 """Tests of bidi_proved: `python3 -m unittest` in the folder python, with BIDI_LIBRARY naming the shared object."""
 import pathlib
-import unittest
 
 import bidi_proved as bidi
 
 TOP = pathlib.Path(__file__).resolve().parents[2]
-PUBLISHED = pathlib.Path("/usr/share/unicode")
+EDITION = (TOP / "data/EDITION").read_text().strip()
+PUBLISHED = TOP / f"data/unicode-{EDITION}"
+TEST_FILES = pathlib.Path("/usr/share/unicode")
 
 
 def small_tables():
@@ -14,10 +15,5 @@ def small_tables():
 
 
 def all_tables():
-    """Tables of all characters: those that are built in, or else the published ones; the test is left out where there
-    are neither."""
-    if bidi.HAS_STANDARD_TABLES:
-        return bidi.Tables.standard()
-    if not (PUBLISHED / "BidiBrackets.txt").exists():
-        raise unittest.SkipTest(f"no tables built in, and no published files in {PUBLISHED} (package unicode-data)")
-    return bidi.Tables.read(PUBLISHED)
+    """Returns tables of all characters: those that are built in, or else the published ones."""
+    return bidi.Tables.standard() if bidi.HAS_STANDARD_TABLES else bidi.Tables.read(PUBLISHED)

@@ -3,6 +3,7 @@ import unittest
 import unittest.mock
 
 import bidi_proved as bidi
+from bidi_proved import library
 
 from . import all_tables, small_tables
 from .test_many import TEXTS
@@ -78,6 +79,49 @@ class LeftToRight(unittest.TestCase):
         for text in stays:
             for direction in (bidi.Direction.LTR, bidi.Direction.AUTO):
                 self.assertLessEqual(set(bidi.lay_out(text, self.tables, direction).levels), {0, None}, ascii(text))
+
+
+@unittest.skipUnless(library.HAS_UTF8_BASE_LEVELS, "this library says nothing of UTF-8 without a layout")
+class Utf8(unittest.TestCase):
+    """What is said of a text in UTF-8 is what is said of its characters."""
+
+    def setUp(self):
+        self.tables = small_tables()
+
+    def test_beside_characters(self):
+        for text in [*TEXTS, "", f"\n{ALEF}\n1", "a\u202cb"]:
+            encoded = text.encode()
+            for direction in bidi.Direction:
+                level = bidi.base_level(text, self.tables, direction)
+                self.assertEqual(bidi.base_level_utf8(encoded, self.tables, direction), level, ascii(text))
+                levels = bidi.base_levels(text, self.tables, direction)
+                self.assertEqual(bidi.base_levels_utf8(encoded, self.tables, direction), levels, ascii(text))
+            stays = bidi.is_left_to_right(text, self.tables)
+            self.assertIs(bidi.is_left_to_right_utf8(encoded, self.tables), stays, ascii(text))
+
+    def test_what_a_text_may_be(self):
+        for text in (f"1\n{ALEF}", bytearray(f"1\n{ALEF}".encode()), memoryview(f"1\n{ALEF}".encode())):
+            self.assertEqual(bidi.base_levels_utf8(text, self.tables, "auto-rtl"), [1, 1])
+            self.assertEqual(bidi.base_level_utf8(text, self.tables), 0)
+            self.assertIs(bidi.is_left_to_right_utf8(text, self.tables), False)
+
+    def test_ill_formed(self):
+        for call in (bidi.base_level_utf8, bidi.base_levels_utf8, bidi.is_left_to_right_utf8):
+            for text, place in ((b"a\xff", 1), (f"{ALEF}\n\ud800", 3), (b"\xd7", 0)):
+                with self.assertRaises(bidi.IllFormed) as told:
+                    call(text, self.tables)
+                self.assertEqual(told.exception.place, place)
+
+    def test_no_direction(self):
+        for call in (bidi.base_level_utf8, bidi.base_levels_utf8):
+            with self.assertRaises(ValueError):
+                call(b"a", self.tables, 4)
+
+    def test_older_library(self):
+        with unittest.mock.patch("bidi_proved.library.HAS_UTF8_BASE_LEVELS", False):
+            for call in (bidi.base_level_utf8, bidi.base_levels_utf8, bidi.is_left_to_right_utf8):
+                with self.assertRaises(NotImplementedError):
+                    call(b"a", self.tables)
 
 
 class Refused(unittest.TestCase):

@@ -52,6 +52,9 @@ class Manual(unittest.TestCase):
     def test_resize(self):
         self.runs("resize.py")
 
+    def test_show(self):
+        self.runs("show.py")
+
     def test_all_cores(self):
         self.runs("all_cores.py")
 

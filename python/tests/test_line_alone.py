@@ -72,6 +72,17 @@ class Worked(unittest.TestCase):
         with self.assertRaises(bidi.StaleLayout):
             layout.line_of(4, 10)
 
+    def test_paragraph_of_a_position(self):
+        layout = bidi.lay_out(f"a\n{ALEF}1", self.tables)
+        self.assertEqual([layout.para_level_at(at) for at in (0, 1, 2, 3, 4, 2**70)], [0, 0, 1, 1, None, None])
+        self.assertEqual(bidi.lay_out_classes(["L", "B", "R"]).para_level_at(2), 1)
+        self.assertIsNone(bidi.lay_out("", self.tables).para_level_at(0))
+        with self.assertRaises(ValueError):
+            layout.para_level_at(-1)
+        layout.set_lines([1])
+        with self.assertRaises(bidi.StaleLayout):
+            layout.para_level_at(0)
+
     def test_older_library(self):
         with unittest.mock.patch("bidi_proved.library.HAS_LINE_OF", False), self.assertRaises(NotImplementedError):
             self.layout.line_of(0, 1)
@@ -86,7 +97,7 @@ class BesideLines(unittest.TestCase):
     def test_each_line(self):
         broken = self.whole
         for step in (1, 3, 7, 40, 1000):
-            broken = broken.with_lines(range(step, len(LONG), step))
+            broken = broken.set_lines(range(step, len(LONG), step))
             levels = broken.levels
             for line in broken.lines:
                 alone = broken.line_of(line.start, line.end)
@@ -97,10 +108,10 @@ class BesideLines(unittest.TestCase):
 
     def test_other_lines(self):
         """Wherever the lines that the room holds end."""
-        broken = self.whole.with_lines(range(5, len(LONG), 5))
+        broken = self.whole.set_lines(range(5, len(LONG), 5))
         levels, lines = broken.levels, broken.lines
         told = [(line.start, line.end, line.order) for line in lines]
-        whole = broken.with_lines([])
+        whole = broken.set_lines([])
         for start, end, order in told:
             alone = whole.line_of(start, end)
             self.assertEqual((alone.levels, alone.order), (levels[start:end], order))

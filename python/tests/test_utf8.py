@@ -3,10 +3,13 @@ import unittest
 import unittest.mock
 
 import bidi_proved as bidi
+from bidi_proved import library
 
 from . import all_tables, small_tables
 
 ALEF, BET = "\u05d0\u05d1"
+HAS_LINES = unittest.skipUnless(library.HAS_UTF8_LINE_OF, "this library lays out no line alone of UTF-8")
+HAS_SHOWN = unittest.skipUnless(library.HAS_UTF8_SHOWN, "this library shows no line in UTF-8")
 RLE, EMOJI, JOINER, BYTE_ORDER_MARK = "\u202b\U0001f600\u200d\ufeff"
 PARTS = ["ab ", f"{ALEF}{JOINER}{BET} ", f"12,{JOINER} ", f"({ALEF}b) ", "x\n", f"{BET}-3 ", f"{RLE}a", EMOJI]
 FAULTS = [b"\xff", b"\xf0\x9f\x98", b"\xd7", b"\xed\xa0\x80", b"\xe2\x82"]
@@ -63,15 +66,15 @@ class Worked(unittest.TestCase):
 
     def test_other_lines(self):
         whole = bidi.lay_out_utf8(self.text, self.tables, bidi.Direction.RTL)
-        broken = whole.with_lines([2, 6])
+        broken = whole.set_lines([2, 6])
         self.assertEqual([(line.start, line.end) for line in broken.lines], [(0, 2), (2, 6), (6, 11)])
         self.assertEqual(broken.levels, bidi.lay_out_utf8(self.text, self.tables, 1, [2, 6]).levels)
         with self.assertRaises(bidi.StaleLayout):
             whole.levels  # pylint: disable=pointless-statement
         with self.assertRaises(bidi.BreakInside) as told:
-            broken.with_lines([2, 4])
+            broken.set_lines([2, 4])
         self.assertEqual((told.exception.place, len(broken.lines)), (1, 3))
-        self.assertEqual(broken.with_lines([]).levels, [2, 2, 1, 1, 1, 1, 1, 1, 1, 1, 2])
+        self.assertEqual(broken.set_lines([]).levels, [2, 2, 1, 1, 1, 1, 1, 1, 1, 1, 2])
 
     def test_ill_formed(self):
         text = b"a\xf0\x9f\x98b\xff\xfe\xd7\x90\xe2\x82"
@@ -82,7 +85,7 @@ class Worked(unittest.TestCase):
         self.assertEqual([layout.offset_of(index) for index in range(8)], [0, 1, 4, 5, 6, 7, 9, 11])
         self.assertEqual([(line.start, line.end) for line in layout.lines], [(0, 4), (4, 9), (9, 11)])
         with self.assertRaises(bidi.BreakInside):
-            layout.with_lines([10])
+            layout.set_lines([10])
         with self.assertRaises(bidi.IllFormed):
             bidi.lay_out_utf8("a\ud800", self.tables)
         with self.assertRaises(LookupError):
@@ -108,6 +111,124 @@ class Worked(unittest.TestCase):
             bidi.Utf8Room(16777217)
 
 
+def said(line):
+    """All that a line tells, but for what is shown."""
+    return line.start, line.end, line.levels, line.order, line.places, line.runs
+
+
+@HAS_LINES
+class Lines(unittest.TestCase):
+    """Lines alone, places and paragraphs."""
+
+    def setUp(self):
+        self.tables = small_tables()
+        self.text = f"a b\nc {ALEF}\u202c 1"
+        self.layout = bidi.lay_out_utf8(self.text, self.tables, bidi.Direction.RTL)
+
+    def test_places(self):
+        first, second = self.layout.lines
+        self.assertEqual((first.places, first.levels), ([1, 2, 3, 0], [2, 2, 2, 1]))
+        self.assertEqual(second.places, [4, 3, 2, 2, None, None, None, 1, 0])
+
+    def test_paragraphs(self):
+        layout = bidi.lay_out_utf8(f"a\n{ALEF}", self.tables)
+        self.assertEqual([layout.para_level_at(at) for at in (0, 1, 2, 3, 4, 2**70)], [0, 0, 1, 1, None, None])
+        with self.assertRaises(ValueError):
+            layout.para_level_at(-1)
+
+    def test_line_alone(self):
+        line = self.layout.line_of(0, 2)
+        self.assertEqual((line.start, line.end, line.levels, line.order), (0, 2, [2, 1], [1, 0]))
+        line = self.layout.line_of(4, 12)
+        self.assertEqual((line.levels, line.order), ([2, 1, 1, 1, None, None, None, 1], [11, 6, 5, 4]))
+        self.assertEqual(line.places, [3, 2, 1, 1, None, None, None, 0])
+        self.assertEqual(line.runs, [bidi.Run(5, 7, 3, 1), bidi.Run(4, 1, 1, 2)])
+        self.assertEqual((line.shown, line.display()), (f" {ALEF} c".encode(), f" {ALEF} c".encode()))
+
+    def test_removed_positions_alone(self):
+        line = self.layout.line_of(8, 11)
+        self.assertEqual((line.levels, line.order, line.places), ([None] * 3, [], [None] * 3))
+        self.assertEqual((line.runs, line.display()), ([bidi.Run(8, 3, 0, 1)], b""))
+
+    def test_paragraph_separator(self):
+        line = self.layout.line_of(1, 4)
+        self.assertEqual((line.levels, line.shown, line.display()), ([2, 2, 1], b"\n b", b" b"))
+        line = bidi.lay_out_utf8("a\u2029", all_tables()).line_of(0, 4)
+        self.assertEqual((line.shown, line.display()), ("a\u2029".encode(), b"a"))
+
+    def test_mirrored_characters(self):
+        line = bidi.lay_out_utf8(f"{ALEF} (b", self.tables).line_of(0, 4)
+        self.assertEqual(line.display(), f") {ALEF}".encode())
+
+    def test_replaced(self):
+        layout = bidi.lay_out_utf8(b"(\xd7\x90\xf0\x9f\x98)\xff", all_tables(), errors="replace")
+        line = layout.line_of(0, 8)
+        self.assertEqual((line.levels, line.order, line.places), ([1] * 8, [7, 6, 3, 1, 0], [4, 3, 3, 2, 2, 2, 1, 0]))
+        self.assertEqual(line.shown, f"\ufffd(\ufffd{ALEF})".encode())
+
+    def test_line_stays(self):
+        room = bidi.Utf8Room(20)
+        layout = room.lay_out(self.text, self.tables)
+        line, (held, _) = layout.line_of(4, 13), layout.lines
+        before, shown = said(line), line.display()
+        room.lay_out(f"{BET} 1", self.tables)
+        self.assertEqual((said(line), line.display()), (before, shown))
+        for call in (lambda: layout.line_of(4, 13), lambda: layout.para_level_at(0), lambda: held.places):
+            with self.assertRaises(bidi.StaleLayout):
+                call()
+
+    def check_refused(self, kind, spans):
+        before = [said(line) for line in self.layout.lines]
+        for span in spans:
+            with self.assertRaises(kind, msg=span) as told:
+                self.layout.line_of(*span)
+            self.assertIs(type(told.exception), kind, span)
+        self.assertEqual([said(line) for line in self.layout.lines], before)
+
+    def test_refused(self):
+        self.check_refused(bidi.LineNotForward, [(0, 0), (3, 2), (13, 13), (99, 12), (0, -1), (7, 7), (2**64, 0)])
+        self.check_refused(bidi.LineBeyondText, [(7, 14), (13, 14), (0, 2**64), (-1, 2), (2**64, 2**65)])
+        self.check_refused(bidi.BreakInside, [(7, 8), (4, 7), (9, 13), (0, 7)])
+        self.check_refused(bidi.LineCrossesParagraph, [(0, 5), (3, 6), (0, 13)])
+
+    def test_place_of_an_end_inside(self):
+        for start, end, place in ((7, 8, 0), (7, 9, 0), (6, 7, 1), (0, 10, 1)):
+            with self.assertRaises(bidi.BreakInside) as told:
+                self.layout.line_of(start, end)
+            self.assertEqual(told.exception.place, place)
+
+    def test_older_library(self):
+        (line, _) = self.layout.lines
+        with unittest.mock.patch("bidi_proved.library.HAS_UTF8_LINE_OF", False):
+            for call in (lambda: self.layout.line_of(0, 1), lambda: self.layout.para_level_at(0), lambda: line.places):
+                with self.assertRaises(NotImplementedError):
+                    call()
+
+
+class Shown(unittest.TestCase):
+    """Lines as they are shown."""
+
+    @HAS_SHOWN
+    def test_shown(self):
+        layout = bidi.lay_out_utf8(f"({ALEF}\u202c) \u2264 1\na", all_tables(), breaks=[8])
+        shown = [line.shown.decode() for line in layout.lines]
+        self.assertEqual(shown, [f" ({ALEF})", "\n1 \u2265", "a"])
+        self.assertEqual([line.decode() for line in layout.display()], [f" ({ALEF})", "1 \u2265", "a"])
+        self.assertEqual(bidi.lay_out_utf8("", all_tables()).display(), [])
+
+    @HAS_SHOWN
+    def test_replaced(self):
+        layout = bidi.lay_out_utf8(b"\xd7\x90\xff)\r\n\xe2\x82", all_tables(), errors="replace")
+        self.assertEqual(layout.display(), [f"(\ufffd{ALEF}".encode(), b"", "\ufffd".encode()])
+
+    def test_older_library(self):
+        layout = bidi.lay_out_utf8("a", small_tables())
+        with unittest.mock.patch("bidi_proved.library.HAS_UTF8_SHOWN", False):
+            for call in (lambda: layout.lines[0].shown, layout.lines[0].display, layout.display):
+                with self.assertRaises(NotImplementedError):
+                    call()
+
+
 @unittest.skipUnless(bidi.HAS_UTF8, "this library lays out no UTF-8")
 class BesideCharacters(unittest.TestCase):
     """Of each text, what is told in offsets is what a layout of its characters says."""
@@ -130,7 +251,21 @@ class BesideCharacters(unittest.TestCase):
                 for run in expected.runs
             ]
             self.assertEqual(line.runs, runs)
+            self.check_line(layout, line, other, expected, widths)
         self.assertEqual(len(layout.lines), len(other.lines))
+
+    def check_line(self, layout, line, other, expected, widths):
+        """What is told of a line in the calls that not every library has."""
+        if not library.HAS_UTF8_LINE_OF:
+            return
+        wide = widths[expected.start : expected.end]
+        self.assertEqual(line.places, [place for place, width in zip(expected.places, wide) for _ in range(width)])
+        alone = layout.line_of(line.start, line.end)
+        self.assertEqual(said(alone), said(line))
+        self.assertEqual((alone.shown, alone.display()), (expected.shown.encode(), expected.display().encode()))
+        self.assertEqual(layout.para_level_at(line.end - 1), other.para_level_at(expected.end - 1))
+        if library.HAS_UTF8_SHOWN:
+            self.assertEqual((line.shown, line.display()), (alone.shown, alone.display()))
 
     def test_texts(self):
         for text in TEXTS:

@@ -1,7 +1,9 @@
 /* bidi.h: the Unicode Bidirectional Algorithm (UAX #9, P1 to L2, L4) and a judge of its conformance files, proved.
  *
- * Link: program.o libbidi_c.a liblibc_c.a. The second archive is malloc, realloc and free as the first one calls them.
- * docs/C.md is the manual. The contracts of crates/bidi_c say what each call is proved to do.
+ * Link: what `pkg-config --libs bidi_c` says, or program.o libbidi_c.a libbidi_c_heap.a. The second archive is malloc,
+ * realloc and free as the first one calls them; before it is installed it is liblibc_c.a of the kit. The manual is
+ * share/doc/bidi/docs/C.md below the prefix, and docs/C.md of the source. The contracts of crates/bidi_c say what each
+ * call is proved to do.
  *
  * What a caller owes. Nothing checks it; each line says what goes wrong otherwise.
  *  - A handle (bidi_tables, bidi_room, bidi_judge, bidi_report) is BIDI_NONE before its first call, and only these calls change it.
@@ -27,12 +29,12 @@
 #ifndef BIDI_H
 #define BIDI_H
 /* The version of the product that this header belongs to. */
-#define BIDI_VERSION "1.0.0"
+#define BIDI_VERSION "1.1.0"
 #define BIDI_VERSION_MAJOR 1
-#define BIDI_VERSION_MINOR 0
+#define BIDI_VERSION_MINOR 1
 #define BIDI_VERSION_PATCH 0
 /* The edition of Unicode whose tables are built in. */
-#define BIDI_EDITION "15.0.0"
+#define BIDI_EDITION "17.0.0"
 /* Those of the library are what bidi_version and bidi_edition write. */
 #include <stdbool.h>
 #include <stddef.h>
@@ -56,7 +58,7 @@ enum {
   BIDI_TOO_BIG = 2,            /* more room than for 16,777,216 code points or code units */
   BIDI_TOO_LONG = 3,           /* the text is longer than the room */
   BIDI_NO_CHARACTER = 4,       /* place: index of the first code point that is no scalar value */
-  BIDI_NO_CLASS = 5,           /* place: index of the first number that is no class */
+  BIDI_NO_CLASS = 5,           /* place: index of the first number that is no class, of units no class or bracket */
   BIDI_BREAK_OUT_OF_RANGE = 6, /* place: index of the first faulty break, which is 0 or not below the length */
   BIDI_BREAK_NOT_RISING = 7,   /* place: index of the first faulty break, which is not above the one before */
   BIDI_NO_DIRECTION = 8,       /* the number is no direction */
@@ -79,7 +81,8 @@ enum {
   BIDI_BREAK_INSIDE = 25,      /* place: index of the first break that stands inside a character */
   BIDI_NO_REPORT = 26,         /* the handle holds no report, or one whose file has ended where it is handed more */
   BIDI_NO_CASE = 27,           /* no wrong case is left of those that were found last */
-  BIDI_CASES_LEFT = 28         /* wrong cases are left of those that were found last */
+  BIDI_CASES_LEFT = 28,        /* wrong cases are left of those that were found last */
+  BIDI_NO_LEVEL = 29           /* place: index of the first number that is above the greatest level, 126 */
 };
 
 /* Directions: that of all paragraphs, or of each by its first strong character (P2, P3); where it has none, BIDI_AUTO
@@ -112,11 +115,12 @@ enum {
  * freed once they are made. */
 uint32_t bidi_tables_new(const uint8_t *classes, size_t classes_len, const uint8_t *brackets, size_t brackets_len,
                          const uint8_t *mirrors, size_t mirrors_len, bidi_tables *tables, bidi_fault *fault);
-/* Tables of the edition of Unicode that is built in. How many bytes its number has, as 15.0.0, which are written to
- * `text` if they fit there, with no zero behind them. */
+/* Tables of the edition of Unicode that is built in. They are constants: nothing is read, and memory is taken for the
+ * handle alone. How many bytes its number has, as 17.0.0, which are written to `text` if they fit there, with no zero
+ * behind them. */
 uint32_t bidi_tables_standard(bidi_tables *tables);
 size_t bidi_edition(uint8_t *text, size_t capacity);
-/* The version of the product, as 1.0.0, in the same way. */
+/* The version of the product, as 1.1.0, in the same way. */
 size_t bidi_version(uint8_t *text, size_t capacity);
 /* `shared` holds the same tables as `tables` from now on, for another thread or for longer; what it held before is
  * freed. The tables are freed with the last of the handles and judges that hold them. */
@@ -143,6 +147,20 @@ uint32_t bidi_is_left_to_right(bidi_tables *tables, const uint32_t *codes, size_
  * are written only if all fit. It is refused as bidi_base_level is; `levels` and `count` stay as they were then. */
 uint32_t bidi_base_levels(bidi_tables *tables, const uint32_t *codes, size_t n, uint32_t direction, uint8_t *levels,
                           size_t capacity, size_t *count, uint64_t *place);
+/* The same of a text in UTF-8 or UTF-16: BIDI_ILL_FORMED in place of BIDI_NO_CHARACTER, and `place` is then the offset
+ * of the first code unit that is no part of a character. */
+uint32_t bidi_base_level_utf8(bidi_tables *tables, const uint8_t *text, size_t n, uint32_t direction, uint8_t *level,
+                              uint64_t *place);
+uint32_t bidi_base_level_utf16(bidi_tables *tables, const uint16_t *text, size_t n, uint32_t direction, uint8_t *level,
+                               uint64_t *place);
+uint32_t bidi_base_levels_utf8(bidi_tables *tables, const uint8_t *text, size_t n, uint32_t direction, uint8_t *levels,
+                               size_t capacity, size_t *count, uint64_t *place);
+uint32_t bidi_base_levels_utf16(bidi_tables *tables, const uint16_t *text, size_t n, uint32_t direction,
+                                uint8_t *levels, size_t capacity, size_t *count, uint64_t *place);
+uint32_t bidi_is_left_to_right_utf8(bidi_tables *tables, const uint8_t *text, size_t n, uint8_t *stays,
+                                    uint64_t *place);
+uint32_t bidi_is_left_to_right_utf16(bidi_tables *tables, const uint16_t *text, size_t n, uint8_t *stays,
+                                     uint64_t *place);
 
 /* Room for texts of up to n code points, 86 bytes for each. What `room` held before is freed once it is made. */
 uint32_t bidi_room_new(size_t n, bidi_room *room);
@@ -210,7 +228,7 @@ size_t bidi_shown(bidi_room *room, bidi_tables *tables, const uint32_t *codes, s
 
 /* Texts in UTF-8 and UTF-16, told of in offsets: how many code units (bytes, or 16 bits) stand before something. */
 
-/* Room for such texts of up to n code units, 112 bytes for each. It takes texts in code units alone, as the rooms above
+/* Room for such texts of up to n code units, 114 bytes for each. It takes texts in code units alone, as the rooms above
  * take none; bidi_set_lines and bidi_line_of take no such room, all look-ups above do, and count in characters. */
 uint32_t bidi_room_new_encoded(size_t n, bidi_room *room);
 
@@ -265,6 +283,65 @@ size_t bidi_encoded_order(bidi_room *room, size_t k, size_t *order, size_t capac
 uint32_t bidi_encoded_run(bidi_room *room, size_t k, size_t from, bidi_run_t *run);
 /* All visual runs of line k as bidi_runs tells them, but with `start` and `length` in code units. */
 size_t bidi_encoded_runs(bidi_room *room, size_t k, bidi_run_t *runs, size_t capacity);
+/* The place from the left of each code unit of line k, from its `start` on: that of its character, copied as bidi_places
+ * copies those of positions. */
+size_t bidi_encoded_places(bidi_room *room, size_t k, size_t *places, size_t capacity);
+/* Line k as bidi_shown writes it, but in the encoding of the text that was laid out: `text` is the whole text, and code
+ * units are counted. What was read as U+FFFD is shown as U+FFFD. For a text of another length the answer is 0. */
+size_t bidi_encoded_shown_utf8(bidi_room *room, bidi_tables *tables, const uint8_t *text, size_t n, size_t k,
+                               uint8_t *shown, size_t capacity);
+size_t bidi_encoded_shown_utf16(bidi_room *room, bidi_tables *tables, const uint16_t *text, size_t n, size_t k,
+                                uint16_t *shown, size_t capacity);
+/* The level of the paragraph (P2, P3) in which the code unit at an offset lies; 255 if there is no such code unit. */
+uint8_t bidi_encoded_para_level_at(bidi_room *room, size_t offset);
+/* One line alone of the text, as bidi_line_of lays it out, but from the offset `start` up to `end`: the level of each of
+ * its code units, the offsets of its shown characters from left to right, and how many these are. BIDI_BREAK_INSIDE if
+ * it starts or ends inside a character; nothing is written then. */
+uint32_t bidi_encoded_line_of(bidi_room *room, size_t start, size_t end, uint8_t *levels, size_t level_capacity,
+                              size_t *order, size_t order_capacity, size_t *shown);
+
+/* For engines that have their own front: class look-up, levels or lines of their own. Those without a handle need no
+ * tables and take no memory. Of several reasons the first is named, in the order in which they are listed here; nothing
+ * is written then but `place`. */
+
+/* The class and the bracket of each of n code points, as bidi_class and bidi_bracket give them, to the fronts of two
+ * arrays. BIDI_NO_TABLES; BIDI_TOO_SMALL: one of the arrays takes fewer than n items; BIDI_NO_CHARACTER. */
+uint32_t bidi_classes(bidi_tables *tables, const uint32_t *codes, size_t n, uint8_t *classes, size_t class_capacity,
+                      uint8_t *brackets, size_t bracket_capacity, uint64_t *place);
+/* The bracket that a code point pairs with (BD14 to BD16): the one that closes it, or the one that it closes. 0: it is
+ * no bracket, or no scalar value, or pairs with none by the tables, or there are no tables. Canonically equivalent
+ * brackets have the same partner by the published files: 3009 for 2329 and for 3008. So the partner of a bracket's
+ * partner is the same for both. */
+uint32_t bidi_paired_bracket(bidi_tables *tables, uint32_t code);
+/* The level of the first paragraph of a text of classes by number, as bidi_base_level has it of code points.
+ * BIDI_NO_DIRECTION; BIDI_NO_CLASS. */
+uint32_t bidi_base_level_classes(const uint8_t *classes, size_t n, uint32_t direction, uint8_t *level, uint64_t *place);
+/* L1 of one line of n positions, in place, by its classes and the level of its paragraph, where what X9 removes has
+ * levels too: separators, and white space, isolate formatting characters and what X9 removes before these or at the
+ * line's end, take the paragraph's level. Other levels are not looked at. BIDI_TOO_SMALL: `levels` has fewer than n
+ * items; BIDI_NO_LEVEL, with place 0: the paragraph's level is above 126; BIDI_NO_CLASS. */
+uint32_t bidi_reset_levels(const uint8_t *classes, size_t n, uint8_t para_level, uint8_t *levels, size_t capacity,
+                           uint64_t *place);
+/* L2 of one line by n levels, one for each of its positions, also for what X9 removes: the positions from left to
+ * right, to the front of `order`. It takes time in proportion to n and the sum of the levels. BIDI_TOO_SMALL: `order`
+ * takes fewer than n items; BIDI_NO_LEVEL. */
+uint32_t bidi_reorder(const uint8_t *levels, size_t n, size_t *order, size_t capacity, uint64_t *place);
+
+/* A text by classes and brackets, one unit for each position: the number of its class; BIDI_NO_BRACKET, BIDI_OPENING or
+ * BIDI_CLOSING; and a key, which is the same for an opening and a closing bracket that can be a pair (BD16). A bracket
+ * counts as one only if its class is ON (BD14, BD15). */
+typedef struct { uint8_t class_number, bracket; uint32_t key; } bidi_unit;
+/* Lays out a text of units as bidi_lay_out_classes does one of classes. BIDI_NO_CLASS: place is the index of the first
+ * unit whose class or bracket is none of these numbers. */
+uint32_t bidi_lay_out_units(bidi_room *room, const bidi_unit *units, size_t n, uint32_t direction, const size_t *breaks,
+                            size_t break_count, uint64_t *place);
+/* The level of each position of the text that was laid out last, in positions of characters, copied as bidi_levels
+ * copies those after L1. bidi_resolved_levels: before L1 (P1 to I2), BIDI_REMOVED where X9 removes it.
+ * bidi_whole_levels: after L1, where one that X9 removes has the level of the one before it; at the start of a
+ * paragraph, and if only white space, isolate formatting characters and what X9 removes come between it and the next
+ * separator or the text's end, it has that of its paragraph. */
+size_t bidi_resolved_levels(bidi_room *room, uint8_t *levels, size_t capacity);
+size_t bidi_whole_levels(bidi_room *room, uint8_t *levels, size_t capacity);
 
 /* A judge of a BidiTest.txt. What `judge` held before is freed once it is made. */
 uint32_t bidi_judge_new_classes(bidi_judge *judge);

@@ -1,7 +1,8 @@
 #!/bin/bash
 # Links the shared object crates/bidi_c/out/libbidi_c.so.VERSION, by gcc, of the archive beside it and of the kit's part
 # that allocates. Its soname is libbidi_c.so with the first number of the version, and of its symbols it shows the calls
-# of bidi.h alone. It ends with 2 where a file is missing, and with 1 where a call of the header is none of the archive.
+# of bidi.h alone, with the symbol version LIBBIDI_C_ and that number. Beside it, in libbidi_c.so.VERSION.of, is the sum
+# of that archive. It ends with 2 where a file is missing, and with 1 where a call of the header is none of the archive.
 #
 # usage: tools/c/build_shared.sh
 #
@@ -19,14 +20,14 @@ calls=$(grep -o '\bbidi_[a-z0-9_]*(' "$here/bidi.h" | tr -d '(' | sort -u)
 work=$(mktemp -d) || exit 2
 trap 'rm -r "$work"' EXIT
 # shellcheck disable=SC2086
-printf '{ global:\n%s\nlocal: *; };\n' "$(printf '  %s;\n' $calls)" > "$work/calls.map"
+printf 'LIBBIDI_C_%s { global:\n%s\nlocal: *; };\n' "${version%%.*}" "$(printf '  %s;\n' $calls)" > "$work/calls.map"
 gcc -shared -o "$work/shared" -Wl,-soname,"libbidi_c.so.${version%%.*}" -Wl,--version-script="$work/calls.map" \
     -Wl,-Bsymbolic,-z,defs,-z,relro,-z,now,-z,noexecstack,--gc-sections \
     -Wl,--whole-archive "$library" -Wl,--no-whole-archive "$heap" || exit 1
-shows=$(nm -D --defined-only "$work/shared" | awk '{ print $3 }' | sort)
+shows=$(nm -D --defined-only "$work/shared" | awk '$2 == "T" { print $3 }' | sed 's/@.*//' | sort)
 if [ "$shows" != "$calls" ]; then
     echo "the shared object does not show the calls of bidi.h:" >&2
     diff <(echo "$calls") <(echo "$shows") >&2
     exit 1
 fi
-mv "$work/shared" "$shared" && chmod 755 "$shared"
+mv "$work/shared" "$shared" && chmod 755 "$shared" && sha256sum < "$library" > "$shared.of"

@@ -1,4 +1,4 @@
-/* calls UCD: every call once or more, refused ones too; its output is stored in calls.out. */
+/* calls UCD: every call once or more, refused ones too, but for those of fronts.c; its output is stored in calls.out. */
 #include "bidi.h"
 #include "read_file.h"
 #include <string.h>
@@ -620,6 +620,24 @@ static void report_on(bidi_report *report, const char *first, const char *rest) 
   print_next(report);
 }
 
+/* Judges and reports of both kinds are made with the least and the greatest limits, and those next to them. */
+static void make_by_each_limits(bidi_tables *tables) {
+  const uint8_t depths[] = { 1, 2, 124, 125 }, brackets[] = { 0, 1, 62, 63 };
+  bidi_judge judge = BIDI_NONE;
+  bidi_report report = BIDI_NONE;
+  unsigned made = 0;
+  for (size_t i = 0; i < 16; i++) {
+    const bidi_limits limits = { depths[i / 4], brackets[i % 4] };
+    made += bidi_judge_new_classes_with(&judge, limits) == BIDI_DONE;
+    made += bidi_judge_new_characters_with(tables, &judge, limits) == BIDI_DONE;
+    made += bidi_report_new_classes_with(&report, limits) == BIDI_DONE;
+    made += bidi_report_new_characters_with(tables, &report, limits) == BIDI_DONE;
+  }
+  printf("made by limits: %u of 64\n", made);
+  bidi_judge_free(&judge);
+  bidi_report_free(&report);
+}
+
 static void report_on_files(bidi_tables *tables, bidi_room *room) {
   const bidi_limits low = { 1, 63 }, deep = { 126, 64 }, wide = { 1, 64 };
   bidi_report report = BIDI_NONE;
@@ -638,6 +656,7 @@ static void report_on_files(bidi_tables *tables, bidi_room *room) {
          bidi_report_new_characters_with(tables, &report, deep));
   printf(" %u\n", bidi_report_new_classes_with(&report, low));
   report_on(&report, "@Levels: x x 3\n@Reorder: 2\n", "RLE LRE R; 2\n\nR; 16\nR; 1");
+  make_by_each_limits(tables);
   printf("without tables %u\n", bidi_report_new_characters((bidi_tables *)room, &report));
   status = bidi_report_new_characters(tables, &report);
   printf("report on characters %u\n", status);
@@ -645,6 +664,118 @@ static void report_on_files(bidi_tables *tables, bidi_room *room) {
   report_on(&report, "0061 05D0;2;1;0 1;0 1\n05D0;0;0;1;0\n0061;", "3;0;0 0;0\n0061;2;0;1;0");
   for (int i = 0; i < 2; i++) bidi_report_free(&report);
   printf("freed: %d\n", report.made);
+}
+
+/* What a call on a line alone of a text in code units writes, or that it writes nothing. */
+static void encoded_line_of(bidi_room *room, size_t start, size_t end) {
+  uint8_t levels[8] = { 77, 77, 77, 77, 77, 77, 77, 77 };
+  size_t order[8] = { 77, 77, 77, 77, 77, 77, 77, 77 }, shown = 77;
+  printf("encoded line of [%zu,%zu): %u, levels", start, end,
+         bidi_encoded_line_of(room, start, end, levels, 8, order, 8, &shown));
+  for (size_t i = 0; i < 4; i++) printf(" %u", levels[i]);
+  printf(" order");
+  for (size_t i = 0; i < 2; i++) printf(" %zu", order[i]);
+  printf(" shown %zu\n", shown);
+}
+
+/* Lines alone, places, paragraphs and directions of texts in code units: a, alef, 1, LF, alef. */
+static void ask_in_code_units(bidi_tables *tables) {
+  const uint8_t utf8[] = { 'a', 0xD7, 0x90, '1', '\n', 0xD7, 0x90 }, no_utf8[] = { 'a', 0xFF };
+  const uint16_t utf16[] = { 'a', 0x5D0, '1', '\n', 0x5D0 }, no_utf16[] = { 'a', 0xD800 };
+  bidi_room room = BIDI_NONE;
+  uint64_t place = 77;
+  size_t places[8] = { 77, 77, 77, 77, 77, 77, 77, 77 }, count = 77;
+  uint8_t level = 77, levels[2] = { 77, 77 }, stays = 77;
+  uint32_t status = bidi_encoded_line_of(&room, 0, 1, levels, 2, places, 2, &count);
+  printf("without a room: line of %u, places %zu, paragraph %u\n", status, bidi_encoded_places(&room, 0, places, 8),
+         bidi_encoded_para_level_at(&room, 0));
+  bidi_room_new_encoded(7, &room);
+  bidi_lay_out_utf8(&room, tables, utf8, 7, BIDI_AUTO, NULL, 0, &place);
+  encoded_line_of(&room, 1, 4);
+  encoded_line_of(&room, 0, 9);
+  encoded_line_of(&room, 3, 3);
+  encoded_line_of(&room, 0, 8);
+  encoded_line_of(&room, 2, 4);
+  encoded_line_of(&room, 1, 2);
+  encoded_line_of(&room, 3, 7);
+  printf("places %zu:", bidi_encoded_places(&room, 0, places, 8));
+  for (size_t i = 0; i < 6; i++) printf(" %zu", places[i]);
+  printf(", of no line %zu; paragraphs", bidi_encoded_places(&room, 2, places, 8));
+  for (size_t i = 0; i < 8; i++) printf(" %u", bidi_encoded_para_level_at(&room, i));
+  bidi_room_free(&room);
+  status = bidi_base_level_utf8(tables, utf8 + 5, 2, BIDI_AUTO, &level, &place);
+  printf("\nbase utf8 %u: %u", status, level);
+  status = bidi_base_levels_utf8(tables, utf8, 7, BIDI_AUTO, levels, 2, &count, &place);
+  printf(", all %u: %zu, %u %u", status, count, levels[0], levels[1]);
+  status = bidi_is_left_to_right_utf8(tables, utf8, 1, &stays, &place);
+  printf(", left to right %u: %u", status, stays);
+  status = bidi_is_left_to_right_utf8(tables, no_utf8, 2, &stays, &place);
+  printf(", ill-formed %u at %llu\n", status, (unsigned long long)place);
+  status = bidi_base_level_utf16(tables, utf16 + 4, 1, BIDI_AUTO, &level, &place);
+  printf("base utf16 %u: %u", status, level);
+  status = bidi_base_levels_utf16(tables, utf16, 5, BIDI_AUTO, levels, 1, &count, &place);
+  printf(", all %u: %zu", status, count);
+  status = bidi_is_left_to_right_utf16(tables, utf16, 5, &stays, &place);
+  printf(", left to right %u: %u", status, stays);
+  status = bidi_base_level_utf16(tables, no_utf16, 2, 4, &level, &place);
+  printf(", no direction %u", status);
+  status = bidi_base_level_utf16(tables, no_utf16, 2, BIDI_RTL, &level, &place);
+  printf(", ill-formed %u at %llu\n", status, (unsigned long long)place);
+}
+
+/* A line of a text in code units as it is shown, and what is behind it in the array. */
+static void show_utf8(bidi_room *room, bidi_tables *tables, const uint8_t *text, size_t n, size_t k, size_t capacity) {
+  uint8_t shown[8] = { 0x77, 0x77, 0x77, 0x77, 0x77, 0x77, 0x77, 0x77 };
+  printf("shown utf8 %zu:", bidi_encoded_shown_utf8(room, tables, text, n, k, shown, capacity));
+  for (size_t i = 0; i < 8; i++) printf(" %02X", shown[i]);
+  printf("\n");
+}
+
+static void show_utf16(bidi_room *room, bidi_tables *tables, const uint16_t *text, size_t n, size_t k,
+                       size_t capacity) {
+  uint16_t shown[4] = { 0x7777, 0x7777, 0x7777, 0x7777 };
+  printf("shown utf16 %zu:", bidi_encoded_shown_utf16(room, tables, text, n, k, shown, capacity));
+  for (size_t i = 0; i < 4; i++) printf(" %04X", shown[i]);
+  printf("\n");
+}
+
+/* Each count that is 0, an array that is too short, two lines, a mirrored character, and what was read as U+FFFD. */
+static void show_in_code_units(bidi_tables *tables) {
+  const uint8_t utf8[] = { 'a', ' ', 0xD7, 0x90, '(', 0xD7, 0x91, ')' }, no_utf8[] = { 0xFF, 0xD7, 0x90 };
+  const uint16_t utf16[] = { 0x5D0, 0xD83D, 0xDE00, '<' }, no_utf16[] = { 0xDE00, 0x5D0 };
+  const uint32_t letter[] = { 'a' };
+  const size_t breaks[] = { 5 };
+  bidi_tables no_tables = BIDI_NONE;
+  bidi_room room = BIDI_NONE, codes = BIDI_NONE;
+  uint64_t place = 77;
+  show_utf8(&room, tables, utf8, 0, 0, 8);
+  show_utf16(&room, tables, utf16, 0, 0, 4);
+  bidi_room_new(1, &codes);
+  bidi_lay_out(&codes, tables, letter, 1, BIDI_AUTO, NULL, 0, &place);
+  show_utf8(&codes, tables, utf8, 1, 0, 8);
+  show_utf16(&codes, tables, utf16, 1, 0, 4);
+  bidi_room_free(&codes);
+  bidi_room_new_encoded(8, &room);
+  bidi_lay_out_utf8(&room, tables, utf8, 8, BIDI_AUTO, NULL, 0, &place);
+  show_utf8(&room, tables, utf8, 8, 0, 8);
+  show_utf8(&room, tables, utf8, 8, 0, 7);
+  show_utf8(&room, tables, utf8, 7, 0, 8);
+  show_utf8(&room, tables, utf8, 8, 1, 8);
+  show_utf8(&room, &no_tables, utf8, 8, 0, 8);
+  bidi_encoded_set_lines(&room, breaks, 1, &place);
+  show_utf8(&room, tables, utf8, 8, 0, 8);
+  show_utf8(&room, tables, utf8, 8, 1, 8);
+  bidi_lay_out_utf8_lossy(&room, tables, no_utf8, 3, BIDI_AUTO, NULL, 0, &place);
+  show_utf8(&room, tables, no_utf8, 3, 0, 8);
+  bidi_lay_out_utf16(&room, tables, utf16, 4, BIDI_AUTO, NULL, 0, &place);
+  show_utf16(&room, tables, utf16, 4, 0, 4);
+  show_utf16(&room, tables, utf16, 4, 0, 3);
+  show_utf16(&room, tables, utf16, 3, 0, 4);
+  show_utf16(&room, tables, utf16, 4, 1, 4);
+  show_utf16(&room, &no_tables, utf16, 4, 0, 4);
+  bidi_lay_out_utf16_lossy(&room, tables, no_utf16, 2, BIDI_AUTO, NULL, 0, &place);
+  show_utf16(&room, tables, no_utf16, 2, 0, 4);
+  bidi_room_free(&room);
 }
 
 int main(int argc, char **argv) {
@@ -676,6 +807,8 @@ int main(int argc, char **argv) {
   share_tables(&tables, &room);
   use_standard_tables(&room);
   lay_out_encoded(&tables);
+  ask_in_code_units(&tables);
+  show_in_code_units(&tables);
   print_texts();
   report_on_files(&tables, &room);
   print_room(&room, 1000);

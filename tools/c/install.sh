@@ -1,18 +1,19 @@
 #!/bin/bash
-# Installs the header, the library, its shared object and its file for pkg-config, so that
+# Installs the header, the library, its shared object, its file for pkg-config and the licences, so that
 # `gcc program.c $(pkg-config --cflags --libs bidi_c)` builds a program.
 #
-# usage: tools/c/install.sh [--uninstall] PREFIX      (with DESTDIR in the environment, below that folder)
+# usage: tools/c/install.sh [--uninstall] [--libdir DIR] PREFIX     (with DESTDIR in the environment, below that folder)
 #
 # Build the library first, by `rt lib` in crates/bidi_c, and the shared object, if it is wanted, by
-# tools/c/build_shared.sh; one that is older than the library is passed over. The part that allocates, liblibc_c.a, is
-# taken from the kit, whose folder c is found by the command rt, or named by RATTLE_C in the environment where rt isn't
-# on PATH, as under sudo. It ends with 2, before it installs anything, where a file is missing or a word is unknown.
+# tools/c/build_shared.sh. A shared object of another build of the library is not installed. The part that allocates,
+# liblibc_c.a, is taken from the kit, whose folder c is found by the command rt, or named by RATTLE_C in the environment
+# if rt isn't on PATH, as under sudo. --libdir names the folder of libraries below PREFIX, lib if not given. It ends
+# with 2, before it installs anything, if a file is missing or a word is unknown.
 set -u
 here=$(cd "$(dirname "$0")" && pwd)
 # shellcheck source=tools/prefix.sh
 . "$here/../prefix.sh"
-read_words "usage: tools/c/install.sh [--uninstall] PREFIX" "$@"
+read_words "usage: tools/c/install.sh [--uninstall] [--libdir DIR] PREFIX" "$@"
 version=$(cat "$here/../../VERSION") || exit 2
 out=$here/../../crates/bidi_c/out
 library=$out/libbidi_c.a
@@ -31,18 +32,31 @@ fi
 work=$(mktemp -d) || exit 2
 trap 'rm -r "$work"' EXIT
 
-# What a shell would not take as it is, pkg-config does not either: a backslash stands before it.
-escaped=$(printf %s "$prefix" | LC_ALL=C sed 's/[][ "'\''\\$`&|;<>(){}*?#!^~]/\\&/g')
+# escaped TEXT: what a shell would not take as it is, pkg-config does not either, so a backslash comes before it.
+escaped() {
+    printf %s "$1" | LC_ALL=C sed 's/[][ "'\''\\$`&|;<>(){}*?#!^~]/\\&/g'
+}
 filled=$(< "$here/bidi_c.pc.in")
 filled=${filled//@version@/"$version"}
-printf '%s\n' "${filled//@prefix@/"$escaped"}" > "$work/bidi_c.pc"
+filled=${filled//@libdir@/"$(escaped "$libdir")"}
+printf '%s\n' "${filled//@prefix@/"$(escaped "$prefix")"}" > "$work/bidi_c.pc"
 
 put 644 "$here/bidi.h" include/bidi.h &&
-    put 644 "$library" lib/libbidi_c.a &&
-    put 644 "$heap" lib/libbidi_c_heap.a &&
-    put 644 "$work/bidi_c.pc" lib/pkgconfig/bidi_c.pc || exit 1
-if [ "$uninstall" = yes ] || [ "$shared" -nt "$library" ]; then
-    put 755 "$shared" "lib/libbidi_c.so.$version" &&
-        link "libbidi_c.so.$version" "lib/libbidi_c.so.${version%%.*}" &&
-        link "libbidi_c.so.${version%%.*}" lib/libbidi_c.so
+    put 644 "$library" "$libdir/libbidi_c.a" &&
+    put 644 "$heap" "$libdir/libbidi_c_heap.a" &&
+    put 644 "$work/bidi_c.pc" "$libdir/pkgconfig/bidi_c.pc" &&
+    put_licences "$here/../.." || exit 1
+
+# The shared object belongs to the library whose sum tools/c/build_shared.sh noted, whatever the times of the files are.
+if [ "$uninstall" = no ]; then
+    if [ ! -e "$shared" ]; then
+        echo "no shared object was built: tools/c/build_shared.sh builds it"
+        exit 0
+    elif [ "$(sha256sum < "$library")" != "$(cat "$shared.of" 2> /dev/null)" ]; then
+        echo "the shared object is of another build of the library: tools/c/build_shared.sh builds it again"
+        exit 0
+    fi
 fi
+put 755 "$shared" "$libdir/libbidi_c.so.$version" &&
+    link "libbidi_c.so.$version" "$libdir/libbidi_c.so.${version%%.*}" &&
+    link "libbidi_c.so.${version%%.*}" "$libdir/libbidi_c.so"

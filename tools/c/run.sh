@@ -1,12 +1,12 @@
 #!/bin/bash
-# Builds the library that C links and the programs of this folder, and runs them: the demo, a typesetter, every call,
-# each refused allocation, threads that share tables, and reports, against their stored output, the greatest sizes (in
-# some 1.9 GB of memory), a C++ program, and a program built as tools/c/install.sh installs the library; then, but for
-# the sizes, again under -fsanitize=address,undefined and under valgrind, and the threads under -fsanitize=thread. Where
-# the package unicode-data is installed the sizes are taken with its property files, and the official files are laid out
-# and judged too. Where the command is built (`rt run -- --help` in crates/bidi), the lines that say verdicts and the
-# reports are compared with what it prints. It says what it leaves out because something isn't installed or built,
-# without gcc all.
+# Builds the library that C links and the programs of this folder, and runs them: the demo, the examples of the manual,
+# a typesetter, a terminal, every call, those for engines with their own front, each refused allocation, threads that
+# share tables, and reports, against their stored output, the greatest sizes (in some 1.9 GB of memory), a C++ program,
+# and a program built as tools/c/install.sh installs the library; then, but for the sizes, again under
+# -fsanitize=address,undefined and under valgrind, and the threads under -fsanitize=thread. Where the package
+# unicode-data is installed the sizes are taken with its property files, and the official files are laid out and judged
+# too. Where the command is built (`rt run -- --help` in crates/bidi), the lines that say verdicts and the reports are
+# compared with what it prints. It says what it leaves out because something isn't installed or built, without gcc all.
 #
 # usage: tools/c/run.sh [FOLDER]      (FOLDER, with the files of the Unicode database: /usr/share/unicode)
 #
@@ -73,8 +73,11 @@ all() {
     local label=$1
     shift
     expect "$label demo" "$here/demo.out" "$@" "$work/demo" "$here/ucd" 20 < "$here/demo.txt"
+    expect "$label manual" "$here/manual.out" "$@" "$work/manual"
     expect "$label typesetter" "$here/typesetter.out" "$@" "$work/typesetter" 12 20 40 < "$here/typesetter.txt"
+    expect "$label terminal" "$here/terminal.out" "$@" "$work/terminal" 8 < "$here/terminal.txt"
     expect "$label calls" "$here/calls.out" "$@" "$work/calls" "$here/ucd"
+    expect "$label fronts" "$here/fronts.out" "$@" "$work/fronts" "$here/ucd"
     expect "$label refused" "$here/refused.out" "$@" "$work/refused" "$here/ucd"
     expect "$label threads" "$here/threads.out" "$@" "$work/threads" "$here/ucd"
     expect "$label report on classes" "$here/faults.out" says_no "$@" "$work/report" classes "$here/ucd" 7 \
@@ -85,8 +88,11 @@ all() {
 
 build_all() {
     build demo "$@"
+    build manual "$@"
     build typesetter "$@"
+    build terminal "$@"
     build calls "$@"
+    build fronts "$@"
     build refused -Wl,--wrap=malloc,--wrap=realloc "$@"
     build threads -pthread "$@"
     build report "$@"

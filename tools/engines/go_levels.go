@@ -2,9 +2,16 @@
 // order, by the functions that its own tests call.
 package bidi
 
-// RowOf answers the paragraph's level of a text, the level of each of its characters, and which of them stands at each
-// place from the left. The direction is 0 left-to-right, 1 right-to-left, 2 found in the text.
-func RowOf(text []rune, direction int) (int, []int8, []int, error) {
+// Names are the short names of classes.
+var Names = map[Class]string{
+	L: "L", R: "R", EN: "EN", ES: "ES", ET: "ET", AN: "AN", CS: "CS", B: "B", S: "S", WS: "WS", ON: "ON", BN: "BN",
+	NSM: "NSM", AL: "AL", LRO: "LRO", RLO: "RLO", LRE: "LRE", RLE: "RLE", PDF: "PDF", LRI: "LRI", RLI: "RLI",
+	FSI: "FSI", PDI: "PDI",
+}
+
+// RowOf returns the paragraph's level of a text, the level of each of its characters, and line by line which of them is
+// at each place from the left. The direction is 0 left-to-right, 1 right-to-left, 2 found in the text.
+func RowOf(text []rune, ends []int, direction int) (int, []int, []int, error) {
 	classes := make([]Class, len(text))
 	brackets := make([]bracketType, len(text))
 	pairs := make([]rune, len(text))
@@ -32,10 +39,10 @@ func RowOf(text []rune, direction int) (int, []int8, []int, error) {
 	if err != nil {
 		return 0, nil, nil, err
 	}
-	found := made.getLevels([]int{len(text)})
-	levels := make([]int8, len(text))
+	found := made.getLevels(ends)
+	levels := make([]int, len(text))
 	for i, one := range found {
-		levels[i] = int8(one)
+		levels[i] = int(one)
 	}
-	return int(made.embeddingLevel), levels, computeReordering(found), nil
+	return int(made.embeddingLevel), levels, computeMultilineReordering(found, ends), nil
 }

@@ -1,25 +1,29 @@
 #!/usr/bin/env python3
 """Holds an engine's rows against those of the library for C, and against what `bidi report` says of them.
 
-usage: tools/engines/hold.py TABLES TEXTS ROWS COMMAND..
+usage: tools/engines/hold.py [--each] TABLES TEXTS ROWS COMMAND..
 
 BIDI_LIBRARY names the shared object, and BIDI the program. TABLES is a folder with the three property files, TEXTS a
 file of lines `CODE POINTS;DIRECTION` (what stands behind a further semicolon is passed over, so that a test file of
-characters serves too), each of one paragraph; a text that stands there twice under a direction is taken once. COMMAND
-runs the engine, as rows.h says.
+characters serves too); a text that stands there twice under a direction is taken once. A `|` between two code points
+ends a line of layout, and each paragraph separator needs one after it, unless it is the last character. COMMAND runs
+the engine, as rows.h says.
 
 First the library's own rows are made, and reported on: none may be wrong. Then the engine's are made, and written to
 ROWS as a test file, without those that it failed to make, which are counted apart. They are compared with the library's
 and, by `bidi report --shown`, with the rules; both must find as many that are wrong. Levels of characters that X9
-removes, and their places, are passed over, since an engine need not tell them.
+removes, and their places, are passed over, since an engine need not tell them. A test file has no form for several
+lines: rows of such texts are compared with the library's alone.
 
 It prints which engine it is, how many rows there are, how many of them are wrong and in what, and of each kind some
 smallest texts with both claims. To find them, characters are left out of texts that are wrong, for as long as what is
-left is wrong in the same way and direction.
+left is wrong in the same way and direction. With `--each` it prints all wrong rows instead, and looks for no smaller
+ones.
 
 It ends with 0 where both counts are one, and with 1 where they aren't, or a row of the library's is wrong.
 """
 import collections
+import itertools
 import os
 import pathlib
 import re
@@ -33,6 +37,7 @@ import bidi_proved as bidi  # noqa: E402  (it lies in a folder of the repository
 
 FIELDS = ("paragraph level", "levels", "order")
 FAILED = "no row"
+BREAK = "|"
 MOST = 6
 TRIED = 24
 
@@ -53,13 +58,18 @@ class Holder:
         return subprocess.run(words, capture_output=True, text=True, check=False).stdout.strip()
 
     def right_row(self, text):
-        """The library's row of a text."""
+        """The library's row of a text, or nothing if a paragraph ends inside a line."""
         codes, direction = text
-        characters = "".join(chr(int(code, 16)) for code in codes.split())
-        made = self.room.lay_out(characters, self.tables, int(direction))
-        levels = " ".join("x" if level is None else str(level) for level in made.levels)
-        order = " ".join(str(at) for line in made.lines for at in line.order)
-        return [codes, direction, str(made.paragraph_levels[0]), levels, order]
+        lines = [line.split() for line in codes.split(BREAK)]
+        ends = list(itertools.accumulate(map(len, lines)))
+        characters = "".join(chr(int(code, 16)) for line in lines for code in line)
+        made = self.room.lay_out(characters, self.tables, int(direction), ends[:-1])
+        if len(made.lines) != len(lines):
+            return None
+        shown = ["x" if level is None else str(level) for level in made.levels]
+        levels = [shown[line.start : line.end] for line in made.lines]
+        orders = [map(str, line.order) for line in made.lines]
+        return [codes, direction, str(made.paragraph_levels[0]), joined(levels), joined(orders)]
 
     def rows_of(self, texts):
         """The rows that the engine makes of texts, as it tells them."""
@@ -76,8 +86,10 @@ class Holder:
         return [Held(row, own, kind_of(row, own)) for row, own in zip(self.rows_of(texts), right)]
 
     def check_own(self, right):
-        """Ends the run where a row of the library's is wrong."""
-        file = "".join(";".join(row) + "\n" for row in right).encode()
+        """Ends the run where a row of the library's is wrong, or is none."""
+        if None in right:
+            sys.exit("a paragraph of these texts ends inside a line")
+        file = "".join(";".join(row) + "\n" for row in right if BREAK not in row[0]).encode()
         wrong = list(bidi.report_characters(file, self.tables))
         if wrong:
             sys.exit("\n".join([f"of the library's own rows {len(wrong)} are wrong", *map(str, wrong[:MOST])]))
@@ -90,6 +102,11 @@ class Holder:
         return (int(found[1]), int(found[2]), said) if found else (0, 0, said)
 
 
+def joined(lines):
+    """The items of lines, with the ends of lines between them."""
+    return f" {BREAK} ".join(" ".join(line) for line in lines)
+
+
 def is_row(row):
     """Whether the engine made this row."""
     return len(row) == 5
@@ -97,14 +114,16 @@ def is_row(row):
 
 def without_removed(row, right):
     """An engine's row, with what X9 removes as in the library's."""
-    removed = [level == "x" for level in right[3].split()]
-    levels = ["x" if gone else level for level, gone in zip(row[3].split(), removed)]
-    order = [at for at in row[4].split() if not removed[int(at)]]
-    return [*row[:3], " ".join(levels), " ".join(order)]
+    levels = ["x" if own == "x" else level for level, own in zip(row[3].split(), right[3].split())]
+    removed = [level == "x" for level in levels if level != BREAK]
+    order = joined([at for at in line.split() if not removed[int(at)]] for line in row[4].split(BREAK))
+    return [*row[:3], " ".join(levels), order]
 
 
 def kind_of(row, right):
     """In what a row is wrong, or nothing."""
+    if right is None:
+        return ""
     if not is_row(row):
         return FAILED
     pairs = zip(FIELDS, without_removed(row, right)[2:], right[2:])
@@ -118,15 +137,16 @@ def read_texts(file):
 
 
 def length_of(text):
-    """How many characters a text has."""
+    """How many items a text has: characters, and ends of lines inside it."""
     return text[0].count(" ") + 1
 
 
 def smaller(text, size):
-    """A text without as many of its characters, which stand side by side, at each place."""
+    """A text without as many of its items, which stand side by side, at each place, if no line is empty then."""
     items = text[0].split()
     starts = range(0, len(items) if len(items) > size else 0, size)
-    return [(" ".join(items[:at] + items[at + size :]), text[1]) for at in starts]
+    left = [" ".join(items[:at] + items[at + size :]) for at in starts]
+    return [(codes, text[1]) for codes in left if all(line.strip() for line in codes.split(BREAK))]
 
 
 def smallest(texts, kind, holder):
@@ -149,32 +169,41 @@ def smallest(texts, kind, holder):
     return sorted(ended, key=length_of)
 
 
-def tell_kind(kind, found, holder):
-    """Prints how many rows are wrong in this way, and some smallest ones."""
-    texts = sorted(((one.row[0], one.row[1]) for one in found), key=length_of)
-    some = smallest(texts[:: -(-len(texts) // TRIED)], kind, holder)
-    print(f"  {kind}: {len(found)}, such as")
-    for one in holder.held(some[:MOST]):
+def tell_rows(held):
+    """Prints wrong rows beside the right ones."""
+    for one in held:
         made = without_removed(one.row, one.own) if is_row(one.row) else one.row
         print(f"    {';'.join(one.own[:2])}\n      right {';'.join(one.own[2:])}\n      made  {';'.join(made[2:])}")
 
 
-def tell(held, holder):
+def tell_kind(kind, found, holder, each):
+    """Prints how many rows are wrong in this way, and each of them or some smallest ones."""
+    print(f"  {kind}: {len(found)}{'' if each else ', such as'}")
+    if each:
+        tell_rows(found)
+        return
+    texts = sorted(((one.row[0], one.row[1]) for one in found), key=length_of)
+    some = smallest(texts[:: -(-len(texts) // TRIED)], kind, holder)
+    tell_rows(holder.held(some[:MOST]))
+
+
+def tell(held, holder, each):
     """Prints what is wrong."""
     wrong = collections.defaultdict(list)
     for one in held:
         if one.kind:
             wrong[one.kind].append(one)
     failed = len(wrong[FAILED])
-    print(f"{holder.version()}: {len(held) - failed} rows, {sum(map(len, wrong.values())) - failed} wrong; {failed} failed")
+    count = sum(map(len, wrong.values())) - failed
+    print(f"{holder.version()}: {len(held) - failed} rows, {count} wrong; {failed} failed")
     for kind, found in sorted(wrong.items()):
         if found:
-            tell_kind(kind, found, holder)
+            tell_kind(kind, found, holder, each)
 
 
 def agrees(held, holder, file):
-    """Writes the rows that the engine made to a file, and answers whether `bidi report` counts as many wrong ones."""
-    made = [one for one in held if is_row(one.row)]
+    """Writes the rows that the engine made to a file, and returns whether `bidi report` counts as many wrong ones."""
+    made = [one for one in held if is_row(one.row) and BREAK not in one.row[0]]
     pathlib.Path(file).write_text("".join(";".join(one.row) + "\n" for one in made))
     wrong = sum(1 for one in made if one.kind)
     rows, reported, said = holder.reported(file)
@@ -185,14 +214,16 @@ def agrees(held, holder, file):
 
 
 def main():
-    if len(sys.argv) < 5:
+    each = sys.argv[1:2] == ["--each"]
+    words = sys.argv[2 if each else 1 :]
+    if len(words) < 4:
         sys.exit(__doc__)
-    folder, file, rows, *command = sys.argv[1:]
+    folder, file, rows, *command = words
     texts = read_texts(file)
     holder = Holder(folder, command, max(map(length_of, texts)))
     held = holder.held(texts)
     holder.check_own([one.own for one in held])
-    tell(held, holder)
+    tell(held, holder, each)
     sys.exit(not agrees(held, holder, rows))
 
 

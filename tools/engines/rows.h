@@ -1,10 +1,14 @@
-/* Reads texts, lines `CODE POINTS;DIRECTION` (hexadecimal; 0 left-to-right, 1 right-to-left, 2 found in the text; what
- * stands behind a further semicolon is passed over), and writes for each what an engine makes of it, in the form of
- * BidiCharacterTest.txt but with a level for each character, and an order of all of them, also of those that rule X9
- * removes: which ones these are, an engine need not tell. A text at which the engine crashes, or takes more than two
- * seconds, gets a row `CODE POINTS;DIRECTION;failed`.
+/* Reads texts, lines `CODE POINTS;DIRECTION` (hexadecimal; 0 left-to-right, 1 right-to-left, 2 found in the text;
+ * fields after a further semicolon are skipped), and writes the row that an engine makes of each. A row has the form of
+ * BidiCharacterTest.txt, but each character has a level and a place, also those that rule X9 removes: an engine need
+ * not report which ones these are. A `|` between two code points ends a line of layout; the row then has a `|` at the
+ * same place in its levels and its order. A text at which the engine crashes, or takes more than two seconds, gets a
+ * row `CODE POINTS;DIRECTION;failed`.
  *
- * An engine's file defines lay_out, and its main calls write_rows. */
+ * With the word `--classes` it writes the classes instead: lines `FIRST..LAST;CLASS` for all code points, with `-` as
+ * the class of those that the engine takes for no character.
+ *
+ * An engine's file defines lay_out and class_of, and its main calls run_words. */
 #define _GNU_SOURCE
 #include <stdint.h>
 #include <stdio.h>
@@ -15,44 +19,65 @@
 #include <unistd.h>
 #define MOST 4096
 #define SECONDS 2
+#define CODES 0x110000
 
-/* What an engine makes of a text: the paragraph's level, the level of each of n characters, and which of them stands at
- * each place from the left. */
+/* A text of n code points, in lines; ends[k] is where line k ends. */
+typedef struct { uint32_t codes[MOST]; int n, direction, ends[MOST], lines; } text;
+
+/* What an engine makes of a text: the first paragraph's level, the level of each character, and line by line the
+ * character at each place from the left. */
 typedef struct { int paragraph, levels[MOST], order[MOST]; } layout;
 
-/* Lays out n code points. Answers 0, or 1 where the engine refuses. */
-static int lay_out(const uint32_t *codes, int n, int direction, layout *made);
+/* Lays out a text. Returns 0, or 1 if the engine fails. */
+static int lay_out(const text *asked, layout *made);
+
+/* The short name of a code point's class. */
+static const char *class_of(uint32_t code);
 
 typedef struct { char *start; size_t length; } text_line;
 
-static int read_codes(const char *from, uint32_t *codes, int *direction) {
-  int n = 0;
+static void read_text(const char *from, text *into) {
   char *at = (char *)from;
-  while (*at && *at != ';' && n < MOST) {
-    char *item = at;
-    codes[n++] = strtoul(item, &at, 16);
-    if (at == item) _exit(3);
+  into->n = into->lines = 0;
+  while (*at && *at != ';' && into->n < MOST) {
+    if (*at == '|') {
+      into->ends[into->lines++] = into->n;
+      at++;
+    } else {
+      char *item = at;
+      into->codes[into->n++] = strtoul(item, &at, 16);
+      if (at == item) _exit(3);
+    }
     while (*at == ' ') at++;
   }
-  *direction = *at == ';' ? at[1] - '0' : 2;
-  return n;
+  into->ends[into->lines++] = into->n;
+  into->direction = *at == ';' ? at[1] - '0' : 2;
+}
+
+/* Writes one item for each character, in this form, with the ends of lines between them. */
+static void write_items(FILE *out, const text *of, const int *items, const char *form) {
+  for (int i = 0, line = 0; i < of->n; i++) {
+    if (i) fputs(i == of->ends[line] ? " | " : " ", out);
+    if (i == of->ends[line]) line++;
+    fprintf(out, form, items[i]);
+  }
 }
 
 static void write_row(text_line line) {
-  static uint32_t codes[MOST];
+  static text asked;
   static layout made;
-  int direction, n = read_codes(line.start, codes, &direction);
   char *row = NULL;
   size_t length;
   FILE *out = open_memstream(&row, &length);
-  for (int i = 0; i < n; i++) fprintf(out, "%s%04X", i ? " " : "", codes[i]);
-  fprintf(out, ";%d;", direction);
-  if (lay_out(codes, n, direction, &made)) fputs("failed", out);
+  read_text(line.start, &asked);
+  write_items(out, &asked, (const int *)asked.codes, "%04X");
+  fprintf(out, ";%d;", asked.direction);
+  if (lay_out(&asked, &made)) fputs("failed", out);
   else {
     fprintf(out, "%d;", made.paragraph);
-    for (int i = 0; i < n; i++) fprintf(out, "%s%d", i ? " " : "", made.levels[i]);
+    write_items(out, &asked, made.levels, "%d");
     fputc(';', out);
-    for (int i = 0; i < n; i++) fprintf(out, "%s%d", i ? " " : "", made.order[i]);
+    write_items(out, &asked, made.order, "%d");
   }
   fputc('\n', out);
   fclose(out);
@@ -62,19 +87,19 @@ static void write_row(text_line line) {
 
 static size_t read_lines(text_line **lines) {
   size_t count = 0, room = 0, size = 0;
-  char *text = NULL;
+  char *line = NULL;
   ssize_t length;
   *lines = NULL;
-  for (; (length = getline(&text, &size, stdin)) > 0; text = NULL, size = 0) {
-    if (text[0] == '#' || text[0] == '\n') continue;
+  for (; (length = getline(&line, &size, stdin)) > 0; line = NULL, size = 0) {
+    if (line[0] == '#' || line[0] == '\n') continue;
     if (count == room) *lines = realloc(*lines, sizeof **lines * (room = room ? 2 * room : 1024));
-    (*lines)[count++] = (text_line){ text, strcspn(text, "\n") };
+    (*lines)[count++] = (text_line){ line, strcspn(line, "\n") };
   }
   return count;
 }
 
-/* A process of its own writes the rows, and another goes on behind the text at which it ended. Answers 2 where a line
- * is no text, or a write fails. */
+/* A process of its own writes the rows, and another goes on after the text at which it ended. Returns 2 if a line is no
+ * text, or a write fails. */
 static int write_rows(void) {
   text_line *lines;
   size_t count = read_lines(&lines);
@@ -97,4 +122,22 @@ static int write_rows(void) {
     ++*done;
   }
   return 0;
+}
+
+/* Writes the class of each code point, by ranges. Returns 0. */
+static int write_classes(void) {
+  for (uint32_t first = 0, end; first < CODES; first = end) {
+    const char *name = class_of(first);
+    for (end = first + 1; end < CODES && !strcmp(class_of(end), name);) end++;
+    printf("%04X..%04X;%s\n", first, end - 1, name);
+  }
+  return 0;
+}
+
+/* Does what the words say; `version` is what `--version` prints. */
+static int run_words(int argc, char **argv, const char *version) {
+  if (argc == 1) return write_rows();
+  if (argc == 2 && !strcmp(argv[1], "--classes")) return write_classes();
+  if (argc == 2 && !strcmp(argv[1], "--version")) return puts(version) < 0;
+  return 2;
 }

@@ -5,7 +5,7 @@
 ghost use Rattle.std.specs.Prelude.{◌≡◌, ◌≢◌, ◌≤◌, IfOk, OnErr};
 
 use command::run::run;
-use requests::fault::Fault;
+use requests::fault::{Detail, Fault};
 use requests::files::SystemFiles;
 use requests::outcome::Ended;
 use std::env;
@@ -54,7 +54,7 @@ fn run_or_say<E: Write>(rt: &HostRuntime, err: &mut E) -> Ended
 {
     match run_with_words(rt, err) {
         Ok(ended) => ended,
-        Err(error) => fault_of_words(error.kind()).report(err),
+        Err(error) => fault_of_words(error.kind()).report(err, Detail::Brief),
     }
 }
 

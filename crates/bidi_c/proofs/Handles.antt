@@ -1,18 +1,19 @@
--- The machine values of a `Handle`. Assumes `Logic`.
-use Rattle.std.proofs.Common.{◌≡◌, ℕ, List, [], ◌∷◌, ◌++◌, refl, sym, subst, true≢false}
-use lib.Dec.{lit<}
+-- The machine values of a `Handle` and of a `BidiHandle`. Assumes `Logic`.
+use Rattle.std.proofs.Common.{◌≡◌, ℕ, List, [], ◌∷◌, ◌++◌, refl, sym, subst, Bool, true, false, true≢false}
+use lib.Dec.{T, lit<}
 use seplogic.Ra.Ura.{Ura}
 use mir.Raw.{raw as bare}
 use mir.Syntax.{Dict, impl, tnil, tcons, dnil}
-use mir.Val.{Val, vptr, vnull, vstruct, vcons, vnil, of_list, has_ty}
+use mathlib.Core.Bool.{not}
+use mir.Val.{Val, vptr, vnull, vbool, vstruct, vcons, vnil, of_list, has_ty}
 use base.Logic.{never, fst∗}
-use base.Fml.{Lft, GName, Share, fsep, flft, fobs, fauth, fbor, fobor}
+use base.Fml.{Lft, GName, Share, flft, fobs, fauth, fbor, fobor}
 use base.Fraction.{full_share}
 use types.Logic.{Logic, sem}
 use types.SemTy.{Body as Borrowed}
 use types.Kit.{Item, Goal, Soaks, Seq, Step, step, ‵, ◌$◌, move, drop, fsplit, fjoin, fpick, fpack, rewrite, feq_i, feq_l}
-use denote.RattleType.{RattleType, Valss}
-use denote.Memory.{lone, mem, cell_at, part_at}
+use denote.RattleType.{RattleType, Valss, flat}
+use denote.Memory.{lone, mem, cell_at}
 use denote.RawPtr.{Ptr, block_ptr, null_ptr, ptr_val, in_a_block}
 use denote.Steps.{nothing, opens}
 use denote.Exit.{no}
@@ -20,6 +21,7 @@ use denote.Param.{layout, arg}
 use denote.Param.Laws.{Laws, arg_laws}
 use denote.Struct.Struct.{within}
 use denote.Struct.Owning.{shape, fields, to}
+use denote.Struct.Declared as declared
 use Rattle.core.proofs.alloc.Calls.{handle_tells}
 use Rattle.std_alloc.proofs.BoxSteps.Form.{Bx}
 use Rattle.std_alloc.proofs.ResultValues.{and_tt}
@@ -31,9 +33,10 @@ use Rattle.std.proofs.alloc.Global.TheLaws as heap_laws
 use Rattle.std.specs.contracts.impls.GlobalAllocator.TheImpl.{ghosts, dict}
 use Rattle.std_alloc.specs.Box.Ownership.{box_owns}
 use Rattle.bidi_c.specs.Kept.{kept}
-use Rattle.bidi_held.specs.contracts.held.Held as inner
-use Rattle.bidi_held.proofs.held.Held.TheLaws as inner_laws
+use Rattle.bidi_c.specs.contracts.held.Held as inner
+use Rattle.bidi_c.proofs.held.Held.TheLaws as inner_laws
 use Rattle.bidi_c.specs.contracts.handle.Handle as outer
+use Rattle.bidi_c.specs.contracts.bidi_handle.BidiHandle as bidi
 
 abbrev pub R : RattleType
 R = inner.the_row
@@ -43,6 +46,9 @@ Z = heap.the_row
 
 abbrev pub Hd : RattleType
 Hd = outer.the_row
+
+abbrev pub Bh : RattleType
+Bh = bidi.the_row
 
 abbrev pub both : Val → Val → Val
 both v w = vstruct (vcons v (vcons w vnil))
@@ -65,7 +71,7 @@ abbrev pub none_drops : Dict
 none_drops = impl ("bidi_c::Destruct++none::drop" ∷ []) (tcons (layout Zc) tnil) dnil
 
 abbrev pub held_drops : Dict
-held_drops = impl ("bidi_c::bidi_held++held++Held+Destruct::drop" ∷ []) tnil dnil
+held_drops = impl ("bidi_c::bidi_c++held++Held+Destruct::drop" ∷ []) tnil dnil
 
 -- the box of what is held
 abbrev pub E : Bx
@@ -74,6 +80,15 @@ E = record { row = R; laws = inner_laws.the_row_laws; al = record { row = Z; law
 pub by_some : {X : Type 0} {Y : Type 1} (o : Option X) → IsSome o → ((x : X) → o ≡ Some x → Y) → Y
 by_some None i k = absurd (true≢false (sym i))
 by_some (Some x) i k = k x refl
+
+pub none_by : {X : Type 0} (o : Option X) (made : Bool) → T (not made) → (IsSome o → made ≡ true) → o ≡ None
+none_by None made t f = refl
+none_by (Some x) true t f = absurd t
+none_by (Some x) false t f = absurd (true≢false (sym (f refl)))
+
+pub is_true : (b : Bool) → T b → b ≡ true
+is_true true t = refl
+is_true false t = absurd t
 
 pub none_good : (h : Val) → Good (layout Z) h → Good (layout Hd) (both vnull h)
 none_good h fits = (and_tt (has_ty (layout Z) h) fits.0, (record { fits = lit< tt }, (fits.1, tt)))
@@ -105,11 +120,27 @@ module _ {M : Type 1} {𝓤 : Ura M} {𝓛 : Logic 𝓤} {K : Type 0} {Γ : List
       fpack t (Valss (fields outer.the_type)) (within (shape outer.the_type) (to outer.the_type (record { at = null_ptr; alloc = a; value = None })) (v ∷ [])) (vnull ∷ [], (h ∷ [], tt)) $ fjoin t $ s)
 
 module _ {M : Type 1} {𝓤 : Ura M} {𝓛 : Logic 𝓤} {K : Type 0} {Γ : List (Item 𝓤)} {G : Goal 𝓤 𝓛.H} where
-  -- what is held; the token with the allocator; the handle's words; the open borrow; what is seen of it, twice
-  pub handle_opens : K → Soaks G → {κ : Lft} {q : Share} {γ : GName} (d : Hd.Denot) (x : R.Denot) → d.value ≡ Some x → (rb ro : ℕ)
-      → ((b o : ℕ) (h : Val) → d.at ≡ block_ptr b o → Seq K 𝓛 (‵ (part_at R full_share x b o) ∷ ‵ (fsep (ghosts.dealloc_token d.alloc (bare (lone R.mir)) (block_ptr b o)) (Z.own_val d.alloc (h ∷ [])))
-      ∷ ‵ (cell_at full_share Hd.mir (both (vptr b o) h ∷ []) rb ro) ∷ ‵ (fobor κ q (Borrowed (mem Hd) rb ro γ)) ∷ ‵ (fobs γ (Hd.coded.code d)) ∷ ‵ (fauth γ (Hd.coded.code d)) ∷ Γ) G)
-      → Seq K 𝓛 (‵ (fobs γ (Hd.coded.code d)) ∷ ‵ (fbor κ (Borrowed (mem Hd) rb ro γ)) ∷ ‵ (flft κ q) ∷ Γ) G
-  handle_opens t z d x is rb ro k =
-      opens t z Hd {h = d} rb ro (λ vs. move t (1 ∷ []) $ handle_out t d x is vs (λ b o h at_b ws fits. fsplit t $ move t (1 ∷ 2 ∷ []) $ fjoin t $ move t (1 ∷ []) $
-      rewrite t 2 (λ (us : List Val). ‵ (cell_at full_share Hd.mir us rb ro)) ws refl $ k b o h at_b))
+  -- the words of the pointer's owner are one value
+  handle_word : K → (d : Hd.Denot) (vs : List Val) → ((v : Val) → vs ≡ v ∷ [] → Seq K 𝓛 (‵ (Hd.own_val d vs) ∷ Γ) G) → Seq K 𝓛 (‵ (Hd.own_val d vs) ∷ Γ) G
+  handle_word t d vs k =
+      fsplit t $ fpick t (λ vss. fsplit t $ feq_l t (λ ev. let v : Val = vstruct (of_list (flat (fields outer.the_type) vss)) in
+      feq_i t (List Val) vs (v ∷ []) ev $ fjoin t $ fpack t (Valss (fields outer.the_type)) (within (shape outer.the_type) (to outer.the_type d) vs) vss $ fjoin t $ k v ev))
+
+  -- a handle is made of its pointer's owner and its flag
+  pub bidi_in : K → (d : Bh.Denot) (v : Val)
+      → Step K 𝓛 (‵ (Bh.own_val d (both v (vbool d.made) ∷ [])) ∷ Γ) G (‵ (Hd.own_val d.handle (v ∷ [])) ∷ Γ) G
+  bidi_in t d v = step (λ s. let w : Val = both v (vbool d.made) in
+      nothing t $ feq_i t (List Val) (vbool d.made ∷ []) (vbool d.made ∷ []) refl $ fjoin t $ move t (1 ∷ 0 ∷ []) $ fjoin t $ feq_i t (List Val) (w ∷ []) (w ∷ []) refl $ fjoin t $
+      fpack t (Valss (declared.fields bidi.the_type)) (within (declared.shape bidi.the_type) (bidi.the_type.to d) (w ∷ [])) (v ∷ [], (vbool d.made ∷ [], tt)) $ s)
+
+module _ {M : Type 1} {𝓤 : Ura M} {𝓛 : Logic 𝓤} {K : Type 0} {Γ : List (Item 𝓤)} {G : Goal 𝓤 𝓛.H} where
+  -- the pointer's owner; the handle's words; the open borrow; what is seen of it, twice
+  pub bidi_opens : K → Soaks G → {κ : Lft} {q : Share} {γ : GName} (d : Bh.Denot) (rb ro : ℕ)
+      → ((v : Val) → Seq K 𝓛 (‵ (Hd.own_val d.handle (v ∷ [])) ∷ ‵ (cell_at full_share Bh.mir (both v (vbool d.made) ∷ []) rb ro)
+      ∷ ‵ (fobor κ q (Borrowed (mem Bh) rb ro γ)) ∷ ‵ (fobs γ (Bh.coded.code d)) ∷ ‵ (fauth γ (Bh.coded.code d)) ∷ Γ) G)
+      → Seq K 𝓛 (‵ (fobs γ (Bh.coded.code d)) ∷ ‵ (fbor κ (Borrowed (mem Bh) rb ro γ)) ∷ ‵ (flft κ q) ∷ Γ) G
+  bidi_opens t z d rb ro k =
+      opens t z Bh {h = d} rb ro (λ vs. move t (1 ∷ []) $ fpick t (λ vss. fsplit t $ feq_l t (λ ev. fsplit t $ handle_word t d.handle vss.0 (λ v ew.
+      move t (1 ∷ []) $ fsplit t $ feq_l t (λ em. drop t $ rewrite t 0 (λ (us : List Val). ‵ (Hd.own_val d.handle us)) ew refl $
+      rewrite t 1 (λ (us : List Val). ‵ (cell_at full_share Bh.mir us rb ro))
+      (subst (λ (ws : List Val). vs ≡ vstruct (of_list (ws ++ (vbool d.made ∷ []))) ∷ []) ew (subst (λ (ms : List Val). vs ≡ vstruct (of_list (vss.0 ++ (ms ++ []))) ∷ []) em ev)) refl $ k v)))))

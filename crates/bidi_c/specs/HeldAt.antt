@@ -1,27 +1,57 @@
--- What handles hold.
-use Rattle.std.specs.Prelude.{ℕ, Option}
+-- What handles contain.
+use Rattle.std.specs.Prelude.{ℕ, true, false, Option, Some, None, []}
 use Rattle.units.specs.Layout.{TextLayout, LineLayout}
+use Rattle.lines.specs.Layouts.{line_at}
 use Rattle.ucdfiles.specs.Tables.{TablesOf}
-use Rattle.bidi_held.specs.Holdings.{tables_in, capacity_in, layout_held, line_numbered}
-use Rattle.bidi_held.specs.declared.held.Held.{Held}
+use Rattle.room.specs.Rooms.{RoomOf}
+use Rattle.for_c.specs.declared.table_judge.TableJudge.{TableJudge}
+use Rattle.for_c.specs.declared.table_report.TableReport.{TableReport}
+use Rattle.bidi_c.specs.HeldIn.{judge_in, report_in, room_for, room_in, tables_in}
+use Rattle.bidi_c.specs.declared.held.Held.{Held}
 use Rattle.bidi_c.specs.declared.bidi_handle.BidiHandle.{BidiHandle}
 
--- what a handle holds
+-- what a handle contains
 abbrev pub held_at : BidiHandle → Option Held
 held_at handle = handle.handle.value
 
--- the tables that it holds, if it holds tables
+-- the tables, if it contains tables
 abbrev pub tables_at : BidiHandle → Option TablesOf
 tables_at handle = tables_in (held_at handle)
 
--- the length of the longest text that it has room for, if it holds a room
-abbrev pub capacity_at : BidiHandle → Option ℕ
-capacity_at handle = capacity_in (held_at handle)
+-- the room, if it contains a room
+abbrev pub room_at : BidiHandle → Option RoomOf
+room_at handle = room_in (held_at handle)
 
--- the layout that it holds; without a room that of no text
+-- the room, if it contains one with offsets
+abbrev pub encoded_at : BidiHandle → Option RoomOf
+encoded_at handle = room_for true (held_at handle)
+
+-- the judge, if it contains a judge
+abbrev pub judge_at : BidiHandle → Option TableJudge
+judge_at handle = judge_in (held_at handle)
+
+-- the report, if it contains a report
+abbrev pub report_at : BidiHandle → Option TableReport
+report_at handle = report_in (held_at handle)
+
+-- no text has no layout
+abbrev pub no_layout : TextLayout
+no_layout = record { paras = []; levels = []; lines = [] }
+
+-- the layout of a room; without a room that of no text
+abbrev pub layout_if : Option RoomOf → TextLayout
+layout_if (Some room) = room.layout
+layout_if None = no_layout
+
+-- the layout that a handle contains
 abbrev pub layout_at : BidiHandle → TextLayout
-layout_at handle = layout_held (held_at handle)
+layout_at handle = layout_if (room_at handle)
 
 -- its line with the number k
 abbrev pub line_of_room : BidiHandle → ℕ → LineLayout
-line_of_room handle k = line_numbered (layout_at handle) k
+line_of_room handle k = line_at (layout_at handle) k
+
+-- how many units the greatest text has that it can hold, 0 without a room
+abbrev pub capacity_if : Option RoomOf → ℕ
+capacity_if (Some room) = room.capacity
+capacity_if None = 0

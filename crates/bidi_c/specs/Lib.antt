@@ -1,4 +1,14 @@
--- What handles own, lend and hold.
+-- What handles own, lend and contain, and what calls on them do.
 pub mod Kept
 pub mod Lent
+pub mod HeldIn
 pub mod HeldAt
+pub mod AtHandles
+pub mod LayingOut
+pub mod Sharing
+pub mod ShownAt
+pub mod BaseAt
+pub mod Fronts
+pub mod MadeTables
+pub mod JudgesAt
+pub mod ReportsAt

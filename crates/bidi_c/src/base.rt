@@ -1,19 +1,72 @@
-// The direction of a text, without a layout.
+//! The direction of a text, without a layout.
 ghost use Rattle.std.specs.Prelude.{◌≡◌};
-ghost use Rattle.bidi_held.specs.BaseLevels.{IsBaseLevel, IsLeftToRight, PutsBaseLevels, RefusesBase, RefusesText};
-ghost use Rattle.bidi_held.specs.Statuses.{AnswersNaming, Puts, place_named};
-ghost use Rattle.bidi_c.specs.HeldAt.{held_at};
+ghost use Rattle.decoding.specs.declared.fault.Faults.TheVariants.{Refused};
+ghost use Rattle.sources.specs.Seen.{source_seen};
+ghost use Rattle.sources.specs.Sources.{Codes, Utf16, Utf8};
+ghost use Rattle.for_c.specs.Statuses.{AnswersNaming, place_named};
+ghost use Rattle.bidi_c.specs.BaseAt.{PutsBaseLevelAt, PutsBaseLevelsAt, PutsLeftToRightAt};
+ghost use Rattle.bidi_c.specs.HeldAt.{held_at, tables_at};
 
 use crate::bidi_handle::BidiHandle;
 use crate::putting::put;
-use bidi_held::base::{base_level_held, is_left_to_right_held};
-use bidi_held::base_levels::base_levels_held;
-use bidi_held::refusal::{Refusal, answer};
+use decoding::fault::Faults;
+use for_c::base::{base_level_of, left_to_right, write_base_levels};
+use for_c::call_error::{CallError, status_and_place};
+use sources::source::Source;
 
-/// The level of the first paragraph of a text of code points under a direction (P1 to P3), without a layout. Where
-/// there are no tables, or the number is no direction, or a code point is no scalar value, `level` stays as it was.
+#[tactic(auto, using(crate::proofs::Needed::not_found))]
+fn base_level(
+    tables: &mut BidiHandle,
+    source: Source<'_>,
+    direction: u32,
+    level: &mut u8,
+) -> Result<(), CallError>
+    ensures tables { held_at tables.new ≡ held_at tables.old }
+    ensures level { PutsBaseLevelAt (tables_at tables.old) (source_seen source.entry) direction level.old level.new
+        result }
+{
+    match tables.tables() {
+        Some(by) => put(base_level_of(by, source, direction), level),
+        None => Err(CallError::NoTables),
+    }
+}
+
+#[tactic(auto, using(crate::proofs::Needed::no_tables_no_levels))]
+fn base_levels(
+    tables: &mut BidiHandle,
+    source: Source<'_>,
+    direction: u32,
+    levels: &mut [u8],
+    count: &mut usize,
+) -> Result<(), CallError>
+    ensures tables { held_at tables.new ≡ held_at tables.old }
+    ensures levels { PutsBaseLevelsAt (tables_at tables.old) (source_seen source.entry) direction levels.old levels.new
+        count.old count.new result }
+{
+    match tables.tables() {
+        Some(by) => write_base_levels(by, source, direction, levels, count),
+        None => Err(CallError::NoTables),
+    }
+}
+
+#[tactic(auto, using(crate::proofs::Needed::not_found))]
+fn is_left_to_right(
+    tables: &mut BidiHandle,
+    source: Source<'_>,
+    stays: &mut u8,
+) -> Result<(), CallError>
+    ensures tables { held_at tables.new ≡ held_at tables.old }
+    ensures stays { PutsLeftToRightAt (tables_at tables.old) (source_seen source.entry) stays.old stays.new result }
+{
+    match tables.tables() {
+        Some(by) => put(left_to_right(by, source), stays),
+        None => Err(CallError::NoTables),
+    }
+}
+
+/// Writes the level of the first paragraph of a text of code points under a direction (P1 to P3) to `level`. If there are no
+/// tables, or the number is no direction, or a code point is no scalar value, `level` is unchanged.
 #[unsafe(no_mangle)]
-#[tactic(auto, using(crate::proofs::NothingHeld::no_tables_named))]
 pub extern "C" fn bidi_base_level(
     tables: &mut BidiHandle,
     codes: &[u32],
@@ -22,20 +75,16 @@ pub extern "C" fn bidi_base_level(
     place: &mut u64,
 ) -> u32
     ensures tables { held_at tables.new ≡ held_at tables.old }
-    ensures level { AnswersNaming place_named (Puts (IsBaseLevel (held_at tables.old) codes.now direction)
-        (RefusesBase (held_at tables.old) codes.now direction) level.old level.new) result place.old place.new }
+    ensures level { AnswersNaming place_named (PutsBaseLevelAt (tables_at tables.old) (Codes codes.now) direction
+        level.old level.new) result place.old place.new }
 {
-    match tables.held() {
-        Some(held) => answer(put(base_level_held(held, codes, direction), level), place),
-        None => answer(Err(Refusal::NoTables), place),
-    }
+    let source = Source::Codes(codes);
+    status_and_place(base_level(tables, source, direction, level), place)
 }
 
-/// The level of each paragraph of a text of code points under a direction (P1 to P3), in their order, without a layout:
-/// `count` says how many paragraphs there are, and the levels are written to the front of `levels` if all fit there.
-/// Where it is refused as `bidi_base_level` is, both stay as they were.
+/// Writes the level of each paragraph of a text of code points under a direction (P1 to P3), in their order, to `levels`, if
+/// all fit there, and to `count` how many there are. If it fails as `bidi_base_level` does, both are unchanged.
 #[unsafe(no_mangle)]
-#[tactic(auto, using(crate::proofs::NothingHeld::no_tables_named))]
 pub extern "C" fn bidi_base_levels(
     tables: &mut BidiHandle,
     codes: &[u32],
@@ -45,23 +94,17 @@ pub extern "C" fn bidi_base_levels(
     place: &mut u64,
 ) -> u32
     ensures tables { held_at tables.new ≡ held_at tables.old }
-    ensures levels { AnswersNaming place_named (PutsBaseLevels (held_at tables.old) codes.now direction
+    ensures levels { AnswersNaming place_named (PutsBaseLevelsAt (tables_at tables.old) (Codes codes.now) direction
         levels.old levels.new count.old count.new) result place.old place.new }
 {
-    match tables.held() {
-        Some(held) => answer(
-            base_levels_held(held, codes, direction, levels, count),
-            place,
-        ),
-        None => answer(Err(Refusal::NoTables), place),
-    }
+    let source = Source::Codes(codes);
+    status_and_place(base_levels(tables, source, direction, levels, count), place)
 }
 
-/// Whether a text of code points has only classes that stay at level 0 (1) or not (0), in one walk: if so, all of its
-/// levels are 0, unless its paragraphs are asked to be right-to-left. Where there are no tables, or a code point is no
-/// scalar value, `stays` is as it was.
+/// Writes to `stays` whether a text of code points has only classes that stay at level 0 (1) or not (0): if so, all of its
+/// levels are 0, unless its paragraphs are asked to be right-to-left. If there are no tables, or a code point is no scalar value, `stays` is
+/// unchanged.
 #[unsafe(no_mangle)]
-#[tactic(auto, using(crate::proofs::NothingHeld::no_tables_named))]
 pub extern "C" fn bidi_is_left_to_right(
     tables: &mut BidiHandle,
     codes: &[u32],
@@ -69,11 +112,119 @@ pub extern "C" fn bidi_is_left_to_right(
     place: &mut u64,
 ) -> u32
     ensures tables { held_at tables.new ≡ held_at tables.old }
-    ensures stays { AnswersNaming place_named (Puts (IsLeftToRight (held_at tables.old) codes.now)
-        (RefusesText (held_at tables.old) codes.now) stays.old stays.new) result place.old place.new }
+    ensures stays { AnswersNaming place_named (PutsLeftToRightAt (tables_at tables.old) (Codes codes.now) stays.old stays.new)
+        result place.old place.new }
 {
-    match tables.held() {
-        Some(held) => answer(put(is_left_to_right_held(held, codes), stays), place),
-        None => answer(Err(Refusal::NoTables), place),
-    }
+    let source = Source::Codes(codes);
+    status_and_place(is_left_to_right(tables, source, stays), place)
+}
+
+/// Writes the level of the first paragraph of a text of bytes of UTF-8 under a direction (P1 to P3) to `level`. If there are no
+/// tables, or the number is no direction, or the bytes are no UTF-8, `level` is unchanged.
+#[unsafe(no_mangle)]
+pub extern "C" fn bidi_base_level_utf8(
+    tables: &mut BidiHandle,
+    text: &[u8],
+    direction: u32,
+    level: &mut u8,
+    place: &mut u64,
+) -> u32
+    ensures tables { held_at tables.new ≡ held_at tables.old }
+    ensures level { AnswersNaming place_named (PutsBaseLevelAt (tables_at tables.old) (Utf8 text.now Refused) direction
+        level.old level.new) result place.old place.new }
+{
+    let source = Source::Utf8(text, Faults::Refused);
+    status_and_place(base_level(tables, source, direction, level), place)
+}
+
+/// Writes the level of each paragraph of a text of bytes of UTF-8 under a direction (P1 to P3), in their order, to `levels`, if
+/// all fit there, and to `count` how many there are. If it fails as `bidi_base_level_utf8` does, both are unchanged.
+#[unsafe(no_mangle)]
+pub extern "C" fn bidi_base_levels_utf8(
+    tables: &mut BidiHandle,
+    text: &[u8],
+    direction: u32,
+    levels: &mut [u8],
+    count: &mut usize,
+    place: &mut u64,
+) -> u32
+    ensures tables { held_at tables.new ≡ held_at tables.old }
+    ensures levels { AnswersNaming place_named (PutsBaseLevelsAt (tables_at tables.old) (Utf8 text.now Refused) direction
+        levels.old levels.new count.old count.new) result place.old place.new }
+{
+    let source = Source::Utf8(text, Faults::Refused);
+    status_and_place(base_levels(tables, source, direction, levels, count), place)
+}
+
+/// Writes to `stays` whether a text of bytes of UTF-8 has only classes that stay at level 0 (1) or not (0): if so, all of its
+/// levels are 0, unless its paragraphs are asked to be right-to-left. If there are no tables, or the bytes are no UTF-8, `stays` is
+/// unchanged.
+#[unsafe(no_mangle)]
+pub extern "C" fn bidi_is_left_to_right_utf8(
+    tables: &mut BidiHandle,
+    text: &[u8],
+    stays: &mut u8,
+    place: &mut u64,
+) -> u32
+    ensures tables { held_at tables.new ≡ held_at tables.old }
+    ensures stays { AnswersNaming place_named (PutsLeftToRightAt (tables_at tables.old) (Utf8 text.now Refused) stays.old stays.new)
+        result place.old place.new }
+{
+    let source = Source::Utf8(text, Faults::Refused);
+    status_and_place(is_left_to_right(tables, source, stays), place)
+}
+
+/// Writes the level of the first paragraph of a text of code units of UTF-16 under a direction (P1 to P3) to `level`. If there are no
+/// tables, or the number is no direction, or a surrogate is alone, `level` is unchanged.
+#[unsafe(no_mangle)]
+pub extern "C" fn bidi_base_level_utf16(
+    tables: &mut BidiHandle,
+    text: &[u16],
+    direction: u32,
+    level: &mut u8,
+    place: &mut u64,
+) -> u32
+    ensures tables { held_at tables.new ≡ held_at tables.old }
+    ensures level { AnswersNaming place_named (PutsBaseLevelAt (tables_at tables.old) (Utf16 text.now Refused) direction
+        level.old level.new) result place.old place.new }
+{
+    let source = Source::Utf16(text, Faults::Refused);
+    status_and_place(base_level(tables, source, direction, level), place)
+}
+
+/// Writes the level of each paragraph of a text of code units of UTF-16 under a direction (P1 to P3), in their order, to `levels`, if
+/// all fit there, and to `count` how many there are. If it fails as `bidi_base_level_utf16` does, both are unchanged.
+#[unsafe(no_mangle)]
+pub extern "C" fn bidi_base_levels_utf16(
+    tables: &mut BidiHandle,
+    text: &[u16],
+    direction: u32,
+    levels: &mut [u8],
+    count: &mut usize,
+    place: &mut u64,
+) -> u32
+    ensures tables { held_at tables.new ≡ held_at tables.old }
+    ensures levels { AnswersNaming place_named (PutsBaseLevelsAt (tables_at tables.old) (Utf16 text.now Refused) direction
+        levels.old levels.new count.old count.new) result place.old place.new }
+{
+    let source = Source::Utf16(text, Faults::Refused);
+    status_and_place(base_levels(tables, source, direction, levels, count), place)
+}
+
+/// Writes to `stays` whether a text of code units of UTF-16 has only classes that stay at level 0 (1) or not (0): if so, all of its
+/// levels are 0, unless its paragraphs are asked to be right-to-left. If there are no tables, or a surrogate is alone, `stays` is
+/// unchanged.
+#[unsafe(no_mangle)]
+pub extern "C" fn bidi_is_left_to_right_utf16(
+    tables: &mut BidiHandle,
+    text: &[u16],
+    stays: &mut u8,
+    place: &mut u64,
+) -> u32
+    ensures tables { held_at tables.new ≡ held_at tables.old }
+    ensures stays { AnswersNaming place_named (PutsLeftToRightAt (tables_at tables.old) (Utf16 text.now Refused) stays.old stays.new)
+        result place.old place.new }
+{
+    let source = Source::Utf16(text, Faults::Refused);
+    status_and_place(is_left_to_right(tables, source, stays), place)
 }

@@ -1,15 +1,16 @@
-// A handle as C keeps it.
+//! A handle, as C has it.
 ghost use Rattle.std.specs.Prelude.{◌≡◌, ◌↔◌, IsSome, Some, None, true, MatchOption};
 ghost use Rattle.std.specs.Borrow.{sem};
-ghost use Rattle.bidi_held.specs.Statuses.{Puts};
-ghost use Rattle.bidi_held.specs.declared.refusal.Refusal.TheVariants.{Memory};
+ghost use Rattle.for_c.specs.Statuses.{Puts};
+ghost use Rattle.for_c.specs.declared.call_error.CallError.TheVariants.{Memory};
 
 use crate::handle::Handle;
-use bidi_held::held::Held;
-use bidi_held::refusal::Refusal;
+use crate::held::Held;
+use for_c::call_error::CallError;
 use std::alloc::Global;
+use ucdfiles::tables::Tables;
 
-/// What C keeps: all zero, or what a call has put into it.
+/// What C has: all zero, or what a call has put into it.
 #[repr(C)]
 pub struct BidiHandle {
     pub handle: Handle,
@@ -18,7 +19,8 @@ pub struct BidiHandle {
 }
 
 impl BidiHandle {
-    ghost use Rattle.bidi_c.specs.Lent.{LendsHeldIf};
+    ghost use Rattle.bidi_c.specs.HeldIn.{tables_in};
+    ghost use Rattle.bidi_c.specs.Lent.{LendsHeldIf, LendsNothing};
 
     fn none(alloc: Global) -> BidiHandle
         ensures { result.handle.value ≡ None }
@@ -38,29 +40,41 @@ impl BidiHandle {
         }
     }
 
-    /// What it holds, if it holds something.
+    /// Borrows what it contains, unless it is empty.
     pub(crate) fn held(&mut self) -> Option<&mut Held>
         ensures* writes_back { sem 𝓛 (LendsHeldIf self.entry result) }
         ensures value { MatchOption result (self.old.handle.value ≡ None)
             (λ held. self.old.handle.value ≡ Some held.now) }
     {
         if self.made {
-            Some(self.handle.held())
+            Some(unsafe { &mut *(self.handle.at as *mut Held) })
         } else {
             None
         }
     }
 
-    /// Frees what it holds.
+    /// Borrows the tables, if it contains tables.
+    pub(crate) fn tables(&mut self) -> Option<&Tables>
+        ensures* unchanged { sem 𝓛 (LendsNothing self.entry) }
+        ensures value { MatchOption result (tables_in self.old.handle.value ≡ None)
+            (λ tables. tables_in self.old.handle.value ≡ Some tables.now) }
+    {
+        let Some(held) = self.held() else {
+            return None;
+        };
+        held.tables()
+    }
+
+    /// Frees what it contains.
     pub(crate) fn empty(&mut self, alloc: Global)
         ensures { self.new.handle.value ≡ None }
     {
         *self = BidiHandle::none(alloc);
     }
 
-    /// Holds this from now on; what it held before is freed. Where there is no memory for it, it holds what it held.
-    pub(crate) fn hold(&mut self, alloc: Global, held: Held) -> Result<(), Refusal>
-        ensures { Puts (λ new. new ≡ Some held) (λ refusal. refusal ≡ Memory) self.old.handle.value
+    /// Contains this from now on; what it contained before is freed. Fails with `Memory`, and is unchanged then.
+    pub(crate) fn hold(&mut self, alloc: Global, held: Held) -> Result<(), CallError>
+        ensures { Puts (λ new. new ≡ Some held) (λ error. error ≡ Memory) self.old.handle.value
             self.new.handle.value result }
     {
         match Box::new(alloc, held) {
@@ -68,7 +82,7 @@ impl BidiHandle {
                 *self = BidiHandle::of(held);
                 Ok(())
             }
-            Err(_) => Err(Refusal::Memory),
+            Err(_) => Err(CallError::Memory),
         }
     }
 }

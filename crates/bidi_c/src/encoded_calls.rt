@@ -1,136 +1,136 @@
-// Room for texts in code units, and what is told of them in offsets.
-ghost use Rattle.std.specs.Prelude.{ℕ, ◌≡◌, ◌≤◌, None};
-ghost use Rattle.encoded.specs.Offsets.{IsOf, code_units, offset_of};
-ghost use Rattle.bidi_held.specs.Holdings.{encoded_in, RefusesRoom};
-ghost use Rattle.bidi_held.specs.Statuses.{Answers, Puts};
-ghost use Rattle.encoded_held.specs.EncodedTexts.{IsNewEncodedRoom};
-ghost use Rattle.encoded_held.specs.InCodeUnits.{byte_of_character, IsEncodedRun, IsIndexAt, OfItsText, RefusesEncodedLine, RefusesEncodedRun, TellsEncodedLine, WritesEncodedLevels, WritesEncodedOrder};
-ghost use Rattle.runs_held.specs.HeldRuns.{WritesEncodedRunsHeld};
-ghost use Rattle.bidi_c.specs.HeldAt.{held_at};
+//! What a room says of a text in code units, copied out in offsets.
+ghost use Rattle.std.specs.Prelude.{◌≡◌, true, MatchOption, min};
+ghost use Rattle.room.specs.Looking.{line_in};
+ghost use Rattle.room.specs.Rooms.{characters_in, offset_in};
+ghost use Rattle.room.specs.ShownUnits.{shown_utf16, shown_utf8};
+ghost use Rattle.room.specs.Written.{WritesWhole};
+ghost use Rattle.for_c.specs.InUnits.{IsIndexAt, IsLevelByteAt, IsParaByteAt, IsUnitLine, IsUnitRun, WritesLevelBytes, WritesUnitPlaces};
+ghost use Rattle.for_c.specs.LineRuns.{WritesRuns};
+ghost use Rattle.for_c.specs.Positions.{RejectsLine};
+ghost use Rattle.for_c.specs.Runs.{RejectsRun};
+ghost use Rattle.for_c.specs.Shown.{WritesNothing};
+ghost use Rattle.for_c.specs.Statuses.{Answers, Puts};
+ghost use Rattle.bidi_c.specs.AtHandles.{AtARoom};
+ghost use Rattle.bidi_c.specs.HeldAt.{encoded_at, held_at, tables_at};
+ghost use Rattle.bidi_c.specs.ShownAt.{WritesUnitsAt};
 
 use crate::bidi_handle::BidiHandle;
 use crate::putting::put;
-use bidi_held::held::Held;
-use bidi_held::lines_out::BidiLine;
-use bidi_held::refusal::{Refusal, of_room, status};
-use bidi_held::visual_lines::BidiRun;
-use encoded::room::Room;
-use encoded_held::encoded_levels::write_encoded_levels;
-use encoded_held::lookups::{
-    index_held, level_held, offset_held, tell_encoded_line, write_encoded_order,
+use for_c::call_error::{CallError, status};
+use for_c::in_units::{
+    index_at, level_byte_at, offset_at, para_byte_at, unit_line_at, unit_run_of, write_level_bytes,
+    write_unit_order, write_unit_places,
 };
-use encoded_held::runs::encoded_run_of;
-use runs_held::encoded_runs::write_encoded_runs_held;
-use std::alloc::Global;
+use for_c::line::BidiLine;
+use for_c::line_runs::write_runs;
+use for_c::runs::BidiRun;
+use for_c::shown::{write_shown_utf8, write_shown_utf16};
 
-fn make_encoded_room(alloc: Global, n: usize, room: &mut BidiHandle) -> Result<(), Refusal>
-    ensures { Puts (IsNewEncodedRoom n) (RefusesRoom n) (held_at room.old) (held_at room.new) result }
-{
-    let made = Room::with_room(alloc, n).map_err(of_room)?;
-    room.hold(alloc, Held::Encoded(made))
-}
-
-/// Makes room for texts of up to `n` code units of UTF-8 or UTF-16, at most 16,777,216, with the layout of an empty
-/// text. What the handle held before is freed once the room is made; where it is refused, the handle holds that still.
-#[unsafe(no_mangle)]
-pub extern "C" fn bidi_room_new_encoded(alloc: Global, n: usize, room: &mut BidiHandle) -> u32
-    ensures { Answers (Puts (IsNewEncodedRoom n) (RefusesRoom n) (held_at room.old) (held_at room.new))
-        result }
-{
-    status(make_encoded_room(alloc, n, room))
-}
-
-/// The index of the character that the code unit at an offset belongs to, from the text's end on how many characters
-/// the text has; 0 without a room for code units.
+/// Returns the index of the character that the code unit at an offset belongs to; from the text's end on the number of
+/// characters; 0 without a room for code units.
 #[unsafe(no_mangle)]
 pub extern "C" fn bidi_index_of(room: &mut BidiHandle, at: usize) -> usize
     ensures room { held_at room.new ≡ held_at room.old }
-    ensures none { encoded_in (held_at room.old) ≡ None → result ≡ 0 }
-    ensures index { OfItsText (held_at room.old) (λ text. IsIndexAt text at result) }
+    ensures index { MatchOption (encoded_at room.old) (result ≡ 0) (λ room. IsIndexAt room at result) }
 {
-    match room.held() {
-        Some(held) => index_held(held, at),
+    let Some(held) = room.held() else {
+        return 0;
+    };
+    match held.room_for(true) {
+        Some(room) => index_at(room, at),
         None => 0,
     }
 }
 
-/// The offset at which the character with this index begins, from their number on that of the text's end; 0 without a
-/// room for code units.
+/// Returns the offset at which the character with this index begins; from the number of characters on that of the text's
+/// end; 0 without a room for code units.
 #[unsafe(no_mangle)]
 pub extern "C" fn bidi_offset_of(room: &mut BidiHandle, index: usize) -> usize
     ensures room { held_at room.new ≡ held_at room.old }
-    ensures none { encoded_in (held_at room.old) ≡ None → result ≡ 0 }
-    ensures offset { OfItsText (held_at room.old) (λ text. result ≡ offset_of text index) }
+    ensures offset { MatchOption (encoded_at room.old) (result ≡ 0)
+        (λ room. result ≡ offset_in room (min index (characters_in room))) }
 {
-    match room.held() {
-        Some(held) => offset_held(held, index),
+    let Some(held) = room.held() else {
+        return 0;
+    };
+    match held.room_for(true) {
+        Some(room) => offset_at(room, index),
         None => 0,
     }
 }
 
-/// The level of the code unit at an offset after L1, that of its character: 255 where the character was removed (X9),
-/// from the text's end on, and without a room for code units.
+/// Returns the level of the code unit at an offset after L1, which is that of its character: 255 if that was removed
+/// (X9), from the text's end on, and without a room for code units.
 #[unsafe(no_mangle)]
 pub extern "C" fn bidi_level_at(room: &mut BidiHandle, at: usize) -> u8
     ensures room { held_at room.new ≡ held_at room.old }
-    ensures none { encoded_in (held_at room.old) ≡ None → result ≡ 255 }
-    ensures level { OfItsText (held_at room.old) (λ text. (k : ℕ) → IsOf text at k
-        → result ≡ byte_of_character (held_at room.old) k) }
-    ensures past { OfItsText (held_at room.old) (λ text. code_units text ≤ at → result ≡ 255) }
+    ensures level { MatchOption (encoded_at room.old) (result ≡ 255) (λ room. IsLevelByteAt room at result) }
 {
-    match room.held() {
-        Some(held) => level_held(held, at),
+    let Some(held) = room.held() else {
+        return 255;
+    };
+    match held.room_for(true) {
+        Some(room) => level_byte_at(room, at),
         None => 255,
     }
 }
 
-/// The line with the number `k`, counted from 0: the offsets at which it begins and ends, and how many of its
-/// characters are shown; where there is none, `line` stays as it was.
+/// Writes the line with the number `k`, counted from 0, to `line`: the offsets at which it begins and ends, and how many
+/// of its characters are shown. If there is none, `line` is unchanged.
 #[unsafe(no_mangle)]
-#[tactic(auto, using(crate::proofs::NothingHeld::no_room))]
+#[tactic(auto, using(crate::proofs::Needed::no_room, crate::proofs::Needed::not_found))]
 pub extern "C" fn bidi_encoded_line(room: &mut BidiHandle, k: usize, line: &mut BidiLine) -> u32
     ensures room { held_at room.new ≡ held_at room.old }
-    ensures line { Answers (Puts (TellsEncodedLine (held_at room.old) k)
-        (RefusesEncodedLine (held_at room.old) k) line.old line.new) result }
+    ensures line { Answers (AtARoom (encoded_at room.old)
+        (λ room. Puts (IsUnitLine room k) (RejectsLine room.layout k)) line.old line.new) result }
 {
-    match room.held() {
-        Some(held) => status(tell_encoded_line(held, k, line)),
-        None => status(Err(Refusal::NoRoom)),
+    let Some(held) = room.held() else {
+        return status(Err(CallError::NoRoom));
+    };
+    match held.room_for(true) {
+        Some(room) => status(put(unit_line_at(room, k), line)),
+        None => status(Err(CallError::NoRoom)),
     }
 }
 
-/// How many code units the text has, 0 without a room for them. Their levels after L1, each that of its character, are
-/// written to `levels`, if all fit there: 255 where the character was removed (X9).
+/// Writes the levels of the text's code units after L1, each that of its character, to `levels`, if all fit there: 255
+/// if the character was removed (X9). Returns how many there are, 0 without a room for code units.
 #[unsafe(no_mangle)]
 pub extern "C" fn bidi_encoded_levels(room: &mut BidiHandle, levels: &mut [u8]) -> usize
     ensures room { held_at room.new ≡ held_at room.old }
-    ensures none { encoded_in (held_at room.old) ≡ None → (result ≡ 0) × (levels.new ≡ levels.old) }
-    ensures levels { WritesEncodedLevels (held_at room.old) result levels.old levels.new }
+    ensures levels { MatchOption (encoded_at room.old) (WritesNothing result levels.old levels.new)
+        (λ room. WritesLevelBytes room result levels.old levels.new) }
 {
-    match room.held() {
-        Some(held) => write_encoded_levels(held, levels),
+    let Some(held) = room.held() else {
+        return 0;
+    };
+    match held.room_for(true) {
+        Some(room) => write_level_bytes(room, levels),
         None => 0,
     }
 }
 
-/// How many characters of the line with the number `k` are shown, 0 without such a line or a room for code units. The
-/// offsets at which they begin, from left to right (L2), are written to `order`, if all fit there.
+/// Writes the offsets at which the shown characters of the line with the number `k` begin, from left to right (L2), to
+/// `order`, if all fit there. Returns how many there are, 0 without such a line or a room for code units.
 #[unsafe(no_mangle)]
 pub extern "C" fn bidi_encoded_order(room: &mut BidiHandle, k: usize, order: &mut [usize]) -> usize
     ensures room { held_at room.new ≡ held_at room.old }
-    ensures none { encoded_in (held_at room.old) ≡ None → (result ≡ 0) × (order.new ≡ order.old) }
-    ensures order { WritesEncodedOrder (held_at room.old) k result order.old order.new }
+    ensures order { MatchOption (encoded_at room.old) (WritesNothing result order.old order.new)
+        (λ room. WritesWhole (line_in room k).order result order.old order.new) }
 {
-    match room.held() {
-        Some(held) => write_encoded_order(held, k, order),
+    let Some(held) = room.held() else {
+        return 0;
+    };
+    match held.room_for(true) {
+        Some(room) => write_unit_order(room, k, order),
         None => 0,
     }
 }
 
-/// The run of the line with the number `k` that begins at the place `from`, as `bidi_run` tells of it, but with where
-/// it begins and how long it is in code units.
+/// Writes the run of the line with the number `k` that begins at the place `from` to `run`, as `bidi_run` does, but with
+/// its beginning and its length in code units.
 #[unsafe(no_mangle)]
-#[tactic(auto, using(crate::proofs::NothingHeld::no_room))]
+#[tactic(auto, using(crate::proofs::Needed::no_room, crate::proofs::Needed::not_found))]
 pub extern "C" fn bidi_encoded_run(
     room: &mut BidiHandle,
     k: usize,
@@ -138,25 +138,125 @@ pub extern "C" fn bidi_encoded_run(
     run: &mut BidiRun,
 ) -> u32
     ensures room { held_at room.new ≡ held_at room.old }
-    ensures run { Answers (Puts (IsEncodedRun (held_at room.old) k from)
-        (RefusesEncodedRun (held_at room.old) k from) run.old run.new) result }
+    ensures run { Answers (AtARoom (encoded_at room.old)
+        (λ room. Puts (IsUnitRun room k from) (RejectsRun room.layout k from)) run.old run.new) result }
 {
-    match room.held() {
-        Some(held) => status(put(encoded_run_of(held, k, from), run)),
-        None => status(Err(Refusal::NoRoom)),
+    let Some(held) = room.held() else {
+        return status(Err(CallError::NoRoom));
+    };
+    match held.room_for(true) {
+        Some(room) => status(put(unit_run_of(room, k, from), run)),
+        None => status(Err(CallError::NoRoom)),
     }
 }
 
-/// How many visual runs the line with the number `k` has, 0 without such a line or a room for code units. They are
-/// written to `runs` as `bidi_runs` writes them, but with where they begin and how long they are in code units.
+/// Writes the visual runs of the line with the number `k` to `runs`, as `bidi_runs` does, but with their beginnings and
+/// lengths in code units. Returns how many there are, 0 without such a line or a room for code units.
 #[unsafe(no_mangle)]
 pub extern "C" fn bidi_encoded_runs(room: &mut BidiHandle, k: usize, runs: &mut [BidiRun]) -> usize
     ensures room { held_at room.new ≡ held_at room.old }
-    ensures none { encoded_in (held_at room.old) ≡ None → (result ≡ 0) × (runs.new ≡ runs.old) }
-    ensures runs { WritesEncodedRunsHeld (held_at room.old) k result runs.old runs.new }
+    ensures runs { MatchOption (encoded_at room.old) (WritesNothing result runs.old runs.new)
+        (λ room. WritesRuns room true k result runs.old runs.new) }
 {
-    match room.held() {
-        Some(held) => write_encoded_runs_held(held, k, runs),
+    let Some(held) = room.held() else {
+        return 0;
+    };
+    match held.room_for(true) {
+        Some(room) => write_runs(room, k, true, runs),
+        None => 0,
+    }
+}
+
+/// Writes the place of each code unit of the line with the number `k`, in the line's order, to `places`, if all fit
+/// there: that of its character, `SIZE_MAX` if the character was removed (X9). Returns how many code units the line has,
+/// 0 without such a line or a room for code units.
+#[unsafe(no_mangle)]
+pub extern "C" fn bidi_encoded_places(
+    room: &mut BidiHandle,
+    k: usize,
+    places: &mut [usize],
+) -> usize
+    ensures room { held_at room.new ≡ held_at room.old }
+    ensures places { MatchOption (encoded_at room.old) (WritesNothing result places.old places.new)
+        (λ room. WritesUnitPlaces room k result places.old places.new) }
+{
+    let Some(held) = room.held() else {
+        return 0;
+    };
+    match held.room_for(true) {
+        Some(room) => write_unit_places(room, k, places),
+        None => 0,
+    }
+}
+
+/// Returns the level of the paragraph (P2, P3) in which the code unit at an offset lies: 255 from the text's end on, and
+/// without a room for code units.
+#[unsafe(no_mangle)]
+pub extern "C" fn bidi_encoded_para_level_at(room: &mut BidiHandle, at: usize) -> u8
+    ensures room { held_at room.new ≡ held_at room.old }
+    ensures level { MatchOption (encoded_at room.old) (result ≡ 255) (λ room. IsParaByteAt room at result) }
+{
+    let Some(held) = room.held() else {
+        return 255;
+    };
+    match held.room_for(true) {
+        Some(room) => para_byte_at(room, at),
+        None => 255,
+    }
+}
+
+/// Writes the characters of the line with the number `k` as they are shown, as `bidi_shown` does, but in UTF-8. `text`
+/// is the whole text in UTF-8 that was laid out. Returns how many bytes there are, 0 if there is no such line, no room
+/// for code units or no tables, and if the text that was laid out has another length.
+#[unsafe(no_mangle)]
+pub extern "C" fn bidi_encoded_shown_utf8(
+    room: &mut BidiHandle,
+    tables: &mut BidiHandle,
+    text: &[u8],
+    k: usize,
+    shown: &mut [u8],
+) -> usize
+    ensures room { held_at room.new ≡ held_at room.old }
+    ensures tables { held_at tables.new ≡ held_at tables.old }
+    ensures shown { WritesUnitsAt shown_utf8 (encoded_at room.old) (tables_at tables.old) text.now k
+        result shown.old shown.new }
+{
+    let Some(held) = room.held() else {
+        return 0;
+    };
+    let Some(room) = held.room_for(true) else {
+        return 0;
+    };
+    match tables.tables() {
+        Some(tables) => write_shown_utf8(room, tables, text, k, shown),
+        None => 0,
+    }
+}
+
+/// Writes the characters of the line with the number `k` as they are shown, as `bidi_shown` does, but in UTF-16. `text`
+/// is the whole text in UTF-16 that was laid out. Returns how many code units there are, 0 if there is no such line, no
+/// room for code units or no tables, and if the text that was laid out has another length.
+#[unsafe(no_mangle)]
+pub extern "C" fn bidi_encoded_shown_utf16(
+    room: &mut BidiHandle,
+    tables: &mut BidiHandle,
+    text: &[u16],
+    k: usize,
+    shown: &mut [u16],
+) -> usize
+    ensures room { held_at room.new ≡ held_at room.old }
+    ensures tables { held_at tables.new ≡ held_at tables.old }
+    ensures shown { WritesUnitsAt shown_utf16 (encoded_at room.old) (tables_at tables.old) text.now k
+        result shown.old shown.new }
+{
+    let Some(held) = room.held() else {
+        return 0;
+    };
+    let Some(room) = held.room_for(true) else {
+        return 0;
+    };
+    match tables.tables() {
+        Some(tables) => write_shown_utf16(room, tables, text, k, shown),
         None => 0,
     }
 }

@@ -1,61 +1,60 @@
-// Texts in code units laid out, and broken into lines anew.
-ghost use Rattle.std.specs.Prelude.{◌≡◌};
+//! Texts in code units laid out, and broken into lines again.
+ghost use Rattle.std.specs.Prelude.{◌≡◌, true};
 ghost use Rattle.units.specs.Limits.{standard};
-ghost use Rattle.bidi_held.specs.LimitsGiven.{ByLimits};
-ghost use Rattle.bidi_held.specs.Statuses.{AnswersNaming, place_named};
-ghost use Rattle.encoded_held.specs.EncodedTexts.{LaysOutEncoded};
-ghost use Rattle.encoded_held.specs.LinesAnew.{SetsEncodedLines};
-ghost use Rattle.encoded_held.specs.declared.encoded_text.EncodedText.TheVariants.{Utf16, Utf16Lossy, Utf8, Utf8Lossy};
-ghost use Rattle.bidi_c.specs.HeldAt.{held_at};
+ghost use Rattle.decoding.specs.declared.fault.Faults.TheVariants.{Refused, Replaced};
+ghost use Rattle.sources.specs.Seen.{source_seen};
+ghost use Rattle.sources.specs.Sources.{Utf16, Utf8};
+ghost use Rattle.for_c.specs.LimitsGiven.{ByLimits};
+ghost use Rattle.for_c.specs.RoomCalls.{SetsLines};
+ghost use Rattle.for_c.specs.Statuses.{Answers, AnswersNaming, place_named};
+ghost use Rattle.bidi_c.specs.AtHandles.{AtRoom};
+ghost use Rattle.bidi_c.specs.HeldAt.{encoded_at, held_at};
+ghost use Rattle.bidi_c.specs.LayingOut.{AtLineOf, LaysOutText};
 
 use crate::bidi_handle::BidiHandle;
-use bidi_held::limits::BidiLimits;
-use bidi_held::refusal::{Refusal, answer};
-use encoded_held::encoded_text::EncodedText;
-use encoded_held::laying_out::{lay_out_encoded_held, set_encoded_lines_held};
+use crate::laying_out::{lay_out, line_of, set_lines};
+use decoding::fault::Faults;
+use for_c::call_error::{CallError, status, status_and_place};
+use for_c::limits::BidiLimits;
+use sources::source::Source;
 use units::limits::Limits;
 
+// The calls below share this one instance of `lay_out`.
+#[inline(never)]
 fn lay_out_text(
     room: &mut BidiHandle,
     tables: &mut BidiHandle,
-    text: EncodedText<'_>,
+    source: Source<'_>,
     direction: u32,
     breaks: &[usize],
     limits: Limits,
-) -> Result<(), Refusal>
+) -> Result<(), CallError>
     ensures tables { held_at tables.new ≡ held_at tables.old }
-    ensures room { LaysOutEncoded text.entry limits (held_at tables.old) direction breaks.now
+    ensures room { LaysOutText (source_seen source.entry) limits direction breaks.now (held_at tables.old)
         (held_at room.old) (held_at room.new) result }
 {
-    let Some(held) = room.held() else {
-        return Err(Refusal::NoRoom);
-    };
-    let Some(by) = tables.held() else {
-        return Err(Refusal::NoTables);
-    };
-    lay_out_encoded_held(held, by, text, direction, breaks, limits)
+    lay_out(room, tables, source, direction, breaks, limits)
 }
 
 fn lay_out_text_with(
     room: &mut BidiHandle,
     tables: &mut BidiHandle,
-    text: EncodedText<'_>,
+    source: Source<'_>,
     direction: u32,
     breaks: &[usize],
     limits: BidiLimits,
-) -> Result<(), Refusal>
+) -> Result<(), CallError>
     ensures tables { held_at tables.new ≡ held_at tables.old }
-    ensures room { ByLimits limits (λ limits. LaysOutEncoded text.entry limits
-        (held_at tables.old) direction breaks.now) (held_at room.old) (held_at room.new) result }
+    ensures room { ByLimits limits (λ limits. LaysOutText (source_seen source.entry) limits direction breaks.now
+        (held_at tables.old)) (held_at room.old) (held_at room.new) result }
 {
     let allowed = limits.allowed()?;
-    lay_out_text(room, tables, text, direction, breaks, allowed)
+    lay_out_text(room, tables, source, direction, breaks, allowed)
 }
 
 /// Lays out a text in UTF-8 in the room, by the tables and the standard limits, under the direction with this number,
-/// broken into lines at offsets of its bytes (P1 to L2). No memory is taken. Where it is refused, the room holds the
-/// layout that it held, and `place` names the place: the offset of the first byte that is no part of a character, or
-/// the index of a break.
+/// broken into lines at offsets of its bytes (P1 to L2). No memory is taken. If it fails, the room is unchanged, and
+/// `place` names the place: the offset of the first byte that is no part of a character, or the index of a break.
 #[unsafe(no_mangle)]
 pub extern "C" fn bidi_lay_out_utf8(
     room: &mut BidiHandle,
@@ -66,16 +65,15 @@ pub extern "C" fn bidi_lay_out_utf8(
     place: &mut u64,
 ) -> u32
     ensures tables { held_at tables.new ≡ held_at tables.old }
-    ensures room { AnswersNaming place_named (LaysOutEncoded (Utf8 text.entry) standard
-        (held_at tables.old) direction breaks.now (held_at room.old) (held_at room.new))
-        result place.old place.new }
+    ensures room { AnswersNaming place_named (LaysOutText (Utf8 text.now Refused) standard direction breaks.now
+        (held_at tables.old) (held_at room.old) (held_at room.new)) result place.old place.new }
 {
-    let text = EncodedText::Utf8(text);
-    let done = lay_out_text(room, tables, text, direction, breaks, Limits::standard());
-    answer(done, place)
+    let source = Source::Utf8(text, Faults::Refused);
+    let done = lay_out_text(room, tables, source, direction, breaks, Limits::standard());
+    status_and_place(done, place)
 }
 
-/// Lays out a text as `bidi_lay_out_utf8` does, by these limits in place of the standard ones.
+/// Lays out a text as `bidi_lay_out_utf8` does, with these limits in place of the standard ones.
 #[unsafe(no_mangle)]
 pub extern "C" fn bidi_lay_out_utf8_with(
     room: &mut BidiHandle,
@@ -87,17 +85,17 @@ pub extern "C" fn bidi_lay_out_utf8_with(
     place: &mut u64,
 ) -> u32
     ensures tables { held_at tables.new ≡ held_at tables.old }
-    ensures room { AnswersNaming place_named (ByLimits limits (λ limits.
-        LaysOutEncoded (Utf8 text.entry) limits (held_at tables.old) direction breaks.now)
-        (held_at room.old) (held_at room.new)) result place.old place.new }
+    ensures room { AnswersNaming place_named (ByLimits limits (λ limits. LaysOutText (Utf8 text.now Refused)
+        limits direction breaks.now (held_at tables.old)) (held_at room.old) (held_at room.new))
+        result place.old place.new }
 {
-    let text = EncodedText::Utf8(text);
-    let done = lay_out_text_with(room, tables, text, direction, breaks, limits);
-    answer(done, place)
+    let source = Source::Utf8(text, Faults::Refused);
+    let done = lay_out_text_with(room, tables, source, direction, breaks, limits);
+    status_and_place(done, place)
 }
 
 /// Lays out a text in UTF-8 as `bidi_lay_out_utf8` does, with U+FFFD in the place of each maximal subpart of what is no
-/// UTF-8: of the bytes there, all that could begin a character, or else one. No break stands inside such a part.
+/// UTF-8: of the bytes there, all that could begin a character, or else one. No break is inside such a part.
 #[unsafe(no_mangle)]
 pub extern "C" fn bidi_lay_out_utf8_lossy(
     room: &mut BidiHandle,
@@ -108,16 +106,15 @@ pub extern "C" fn bidi_lay_out_utf8_lossy(
     place: &mut u64,
 ) -> u32
     ensures tables { held_at tables.new ≡ held_at tables.old }
-    ensures room { AnswersNaming place_named (LaysOutEncoded (Utf8Lossy text.entry) standard
-        (held_at tables.old) direction breaks.now (held_at room.old) (held_at room.new))
-        result place.old place.new }
+    ensures room { AnswersNaming place_named (LaysOutText (Utf8 text.now Replaced) standard direction breaks.now
+        (held_at tables.old) (held_at room.old) (held_at room.new)) result place.old place.new }
 {
-    let text = EncodedText::Utf8Lossy(text);
-    let done = lay_out_text(room, tables, text, direction, breaks, Limits::standard());
-    answer(done, place)
+    let source = Source::Utf8(text, Faults::Replaced);
+    let done = lay_out_text(room, tables, source, direction, breaks, Limits::standard());
+    status_and_place(done, place)
 }
 
-/// Lays out a text as `bidi_lay_out_utf8_lossy` does, by these limits in place of the standard ones.
+/// Lays out a text as `bidi_lay_out_utf8_lossy` does, with these limits in place of the standard ones.
 #[unsafe(no_mangle)]
 pub extern "C" fn bidi_lay_out_utf8_lossy_with(
     room: &mut BidiHandle,
@@ -129,17 +126,17 @@ pub extern "C" fn bidi_lay_out_utf8_lossy_with(
     place: &mut u64,
 ) -> u32
     ensures tables { held_at tables.new ≡ held_at tables.old }
-    ensures room { AnswersNaming place_named (ByLimits limits (λ limits.
-        LaysOutEncoded (Utf8Lossy text.entry) limits (held_at tables.old) direction breaks.now)
-        (held_at room.old) (held_at room.new)) result place.old place.new }
+    ensures room { AnswersNaming place_named (ByLimits limits (λ limits. LaysOutText (Utf8 text.now Replaced)
+        limits direction breaks.now (held_at tables.old)) (held_at room.old) (held_at room.new))
+        result place.old place.new }
 {
-    let text = EncodedText::Utf8Lossy(text);
-    let done = lay_out_text_with(room, tables, text, direction, breaks, limits);
-    answer(done, place)
+    let source = Source::Utf8(text, Faults::Replaced);
+    let done = lay_out_text_with(room, tables, source, direction, breaks, limits);
+    status_and_place(done, place)
 }
 
 /// Lays out a text in UTF-16 as `bidi_lay_out_utf8` does one in UTF-8: offsets are those of its code units of 16 bits,
-/// and its first fault is the first surrogate that stands alone.
+/// and its first fault is the first surrogate that is alone.
 #[unsafe(no_mangle)]
 pub extern "C" fn bidi_lay_out_utf16(
     room: &mut BidiHandle,
@@ -150,16 +147,15 @@ pub extern "C" fn bidi_lay_out_utf16(
     place: &mut u64,
 ) -> u32
     ensures tables { held_at tables.new ≡ held_at tables.old }
-    ensures room { AnswersNaming place_named (LaysOutEncoded (Utf16 text.entry) standard
-        (held_at tables.old) direction breaks.now (held_at room.old) (held_at room.new))
-        result place.old place.new }
+    ensures room { AnswersNaming place_named (LaysOutText (Utf16 text.now Refused) standard direction breaks.now
+        (held_at tables.old) (held_at room.old) (held_at room.new)) result place.old place.new }
 {
-    let text = EncodedText::Utf16(text);
-    let done = lay_out_text(room, tables, text, direction, breaks, Limits::standard());
-    answer(done, place)
+    let source = Source::Utf16(text, Faults::Refused);
+    let done = lay_out_text(room, tables, source, direction, breaks, Limits::standard());
+    status_and_place(done, place)
 }
 
-/// Lays out a text as `bidi_lay_out_utf16` does, by these limits in place of the standard ones.
+/// Lays out a text as `bidi_lay_out_utf16` does, with these limits in place of the standard ones.
 #[unsafe(no_mangle)]
 pub extern "C" fn bidi_lay_out_utf16_with(
     room: &mut BidiHandle,
@@ -171,17 +167,16 @@ pub extern "C" fn bidi_lay_out_utf16_with(
     place: &mut u64,
 ) -> u32
     ensures tables { held_at tables.new ≡ held_at tables.old }
-    ensures room { AnswersNaming place_named (ByLimits limits (λ limits.
-        LaysOutEncoded (Utf16 text.entry) limits (held_at tables.old) direction breaks.now)
-        (held_at room.old) (held_at room.new)) result place.old place.new }
+    ensures room { AnswersNaming place_named (ByLimits limits (λ limits. LaysOutText (Utf16 text.now Refused)
+        limits direction breaks.now (held_at tables.old)) (held_at room.old) (held_at room.new))
+        result place.old place.new }
 {
-    let text = EncodedText::Utf16(text);
-    let done = lay_out_text_with(room, tables, text, direction, breaks, limits);
-    answer(done, place)
+    let source = Source::Utf16(text, Faults::Refused);
+    let done = lay_out_text_with(room, tables, source, direction, breaks, limits);
+    status_and_place(done, place)
 }
 
-/// Lays out a text in UTF-16 as `bidi_lay_out_utf16` does, with U+FFFD in the place of each surrogate that stands
-/// alone.
+/// Lays out a text in UTF-16 as `bidi_lay_out_utf16` does, with U+FFFD in the place of each surrogate that is alone.
 #[unsafe(no_mangle)]
 pub extern "C" fn bidi_lay_out_utf16_lossy(
     room: &mut BidiHandle,
@@ -192,16 +187,15 @@ pub extern "C" fn bidi_lay_out_utf16_lossy(
     place: &mut u64,
 ) -> u32
     ensures tables { held_at tables.new ≡ held_at tables.old }
-    ensures room { AnswersNaming place_named (LaysOutEncoded (Utf16Lossy text.entry) standard
-        (held_at tables.old) direction breaks.now (held_at room.old) (held_at room.new))
-        result place.old place.new }
+    ensures room { AnswersNaming place_named (LaysOutText (Utf16 text.now Replaced) standard direction breaks.now
+        (held_at tables.old) (held_at room.old) (held_at room.new)) result place.old place.new }
 {
-    let text = EncodedText::Utf16Lossy(text);
-    let done = lay_out_text(room, tables, text, direction, breaks, Limits::standard());
-    answer(done, place)
+    let source = Source::Utf16(text, Faults::Replaced);
+    let done = lay_out_text(room, tables, source, direction, breaks, Limits::standard());
+    status_and_place(done, place)
 }
 
-/// Lays out a text as `bidi_lay_out_utf16_lossy` does, by these limits in place of the standard ones.
+/// Lays out a text as `bidi_lay_out_utf16_lossy` does, with these limits in place of the standard ones.
 #[unsafe(no_mangle)]
 pub extern "C" fn bidi_lay_out_utf16_lossy_with(
     room: &mut BidiHandle,
@@ -213,30 +207,45 @@ pub extern "C" fn bidi_lay_out_utf16_lossy_with(
     place: &mut u64,
 ) -> u32
     ensures tables { held_at tables.new ≡ held_at tables.old }
-    ensures room { AnswersNaming place_named (ByLimits limits (λ limits.
-        LaysOutEncoded (Utf16Lossy text.entry) limits (held_at tables.old) direction breaks.now)
-        (held_at room.old) (held_at room.new)) result place.old place.new }
+    ensures room { AnswersNaming place_named (ByLimits limits (λ limits. LaysOutText (Utf16 text.now Replaced)
+        limits direction breaks.now (held_at tables.old)) (held_at room.old) (held_at room.new))
+        result place.old place.new }
 {
-    let text = EncodedText::Utf16Lossy(text);
-    let done = lay_out_text_with(room, tables, text, direction, breaks, limits);
-    answer(done, place)
+    let source = Source::Utf16(text, Faults::Replaced);
+    let done = lay_out_text_with(room, tables, source, direction, breaks, limits);
+    status_and_place(done, place)
 }
 
-/// Breaks the text in code units that the room holds into lines anew (L1, L2), at offsets: its levels before L1, its
-/// direction and its limits stay. Where the breaks are refused, the room holds the lines that it held, and `place`
-/// names the break.
+/// Breaks the text in code units that the room holds into lines again (L1, L2), at offsets: its levels before L1, its
+/// direction and its limits are unchanged. If it fails, the room is unchanged, and `place` names the break.
 #[unsafe(no_mangle)]
-#[tactic(auto, using(crate::proofs::NothingHeld::no_room_named))]
 pub extern "C" fn bidi_encoded_set_lines(
     room: &mut BidiHandle,
     breaks: &[usize],
     place: &mut u64,
 ) -> u32
-    ensures { AnswersNaming place_named (SetsEncodedLines breaks.now (held_at room.old) (held_at room.new))
+    ensures { AnswersNaming place_named (AtRoom true (SetsLines breaks.now) (held_at room.old) (held_at room.new))
         result place.old place.new }
 {
-    match room.held() {
-        Some(held) => answer(set_encoded_lines_held(held, breaks), place),
-        None => answer(Err(Refusal::NoRoom), place),
-    }
+    status_and_place(set_lines(room, true, breaks), place)
+}
+
+/// Lays out one line alone of the text in code units that the room holds, as `bidi_line_of` does, from the offset
+/// `start` up to `end`. Writes the level of each code unit and the offsets of the shown characters, from left to right,
+/// and to `shown` how many these are. Of the two ends of the line, one that is inside a character is named by
+/// `BIDI_BREAK_INSIDE`. If it fails, nothing is written.
+#[unsafe(no_mangle)]
+pub extern "C" fn bidi_encoded_line_of(
+    room: &mut BidiHandle,
+    start: usize,
+    end: usize,
+    levels: &mut [u8],
+    order: &mut [usize],
+    shown: &mut usize,
+) -> u32
+    ensures room { held_at room.new ≡ held_at room.old }
+    ensures line { Answers (AtLineOf (encoded_at room.old) start end levels.old levels.new order.old order.new
+        shown.old shown.new) result }
+{
+    status(line_of(room, true, start, end, levels, order, shown))
 }

@@ -1,31 +1,28 @@
-// What a handle holds as its pointer, in a form that C can keep.
+//! The pointer of a handle, in a form that C can have.
 ghost use Rattle.std.specs.Prelude.{◌≡◌, Option, IsSome, Some, None};
-ghost use Rattle.std.specs.Borrow.{sem};
-ghost use Rattle.bidi_held.specs.declared.held.Held.{Held as HeldOf};
+ghost use Rattle.bidi_c.specs.declared.held.Held.{Held as HeldOf};
 
-use bidi_held::held::Held;
+use crate::held::Held;
 use std::alloc::Global;
 use std::marker::Model;
 use std::ptr::null_mut;
 
-/// A pointer that owns what a handle holds, or nothing.
+/// A pointer that owns what a handle contains, or nothing.
 #[repr(C)]
 pub struct Handle {
-    at: *mut u8,
+    pub(crate) at: *mut u8,
     alloc: Global,
     pub ghost value: { Option HeldOf },
 }
 
 impl Model for Handle {
     ghost use Rattle.bidi_c.specs.Kept.{kept};
-    ghost use Rattle.bidi_held.specs.contracts.held.Held.{the_row};
+    ghost use Rattle.bidi_c.specs.contracts.held.Held.{the_row};
 
     ghost also_owns = { λ h. kept the_row h.alloc h.at h.value };
 }
 
 impl Handle {
-    ghost use Rattle.bidi_c.specs.Lent.{LendsHeld};
-
     pub(crate) fn empty(alloc: Global) -> Handle
         ensures { result.value ≡ None }
     {
@@ -35,7 +32,7 @@ impl Handle {
         }
     }
 
-    /// A handle that owns what the box held.
+    /// Returns a handle that owns the contents of the box.
     pub(crate) fn of(held: Box<Held>) -> Handle
         ensures { result.value ≡ Some held.value }
     {
@@ -46,7 +43,7 @@ impl Handle {
         }
     }
 
-    /// The box of what the handle owns.
+    /// Returns the box of what the handle owns.
     pub(crate) fn into_box(self) -> Box<Held>
         requires { IsSome self.value }
         ensures { self.value ≡ Some result.value }
@@ -59,15 +56,6 @@ impl Handle {
         requires { self.value ≡ None }
     {
         let Handle { at: _, alloc: _ } = self;
-    }
-
-    /// What the handle owns.
-    pub(crate) fn held(&mut self) -> &mut Held
-        requires { IsSome self.old.value }
-        ensures* writes_back { sem 𝓛 (LendsHeld self.entry result) }
-        ensures value { self.old.value ≡ Some result.now }
-    {
-        unsafe { &mut *(self.at as *mut Held) }
     }
 }
 

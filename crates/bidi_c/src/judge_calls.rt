@@ -1,72 +1,83 @@
-// Test files judged.
-ghost use Rattle.std.specs.Prelude.{◌≡◌, None, IsSome};
+//! Judges of test files.
+ghost use Rattle.std.specs.Prelude.{◌≡◌, None, Some};
+ghost use Rattle.std.specs.Option.{option_map};
+ghost use Rattle.std.specs.Arc.{arc_value};
 ghost use Rattle.units.specs.Limits.{standard};
-ghost use Rattle.bidi_held.specs.JudgeCalls.{judge_in, HandleTakesPiece, MakesJudge, MakesTableJudge, OfItsVerdict, verdict_told};
-ghost use Rattle.bidi_held.specs.LimitsGiven.{ByLimits};
-ghost use Rattle.bidi_held.specs.Statuses.{Answers};
+ghost use Rattle.for_c.specs.LimitsGiven.{ByLimits};
+ghost use Rattle.for_c.specs.Statuses.{Answers};
+ghost use Rattle.for_c.specs.TableJudges.{TakesPiece};
 ghost use Rattle.bidi_c.specs.HeldAt.{held_at};
+ghost use Rattle.bidi_c.specs.JudgesAt.{AtJudge, EndsJudge, Finishes, MakesJudge, MakesTableJudge};
 
 use crate::bidi_handle::BidiHandle;
-use bidi_held::judging::{feed_held, finish_held, judge_by, table_judge};
-use bidi_held::limits::BidiLimits;
-use bidi_held::refusal::{DONE, Refusal, status};
-use bidi_held::told_verdict::{BidiVerdict, told};
+use crate::held::Held;
+use for_c::call_error::{CallError, status};
+use for_c::limits::BidiLimits;
+use for_c::table_judge::TableJudge;
+use for_c::verdict::{BidiVerdict, verdict_for_c};
 use std::alloc::Global;
+use std::sync::Arc;
+use ucdfiles::tables::Tables;
 use units::limits::Limits;
 
-fn make_classes_judge(alloc: Global, judge: &mut BidiHandle, limits: Limits) -> Result<(), Refusal>
-    ensures { MakesJudge limits (held_at judge.old) (held_at judge.new) result }
+/// Makes a judge with these limits and tables, or without tables, and puts it into the handle.
+fn make_judge(
+    alloc: Global,
+    judge: &mut BidiHandle,
+    tables: Option<Arc<Tables, Global>>,
+    limits: Limits,
+) -> Result<(), CallError>
+    ensures { MakesJudge (option_map arc_value tables) limits (held_at judge.old) (held_at judge.new) result }
 {
-    let made = judge_by(alloc, None, limits)?;
-    judge.hold(alloc, made)
+    let made = TableJudge::new(alloc, tables, limits)?;
+    judge.hold(alloc, Held::Judge(made))
 }
 
-/// Makes a judge of a BidiTest.txt by the standard limits, before its first byte. What the handle held before is freed
-/// once the judge is made; where it is refused, the handle holds that still.
+/// Makes a judge of a BidiTest.txt with the standard limits, before its first byte. Once it is made, what the handle
+/// contained before is freed. Fails with `Memory`; then the handle is unchanged.
 #[unsafe(no_mangle)]
 pub extern "C" fn bidi_judge_new_classes(alloc: Global, judge: &mut BidiHandle) -> u32
-    ensures { Answers (MakesJudge standard (held_at judge.old) (held_at judge.new)) result }
+    ensures { Answers (MakesJudge None standard (held_at judge.old) (held_at judge.new)) result }
 {
-    status(make_classes_judge(alloc, judge, Limits::standard()))
+    status(make_judge(alloc, judge, None, Limits::standard()))
 }
 
-/// Makes a judge of a BidiTest.txt as `bidi_judge_new_classes` does, that lays out by these limits in place of the
-/// standard ones.
+/// Makes a judge of a BidiTest.txt as `bidi_judge_new_classes` does, with these limits in place of the standard ones.
 #[unsafe(no_mangle)]
-#[tactic(auto, using(crate::proofs::LimitsRefused::limits_refused))]
+#[tactic(auto, using(crate::proofs::LimitsRejected::limits_rejected))]
 pub extern "C" fn bidi_judge_new_classes_with(
     alloc: Global,
     judge: &mut BidiHandle,
     limits: BidiLimits,
 ) -> u32
-    ensures { Answers (ByLimits limits MakesJudge (held_at judge.old) (held_at judge.new)) result }
+    ensures { Answers (ByLimits limits (MakesJudge None) (held_at judge.old) (held_at judge.new)) result }
 {
     match limits.allowed() {
-        Ok(limits) => status(make_classes_judge(alloc, judge, limits)),
-        Err(refusal) => status(Err(refusal)),
+        Ok(limits) => status(make_judge(alloc, judge, None, limits)),
+        Err(error) => status(Err(error)),
     }
 }
 
+/// Makes a judge that shares the tables of a handle, and puts it into the other handle.
 fn make_characters_judge(
     alloc: Global,
     tables: &mut BidiHandle,
     judge: &mut BidiHandle,
     limits: Limits,
-) -> Result<(), Refusal>
+) -> Result<(), CallError>
     ensures tables { held_at tables.new ≡ held_at tables.old }
-    ensures judge { MakesTableJudge limits (held_at tables.old) (held_at judge.old)
-        (held_at judge.new) result }
+    ensures judge { MakesTableJudge (held_at tables.old) limits (held_at judge.old) (held_at judge.new) result }
 {
-    let Some(by) = tables.held() else {
-        return Err(Refusal::NoTables);
+    let Some(held) = tables.held() else {
+        return Err(CallError::NoTables);
     };
-    let made = table_judge(alloc, by, limits)?;
-    judge.hold(alloc, made)
+    let shared = held.share_tables()?;
+    make_judge(alloc, judge, Some(shared), limits)
 }
 
-/// Makes a judge of a BidiCharacterTest.txt by the standard limits, before its first byte, that shares the tables:
-/// their handle keeps them, and may be freed before the judge. What the judge's handle held before is freed once the
-/// judge is made; where it is refused, that handle holds what it held.
+/// Makes a judge of a BidiCharacterTest.txt with the standard limits, before its first byte, that shares the tables.
+/// Their handle may be freed before the judge. Once the judge is made, what its handle contained before is freed. Fails
+/// with `NoTables` and with `Memory`; then that handle is unchanged.
 #[unsafe(no_mangle)]
 pub extern "C" fn bidi_judge_new_characters(
     alloc: Global,
@@ -74,16 +85,16 @@ pub extern "C" fn bidi_judge_new_characters(
     judge: &mut BidiHandle,
 ) -> u32
     ensures tables { held_at tables.new ≡ held_at tables.old }
-    ensures judge { Answers (MakesTableJudge standard (held_at tables.old) (held_at judge.old)
+    ensures judge { Answers (MakesTableJudge (held_at tables.old) standard (held_at judge.old)
         (held_at judge.new)) result }
 {
     status(make_characters_judge(alloc, tables, judge, Limits::standard()))
 }
 
-/// Makes a judge of a BidiCharacterTest.txt as `bidi_judge_new_characters` does, that lays out by these limits in place
-/// of the standard ones.
+/// Makes a judge of a BidiCharacterTest.txt as `bidi_judge_new_characters` does, with these limits in place of the
+/// standard ones.
 #[unsafe(no_mangle)]
-#[tactic(auto, using(crate::proofs::LimitsRefused::limits_refused))]
+#[tactic(auto, using(crate::proofs::LimitsRejected::limits_rejected))]
 pub extern "C" fn bidi_judge_new_characters_with(
     alloc: Global,
     tables: &mut BidiHandle,
@@ -91,16 +102,16 @@ pub extern "C" fn bidi_judge_new_characters_with(
     limits: BidiLimits,
 ) -> u32
     ensures tables { held_at tables.new ≡ held_at tables.old }
-    ensures judge { Answers (ByLimits limits (λ limits. MakesTableJudge limits
-        (held_at tables.old)) (held_at judge.old) (held_at judge.new)) result }
+    ensures judge { Answers (ByLimits limits (MakesTableJudge (held_at tables.old)) (held_at judge.old)
+        (held_at judge.new)) result }
 {
     match limits.allowed() {
         Ok(limits) => status(make_characters_judge(alloc, tables, judge, limits)),
-        Err(refusal) => status(Err(refusal)),
+        Err(error) => status(Err(error)),
     }
 }
 
-/// Frees a judge, and its tables where nothing else holds them. The handle is all zero then, as it may be before.
+/// Frees a judge, and its tables if they have no other owner. The handle is all zero then, as it may be before.
 #[unsafe(no_mangle)]
 pub extern "C" fn bidi_judge_free(alloc: Global, judge: &mut BidiHandle)
     ensures { held_at judge.new ≡ None }
@@ -108,40 +119,62 @@ pub extern "C" fn bidi_judge_free(alloc: Global, judge: &mut BidiHandle)
     judge.empty(alloc);
 }
 
-/// Hands over the next bytes of the file, as many or as few as there are. It takes no memory.
-#[unsafe(no_mangle)]
-pub extern "C" fn bidi_judge_feed(judge: &mut BidiHandle, piece: &[u8]) -> u32
-    ensures fed { HandleTakesPiece (held_at judge.old) (held_at judge.new) piece.now }
-    ensures done { IsSome (judge_in (held_at judge.old)) → result ≡ 0 }
-    ensures refused { judge_in (held_at judge.old) ≡ None
-        → (result ≡ 16) × (held_at judge.new ≡ held_at judge.old) }
+/// Passes the next bytes of the file to the judge, if it is one.
+fn feed_judge(held: &mut Held, piece: &[u8]) -> Result<(), CallError>
+    ensures { AtJudge (λ old new. TakesPiece old new piece.now) (Some held.old) (Some held.new) result }
 {
-    match judge.held() {
-        Some(held) => feed_held(held, piece),
-        None => Refusal::NoJudge.code(),
+    match held {
+        Held::Judge(judge) => {
+            judge.feed(piece);
+            Ok(())
+        }
+        _ => Err(CallError::NoJudge),
     }
 }
 
-/// The verdict on all bytes that were handed over, as the whole file. The judge is freed, and its tables where nothing
-/// else holds them.
+/// Writes the verdict of the judge, if it is one.
+fn finish_judge(held: &mut Held, verdict: &mut BidiVerdict) -> Result<(), CallError>
+    ensures { Finishes (Some held.old) (Some held.new) verdict.old verdict.new result }
+{
+    match held {
+        Held::Judge(judge) => {
+            *verdict = verdict_for_c(judge.finish());
+            Ok(())
+        }
+        _ => Err(CallError::NoJudge),
+    }
+}
+
+/// Passes the next bytes of the file, as many or as few as there are. It takes no memory. Fails with `NoJudge`.
 #[unsafe(no_mangle)]
+#[tactic(auto, using(crate::proofs::AtJudges::no_judge))]
+pub extern "C" fn bidi_judge_feed(judge: &mut BidiHandle, piece: &[u8]) -> u32
+    ensures { Answers (AtJudge (λ old new. TakesPiece old new piece.now) (held_at judge.old) (held_at judge.new))
+        result }
+{
+    match judge.held() {
+        Some(held) => status(feed_judge(held, piece)),
+        None => status(Err(CallError::NoJudge)),
+    }
+}
+
+/// Writes the verdict on all bytes that were passed, as the whole file. Frees the judge, and its tables if they have no
+/// other owner. Fails with `NoJudge`; then all is unchanged.
+#[unsafe(no_mangle)]
+#[tactic(auto, using(crate::proofs::AtJudges::none_to_end))]
 pub extern "C" fn bidi_judge_finish(
     alloc: Global,
     judge: &mut BidiHandle,
     verdict: &mut BidiVerdict,
 ) -> u32
-    ensures verdict { OfItsVerdict (held_at judge.old)
-        (λ found. (result ≡ 0) × (verdict.new ≡ verdict_told found) × (held_at judge.new ≡ None)) }
-    ensures refused { judge_in (held_at judge.old) ≡ None
-        → (result ≡ 16) × (verdict.new ≡ verdict.old) × (held_at judge.new ≡ held_at judge.old) }
+    ensures { Answers (EndsJudge (held_at judge.old) (held_at judge.new) verdict.old verdict.new) result }
 {
     let Some(held) = judge.held() else {
-        return Refusal::NoJudge.code();
+        return status(Err(CallError::NoJudge));
     };
-    let Some(found) = finish_held(held) else {
-        return Refusal::NoJudge.code();
-    };
-    *verdict = told(found);
-    judge.empty(alloc);
-    DONE
+    let done = finish_judge(held, verdict);
+    if done.is_ok() {
+        judge.empty(alloc);
+    }
+    status(done)
 }

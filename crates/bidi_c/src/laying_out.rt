@@ -1,44 +1,48 @@
-// Texts laid out.
-ghost use Rattle.std.specs.Prelude.{◌≡◌};
+//! Texts of code points and classes laid out, and broken into lines again.
+ghost use Rattle.std.specs.Prelude.{◌≡◌, false};
 ghost use Rattle.units.specs.Limits.{standard};
-ghost use Rattle.bidi_held.specs.LaidOut.{LaysOutClasses, LaysOutCodes, SetsLines};
-ghost use Rattle.bidi_held.specs.LineAlone.{LaysOutLine};
-ghost use Rattle.bidi_held.specs.LimitsGiven.{ByLimits};
-ghost use Rattle.bidi_held.specs.Statuses.{Answers, AnswersNaming, place_named};
+ghost use Rattle.sources.specs.Seen.{source_seen};
+ghost use Rattle.sources.specs.Sources.{Codes};
+ghost use Rattle.for_c.specs.LimitsGiven.{ByLimits};
+ghost use Rattle.for_c.specs.RoomCalls.{SetsLines};
+ghost use Rattle.for_c.specs.Statuses.{Answers, AnswersNaming, place_named};
+ghost use Rattle.bidi_c.specs.AtHandles.{AtRoom};
 ghost use Rattle.bidi_c.specs.HeldAt.{held_at};
+ghost use Rattle.bidi_c.specs.HeldIn.{room_for};
+ghost use Rattle.bidi_c.specs.LayingOut.{AtLineOf, LaysOutClasses, LaysOutText};
 
 use crate::bidi_handle::BidiHandle;
-use bidi_held::layouts::{lay_out_classes_held, lay_out_held, line_alone_held, set_lines_held};
-use bidi_held::limits::BidiLimits;
-use bidi_held::refusal::{Refusal, answer, status};
+use for_c::call_error::{CallError, status, status_and_place};
+use for_c::limits::BidiLimits;
+use sources::source::Source;
 use units::limits::Limits;
 
 // Inlined, a call on a short text takes fewer instructions.
 #[inline(always)]
-fn lay_out(
+pub(crate) fn lay_out(
     room: &mut BidiHandle,
     tables: &mut BidiHandle,
-    codes: &[u32],
+    source: Source<'_>,
     direction: u32,
     breaks: &[usize],
     limits: Limits,
-) -> Result<(), Refusal>
+) -> Result<(), CallError>
     ensures tables { held_at tables.new ≡ held_at tables.old }
-    ensures room { LaysOutCodes limits (held_at tables.old) codes.now direction breaks.now
+    ensures room { LaysOutText (source_seen source.entry) limits direction breaks.now (held_at tables.old)
         (held_at room.old) (held_at room.new) result }
 {
     let Some(held) = room.held() else {
-        return Err(Refusal::NoRoom);
+        return Err(CallError::NoRoom);
     };
     let Some(by) = tables.held() else {
-        return Err(Refusal::NoTables);
+        return Err(CallError::NoTables);
     };
-    lay_out_held(held, by, codes, direction, breaks, limits)
+    held.lay_out(by, source, direction, breaks, limits)
 }
 
 /// Lays out a text of code points in the room, by the tables and the standard limits, under the direction with this
-/// number, broken into lines (P1 to L2). No memory is taken. Where it is refused, the room holds the layout that it
-/// held, and `place` names the place.
+/// number, broken into lines (P1 to L2). No memory is taken. If it fails, the room is unchanged, and `place` names the
+/// place.
 #[unsafe(no_mangle)]
 pub extern "C" fn bidi_lay_out(
     room: &mut BidiHandle,
@@ -49,17 +53,18 @@ pub extern "C" fn bidi_lay_out(
     place: &mut u64,
 ) -> u32
     ensures tables { held_at tables.new ≡ held_at tables.old }
-    ensures room { AnswersNaming place_named (LaysOutCodes standard (held_at tables.old) codes.now
-        direction breaks.now (held_at room.old) (held_at room.new)) result place.old place.new }
+    ensures room { AnswersNaming place_named (LaysOutText (Codes codes.now) standard direction breaks.now
+        (held_at tables.old) (held_at room.old) (held_at room.new)) result place.old place.new }
 {
-    let done = lay_out(room, tables, codes, direction, breaks, Limits::standard());
-    answer(done, place)
+    let source = Source::Codes(codes);
+    let done = lay_out(room, tables, source, direction, breaks, Limits::standard());
+    status_and_place(done, place)
 }
 
-/// Lays out a text of code points as `bidi_lay_out` does, by these limits in place of the standard ones: how deep
+/// Lays out a text of code points as `bidi_lay_out` does, with these limits in place of the standard ones: how deep
 /// explicit levels go (BD2), and how many brackets can be open at once (BD16).
 #[unsafe(no_mangle)]
-#[tactic(auto, using(crate::proofs::LimitsRefused::limits_refused_named))]
+#[tactic(auto, using(crate::proofs::LimitsRejected::limits_rejected_named))]
 pub extern "C" fn bidi_lay_out_with(
     room: &mut BidiHandle,
     tables: &mut BidiHandle,
@@ -70,32 +75,34 @@ pub extern "C" fn bidi_lay_out_with(
     place: &mut u64,
 ) -> u32
     ensures tables { held_at tables.new ≡ held_at tables.old }
-    ensures room { AnswersNaming place_named (ByLimits limits (λ limits. LaysOutCodes limits
-        (held_at tables.old) codes.now direction breaks.now) (held_at room.old)
-        (held_at room.new)) result place.old place.new }
+    ensures room { AnswersNaming place_named (ByLimits limits (λ limits. LaysOutText (Codes codes.now)
+        limits direction breaks.now (held_at tables.old)) (held_at room.old) (held_at room.new))
+        result place.old place.new }
 {
+    let source = Source::Codes(codes);
     match limits.allowed() {
-        Ok(limits) => answer(
-            lay_out(room, tables, codes, direction, breaks, limits),
-            place,
-        ),
-        Err(refusal) => answer(Err(refusal), place),
+        Ok(limits) => {
+            let done = lay_out(room, tables, source, direction, breaks, limits);
+            status_and_place(done, place)
+        }
+        Err(error) => status_and_place(Err(error), place),
     }
 }
 
+#[tactic(auto, using(crate::proofs::Needed::no_room_of_kind))]
 fn lay_out_classes(
     room: &mut BidiHandle,
     numbers: &[u8],
     direction: u32,
     breaks: &[usize],
     limits: Limits,
-) -> Result<(), Refusal>
-    ensures { LaysOutClasses limits numbers.now direction breaks.now (held_at room.old)
+) -> Result<(), CallError>
+    ensures { LaysOutClasses numbers.now limits direction breaks.now (held_at room.old)
         (held_at room.new) result }
 {
     match room.held() {
-        Some(held) => lay_out_classes_held(held, numbers, direction, breaks, limits),
-        None => Err(Refusal::NoRoom),
+        Some(held) => held.lay_out_classes(numbers, direction, breaks, limits),
+        None => Err(CallError::NoRoom),
     }
 }
 
@@ -109,16 +116,16 @@ pub extern "C" fn bidi_lay_out_classes(
     breaks: &[usize],
     place: &mut u64,
 ) -> u32
-    ensures { AnswersNaming place_named (LaysOutClasses standard numbers.now direction breaks.now
+    ensures { AnswersNaming place_named (LaysOutClasses numbers.now standard direction breaks.now
         (held_at room.old) (held_at room.new)) result place.old place.new }
 {
     let done = lay_out_classes(room, numbers, direction, breaks, Limits::standard());
-    answer(done, place)
+    status_and_place(done, place)
 }
 
-/// Lays out a text of classes as `bidi_lay_out_classes` does, by these limits in place of the standard ones.
+/// Lays out a text of classes as `bidi_lay_out_classes` does, with these limits in place of the standard ones.
 #[unsafe(no_mangle)]
-#[tactic(auto, using(crate::proofs::LimitsRefused::limits_refused_named))]
+#[tactic(auto, using(crate::proofs::LimitsRejected::limits_rejected_named))]
 pub extern "C" fn bidi_lay_out_classes_with(
     room: &mut BidiHandle,
     numbers: &[u8],
@@ -127,38 +134,66 @@ pub extern "C" fn bidi_lay_out_classes_with(
     limits: BidiLimits,
     place: &mut u64,
 ) -> u32
-    ensures { AnswersNaming place_named (ByLimits limits (λ limits. LaysOutClasses limits
-        numbers.now direction breaks.now) (held_at room.old) (held_at room.new))
-        result place.old place.new }
+    ensures { AnswersNaming place_named (ByLimits limits (λ limits. LaysOutClasses numbers.now limits
+        direction breaks.now) (held_at room.old) (held_at room.new)) result place.old place.new }
 {
     match limits.allowed() {
-        Ok(limits) => answer(
-            lay_out_classes(room, numbers, direction, breaks, limits),
-            place,
-        ),
-        Err(refusal) => answer(Err(refusal), place),
+        Ok(limits) => {
+            let done = lay_out_classes(room, numbers, direction, breaks, limits);
+            status_and_place(done, place)
+        }
+        Err(error) => status_and_place(Err(error), place),
     }
 }
 
-/// Breaks the text that the room holds into lines anew (L1, L2): its levels before L1, its direction and its limits
-/// stay. Where the breaks are refused, the room is what it was, and `place` names the break.
-#[unsafe(no_mangle)]
-#[tactic(auto, using(crate::proofs::NothingHeld::no_room_named))]
-pub extern "C" fn bidi_set_lines(room: &mut BidiHandle, breaks: &[usize], place: &mut u64) -> u32
-    ensures { AnswersNaming place_named (SetsLines breaks.now (held_at room.old) (held_at room.new))
-        result place.old place.new }
+#[tactic(auto, using(crate::proofs::Needed::no_room_of_kind))]
+pub(crate) fn set_lines(
+    room: &mut BidiHandle,
+    encodes: bool,
+    breaks: &[usize],
+) -> Result<(), CallError>
+    ensures { AtRoom encodes (SetsLines breaks.now) (held_at room.old) (held_at room.new) result }
 {
     match room.held() {
-        Some(held) => answer(set_lines_held(held, breaks), place),
-        None => answer(Err(Refusal::NoRoom), place),
+        Some(held) => held.set_lines(encodes, breaks),
+        None => Err(CallError::NoRoom),
+    }
+}
+
+/// Breaks the text that the room holds into lines again (L1, L2): its levels before L1, its direction and its limits
+/// are unchanged. If it fails, the room is unchanged, and `place` names the break.
+#[unsafe(no_mangle)]
+pub extern "C" fn bidi_set_lines(room: &mut BidiHandle, breaks: &[usize], place: &mut u64) -> u32
+    ensures { AnswersNaming place_named (AtRoom false (SetsLines breaks.now) (held_at room.old) (held_at room.new))
+        result place.old place.new }
+{
+    status_and_place(set_lines(room, false, breaks), place)
+}
+
+#[tactic(auto, using(crate::proofs::Needed::no_room_for_line))]
+pub(crate) fn line_of(
+    room: &mut BidiHandle,
+    encodes: bool,
+    start: usize,
+    end: usize,
+    levels: &mut [u8],
+    order: &mut [usize],
+    shown: &mut usize,
+) -> Result<(), CallError>
+    ensures room { held_at room.new ≡ held_at room.old }
+    ensures line { AtLineOf (room_for encodes (held_at room.old)) start end levels.old levels.new order.old order.new
+        shown.old shown.new result }
+{
+    match room.held() {
+        Some(held) => held.line_of(encodes, start, end, levels, order, shown),
+        None => Err(CallError::NoRoom),
     }
 }
 
 /// Lays out one line alone of the text that the room holds, from `start` up to `end` (L1, L2), at the cost of that
-/// line, and writes its levels and its order to the fronts of the arrays, and to `shown` how many positions the order
-/// has. What the room holds stays. Where the line is refused, nothing is written.
+/// line. Writes its levels and its order to the fronts of the arrays, and to `shown` how many positions the order has.
+/// What the room holds is unchanged. If it fails, nothing is written.
 #[unsafe(no_mangle)]
-#[tactic(auto, using(crate::proofs::NothingHeld::no_room))]
 pub extern "C" fn bidi_line_of(
     room: &mut BidiHandle,
     start: usize,
@@ -167,11 +202,9 @@ pub extern "C" fn bidi_line_of(
     order: &mut [usize],
     shown: &mut usize,
 ) -> u32
-    ensures { Answers (LaysOutLine start end (held_at room.old) (held_at room.new) levels.old levels.new
-        order.old order.new shown.old shown.new) result }
+    ensures room { held_at room.new ≡ held_at room.old }
+    ensures line { Answers (AtLineOf (room_for false (held_at room.old)) start end levels.old levels.new order.old
+        order.new shown.old shown.new) result }
 {
-    match room.held() {
-        Some(held) => status(line_alone_held(held, start, end, levels, order, shown)),
-        None => status(Err(Refusal::NoRoom)),
-    }
+    status(line_of(room, false, start, end, levels, order, shown))
 }

@@ -1,17 +1,21 @@
-// What a room holds, copied out.
+//! What a room contains, copied out in positions of characters.
 ghost use Rattle.std.specs.Prelude.{◌≡◌, length, map};
-ghost use Rattle.bidi_held.specs.Statuses.{Answers, Puts};
-ghost use Rattle.bidi_held.specs.Texts.{level_byte};
-ghost use Rattle.bidi_held.specs.LinesOut.{TellsOf, RefusesLine};
-ghost use Rattle.bidi_held.specs.Written.{WritesWhole};
-ghost use Rattle.bidi_c.specs.HeldAt.{held_at, layout_at, line_of_room};
+ghost use Rattle.room.specs.Written.{WritesWhole};
+ghost use Rattle.for_c.specs.LevelBytes.{level_byte};
+ghost use Rattle.for_c.specs.Positions.{IsLineAt, RejectsLine};
+ghost use Rattle.for_c.specs.Statuses.{Answers, Puts};
+ghost use Rattle.bidi_c.specs.AtHandles.{AtARoom};
+ghost use Rattle.bidi_c.specs.HeldAt.{held_at, layout_at, line_of_room, room_at};
 
 use crate::bidi_handle::BidiHandle;
-use bidi_held::lines_out::{BidiLine, tell_line, write_levels, write_order_of, write_para_levels};
-use bidi_held::refusal::{Refusal, status};
+use crate::putting::put;
+use for_c::call_error::{CallError, status};
+use for_c::columns::{write_levels, write_para_levels};
+use for_c::line::BidiLine;
+use for_c::positions::{line_at, write_order};
 
-/// How many code points the text has that was laid out, 0 without a room. Their levels after L1 are written to
-/// `levels`, if all fit there: 255 where a position was removed (X9).
+/// Writes the levels after L1 of the text's characters to `levels`, if all fit there: 255 for a character that was
+/// removed (X9). Returns how many there are, 0 without a room.
 #[unsafe(no_mangle)]
 pub extern "C" fn bidi_levels(room: &mut BidiHandle, levels: &mut [u8]) -> usize
     ensures room { held_at room.new ≡ held_at room.old }
@@ -21,13 +25,13 @@ pub extern "C" fn bidi_levels(room: &mut BidiHandle, levels: &mut [u8]) -> usize
     let Some(held) = room.held() else {
         return 0;
     };
-    match held.layout() {
-        Some(layout) => write_levels(layout.levels(), levels),
+    match held.room() {
+        Some(room) => write_levels(room.layout().levels(), levels),
         None => 0,
     }
 }
 
-/// How many paragraphs the text has. Their levels (P2, P3) are written to `levels`, if all fit there.
+/// Writes the levels of the text's paragraphs (P2, P3) to `levels`, if all fit there. Returns how many there are.
 #[unsafe(no_mangle)]
 pub extern "C" fn bidi_para_levels(room: &mut BidiHandle, levels: &mut [u8]) -> usize
     ensures room { held_at room.new ≡ held_at room.old }
@@ -36,13 +40,13 @@ pub extern "C" fn bidi_para_levels(room: &mut BidiHandle, levels: &mut [u8]) -> 
     let Some(held) = room.held() else {
         return 0;
     };
-    match held.layout() {
-        Some(layout) => write_para_levels(layout.para_levels(), levels),
+    match held.room() {
+        Some(room) => write_para_levels(room.layout().para_levels(), levels),
         None => 0,
     }
 }
 
-/// How many lines the text has; an empty one has none.
+/// Returns how many lines the text has; an empty one has none.
 #[unsafe(no_mangle)]
 pub extern "C" fn bidi_line_count(room: &mut BidiHandle) -> usize
     ensures room { held_at room.new ≡ held_at room.old }
@@ -51,31 +55,31 @@ pub extern "C" fn bidi_line_count(room: &mut BidiHandle) -> usize
     let Some(held) = room.held() else {
         return 0;
     };
-    match held.layout() {
-        Some(layout) => layout.line_count(),
+    match held.room() {
+        Some(room) => room.line_count(),
         None => 0,
     }
 }
 
-/// The line with the number `k`, counted from 0; where there is none, `line` stays as it was.
+/// Writes the line with the number `k`, counted from 0, to `line`. If there is none, `line` is unchanged.
 #[unsafe(no_mangle)]
-#[tactic(auto, using(crate::proofs::NothingHeld::no_room))]
+#[tactic(auto, using(crate::proofs::Needed::no_room, crate::proofs::Needed::not_found))]
 pub extern "C" fn bidi_line(room: &mut BidiHandle, k: usize, line: &mut BidiLine) -> u32
     ensures room { held_at room.new ≡ held_at room.old }
-    ensures line { Answers (Puts (TellsOf (layout_at room.old) k)
-        (RefusesLine (held_at room.old) k) line.old line.new) result }
+    ensures line { Answers (AtARoom (room_at room.old)
+        (λ room. Puts (IsLineAt room.layout k) (RejectsLine room.layout k)) line.old line.new) result }
 {
     let Some(held) = room.held() else {
-        return status(Err(Refusal::NoRoom));
+        return status(Err(CallError::NoRoom));
     };
-    match held.layout() {
-        Some(layout) => status(tell_line(&layout, k, line)),
-        None => status(Err(Refusal::NoRoom)),
+    match held.room() {
+        Some(room) => status(put(line_at(&room.layout(), k), line)),
+        None => status(Err(CallError::NoRoom)),
     }
 }
 
-/// How many positions the order of the line with the number `k` has, 0 where there is no such line. They are written
-/// to `order`, if all fit there: positions of the text, from left to right (L2).
+/// Writes the order of the line with the number `k` to `order`, if all fit there: positions of characters, from left to
+/// right (L2). Returns how many there are, 0 if there is no such line.
 #[unsafe(no_mangle)]
 pub extern "C" fn bidi_order(room: &mut BidiHandle, k: usize, order: &mut [usize]) -> usize
     ensures room { held_at room.new ≡ held_at room.old }
@@ -84,8 +88,8 @@ pub extern "C" fn bidi_order(room: &mut BidiHandle, k: usize, order: &mut [usize
     let Some(held) = room.held() else {
         return 0;
     };
-    match held.layout() {
-        Some(layout) => write_order_of(&layout, k, order),
+    match held.room() {
+        Some(room) => write_order(&room.layout(), k, order),
         None => 0,
     }
 }

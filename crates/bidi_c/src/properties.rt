@@ -1,40 +1,41 @@
-// What tables give a code point, looked up.
+//! The properties of a code point by tables.
 ghost use Rattle.std.specs.Prelude.{◌≡◌};
-ghost use Rattle.bidi_held.specs.Properties.{IsClassOf, IsBracketOf, RefusesCode};
-ghost use Rattle.bidi_held.specs.Statuses.{Answers, Puts};
-ghost use Rattle.bidi_c.specs.HeldAt.{held_at};
+ghost use Rattle.for_c.specs.Properties.{IsBracketOf, IsClassOf, RejectsCode};
+ghost use Rattle.for_c.specs.Statuses.{Answers, Puts};
+ghost use Rattle.bidi_c.specs.AtHandles.{AtTables};
+ghost use Rattle.bidi_c.specs.HeldAt.{held_at, tables_at};
 
 use crate::bidi_handle::BidiHandle;
 use crate::putting::put;
-use bidi_held::properties::{bracket_held, class_held};
-use bidi_held::refusal::{Refusal, status};
+use for_c::call_error::{CallError, status};
+use for_c::properties::{bracket_of, class_of};
 
-/// The class of a code point by the tables, by its number. Where there are no tables, or the code point is no scalar
-/// value, `class` stays as it was.
+/// Writes the number of the class of a code point to `class`. If there are no tables, or the code point is no scalar
+/// value, `class` is unchanged.
 #[unsafe(no_mangle)]
-#[tactic(auto, using(crate::proofs::NothingHeld::no_tables))]
+#[tactic(auto, using(crate::proofs::Needed::no_tables, crate::proofs::Needed::not_found))]
 pub extern "C" fn bidi_class(tables: &mut BidiHandle, code: u32, class: &mut u8) -> u32
     ensures tables { held_at tables.new ≡ held_at tables.old }
-    ensures class { Answers (Puts (IsClassOf (held_at tables.old) code) (RefusesCode (held_at tables.old) code)
+    ensures class { Answers (AtTables (tables_at tables.old) (λ by. Puts (IsClassOf by code) (RejectsCode code))
         class.old class.new) result }
 {
-    match tables.held() {
-        Some(held) => status(put(class_held(held, code), class)),
-        None => status(Err(Refusal::NoTables)),
+    match tables.tables() {
+        Some(by) => status(put(class_of(by, code), class)),
+        None => status(Err(CallError::NoTables)),
     }
 }
 
-/// Whether a code point is no bracket by the tables (0), one that opens (1), or one that closes (2): BD14, BD15. Where
-/// there are no tables, or the code point is no scalar value, `bracket` stays as it was.
+/// Writes to `bracket` what a code point does as a bracket (BD14, BD15): 0 if it is none, 1 if it opens, 2 if it
+/// closes. If there are no tables, or the code point is no scalar value, `bracket` is unchanged.
 #[unsafe(no_mangle)]
-#[tactic(auto, using(crate::proofs::NothingHeld::no_tables))]
+#[tactic(auto, using(crate::proofs::Needed::no_tables, crate::proofs::Needed::not_found))]
 pub extern "C" fn bidi_bracket(tables: &mut BidiHandle, code: u32, bracket: &mut u8) -> u32
     ensures tables { held_at tables.new ≡ held_at tables.old }
-    ensures bracket { Answers (Puts (IsBracketOf (held_at tables.old) code) (RefusesCode (held_at tables.old) code)
+    ensures bracket { Answers (AtTables (tables_at tables.old) (λ by. Puts (IsBracketOf by code) (RejectsCode code))
         bracket.old bracket.new) result }
 {
-    match tables.held() {
-        Some(held) => status(put(bracket_held(held, code), bracket)),
-        None => status(Err(Refusal::NoTables)),
+    match tables.tables() {
+        Some(by) => status(put(bracket_of(by, code), bracket)),
+        None => status(Err(CallError::NoTables)),
     }
 }

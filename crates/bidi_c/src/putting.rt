@@ -1,12 +1,12 @@
-// What was found, put into its place.
+//! A value, put into its place.
 ghost use Rattle.std.specs.Prelude.{◌≡◌, Err, MatchResult, Ok};
 
-use bidi_held::refusal::Refusal;
+use for_c::call_error::CallError;
 
-/// Puts what was found into its place, which stays as it was where that is refused.
-pub(crate) fn put<T: Copy>(found: Result<T, Refusal>, place: &mut T) -> Result<(), Refusal>
+/// Puts a value into its place; if there is none, the place is unchanged.
+pub(crate) fn put<T: Copy>(found: Result<T, CallError>, place: &mut T) -> Result<(), CallError>
     ensures { MatchResult found (λ value. (result ≡ Ok tt) × (place.new ≡ value))
-        (λ refusal. (result ≡ Err refusal) × (place.new ≡ place.old)) }
+        (λ error. (result ≡ Err error) × (place.new ≡ place.old)) }
 {
     *place = found?;
     Ok(())

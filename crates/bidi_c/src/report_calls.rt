@@ -1,80 +1,85 @@
-// Test files reported on.
-ghost use Rattle.std.specs.Prelude.{◌≡◌, None};
+//! Reports on test files.
+ghost use Rattle.std.specs.Prelude.{◌≡◌, None, Some};
+ghost use Rattle.std.specs.Option.{option_map};
+ghost use Rattle.std.specs.Arc.{arc_value};
 ghost use Rattle.units.specs.Limits.{standard};
-ghost use Rattle.bidi_held.specs.LimitsGiven.{ByLimits};
-ghost use Rattle.bidi_held.specs.Statuses.{Answers};
-ghost use Rattle.report_held.specs.ReportCalls.{EndsReport, HandsOutNext, MakesReport, MakesTableReport, TakesBytes};
+ghost use Rattle.for_c.specs.LimitsGiven.{ByLimits};
+ghost use Rattle.for_c.specs.ReportCalls.{EndsReport, ReturnsNext, TakesBytes};
+ghost use Rattle.for_c.specs.Statuses.{Answers};
 ghost use Rattle.bidi_c.specs.HeldAt.{held_at};
+ghost use Rattle.bidi_c.specs.ReportsAt.{AtReport, MakesReport, MakesTableReport};
 
 use crate::bidi_handle::BidiHandle;
-use bidi_held::limits::BidiLimits;
-use bidi_held::refusal::{Refusal, status};
-use report_held::ending::end_report;
-use report_held::feeding::feed_report;
-use report_held::handing::next_case;
-use report_held::making::{report_by, table_report};
-use report_held::told_case::BidiWrongCase;
-use report_held::told_counts::BidiCounts;
+use crate::held::Held;
+use crate::putting::put;
+use for_c::call_error::{CallError, status};
+use for_c::counts::BidiCounts;
+use for_c::limits::BidiLimits;
+use for_c::table_report::TableReport;
+use for_c::wrong_case::BidiWrongCase;
 use std::alloc::Global;
+use std::sync::Arc;
+use ucdfiles::tables::Tables;
 use units::limits::Limits;
 
-fn make_classes_report(
+/// Makes a report with these limits and tables, or without tables, and puts it into the handle.
+fn make_report(
     alloc: Global,
     report: &mut BidiHandle,
+    tables: Option<Arc<Tables, Global>>,
     limits: Limits,
-) -> Result<(), Refusal>
-    ensures { MakesReport limits (held_at report.old) (held_at report.new) result }
+) -> Result<(), CallError>
+    ensures { MakesReport (option_map arc_value tables) limits (held_at report.old) (held_at report.new) result }
 {
-    let made = report_by(alloc, None, limits)?;
-    report.hold(alloc, made)
+    let made = TableReport::new(alloc, tables, limits)?;
+    report.hold(alloc, Held::Report(made))
 }
 
-/// Makes a report on a BidiTest.txt by the standard limits, before its first byte. What the handle held before is freed
-/// once the report is made; where it is refused, the handle holds that still.
+/// Makes a report on a BidiTest.txt with the standard limits, before its first byte. Once it is made, what the handle
+/// contained before is freed. Fails with `Memory`; then the handle is unchanged.
 #[unsafe(no_mangle)]
 pub extern "C" fn bidi_report_new_classes(alloc: Global, report: &mut BidiHandle) -> u32
-    ensures { Answers (MakesReport standard (held_at report.old) (held_at report.new)) result }
+    ensures { Answers (MakesReport None standard (held_at report.old) (held_at report.new)) result }
 {
-    status(make_classes_report(alloc, report, Limits::standard()))
+    status(make_report(alloc, report, None, Limits::standard()))
 }
 
-/// Makes a report on a BidiTest.txt as `bidi_report_new_classes` does, that lays out by these limits in place of the
-/// standard ones.
+/// Makes a report on a BidiTest.txt as `bidi_report_new_classes` does, with these limits in place of the standard ones.
 #[unsafe(no_mangle)]
-#[tactic(auto, using(crate::proofs::LimitsRefused::limits_refused))]
+#[tactic(auto, using(crate::proofs::LimitsRejected::limits_rejected))]
 pub extern "C" fn bidi_report_new_classes_with(
     alloc: Global,
     report: &mut BidiHandle,
     limits: BidiLimits,
 ) -> u32
-    ensures { Answers (ByLimits limits MakesReport (held_at report.old) (held_at report.new)) result }
+    ensures { Answers (ByLimits limits (MakesReport None) (held_at report.old) (held_at report.new)) result }
 {
     match limits.allowed() {
-        Ok(limits) => status(make_classes_report(alloc, report, limits)),
-        Err(refusal) => status(Err(refusal)),
+        Ok(limits) => status(make_report(alloc, report, None, limits)),
+        Err(error) => status(Err(error)),
     }
 }
 
+/// Makes a report that shares the tables of a handle, and puts it into the other handle.
 fn make_characters_report(
     alloc: Global,
     tables: &mut BidiHandle,
     report: &mut BidiHandle,
     limits: Limits,
-) -> Result<(), Refusal>
+) -> Result<(), CallError>
     ensures tables { held_at tables.new ≡ held_at tables.old }
-    ensures report { MakesTableReport limits (held_at tables.old) (held_at report.old)
-        (held_at report.new) result }
+    ensures report { MakesTableReport (held_at tables.old) limits (held_at report.old) (held_at report.new) result }
 {
-    let Some(by) = tables.held() else {
-        return Err(Refusal::NoTables);
+    let Some(held) = tables.held() else {
+        return Err(CallError::NoTables);
     };
-    let made = table_report(alloc, by, limits)?;
-    report.hold(alloc, made)
+    let shared = held.share_tables()?;
+    make_report(alloc, report, Some(shared), limits)
 }
 
-/// Makes a report on a BidiCharacterTest.txt by the standard limits, before its first byte, that shares the tables:
-/// their handle keeps them, and may be freed before the report. What the report's handle held before is freed once the
-/// report is made; where it is refused, that handle holds what it held.
+/// Makes a report on a BidiCharacterTest.txt with the standard limits, before its first byte, that shares the tables.
+/// Their handle may be freed before the report. Once the report is made, what its handle contained before is freed.
+/// Fails with `NoTables` and with `Memory`; then that handle is unchanged.
 #[unsafe(no_mangle)]
 pub extern "C" fn bidi_report_new_characters(
     alloc: Global,
@@ -82,16 +87,16 @@ pub extern "C" fn bidi_report_new_characters(
     report: &mut BidiHandle,
 ) -> u32
     ensures tables { held_at tables.new ≡ held_at tables.old }
-    ensures report { Answers (MakesTableReport standard (held_at tables.old) (held_at report.old)
+    ensures report { Answers (MakesTableReport (held_at tables.old) standard (held_at report.old)
         (held_at report.new)) result }
 {
     status(make_characters_report(alloc, tables, report, Limits::standard()))
 }
 
-/// Makes a report on a BidiCharacterTest.txt as `bidi_report_new_characters` does, that lays out by these limits in
-/// place of the standard ones.
+/// Makes a report on a BidiCharacterTest.txt as `bidi_report_new_characters` does, with these limits in place of the
+/// standard ones.
 #[unsafe(no_mangle)]
-#[tactic(auto, using(crate::proofs::LimitsRefused::limits_refused))]
+#[tactic(auto, using(crate::proofs::LimitsRejected::limits_rejected))]
 pub extern "C" fn bidi_report_new_characters_with(
     alloc: Global,
     tables: &mut BidiHandle,
@@ -99,16 +104,16 @@ pub extern "C" fn bidi_report_new_characters_with(
     limits: BidiLimits,
 ) -> u32
     ensures tables { held_at tables.new ≡ held_at tables.old }
-    ensures report { Answers (ByLimits limits (λ limits. MakesTableReport limits
-        (held_at tables.old)) (held_at report.old) (held_at report.new)) result }
+    ensures report { Answers (ByLimits limits (MakesTableReport (held_at tables.old)) (held_at report.old)
+        (held_at report.new)) result }
 {
     match limits.allowed() {
         Ok(limits) => status(make_characters_report(alloc, tables, report, limits)),
-        Err(refusal) => status(Err(refusal)),
+        Err(error) => status(Err(error)),
     }
 }
 
-/// Frees a report, and its tables where nothing else holds them. The handle is all zero then, as it may be before.
+/// Frees a report, and its tables if they have no other owner. The handle is all zero then, as it may be before.
 #[unsafe(no_mangle)]
 pub extern "C" fn bidi_report_free(alloc: Global, report: &mut BidiHandle)
     ensures { held_at report.new ≡ None }
@@ -116,43 +121,74 @@ pub extern "C" fn bidi_report_free(alloc: Global, report: &mut BidiHandle)
     report.empty(alloc);
 }
 
-/// Hands over the next bytes of the file, through the end of the first line that has wrong cases, or all: `used` says
-/// how many they were. It takes no memory. Where the file has ended, or wrong cases are left of those that were found
-/// last, it is refused.
+/// Passes the next bytes of the file to the report, if it is one.
+fn feed_report(held: &mut Held, piece: &[u8], used: &mut usize) -> Result<(), CallError>
+    ensures { AtReport (TakesBytes piece.now) (Some held.old) (Some held.new) used.old used.new result }
+{
+    match held {
+        Held::Report(report) => put(report.feed(piece), used),
+        _ => Err(CallError::NoReport),
+    }
+}
+
+/// Writes the next wrong case of the report, if it is one.
+fn next_of_report(held: &mut Held, case: &mut BidiWrongCase) -> Result<(), CallError>
+    ensures { AtReport ReturnsNext (Some held.old) (Some held.new) case.old case.new result }
+{
+    match held {
+        Held::Report(report) => put(report.next(), case),
+        _ => Err(CallError::NoReport),
+    }
+}
+
+/// Writes the counts of the report at the end of its file, if it is one.
+fn finish_report(held: &mut Held, counts: &mut BidiCounts) -> Result<(), CallError>
+    ensures { AtReport EndsReport (Some held.old) (Some held.new) counts.old counts.new result }
+{
+    match held {
+        Held::Report(report) => put(report.finish(), counts),
+        _ => Err(CallError::NoReport),
+    }
+}
+
+/// Passes the next bytes of the file, through the end of the first line that has wrong cases, or all: `used` is how
+/// many they are. It takes no memory. Fails with `NoReport` if the file has ended, and with `CasesLeft` if the report
+/// has wrong cases that it has not yet returned; then all is unchanged.
 #[unsafe(no_mangle)]
-#[tactic(auto, using(crate::proofs::NothingHeld::no_report))]
+#[tactic(auto, using(crate::proofs::AtReports::no_report))]
 pub extern "C" fn bidi_report_feed(report: &mut BidiHandle, piece: &[u8], used: &mut usize) -> u32
-    ensures { Answers (TakesBytes (held_at report.old) (held_at report.new) piece.now used.old used.new)
+    ensures { Answers (AtReport (TakesBytes piece.now) (held_at report.old) (held_at report.new) used.old used.new)
         result }
 {
     match report.held() {
         Some(held) => status(feed_report(held, piece, used)),
-        None => status(Err(Refusal::NoReport)),
+        None => status(Err(CallError::NoReport)),
     }
 }
 
-/// Hands out the next of the wrong cases that were found last. It takes no memory. Where none is left, it is refused.
+/// Writes the next wrong case of the line that the report judged last. It takes no memory. Fails with `NoCase` if the
+/// report has returned all; then all is unchanged.
 #[unsafe(no_mangle)]
-#[tactic(auto, using(crate::proofs::NothingHeld::no_report))]
+#[tactic(auto, using(crate::proofs::AtReports::no_report))]
 pub extern "C" fn bidi_report_next(report: &mut BidiHandle, case: &mut BidiWrongCase) -> u32
-    ensures { Answers (HandsOutNext (held_at report.old) (held_at report.new) case.old case.new) result }
+    ensures { Answers (AtReport ReturnsNext (held_at report.old) (held_at report.new) case.old case.new) result }
 {
     match report.held() {
-        Some(held) => status(next_case(held, case)),
-        None => status(Err(Refusal::NoReport)),
+        Some(held) => status(next_of_report(held, case)),
+        None => status(Err(CallError::NoReport)),
     }
 }
 
-/// Hands over the end of the file, and tells the counts of all of it. The wrong cases of a last line that no LF ends
-/// are handed out then. It takes no memory. Where the file has ended before, or wrong cases are left of those that were
-/// found last, it is refused.
+/// Passes the end of the file, and writes the counts of all of it. The report has then the wrong cases of a last line
+/// without LF. It takes no memory. Fails with `NoReport` if the file has ended before, and with `CasesLeft` if the
+/// report has wrong cases that it has not yet returned; then all is unchanged.
 #[unsafe(no_mangle)]
-#[tactic(auto, using(crate::proofs::NothingHeld::no_report))]
+#[tactic(auto, using(crate::proofs::AtReports::no_report))]
 pub extern "C" fn bidi_report_finish(report: &mut BidiHandle, counts: &mut BidiCounts) -> u32
-    ensures { Answers (EndsReport (held_at report.old) (held_at report.new) counts.old counts.new) result }
+    ensures { Answers (AtReport EndsReport (held_at report.old) (held_at report.new) counts.old counts.new) result }
 {
     match report.held() {
-        Some(held) => status(end_report(held, counts)),
-        None => status(Err(Refusal::NoReport)),
+        Some(held) => status(finish_report(held, counts)),
+        None => status(Err(CallError::NoReport)),
     }
 }

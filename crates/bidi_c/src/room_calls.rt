@@ -1,34 +1,45 @@
-// Rooms made and freed.
-ghost use Rattle.std.specs.Prelude.{◌≡◌, None};
-ghost use Rattle.std.specs.Option.{unwrap_or};
-ghost use Rattle.bidi_held.specs.Holdings.{IsNewRoom, RefusesRoom};
-ghost use Rattle.bidi_held.specs.Statuses.{Answers, Puts};
-ghost use Rattle.bidi_c.specs.HeldAt.{held_at, capacity_at};
+//! Rooms made and freed.
+ghost use Rattle.std.specs.Prelude.{◌≡◌, false, true, None, Some};
+ghost use Rattle.room.specs.NewRooms.{new_room};
+ghost use Rattle.for_c.specs.RoomCalls.{RejectsCapacity};
+ghost use Rattle.for_c.specs.Statuses.{Answers, Puts};
+ghost use Rattle.bidi_c.specs.HeldAt.{capacity_if, held_at, room_at};
+ghost use Rattle.bidi_c.specs.HeldIn.{room_in};
 
 use crate::bidi_handle::BidiHandle;
-use bidi_held::held::Held;
-use bidi_held::refusal::{Refusal, of_room, status};
-use bidi_held::room::Room;
+use crate::held::Held;
+use for_c::call_error::{CallError, status};
+use for_c::room_for_c::RoomForC;
 use std::alloc::Global;
 
-fn make_room(alloc: Global, n: usize, room: &mut BidiHandle) -> Result<(), Refusal>
-    ensures { Puts (IsNewRoom n) (RefusesRoom n) (held_at room.old) (held_at room.new) result }
+fn make_room(alloc: Global, n: usize, encodes: bool, room: &mut BidiHandle) -> Result<(), CallError>
+    ensures { Puts (λ held. room_in held ≡ Some (new_room n encodes)) (RejectsCapacity n) (held_at room.old) (held_at room.new) result }
 {
-    let made = Room::with_room(alloc, n).map_err(of_room)?;
+    let made = RoomForC::with_room(alloc, n, encodes)?;
     room.hold(alloc, Held::Room(made))
 }
 
-/// Makes room for texts of up to `n` code points, at most 16,777,216, with the layout of an empty text. What the handle
-/// held before is freed once the room is made; where it is refused, the handle holds that still.
+/// Makes a room for texts of up to `n` code points or classes, at most 16,777,216, with the layout of an empty text.
+/// What the handle contained before is freed after that. If it fails, the handle is unchanged.
 #[unsafe(no_mangle)]
 pub extern "C" fn bidi_room_new(alloc: Global, n: usize, room: &mut BidiHandle) -> u32
-    ensures { Answers (Puts (IsNewRoom n) (RefusesRoom n) (held_at room.old) (held_at room.new))
-        result }
+    ensures { Answers (Puts (λ held. room_in held ≡ Some (new_room n false)) (RejectsCapacity n)
+        (held_at room.old) (held_at room.new)) result }
 {
-    status(make_room(alloc, n, room))
+    status(make_room(alloc, n, false, room))
 }
 
-/// Frees a room. The handle is all zero then, as it may be before.
+/// Makes a room for texts of up to `n` code units of UTF-8 or UTF-16, at most 16,777,216, with the layout of an empty
+/// text. What the handle contained before is freed after that. If it fails, the handle is unchanged.
+#[unsafe(no_mangle)]
+pub extern "C" fn bidi_room_new_encoded(alloc: Global, n: usize, room: &mut BidiHandle) -> u32
+    ensures { Answers (Puts (λ held. room_in held ≡ Some (new_room n true)) (RejectsCapacity n)
+        (held_at room.old) (held_at room.new)) result }
+{
+    status(make_room(alloc, n, true, room))
+}
+
+/// Frees a room. The handle is all zero after that, as it may be before.
 #[unsafe(no_mangle)]
 pub extern "C" fn bidi_room_free(alloc: Global, room: &mut BidiHandle)
     ensures { held_at room.new ≡ None }
@@ -36,14 +47,17 @@ pub extern "C" fn bidi_room_free(alloc: Global, room: &mut BidiHandle)
     room.empty(alloc);
 }
 
-/// The length of the longest text that there is room for, 0 without a room.
+/// Returns the length of the longest text that the room can hold, 0 without a room.
 #[unsafe(no_mangle)]
 pub extern "C" fn bidi_room_size(room: &mut BidiHandle) -> usize
     ensures room { held_at room.new ≡ held_at room.old }
-    ensures size { result ≡ unwrap_or (capacity_at room.old) 0 }
+    ensures size { result ≡ capacity_if (room_at room.old) }
 {
     let Some(held) = room.held() else {
         return 0;
     };
-    held.capacity().unwrap_or(0)
+    match held.room() {
+        Some(room) => room.capacity(),
+        None => 0,
+    }
 }

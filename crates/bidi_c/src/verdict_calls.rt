@@ -1,14 +1,15 @@
-// The lines that say verdicts.
-ghost use Rattle.bidi_held.specs.Statuses.{Answers};
-ghost use Rattle.bidi_held.specs.VerdictLines.{PutsVerdictLine};
+//! The lines that state verdicts.
+ghost use Rattle.for_c.specs.Statuses.{Answers};
+ghost use Rattle.for_c.specs.VerdictLines.{WritesVerdictLine};
 
-use bidi_held::refusal::status;
-use bidi_held::told_verdict::BidiVerdict;
-use bidi_held::verdict_text::write_verdict_line;
+use for_c::call_error::status;
+use for_c::verdict::BidiVerdict;
+use for_c::verdict_text::write_verdict_line;
 use std::alloc::Global;
 
-/// Writes the line that says a verdict, with its LF, to the front of `text`, if it fits there; `line_length` says
-/// how many bytes it has. Where the numbers tell no verdict or memory is refused, both stay as they were.
+/// Writes the line that states a verdict, with its LF, to the front of `text`, if it fits there, and the number of its
+/// bytes to `line_length`. Fails with `NoVerdict` if the numbers encode no verdict, and with `Memory`; then both are
+/// unchanged. Fails with `TooSmall` if it does not fit; then `text` is unchanged.
 #[unsafe(no_mangle)]
 pub extern "C" fn bidi_verdict_text(
     alloc: Global,
@@ -16,7 +17,7 @@ pub extern "C" fn bidi_verdict_text(
     text: &mut [u8],
     line_length: &mut usize,
 ) -> u32
-    ensures { Answers (PutsVerdictLine verdict.now text.old text.new line_length.old line_length.new)
+    ensures { Answers (WritesVerdictLine verdict.now text.old text.new line_length.old line_length.new)
         result }
 {
     status(write_verdict_line(alloc, verdict, text, line_length))

@@ -1,19 +1,26 @@
-// A line from left to right, copied out.
-ghost use Rattle.std.specs.Prelude.{◌≡◌};
-ghost use Rattle.bidi_held.specs.Statuses.{Answers, Puts};
-ghost use Rattle.bidi_held.specs.Visual.{IsVisualRun, RefusesRun, WritesPlaces, WritesShown, shown_held};
-ghost use Rattle.runs_held.specs.HeldRuns.{WritesRunsHeld};
-ghost use Rattle.bidi_c.specs.HeldAt.{held_at, layout_at, line_of_room};
+//! A line from left to right, copied out in positions of characters.
+ghost use Rattle.std.specs.Prelude.{◌≡◌, false, MatchOption};
+ghost use Rattle.for_c.specs.LineRuns.{WritesRuns};
+ghost use Rattle.for_c.specs.Positions.{WritesPlaces};
+ghost use Rattle.for_c.specs.Runs.{IsVisualRun, RejectsRun};
+ghost use Rattle.for_c.specs.Shown.{WritesNothing};
+ghost use Rattle.for_c.specs.Statuses.{Answers, Puts};
+ghost use Rattle.lines.specs.Layouts.{line_at};
+ghost use Rattle.bidi_c.specs.AtHandles.{AtARoom};
+ghost use Rattle.bidi_c.specs.HeldAt.{held_at, line_of_room, room_at, tables_at};
+ghost use Rattle.bidi_c.specs.ShownAt.{WritesShownAt};
 
 use crate::bidi_handle::BidiHandle;
 use crate::putting::put;
-use bidi_held::refusal::{Refusal, status};
-use bidi_held::visual_lines::{BidiRun, run_of, show, write_places_of};
-use runs_held::line_runs::write_runs_held;
+use for_c::call_error::{CallError, status};
+use for_c::line_runs::write_runs;
+use for_c::positions::write_places;
+use for_c::runs::{BidiRun, run_of};
+use for_c::shown::write_shown;
 
-/// How many positions the line with the number `k` has, 0 where there is no such line. The place of each in the order
-/// of the line is written to `places`, if all fit there: `SIZE_MAX` where a position was removed (X9). The
-/// first stands for the position at which the line begins.
+/// Writes the place of each position of the line with the number `k`, in the line's order, to `places`, if all fit
+/// there: `SIZE_MAX` for a position that was removed (X9). The first is for the position at which the line begins.
+/// Returns how many positions the line has, 0 if there is no such line.
 #[unsafe(no_mangle)]
 pub extern "C" fn bidi_places(room: &mut BidiHandle, k: usize, places: &mut [usize]) -> usize
     ensures room { held_at room.new ≡ held_at room.old }
@@ -22,49 +29,53 @@ pub extern "C" fn bidi_places(room: &mut BidiHandle, k: usize, places: &mut [usi
     let Some(held) = room.held() else {
         return 0;
     };
-    match held.layout() {
-        Some(layout) => write_places_of(&layout, k, places),
+    match held.room() {
+        Some(room) => write_places(&room.layout(), k, places),
         None => 0,
     }
 }
 
-/// The run of the line with the number `k` that begins at the place `from`: all places from there on up to the next
-/// whose position has another level. The runs of a line are those from 0, and from behind each one.
+/// Writes the run of the line with the number `k` that begins at the place `from` to `run`: all places from there on up
+/// to the next whose position has another level. The runs of a line are those from 0, and from the end of each one.
 #[unsafe(no_mangle)]
-#[tactic(auto, using(crate::proofs::NothingHeld::no_room))]
+#[tactic(auto, using(crate::proofs::Needed::no_room, crate::proofs::Needed::not_found))]
 pub extern "C" fn bidi_run(room: &mut BidiHandle, k: usize, from: usize, run: &mut BidiRun) -> u32
     ensures room { held_at room.new ≡ held_at room.old }
-    ensures run { Answers (Puts
-        (IsVisualRun (layout_at room.old).levels (line_of_room room.old k).order from)
-        (RefusesRun (held_at room.old) k from) run.old run.new) result }
+    ensures run { Answers (AtARoom (room_at room.old) (λ room. Puts
+        (IsVisualRun room.layout.levels (line_at room.layout k).order from) (RejectsRun room.layout k from))
+        run.old run.new) result }
 {
     let Some(held) = room.held() else {
-        return status(Err(Refusal::NoRoom));
+        return status(Err(CallError::NoRoom));
     };
-    match held.layout() {
-        Some(layout) => status(put(run_of(&layout, k, from), run)),
-        None => status(Err(Refusal::NoRoom)),
+    match held.room() {
+        Some(room) => status(put(run_of(&room.layout(), k, from), run)),
+        None => status(Err(CallError::NoRoom)),
     }
 }
 
-/// How many visual runs the line with the number `k` has, 0 where there is no such line. They are written to `runs`, if
-/// all fit there, from left to right (L2): each position of the line is in one of them, removed ones too (X9).
+/// Writes the visual runs of the line with the number `k` to `runs`, if all fit there, from left to right (L2). Each
+/// position of the line is in one of them, removed ones too (X9). Returns how many there are, 0 without such a line or
+/// a room.
 #[unsafe(no_mangle)]
-#[tactic(auto, using(runs_held::proofs::LinesHeld::no_line))]
 pub extern "C" fn bidi_runs(room: &mut BidiHandle, k: usize, runs: &mut [BidiRun]) -> usize
     ensures room { held_at room.new ≡ held_at room.old }
-    ensures runs { WritesRunsHeld (held_at room.old) k result runs.old runs.new }
+    ensures runs { MatchOption (room_at room.old) (WritesNothing result runs.old runs.new)
+        (λ room. WritesRuns room false k result runs.old runs.new) }
 {
-    match room.held() {
-        Some(held) => write_runs_held(held, k, runs),
+    let Some(held) = room.held() else {
+        return 0;
+    };
+    match held.room() {
+        Some(room) => write_runs(room, k, false, runs),
         None => 0,
     }
 }
 
-/// How many characters of the line with the number `k` are shown. They are written to `shown`, if all fit
-/// there, from left to right, each at an odd level as its mirror image, where it has one (L4). `codes` are the code
-/// points of the whole text that was laid out. It answers 0 where there is no such line, where there are no tables,
-/// and where the text that was laid out has another length.
+/// Writes the characters of the line with the number `k` as they are shown to `shown`, if all fit there: from left to
+/// right, each at an odd level as its mirrored character, if it has one (L4). `codes` are the code points of the whole
+/// text that was laid out. Returns how many there are, 0 if there is no such line, if there are no tables, and if the
+/// text that was laid out has another length.
 #[unsafe(no_mangle)]
 pub extern "C" fn bidi_shown(
     room: &mut BidiHandle,
@@ -75,14 +86,16 @@ pub extern "C" fn bidi_shown(
 ) -> usize
     ensures room { held_at room.new ≡ held_at room.old }
     ensures tables { held_at tables.new ≡ held_at tables.old }
-    ensures shown { WritesShown codes.now
-        (shown_held (held_at room.old) (held_at tables.old) codes.now k) result shown.old shown.new }
+    ensures shown { WritesShownAt (room_at room.old) (tables_at tables.old) codes.now k result shown.old shown.new }
 {
     let Some(held) = room.held() else {
         return 0;
     };
-    let Some(by) = tables.held() else {
+    let Some(room) = held.room() else {
         return 0;
     };
-    show(held, by, codes, k, shown)
+    match tables.tables() {
+        Some(tables) => write_shown(room, tables, codes, k, shown),
+        None => 0,
+    }
 }

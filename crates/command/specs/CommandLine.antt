@@ -1,6 +1,6 @@
 -- The command line, as it is read: the command with its subcommands and arguments, and the request that the values of a
 -- subcommand make.
-use Rattle.std.specs.Prelude.{◌≡◌, ◌≢◌, ◌⊎◌, ℕ, List, [], ◌∷◌, Option, None, Some, Result, Ok, Err, IfOk, codes, fold, map, option_map, unwrap_or, is_some, pos, Bool, true, false, if◌then◌else◌}
+use Rattle.std.specs.Prelude.{◌≡◌, ◌≢◌, ◌⊎◌, ℕ, List, [], ◌∷◌, ◌++◌, Option, None, Some, Result, Ok, Err, IfOk, codes, fold, map, option_map, unwrap_or, is_some, pos, true, false, if◌then◌else◌}
 use Rattle.std.specs.Borrow.{Bor}
 use Rattle.std.specs.declared.num.NonZeroU16.{NonZeroU16}
 use Rattle.std.specs.declared.num.NonZeroU64.{NonZeroU64}
@@ -25,10 +25,13 @@ use Rattle.rows.specs.declared.form.Form.TheVariants.{Nest, Brackets, Marks, Num
 use Rattle.units.specs.declared.level.Direction.{Direction}
 use Rattle.units.specs.declared.level.Direction.TheVariants.{Auto, Ltr, Rtl, AutoRtl}
 use Rattle.bidtests.specs.VerdictText.{direction_word}
-use Rattle.command.specs.Refusals.{has_form_words, has_row_words, has_text_words, is_over_alphabet, refusal_without_request}
+use Rattle.command.specs.Refusals.{has_form_words, has_row_words, has_table_words, has_text_words, has_two_tables, is_given, is_over_alphabet, refusal_without_request}
+use Rattle.command.specs.declared.invocation.Invocation.{Invocation}
 use Rattle.command.specs.declared.refusal.NoRequest.{NoRequest}
 use Rattle.command.specs.declared.refusal.WordsFault.{WordsFault}
 use Rattle.command.specs.declared.refusal.WordsFault.TheVariants as fault
+use Rattle.requests.specs.declared.fault.Detail.{Detail}
+use Rattle.requests.specs.declared.fault.Detail.TheVariants.{Brief, Verbose}
 use Rattle.requests.specs.declared.request.AskedLines.{AskedLines}
 use Rattle.requests.specs.declared.request.AskedRows.{AskedRows}
 use Rattle.requests.specs.declared.request.FileKind.{FileKind}
@@ -107,9 +110,17 @@ number_rule name = record (option_rule name) { parser = Some (parser.Unsigned 0 
 abbrev pub flag_rule : Text → Rule
 flag_rule name = record (new_rule name) { long = Some name; action = Some SetTrue }
 
--- a command of this name with these arguments
+-- --built-in, a flag
+abbrev pub built_in_rule : Rule
+built_in_rule = flag_rule (codes "built-in")
+
+-- --verbose, a flag, also -v (118)
+abbrev pub verbose_rule : Rule
+verbose_rule = record (flag_rule (codes "verbose")) { short = Some 118 }
+
+-- a command of this name with these arguments, and with --verbose
 abbrev pub app_with : Text → List Rule → App
-app_with name rules = on_top (λ s. record s { rules = rules }) (new_app name)
+app_with name rules = on_top (λ s. record s { rules = rules ++ verbose_rule ∷ [] }) (new_app name)
 
 abbrev pub levels_app : Choice → App
 levels_app directions = app_with (codes "levels") (tables_rule ∷ direction_rule directions ∷ file_rule ∷ [])
@@ -118,19 +129,19 @@ abbrev pub reorder_app : Choice → App
 reorder_app directions = app_with (codes "reorder") (tables_rule ∷ direction_rule directions ∷ columns_rule ∷ file_rule ∷ [])
 
 abbrev pub explain_app : Choice → Choice → App
-explain_app kinds directions = app_with (codes "explain") (tables_rule ∷ option_rule (codes "classes") ∷ option_rule (codes "codes") ∷ row_rule
-    ∷ choice_rule (codes "kind") kinds ∷ choice_rule (codes "direction") directions ∷ record file_rule { required = false } ∷ [])
+explain_app kinds directions = app_with (codes "explain") (tables_rule ∷ built_in_rule ∷ option_rule (codes "classes")
+    ∷ option_rule (codes "codes") ∷ row_rule ∷ choice_rule (codes "kind") kinds ∷ choice_rule (codes "direction") directions ∷ record file_rule { required = false } ∷ [])
 
 abbrev pub judge_app : Choice → App
-judge_app kinds = app_with (codes "judge") (kind_rule kinds ∷ tables_rule ∷ file_rule ∷ [])
+judge_app kinds = app_with (codes "judge") (kind_rule kinds ∷ tables_rule ∷ built_in_rule ∷ file_rule ∷ [])
 
 abbrev pub report_app : Choice → App
-report_app kinds = app_with (codes "report") (kind_rule kinds ∷ tables_rule ∷ number_rule (codes "most") ∷ flag_rule (codes "order")
-    ∷ flag_rule (codes "shown") ∷ file_rule ∷ [])
+report_app kinds = app_with (codes "report") (kind_rule kinds ∷ tables_rule ∷ built_in_rule ∷ number_rule (codes "most")
+    ∷ flag_rule (codes "order") ∷ flag_rule (codes "shown") ∷ file_rule ∷ [])
 
 abbrev pub rows_app : Choice → Choice → App
 rows_app forms kinds = app_with (codes "rows") (choice_rule (codes "form") forms ∷ choice_rule (codes "kind") kinds ∷ tables_rule
-    ∷ option_rule (codes "alphabet") ∷ option_rule (codes "length") ∷ directions_rule ∷ number_rule (codes "seed")
+    ∷ built_in_rule ∷ option_rule (codes "alphabet") ∷ option_rule (codes "length") ∷ directions_rule ∷ number_rule (codes "seed")
     ∷ number_rule (codes "count") ∷ option_rule (codes "of") ∷ [])
 
 -- the command without its subcommands: one is needed, but for help and the version
@@ -202,10 +213,9 @@ abbrev pub NumberIs : ℕ → Option Text → ℕ → Type 0
 NumberIs default None n = n ≡ default
 NumberIs default (Some text) n = (read : Option ℕ) × ReadsOne ReadsNumber text read × (n ≡ unwrap_or read default)
 
--- a flag is given, by its value
-abbrev pub is_given : Option Text → Bool
-is_given None = false
-is_given (Some word) = bytes_eq word (codes "true")
+-- the detail in which a fault is reported: with the reason if --verbose is given
+abbrev pub detail_in : List Row → Detail
+detail_in rows = if is_given (first_of (codes "verbose") rows) then Verbose else Brief
 
 -- what of a claim a report compares: the order alone with --order, what is shown with --shown
 abbrev pub leniency_in : List Row → Leniency
@@ -218,6 +228,18 @@ leniency_in rows = record {
 abbrev pub folder_of : TableSource → Option Text
 folder_of (Folder folder) = Some folder.now
 folder_of BuiltIn = None
+
+-- the tables that the values name for a file of rows: with --tables those of a folder, with --built-in those that are
+-- built in; the two exclude each other
+abbrev pub NamesTables : List Row → Option TableSource → Type 0
+NamesTables rows None = (first_of (codes "tables") rows ≡ None) × (is_given (first_of (codes "built-in") rows) ≡ false)
+NamesTables rows (Some (Folder folder)) =
+    (first_of (codes "tables") rows ≡ Some folder.now) × (is_given (first_of (codes "built-in") rows) ≡ false)
+NamesTables rows (Some BuiltIn) = (first_of (codes "tables") rows ≡ None) × (is_given (first_of (codes "built-in") rows) ≡ true)
+
+-- the tables that the values name for texts, which are those that are built in where none are named
+abbrev pub TakesTables : List Row → TableSource → Type 0
+TakesTables rows source = (first_of (codes "tables") rows ≡ folder_of source) × (has_two_tables rows ≡ false)
 
 -- the form of rows that the values say: all texts, or with another word for the form 1,000 that are drawn, or as many as
 -- are asked for, by the seed 0 or the one that is given
@@ -248,7 +270,7 @@ rows_kind default rows = unwrap_or (kind_named (first_of (codes "kind") rows)) d
 pub record AsksForRows (rows : List Row) (asked : AskedRows) : Type 0 where
   pub of : first_of (codes "of") rows ≡ None
   pub kind : asked.kind ≡ rows_kind Classes rows
-  pub tables : first_of (codes "tables") rows ≡ folder_of asked.tables
+  pub tables : TakesTables rows asked.tables
   pub letters : LettersAre rows asked.letters
   pub form : FormIs rows asked.form
   pub lengths : first_of (codes "length") rows ≡ Some asked.lengths.now
@@ -260,7 +282,7 @@ pub record AsksForLines (rows : List Row) (asked : AskedLines) : Type 0 where
   pub of : first_of (codes "of") rows ≡ Some asked.file.now
   pub alone : has_form_words rows ≡ false
   pub kind : asked.kind ≡ rows_kind Characters rows
-  pub tables : first_of (codes "tables") rows ≡ folder_of asked.tables
+  pub tables : TakesTables rows asked.tables
   pub directions : first_of (codes "directions") rows ≡ Some asked.directions.now
 
 -- the row that the values ask for, and nothing that says another text or its direction
@@ -268,7 +290,7 @@ pub record AsksToExplainRow (rows : List Row) (sought : SoughtRow) : Type 0 wher
   pub given : is_some (first_of (codes "row") rows) ≡ true
   pub alone : has_text_words rows ≡ false
   pub kind : kind_named (first_of (codes "kind") rows) ≡ Some sought.kind
-  pub tables : first_of (codes "tables") rows ≡ option_map (λ folder. folder.now) sought.tables
+  pub tables : NamesTables rows sought.tables
   pub line : LineIs (one_of (codes "row") rows) sought.line
   pub file : first_of (codes "file") rows ≡ Some sought.file.now
 
@@ -277,7 +299,7 @@ abbrev pub AsksToPrint : Text → List Row → Print → Type 0
 AsksToPrint name rows Levels = name ≡ codes "levels"
 AsksToPrint name rows (Reorder columns) = (name ≡ codes "reorder") × ColumnsAre (one_of (codes "columns") rows) columns
 AsksToPrint name rows Explained = (name ≡ codes "explain") × (has_row_words rows ≡ false)
-    × (first_of (codes "classes") rows ≡ None) × (first_of (codes "codes") rows ≡ None)
+    × (has_two_tables rows ≡ false) × (first_of (codes "classes") rows ≡ None) × (first_of (codes "codes") rows ≡ None)
 
 -- the values of the subcommand of this name make this request
 abbrev pub AsksFor : Text → List Row → Request → Type 0
@@ -285,17 +307,17 @@ AsksFor name rows (requested.Text tables direction file print) = AsksToPrint nam
     × (first_of (codes "tables") rows ≡ folder_of tables) × (direction ≡ direction_named (first_of (codes "direction") rows))
     × (first_of (codes "file") rows ≡ Some file.now)
 AsksFor name rows (requested.ExplainClasses classes direction) = (name ≡ codes "explain") × (has_row_words rows ≡ false)
-    × (first_of (codes "tables") rows ≡ None) × (first_of (codes "classes") rows ≡ Some classes.now) × (first_of (codes "codes") rows ≡ None)
+    × (has_table_words rows ≡ false) × (first_of (codes "classes") rows ≡ Some classes.now) × (first_of (codes "codes") rows ≡ None)
     × (direction ≡ direction_named (first_of (codes "direction") rows)) × (first_of (codes "file") rows ≡ None)
 AsksFor name rows (requested.ExplainCodes said tables direction) = (name ≡ codes "explain") × (has_row_words rows ≡ false)
-    × (first_of (codes "tables") rows ≡ folder_of tables) × (first_of (codes "classes") rows ≡ None) × (first_of (codes "codes") rows ≡ Some said.now)
+    × TakesTables rows tables × (first_of (codes "classes") rows ≡ None) × (first_of (codes "codes") rows ≡ Some said.now)
     × (direction ≡ direction_named (first_of (codes "direction") rows)) × (first_of (codes "file") rows ≡ None)
 AsksFor name rows (requested.ExplainRow sought) = (name ≡ codes "explain") × AsksToExplainRow rows sought
 AsksFor name rows (requested.Judge kind tables file) = (name ≡ codes "judge")
-    × (kind_named (first_of (codes "kind") rows) ≡ Some kind) × (first_of (codes "tables") rows ≡ option_map (λ folder. folder.now) tables)
+    × (kind_named (first_of (codes "kind") rows) ≡ Some kind) × NamesTables rows tables
     × (first_of (codes "file") rows ≡ Some file.now)
 AsksFor name rows (requested.Report kind tables file options) = (name ≡ codes "report")
-    × (kind_named (first_of (codes "kind") rows) ≡ Some kind) × (first_of (codes "tables") rows ≡ option_map (λ folder. folder.now) tables)
+    × (kind_named (first_of (codes "kind") rows) ≡ Some kind) × NamesTables rows tables
     × (first_of (codes "file") rows ≡ Some file.now) × NumberIs 20 (one_of (codes "most") rows) options.most
     × (options.leniency ≡ leniency_in rows)
 AsksFor name rows (requested.Rows asked) = (name ≡ codes "rows") × AsksForRows rows asked
@@ -305,6 +327,15 @@ AsksFor name rows (requested.RowsOf asked) = (name ≡ codes "rows") × AsksForL
 abbrev pub IsAskedBy : Option (Text × List Row) → Request → Type 0
 IsAskedBy None request = ⊥
 IsAskedBy (Some met) request = AsksFor met.0 met.1 request
+
+-- the detail in which a fault is reported, by the subcommand that was met
+abbrev pub detail_by : Option (Text × List Row) → Detail
+detail_by None = Brief
+detail_by (Some met) = detail_in met.1
+
+-- the subcommand that was met makes this request, whose fault is reported in this detail
+abbrev pub IsInvokedBy : Option (Text × List Row) → Invocation → Type 0
+IsInvokedBy met invocation = IsAskedBy met invocation.request × (invocation.detail ≡ detail_by met)
 
 -- the subcommand that was met makes no request, for this reason
 abbrev pub MakesNone : Option (Text × List Row) → NoRequest → Type 0
@@ -317,9 +348,9 @@ pub record HasMet (words : List Text) (met : Option (Text × List Row)) : Type 0
   pub passes : fault_of app words ≡ []
   pub same : met ≡ subcommand_of app words
 
--- the words make this request
-abbrev pub IsRead : List Text → Request → Type 0
-IsRead words request = (met : Option (Text × List Row)) × HasMet words met × IsAskedBy met request
+-- the words make this request, in this detail
+abbrev pub IsRead : List Text → Invocation → Type 0
+IsRead words invocation = (met : Option (Text × List Row)) × HasMet words met × IsInvokedBy met invocation
 
 -- so says an error of `clap`: memory was refused, or the words are refused with this kind of error, or ask for help or
 -- the version
@@ -336,7 +367,7 @@ abbrev pub IsUnread : List Text → WordsFault → Type 0
 IsUnread words (fault.ByClap error) = IsRefusedByClap words error
 IsUnread words (fault.NoRequest why) = WordsMakeNone words why
 
--- what the words are read as: a request, or why they are none
-abbrev pub IsReadAs : List Text → Result Request WordsFault → Type 0
-IsReadAs words (Ok request) = IsRead words request
+-- what the words are read as: a request with its detail, or why they are none
+abbrev pub IsReadAs : List Text → Result Invocation WordsFault → Type 0
+IsReadAs words (Ok invocation) = IsRead words invocation
 IsReadAs words (Err fault) = IsUnread words fault

@@ -10,12 +10,13 @@ use Rattle.command.specs.declared.help.TheConstants.{BIDI_VERSION}
 use Rattle.requests.specs.FaultText.{EndsBy}
 use Rattle.requests.specs.Outcomes.{EndsWell, HasEnded, IsDone}
 use Rattle.requests.specs.ReadFiles.{FileFacts}
+use Rattle.requests.specs.declared.fault.Detail.TheVariants.{Brief}
 use Rattle.requests.specs.declared.fault.Fault.TheVariants.{CannotWrite, OutOfMemory}
 use Rattle.requests.specs.declared.outcome.Ended.{Ended}
 use Rattle.requests.specs.declared.outcome.Outcome.TheVariants.{Judged}
-use Rattle.requests.specs.declared.request.Request.{Request}
 use Rattle.command.specs.CommandLine.{IsRead, IsReadAs}
 use Rattle.command.specs.Refusals.{no_request_text}
+use Rattle.command.specs.declared.invocation.Invocation.{Invocation}
 use Rattle.command.specs.declared.refusal.NoRequest.{NoRequest}
 use Rattle.command.specs.declared.refusal.WordsFault.{WordsFault}
 use Rattle.command.specs.declared.refusal.WordsFault.TheVariants as fault
@@ -42,8 +43,8 @@ IsPrinted before after _ = Unit {0}
 abbrev pub EndsWithout : Option (List ℕ) → Option (List ℕ) → Option (List ℕ) → Option (List ℕ) → Error → Ended → Type 0
 EndsWithout before after err_before err_after error ended =
     (AsksForHelp error × IsPrinted before after (kind_of error) × EndsWell 0 err_before err_after ended)
-    ⊎ ((AsksForHelp error × EndsBy CannotWrite err_before err_after ended)
-    ⊎ (((kind_of error ≡ kind.OutOfMemory) × (after ≡ before) × EndsBy OutOfMemory err_before err_after ended)
+    ⊎ ((AsksForHelp error × EndsBy Brief CannotWrite err_before err_after ended)
+    ⊎ (((kind_of error ≡ kind.OutOfMemory) × (after ≡ before) × EndsBy Brief OutOfMemory err_before err_after ended)
     ⊎ (RefusesWords error × (after ≡ before) × (ended.status ≡ 2))))
 
 -- words that pass and make no request, for this reason, end so: nothing is printed, and where that is said, known bytes
@@ -60,22 +61,23 @@ EndsUnread before after err_before err_after (fault.NoRequest why) ended = EndsU
 
 -- words that were read so came to what that asks for, and the run ended so: of the first two what is printed tells, of
 -- the next two what is said
-abbrev pub EndsAsRead : FileFacts → Option (List ℕ) → Option (List ℕ) → Option (List ℕ) → Option (List ℕ) → Result Request WordsFault → Ended → Type 0
-EndsAsRead files before after err_before err_after (Ok request) ended = HasEnded files before after err_before err_after request ended
+abbrev pub EndsAsRead : FileFacts → Option (List ℕ) → Option (List ℕ) → Option (List ℕ) → Option (List ℕ) → Result Invocation WordsFault → Ended → Type 0
+EndsAsRead files before after err_before err_after (Ok invocation) ended =
+    HasEnded files before after err_before err_after invocation.request invocation.detail ended
 EndsAsRead files before after err_before err_after (Err fault) ended = EndsUnread before after err_before err_after fault ended
 
 -- the words were read, and the run came to what that asks for
 pub record HasRun (files : FileFacts) (before after err_before err_after : Option (List ℕ)) (words : List (List ℕ)) (ended : Ended) : Type 0 where
-  pub read : Result Request WordsFault
+  pub read : Result Invocation WordsFault
   pub is : IsReadAs words read
   pub ends : EndsAsRead files before after err_before err_after read ended
 
 -- what the words were read as is a request, which came to a no, or to a report that is not right
-abbrev pub RequestSaidNo : FileFacts → Option (List ℕ) → Option (List ℕ) → Result Request WordsFault → Type 0
+abbrev pub RequestSaidNo : FileFacts → Option (List ℕ) → Option (List ℕ) → Result Invocation WordsFault → Type 0
 RequestSaidNo files before after read =
-    (request : Request) × (read ≡ Ok request) × IsDone files before after request (Judged 1)
+    (invocation : Invocation) × (read ≡ Ok invocation) × IsDone files before after invocation.request (Judged 1)
 
 -- the words are read as a request, which came to a no, or to a report that is not right
 abbrev pub HasSaidNo : FileFacts → Option (List ℕ) → Option (List ℕ) → List (List ℕ) → Type 0
 HasSaidNo files before after words =
-    (request : Request) × IsRead words request × IsDone files before after request (Judged 1)
+    (invocation : Invocation) × IsRead words invocation × IsDone files before after invocation.request (Judged 1)

@@ -3,14 +3,28 @@ use Rattle.std.specs.Prelude.{◌&&◌, ◌||◌, Bool, false, ℕ, List, [], �
 use Rattle.std.specs.List.{concat}
 use Rattle.std.specs.Str.{bytes_eq}
 use Rattle.clap.specs.Walk.{Row, Text, first_of}
-use Rattle.command.specs.declared.help.TheConstants.{BIDI_USAGE, EXPLAIN_USAGE, ROWS_USAGE}
+use Rattle.command.specs.declared.help.TheConstants.{BIDI_USAGE, EXPLAIN_USAGE, JUDGE_USAGE, REPORT_USAGE, ROWS_USAGE}
 use Rattle.command.specs.declared.refusal.NoRequest.{NoRequest}
-use Rattle.command.specs.declared.refusal.NoRequest.TheVariants.{ClassesAndText, CodesAndText, NoText, RowAndText, RowWithoutKind, RowWithoutFile, KindWithoutRow, TextAndForm, NoForm, NoLength, NoAlphabet, AlphabetAndForm, NoSubcommand}
+use Rattle.command.specs.declared.refusal.NoRequest.TheVariants.{TwoTables, ClassesAndText, CodesAndText, NoText, RowAndText, RowWithoutKind, RowWithoutFile, KindWithoutRow, TextAndForm, NoForm, NoLength, NoAlphabet, AlphabetAndForm, NoSubcommand}
+use Rattle.command.specs.declared.refusal.TableCommand.TheVariants.{Explain, Judge, Report, Rows}
+
+-- a flag is given, by its value
+abbrev pub is_given : Option Text → Bool
+is_given None = false
+is_given (Some word) = bytes_eq word (codes "true")
+
+-- tables are named: those of a folder, or those that are built in
+abbrev pub has_table_words : List Row → Bool
+has_table_words rows = is_some (first_of (codes "tables") rows) || is_given (first_of (codes "built-in") rows)
+
+-- both are named, which exclude each other
+abbrev pub has_two_tables : List Row → Bool
+has_two_tables rows = is_some (first_of (codes "tables") rows) && is_given (first_of (codes "built-in") rows)
 
 -- classes are given, and a text or tables beside them
 abbrev pub has_classes_and_text : List Row → Bool
 has_classes_and_text rows =
-    is_some (first_of (codes "classes") rows) && (is_some (first_of (codes "tables") rows) || is_some (first_of (codes "file") rows))
+    is_some (first_of (codes "classes") rows) && (has_table_words rows || is_some (first_of (codes "file") rows))
 
 -- code points are given, and classes or a text beside them
 abbrev pub has_codes_and_text : List Row → Bool
@@ -40,8 +54,9 @@ text_refusal rows =
 -- of `explain`
 abbrev pub explain_refusal : List Row → NoRequest
 explain_refusal rows =
-    if is_some (first_of (codes "row") rows) then row_refusal rows
-    else (if is_some (first_of (codes "kind") rows) then KindWithoutRow else text_refusal rows)
+    if has_two_tables rows then TwoTables Explain
+    else (if is_some (first_of (codes "row") rows) then row_refusal rows
+    else (if is_some (first_of (codes "kind") rows) then KindWithoutRow else text_refusal rows))
 
 -- the texts of this form are made of an alphabet: those of the other forms have letters of their own
 abbrev pub takes_alphabet : Text → Bool
@@ -67,13 +82,18 @@ form_refusal rows =
 -- of `rows`: a text and what says texts of a form exclude each other, and a text or a form is required
 abbrev pub rows_refusal : List Row → NoRequest
 rows_refusal rows =
-    if is_some (first_of (codes "of") rows) then TextAndForm
-    else (if is_some (first_of (codes "form") rows) then form_refusal rows else NoForm)
+    if has_two_tables rows then TwoTables Rows
+    else (if is_some (first_of (codes "of") rows) then TextAndForm
+    else (if is_some (first_of (codes "form") rows) then form_refusal rows else NoForm))
 
--- where the subcommand of this name makes no request of these values
+-- where the subcommand of this name makes no request of these values; two sources of tables are all that `judge` and
+-- `report` refuse, since `clap` requires their kind and their file
 abbrev pub refusal_in_subcommand : Text → List Row → NoRequest
 refusal_in_subcommand name rows =
-    if bytes_eq name (codes "explain") then explain_refusal rows else (if bytes_eq name (codes "rows") then rows_refusal rows else NoSubcommand)
+    if bytes_eq name (codes "explain") then explain_refusal rows
+    else (if bytes_eq name (codes "judge") then TwoTables Judge
+    else (if bytes_eq name (codes "report") then TwoTables Report
+    else (if bytes_eq name (codes "rows") then rows_refusal rows else NoSubcommand)))
 
 -- where the subcommand that was met makes none
 abbrev pub refusal_without_request : Option (Text × List Row) → NoRequest
@@ -82,7 +102,8 @@ refusal_without_request (Some met) = refusal_in_subcommand met.0 met.1
 
 -- what is wrong, in words
 abbrev pub words_without_request : NoRequest → List ℕ
-words_without_request ClassesAndText = codes "the argument '--classes <CLASSES>' cannot be used with '--tables <DIR>' or '<FILE>'"
+words_without_request (TwoTables command) = codes "the argument '--tables <DIR>' cannot be used with '--built-in'"
+words_without_request ClassesAndText = codes "the argument '--classes <CLASSES>' cannot be used with '--tables <DIR>', '--built-in' or '<FILE>'"
 words_without_request CodesAndText = codes "the argument '--codes <CODES>' cannot be used with '--classes <CLASSES>' or '<FILE>'"
 words_without_request NoText = codes "'<FILE>' is required, or '--codes <CODES>', or '--classes <CLASSES>'"
 words_without_request RowAndText = codes "the argument '--row <LINE>' cannot be used with '--classes <CLASSES>', '--codes <CODES>' or '--direction <DIRECTION>'"
@@ -98,6 +119,10 @@ words_without_request NoSubcommand = codes "a subcommand is needed"
 
 -- how to call what was called
 abbrev pub usage_without_request : NoRequest → List ℕ
+usage_without_request (TwoTables Explain) = EXPLAIN_USAGE.now
+usage_without_request (TwoTables Judge) = JUDGE_USAGE.now
+usage_without_request (TwoTables Report) = REPORT_USAGE.now
+usage_without_request (TwoTables Rows) = ROWS_USAGE.now
 usage_without_request ClassesAndText = EXPLAIN_USAGE.now
 usage_without_request CodesAndText = EXPLAIN_USAGE.now
 usage_without_request NoText = EXPLAIN_USAGE.now

@@ -1,20 +1,22 @@
 -- Worked command lines: the subcommand that the words name, and the values that they give it.
-use Rattle.std.specs.Prelude.{◌≡◌, List, [], ◌∷◌, Option, None, Some, codes, option_map, refl}
+use Rattle.std.specs.Prelude.{◌≡◌, Bool, List, [], ◌∷◌, Option, None, Some, codes, false, option_map, refl, true}
 use Rattle.clap.proofs.OnLiterals.{clap_on_literals}
 use Rattle.clap.specs.Faults.{fault_of}
 use Rattle.clap.specs.Simple.{subcommand_of}
 use Rattle.clap.specs.Walk.{Row, Text, first_of, one_of}
 use Rattle.clap.specs.declared.error.kind.ErrorKind.{ErrorKind}
-use Rattle.clap.specs.declared.error.kind.ErrorKind.TheVariants.{DisplayVersion, InvalidValue, TooManyValues, ValueValidation}
+use Rattle.clap.specs.declared.error.kind.ErrorKind.TheVariants.{DisplayVersion, InvalidValue, TooManyValues, UnknownArgument, ValueValidation}
 use Rattle.report.specs.ReadClaims.{strict}
 use Rattle.report.specs.declared.terms.Parts.TheVariants as parts
 use Rattle.report.specs.declared.terms.Positions.TheVariants as positions
 use Rattle.units.specs.declared.level.Direction.{Direction}
 use Rattle.units.specs.declared.level.Direction.TheVariants.{Auto, Rtl}
-use Rattle.command.specs.CommandLine.{Choices, bidi_app, direction_named, kind_named, leniency_in, rows_kind}
-use Rattle.command.specs.Refusals.{refusal_without_request}
+use Rattle.command.specs.CommandLine.{Choices, bidi_app, detail_in, direction_named, kind_named, leniency_in, rows_kind}
+use Rattle.command.specs.Refusals.{is_given, refusal_without_request}
 use Rattle.command.specs.declared.refusal.NoRequest.{NoRequest}
-use Rattle.command.specs.declared.refusal.NoRequest.TheVariants.{AlphabetAndForm, ClassesAndText, CodesAndText, KindWithoutRow, NoAlphabet, NoForm, NoLength, NoText, RowAndText, RowWithoutFile, RowWithoutKind, TextAndForm}
+use Rattle.command.specs.declared.refusal.NoRequest.TheVariants.{AlphabetAndForm, ClassesAndText, CodesAndText, KindWithoutRow, NoAlphabet, NoForm, NoLength, NoText, RowAndText, RowWithoutFile, RowWithoutKind, TextAndForm, TwoTables}
+use Rattle.command.specs.declared.refusal.TableCommand.TheVariants.{Explain, Judge, Report, Rows}
+use Rattle.requests.specs.declared.fault.Detail.TheVariants.{Brief, Verbose}
 use Rattle.requests.specs.declared.request.FileKind.{FileKind}
 use Rattle.requests.specs.declared.request.FileKind.TheVariants.{Characters}
 
@@ -28,10 +30,12 @@ faults c words = fault_of (bidi_app c) (codes "bidi" ∷ words)
 abbrev refusal : Choices → List Text → NoRequest
 refusal c words = refusal_without_request (meets c words)
 
--- a subcommand, with its folder, classes, code points, direction, text of columns, kind and file
+-- a subcommand, with its folder, whether it takes the tables that are built in, and its classes, code points, direction,
+-- text of columns, kind and file
 pub record Met : Type 0 where
   pub name : Text
   pub tables : Option Text
+  pub built_in : Bool
   pub classes : Option Text
   pub codes : Option Text
   pub direction : Direction
@@ -43,6 +47,7 @@ abbrev pub met : Text × List Row → Met
 met p = record {
   name = p.0;
   tables = first_of (codes "tables") p.1;
+  built_in = is_given (first_of (codes "built-in") p.1);
   classes = first_of (codes "classes") p.1;
   codes = first_of (codes "codes") p.1;
   direction = direction_named (first_of (codes "direction") p.1);
@@ -53,7 +58,7 @@ met p = record {
 
 -- a subcommand that is given nothing
 abbrev bare : Text → Met
-bare name = record { name = name; tables = None; classes = None; codes = None; direction = Auto; columns = None; kind = None; file = None }
+bare name = record { name = name; tables = None; built_in = false; classes = None; codes = None; direction = Auto; columns = None; kind = None; file = None }
 
 -- the direction is auto where none is given
 pub levels_words : (c : Choices) → option_map met (meets c (codes "levels" ∷ codes "--tables" ∷ codes "t" ∷ codes "FILE" ∷ []))
@@ -96,6 +101,29 @@ pub judge_words : (c : Choices) → option_map met (meets c
     ≡ Some (record (bare (codes "judge")) { tables = Some (codes "t"); kind = Some Characters; file = Some (codes "FILE") })
 unfolding clap_on_literals
 judge_words c = refl
+
+-- by the tables that are built in, of standard input
+pub judge_built_in_words : (c : Choices) → option_map met (meets c
+    (codes "judge" ∷ codes "--kind" ∷ codes "characters" ∷ codes "--built-in" ∷ codes "-" ∷ []))
+    ≡ Some (record (bare (codes "judge")) { built_in = true; kind = Some Characters; file = Some (codes "-") })
+unfolding clap_on_literals
+judge_built_in_words c = refl
+
+-- both: no request, and the reason for that
+pub judge_two_tables_words : (c : Choices) → refusal c
+    (codes "judge" ∷ codes "--kind" ∷ codes "characters" ∷ codes "--tables" ∷ codes "t" ∷ codes "--built-in" ∷ codes "FILE" ∷ []) ≡ TwoTables Judge
+unfolding clap_on_literals
+judge_two_tables_words c = refl
+
+pub report_two_tables_words : (c : Choices) → refusal c
+    (codes "report" ∷ codes "--built-in" ∷ codes "--kind" ∷ codes "classes" ∷ codes "--tables=t" ∷ codes "FILE" ∷ []) ≡ TwoTables Report
+unfolding clap_on_literals
+report_two_tables_words c = refl
+
+-- it is a flag of the subcommands that take rows
+pub levels_built_in_words : (c : Choices) → faults c (codes "levels" ∷ codes "--built-in" ∷ codes "FILE" ∷ []) ≡ UnknownArgument ∷ []
+unfolding clap_on_literals
+levels_built_in_words c = refl
 
 -- to report on a file: how many wrong cases are printed stands in a word of its own, or is not said
 abbrev report_met : Text × List Row → Text × Option Text × Option Text × Option Text
@@ -143,6 +171,12 @@ pub explain_standard_words : (c : Choices) → option_map met (meets c (codes "e
 unfolding clap_on_literals
 explain_standard_words c = refl
 
+-- by these where a flag says so
+pub explain_built_in_words : (c : Choices) → option_map met (meets c (codes "explain" ∷ codes "--built-in" ∷ codes "FILE" ∷ []))
+    ≡ Some (record (bare (codes "explain")) { built_in = true; file = Some (codes "FILE") })
+unfolding clap_on_literals
+explain_built_in_words c = refl
+
 -- and of classes, whose blanks stand within one word
 pub explain_classes_words : (c : Choices) → option_map met (meets c
     (codes "explain" ∷ codes "--direction" ∷ codes "rtl" ∷ codes "--classes" ∷ codes "R ON L" ∷ []))
@@ -169,6 +203,16 @@ pub explain_codes_and_classes_words : (c : Choices) → refusal c
     (codes "explain" ∷ codes "--classes" ∷ codes "R" ∷ codes "--codes" ∷ codes "05D0" ∷ []) ≡ CodesAndText
 unfolding clap_on_literals
 explain_codes_and_classes_words c = refl
+
+pub explain_classes_and_tables_words : (c : Choices) → refusal c (codes "explain" ∷ codes "--classes" ∷ codes "R" ∷ codes "--built-in" ∷ [])
+    ≡ ClassesAndText
+unfolding clap_on_literals
+explain_classes_and_tables_words c = refl
+
+pub explain_two_tables_words : (c : Choices) → refusal c (codes "explain" ∷ codes "--built-in" ∷ codes "--tables" ∷ codes "t" ∷ codes "FILE" ∷ [])
+    ≡ TwoTables Explain
+unfolding clap_on_literals
+explain_two_tables_words c = refl
 
 -- a row of a file: its line, the file's kind, its folder and name
 abbrev row_met : Text × List Row → Option Text × Option FileKind × Option Text × Option Text
@@ -266,3 +310,29 @@ rows_of_nothing_words c = refl
 pub rows_without_length_words : (c : Choices) → refusal c (codes "rows" ∷ codes "--form" ∷ codes "nest" ∷ []) ≡ NoLength
 unfolding clap_on_literals
 rows_without_length_words c = refl
+
+-- the tables that are built in, and those of a folder, for the lines of a text
+pub rows_two_tables_words : (c : Choices) → refusal c
+    (codes "rows" ∷ codes "--of" ∷ codes "-" ∷ codes "--tables" ∷ codes "t" ∷ codes "--built-in" ∷ []) ≡ TwoTables Rows
+unfolding clap_on_literals
+rows_two_tables_words c = refl
+
+-- the reason of a fault is asked for, by either name of the flag and at any place after the subcommand, or it is not
+pub verbose_words : (c : Choices) → option_map (λ p. detail_in p.1) (meets c
+    (codes "judge" ∷ codes "--kind" ∷ codes "classes" ∷ codes "FILE" ∷ codes "--verbose" ∷ [])) ≡ Some Verbose
+unfolding clap_on_literals
+verbose_words c = refl
+
+pub short_verbose_words : (c : Choices) → option_map (λ p. detail_in p.1) (meets c (codes "levels" ∷ codes "-v" ∷ codes "FILE" ∷ []))
+    ≡ Some Verbose
+unfolding clap_on_literals
+short_verbose_words c = refl
+
+pub brief_words : (c : Choices) → option_map (λ p. detail_in p.1) (meets c (codes "levels" ∷ codes "FILE" ∷ [])) ≡ Some Brief
+unfolding clap_on_literals
+brief_words c = refl
+
+-- it is a flag of the subcommands, and not of the command alone
+pub verbose_without_subcommand : (c : Choices) → faults c (codes "-v" ∷ codes "levels" ∷ codes "FILE" ∷ []) ≡ UnknownArgument ∷ []
+unfolding clap_on_literals
+verbose_without_subcommand c = refl

@@ -1,8 +1,9 @@
 // The arguments of the subcommands.
 ghost use Rattle.std.specs.Prelude.{◌≡◌};
 ghost use Rattle.clap.specs.Walk.{rule_of};
-ghost use Rattle.command.specs.CommandLine.{choice_rule, columns_rule, direction_rule, directions_rule, file_rule};
-ghost use Rattle.command.specs.CommandLine.{flag_rule, kind_rule, number_rule, option_rule, row_rule, tables_rule};
+ghost use Rattle.command.specs.CommandLine.{built_in_rule, choice_rule, columns_rule, direction_rule, directions_rule};
+ghost use Rattle.command.specs.CommandLine.{file_rule, flag_rule, kind_rule, number_rule, option_rule, row_rule};
+ghost use Rattle.command.specs.CommandLine.{tables_rule, verbose_rule};
 
 use crate::help;
 use clap::builder::ValueParser;
@@ -72,6 +73,13 @@ pub fn tables_argument<'a>(alloc: Global, help: &'a str) -> Arg<'a>
     option_argument(alloc, "tables", "DIR", help).value_parser(ValueParser::NonEmptyString)
 }
 
+/// `--built-in`, a flag in the place of `--tables`, with this help.
+pub fn built_in_argument<'a>(alloc: Global, help: &'a str) -> Arg<'a>
+    ensures { rule_of result ≡ built_in_rule }
+{
+    flag_argument(alloc, "built-in", help)
+}
+
 /// `--direction`, which is `auto` where it is left out.
 pub fn direction_argument<'a>(alloc: Global, words: &'a [&'a str]) -> Arg<'a>
     ensures { rule_of result ≡ direction_rule words.entry }
@@ -123,6 +131,13 @@ pub fn flag_argument<'a>(alloc: Global, name: &'a str, help: &'a str) -> Arg<'a>
         .long(name)
         .action(ArgAction::SetTrue)
         .help(help)
+}
+
+/// `--verbose`, also as `-v`.
+pub fn verbose_argument<'a>(alloc: Global) -> Arg<'a>
+    ensures { rule_of result ≡ verbose_rule }
+{
+    flag_argument(alloc, "verbose", help::VERBOSE_HELP).short('v')
 }
 
 /// `--kind`, which is required.

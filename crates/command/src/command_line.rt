@@ -5,9 +5,9 @@ ghost use Rattle.command.specs.CommandLine.{IsBidi, bidi_top, explain_app, judge
 ghost use Rattle.command.specs.CommandLine.{report_app, rows_app};
 
 use crate::arguments::{
-    DIRECTIONS, FORMS, KINDS, choice_argument, columns_argument, direction_argument,
-    directions_argument, file_argument, flag_argument, kind_argument, number_argument,
-    option_argument, row_argument, tables_argument,
+    DIRECTIONS, FORMS, KINDS, built_in_argument, choice_argument, columns_argument,
+    direction_argument, directions_argument, file_argument, flag_argument, kind_argument,
+    number_argument, option_argument, row_argument, tables_argument, verbose_argument,
 };
 use crate::help::{self, EXPLAIN_DIRECTION_HELP};
 use clap::Command;
@@ -22,7 +22,8 @@ fn levels_command<'a>(alloc: Global, directions: &'a [&'a str]) -> Result<Comman
         .after_help(help::LEVELS_EXAMPLE)
         .arg(tables_argument(alloc, help::TABLES_HELP))?
         .arg(direction_argument(alloc, directions))?
-        .arg(file_argument(alloc))
+        .arg(file_argument(alloc))?
+        .arg(verbose_argument(alloc))
 }
 
 fn reorder_command<'a>(alloc: Global, directions: &'a [&'a str]) -> Result<Command<'a>, AllocError>
@@ -35,7 +36,8 @@ fn reorder_command<'a>(alloc: Global, directions: &'a [&'a str]) -> Result<Comma
         .arg(tables_argument(alloc, help::TABLES_HELP))?
         .arg(direction_argument(alloc, directions))?
         .arg(columns_argument(alloc))?
-        .arg(file_argument(alloc))
+        .arg(file_argument(alloc))?
+        .arg(verbose_argument(alloc))
 }
 
 /// The subcommand `explain`. By `clap` alone all of its arguments may be left out or stand together: which of them make
@@ -53,6 +55,7 @@ fn explain_command<'a>(
         .after_help(help::EXPLAIN_EXAMPLE)
         .override_usage(help::EXPLAIN_USAGE)
         .arg(tables_argument(alloc, help::EXPLAIN_TABLES_HELP))?
+        .arg(built_in_argument(alloc, help::EXPLAIN_BUILT_IN_HELP))?
         .arg(option_argument(alloc, "classes", "CLASSES", help::CLASSES_HELP))?
         .arg(option_argument(alloc, "codes", "CODES", help::CODES_HELP))?
         .arg(row_argument(alloc))?
@@ -64,7 +67,8 @@ fn explain_command<'a>(
             directions,
             EXPLAIN_DIRECTION_HELP,
         ))?
-        .arg(file_argument(alloc).required(false))
+        .arg(file_argument(alloc).required(false))?
+        .arg(verbose_argument(alloc))
 }
 
 fn judge_command<'a>(alloc: Global, kinds: &'a [&'a str]) -> Result<Command<'a>, AllocError>
@@ -74,9 +78,12 @@ fn judge_command<'a>(alloc: Global, kinds: &'a [&'a str]) -> Result<Command<'a>,
         .about("Judges a conformance file")
         .long_about(help::JUDGE_LONG_ABOUT)
         .after_help(help::JUDGE_EXAMPLE)
+        .override_usage(help::JUDGE_USAGE)
         .arg(kind_argument(alloc, kinds))?
         .arg(tables_argument(alloc, help::JUDGE_TABLES_HELP))?
-        .arg(file_argument(alloc))
+        .arg(built_in_argument(alloc, help::JUDGE_BUILT_IN_HELP))?
+        .arg(file_argument(alloc))?
+        .arg(verbose_argument(alloc))
 }
 
 fn report_command<'a>(alloc: Global, kinds: &'a [&'a str]) -> Result<Command<'a>, AllocError>
@@ -86,12 +93,15 @@ fn report_command<'a>(alloc: Global, kinds: &'a [&'a str]) -> Result<Command<'a>
         .about("Prints the wrong cases of a conformance file, and their counts")
         .long_about(help::REPORT_LONG_ABOUT)
         .after_help(help::REPORT_EXAMPLE)
+        .override_usage(help::REPORT_USAGE)
         .arg(kind_argument(alloc, kinds))?
         .arg(tables_argument(alloc, help::JUDGE_TABLES_HELP))?
+        .arg(built_in_argument(alloc, help::JUDGE_BUILT_IN_HELP))?
         .arg(number_argument(alloc, "most", help::REPORT_MOST_HELP))?
         .arg(flag_argument(alloc, "order", help::REPORT_ORDER_HELP))?
         .arg(flag_argument(alloc, "shown", help::REPORT_SHOWN_HELP))?
-        .arg(file_argument(alloc))
+        .arg(file_argument(alloc))?
+        .arg(verbose_argument(alloc))
 }
 
 /// The subcommand `rows`. By `clap` alone all of its arguments may be left out or stand together: which of them make a
@@ -111,12 +121,14 @@ fn rows_command<'a>(
         .arg(choice_argument(alloc, "form", "FORM", forms, help::FORM_HELP))?
         .arg(choice_argument(alloc, "kind", "KIND", kinds, help::ROWS_KIND_HELP))?
         .arg(tables_argument(alloc, help::TABLES_HELP))?
+        .arg(built_in_argument(alloc, help::ROWS_BUILT_IN_HELP))?
         .arg(option_argument(alloc, "alphabet", "LETTERS", help::ALPHABET_HELP))?
         .arg(option_argument(alloc, "length", "LENGTHS", help::LENGTH_HELP))?
         .arg(directions_argument(alloc))?
         .arg(number_argument(alloc, "seed", help::ROWS_SEED_HELP))?
         .arg(number_argument(alloc, "count", help::ROWS_COUNT_HELP))?
-        .arg(option_argument(alloc, "of", "FILE", help::OF_HELP))
+        .arg(option_argument(alloc, "of", "FILE", help::OF_HELP))?
+        .arg(verbose_argument(alloc))
 }
 
 /// The command `bidi` without its subcommands, of which one is needed.

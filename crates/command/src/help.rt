@@ -14,12 +14,15 @@ on them, and prints such files, of hard texts or of the lines of a text.
 Ends with status 0 where it is done or the verdict is yes, 1 where the verdict is no or
 a report is not right, 2 where the command line is refused, tables are needed, a line is
 no row or words make no rows, and 3 where a file can't be read, a line of a table is
-faulty, a text is not UTF-8, a write fails or memory is refused.";
+faulty, a text is not UTF-8, a write fails or memory is refused.
+
+A fault is one line on standard error. Each subcommand takes -v, which adds a second
+line with the reason; the first line and the status stay the same.";
 
 /// What stands behind the name in the text of the version: the version, the rules that are followed, the edition whose
 /// tables are built in, and the kit that all is proved with.
-pub const BIDI_VERSION: &str = "1.0.0 (rules P1 to L2 and L4 of UAX #9, Unicode 15.0)
-tables of Unicode 15.0.0 built in
+pub const BIDI_VERSION: &str = "1.1.0 (rules P1 to L2 and L4 of UAX #9, Unicode 17.0)
+tables of Unicode 17.0.0 built in
 proved with rattle-kit-13f logic dac8208d650f15bf";
 
 /// How `bidi` is called.
@@ -31,16 +34,31 @@ pub const BIDI_EXAMPLE: &str = "Example:\n  bidi levels text.txt";
 /// What `--tables` names, where the tables that are built in serve without it.
 pub const TABLES_HELP: &str =
     "The folder of DerivedBidiClass.txt, BidiBrackets.txt and BidiMirroring.txt; without it the tables of Unicode \
-     15.0 that are built in are used";
+     17.0 that are built in are used";
 
 /// What `--tables` names, of `explain`.
 pub const EXPLAIN_TABLES_HELP: &str =
     "The folder of DerivedBidiClass.txt, BidiBrackets.txt and BidiMirroring.txt; without it the tables of Unicode \
-     15.0 that are built in are used, but for --row, where --kind characters needs it";
+     17.0 that are built in are used, but for --row, where --kind characters needs it or --built-in";
+
+/// What `--built-in` says, of `explain`.
+pub const EXPLAIN_BUILT_IN_HELP: &str =
+    "Takes the tables of Unicode 17.0 that are built in, in the place of --tables; a text takes them without it too";
+
+/// What `--built-in` says, where tables are needed for files of characters.
+pub const JUDGE_BUILT_IN_HELP: &str =
+    "Takes the tables of Unicode 17.0 that are built in, in the place of --tables; the test file is of that edition";
+
+/// What `--built-in` says, of `rows`.
+pub const ROWS_BUILT_IN_HELP: &str =
+    "Takes the tables of Unicode 17.0 that are built in, in the place of --tables; they are used without it too";
 
 /// What `--tables` names, where it is needed for files of characters.
 pub const JUDGE_TABLES_HELP: &str =
     "The folder of DerivedBidiClass.txt, BidiBrackets.txt and BidiMirroring.txt, of the edition of the test file";
+
+/// What `--verbose` does.
+pub const VERBOSE_HELP: &str = "Prints a second line of a fault: the reason, as far as it is known";
 
 /// What `--direction` says.
 pub const DIRECTION_HELP: &str =
@@ -102,7 +120,7 @@ direction that it names, behind a line `line N: DIRECTION`, and then what the ro
 and what is defined: the paragraph level, if it claims one, the levels and the order.
 
 Ends with status 0, 2 where the command line is refused, --classes has a name of no
-class or --codes an item that is no code point, --tables is needed or the line is no row,
+class or --codes an item that is no code point, tables are needed or the line is no row,
 and 3 where a file can't be read, a line of a table or one up to the row is faulty, the
 text is not UTF-8, a write fails or memory is refused.";
 
@@ -115,7 +133,7 @@ pub const EXPLAIN_USAGE: &str = "bidi explain [OPTIONS] <FILE>
 /// What `--kind` says, of `explain`.
 pub const EXPLAIN_KIND_HELP: &str =
     "The form of the file that has the row: that of BidiTest.txt, or that of BidiCharacterTest.txt, which needs \
-     --tables";
+     --tables or --built-in";
 
 /// What `--direction` says, of `explain`, where a row names its own.
 pub const EXPLAIN_DIRECTION_HELP: &str =
@@ -139,7 +157,7 @@ pub const EXPLAIN_EXAMPLE: &str = "Examples:
   bidi explain text.txt
   bidi explain --codes '05D0 0028'
   bidi explain --classes 'R ON LRE L'
-  bidi explain --row 1200 --kind characters --tables ucd BidiCharacterTest.txt";
+  bidi explain --row 1200 --kind characters --built-in BidiCharacterTest.txt";
 
 /// What `judge` prints, and with which status it ends.
 pub const JUDGE_LONG_ABOUT: &str = "Judges a conformance file.
@@ -150,16 +168,20 @@ that the algorithm gives. Else prints `no`, with the first line that is malforme
 or wrong, and what is wrong there.
 
 Ends with status 0 after a yes, 1 after a no, 2 where the command line is refused
-or `--tables` is needed, and 3 where a file can't be read, a line of a table is
+or tables are needed, and 3 where a file can't be read, a line of a table is
 faulty, a write fails or memory is refused.";
+
+/// How `judge` is called.
+pub const JUDGE_USAGE: &str = "bidi judge [OPTIONS] --kind <KIND> <FILE>";
 
 /// What `--kind` says, where it is required.
 pub const KIND_HELP: &str =
-    "The file's form: that of BidiTest.txt, or that of BidiCharacterTest.txt, which needs --tables";
+    "The file's form: that of BidiTest.txt, or that of BidiCharacterTest.txt, which needs --tables or --built-in";
 
 /// What stands at the end of the help of `judge`.
-pub const JUDGE_EXAMPLE: &str =
-    "Example:\n  bidi judge --kind characters --tables ucd BidiCharacterTest.txt";
+pub const JUDGE_EXAMPLE: &str = "Examples:
+  bidi judge --kind characters --built-in BidiCharacterTest.txt
+  bidi judge --kind characters --tables ucd BidiCharacterTest.txt";
 
 /// What `report` prints, and with which status it ends.
 pub const REPORT_LONG_ABOUT: &str =
@@ -174,8 +196,11 @@ With --order or --shown less of each claim is compared, for an engine that says 
 or one that keeps the positions that X9 removes, as the standard allows (UAX #9, 5.2).
 
 Ends with status 0 where no line is malformed and no case wrong, as judge says yes, 1 where
-one is, 2 where the command line is refused or `--tables` is needed, and 3 where a file
+one is, 2 where the command line is refused or tables are needed, and 3 where a file
 can't be read, a line of a table is faulty, a write fails or memory is refused.";
+
+/// How `report` is called.
+pub const REPORT_USAGE: &str = "bidi report [OPTIONS] --kind <KIND> <FILE>";
 
 /// What `--most` says.
 pub const REPORT_MOST_HELP: &str =
@@ -192,7 +217,7 @@ pub const REPORT_SHOWN_HELP: &str =
 pub const REPORT_EXAMPLE: &str = "Examples:
   bidi report --kind classes --most 100 rows.txt
   bidi report --kind classes --shown --order rows.txt
-  bidi report --kind characters --tables ucd BidiCharacterTest.txt";
+  bidi report --kind characters --built-in BidiCharacterTest.txt";
 
 /// What `rows` prints, and with which status it ends.
 pub const ROWS_LONG_ABOUT: &str = "Prints a conformance file, in the form of BidiTest.txt or, with

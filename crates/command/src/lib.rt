@@ -3,8 +3,14 @@
 #![tactic(auto)]
 
 mod arguments;
+mod asked_rows;
 mod command_line;
+mod explaining;
 mod help;
+mod invocation;
 mod refusal;
+mod refusals;
 pub mod run;
+mod subcommands;
+mod values;
 mod words;

@@ -2,13 +2,24 @@
 ghost use Rattle.std.specs.Prelude.{◌≡◌, Some};
 ghost use Rattle.command.specs.Refusals.{no_request_text, usage_without_request, words_without_request};
 
-use crate::help::{BIDI_USAGE, EXPLAIN_USAGE, ROWS_USAGE};
+use crate::help::{BIDI_USAGE, EXPLAIN_USAGE, JUDGE_USAGE, REPORT_USAGE, ROWS_USAGE};
 use clap::Error;
 use std::fmt;
+
+/// The subcommands that take `--built-in` in the place of `--tables`.
+#[derive(Clone, Copy, Debug, PartialEq, Eq)]
+pub enum TableCommand {
+    Explain,
+    Judge,
+    Report,
+    Rows,
+}
 
 /// Why words that `clap` lets pass make no request. Its text is what a user is told.
 #[derive(Clone, Copy, Debug, PartialEq, Eq)]
 pub enum NoRequest {
+    /// This subcommand is given both `--tables` and `--built-in`.
+    TwoTables(TableCommand),
     /// `explain` is given classes, and tables or a text beside them.
     ClassesAndText,
     /// `explain` is given code points, and classes or a text beside them.
@@ -43,8 +54,11 @@ impl NoRequest {
         ensures { result.now ≡ words_without_request self }
     {
         match self {
+            NoRequest::TwoTables(_) => {
+                "the argument '--tables <DIR>' cannot be used with '--built-in'"
+            }
             NoRequest::ClassesAndText => {
-                "the argument '--classes <CLASSES>' cannot be used with '--tables <DIR>' or '<FILE>'"
+                "the argument '--classes <CLASSES>' cannot be used with '--tables <DIR>', '--built-in' or '<FILE>'"
             }
             NoRequest::CodesAndText => {
                 "the argument '--codes <CODES>' cannot be used with '--classes <CLASSES>' or '<FILE>'"
@@ -85,6 +99,10 @@ impl NoRequest {
         ensures { result.now ≡ usage_without_request self }
     {
         match self {
+            NoRequest::TwoTables(TableCommand::Explain) => EXPLAIN_USAGE,
+            NoRequest::TwoTables(TableCommand::Judge) => JUDGE_USAGE,
+            NoRequest::TwoTables(TableCommand::Report) => REPORT_USAGE,
+            NoRequest::TwoTables(TableCommand::Rows) => ROWS_USAGE,
             NoRequest::ClassesAndText | NoRequest::CodesAndText | NoRequest::NoText => {
                 EXPLAIN_USAGE
             }

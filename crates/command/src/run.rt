@@ -8,14 +8,14 @@ ghost use Rattle.requests.specs.FaultText.{EndsBy};
 ghost use Rattle.requests.specs.Outcomes.{EndsWell};
 
 use crate::help::BIDI_VERSION;
+use crate::invocation::Invocation;
 use crate::refusal::{NoRequest, WordsFault};
-use crate::words::request_of;
+use crate::words::invocation_of;
 use clap::Error;
 use clap::error::ErrorKind;
-use requests::fault::Fault;
+use requests::fault::{Detail, Fault};
 use requests::files::Files;
 use requests::outcome::Ended;
-use requests::request::Request;
 use requests::run::run_request;
 use std::alloc::Global;
 use std::io;
@@ -39,14 +39,16 @@ fn print_version<W: Write>(out: &mut W) -> io::Result<()>
 /// Ends a run that was to show help or the version: well if that was written, else by the fault of a write.
 fn end_shown<E: Write>(shown: io::Result<()>, err: &mut E) -> Ended
     ensures well { OnOk shown (EndsWell 0 (E.contents err.old) (E.contents err.new) result) }
-    ensures fault { OnErr shown (EndsBy Fault.CannotWrite (E.contents err.old) (E.contents err.new) result) }
+    ensures fault { OnErr shown
+        (EndsBy Detail.Brief Fault.CannotWrite (E.contents err.old) (E.contents err.new) result) }
 {
     match shown {
         Ok(()) => Ended {
             status: 0,
+            is_written: true,
             is_said: true,
         },
-        Err(_) => Fault::CannotWrite.report(err),
+        Err(_) => Fault::CannotWrite.report(err, Detail::Brief),
     }
 }
 
@@ -58,6 +60,7 @@ fn refuse<E: Write>(refusal: &Error, err: &mut E) -> Ended
     let flushed = err.flush();
     Ended {
         status: 2,
+        is_written: true,
         is_said: written.is_ok() && flushed.is_ok(),
     }
 }
@@ -71,6 +74,7 @@ fn say_no_request<E: Write>(why: NoRequest, err: &mut E) -> Ended
     let flushed = err.flush();
     Ended {
         status: 2,
+        is_written: true,
         is_said: written.is_ok() && flushed.is_ok(),
     }
 }
@@ -82,7 +86,7 @@ fn run_without_request<W: Write, E: Write>(error: &Error, out: &mut W, err: &mut
         (E.contents err.old) (E.contents err.new) error.now result }
 {
     match error.kind() {
-        ErrorKind::OutOfMemory => Fault::OutOfMemory.report(err),
+        ErrorKind::OutOfMemory => Fault::OutOfMemory.report(err, Detail::Brief),
         ErrorKind::DisplayHelp => end_shown(print_help(out, error), err),
         ErrorKind::DisplayVersion => end_shown(print_version(out), err),
         _ => refuse(error, err),
@@ -92,7 +96,7 @@ fn run_without_request<W: Write, E: Write>(error: &Error, out: &mut W, err: &mut
 /// Does what words ask for, as they were read, and answers how the run ends.
 fn run_as_read<F: Files, W: Write, E: Write>(
     alloc: Global,
-    read: Result<Request<'_>, WordsFault>,
+    read: Result<Invocation<'_>, WordsFault>,
     files: &F,
     out: &mut W,
     err: &mut E,
@@ -105,7 +109,10 @@ fn run_as_read<F: Files, W: Write, E: Write>(
     ensures silent { result.status ≤ 1 → E.contents err.new ≡ E.contents err.old }
 {
     match read {
-        Ok(request) => run_request(alloc, request, files, out, err),
+        Ok(invocation) => {
+            let Invocation { request, detail } = invocation;
+            run_request(alloc, request, detail, files, out, err)
+        }
         Err(WordsFault::ByClap(error)) => run_without_request(&error, out, err),
         Err(WordsFault::NoRequest(why)) => say_no_request(why, err),
     }
@@ -116,8 +123,8 @@ fn run_as_read<F: Files, W: Write, E: Write>(
 /// report that is right, help or the version, 1 after a no, or a report that is not right, that was written, 2 where
 /// the words are refused, name no tables though they are needed, name what is no class, no code point or no row or too
 /// much of it, or make no rows, 3 where a file or standard input can't be read, a table, the text or a line up to the
-/// row is faulty, a write fails or memory is refused. After 2 and 3 what says so is written to `err`, and whether it
-/// took that is answered too; after 0 and 1 nothing is written to it.
+/// row is faulty, a write fails or memory is refused. After 2 and 3 what says so is written to `err`, with the reason if
+/// the words ask for it, and whether it took that is returned too; after 0 and 1 nothing is written to it.
 pub fn run<F: Files, W: Write, E: Write>(
     alloc: Global,
     words: &[&str],
@@ -127,7 +134,7 @@ pub fn run<F: Files, W: Write, E: Write>(
 ) -> Ended
     ensures status { result.status ≤ 3 }
 
-    // The status is that of what the words, as they were read, came to, and what `err` grew by is the fault's line.
+    // The status is that of what the words, as they were read, came to, and what `err` grew by reports the fault.
     ensures outcome { HasRun (F.facts files.now) (W.contents out.old) (W.contents out.new)
         (E.contents err.old) (E.contents err.new) (texts words.now) result }
 
@@ -137,5 +144,5 @@ pub fn run<F: Files, W: Write, E: Write>(
         → HasSaidNo (F.facts files.now) (W.contents out.old) (W.contents out.new) (texts words.now) }
     ensures silent { result.status ≤ 1 → E.contents err.new ≡ E.contents err.old }
 {
-    run_as_read(alloc, request_of(alloc, words), files, out, err)
+    run_as_read(alloc, invocation_of(alloc, words), files, out, err)
 }

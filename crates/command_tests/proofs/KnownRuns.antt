@@ -30,8 +30,8 @@ use Rattle.bidtests.specs.declared.kind.Kind.TheVariants as rows_of
 use Rattle.bidtests.specs.declared.verdict.Verdict.TheVariants.{Yes}
 use Rattle.rule_columns.specs.Columns.{columns_of}
 use Rattle.rule_columns.specs.Passes.{rewritten, implicit_of, closers_of}
-use Rattle.explain_row.specs.RowTexts.{row_text}
-use Rattle.explain_row.specs.SoughtRows.{RowView, sought_row}
+use Rattle.explain.specs.RowTexts.{row_text}
+use Rattle.explain.specs.SoughtRows.{RowView, sought_row}
 use Rattle.requests.specs.ItemWords.{classes_named}
 use Rattle.command_tests.specs.KnownRuns.{alef_line, neutral_explained, neutral_row_explained}
 use Rattle.requests.specs.RowsExplained.{HasAtLine}
@@ -202,12 +202,13 @@ character_verdict tables h =
     ap (verdict_on standard) (character_findings (unit_by tables))
     ∙ ap (λ (unit : BidiUnit). verdict_on standard (Row (alef_claim unit) ∷ [])) (alef_is character_bytes tables h) ∙ claim_row
 
-pub line_of_characters_verdict : (before after : Option (List ℕ)) (status : ℕ)
-    → HasJudged (memory_facts character_files) (IsCharactersVerdict (memory_facts character_files) (codes "t")) (codes "FILE") before after status
+pub line_of_characters_verdict : (folder : Bor (List ℕ)) (before after : Option (List ℕ)) (status : ℕ) → folder.now ≡ codes "t"
+    → HasJudged (memory_facts character_files) (IsCharactersVerdict (memory_facts character_files) (Folder folder)) (codes "FILE") before after status
     → Appends before after (codes "yes: 1 rows, 1 cases\n")
-line_of_characters_verdict before after status h =
+line_of_characters_verdict folder before after status f h =
     let tables = h.is.0 in
-    let verdict : h.verdict ≡ Yes 1 1 = h.is.2 ∙ ap (characters_verdict standard (unit_by tables)) h.read.0 ∙ character_verdict tables h.is.1 in
+    let stated = subst (λ (name : List ℕ). AreTables (memory_facts character_files) name tables) f h.is.1 in
+    let verdict : h.verdict ≡ Yes 1 1 = h.is.2 ∙ ap (characters_verdict standard (unit_by tables)) h.read.0 ∙ character_verdict tables stated in
     subst (λ (bytes : List ℕ). Appends before after bytes) (ap verdict_text verdict ∙ text_row) h.said.line
 
 -- a standard input of one row, of a neutral
@@ -287,11 +288,11 @@ row_done files line file before after Printed e n g h =
     row_of_neutral line.value h.row before after n (rw (e, g) at found) h.said
 
 pub characters_verdict_done : (files : Stored) (folder file : Bor (List ℕ)) (before after : Option (List ℕ)) (outcome : Outcome) → files ≡ character_files
-    → folder.now ≡ codes "t" → file.now ≡ codes "FILE" → IsDone (memory_facts files) before after (Judge Characters (Some folder) file) outcome
+    → folder.now ≡ codes "t" → file.now ≡ codes "FILE" → IsDone (memory_facts files) before after (Judge Characters (Some (Folder folder)) file) outcome
     → Appends before after (codes "yes: 1 rows, 1 cases\n")
 characters_verdict_done files folder file before after Printed e f g h = absurd h
 characters_verdict_done files folder file before after (Judged status) e f g h =
-    line_of_characters_verdict before after status (rw (e, f, g) at h)
+    line_of_characters_verdict folder before after status f (rw (e, g) at h)
 
 -- of a result that is one
 pub when_ok : (r : Result Outcome Fault) (P : Outcome → Type 0) (Q : Type 0) → is_ok r ≡ true → IfOk r P → ((o : Outcome) → P o → Q) → Q

@@ -60,7 +60,7 @@ fn prints_what_ended_before_a_read_that_passes_the_limit(rt: HostRuntime) -> Res
     let [classes, brackets, mirrors, _] = tables_and(b"");
     let files = [classes, brackets, mirrors, cut("FILE", &text, 4096)];
     for (words, printed) in ROWS {
-        let ending = breaks_off(printed, b"bidi: cannot read FILE: too large\n");
+        let ending = breaks_off(printed, b"bidi: cannot read FILE\n");
         assert_run(&rt, alloc, words, &files, ending);
     }
     Ok(())

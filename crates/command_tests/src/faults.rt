@@ -63,11 +63,11 @@ fn says_that_a_write_of_a_row_failed(rt: HostRuntime) {
     }
 }
 
-/// How a run ends whose standard error takes five bytes.
-fn end_without_a_line(alloc: Global, words: &[&str]) -> Ended {
+/// How a run ends whose standard error takes so many bytes and fails in its flush.
+fn end_without_a_line(alloc: Global, words: &[&str], left: usize) -> Ended {
     let mut out = FixedWriter::new();
     let mut err = ShortWriter {
-        left: 5,
+        left,
         flushes: false,
     };
     run(alloc, words, &MemoryFiles::new(&[]), &mut out, &mut err)
@@ -99,9 +99,16 @@ fn keeps_the_status_where_the_fault_line_is_not_taken(rt: HostRuntime) {
     for (words, status) in rows {
         let unsaid = Ended {
             status,
+            is_written: true,
             is_said: false,
         };
-        assert_eq!(rt; end_without_a_line(rt.alloc(), words), unsaid, "{words:?}");
+        for left in [5, 1000] {
+            assert_eq!(rt;
+                end_without_a_line(rt.alloc(), words, left),
+                unsaid,
+                "{words:?}"
+            );
+        }
     }
 }
 

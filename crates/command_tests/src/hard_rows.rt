@@ -137,7 +137,7 @@ fn refuses_what_makes_no_hard_rows(rt: HostRuntime) {
         &[],
         brackets,
     );
-    let missing = Ending::fails(3, b"bidi: cannot read DerivedBidiClass.txt: no such file\n");
+    let missing = Ending::fails(3, b"bidi: cannot read DerivedBidiClass.txt\n");
     assert_run(
         &rt,
         rt.alloc(),

@@ -114,7 +114,7 @@ fn judge_a_right_row_of_characters(
     ];
     let request = Request::Judge {
         kind: FileKind::Characters,
-        tables: Some(tables),
+        tables: Some(TableSource::Folder(tables)),
         file,
     };
     perform(alloc, request, &MemoryFiles::new(&files), out).is_ok()

@@ -19,6 +19,8 @@ mod extracted;
 #[cfg(test)]
 mod failing_files;
 #[cfg(test)]
+mod fault_order;
+#[cfg(test)]
 mod faults;
 #[cfg(test)]
 mod file_faults;
@@ -39,6 +41,8 @@ mod memory_files;
 #[cfg(test)]
 mod opened;
 #[cfg(test)]
+mod reasons;
+#[cfg(test)]
 mod recording_files;
 #[cfg(test)]
 mod reorder;
@@ -48,6 +52,8 @@ mod reports;
 mod row_explaining;
 #[cfg(test)]
 mod runs;
+#[cfg(test)]
+mod sizes;
 #[cfg(test)]
 mod table_faults;
 #[cfg(test)]

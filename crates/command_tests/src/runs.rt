@@ -76,6 +76,7 @@ fn assert_written(rt: &impl Abort, words: &[&str], written: &[u8], text: Text<'_
 /// Compares what a run with these words answered and wrote.
 fn assert_ends(rt: &impl Abort, words: &[&str], outcome: &Outcome, ending: Ending<'_>) {
     assert_eq!(rt; outcome.ended.status, ending.status, "{words:?}");
+    assert!(rt; outcome.ended.is_written, "{words:?}");
     assert!(rt; outcome.ended.is_said, "{words:?}");
     assert_written(rt, words, outcome.out.written(), ending.out);
     assert_written(rt, words, outcome.err.written(), ending.err);

@@ -58,7 +58,7 @@ const FAULTY_TABLES: [([&'static [u8]; 3], &'static [u8]); 10] = [
         [b"", b"", b"0028"],
         b"bidi: BidiMirroring.txt: line 1: Fields\n",
     ),
-    ([b"", b"", b""], b"bidi: cannot read FILE: no such file\n"),
+    ([b"", b"", b""], b"bidi: cannot read FILE\n"),
 ];
 
 #[test]
@@ -86,7 +86,7 @@ fn says_the_first_table_that_is_not_read(rt: HostRuntime) {
                 whole(NAMES[1], b"x"),
                 whole(NAMES[2], b"x"),
             ],
-            b"bidi: cannot read DerivedBidiClass.txt: no such file\n",
+            b"bidi: cannot read DerivedBidiClass.txt\n",
         ),
         (
             [
@@ -94,7 +94,7 @@ fn says_the_first_table_that_is_not_read(rt: HostRuntime) {
                 whole(NAMES[1], b"x"),
                 whole(NAMES[2], b""),
             ],
-            b"bidi: cannot read DerivedBidiClass.txt: too large\n",
+            b"bidi: cannot read DerivedBidiClass.txt\n",
         ),
         (
             [
@@ -102,7 +102,7 @@ fn says_the_first_table_that_is_not_read(rt: HostRuntime) {
                 whole(NAMES[2], b"x"),
                 whole("FILE", b""),
             ],
-            b"bidi: cannot read BidiBrackets.txt: no such file\n",
+            b"bidi: cannot read BidiBrackets.txt\n",
         ),
         (
             [
@@ -110,7 +110,7 @@ fn says_the_first_table_that_is_not_read(rt: HostRuntime) {
                 whole(NAMES[1], b""),
                 cut(NAMES[2], b"x", 0),
             ],
-            b"bidi: cannot read BidiMirroring.txt: too large\n",
+            b"bidi: cannot read BidiMirroring.txt\n",
         ),
     ];
     for (files, line) in rows {

@@ -24,7 +24,7 @@ const COMMANDS: [&[&str]; 5] = [
 
 #[test]
 fn says_that_a_file_was_not_read_to_its_end(rt: HostRuntime) {
-    let unread = Ending::fails(3, b"bidi: cannot read FILE: too large\n");
+    let unread = Ending::fails(3, b"bidi: cannot read FILE\n");
     for readable in 0..28 {
         let [classes, brackets, mirrors, _] = tables_and(b"");
         let files = [classes, brackets, mirrors, cut("FILE", BYTES, readable)];

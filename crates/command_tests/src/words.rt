@@ -1,7 +1,7 @@
 //! Words that are refused, help and the version.
 use crate::runs::{Ending, Text, assert_run};
 
-const REFUSED_LINES: [&'static [&'static str]; 37] = [
+const REFUSED_LINES: [&'static [&'static str]; 41] = [
     &[],
     &["bidi"],
     &["bidi", "other"],
@@ -9,6 +9,8 @@ const REFUSED_LINES: [&'static [&'static str]; 37] = [
     &["bidi", "levels", "--tables", "t"],
     &["bidi", "levels", "--tables", "", "FILE"],
     &["bidi", "levels", "--tables=", "FILE"],
+    &["bidi", "levels", "--built-in", "FILE"],
+    &["bidi", "reorder", "--built-in", "FILE"],
     &[
         "bidi",
         "levels",
@@ -38,6 +40,7 @@ const REFUSED_LINES: [&'static [&'static str]; 37] = [
     &["bidi", "explain", "--classes", "R", "FILE"],
     &["bidi", "explain", "--classes", "R", "--tables", "t"],
     &["bidi", "explain", "--classes", "R", "--tables", "t", "FILE"],
+    &["bidi", "explain", "--classes", "R", "--built-in"],
     &["bidi", "explain", "--classes", "R", "--classes", "R"],
     &["bidi", "explain", "--codes"],
     &["bidi", "explain", "--codes", "05D0", "FILE"],
@@ -62,6 +65,14 @@ const REFUSED_LINES: [&'static [&'static str]; 37] = [
         "bidi", "judge", "--kind", "classes", "--kind", "classes", "FILE",
     ],
     &["bidi", "judge", "--kind", "classes", "FILE", "FILE"],
+    &[
+        "bidi",
+        "judge",
+        "--kind",
+        "characters",
+        "--built-in=true",
+        "FILE",
+    ],
     &["bidi", "rows", "--form", "exhaustive", "--length", "1"],
     &["bidi", "rows", "--alphabet", "L", "--length", "1"],
     &[
@@ -120,13 +131,18 @@ fn says_what_is_refused(rt: HostRuntime) {
 #[test]
 fn says_why_nothing_is_explained(rt: HostRuntime) {
     let classes: &[u8] =
-        b"error: the argument '--classes <CLASSES>' cannot be used with '--tables <DIR>' or '<FILE>'\n\nUsage: bidi explain [OPTIONS] <FILE>\n       bidi explain [OPTIONS] --codes <CODES>\n       bidi explain [OPTIONS] --classes <CLASSES>\n       bidi explain [OPTIONS] --row <LINE> --kind <KIND> <FILE>\n\nFor more information, try '--help'.\n";
+        b"error: the argument '--classes <CLASSES>' cannot be used with '--tables <DIR>', '--built-in' or '<FILE>'\n\nUsage: bidi explain [OPTIONS] <FILE>\n       bidi explain [OPTIONS] --codes <CODES>\n       bidi explain [OPTIONS] --classes <CLASSES>\n       bidi explain [OPTIONS] --row <LINE> --kind <KIND> <FILE>\n\nFor more information, try '--help'.\n";
     let codes: &[u8] =
         b"error: the argument '--codes <CODES>' cannot be used with '--classes <CLASSES>' or '<FILE>'\n\nUsage: bidi explain [OPTIONS] <FILE>\n       bidi explain [OPTIONS] --codes <CODES>\n       bidi explain [OPTIONS] --classes <CLASSES>\n       bidi explain [OPTIONS] --row <LINE> --kind <KIND> <FILE>\n\nFor more information, try '--help'.\n";
     let none: &[u8] =
         b"error: '<FILE>' is required, or '--codes <CODES>', or '--classes <CLASSES>'\n\nUsage: bidi explain [OPTIONS] <FILE>\n       bidi explain [OPTIONS] --codes <CODES>\n       bidi explain [OPTIONS] --classes <CLASSES>\n       bidi explain [OPTIONS] --row <LINE> --kind <KIND> <FILE>\n\nFor more information, try '--help'.\n";
-    let rows: [(&[&str], &[u8]); 6] = [
+    let rows: [(&[&str], &[u8]); 8] = [
         (&["bidi", "explain", "--tables", "t"], none),
+        (&["bidi", "explain", "--built-in"], none),
+        (
+            &["bidi", "explain", "--built-in", "--classes", "R"],
+            classes,
+        ),
         (&["bidi", "explain", "--classes", "R", "FILE"], classes),
         (
             &["bidi", "explain", "--classes", "R", "--tables", "t"],
@@ -236,7 +252,7 @@ fn prints_help(rt: HostRuntime) {
 #[test]
 fn prints_the_version(rt: HostRuntime) {
     let version =
-        b"bidi 1.0.0 (rules P1 to L2 and L4 of UAX #9, Unicode 15.0)\ntables of Unicode 15.0.0 built in\nproved with rattle-kit-13f logic dac8208d650f15bf\n";
+        b"bidi 1.1.0 (rules P1 to L2 and L4 of UAX #9, Unicode 17.0)\ntables of Unicode 17.0.0 built in\nproved with rattle-kit-13f logic dac8208d650f15bf\n";
     for word in ["--version", "-V"] {
         assert_run(
             &rt,

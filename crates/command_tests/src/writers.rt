@@ -1,4 +1,4 @@
-//! Writers in memory: one that fails behind some bytes, and one that holds what is written.
+//! Writers in memory: one that fails after some bytes, one that fails at once, and one that holds what is written.
 use std::io::{self, Write};
 
 /// Takes so many bytes and then fails; a flush fails where it is said so.
@@ -24,6 +24,22 @@ impl Write for ShortWriter {
         } else {
             Err(io::Error::from(io::ErrorKind::StorageFull))
         }
+    }
+}
+
+/// Takes nothing: each write and each flush fails by an error of this kind.
+#[derive(Drop)]
+pub struct RefusingWriter {
+    pub kind: io::ErrorKind,
+}
+
+impl Write for RefusingWriter {
+    fn write(&mut self, _buf: &[u8]) -> io::Result<usize> {
+        Err(io::Error::from(self.kind))
+    }
+
+    fn flush(&mut self) -> io::Result<()> {
+        Err(io::Error::from(self.kind))
     }
 }
 

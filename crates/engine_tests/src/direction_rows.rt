@@ -4,9 +4,9 @@ ghost use Rattle.std.specs.Prelude.{◌≡◌, ◌<◌, ◌≤◌, length};
 ghost use Rattle.explicit.specs.IsolateMaps.{room};
 
 use crate::given::units_of;
-use directions::base::base_level;
-use directions::scan::is_left_to_right;
 use explicit::isolates::IsolateMap;
+use room::base::base_level;
+use room::scan::is_left_to_right;
 use std::alloc::Global;
 use std::marker::Brand;
 use std::process::Abort;

@@ -8,6 +8,9 @@ use Rattle.units.specs.Paragraphs.{IsCut, SeparatorOnlyLast, joined, paragraphs_
 use Rattle.units.specs.declared.bracket.Unit.{Unit as BidiUnit}
 use Rattle.explicit.proofs.LevelsFound.OneCutting.{IsCut-paragraphs_of, joined-paragraphs_of}
 use Rattle.printing.specs.LevelsText.{printed}
+use Rattle.printing.specs.Fronts.{AppendsFront, FaultLeavesFront}
+use Rattle.printing.specs.declared.fault.PrintFault.{PrintFault}
+use Rattle.printing.proofs.Fronts.{fault_along, front_of_printed, front_to}
 use Rattle.printing.proofs.Printing.{HasPrinted, nothing_printed, one_more_printed}
 use Rattle.units.specs.declared.level.Direction.{Direction}
 use Rattle.rule_columns.specs.Columns.{columns_of}
@@ -87,6 +90,17 @@ module _ (text : ℕ → List ℕ) (units : List BidiUnit) where
         cut = next.others_cut;
         begins = next.ends;
       }
+
+  -- a fault in the next paragraph
+  pub breaks_off : (f : PrintFault) (a b c : Option (List ℕ)) (rest others : List (List BidiUnit))
+      (para : List BidiUnit) (k start : ℕ) (written : List ℕ) → rest ≡ para ∷ others
+      → HasExplained a b text units rest k start → written ≡ text k → FaultLeavesFront written b c f
+      → FaultLeavesFront (printed text 0 (length (paragraphs_of units))) a c f
+  breaks_off f a b c rest others para k start written e h same =
+      let next = next_paragraph a b rest others para k start e h in
+      let whole = λ (v : AppendsFront written b c).
+      front_of_printed text 0 k _ a b c (omega arith) next.inside h.grown (front_to _ _ b c same v) in
+      fault_along f _ _ b c a c whole
 
   pub all_explained : (a b : Option (List ℕ)) (rest : List (List BidiUnit)) (k start : ℕ) → rest ≡ []
       → HasExplained a b text units rest k start → Appends a b (printed text 0 (length (paragraphs_of units)))

@@ -1,3 +1,5 @@
 pub mod Explaining
 pub mod Finished
 pub mod SamePosition
+pub mod RowLines
+pub mod SearchedBytes

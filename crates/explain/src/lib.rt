@@ -1,10 +1,22 @@
 //! What the algorithm does with a text, rule by rule: the text that shows the columns that the rules leave.
+//!
+//! `print` explains a text, or a row of classes. `row_print` explains a row of a test file: for each direction that the
+//! row names, what each rule does to its text, and the expected results beside those that are defined. `find` looks for
+//! the row by the number of its line, as a report prints it. It reads lines by the grammar of the judge, one at a time,
+//! up to that one.
 #![tactic(auto)]
 
 mod cell;
+mod characters;
 mod code;
+pub mod find;
 mod foot;
+pub mod found_row;
 mod heading;
 mod paragraph_text;
 mod position;
 pub mod print;
+pub mod row_fault;
+pub mod row_print;
+mod row_reader;
+mod search;

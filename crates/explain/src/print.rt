@@ -1,9 +1,10 @@
 //! What `explain` prints of a text, or of a row of classes.
-ghost use Rattle.std.specs.Prelude.{◌≡◌, ◌≤◌, length, map, Err, IfOk, IsOk, OnErr, OnOk};
+ghost use Rattle.std.specs.Prelude.{◌≡◌, ◌≤◌, length, map, Err, IfErr, IfOk, IsOk, OnErr, OnOk};
 ghost use Rattle.std.specs.Io.KnownBytes.{Appends};
 ghost use Rattle.units.specs.Layout.{longest_text};
 ghost use Rattle.units.specs.Paragraphs.{SeparatorOnlyLast};
 ghost use Rattle.ucdfiles.specs.Tables.{units_by};
+ghost use Rattle.printing.specs.Fronts.{FaultLeavesFront};
 ghost use Rattle.explain.specs.Explained.{explained, explained_classes, explained_from, explained_units, plain_unit};
 
 use crate::paragraph_text::print_paragraph;
@@ -65,8 +66,10 @@ fn explain_paragraph<W: Write>(
     requires separators { SeparatorOnlyLast para.now }
     requires start { start ≤ longest_text }
     requires small { length para.now ≤ longest_text }
-    ensures { OnOk result (Appends (W.contents w.old) (W.contents w.new)
+    ensures text { OnOk result (Appends (W.contents w.old) (W.contents w.new)
         (explained_from chars.now para.now direction start number)) }
+    ensures fault { IfErr result (FaultLeavesFront
+        (explained_from chars.now para.now direction start number) (W.contents w.old) (W.contents w.new)) }
 {
     let columns = columns_of(alloc, para, direction)?;
     written(print_paragraph(w, chars, para, &columns, direction, start, number))
@@ -82,8 +85,10 @@ pub fn print_units<W: Write>(
     direction: Direction,
 ) -> Result<(), PrintFault>
     requires { length text.now ≤ longest_text }
-    ensures { OnOk result (Appends (W.contents w.old) (W.contents w.new)
+    ensures text { OnOk result (Appends (W.contents w.old) (W.contents w.new)
         (explained_units chars.now text.now direction)) }
+    ensures fault { IfErr result (FaultLeavesFront
+        (explained_units chars.now text.now direction) (W.contents w.old) (W.contents w.new)) }
 {
     let mut start = 0;
     for (number, para) in paragraphs(text).enumerate() {
@@ -106,8 +111,8 @@ pub fn print_units<W: Write>(
 /// positions, the bracket pairs (BD16) in the order of their openers, and the remaining positions from left to right
 /// (L2).
 ///
-/// The text may have 16,777,216 characters. The fault is `Write` where the writer fails, when it is not known how much
-/// it took, and `Memory` where memory is refused.
+/// The text may have 16,777,216 characters. The fault is `Write` if the writer fails, when it is not known how much it
+/// took, and `Memory` if memory is refused. Then what is written is a front of that text, or nothing.
 pub fn print_explained<W: Write>(
     alloc: Global,
     w: &mut W,
@@ -116,8 +121,10 @@ pub fn print_explained<W: Write>(
     direction: Direction,
 ) -> Result<(), PrintFault>
     requires { length text.now ≤ longest_text }
-    ensures { OnOk result (Appends (W.contents w.old) (W.contents w.new)
+    ensures text { OnOk result (Appends (W.contents w.old) (W.contents w.new)
         (explained tables.now text.now direction)) }
+    ensures fault { IfErr result (FaultLeavesFront
+        (explained tables.now text.now direction) (W.contents w.old) (W.contents w.new)) }
 {
     let units = text_units(alloc, tables, text)?;
     print_units(alloc, w, text, &units, direction)
@@ -132,8 +139,10 @@ pub fn print_explained_classes<W: Write>(
     direction: Direction,
 ) -> Result<(), PrintFault>
     requires { length classes.now ≤ longest_text }
-    ensures { OnOk result (Appends (W.contents w.old) (W.contents w.new)
+    ensures text { OnOk result (Appends (W.contents w.old) (W.contents w.new)
         (explained_classes classes.now direction)) }
+    ensures fault { IfErr result (FaultLeavesFront
+        (explained_classes classes.now direction) (W.contents w.old) (W.contents w.new)) }
 {
     let units = plain_units(alloc, classes)?;
     print_units(alloc, w, &[], &units, direction)

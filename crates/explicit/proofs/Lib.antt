@@ -2,3 +2,14 @@ pub mod Matched
 pub mod Holders
 pub mod StrongSides
 pub mod LevelsFound
+pub mod Listed
+pub mod Searches
+pub mod FlatClasses
+pub mod FlatParagraph
+pub mod OneSequence
+pub mod WholeLevels
+pub mod IdleRules
+pub mod Unbracketed
+pub mod ByRules
+pub mod Staying
+pub mod LeftOut

@@ -13,3 +13,7 @@ pub mod Laws
 pub mod WantedLevels
 pub mod IsolateNesting
 pub mod Leveled
+pub mod Flat
+pub mod IdleRules
+pub mod Uniform
+pub mod FlatLaws

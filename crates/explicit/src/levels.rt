@@ -11,7 +11,8 @@ ghost use Rattle.explicit.specs.Stretches.{IsStretch, with_leveled};
 
 use crate::isolates::IsolateMap;
 use crate::leveled_class::LeveledClass;
-use crate::status::{Status, StatusStack, is_ordinary};
+use crate::roles::is_ordinary;
+use crate::status::{Status, StatusStack};
 use std::alloc::Global;
 use std::boxed::BoxedSlice;
 use std::marker::Model;

@@ -5,11 +5,13 @@ ghost use Rattle.std.specs.Prelude.{◌≡◌, ◌≤◌, length};
 ghost use Rattle.units.specs.Paragraphs.{paragraphs_of};
 
 pub mod cutting;
+pub mod flat_laws;
 pub mod isolates;
 pub mod laws;
 pub mod leveled_class;
 pub mod levels;
 pub mod para_level;
+mod roles;
 pub mod side;
 mod status;
 

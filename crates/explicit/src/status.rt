@@ -1,15 +1,14 @@
 //! The initiators that are open, as one pass over a paragraph keeps them (X1 to X8).
-ghost use Rattle.std.specs.Prelude.{◌≡◌, ◌<◌, ◌≤◌, ◌+◌, ◌-◌, ◌==◌, ◌&&◌, true, ℕ, List, [], Some, slice_index_or, if◌then◌else◌};
+ghost use Rattle.std.specs.Prelude.{◌≡◌, ◌<◌, ◌≤◌, ◌+◌, ◌-◌, ◌==◌, ◌&&◌, true, false, ℕ, List, [], Some, None, slice_index_or};
 ghost use Rattle.units.specs.Classes.{is_isolate_initiator};
-ghost use Rattle.units.specs.Explicit.{next_odd, next_even, override_of};
 ghost use Rattle.units.specs.declared.class.Class.{Class};
 ghost use Rattle.explicit.specs.OpenInitiators.{after_pdi, after_pdf};
-ghost use Rattle.explicit.specs.StatusStacks.{Represents, IsReachedStack, before_isolate, entry_count, is_ordinary};
+ghost use Rattle.explicit.specs.StatusStacks.{Represents, IsReachedStack, before_isolate, entry_count};
 ghost use Rattle.explicit.specs.StackChanges.{Closes, Opens, OpensAsking, Passes, TakesInitiator, RefusesInitiator, IsInnermost, GivesLeveledInside};
 ghost use Rattle.explicit.specs.Stretches.{leveled_by_status};
-ghost use Rattle.explicit.specs.WantedLevels.{IsOddWanted};
 
 use crate::leveled_class::LeveledClass;
+use crate::roles::{asks_odd, overridden_by, rise};
 use arrayvec::ArrayVec;
 use std::sync::ledger::Ledger;
 use units::class::Class;
@@ -34,7 +33,10 @@ impl Status {
     }
 }
 
+// X1: what holds in a paragraph of level 0 before any initiator.
 impl Default for Status {
+    ghost is_default = { λ status. status ≡ record { level = 0; override_class = None; is_isolate = false } };
+
     fn default() -> Self {
         Status {
             level: ParaLevel::Zero.level(),
@@ -54,61 +56,6 @@ pub struct StatusStack {
     overflow_isolates: usize,
     overflow_embeddings: usize,
     valid_isolates: usize,
-}
-
-/// X6: a class that neither begins nor ends anything, and isn't removed.
-pub fn is_ordinary(class: Class) -> bool
-    ensures { result ≡ is_ordinary class }
-{
-    matches!(
-        class,
-        Class::L
-            | Class::R
-            | Class::AL
-            | Class::EN
-            | Class::ES
-            | Class::ET
-            | Class::AN
-            | Class::CS
-            | Class::NSM
-            | Class::S
-            | Class::WS
-            | Class::ON
-    )
-}
-
-// X2 to X5c: how far the least odd or the least even level above this one is.
-fn rise(level: Level, odd: bool) -> u8
-    ensures value { level + result ≡ (if odd then next_odd level else next_even level) }
-    ensures small { result ≤ 2 }
-{
-    if odd {
-        1 + level.get() % 2
-    } else {
-        2 - level.get() % 2
-    }
-}
-
-// X2, X4, X5a, X5c: whether an initiator asks for an odd level; an FSI does where what it holds begins right to left.
-fn asks_odd(class: Class, right_to_left: bool) -> bool
-    ensures { IsOddWanted class right_to_left result }
-{
-    match class {
-        Class::RLE | Class::RLO | Class::RLI => true,
-        Class::FSI => right_to_left,
-        _ => false,
-    }
-}
-
-// X4, X5: the class that an initiator gives to what it holds.
-fn overridden_by(class: Class) -> Option<Class>
-    ensures { result ≡ override_of class }
-{
-    match class {
-        Class::RLO => Some(Class::R),
-        Class::LRO => Some(Class::L),
-        _ => None,
-    }
 }
 
 impl StatusStack {

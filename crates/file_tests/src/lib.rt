@@ -1,5 +1,5 @@
-//! Tests of test files of both kinds and their judges, and of sources of bytes. They stand here, and not beside what
-//! they test, so that no crate is proved a second time with its tests.
+//! Tests of test files of both kinds, their judges and reports, and of sources of bytes. They stand here, and not beside
+//! what they test, so that no crate is proved a second time with its tests.
 #![tactic(auto)]
 
 #[cfg(test)]
@@ -16,6 +16,8 @@ mod judging;
 mod limit_rows;
 #[cfg(test)]
 mod reading;
+#[cfg(test)]
+mod report_faults;
 #[cfg(test)]
 mod sources;
 #[cfg(test)]

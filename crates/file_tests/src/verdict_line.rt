@@ -1,6 +1,8 @@
 //! The line that is printed of a verdict.
 use bidtests::verdict::{Cause, Place, Verdict};
 use bidtests::verdict_line::print_verdict;
+use std::alloc::Global;
+use std::process::Abort;
 use units::level::Direction;
 
 /// Verdicts and their lines.
@@ -44,6 +46,46 @@ fn prints_each_form_of_verdict(rt: HostRuntime) {
         let answer = print_verdict(&mut out, &verdict);
         assert!(rt; answer.is_ok());
         assert_eq!(rt; out.as_slice(), line);
+    }
+}
+
+/// Numbers of rows and of lines, and where a place is.
+const NUMBERS: [u64; 13] = [
+    255,
+    256,
+    257,
+    65_535,
+    65_536,
+    65_537,
+    1_048_575,
+    1_048_576,
+    1_048_577,
+    4_294_967_295,
+    4_294_967_296,
+    4_294_967_297,
+    18_446_744_073_709_551_615,
+];
+
+/// Expects that the line of a verdict is written.
+fn is_printed(rt: &impl Abort, alloc: Global, verdict: Verdict) {
+    let mut out = Vec::new(alloc);
+    assert!(rt; print_verdict(&mut out, &verdict).is_ok(), "{verdict:?}");
+}
+
+#[test]
+fn prints_verdicts_of_any_numbers(rt: HostRuntime) {
+    let alloc = rt.alloc();
+    let cause = Cause::BitSet;
+    let direction = Direction::Rtl;
+    for n in NUMBERS {
+        is_printed(&rt, alloc, Verdict::Yes { rows: n, cases: n });
+        is_printed(&rt, alloc, Verdict::Malformed { line: n, cause });
+        let wrong = Verdict::Wrong {
+            line: n,
+            direction,
+            place: Place::Levels(n as usize),
+        };
+        is_printed(&rt, alloc, wrong);
     }
 }
 

@@ -1,11 +1,14 @@
 //! Small texts at which engines have gone wrong and which no line of BidiCharacterTest.txt holds, each with the rule
 //! that it shows, by the tables that are built in.
 use crate::given::{levels, numbers, shows_in_room, units_by};
+use lines::breaks::Breaks;
+use lines::lay_out::lay_out_into;
+use lines::scratch::Scratch;
 use std::alloc::Global;
 use std::process::Abort;
 use std::test::Fail;
 use ucdfiles::tables::Tables;
-use units::level::Direction;
+use units::level::{Direction, Level};
 
 /// A text, its direction, its levels, with `x` where it has none, and its order.
 #[derive(Clone, Copy)]
@@ -16,7 +19,7 @@ struct Row {
     order: &'static str,
 }
 
-const ROWS: [Row; 17] = [
+const ROWS: [Row; 28] = [
     // I1: a number alone has level 2 on a line at level 0
     Row {
         text: "\u{661}",
@@ -136,6 +139,136 @@ const ROWS: [Row; 17] = [
         levels: "x x 4 x 2 2 x 3",
         order: "2 4 5 7",
     },
+    // BD14: a closing bracket that an override has made R closes no pair
+    Row {
+        text: "\u{202B}a(a\u{202C}\u{202E})",
+        direction: Direction::Rtl,
+        levels: "x 4 4 4 x x 3",
+        order: "6 1 2 3",
+    },
+    // BD14: an opening bracket that an override has made L opens no pair
+    Row {
+        text: "\u{202D}\u{298D}\u{202C}\u{202A}\u{5D0}\u{2990}\u{5D0}",
+        direction: Direction::Ltr,
+        levels: "x 2 x x 3 3 3",
+        order: "1 6 5 4",
+    },
+    // N0 c: the context of a pair is the last strong class before it in its sequence, also across an isolate
+    Row {
+        text: "1a\u{2067}&\u{2069}(a)",
+        direction: Direction::Rtl,
+        levels: "2 2 2 3 2 2 2 2",
+        order: "0 1 2 3 4 5 6 7",
+    },
+    // N0 c: the context of a sequence's first pair is its sos, and no character of another sequence
+    Row {
+        text: "a\u{202B}(a)",
+        direction: Direction::Ltr,
+        levels: "0 x 1 2 1",
+        order: "0 4 3 2",
+    },
+    // X10: after an isolate initiator without a PDI, eos is of the paragraph's level, also before what X9 removes
+    Row {
+        text: "a\u{2066}\u{202D}a",
+        direction: Direction::Rtl,
+        levels: "2 1 x 4",
+        order: "3 1 0",
+    },
+    // W1 before W5: a mark after a terminator is one too
+    Row {
+        text: "%\u{300}1",
+        direction: Direction::Rtl,
+        levels: "2 2 2",
+        order: "0 1 2",
+    },
+    // BD1: unassigned code points have a default class by ranges, here R
+    Row {
+        text: "\u{1E960}",
+        direction: Direction::Ltr,
+        levels: "1",
+        order: "0",
+    },
+    // X9: noncharacters have the class BN, so they are removed
+    Row {
+        text: "\u{5D0}\u{FDD0}\u{5D0}",
+        direction: Direction::Ltr,
+        levels: "1 x 1",
+        order: "2 0",
+    },
+    // BD8: an initiator alone is at the level of its paragraph
+    Row {
+        text: "\u{2066}",
+        direction: Direction::Ltr,
+        levels: "0",
+        order: "0",
+    },
+    // L1: a PDI that an override has made a letter is reset at the end of its line
+    Row {
+        text: "\u{202D}\u{2069}",
+        direction: Direction::Ltr,
+        levels: "x 0",
+        order: "1",
+    },
+    // BD1: an unassigned code point outside of all ranges has the class L
+    Row {
+        text: "\u{378}",
+        direction: Direction::Ltr,
+        levels: "0",
+        order: "0",
+    },
+];
+
+/// A text on two lines, the position at which the second one begins, the levels, and the order of each line.
+#[derive(Clone, Copy)]
+struct LineRow {
+    text: &'static str,
+    direction: Direction,
+    second: usize,
+    levels: &'static str,
+    orders: [&'static str; 2],
+}
+
+const LINE_ROWS: [LineRow; 5] = [
+    // L1: an isolate formatting character at a line's end takes the paragraph's level
+    LineRow {
+        text: "\u{627}\u{2069}\u{5D0}",
+        direction: Direction::Ltr,
+        second: 2,
+        levels: "1 0 1",
+        orders: ["0 1", "2"],
+    },
+    // P1 and X1: the paragraph after a separator begins at its own level
+    LineRow {
+        text: "\u{5D0}\u{2029}a",
+        direction: Direction::Rtl,
+        second: 2,
+        levels: "1 1 2",
+        orders: ["1 0", "2"],
+    },
+    // P1 and X1: so does the one after a separator alone
+    LineRow {
+        text: "\u{2029}a",
+        direction: Direction::Rtl,
+        second: 1,
+        levels: "1 2",
+        orders: ["0", "1"],
+    },
+    // P1: each paragraph is resolved by itself
+    LineRow {
+        text: "\u{5D0}\u{2029} \u{5D0}",
+        direction: Direction::Ltr,
+        second: 2,
+        levels: "1 0 0 1",
+        orders: ["0 1", "2 3"],
+    },
+    // X9: a line may begin with what is removed
+    LineRow {
+        text: "\u{5D0}\u{200D}\u{5D0}",
+        direction: Direction::Ltr,
+        second: 1,
+        levels: "1 x 1",
+        orders: ["0", "2"],
+    },
 ];
 
 /// Lays out the text of a row by these tables, and compares its levels and its order.
@@ -148,9 +281,56 @@ fn shows_row(rt: &impl Abort, alloc: Global, tables: &Tables, row: &Row) -> Resu
 
 #[test]
 fn rows_that_engines_missed(rt: HostRuntime) -> Result<(), Fail> {
-    let tables = standard::tables(rt.alloc())?;
+    let tables = standard::tables();
     for row in ROWS {
         shows_row(&rt, rt.alloc(), &tables, &row)?;
+    }
+    Ok(())
+}
+
+/// BD2: explicit levels go up to 125, so 31 embeddings in one another lead to level 62.
+#[test]
+fn embeddings_that_an_engine_missed(rt: HostRuntime) -> Result<(), Fail> {
+    let alloc = rt.alloc();
+    let tables = standard::tables();
+    let mut text = String::new(alloc);
+    let mut expected = Vec::new(alloc);
+    for _ in 0..31 {
+        text.push('\u{202A}')?;
+        expected.push(None)?;
+    }
+    text.push('a')?;
+    expected.push(Level::new(62))?;
+    let text = units_by(alloc, &tables, &text)?;
+    shows_in_room(&rt, alloc, 32, &text, Direction::Ltr, &expected, &[31])
+}
+
+/// Lays out the text of a row on its two lines, and compares its levels and the order of each line.
+fn shows_lines(rt: &impl Abort, alloc: Global, tables: &Tables, row: &LineRow) -> Result<(), Fail> {
+    let text = units_by(alloc, tables, row.text)?;
+    let at = [row.second];
+    let breaks = Breaks::new(&at, text.len())?;
+    let mut room = Scratch::with_room(alloc, 8)?;
+    lay_out_into(&mut room, &text, row.direction, &breaks)?;
+    let layout = room.layout();
+    assert_eq!(rt; layout.levels(), levels(alloc, row.levels)?.as_slice());
+    assert_eq!(rt; layout.line_count(), 2);
+    assert_eq!(rt;
+        layout.line(0).order,
+        numbers(alloc, row.orders[0])?.as_slice()
+    );
+    assert_eq!(rt;
+        layout.line(1).order,
+        numbers(alloc, row.orders[1])?.as_slice()
+    );
+    Ok(())
+}
+
+#[test]
+fn lines_that_engines_missed(rt: HostRuntime) -> Result<(), Fail> {
+    let tables = standard::tables();
+    for row in LINE_ROWS {
+        shows_lines(&rt, rt.alloc(), &tables, &row)?;
     }
     Ok(())
 }

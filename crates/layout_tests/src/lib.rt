@@ -1,5 +1,6 @@
 //! Tests of layouts: worked rows of whole texts, of their lines, and of what is shown of them. They stand here, and not
-//! beside what they test, so that no crate is proved a second time with its tests.
+//! beside what they test, so that no crate is proved a second time with its tests. Those that fill whole rooms are in
+//! `room_tests`.
 #![tactic(auto)]
 
 #[cfg(test)]
@@ -16,5 +17,3 @@ mod parts;
 mod rows;
 #[cfg(test)]
 mod shown_rows;
-#[cfg(test)]
-mod whole_room;

@@ -2,6 +2,7 @@
 use crate::given::tables;
 use lines::breaks::Breaks;
 use lines::lay_out::lay_out_into;
+use lines::layout::Layout;
 use lines::scratch::Scratch;
 use lines::shown::Shown;
 use std::alloc::Global;
@@ -45,6 +46,19 @@ fn has_levels(rt: &impl Abort, levels: &[Option<Level>], numbers: &[u8]) {
     }
 }
 
+/// Compares what is shown of the only line of a layout.
+fn line_gives(
+    rt: &impl Abort,
+    layout: &Layout<'_>,
+    mirrors: &MirrorTable,
+    chars: &[char],
+    expected: &[char],
+) {
+    assert_eq!(rt; layout.line_count(), 1);
+    assert_eq!(rt; layout.levels().len(), chars.len());
+    gives(rt, layout.shown(mirrors, chars, 0), expected);
+}
+
 /// Lays out a text from left to right on one line, and compares its levels and what is shown of its characters.
 fn is_shown(
     rt: &impl Abort,
@@ -56,10 +70,8 @@ fn is_shown(
     let breaks = Breaks::new(&[], text.len())?;
     lay_out_into(room, text, Direction::Ltr, &breaks)?;
     let layout = room.layout();
-    assert_eq!(rt; layout.line_count(), 1);
-    assert_eq!(rt; layout.levels().len(), row.chars.len());
     has_levels(rt, layout.levels(), row.levels);
-    gives(rt, layout.shown(mirrors, row.chars, 0), row.shown);
+    line_gives(rt, &layout, mirrors, row.chars, row.shown);
     Ok(())
 }
 

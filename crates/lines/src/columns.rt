@@ -108,6 +108,18 @@ impl TextColumns {
         copy_levels(&self.resolved[..units], &mut self.levels, steps);
     }
 
+    /// Returns the levels of the first so many positions, as they are before L1.
+    pub(crate) fn resolved_levels(&self, units: usize, uniform: bool) -> &[Option<Level>]
+        requires { HasTextRoom self.now units }
+        ensures { result.now ≡ resolved_filled units uniform self.now }
+    {
+        if uniform {
+            &self.levels[..units]
+        } else {
+            &self.resolved[..units]
+        }
+    }
+
     /// Copies the levels of the positions from `start` up to `end`, as they are before L1, to a line of its own, a step
     /// for each.
     pub(crate) fn copy_line<L: Ledger>(

@@ -16,7 +16,7 @@ use units::level::{Level, ParaLevel};
 use units::steps::Steps;
 
 /// Whether spaces before a position of the class are reset, if those after it are as `later` says.
-fn resets_spaces_before(class: Class, later: bool) -> bool
+pub fn resets_spaces_before(class: Class, later: bool) -> bool
     ensures { result ≡ resets_before class later }
 {
     match class {

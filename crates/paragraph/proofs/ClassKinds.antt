@@ -5,7 +5,7 @@ use Rattle.std.specs.List.{list_all, list_any}
 use Rattle.units.specs.Classes.{is_initiator, is_removed}
 use Rattle.units.specs.declared.class.Class.{Class}
 use Rattle.units.specs.declared.class.Class.TheVariants.{L, R, AL, EN, ES, ET, CS, AN, NSM, BN, LRE, LRO, RLE, RLO, PDF, LRI, RLI, FSI}
-use Rattle.flat.specs.Uniform.{may_rise_at_even, may_rise_at_odd}
+use Rattle.explicit.specs.Uniform.{may_rise_at_even, may_rise_at_odd}
 use Rattle.resolve.specs.Sought.{may_weaken}
 use Rattle.paragraph.specs.ClassSets.{is_class}
 use Rattle.paragraph.proofs.ClassSets.{any_of, found_by}

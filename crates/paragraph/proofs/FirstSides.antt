@@ -6,7 +6,7 @@ use Rattle.units.specs.declared.class.Class.{Class}
 use Rattle.units.specs.declared.level.Direction.{Direction}
 use Rattle.units.specs.declared.level.Direction.TheVariants.{Auto, Ltr, Rtl, AutoRtl}
 use Rattle.explicit.specs.SideLevels.{level_by_side, level_under}
-use Rattle.flat.specs.Flat.{flat_para_level, level_by_strong}
+use Rattle.explicit.specs.Flat.{flat_para_level, level_by_strong}
 use Rattle.paragraph.specs.FirstSides.{side_by}
 use Rattle.explicit.proofs.StrongSides.LevelUnder.{level_of_side}
 

@@ -15,13 +15,13 @@ use Rattle.units.specs.declared.bracket.Unit.{Unit as BidiUnit}
 use Rattle.units.specs.declared.class.Class.{Class}
 use Rattle.units.specs.declared.class.Class.TheVariants.{L}
 use Rattle.explicit.specs.ExplicitLevels.{HoldsLevels}
-use Rattle.flat.specs.Flat.{is_flat, IsFlat, remaining_of, flat_sequences}
-use Rattle.flat.specs.IdleRules.{HasNone}
-use Rattle.flat.specs.Uniform.{kept_level}
+use Rattle.explicit.specs.Flat.{is_flat, IsFlat, remaining_of, flat_sequences}
+use Rattle.explicit.specs.IdleRules.{HasNone}
+use Rattle.explicit.specs.Uniform.{kept_level}
 use Rattle.units.proofs.Positions.{length-positions_from, get_or-positions_from}
-use Rattle.flat.proofs.OneSequence.{sequences_of-flat}
-use Rattle.flat.proofs.Staying.{resolved_levels-uniform}
-use Rattle.flat.proofs.WholeLevels.{resolved_levels-flat}
+use Rattle.explicit.proofs.OneSequence.{sequences_of-flat}
+use Rattle.explicit.proofs.Staying.{resolved_levels-uniform}
+use Rattle.explicit.proofs.WholeLevels.{resolved_levels-flat}
 use Rattle.resolve.specs.Sought.{AreOwn}
 use Rattle.paragraph.proofs.AllSequences.{found_own, found_levels}
 use Rattle.paragraph.specs.Contents.{has_none, keeps_level}

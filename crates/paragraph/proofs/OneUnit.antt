@@ -2,7 +2,7 @@
 use Rattle.std.proofs.Common.{◌≡◌, ℕ, List, false, ap}
 use Rattle.std.specs.Prelude.{◌&&◌}
 use Rattle.units.specs.declared.class.Class.{Class}
-use Rattle.flat.specs.Uniform.{may_rise}
+use Rattle.explicit.specs.Uniform.{may_rise}
 use Rattle.paragraph.specs.Contents.{are_flat, has_none, keeps_level}
 
 -- where something begins an embedding or an isolate, the level isn't known to be kept

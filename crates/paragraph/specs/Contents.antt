@@ -5,8 +5,8 @@ use Rattle.units.specs.Classes.{classes_of, is_strong}
 use Rattle.units.specs.declared.bracket.Unit.{Unit as BidiUnit}
 use Rattle.units.specs.declared.class.Class.{Class}
 use Rattle.explicit.specs.FirstParagraph.{first_length}
-use Rattle.flat.specs.Flat.{is_flat}
-use Rattle.flat.specs.Uniform.{may_rise}
+use Rattle.explicit.specs.Flat.{is_flat}
+use Rattle.explicit.specs.Uniform.{may_rise}
 use Rattle.paragraph.specs.ClassSets.{IsSetOf}
 use Rattle.paragraph.specs.FirstSides.{side_by}
 use Rattle.paragraph.specs.declared.class_set.ClassSet.{ClassSet}

@@ -7,7 +7,7 @@ ghost use Rattle.units.specs.Paragraphs.{SeparatorOnlyLast};
 ghost use Rattle.units.specs.Runs.{leveled_of, sequences_of};
 ghost use Rattle.explicit.specs.ExplicitLevels.{HoldsLevels};
 ghost use Rattle.explicit.specs.IsolateMaps.{IsFilledFrom};
-ghost use Rattle.flat.specs.Uniform.{kept_level};
+ghost use Rattle.explicit.specs.Uniform.{kept_level};
 ghost use Rattle.paragraph.specs.Contents.{Describes, are_flat};
 ghost use Rattle.paragraph.specs.StepBounds.{x_rules_steps};
 

@@ -12,6 +12,8 @@ mod failing_writer;
 #[cfg(test)]
 mod given;
 #[cfg(test)]
+mod letters_made;
+#[cfg(test)]
 mod levels_in_pieces;
 #[cfg(test)]
 mod printed;

@@ -4,6 +4,7 @@ use crate::given::{PARAGRAPHS, Paragraph, REPEATED, joined, paragraphs, repeated
 use crate::printed::{Outcome, Printed, is_printed_as_at_first, untold};
 use crate::{levels_in_pieces, reorder_in_pieces};
 use lines::scratch::Scratch;
+use printing::fault::PrintFault;
 use printing::form::Form;
 use printing::print::{print_levels, print_reorder};
 use printing::reading::{TextFault, print_source};
@@ -89,7 +90,8 @@ impl Printed for ReadText<'_> {
         assert!(rt; source.most_left() <= 16_777_216);
         match print_source(alloc, w, tables, &mut source, direction, form) {
             Ok(()) => Ok(()),
-            Err(TextFault::Print(fault)) => untold(Err(fault)),
+            Err(TextFault::Write | TextFault::NobodyReads) => untold(Err(PrintFault::Write)),
+            Err(TextFault::Memory) => untold(Err(PrintFault::Memory)),
             Err(_) => Err(Some(ErrorKind::InvalidData)),
         }
     }

@@ -2,6 +2,7 @@ pub mod Appending
 pub mod Breaks
 pub mod Codes
 pub mod DecimalPairs
+pub mod Fronts
 pub mod HeadBreaks
 pub mod HeadColumns
 pub mod HeadLayout
@@ -16,6 +17,8 @@ pub mod Passing
 pub mod PiecesTaken
 pub mod Printing
 pub mod ReadSources
+pub mod ReadingOn
 pub mod Showing
+pub mod TextPlaces
 pub mod UnderWay
 pub mod WaitingBytes

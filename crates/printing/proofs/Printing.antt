@@ -11,7 +11,7 @@ use Rattle.printing.proofs.Breaks.{one_more_position}
 printed_none : (text : ℕ → List ℕ) (s : ℕ) → [] ≡ printed text s s
 printed_none text s = let e : 0 ≡ s - s = omega arith in ap (λ n. flat_map text (positions_from s n)) e
 
-printed_more : (text : ℕ → List ℕ) (s p : ℕ) → s ≤ p → printed text s p ++ text p ≡ printed text s (p + 1)
+pub printed_more : (text : ℕ → List ℕ) (s p : ℕ) → s ≤ p → printed text s p ++ text p ≡ printed text s (p + 1)
 printed_more text s p h =
     let step : suc (p - s) ≡ p + 1 - s = omega arith in
     let here : s + (p - s) ≡ p = omega arith in

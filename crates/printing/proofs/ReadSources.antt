@@ -1,5 +1,5 @@
 -- A text that is printed while its source is read.
-use Rattle.std.proofs.Common.{◌≡◌, ℕ, ◌+◌, ◌≤◌, Option, List, [], ◌++◌, Result, Ok, Err, IfErr, IsErrAnd, length, take, drop, sym, ap, subst, ◌∙◌, arith, length-append}
+use Rattle.std.proofs.Common.{◌≡◌, ℕ, ◌+◌, ◌≤◌, Option, List, [], ◌++◌, Result, Ok, Err, IfErr, IsErrAnd, length, take, drop, refl, sym, ap, subst, ◌∙◌, arith, length-append}
 use Rattle.std.proofs.lemmas.List.{length-take}
 use Rattle.std.proofs.lemmas.Str.{chars-append, chars-nil}
 use Rattle.std.specs.Io.KnownBytes.{Appends}
@@ -11,28 +11,66 @@ use Rattle.ucdfiles.specs.Tables.{TablesOf}
 use Rattle.printing.specs.Behind.{printed_as, printed_behind}
 use Rattle.printing.specs.EndedParagraphs.{ended_paragraphs}
 use Rattle.printing.specs.HeldBytes.{IsReadTo}
-use Rattle.printing.specs.ReadTexts.{BreaksOff, IsPrinted, printed_ended, utf8_front}
+use Rattle.printing.specs.ReadTexts.{BreaksOff, EndsUnwritten, IsPrinted, printed_ended, stopped_by, utf8_front}
+use Rattle.printing.specs.TextPlaces.{place_after}
 use Rattle.printing.specs.UnderWay.{IsBegun, PrintsOn, handed_in}
 use Rattle.printing.specs.declared.begun.Begun.{Begun}
-use Rattle.printing.specs.declared.fault.PrintFault.{PrintFault}
+use Rattle.printing.specs.declared.fault.PrintStop.{PrintStop}
+use Rattle.printing.specs.declared.fault.PrintStop.TheVariants as stop
 use Rattle.printing.specs.declared.form.Form.{Form}
 use Rattle.printing.specs.declared.passed.Passed.{Passed}
+use Rattle.printing.specs.declared.place.TextPlace.{TextPlace}
 use Rattle.printing.specs.declared.reading.TextFault.{TextFault}
-use Rattle.printing.specs.declared.reading.TextFault.TheVariants.{Print}
+use Rattle.printing.specs.declared.reading.TextFault.TheVariants.{Read, NotUtf8, Write, NobodyReads, Memory}
+use Rattle.printing.specs.declared.written.Written.TheVariants.{Whole, CutOff}
 use Rattle.printing.proofs.HeldLemmas.{front_cut, length_front, more_cut, nothing_cut, whole_cut}
+use Rattle.printing.proofs.ReadingOn.{HasCut}
+use Rattle.printing.proofs.TextPlaces.{IsAfter, after_more}
 use Rattle.printing.proofs.UnderWay.{all_came, chars_le, ended_came, more_came, nothing_came}
 
--- where a write failed or memory was refused, these bytes were given
-pub print_fails : {A : Type 0} (Failed Ended : Type 0) (form : Form) (tables : TablesOf) (direction : Direction) (a b : Option (List ℕ)) (Gave : List ℕ → Type 0) (given : List ℕ)
-    → Gave given → (result : Result A TextFault) (fault : PrintFault) → IsErrAnd result (λ e. e ≡ Print fault)
-    → IfErr result (λ e. (xs : List ℕ) × Gave xs × BreaksOff Failed Ended form tables direction xs a b e)
-print_fails Failed Ended form tables direction a b Gave given gave (Ok x) fault e = tt
-print_fails Failed Ended form tables direction a b Gave given gave (Err found) fault e =
-    (given, gave, subst (BreaksOff Failed Ended form tables direction given a b) (sym e) tt)
+module _ (Failed Ended : Type 0) (form : Form) (tables : TablesOf) (direction : Direction) (a b : Option (List ℕ)) where
+  -- what ends the reading on ends the text
+  unwritten_ends : (bytes : List ℕ) (fault : TextFault) → EndsUnwritten Failed Ended bytes fault → BreaksOff Failed Ended form tables direction bytes a b fault
+  unwritten_ends bytes (Read Whole) h = absurd h
+  unwritten_ends bytes (Read CutOff) h = (h, tt)
+  unwritten_ends bytes (NotUtf8 place Whole) h = absurd h
+  unwritten_ends bytes (NotUtf8 place CutOff) h = (h.0, h.1, tt)
+  unwritten_ends bytes Write h = h
+  unwritten_ends bytes NobodyReads h = absurd h
+  unwritten_ends bytes Memory h = absurd h
+
+  -- where printing stopped after these bytes
+  pub stop_ends : {S : Type 0} (gives : S → List ℕ → S → Type 0) (start now next : S) (bytes : List ℕ) → gives start bytes now
+      → (why : PrintStop) (fault : TextFault)
+      → (why ≡ stop.NobodyReads → (fault ≡ NobodyReads) × (next ≡ now)) → (why ≡ stop.Memory → (fault ≡ Memory) × (next ≡ now))
+      → (why ≡ stop.Write → (given : List ℕ) × gives start given next × EndsUnwritten Failed Ended given fault)
+      → (given : List ℕ) × gives start given next × BreaksOff Failed Ended form tables direction given a b fault
+  stop_ends gives start now next bytes given stop.NobodyReads fault unread memory write =
+      let is = unread refl in
+      (bytes, subst (gives start bytes) (sym is.1) given, subst (BreaksOff Failed Ended form tables direction bytes a b) (sym is.0) tt)
+  stop_ends gives start now next bytes given stop.Memory fault unread memory write =
+      let is = memory refl in
+      (bytes, subst (gives start bytes) (sym is.1) given, subst (BreaksOff Failed Ended form tables direction bytes a b) (sym is.0) tt)
+  stop_ends gives start now next bytes given stop.Write fault unread memory write =
+      let is = write refl in
+      (is.0, is.1, unwritten_ends is.0 fault is.2)
+
+  stopped_ends : (bytes : List ℕ) → Ended → IsUtf8 bytes → (why : PrintStop) → BreaksOff Failed Ended form tables direction bytes a b (stopped_by why)
+  stopped_ends bytes ended utf8 stop.NobodyReads = tt
+  stopped_ends bytes ended utf8 stop.Write = (ended, utf8)
+  stopped_ends bytes ended utf8 stop.Memory = tt
+
+  -- where it stopped after all bytes
+  pub last_ends : {A : Type 0} (Gave : List ℕ → Type 0) (bytes : List ℕ) → Gave bytes → Ended → IsUtf8 bytes
+      → (result : Result A TextFault) (why : PrintStop) → IsErrAnd result (λ fault. fault ≡ stopped_by why)
+      → IfErr result (λ fault. (given : List ℕ) × Gave given × BreaksOff Failed Ended form tables direction given a b fault)
+  last_ends Gave bytes gave ended utf8 (Ok x) why e = tt
+  last_ends Gave bytes gave ended utf8 (Err fault) why e =
+      (bytes, gave, subst (BreaksOff Failed Ended form tables direction bytes a b) (sym e) (stopped_ends bytes ended utf8 why))
 
 -- what a source handed out, of which these bytes are held, and what was printed of it
 pub record HasRead {S : Type 0} (gives : S → List ℕ → S → Type 0) (room : S → ℕ) (form : Form) (tables : TablesOf) (direction : Direction)
-    (start now : S) (before after : Option (List ℕ)) (first begun : Begun) (held : List ℕ) : Type 0 where
+    (start now : S) (before after : Option (List ℕ)) (first begun : Begun) (held : List ℕ) (place : TextPlace) : Type 0 where
   pub bytes : List ℕ
   pub front : List ℕ
   pub given : gives start bytes now
@@ -41,12 +79,13 @@ pub record HasRead {S : Type 0} (gives : S → List ℕ → S → Type 0) (room 
   pub is : IsBegun tables begun
   pub handed : handed_in begun ≡ length (chars front)
   pub printed : PrintsOn form tables direction (chars front) before after first begun
+  pub place_is : place ≡ place_after front
 
 module _ {S : Type 0} (gives : S → List ℕ → S → Type 0) (room : S → ℕ) (form : Form) (tables : TablesOf) (direction : Direction)
     (start : S) (before : Option (List ℕ)) (first : Begun) where
   pub nothing_read : gives start [] start → room start ≤ longest_text → IsBegun tables first → first.chars.items ≡ []
       → (let none : Passed = record { paragraphs = 0; characters = 0 } in first.passed ≡ none)
-      → HasRead gives room form tables direction start start before before first first []
+      → HasRead gives room form tables direction start start before before first first [] (place_after [])
   nothing_read given small is empty none = record {
     bytes = [];
     front = [];
@@ -56,10 +95,11 @@ module _ {S : Type 0} (gives : S → List ℕ → S → Type 0) (room : S → �
     is = is;
     handed = omega (arith, ap (λ (p : Passed). p.characters) none, ap length empty, ap length chars-nil);
     printed = subst (λ xs. PrintsOn form tables direction xs before before first first) (sym chars-nil) (nothing_came form tables direction before first);
+    place_is = refl;
   }
 
-  module _ (now next : S) (after later : Option (List ℕ)) (begun then : Begun) (held more : List ℕ)
-      (read : HasRead gives room form tables direction start now before after first begun held) (falls : room next + length more ≤ room now) where
+  module _ (now next : S) (after later : Option (List ℕ)) (begun then : Begun) (held more : List ℕ) (place : TextPlace)
+      (read : HasRead gives room form tables direction start now before after first begun held place) (falls : room next + length more ≤ room now) where
     -- what has come fits
     pub more_fits : handed_in begun + length (held ++ more) ≤ longest_text
     more_fits =
@@ -79,8 +119,9 @@ module _ {S : Type 0} (gives : S → List ℕ → S → Type 0) (room : S → �
 
     more_read : gives start (read.bytes ++ more) next → IsBegun tables then → handed_in then ≡ handed_in begun + length (chars (utf8_front (held ++ more)))
         → PrintsOn form tables direction (chars (utf8_front (held ++ more))) after later begun then
-        → HasRead gives room form tables direction start next before later first then (take 4 (drop (utf8_valid_len (held ++ more)) (held ++ more)))
-    more_read given is handed printed =
+        → (at : TextPlace) → IsAfter place at (utf8_front (held ++ more))
+        → HasRead gives room form tables direction start next before later first then (take 4 (drop (utf8_valid_len (held ++ more)) (held ++ more))) at
+    more_read given is handed printed at passed =
         let both : chars (read.front ++ utf8_front (held ++ more)) ≡ chars read.front ++ chars (utf8_front (held ++ more)) =
         chars-append read.front (utf8_front (held ++ more)) read.cut.utf8 in
         record {
@@ -93,23 +134,28 @@ module _ {S : Type 0} (gives : S → List ℕ → S → Type 0) (room : S → �
           handed = omega (arith, handed, read.handed, ap length both, length-append (chars read.front) (chars (utf8_front (held ++ more))));
           printed = subst (λ xs. PrintsOn form tables direction xs before later first then) (sym both)
               (more_came form tables direction _ _ _ _ _ _ _ _ read.printed printed);
+          place_is = after_more place at read.front (utf8_front (held ++ more)) read.place_is passed;
         }
 
     -- the same of a buffer that holds both, of which so many bytes were taken
     pub read_more : (bs kept : List ℕ) (taken : ℕ) → bs ≡ held ++ more → taken ≡ length (utf8_front bs) → kept ≡ take 4 (drop taken bs)
         → gives start (read.bytes ++ more) next → IsBegun tables then → handed_in then ≡ handed_in begun + length (chars (utf8_front bs))
-        → PrintsOn form tables direction (chars (utf8_front bs)) after later begun then
-        → HasRead gives room form tables direction start next before later first then kept
-    read_more bs kept taken both front left given is handed printed =
+        → PrintsOn form tables direction (chars (utf8_front bs)) after later begun then → (at : TextPlace) → IsAfter place at (utf8_front bs)
+        → HasRead gives room form tables direction start next before later first then kept at
+    read_more bs kept taken both front left given is handed printed at passed =
         let same : kept ≡ take 4 (drop (utf8_valid_len (held ++ more)) (held ++ more)) =
         left ∙ ap (λ n. take 4 (drop n bs)) (front ∙ length_front bs) ∙ ap (λ xs. take 4 (drop (utf8_valid_len xs) xs)) both in
-        subst (HasRead gives room form tables direction start next before later first then) (sym same)
+        subst (λ xs. HasRead gives room form tables direction start next before later first then xs at) (sym same)
         (more_read given is (subst (λ xs. handed_in then ≡ handed_in begun + length (chars (utf8_front xs))) both handed)
-        (subst (λ xs. PrintsOn form tables direction (chars (utf8_front xs)) after later begun then) both printed))
+        (subst (λ xs. PrintsOn form tables direction (chars (utf8_front xs)) after later begun then) both printed) at (subst (λ xs. IsAfter place at (utf8_front xs)) both passed))
 
-  module _ (now : S) (after : Option (List ℕ)) (begun : Begun) (held : List ℕ)
-      (read : HasRead gives room form tables direction start now before after first begun held)
+  module _ (now : S) (after : Option (List ℕ)) (begun : Begun) (held : List ℕ) (place : TextPlace)
+      (read : HasRead gives room form tables direction start now before after first begun held place)
       (empty : first.chars.items ≡ []) (none : let nothing : Passed = record { paragraphs = 0; characters = 0 } in first.passed ≡ nothing) where
+    -- what was read without what was printed of it
+    pub cut_of : HasCut gives start now place held
+    cut_of = record { bytes = read.bytes; front = read.front; given = read.given; cut = read.cut; place_is = read.place_is }
+
     -- the paragraphs that have ended are printed
     pub ended_read : Appends before after (printed_ended form tables read.bytes direction)
     ended_read = subst (λ xs. Appends before after (printed_as form tables (ended_paragraphs tables (chars xs)) direction))

@@ -1,12 +1,15 @@
 pub mod Behind
 pub mod Columns
 pub mod EndedParagraphs
+pub mod Fronts
 pub mod HeldBytes
 pub mod HexDigits
 pub mod LevelsText
+pub mod PrintStops
 pub mod PrintedTexts
 pub mod ReadTexts
 pub mod ReorderText
+pub mod TextPlaces
 pub mod UnderWay
 pub mod WaitingBytes
 pub mod EndedRows

@@ -1,5 +1,5 @@
 -- What is printed of a text while its bytes are read.
-use Rattle.std.specs.Prelude.{Option, ℕ, List, take}
+use Rattle.std.specs.Prelude.{◌≡◌, Option, ℕ, List, ◌++◌, take}
 use Rattle.std.specs.Io.KnownBytes.{Appends}
 use Rattle.std.specs.Str.{IsUtf8, chars}
 use Rattle.std.specs.Str.Lossy.{utf8_valid_len}
@@ -7,9 +7,16 @@ use Rattle.units.specs.declared.level.Direction.{Direction}
 use Rattle.ucdfiles.specs.Tables.{TablesOf}
 use Rattle.printing.specs.Behind.{printed_as}
 use Rattle.printing.specs.EndedParagraphs.{ended_paragraphs}
+use Rattle.printing.specs.HeldBytes.{IsReadTo}
+use Rattle.printing.specs.TextPlaces.{place_after}
+use Rattle.printing.specs.declared.fault.PrintStop.{PrintStop}
+use Rattle.printing.specs.declared.fault.PrintStop.TheVariants as stop
 use Rattle.printing.specs.declared.form.Form.{Form}
+use Rattle.printing.specs.declared.place.TextPlace.{TextPlace}
 use Rattle.printing.specs.declared.reading.TextFault.{TextFault}
-use Rattle.printing.specs.declared.reading.TextFault.TheVariants.{Read, NotUtf8, Print}
+use Rattle.printing.specs.declared.reading.TextFault.TheVariants.{Read, NotUtf8, Write, NobodyReads, Memory}
+use Rattle.printing.specs.declared.written.Written.{Written}
+use Rattle.printing.specs.declared.written.Written.TheVariants.{Whole, CutOff}
 
 -- the longest front of these bytes that is UTF-8
 abbrev pub utf8_front : List ℕ → List ℕ
@@ -24,11 +31,49 @@ pub record IsPrinted (form : Form) (tables : TablesOf) (direction : Direction) (
   pub utf8 : IsUtf8 bytes
   pub said : Appends before after (printed_as form tables (chars bytes) direction)
 
--- the printing of a text breaks off behind these bytes: the source failed, or they are all and are not UTF-8, and the
--- paragraphs that have ended are printed; or a write failed or memory was refused
+-- known bytes grew by this if it was written whole; if a write failed, nothing is said of them
+abbrev pub IsWritten : Written → Option (List ℕ) → Option (List ℕ) → List ℕ → Type 0
+IsWritten Whole before after text = Appends before after text
+IsWritten CutOff before after text = Unit {0}
+
+-- the bytes are not UTF-8, and this is the place after their longest front that is
+pub record IsNotUtf8 (bytes : List ℕ) (place : TextPlace) : Type 0 where
+  pub broken : ¬ (IsUtf8 bytes)
+  pub place_is : place ≡ place_after (utf8_front bytes)
+
+-- a source gave bytes; the last of them are in a buffer, no character of these was taken yet, and this is the place after
+-- the text before them
+pub record IsReadUpTo {S : Type 0} (gives : S → List ℕ → S → Type 0) (start now : S) (place : TextPlace) (buffer : List ℕ) : Type 0 where
+  pub bytes : List ℕ
+  pub front : List ℕ
+  pub held : List ℕ
+  pub more : List ℕ
+  pub cut : IsReadTo bytes front held
+  pub buffer_is : buffer ≡ held ++ more
+  pub given : gives start (bytes ++ more) now
+  pub place_is : place ≡ place_after front
+
+-- the printing of a text breaks off after these bytes: the source failed, or they are all and are not UTF-8, and the
+-- paragraphs that have ended are printed, unless a write failed; or they are all and are UTF-8, and a write failed; or
+-- nobody reads what is written, or memory was refused
 abbrev pub BreaksOff : Type 0 → Type 0 → Form → TablesOf → Direction → List ℕ → Option (List ℕ) → Option (List ℕ) → TextFault → Type 0
-BreaksOff Failed Ended form tables direction bytes before after Read =
-    Failed × Appends before after (printed_ended form tables bytes direction)
-BreaksOff Failed Ended form tables direction bytes before after NotUtf8 =
-    Ended × ¬ (IsUtf8 bytes) × Appends before after (printed_ended form tables bytes direction)
-BreaksOff Failed Ended form tables direction bytes before after (Print fault) = Unit {0}
+BreaksOff Failed Ended form tables direction bytes before after (Read written) =
+    Failed × IsWritten written before after (printed_ended form tables bytes direction)
+BreaksOff Failed Ended form tables direction bytes before after (NotUtf8 place written) =
+    Ended × IsNotUtf8 bytes place × IsWritten written before after (printed_ended form tables bytes direction)
+BreaksOff Failed Ended form tables direction bytes before after Write = Ended × IsUtf8 bytes
+BreaksOff Failed Ended form tables direction bytes before after NobodyReads = Unit {0}
+BreaksOff Failed Ended form tables direction bytes before after Memory = Unit {0}
+
+-- the same where a write failed before, and the source was read on
+abbrev pub EndsUnwritten : Type 0 → Type 0 → List ℕ → TextFault → Type 0
+EndsUnwritten Failed Ended bytes (Read CutOff) = Failed
+EndsUnwritten Failed Ended bytes (NotUtf8 place CutOff) = Ended × IsNotUtf8 bytes place
+EndsUnwritten Failed Ended bytes Write = Ended × IsUtf8 bytes
+EndsUnwritten Failed Ended bytes _ = ⊥
+
+-- the fault of a text, all of which was read, where printing stopped so
+abbrev pub stopped_by : PrintStop → TextFault
+stopped_by stop.NobodyReads = NobodyReads
+stopped_by stop.Write = Write
+stopped_by stop.Memory = Memory

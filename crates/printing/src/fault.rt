@@ -1,6 +1,6 @@
 //! Why a text was not printed.
-
 use std::io;
+use std::io::ErrorKind;
 use units::memory::Memory;
 
 /// Why a text was not printed whole.
@@ -31,5 +31,54 @@ impl From<Memory> for PrintFault {
 
     fn from(_memory: Memory) -> Self {
         Self::Memory
+    }
+}
+
+/// Why printing stopped: as `PrintFault`, and also whether somebody may still read what is written.
+#[derive(Clone, Copy, Debug, PartialEq, Eq)]
+pub(crate) enum PrintStop {
+    /// A write failed because nobody reads what is written any more (`ErrorKind::BrokenPipe`).
+    NobodyReads,
+    /// A write failed in another way.
+    Write,
+    /// Memory was refused.
+    Memory,
+}
+
+impl From<io::Error> for PrintStop {
+    ghost use Rattle.printing.specs.PrintStops.{IsStopOf};
+
+    ghost from_gives = { λ error stop. IsStopOf error stop };
+
+    fn from(error: io::Error) -> Self {
+        match error.kind() {
+            ErrorKind::BrokenPipe => Self::NobodyReads,
+            _ => Self::Write,
+        }
+    }
+}
+
+impl From<Memory> for PrintStop {
+    ghost use Rattle.std.specs.Prelude.{◌≡◌};
+    ghost use Rattle.printing.specs.declared.fault.PrintStop.TheVariants as print_stop;
+
+    ghost from_gives = { λ _ stop. stop ≡ print_stop.Memory };
+
+    fn from(_memory: Memory) -> Self {
+        Self::Memory
+    }
+}
+
+impl From<PrintStop> for PrintFault {
+    ghost use Rattle.std.specs.Prelude.{◌≡◌};
+    ghost use Rattle.printing.specs.PrintStops.{fault_of};
+
+    ghost from_gives = { λ stop fault. fault ≡ fault_of stop };
+
+    fn from(stop: PrintStop) -> Self {
+        match stop {
+            PrintStop::NobodyReads | PrintStop::Write => Self::Write,
+            PrintStop::Memory => Self::Memory,
+        }
     }
 }

@@ -12,7 +12,7 @@ ghost use Rattle.printing.specs.UnderWay.{Follows, IsBegun, PrintsOn, handed_in}
 
 use crate::begun::Begun;
 use crate::columns::breaks_of;
-use crate::fault::PrintFault;
+use crate::fault::PrintStop;
 use crate::form::Form;
 use crate::layout_text::print_one_paragraph;
 use crate::passed::Passed;
@@ -36,7 +36,7 @@ fn print_levels_of<W: Write>(
     units: &[Unit],
     direction: Direction,
     room: &mut Scratch,
-) -> Result<(), PrintFault>
+) -> Result<(), PrintStop>
     requires units { length units.now ≡ length chars.now }
     requires some { 0 < length chars.now }
     requires one { SeparatorOnlyLast units.now }
@@ -61,7 +61,7 @@ fn print_lines_of<W: Write>(
     direction: Direction,
     columns: Option<NonZeroU16>,
     room: &mut Scratch,
-) -> Result<(), PrintFault>
+) -> Result<(), PrintStop>
     requires units { length units.now ≡ length chars.now }
     requires room { length units.now ≤ room_of room.old }
     ensures { OnOk result (Appends (W.contents w.old) (W.contents w.new)
@@ -82,7 +82,7 @@ fn print_as<W: Write>(
     direction: Direction,
     form: Form,
     begun: &mut Begun,
-) -> Result<(), PrintFault>
+) -> Result<(), PrintStop>
     requires len { length begun.old.units.items ≡ length begun.old.chars.items }
     requires some { 0 < length begun.old.chars.items }
     requires one { SeparatorOnlyLast begun.old.units.items }
@@ -118,7 +118,7 @@ fn print_begun<W: Write>(
     direction: Direction,
     form: Form,
     begun: &mut Begun,
-) -> Result<(), PrintFault>
+) -> Result<(), PrintStop>
     requires units { begun.old.units.items ≡ units_by tables.now begun.old.chars.items }
     requires some { 0 < length begun.old.chars.items }
     requires one { SeparatorOnlyLast begun.old.units.items }
@@ -147,7 +147,7 @@ pub(crate) fn take_character<W: Write>(
     begun: &mut Begun,
     character: char,
     unit: Unit,
-) -> Result<(), PrintFault>
+) -> Result<(), PrintStop>
     requires begun { IsBegun tables.now begun.old }
     requires small { handed_in begun.old < longest_text }
     requires unit { unit ≡ unit_by tables.now character }
@@ -171,7 +171,7 @@ pub(crate) fn print_last<W: Write>(
     direction: Direction,
     form: Form,
     begun: &mut Begun,
-) -> Result<(), PrintFault>
+) -> Result<(), PrintStop>
     requires begun { IsBegun tables.now begun.old }
     requires small { handed_in begun.old ≤ longest_text }
     ensures { OnOk result (Appends (W.contents w.old) (W.contents w.new)

@@ -7,7 +7,7 @@ ghost use Rattle.printing.specs.PrintedTexts.{printed_levels, printed_reorder};
 ghost use Rattle.printing.specs.UnderWay.{IsBegun};
 
 use crate::begun::Begun;
-use crate::fault::PrintFault;
+use crate::fault::{PrintFault, PrintStop};
 use crate::form::Form;
 use crate::paragraphs::{print_last, take_character};
 use std::alloc::Global;
@@ -25,7 +25,7 @@ fn print_each<W: Write>(
     direction: Direction,
     form: Form,
     begun: &mut Begun,
-) -> Result<(), PrintFault>
+) -> Result<(), PrintStop>
     requires small { length text.now ≤ longest_text }
     requires begun { IsBegun tables.now begun.old }
     requires empty { begun.old.chars.items ≡ [] }
@@ -57,7 +57,8 @@ fn print_chars<W: Write>(
         (printed_as form tables.now text.now direction)) }
 {
     let mut begun = Begun::new(alloc)?;
-    print_each(alloc, w, tables, text, direction, form, &mut begun)
+    print_each(alloc, w, tables, text, direction, form, &mut begun)?;
+    Ok(())
 }
 
 /// Writes the levels of a text: for each paragraph a line with its number, counted from 0, and its level (P2, P3);

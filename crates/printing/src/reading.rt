@@ -1,15 +1,17 @@
 //! A text printed as it is read.
-ghost use Rattle.std.specs.Prelude.{◌≡◌, ◌≤◌, ◌+◌, ℕ, [], List, length, IfErr, IfOk, OnOk};
+ghost use Rattle.std.specs.Prelude.{◌≡◌, ◌<◌, ◌≤◌, ◌+◌, ℕ, [], List, length, take, IfErr, IfOk, OnOk};
 ghost use Rattle.std.specs.Str.{chars};
 ghost use Rattle.units.specs.Layout.{longest_text};
-ghost use Rattle.printing.specs.ReadTexts.{BreaksOff, IsPrinted, utf8_front};
+ghost use Rattle.printing.specs.ReadTexts.{BreaksOff, EndsUnwritten, IsPrinted, IsReadUpTo, utf8_front};
 ghost use Rattle.printing.specs.UnderWay.{IsBegun, PrintsOn, handed_in};
 
 use crate::begun::Begun;
 use crate::cutting::{hold, utf8_front};
-use crate::fault::PrintFault;
+use crate::fault::PrintStop;
 use crate::form::Form;
 use crate::paragraphs::{print_last, take_character};
+use crate::place::TextPlace;
+use crate::written::Written;
 use std::alloc::Global;
 use std::io::Write;
 use ucdfiles::tables::Tables;
@@ -21,33 +23,40 @@ use units::source::ByteSource;
 #[derive(Clone, Copy, Debug, PartialEq, Eq)]
 pub enum TextFault {
     /// The source failed.
-    Read,
-    /// The bytes are not UTF-8.
-    NotUtf8,
-    /// A write failed, or memory was refused.
-    Print(PrintFault),
+    Read { written: Written },
+    /// The bytes are not UTF-8, and this is the place after the longest front of them that is.
+    NotUtf8 { place: TextPlace, written: Written },
+    /// A write failed. The source has ended, and its bytes are UTF-8.
+    Write,
+    /// A write failed because nobody reads what is written any more. The source was not read further.
+    NobodyReads,
+    /// Memory was refused.
+    Memory,
 }
 
-impl From<PrintFault> for TextFault {
+impl From<PrintStop> for TextFault {
     ghost use Rattle.std.specs.Prelude.{◌≡◌};
-    ghost use Rattle.printing.specs.declared.reading.TextFault.TheVariants.{Print};
+    ghost use Rattle.printing.specs.ReadTexts.{stopped_by};
 
-    ghost from_gives = { λ fault given. given ≡ Print fault };
+    ghost from_gives = { λ stop fault. fault ≡ stopped_by stop };
 
-    fn from(fault: PrintFault) -> Self {
-        Self::Print(fault)
+    fn from(stop: PrintStop) -> Self {
+        match stop {
+            PrintStop::NobodyReads => Self::NobodyReads,
+            PrintStop::Write => Self::Write,
+            PrintStop::Memory => Self::Memory,
+        }
     }
 }
 
 impl From<Memory> for TextFault {
     ghost use Rattle.std.specs.Prelude.{◌≡◌};
-    ghost use Rattle.printing.specs.declared.fault.PrintFault.TheVariants as print_fault;
-    ghost use Rattle.printing.specs.declared.reading.TextFault.TheVariants.{Print};
+    ghost use Rattle.printing.specs.declared.reading.TextFault.TheVariants as text_fault;
 
-    ghost from_gives = { λ _ fault. fault ≡ Print print_fault.Memory };
+    ghost from_gives = { λ _ fault. fault ≡ text_fault.Memory };
 
     fn from(_memory: Memory) -> Self {
-        Self::Print(PrintFault::Memory)
+        Self::Memory
     }
 }
 
@@ -60,7 +69,7 @@ fn take_text<W: Write>(
     form: Form,
     begun: &mut Begun,
     text: &str,
-) -> Result<(), PrintFault>
+) -> Result<(), PrintStop>
     requires begun { IsBegun tables.now begun.old }
     requires small { handed_in begun.old + length text.now ≤ longest_text }
     ensures begun { OnOk result (IsBegun tables.now begun.new) }
@@ -86,7 +95,7 @@ fn take_front<W: Write>(
     form: Form,
     begun: &mut Begun,
     bytes: &[u8],
-) -> Result<usize, PrintFault>
+) -> Result<usize, PrintStop>
     requires begun { IsBegun tables.now begun.old }
     requires small { handed_in begun.old + length bytes.now ≤ longest_text }
     ensures taken { IfOk result (λ taken. taken ≡ length (utf8_front bytes.now)) }
@@ -103,6 +112,63 @@ fn take_front<W: Write>(
         w.flush()?;
     }
     Ok(front.len())
+}
+
+/// Reads the source to its end without printing, and returns the fault that comes first. No character was taken of the
+/// first `filled` bytes of the buffer, and the text before them ends at `place`.
+fn read_on<S: ByteSource>(
+    source: &mut S,
+    mut place: TextPlace,
+    buffer: &mut [u8],
+    mut filled: usize,
+) -> TextFault
+    requires long { 4 < length buffer.old }
+    requires filled { filled ≤ length buffer.old }
+    requires line { place.line ≤ place.offset + 1 }
+    requires bound { place.offset + filled + S.most_left source.old ≤ longest_text }
+    ensures { (start : S) → IsReadUpTo S.gives start source.old place (take filled buffer.old)
+        → (given : List ℕ) × S.gives start given source.new
+        × EndsUnwritten (S.failures source.new ≡ 1) (S.ended source.new) given result }
+{
+    loop {
+        let taken = utf8_front(&buffer[..filled]).len();
+        place = place.after(&buffer[..taken]);
+        let held = hold(buffer, taken, filled);
+        let written = Written::CutOff;
+        match source.read(&mut buffer[held..]) {
+            Err(_) => return TextFault::Read { written },
+            Ok(0) if held > 0 => return TextFault::NotUtf8 { place, written },
+            Ok(0) => return TextFault::Write,
+            Ok(n) => filled = held + n,
+        }
+    }
+}
+
+/// Returns the fault of a text whose printing stopped. Reads the source to its end, as `read_on` does, only if a write
+/// failed and somebody may still read what is written.
+fn end_unwritten<S: ByteSource>(
+    stop: PrintStop,
+    source: &mut S,
+    place: TextPlace,
+    buffer: &mut [u8],
+    filled: usize,
+) -> TextFault
+    requires long { 4 < length buffer.old }
+    requires filled { filled ≤ length buffer.old }
+    requires line { place.line ≤ place.offset + 1 }
+    requires bound { place.offset + filled + S.most_left source.old ≤ longest_text }
+    ensures unread { stop ≡ PrintStop.NobodyReads
+        → (result ≡ TextFault.NobodyReads) × (source.new ≡ source.old) }
+    ensures memory { stop ≡ PrintStop.Memory → (result ≡ TextFault.Memory) × (source.new ≡ source.old) }
+    ensures write { stop ≡ PrintStop.Write
+        → (start : S) → IsReadUpTo S.gives start source.old place (take filled buffer.old)
+        → (given : List ℕ) × S.gives start given source.new
+        × EndsUnwritten (S.failures source.new ≡ 1) (S.ended source.new) given result }
+{
+    match stop {
+        PrintStop::Write => read_on(source, place, buffer, filled),
+        _ => TextFault::from(stop),
+    }
 }
 
 /// Reads the source to its end and writes the text that it hands out, of which nothing has come before: what
@@ -127,22 +193,30 @@ fn read_text<S: ByteSource, W: Write>(
         × BreaksOff (S.failures source.new ≡ 1) (S.ended source.new) form tables.now direction given
         (W.contents w.old) (W.contents w.new) fault) }
 {
+    let written = Written::Whole;
+    let mut place = TextPlace::start();
     let mut buffer = [0; 4096];
     let mut held = 0;
     loop {
         match source.read(&mut buffer[held..]) {
-            Err(_) => return Err(TextFault::Read),
+            Err(_) => return Err(TextFault::Read { written }),
             Ok(0) => break,
             Ok(n) => {
                 let filled = held + n;
-                let bytes = &buffer[..filled];
-                let taken = take_front(alloc, w, tables, direction, form, begun, bytes)?;
-                held = hold(&mut buffer, taken, filled);
+                match take_front(alloc, w, tables, direction, form, begun, &buffer[..filled]) {
+                    Ok(taken) => {
+                        place = place.after(&buffer[..taken]);
+                        held = hold(&mut buffer, taken, filled);
+                    }
+                    Err(stop) => {
+                        return Err(end_unwritten(stop, source, place, &mut buffer, filled));
+                    }
+                }
             }
         }
     }
     if held > 0 {
-        return Err(TextFault::NotUtf8);
+        return Err(TextFault::NotUtf8 { place, written });
     }
     print_last(alloc, w, tables, direction, form, begun)?;
     Ok(())
@@ -153,10 +227,19 @@ fn read_text<S: ByteSource, W: Write>(
 /// source may hand out 16,777,216 bytes. Read are 4,096 bytes at a time; the memory that is taken, some 90 bytes a
 /// character, is that of the longest paragraph.
 ///
-/// The faults are `Read` where the source has failed, `NotUtf8` where it has ended behind bytes that are not UTF-8,
-/// both behind the paragraphs that have ended as far as the bytes are UTF-8 (`printed_ended`), and `Print` where the
-/// writer fails, when it is not known how much it took, or memory is refused. Behind bytes that are not UTF-8 nothing
-/// more is written, but the source is read on.
+/// Returns the first of these faults, also if a write failed before it:
+///
+/// - `Read` if the source has failed;
+/// - `NotUtf8` if the source has ended and its bytes are not UTF-8, with the place after the longest front that is;
+/// - `Write` if a write or a flush failed.
+///
+/// So the source is read to its end after a failed write, and nothing more is written or kept. Nothing more is written
+/// after bytes that are not UTF-8 either. `Read` and `NotUtf8` say whether a write failed before. If none did, the
+/// paragraphs that have ended are written, as far as the bytes are UTF-8 (`printed_ended`). If one did, it is not known
+/// how much the writer took.
+///
+/// Two faults end the call at once, and the source is not read further: `NobodyReads` if a write or a flush fails with
+/// `ErrorKind::BrokenPipe`, and `Memory` if memory is refused.
 pub fn print_source<S: ByteSource, W: Write>(
     alloc: Global,
     w: &mut W,

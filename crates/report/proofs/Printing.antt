@@ -1,6 +1,10 @@
 -- What was printed of a report, piece by piece.
-use Rattle.std.proofs.Common.{◌≡◌, ℕ, suc, zero, ◌+◌, Option, List, [], ◌∷◌, ◌++◌, length, take, refl, sym, ap, subst, ◌∙◌, arith, append_assoc, append-nil, length-append, drop, Bool, Result, Ok, Err, IfErr, IsErrAnd}
+use Rattle.std.proofs.Common.{◌≡◌, ◌≢◌, ℕ, suc, zero, ◌+◌, Option, List, [], ◌∷◌, ◌++◌, length, take, refl, sym, ap, subst, ◌∙◌, arith, append_assoc, append-nil, length-append, drop, Bool, Result, Ok, Err, IfErr, IsErrAnd}
+use Rattle.std.specs.IoError.{error_kind}
 use Rattle.std.specs.List.{flat_map}
+use Rattle.std.specs.declared.io.Error.{Error}
+use Rattle.std.specs.declared.io.ErrorKind.{ErrorKind}
+use Rattle.std.specs.declared.io.ErrorKind.TheVariants.{BrokenPipe}
 use Rattle.std.proofs.lemmas.Grind.{flat_map-append}
 use Rattle.std.proofs.lemmas.List.{take-append-drop}
 use Rattle.report.specs.declared.terms.Terms.{Terms}
@@ -8,10 +12,11 @@ use Rattle.bidtests.specs.declared.kind.Kind.{Kind}
 use Rattle.printing.proofs.Appending.{Appends-to, Appends-joined, Appends-nothing}
 use Rattle.report.specs.declared.wrong_case.WrongCase.{WrongCase}
 use Rattle.report.specs.declared.print.ReportFault.{ReportFault}
-use Rattle.report.specs.declared.print.ReportFault.TheVariants.{Write}
+use Rattle.report.specs.declared.print.ReportFault.TheVariants.{Read, Write, NobodyReads}
+use Rattle.printing.specs.declared.written.Written.TheVariants.{Whole, CutOff}
 use Rattle.report.specs.FileReports.{report_of, settled_cases}
 use Rattle.report.specs.Reporting.{EndedReport, Reporting, Reports, report_at_end}
-use Rattle.report.specs.PrintedReports.{BreaksOff, HasTold, HasWrittenFirst, Prints, PrintsEnd, PrintsSettled}
+use Rattle.report.specs.PrintedReports.{BreaksOff, EndsUnwritten, HasTold, HasWrittenFirst, IsFaultOf, IsWriteFault, Prints, PrintsEnd, PrintsSettled}
 use Rattle.report.specs.ReportText.{first_cases_text, report_text, wrong_case_text}
 use Rattle.report.proofs.SettledCases.{told-settled}
 
@@ -65,21 +70,52 @@ pub record HasGone (before after : Reporting) (most left : ℕ) (a b : Option (L
 
 -- where a report breaks off, the cases that it told are those of the settled lines
 pub settled-written : (r s : Reporting) (most left : ℕ) (ws : List WrongCase) (a b : Option (List ℕ)) (xs ys : List ℕ) → ys ≡ xs → HasTold r ws xs s
-    → HasWrittenFirst most ws a b left → PrintsSettled r most ys a b
+    → HasWrittenFirst most ws a b left → PrintsSettled Whole r most ys a b
 settled-written r s most left ws a b xs ys e told written terms kind just =
     let is : ws ≡ settled_cases terms kind ys = told-settled terms kind s ws xs (told terms kind [] [] just) ∙ ap (settled_cases terms kind) (sym e) in
     Appends-to a b _ _ (ap (first_cases_text most) is) written.lines
 
--- where a write failed, these bytes were given
-pub write-fails : {A : Type 0} (Failed : Type 0) (r : Reporting) (most : ℕ) (a b : Option (List ℕ)) (Gave : List ℕ → Type 0) (given : List ℕ) → Gave given
-    → (result : Result A ReportFault) → IsErrAnd result (λ fault. fault ≡ Write) → IfErr result (λ fault. (xs : List ℕ) × Gave xs × BreaksOff Failed r most xs a b fault)
-write-fails Failed r most a b Gave given gave (Ok x) e = absurd e
-write-fails Failed r most a b Gave given gave (Err fault) e = (given, gave, subst (BreaksOff Failed r most given a b) (sym e) tt)
+-- an error says that nobody reads what is written, or it doesn't
+by-kind : (P : Type 0) (kind : ErrorKind) → (kind ≡ BrokenPipe → P) → (kind ≢ BrokenPipe → P) → P
+by-kind P BrokenPipe broken other = broken refl
+by-kind P kind broken other = other (λ e. cc)
 
-pub end-fails : {A : Type 0} (Failed : Type 0) (r : Reporting) (most : ℕ) (a b : Option (List ℕ)) (Gave : List ℕ → Type 0) (given : List ℕ) → Gave given
-    → (result : Result A ReportFault) → IfErr result (λ fault. fault ≡ Write) → IfErr result (λ fault. (xs : List ℕ) × Gave xs × BreaksOff Failed r most xs a b fault)
-end-fails Failed r most a b Gave given gave (Ok x) e = tt
-end-fails Failed r most a b Gave given gave (Err fault) e = (given, gave, subst (BreaksOff Failed r most given a b) (sym e) tt)
+-- the fault of an error is one of a write
+pub fault-of-write : (error : Error) (fault : ReportFault) → IsFaultOf error fault → IsWriteFault fault
+fault-of-write error fault is = by-kind (IsWriteFault fault) (error_kind error)
+    (λ e. subst IsWriteFault (sym (is.broken e)) tt) (λ e. subst IsWriteFault (sym (is.other e)) tt)
+
+module _ (Failed Ended : Type 0) (r : Reporting) (most : ℕ) (a b : Option (List ℕ)) where
+  -- what ends the reading on ends the report
+  pub unwritten-ends : (bytes : List ℕ) (fault : ReportFault) → EndsUnwritten Failed Ended fault → BreaksOff Failed Ended r most bytes a b fault
+  unwritten-ends bytes (Read Whole) h = absurd h
+  unwritten-ends bytes (Read CutOff) h = (h, λ terms kind just. tt)
+  unwritten-ends bytes Write h = h
+  unwritten-ends bytes NobodyReads h = absurd h
+
+  -- a write failed by an error, after these bytes
+  pub piece-ends : {S : Type 0} (gives : S → List ℕ → S → Type 0) → ((s t u : S) (xs ys : List ℕ) → gives s xs t → gives t ys u → gives s (xs ++ ys) u)
+      → (start now next : S) (bytes : List ℕ) → gives start bytes now → (error : Error) (fault : ReportFault)
+      → (error_kind error ≡ BrokenPipe → (fault ≡ NobodyReads) × (next ≡ now))
+      → (error_kind error ≢ BrokenPipe → (given : List ℕ) × gives now given next × EndsUnwritten Failed Ended fault)
+      → (given : List ℕ) × gives start given next × BreaksOff Failed Ended r most given a b fault
+  piece-ends gives joined start now next bytes given error fault unread write =
+      by-kind ((xs : List ℕ) × gives start xs next × BreaksOff Failed Ended r most xs a b fault) (error_kind error)
+      (λ e. let is = unread e in
+      (bytes, subst (gives start bytes) (sym is.1) given, subst (BreaksOff Failed Ended r most bytes a b) (sym is.0) tt))
+      (λ e. let is = write e in
+      (bytes ++ is.0, joined start now next bytes is.0 given is.1, unwritten-ends (bytes ++ is.0) fault is.2))
+
+  -- a write fails where all was read
+  write-ends : (bytes : List ℕ) (fault : ReportFault) → Ended → IsWriteFault fault → BreaksOff Failed Ended r most bytes a b fault
+  write-ends bytes (Read written) ended h = absurd h
+  write-ends bytes Write ended h = ended
+  write-ends bytes NobodyReads ended h = tt
+
+  pub end-fails : {A : Type 0} (Gave : List ℕ → Type 0) (given : List ℕ) → Gave given → Ended → (result : Result A ReportFault) → IfErr result IsWriteFault
+      → IfErr result (λ fault. (xs : List ℕ) × Gave xs × BreaksOff Failed Ended r most xs a b fault)
+  end-fails Gave given gave ended (Ok x) h = tt
+  end-fails Gave given gave ended (Err fault) h = (given, gave, write-ends given fault ended h)
 
 -- the text of a whole report: the cases told before the end and those of a last line, and the foot
 pub whole-printed : (r s : Reporting) (e : EndedReport) (most left : ℕ) (ws : List WrongCase) (given : List ℕ) (a b d : Option (List ℕ)) (right : Bool)

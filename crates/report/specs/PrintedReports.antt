@@ -1,10 +1,16 @@
 -- What is printed of a report while its file is read.
-use Rattle.std.specs.Prelude.{◌≡◌, Option, ℕ, ◌+◌, Bool, List, [], ◌++◌, length, take}
+use Rattle.std.specs.Prelude.{◌≡◌, ◌≢◌, Option, ℕ, ◌+◌, Bool, List, [], ◌++◌, length, take}
 use Rattle.std.specs.Io.KnownBytes.{Appends}
+use Rattle.std.specs.IoError.{error_kind}
+use Rattle.std.specs.declared.io.Error.{Error}
+use Rattle.std.specs.declared.io.ErrorKind.TheVariants.{BrokenPipe}
 use Rattle.report.specs.declared.terms.Terms.{Terms}
 use Rattle.bidtests.specs.declared.kind.Kind.{Kind}
 use Rattle.report.specs.declared.print.ReportFault.{ReportFault}
-use Rattle.report.specs.declared.print.ReportFault.TheVariants.{Read, Write}
+use Rattle.report.specs.declared.print.ReportFault.TheVariants.{Read, Write, NobodyReads}
+use Rattle.printing.specs.ReadTexts.{IsWritten}
+use Rattle.printing.specs.declared.written.Written.{Written}
+use Rattle.printing.specs.declared.written.Written.TheVariants.{CutOff}
 use Rattle.report.specs.declared.wrong_case.WrongCase.{WrongCase}
 use Rattle.report.specs.FileReports.{FileReport, is_right, report_of, settled_cases}
 use Rattle.report.specs.Reporting.{EndedReport, Reporting, Reports, report_at_end}
@@ -42,14 +48,33 @@ Prints report most bytes before after right =
     (terms : Terms) (kind : Kind) → Reports terms kind report [] []
     → IsPrinted most (report_of terms kind bytes) before after right
 
--- the lines of the wrong cases are printed that stand on the lines which these bytes settle
-abbrev pub PrintsSettled : Reporting → ℕ → List ℕ → Option (List ℕ) → Option (List ℕ) → Type 0
-PrintsSettled report most bytes before after =
+-- the lines of the wrong cases are printed, unless a write failed, that stand on the lines which these bytes settle
+abbrev pub PrintsSettled : Written → Reporting → ℕ → List ℕ → Option (List ℕ) → Option (List ℕ) → Type 0
+PrintsSettled written report most bytes before after =
     (terms : Terms) (kind : Kind) → Reports terms kind report [] []
-    → Appends before after (first_cases_text most (settled_cases terms kind bytes))
+    → IsWritten written before after (first_cases_text most (settled_cases terms kind bytes))
 
--- the report, which was just begun, breaks off behind these bytes: the source failed, and the wrong cases so far are
--- printed, or a write failed
-abbrev pub BreaksOff : Type 0 → Reporting → ℕ → List ℕ → Option (List ℕ) → Option (List ℕ) → ReportFault → Type 0
-BreaksOff Failed report most bytes before after Read = Failed × PrintsSettled report most bytes before after
-BreaksOff Failed report most bytes before after Write = Unit {0}
+-- the report, which was just begun, breaks off after these bytes: the source failed, and the wrong cases so far are
+-- printed, unless a write failed; or they are all, and a write failed; or nobody reads what is written
+abbrev pub BreaksOff : Type 0 → Type 0 → Reporting → ℕ → List ℕ → Option (List ℕ) → Option (List ℕ) → ReportFault → Type 0
+BreaksOff Failed Ended report most bytes before after (Read written) = Failed × PrintsSettled written report most bytes before after
+BreaksOff Failed Ended report most bytes before after Write = Ended
+BreaksOff Failed Ended report most bytes before after NobodyReads = Unit {0}
+
+-- the same where a write failed before, and the source was read on
+abbrev pub EndsUnwritten : Type 0 → Type 0 → ReportFault → Type 0
+EndsUnwritten Failed Ended (Read CutOff) = Failed
+EndsUnwritten Failed Ended Write = Ended
+EndsUnwritten Failed Ended _ = ⊥
+
+-- a fault is that of a write
+abbrev pub IsWriteFault : ReportFault → Type 0
+IsWriteFault (Read written) = ⊥
+IsWriteFault Write = Unit {0}
+IsWriteFault NobodyReads = Unit {0}
+
+-- the fault of a write that failed by this error, where all was read: nobody reads what is written exactly where its kind
+-- says so
+pub record IsFaultOf (error : Error) (fault : ReportFault) : Type 0 where
+  pub broken : error_kind error ≡ BrokenPipe → fault ≡ NobodyReads
+  pub other : error_kind error ≢ BrokenPipe → fault ≡ Write

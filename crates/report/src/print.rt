@@ -1,35 +1,42 @@
 //! A report printed as its file is read.
-ghost use Rattle.std.specs.Prelude.{◌≡◌, ℕ, List, IfOk, IfErr, OnOk};
+ghost use Rattle.std.specs.Prelude.{◌≡◌, ◌≢◌, ℕ, List, IfOk, IfErr, OnOk};
 ghost use Rattle.std.specs.Io.KnownBytes.{Appends};
 ghost use Rattle.report.specs.declared.wrong_case.WrongCase.{WrongCase as Told};
-ghost use Rattle.report.specs.declared.print.ReportFault.TheVariants as fault_of;
-ghost use Rattle.report.specs.PrintedReports.{BreaksOff, HasTold, HasWrittenFirst, Prints, PrintsEnd};
+ghost use Rattle.std.specs.IoError.{error_kind};
+ghost use Rattle.std.specs.declared.io.ErrorKind.TheVariants.{BrokenPipe};
+ghost use Rattle.report.specs.PrintedReports.{BreaksOff, EndsUnwritten, HasTold, HasWrittenFirst};
+ghost use Rattle.report.specs.PrintedReports.{IsFaultOf, IsWriteFault, Prints, PrintsEnd};
 ghost use Rattle.report.specs.ReportText.{wrong_cases_text};
 
 use crate::report::{Ended, Report};
 use crate::report_text::{print_foot, print_wrong_case};
 use crate::wrong_case::WrongCase;
+use printing::written::Written;
 use std::io;
-use std::io::Write;
+use std::io::{ErrorKind, Write};
 use units::source::ByteSource;
 
 /// Why a report broke off.
 #[derive(Clone, Copy, Debug, PartialEq, Eq)]
 pub enum ReportFault {
     /// The source failed.
-    Read,
-    /// A write failed. How much went out before is not known.
+    Read { written: Written },
+    /// A write failed. The source has ended.
     Write,
+    /// A write failed because nobody reads what is written any more. The source was not read further.
+    NobodyReads,
 }
 
 impl From<io::Error> for ReportFault {
-    ghost use Rattle.std.specs.Prelude.{◌≡◌};
-    ghost use Rattle.report.specs.declared.print.ReportFault.TheVariants.{Write};
+    ghost use Rattle.report.specs.PrintedReports.{IsFaultOf};
 
-    ghost from_gives = { λ _ fault. fault ≡ Write };
+    ghost from_gives = { λ error fault. IsFaultOf error fault };
 
-    fn from(_error: io::Error) -> Self {
-        ReportFault::Write
+    fn from(error: io::Error) -> Self {
+        match error.kind() {
+            ErrorKind::BrokenPipe => ReportFault::NobodyReads,
+            _ => ReportFault::Write,
+        }
     }
 }
 
@@ -73,6 +80,35 @@ fn print_piece<W: Write>(
     Ok(left)
 }
 
+/// Reads the source to its end after a write failed, and returns the fault that comes first.
+fn read_on<S: ByteSource>(source: &mut S) -> ReportFault
+    ensures { (given : List ℕ) × S.gives source.old given source.new
+        × EndsUnwritten (S.failures source.new ≡ 1) (S.ended source.new) result }
+{
+    let written = Written::CutOff;
+    let mut piece = [0; 4096];
+    loop {
+        match source.read(&mut piece) {
+            Err(_) => return ReportFault::Read { written },
+            Ok(0) => return ReportFault::Write,
+            Ok(_) => {}
+        }
+    }
+}
+
+/// Returns the fault of a report of which a write failed with this error. Reads the source to its end, as `read_on`
+/// does, only if somebody may still read what is written.
+fn end_unwritten<S: ByteSource>(error: io::Error, source: &mut S) -> ReportFault
+    ensures unread { error_kind error ≡ BrokenPipe → (result ≡ ReportFault.NobodyReads) × (source.new ≡ source.old) }
+    ensures write { error_kind error ≢ BrokenPipe → (given : List ℕ) × S.gives source.old given source.new
+        × EndsUnwritten (S.failures source.new ≡ 1) (S.ended source.new) result }
+{
+    match ReportFault::from(error) {
+        ReportFault::Write => read_on(source),
+        fault => fault,
+    }
+}
+
 /// Reads the source to its end, hands the report what it gives, and writes the lines of the first wrong cases that the
 /// report tells, at most `most`. Answers how many more may follow.
 fn print_source<S: ByteSource, W: Write>(
@@ -86,16 +122,20 @@ fn print_source<S: ByteSource, W: Write>(
         × S.gives source.old given source.new × HasTold report.old told given report.new
         × HasWrittenFirst most told (W.contents w.old) (W.contents w.new) left) }
     ensures fault { IfErr result (λ fault. (given : List ℕ) × S.gives source.old given source.new
-        × BreaksOff (S.failures source.new ≡ 1) report.old most given
+        × BreaksOff (S.failures source.new ≡ 1) (S.ended source.new) report.old most given
         (W.contents w.old) (W.contents w.new) fault) }
 {
+    let written = Written::Whole;
     let mut left = most;
     let mut piece = [0; 4096];
     loop {
         match source.read(&mut piece) {
-            Err(_) => return Err(ReportFault::Read),
+            Err(_) => return Err(ReportFault::Read { written }),
             Ok(0) => return Ok(left),
-            Ok(n) => left = print_piece(w, report, &piece[..n], left)?,
+            Ok(n) => match print_piece(w, report, &piece[..n], left) {
+                Ok(more) => left = more,
+                Err(error) => return Err(end_unwritten(error, source)),
+            },
         }
     }
 }
@@ -104,7 +144,7 @@ fn print_source<S: ByteSource, W: Write>(
 /// the foot. Answers whether the file is right.
 fn print_end<W: Write>(w: &mut W, ended: &Ended, most: u64) -> Result<bool, ReportFault>
     ensures printed { IfOk result (PrintsEnd most ended.now (W.contents w.old) (W.contents w.new)) }
-    ensures fault { IfErr result (λ fault. fault ≡ fault_of.Write) }
+    ensures fault { IfErr result IsWriteFault }
 {
     print_first(w, ended.found(), most)?;
     print_foot(w, ended.malformed(), &ended.tally())?;
@@ -115,9 +155,11 @@ fn print_end<W: Write>(w: &mut W, ended: &Ended, most: u64) -> Result<bool, Repo
 /// begun: a line for each of the first wrong cases, at most `most`, each as soon as its line is read, and then the foot
 /// (`report_text`). Answers whether the file is right: no line is malformed, and no case wrong.
 ///
-/// It reads on behind a malformed line, 4,096 bytes at a time, and takes no memory. The faults are `Read` where the
-/// source has failed, behind the lines of the wrong cases on the lines that have ended, and `Write` where the writer
-/// fails.
+/// It reads on behind a malformed line, 4,096 bytes at a time, and takes no memory. Fails with
+/// `Read` if the source has failed, and else with `Write` if a write failed. So the source is read to its end after a
+/// failed write, and nothing more is written. `Read` says whether a write failed before. If none did, the lines of the
+/// wrong cases on the lines that have ended are written. Fails at once with `NobodyReads` if a write fails with
+/// `ErrorKind::BrokenPipe`; the source is not read further.
 pub fn print_report<S: ByteSource, W: Write>(
     w: &mut W,
     mut report: Report<'_>,
@@ -128,7 +170,7 @@ pub fn print_report<S: ByteSource, W: Write>(
     ensures printed { IfOk result (λ right. (given : List ℕ) × S.gives source.old given source.new
         × Prints report.entry most given (W.contents w.old) (W.contents w.new) right) }
     ensures fault { IfErr result (λ fault. (given : List ℕ) × S.gives source.old given source.new
-        × BreaksOff (S.failures source.new ≡ 1) report.entry most given
+        × BreaksOff (S.failures source.new ≡ 1) (S.ended source.new) report.entry most given
         (W.contents w.old) (W.contents w.new) fault) }
 {
     let left = print_source(w, &mut report, source, most)?;

@@ -6,7 +6,8 @@ use Rattle.bidtests.specs.declared.kind.Kind.{Kind}
 use Rattle.rows.specs.Letters.{letter_by}
 use Rattle.rows.specs.declared.letter.Letter.{Letter}
 use Rattle.rows.specs.declared.letter.Letter.TheVariants as letter
-use Rattle.requests.specs.RowsPrinted.{IsKindBySource, chars_asked, classes_asked, letters_asked}
+use Rattle.requests.specs.RowsPrinted.{chars_asked, classes_asked, letters_asked}
+use Rattle.requests.specs.FileRows.{IsKindOfFile}
 use Rattle.requests.specs.ReadFiles.{FileFacts}
 use Rattle.requests.specs.Parts.{AreDone, alphabet_parts}
 use Rattle.requests.specs.declared.request.FileKind.{FileKind}
@@ -29,7 +30,7 @@ chars_read (OfForm form) chars e = tt
 
 -- where there are letters, what is read for them is done
 pub alphabet_done : (files : FileFacts) (k : FileKind) (source : TableSource) (kind : Kind) (letters : RowLetters) (xs : List Letter)
-    → IsKindBySource files k source kind → letters_asked kind letters ≡ Some xs → AreDone (alphabet_parts k letters)
+    → IsKindOfFile files k (Some source) kind → letters_asked kind letters ≡ Some xs → AreDone (alphabet_parts k letters)
 alphabet_done files Classes source kind letters xs h e =
     let said = subst (λ (r : Kind). letters_asked r letters ≡ Some xs) h e in
     let read = mapped_some (map letter.Class) (classes_asked letters) xs said in

@@ -1,6 +1,5 @@
 -- The fault of the first step that fails, where parts are joined; and what ends a part.
 use Rattle.std.proofs.Common.{◌≡◌, ℕ, List, [], ◌∷◌, ◌++◌, ◌≤◌, length, Option, None, Some, Result, Ok, Err, IfErr, IsErrAnd, inl, inr, subst, sym}
-use Rattle.std.specs.Borrow.{Bor}
 use Rattle.std.specs.Str.{chars}
 use Rattle.units.specs.Text.{lines_of}
 use Rattle.units.specs.declared.level.Direction.{Direction}
@@ -17,13 +16,12 @@ use Rattle.requests.specs.FaultText.{print_fault}
 use Rattle.requests.specs.Outcomes.{IsDone}
 use Rattle.requests.specs.ItemWords.{codes_said}
 use Rattle.requests.specs.Printed.{HoldsText, most_text_bytes}
-use Rattle.requests.specs.Parts.{AreDone, EndsWriting, FailsIn, IsFirstFault, RequestPart, alphabet_parts, codes_parts, explaining_parts, file_part, kind_parts, lines_part, lines_parts, opening_part, printing_parts, row_parts, row_table_parts, row_text_parts, rows_parts, sought_part, source_parts, parts_of, table_parts, text_parts, texts_part, whole_parts}
+use Rattle.requests.specs.Parts.{AreDone, EndsWriting, FailsIn, FailsOver, IsFirstFault, RequestPart, all_parts_of, alphabet_parts, codes_parts, explaining_parts, file_part, lines_part, lines_parts, opening_part, printing_parts, row_parts, row_table_parts, row_text_parts, rows_parts, sought_part, source_parts, table_parts, text_parts, texts_part, whole_parts}
 use Rattle.requests.specs.DirectionWords.{SaysDirections}
-use Rattle.requests.specs.RowsPrinted.{HasPrintedRows, IsKindBySource}
+use Rattle.requests.specs.RowsPrinted.{HasPrintedRows}
 use Rattle.requests.proofs.AskedLetters.{alphabet_done}
 use Rattle.requests.specs.declared.request.FileKind.{FileKind}
 use Rattle.requests.specs.declared.request.FileKind.TheVariants.{Classes, Characters}
-use Rattle.requests.specs.declared.request.Print.TheVariants.{Levels, Reorder, Explained}
 use Rattle.requests.specs.declared.request.TableSource.{TableSource}
 use Rattle.requests.specs.declared.request.TableSource.TheVariants.{Folder, BuiltIn}
 use Rattle.requests.specs.declared.request.Request.{Request}
@@ -56,10 +54,14 @@ all_done [] ys done rest = rest
 all_done (x ∷ xs) ys done rest = (done.0, all_done xs ys done.1 rest)
 
 -- behind parts that are done, what ends the rest ends all
+pub FailsOver-behind : (xs first all : List RequestPart) (before after : Option (List ℕ)) (fault : Fault) → AreDone xs → FailsOver first all before after fault
+    → FailsOver (xs ++ first) (xs ++ all) before after fault
+FailsOver-behind xs first all before after fault done (inl h) = inl (first_behind xs first fault done h.0, h.1)
+FailsOver-behind xs first all before after fault done (inr h) = inr (all_done xs all done h.0, h.1)
+
 pub FailsIn-behind : (xs ys : List RequestPart) (before after : Option (List ℕ)) (fault : Fault) → AreDone xs → FailsIn ys before after fault
     → FailsIn (xs ++ ys) before after fault
-FailsIn-behind xs ys before after fault done (inl h) = inl (first_behind xs ys fault done h.0, h.1)
-FailsIn-behind xs ys before after fault done (inr h) = inr (all_done xs ys done h.0, h.1)
+FailsIn-behind xs ys before after fault done h = FailsOver-behind xs ys ys before after fault done h
 
 -- the tables that were read state no fault
 pub class_faultless : (bytes : List ℕ) → class_file_fault bytes ≡ None → first_fault class_fault [] (lines_of bytes) ≡ None
@@ -84,23 +86,23 @@ tables_done files folder tables h = (
 )
 
 -- the tables that rows need, and what they hold by these
-pub has_rows : (files : FileFacts) (kind : FileKind) (folder : Option (Bor (List ℕ))) (tables : Option TablesOf) (rows : Kind)
-    → HasRowTables files kind folder tables → AreRowsBy tables rows → IsKindOfFile files kind folder rows
-has_rows files Classes folder tables rows h by = subst (λ (t : Option TablesOf). AreRowsBy t rows) h by
-has_rows files Characters (Some folder) tables rows h by =
+pub has_rows : (files : FileFacts) (kind : FileKind) (source : Option TableSource) (tables : Option TablesOf) (rows : Kind)
+    → HasRowTables files kind source tables → AreRowsBy tables rows → IsKindOfFile files kind source rows
+has_rows files Classes source tables rows h by = subst (λ (t : Option TablesOf). AreRowsBy t rows) h by
+has_rows files Characters (Some source) tables rows h by =
     let is = subst (λ (t : Option TablesOf). AreRowsBy t rows) h.2 by in
-    (is.0, subst (AreTables files folder.now) (sym is.1) h.1, is.2)
+    (is.0, subst (AreTablesBy files source) (sym is.1) h.1, is.2)
 has_rows files Characters None tables rows h by = absurd h
-
-pub row_tables_done : (files : FileFacts) (kind : FileKind) (folder : Option (Bor (List ℕ))) (rows : Kind) → IsKindOfFile files kind folder rows
-    → AreDone (row_table_parts files kind folder)
-row_tables_done files Classes folder rows is = tt
-row_tables_done files Characters (Some folder) rows is = tables_done files folder.now is.0.now is.1
-row_tables_done files Characters None rows is = absurd is
 
 pub source_done : (files : FileFacts) (source : TableSource) (tables : TablesOf) → AreTablesBy files source tables → AreDone (source_parts files source)
 source_done files (Folder folder) tables h = tables_done files folder.now tables h
-source_done files BuiltIn tables h = ((tables, h), tt)
+source_done files BuiltIn tables h = tt
+
+pub row_tables_done : (files : FileFacts) (kind : FileKind) (source : Option TableSource) (rows : Kind) → IsKindOfFile files kind source rows
+    → AreDone (row_table_parts files kind source)
+row_tables_done files Classes source rows is = tt
+row_tables_done files Characters (Some source) rows is = source_done files source is.0.now is.1
+row_tables_done files Characters None rows is = absurd is
 
 -- and so are all parts of what is read of a text that was read whole
 pub text_done : (files : FileFacts) (file text : List ℕ) → HoldsText files file text → AreDone (text_parts files file)
@@ -131,15 +133,14 @@ writing_ends Write = tt
 writing_ends Memory = tt
 
 -- where all was read, a fault of printing is one of writing
+pub writing_fails : {A : Type 0} (first all : List RequestPart) (before after : Option (List ℕ)) (r : Result A Fault) (f : PrintFault) → AreDone all
+    → IsErrAnd r (λ fault. fault ≡ print_fault f) → IfErr r (FailsOver first all before after)
+writing_fails first all before after (Ok x) f done h = tt
+writing_fails first all before after (Err fault) f done h = inr (done, subst EndsWriting (sym h) (writing_ends f))
+
 pub printing_fails : {A : Type 0} (parts : List RequestPart) (before after : Option (List ℕ)) (r : Result A Fault) (f : PrintFault) → AreDone parts
     → IsErrAnd r (λ fault. fault ≡ print_fault f) → IfErr r (FailsIn parts before after)
-printing_fails parts before after (Ok x) f done h = tt
-printing_fails parts before after (Err fault) f done h = inr (done, subst EndsWriting (sym h) (writing_ends f))
-
--- what rows hold was read
-pub kind_done : (files : FileFacts) (k : FileKind) (source : TableSource) (kind : Kind) → IsKindBySource files k source kind → AreDone (kind_parts files k source)
-kind_done files Classes source kind h = tt
-kind_done files Characters source kind h = source_done files source h.0.now h.1
+printing_fails parts before after r f done h = writing_fails parts parts before after r f done h
 
 -- what is asked of rows that were printed says them
 rows_done : (files : FileFacts) (asked : AskedRows) (before after : Option (List ℕ)) → HasPrintedRows files asked before after → AreDone (rows_parts files asked)
@@ -148,10 +149,10 @@ rows_done files asked before after h = (
   ((h.texts.least, h.texts.greatest), h.are.ends),
   (
     (h.directions, h.named),
-    all_done (alphabet_parts asked.kind asked.letters) (kind_parts files asked.kind asked.tables ++ texts_part files asked ∷ [])
+    all_done (alphabet_parts asked.kind asked.letters) (row_table_parts files asked.kind (Some asked.tables) ++ texts_part files asked ∷ [])
         (alphabet_done files asked.kind asked.tables h.kind asked.letters h.texts.alphabet h.is h.are.letters)
-        (all_done (kind_parts files asked.kind asked.tables) (texts_part files asked ∷ [])
-        (kind_done files asked.kind asked.tables h.kind h.is) ((h.kind, h.is, h.texts, h.are, h.made.some), tt)),
+        (all_done (row_table_parts files asked.kind (Some asked.tables)) (texts_part files asked ∷ [])
+        (row_tables_done files asked.kind (Some asked.tables) h.kind h.is) ((h.kind, h.is, h.texts, h.are, h.made.some), tt)),
   ),
 )
 
@@ -174,12 +175,8 @@ row_done files sought rows is found = all_done (row_table_parts files sought.kin
 
 -- what was done was read before
 pub request_done : (files : FileFacts) (before after : Option (List ℕ)) (request : Request) (outcome : Outcome)
-    → IsDone files before after request outcome → AreDone (parts_of files request)
-request_done files before after (Text source direction file Levels) Printed h =
-    begun_done files source file.now h.tables h.stated h.read.bytes h.read.begins
-request_done files before after (Text source direction file (Reorder columns)) Printed h =
-    begun_done files source file.now h.tables h.stated h.read.bytes h.read.begins
-request_done files before after (Text source direction file Explained) Printed h =
+    → IsDone files before after request outcome → AreDone (all_parts_of files request)
+request_done files before after (Text source direction file print) Printed h =
     whole_done files source file.now h.tables h.stated h.text h.read
 request_done files before after (ExplainClasses word direction) Printed h = (h.short, ((h.classes, h.named), tt))
 request_done files before after (ExplainCodes word source direction) Printed h =
@@ -187,12 +184,12 @@ request_done files before after (ExplainCodes word source direction) Printed h =
 request_done files before after (ExplainRow sought) Printed h =
     row_done files sought h.rows h.is (h.rows, h.is, (h.row, h.found))
 request_done files before after (Judge Classes tables file) (Judged status) h = ((h.bytes, h.read), tt)
-request_done files before after (Judge Characters (Some folder) file) (Judged status) h =
-    all_done (table_parts files folder.now) (file_part files most_file_bytes file.now ∷ [])
-    (tables_done files folder.now h.is.0 h.is.1) ((h.bytes, h.read), tt)
-request_done files before after (Report kind folder file options) (Judged status) h =
-    all_done (row_table_parts files kind folder) (opening_part files most_file_bytes file.now ∷ [])
-    (row_tables_done files kind folder h.0 h.1) ((h.2.bytes, h.2.begins), tt)
+request_done files before after (Judge Characters (Some source) file) (Judged status) h =
+    all_done (source_parts files source) (file_part files most_file_bytes file.now ∷ [])
+    (source_done files source h.is.0 h.is.1) ((h.bytes, h.read), tt)
+request_done files before after (Report kind source file options) (Judged status) h =
+    all_done (row_table_parts files kind source) (file_part files most_file_bytes file.now ∷ [])
+    (row_tables_done files kind source h.0 h.1) ((h.2.bytes, h.2.read), tt)
 request_done files before after (Rows asked) Printed h = rows_done files asked before after h
 request_done files before after (RowsOf asked) Printed h = lines_done files asked h.directions h.named h.tables.now h.stated h.text h.read h.made.short
 request_done files before after (Text source direction file print) (Judged status) h = absurd h
@@ -200,9 +197,9 @@ request_done files before after (ExplainClasses word direction) (Judged status) 
 request_done files before after (ExplainCodes word source direction) (Judged status) h = absurd h
 request_done files before after (ExplainRow sought) (Judged status) h = absurd h
 request_done files before after (Judge Classes tables file) Printed h = absurd h
-request_done files before after (Judge Characters (Some folder) file) Printed h = absurd h
+request_done files before after (Judge Characters (Some source) file) Printed h = absurd h
 request_done files before after (Judge Characters None file) (Judged status) h = absurd h
 request_done files before after (Judge Characters None file) Printed h = absurd h
-request_done files before after (Report kind folder file options) Printed h = absurd h
+request_done files before after (Report kind source file options) Printed h = absurd h
 request_done files before after (Rows asked) (Judged status) h = absurd h
 request_done files before after (RowsOf asked) (Judged status) h = absurd h

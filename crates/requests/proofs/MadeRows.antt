@@ -11,11 +11,12 @@ use Rattle.rows.specs.Exhaustive.{ExhaustiveOf}
 use Rattle.rows.specs.Letters.{letter_by}
 use Rattle.rows.specs.declared.letter.Letter.{Letter}
 use Rattle.requests.specs.DirectionWords.{EndsDirections, SaysDirections}
-use Rattle.requests.specs.RowsPrinted.{IsKindBySource, chars_asked, letters_asked, texts_over}
+use Rattle.requests.specs.RowsPrinted.{chars_asked, letters_asked, texts_over}
+use Rattle.requests.specs.FileRows.{IsKindOfFile}
 use Rattle.requests.specs.ItemWords.{EndsItems}
 use Rattle.requests.specs.ReadFiles.{FileFacts}
 use Rattle.requests.specs.LengthWords.{EndsLengths, lengths_named}
-use Rattle.requests.specs.Parts.{AreDone, FailsIn, IsFirstFault, RequestPart, alphabet_parts, directions_part, kind_parts, lengths_part, making_part, rows_parts, source_parts, texts_part}
+use Rattle.requests.specs.Parts.{AreDone, FailsIn, IsFirstFault, RequestPart, alphabet_parts, directions_part, lengths_part, making_part, row_table_parts, rows_parts, source_parts, texts_part}
 use Rattle.requests.specs.TableSources.{AreTablesBy}
 use Rattle.requests.specs.declared.fault.Fault.{Fault}
 use Rattle.requests.specs.declared.fault.Fault.TheVariants.{NoCodePoint, OutOfMemory}
@@ -25,7 +26,7 @@ use Rattle.requests.specs.declared.request.FileKind.TheVariants.{Classes, Charac
 use Rattle.requests.specs.declared.request.RowLetters.TheVariants.{Alphabet}
 use Rattle.requests.specs.declared.request.RowsForm.{RowsForm}
 use Rattle.requests.proofs.AskedLetters.{alphabet_done, chars_read}
-use Rattle.requests.proofs.FirstFaults.{FailsIn-behind, first_behind, first_of_all, handed_on, kind_done}
+use Rattle.requests.proofs.FirstFaults.{FailsIn-behind, first_behind, first_of_all, handed_on, row_tables_done}
 
 -- what ends a part before all else ends the request, and nothing is written
 pub first_fails : (parts : List RequestPart) (known : Option (List ℕ)) {T : Type 0} (r : Result T Fault) (e : Fault) → IsErrAnd r (λ given. given ≡ e)
@@ -44,7 +45,7 @@ module _ (files : FileFacts) (asked : AskedRows) where
 
   -- what is read behind them
   abbrev letter_parts : List RequestPart
-  letter_parts = alphabet_parts asked.kind asked.letters ++ (kind_parts files asked.kind asked.tables ++ texts_part files asked ∷ [])
+  letter_parts = alphabet_parts asked.kind asked.letters ++ (row_table_parts files asked.kind (Some asked.tables) ++ texts_part files asked ∷ [])
 
   pub lengths_fail : (fault : Fault) → EndsLengths asked.lengths.now fault → IsFirstFault (rows_parts files asked) fault
   unfolding rows_parts
@@ -66,7 +67,7 @@ module _ (files : FileFacts) (asked : AskedRows) where
 
     -- what is read for the letters, in a file of this kind
     abbrev steps_in : FileKind → List RequestPart
-    steps_in k = alphabet_parts k asked.letters ++ (kind_parts files k asked.tables ++ texts_part files asked ∷ [])
+    steps_in k = alphabet_parts k asked.letters ++ (row_table_parts files k (Some asked.tables) ++ texts_part files asked ∷ [])
 
     in_kind : (k : FileKind) (fault : Fault) → asked.kind ≡ k → IsFirstFault (steps_in k) fault → IsFirstFault (rows_parts files asked) fault
     in_kind k fault is h = letters_fail fault (subst (λ (f : FileKind). IsFirstFault (steps_in f) fault) (sym is) h)
@@ -74,7 +75,7 @@ module _ (files : FileFacts) (asked : AskedRows) where
     pub classes_fail : (fault : Fault) → asked.kind ≡ Classes → IsFirstFault (alphabet_parts Classes asked.letters) fault
         → IsFirstFault (rows_parts files asked) fault
     classes_fail fault k h =
-        in_kind Classes fault k (first_of_all (alphabet_parts Classes asked.letters) (kind_parts files Classes asked.tables ++ texts_part files asked ∷ []) fault h)
+        in_kind Classes fault k (first_of_all (alphabet_parts Classes asked.letters) (row_table_parts files Classes (Some asked.tables) ++ texts_part files asked ∷ []) fault h)
 
     pub codes_fail : (word : Bor (List ℕ)) (fault : Fault) → asked.kind ≡ Characters → asked.letters ≡ Alphabet word → EndsItems char_of NoCodePoint word.now fault
         → IsFirstFault (rows_parts files asked) fault
@@ -87,7 +88,7 @@ module _ (files : FileFacts) (asked : AskedRows) where
         (chars_read asked.letters chars read) (first_of_all (source_parts files asked.tables) (texts_part files asked ∷ []) fault h))
 
     module _ (before after : Option (List ℕ)) (letters : List Letter) where
-      module _ (kind : Kind) (is : IsKindBySource files asked.kind asked.tables kind) (are : letters_asked kind asked.letters ≡ Some letters) where
+      module _ (kind : Kind) (is : IsKindOfFile files asked.kind (Some asked.tables) kind) (are : letters_asked kind asked.letters ≡ Some letters) where
         texts_fail : (fault : Fault) → FailsIn (making_part asked.form (texts_over letters least greatest) ∷ []) before after fault
             → FailsIn (texts_part files asked ∷ []) before after fault
         texts_fail fault (inl (inl ended, same)) = inl (inl (kind, is, texts_over letters least greatest, record { letters = are; ends = e }, ended), same)
@@ -97,9 +98,9 @@ module _ (files : FileFacts) (asked : AskedRows) where
         rows_fail : (fault : Fault) → FailsIn (making_part asked.form (texts_over letters least greatest) ∷ []) before after fault → FailsIn (rows_parts files asked) before after fault
         unfolding rows_parts
         rows_fail fault h =
-            let behind_tables = FailsIn-behind (kind_parts files asked.kind asked.tables) (texts_part files asked ∷ []) before after fault
-            (kind_done files asked.kind asked.tables kind is) (texts_fail fault h) in
-            let behind_letters = FailsIn-behind (alphabet_parts asked.kind asked.letters) (kind_parts files asked.kind asked.tables ++ texts_part files asked ∷ [])
+            let behind_tables = FailsIn-behind (row_table_parts files asked.kind (Some asked.tables)) (texts_part files asked ∷ []) before after fault
+            (row_tables_done files asked.kind (Some asked.tables) kind is) (texts_fail fault h) in
+            let behind_letters = FailsIn-behind (alphabet_parts asked.kind asked.letters) (row_table_parts files asked.kind (Some asked.tables) ++ texts_part files asked ∷ [])
             before after fault (alphabet_done files asked.kind asked.tables kind asked.letters letters is are) behind_tables in
             FailsIn-behind word_parts letter_parts before after fault words_done behind_letters
 
@@ -113,7 +114,7 @@ module _ (files : FileFacts) (asked : AskedRows) where
           → {T : Type 0} (r : Result T Fault) → IfErr r (FailsIn (making_part asked.form (texts_over letters least greatest) ∷ []) before after)
           → IfErr r (FailsIn (rows_parts files asked) before after)
       of_classes_fail k are r h =
-          rows_fail_if file.Classes (subst (λ (f : FileKind). IsKindBySource files f asked.tables file.Classes) (sym k) refl) are r h
+          rows_fail_if file.Classes (subst (λ (f : FileKind). IsKindOfFile files f (Some asked.tables) file.Classes) (sym k) refl) are r h
 
       -- and of characters, by these tables
       pub of_characters_fail : (tables : TablesOf) (chars : List ℕ) → asked.kind ≡ Characters → AreTablesBy files asked.tables tables
@@ -122,6 +123,6 @@ module _ (files : FileFacts) (asked : AskedRows) where
           → IfErr r (FailsIn (rows_parts files asked) before after)
       of_characters_fail tables chars k stated read same r h =
           let borrowed : Bor TablesOf = record { ref_ptr = (0, 0); now = tables } in
-          let is = subst (λ (f : FileKind). IsKindBySource files f asked.tables (file.Characters borrowed)) (sym k) (borrowed, stated, refl) in
+          let is = subst (λ (f : FileKind). IsKindOfFile files f (Some asked.tables) (file.Characters borrowed)) (sym k) (borrowed, stated, refl) in
           let are : letters_asked (file.Characters borrowed) asked.letters ≡ Some letters = ap (option_map (map (letter_by tables))) read ∙ ap Some (sym same) in
           rows_fail_if (file.Characters borrowed) is are r h

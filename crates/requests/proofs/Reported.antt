@@ -16,13 +16,14 @@ use Rattle.requests.specs.JudgedFiles.{verdict_status}
 use Rattle.requests.specs.Outcomes.{Fails}
 use Rattle.requests.specs.ReadFiles.{FileFacts, most_file_bytes}
 use Rattle.requests.specs.ReportedFiles.{FailsAs, report_status}
-use Rattle.requests.specs.Parts.{FailsIn, opening_part, parts_of, row_table_parts}
+use Rattle.requests.specs.Parts.{FailsOver, all_parts_of, file_part, opening_part, parts_of, row_table_parts}
 use Rattle.requests.specs.declared.fault.Fault.{Fault}
 use Rattle.requests.specs.declared.request.FileKind.{FileKind}
 use Rattle.requests.specs.declared.request.ReportOptions.{ReportOptions}
 use Rattle.requests.specs.declared.request.Request.{Request}
 use Rattle.requests.specs.declared.request.Request.TheVariants.{Report}
-use Rattle.requests.proofs.FirstFaults.{FailsIn-behind, handed_on, row_tables_done}
+use Rattle.requests.specs.declared.request.TableSource.{TableSource}
+use Rattle.requests.proofs.FirstFaults.{FailsOver-behind, handed_on, row_tables_done}
 
 status_from : (ws : List WrongCase) (m : Option (ℕ × Cause)) (rows cases : ℕ)
     → report_status (right_with ws m) ≡ verdict_status (verdict_from ws m rows cases)
@@ -40,22 +41,22 @@ status_of_report rows bytes =
 
 module _ (files : FileFacts) (before after : Option (List ℕ)) where
   -- what ends a part of a request ends it
-  pub steps_fail : (request : Request) {T : Type 0} (r : Result T Fault) → IfErr r (FailsIn (parts_of files request) before after)
+  pub steps_fail : (request : Request) {T : Type 0} (r : Result T Fault) → IfErr r (FailsOver (parts_of files request) (all_parts_of files request) before after)
       → IfErr r (Fails files before after request)
   steps_fail request (Ok x) h = h
   steps_fail request (Err fault) h = inl h
 
   -- and so does what is handed on of that
   pub handed_fail : (request : Request) {T : Type 0} (r : Result T Fault) (e : Fault) → IsErrAnd r (λ given. given ≡ e)
-      → FailsIn (parts_of files request) before after e → IfErr r (Fails files before after request)
+      → FailsOver (parts_of files request) (all_parts_of files request) before after e → IfErr r (Fails files before after request)
   handed_fail request r e same h = handed_on (Fails files before after request) r e same (inl h)
 
   -- what ends a report on a file of such rows ends its request, behind the tables that these need
-  pub rows_fail : (kind : FileKind) (folder : Option (Bor (List ℕ))) (file : Bor (List ℕ)) (options : ReportOptions) (rows : Kind)
-      → IsKindOfFile files kind folder rows → {T : Type 0} (r : Result T Fault) (e : Fault) → IsErrAnd r (λ given. given ≡ e)
-      → FailsAs files rows file.now options before after e → IfErr r (Fails files before after (Report kind folder file options))
-  rows_fail kind folder file options rows is r e same (inl h) =
-      handed_fail (Report kind folder file options) r e same (FailsIn-behind (row_table_parts files kind folder) (opening_part files most_file_bytes file.now ∷ []) before after e
-      (row_tables_done files kind folder rows is) h)
-  rows_fail kind folder file options rows is r e same (inr h) =
-      handed_on (Fails files before after (Report kind folder file options)) r e same (inr (rows, is, h))
+  pub rows_fail : (kind : FileKind) (source : Option TableSource) (file : Bor (List ℕ)) (options : ReportOptions) (rows : Kind)
+      → IsKindOfFile files kind source rows → {T : Type 0} (r : Result T Fault) (e : Fault) → IsErrAnd r (λ given. given ≡ e)
+      → FailsAs files rows file.now options before after e → IfErr r (Fails files before after (Report kind source file options))
+  rows_fail kind source file options rows is r e same (inl h) =
+      handed_fail (Report kind source file options) r e same (FailsOver-behind (row_table_parts files kind source) (opening_part files most_file_bytes file.now ∷ []) (file_part files most_file_bytes file.now ∷ []) before after e
+      (row_tables_done files kind source rows is) h)
+  rows_fail kind source file options rows is r e same (inr h) =
+      handed_on (Fails files before after (Report kind source file options)) r e same (inr (rows, is, h))

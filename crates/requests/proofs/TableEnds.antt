@@ -8,7 +8,7 @@ use Rattle.ucdfiles.specs.Reading.{IsFault, RefusesBytes}
 use Rattle.ucdfiles.specs.declared.fault.Fault.{Fault as LineFault}
 use Rattle.ucdfiles.specs.declared.fault.TableFault.{TableFault}
 use Rattle.ucdfiles.specs.declared.fault.TableFault.TheVariants.{CodePoint, Backwards, ClassName, Fields, Overlap, Twice, BracketKind, LineTooLong, TooMany, Read, Memory}
-use Rattle.requests.specs.ReadFiles.{FileFacts, FileNamed, most_file_bytes}
+use Rattle.requests.specs.ReadFiles.{FileFacts, FileNamed, most_file_bytes, named_file}
 use Rattle.requests.specs.TableFaults.{EndsReading, HasFault, table_fault}
 
 module _ (files : FileFacts) (fault : List (List ℕ) → List ℕ → Option LineFault) (path : List ℕ) (ended : Type 0) (bytes : List ℕ)
@@ -19,16 +19,16 @@ module _ (files : FileFacts) (fault : List (List ℕ) → List ℕ → Option Li
   of_line e other (inl (inr settled)) = (bytes, inl (begins, settled))
   of_line e other (inr last) = (bytes, inr (whole last.0, last.1))
 
-  pub table_ends : (name : Bor (List ℕ)) (e : TableFault) → (e ≡ Read → files.Fails (FileNamed path) most_file_bytes bytes unread)
-      → IsFault fault ended bytes e → EndsReading files fault path name.now (table_fault name e unread)
-  table_ends name (CodePoint line) failed h = (refl, refl, of_line _ (λ m. cc) (h.other (λ r. cc)))
-  table_ends name (Backwards line) failed h = (refl, refl, of_line _ (λ m. cc) (h.other (λ r. cc)))
-  table_ends name (ClassName line) failed h = (refl, refl, of_line _ (λ m. cc) (h.other (λ r. cc)))
-  table_ends name (Fields line) failed h = (refl, refl, of_line _ (λ m. cc) (h.other (λ r. cc)))
-  table_ends name (Overlap line) failed h = (refl, refl, of_line _ (λ m. cc) (h.other (λ r. cc)))
-  table_ends name (Twice line) failed h = (refl, refl, of_line _ (λ m. cc) (h.other (λ r. cc)))
-  table_ends name (BracketKind line) failed h = (refl, refl, of_line _ (λ m. cc) (h.other (λ r. cc)))
-  table_ends name (LineTooLong line) failed h = (refl, refl, of_line _ (λ m. cc) (h.other (λ r. cc)))
-  table_ends name (TooMany line) failed h = (refl, refl, of_line _ (λ m. cc) (h.other (λ r. cc)))
-  table_ends name Read failed h = (refl, (bytes, failed refl, h.read refl))
-  table_ends name Memory failed h = tt
+  pub table_ends : (name folder : Bor (List ℕ)) (e : TableFault) → (e ≡ Read → files.Fails (FileNamed path) most_file_bytes bytes unread)
+      → IsFault fault ended bytes e → EndsReading files fault path (named_file name (Some folder) most_file_bytes) (table_fault name folder e unread)
+  table_ends name folder (CodePoint line) failed h = (refl, refl, of_line _ (λ m. cc) (h.other (λ r. cc)))
+  table_ends name folder (Backwards line) failed h = (refl, refl, of_line _ (λ m. cc) (h.other (λ r. cc)))
+  table_ends name folder (ClassName line) failed h = (refl, refl, of_line _ (λ m. cc) (h.other (λ r. cc)))
+  table_ends name folder (Fields line) failed h = (refl, refl, of_line _ (λ m. cc) (h.other (λ r. cc)))
+  table_ends name folder (Overlap line) failed h = (refl, refl, of_line _ (λ m. cc) (h.other (λ r. cc)))
+  table_ends name folder (Twice line) failed h = (refl, refl, of_line _ (λ m. cc) (h.other (λ r. cc)))
+  table_ends name folder (BracketKind line) failed h = (refl, refl, of_line _ (λ m. cc) (h.other (λ r. cc)))
+  table_ends name folder (LineTooLong line) failed h = (refl, refl, of_line _ (λ m. cc) (h.other (λ r. cc)))
+  table_ends name folder (TooMany line) failed h = (refl, refl, of_line _ (λ m. cc) (h.other (λ r. cc)))
+  table_ends name folder Read failed h = (refl, (bytes, failed refl, h.read refl))
+  table_ends name folder Memory failed h = tt

@@ -1,20 +1,26 @@
--- How a fault is said: its line on standard error, and the exit status that goes with it.
-use Rattle.std.specs.Prelude.{◌≡◌, ℕ, List, [], ◌∷◌, Option, Some, None, codes, true}
+-- How a fault is said: its line on standard error, a second one with its reason, if that is asked for, and the exit
+-- status that goes with it.
+use Rattle.std.specs.Prelude.{◌≡◌, ℕ, Bool, List, [], ◌∷◌, ◌++◌, Option, codes, true, false}
 use Rattle.std.specs.List.{concat}
 use Rattle.std.specs.Fmt.{decimal}
 use Rattle.std.specs.Io.KnownBytes.{Appends}
 use Rattle.units.specs.declared.unread.Unread.{Unread}
-use Rattle.units.specs.declared.unread.Unread.TheVariants.{Missing, Forbidden, Folder, TooLarge, Other}
 use Rattle.ucdfiles.specs.declared.fault.TableFault.{TableFault}
 use Rattle.ucdfiles.specs.Faults.{name_of}
 use Rattle.bidtests.specs.VerdictText.{cause_name}
 use Rattle.bidtests.specs.declared.verdict.Cause.{Cause}
 use Rattle.printing.specs.declared.fault.PrintFault.{PrintFault}
 use Rattle.printing.specs.declared.fault.PrintFault.TheVariants.{Write, Memory}
+use Rattle.requests.specs.ReadFiles.{NamedFile, named_file}
+use Rattle.requests.specs.Reasons.{reason_line, reason_of}
+use Rattle.requests.specs.declared.fault.Detail.{Detail}
+use Rattle.requests.specs.declared.fault.Detail.TheVariants.{Brief, Verbose}
 use Rattle.requests.specs.declared.fault.Fault.{Fault}
 use Rattle.requests.specs.declared.outcome.Ended.{Ended}
-use Rattle.requests.specs.declared.fault.Fault.TheVariants.{WordNotUtf8, TablesNeeded, ClassesTooLong, CodesTooLong, NoClass, NoCodePoint, NoLengths, NoDirection, NoDirections, NoRows, LineIsNoRow, CannotRead, FaultyLine, NotUtf8, LongLine, MalformedLine, CannotWrite, OutOfMemory}
+use Rattle.requests.specs.declared.fault.Fault.TheVariants.{WordNotUtf8, TablesNeeded, ClassesTooLong, CodesTooLong, NoClass, NoCodePoint, NoLengths, NoDirection, NoDirections, NoRows, LineIsNoRow, CannotRead, FaultyLine, NotUtf8, LongLine, MalformedLine, CannotWrite, NobodyReads, OutOfMemory}
 use Rattle.printing.specs.LevelsText.{line_feed}
+use Rattle.printing.specs.declared.written.Written.{Written}
+use Rattle.printing.specs.declared.written.Written.TheVariants.{Whole, CutOff}
 use Rattle.rows.specs.declared.fault.RowsFault.{RowsFault}
 use Rattle.rows.specs.declared.fault.RowsFault.TheVariants as refused
 
@@ -48,21 +54,9 @@ rows_refusal refused.NoneBetween = codes "--length ends before it begins"
 abbrev pub no_rows_text : RowsFault → List ℕ
 no_rows_text fault = concat (codes "bidi: " ∷ rows_refusal fault ∷ line_feed ∷ [])
 
--- why a file can't be read, where that is known
-abbrev pub unread_words : Unread → Option (List ℕ)
-unread_words Missing = Some (codes "no such file")
-unread_words Forbidden = Some (codes "permission denied")
-unread_words Folder = Some (codes "a folder")
-unread_words TooLarge = Some (codes "too large")
-unread_words Other = None
-
--- the line that says that the file of this name can't be read, and why, where that is known
-abbrev pub unread_line : List ℕ → Option (List ℕ) → List ℕ
-unread_line name (Some reason) = concat (codes "bidi: cannot read " ∷ name ∷ codes ": " ∷ reason ∷ line_feed ∷ [])
-unread_line name None = concat (codes "bidi: cannot read " ∷ name ∷ line_feed ∷ [])
-
-abbrev pub unread_text : List ℕ → Unread → List ℕ
-unread_text name unread = unread_line name (unread_words unread)
+-- the line that says that the file of this name can't be read
+abbrev pub unread_text : List ℕ → List ℕ
+unread_text name = concat (codes "bidi: cannot read " ∷ name ∷ line_feed ∷ [])
 
 -- the line that says that the text in the file of this name is not UTF-8
 abbrev pub not_utf8_text : List ℕ → List ℕ
@@ -83,28 +77,36 @@ abbrev pub malformed_line_text : List ℕ → ℕ → Cause → List ℕ
 malformed_line_text name line cause = concat
     (codes "bidi: " ∷ name ∷ codes ": line " ∷ decimal line ∷ codes ": malformed: " ∷ cause_name cause ∷ line_feed ∷ [])
 
--- what known bytes grew by says this fault
-abbrev pub SaysFault : Option (List ℕ) → Option (List ℕ) → Fault → Type 0
-SaysFault before after WordNotUtf8 = Appends before after (concat (codes "bidi: a word is not UTF-8" ∷ line_feed ∷ []))
-SaysFault before after TablesNeeded = Appends before after (concat (codes "bidi: --tables is needed" ∷ line_feed ∷ []))
-SaysFault before after ClassesTooLong = Appends before after (concat (codes "bidi: --classes is too long" ∷ line_feed ∷ []))
-SaysFault before after CodesTooLong = Appends before after (concat (codes "bidi: --codes is too long" ∷ line_feed ∷ []))
-SaysFault before after (NoClass name) = Appends before after (no_class_text name.now)
-SaysFault before after (NoCodePoint item) = Appends before after (no_code_point_text item.now)
-SaysFault before after (NoLengths word) =
-    Appends before after (concat (codes "bidi: " ∷ word.now ∷ codes " is no range of lengths" ∷ line_feed ∷ []))
-SaysFault before after (NoDirection item) = Appends before after (no_direction_text item.now)
-SaysFault before after NoDirections =
-    Appends before after (concat (codes "bidi: --directions has no direction" ∷ line_feed ∷ []))
-SaysFault before after (NoRows fault) = Appends before after (no_rows_text fault)
-SaysFault before after (LineIsNoRow name line) = Appends before after (no_row_text name.now line)
-SaysFault before after (CannotRead name unread) = Appends before after (unread_text name.now unread)
-SaysFault before after (FaultyLine name line fault) = Appends before after (faulty_line_text name.now line fault)
-SaysFault before after (NotUtf8 name) = Appends before after (not_utf8_text name.now)
-SaysFault before after (LongLine name line) = Appends before after (long_line_text name.now line)
-SaysFault before after (MalformedLine name line cause) = Appends before after (malformed_line_text name.now line cause)
-SaysFault before after CannotWrite = Appends before after (concat (codes "bidi: cannot write" ∷ line_feed ∷ []))
-SaysFault before after OutOfMemory = Appends before after (concat (codes "bidi: out of memory" ∷ line_feed ∷ []))
+-- the line that says that a write failed
+abbrev pub cannot_write_text : List ℕ
+cannot_write_text = concat (codes "bidi: cannot write" ∷ line_feed ∷ [])
+
+-- the line of a fault
+abbrev pub fault_line : Fault → List ℕ
+fault_line WordNotUtf8 = concat (codes "bidi: a word is not UTF-8" ∷ line_feed ∷ [])
+fault_line TablesNeeded = concat (codes "bidi: --tables is needed" ∷ line_feed ∷ [])
+fault_line ClassesTooLong = concat (codes "bidi: --classes is too long" ∷ line_feed ∷ [])
+fault_line CodesTooLong = concat (codes "bidi: --codes is too long" ∷ line_feed ∷ [])
+fault_line (NoClass word item) = no_class_text item.now
+fault_line (NoCodePoint word item) = no_code_point_text item.now
+fault_line (NoLengths word) = concat (codes "bidi: " ∷ word.now ∷ codes " is no range of lengths" ∷ line_feed ∷ [])
+fault_line (NoDirection word item) = no_direction_text item.now
+fault_line NoDirections = concat (codes "bidi: --directions has no direction" ∷ line_feed ∷ [])
+fault_line (NoRows fault) = no_rows_text fault
+fault_line (LineIsNoRow name line) = no_row_text name.now line
+fault_line (CannotRead name folder most unread written) = unread_text name.now
+fault_line (FaultyLine name folder line fault) = faulty_line_text name.now line fault
+fault_line (NotUtf8 name place written) = not_utf8_text name.now
+fault_line (LongLine name line) = long_line_text name.now line
+fault_line (MalformedLine name kind line cause) = malformed_line_text name.now line cause
+fault_line CannotWrite = cannot_write_text
+fault_line NobodyReads = cannot_write_text
+fault_line OutOfMemory = concat (codes "bidi: out of memory" ∷ line_feed ∷ [])
+
+-- what is said of a fault: its line, and if all is asked for the line of its reason too
+abbrev pub fault_text : Detail → Fault → List ℕ
+fault_text Brief fault = fault_line fault
+fault_text Verbose fault = fault_line fault ++ reason_line (reason_of fault)
 
 -- 2 where the words of the command line are no text, name no tables, no classes, no code points, no directions, no rows
 -- or a line that is none, 3 where the run failed
@@ -113,32 +115,46 @@ fault_status WordNotUtf8 = 2
 fault_status TablesNeeded = 2
 fault_status ClassesTooLong = 2
 fault_status CodesTooLong = 2
-fault_status (NoClass name) = 2
-fault_status (NoCodePoint item) = 2
+fault_status (NoClass word item) = 2
+fault_status (NoCodePoint word item) = 2
 fault_status (NoLengths word) = 2
-fault_status (NoDirection item) = 2
+fault_status (NoDirection word item) = 2
 fault_status NoDirections = 2
 fault_status (NoRows fault) = 2
 fault_status (LineIsNoRow name line) = 2
-fault_status (CannotRead name unread) = 3
-fault_status (FaultyLine name line fault) = 3
-fault_status (NotUtf8 name) = 3
+fault_status (CannotRead name folder most unread written) = 3
+fault_status (FaultyLine name folder line fault) = 3
+fault_status (NotUtf8 name place written) = 3
 fault_status (LongLine name line) = 3
-fault_status (MalformedLine name line cause) = 3
+fault_status (MalformedLine name kind line cause) = 3
 fault_status CannotWrite = 3
+fault_status NobodyReads = 3
 fault_status OutOfMemory = 3
 
--- a run ends by this fault: with its status, and where that is said, what known bytes grew by says it
-pub record EndsBy (fault : Fault) (before after : Option (List ℕ)) (ended : Ended) : Type 0 where
-  pub status_is : ended.status ≡ fault_status fault
-  pub says : ended.is_said ≡ true → SaysFault before after fault
+-- nothing that was to be written is missing
+abbrev pub is_whole : Written → Bool
+is_whole Whole = true
+is_whole CutOff = false
 
--- when a fault, said by this name, ends the opening of a file: it can't be opened for the reason that is said, or
--- memory was refused
-abbrev pub EndsOpening : (Unread → Type 0) → List ℕ → Fault → Type 0
-EndsOpening Cannot name (CannotRead said unread) = (said.now ≡ name) × Cannot unread
-EndsOpening Cannot name OutOfMemory = Unit {0}
-EndsOpening Cannot name _ = ⊥
+-- no write to the output failed, by this fault or before it
+abbrev pub all_written : Fault → Bool
+all_written (CannotRead name folder most unread written) = is_whole written
+all_written (NotUtf8 name place written) = is_whole written
+all_written CannotWrite = false
+all_written NobodyReads = false
+all_written _ = true
+
+-- a run ends by this fault: with its status, and if that is said, what known bytes grew by is what is said of the fault
+pub record EndsBy (detail : Detail) (fault : Fault) (before after : Option (List ℕ)) (ended : Ended) : Type 0 where
+  pub status_is : ended.status ≡ fault_status fault
+  pub written : ended.is_written ≡ all_written fault
+  pub says : ended.is_said ≡ true → Appends before after (fault_text detail fault)
+
+-- when a fault ends the opening of this file: it can't be opened for the reason that is said, or memory was refused
+abbrev pub EndsOpening : (Unread → Type 0) → NamedFile → Fault → Type 0
+EndsOpening Cannot file (CannotRead name folder most unread Whole) = (named_file name folder most ≡ file) × Cannot unread
+EndsOpening Cannot file OutOfMemory = Unit {0}
+EndsOpening Cannot file _ = ⊥
 
 -- the fault of a run in which printing failed so
 abbrev pub print_fault : PrintFault → Fault

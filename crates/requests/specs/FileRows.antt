@@ -1,17 +1,24 @@
 -- What the rows of a conformance file hold.
-use Rattle.std.specs.Prelude.{◌≡◌, List, ℕ, Option, None, Some}
+use Rattle.std.specs.Prelude.{◌≡◌, Option, None, Some}
 use Rattle.std.specs.Borrow.{Bor}
 use Rattle.ucdfiles.specs.Tables.{TablesOf}
 use Rattle.bidtests.specs.declared.kind.Kind.{Kind}
 use Rattle.bidtests.specs.declared.kind.Kind.TheVariants as rows_of
-use Rattle.requests.specs.ReadFiles.{FileFacts, AreTables}
+use Rattle.requests.specs.ReadFiles.{FileFacts}
+use Rattle.requests.specs.TableSources.{AreTablesBy}
 use Rattle.requests.specs.declared.request.FileKind.{FileKind}
 use Rattle.requests.specs.declared.request.FileKind.TheVariants.{Classes, Characters}
+use Rattle.requests.specs.declared.request.TableSource.{TableSource}
 
--- these are the tables of this folder, which were read where the rows of a file of this kind need them
-abbrev pub HasRowTables : FileFacts → FileKind → Option (Bor (List ℕ)) → Option TablesOf → Type 0
-HasRowTables files Classes folder tables = tables ≡ None
-HasRowTables files Characters (Some folder) tables = (read : TablesOf) × AreTables files folder.now read × (tables ≡ Some read)
+-- the kind of a file of such rows
+abbrev pub kind_of : Kind → FileKind
+kind_of rows_of.Classes = Classes
+kind_of (rows_of.Characters tables) = Characters
+
+-- these are the tables of this source, if the rows of a file of this kind need tables
+abbrev pub HasRowTables : FileFacts → FileKind → Option TableSource → Option TablesOf → Type 0
+HasRowTables files Classes source tables = tables ≡ None
+HasRowTables files Characters (Some source) tables = (taken : TablesOf) × AreTablesBy files source taken × (tables ≡ Some taken)
 HasRowTables files Characters None tables = ⊥
 
 -- this is what rows hold by these tables: classes, where there are none
@@ -19,9 +26,9 @@ abbrev pub AreRowsBy : Option TablesOf → Kind → Type 0
 AreRowsBy None rows = rows ≡ rows_of.Classes
 AreRowsBy (Some tables) rows = (lent : Bor TablesOf) × (lent.now ≡ tables) × (rows ≡ rows_of.Characters lent)
 
--- what the rows of a file hold, of this kind and by the tables of this folder, which were read where they are needed
-abbrev pub IsKindOfFile : FileFacts → FileKind → Option (Bor (List ℕ)) → Kind → Type 0
-IsKindOfFile files Classes folder rows = rows ≡ rows_of.Classes
-IsKindOfFile files Characters (Some folder) rows =
-    (tables : Bor TablesOf) × AreTables files folder.now tables.now × (rows ≡ rows_of.Characters tables)
+-- what the rows of a file of this kind hold: classes, or characters by the tables of this source
+abbrev pub IsKindOfFile : FileFacts → FileKind → Option TableSource → Kind → Type 0
+IsKindOfFile files Classes source rows = rows ≡ rows_of.Classes
+IsKindOfFile files Characters (Some source) rows =
+    (tables : Bor TablesOf) × AreTablesBy files source tables.now × (rows ≡ rows_of.Characters tables)
 IsKindOfFile files Characters None rows = ⊥

@@ -13,10 +13,10 @@ abbrev pub first_unread : {A : Type 0} → (List ℕ → Option A) → List (Lis
 first_unread read items = find (λ item. not (is_some (read item))) items
 
 -- when a fault ends the reading of a word's items: memory was refused, or it says the first one that says nothing, as such
--- items are said
-abbrev pub EndsItems : {A : Type 0} → (List ℕ → Option A) → (Bor (List ℕ) → Fault) → List ℕ → Fault → Type 0
-EndsItems read said word fault = (fault ≡ OutOfMemory)
-    ⊎ ((item : Bor (List ℕ)) × (fault ≡ said item) × (first_unread read (items_of word) ≡ Some item.now))
+-- items of a word are said
+abbrev pub EndsItems : {A : Type 0} → (List ℕ → Option A) → (Bor (List ℕ) → Bor (List ℕ) → Fault) → List ℕ → Fault → Type 0
+EndsItems read said word fault = (fault ≡ OutOfMemory) ⊎ ((whole : Bor (List ℕ)) × (item : Bor (List ℕ))
+    × (fault ≡ said whole item) × (whole.now ≡ word) × (first_unread read (items_of word) ≡ Some item.now))
 
 -- the classes of the short names that blanks separate, or none where one of them is no such name
 abbrev pub classes_named : List ℕ → Option (List Class)

@@ -10,7 +10,9 @@ use Rattle.bidtests.specs.declared.verdict.Verdict.TheVariants.{Yes, Malformed, 
 use Rattle.bidtests.specs.VerdictText.{verdict_text}
 use Rattle.bidtests.specs.ClassesFile.{classes_verdict}
 use Rattle.bidtests.specs.CharactersFile.{characters_verdict}
-use Rattle.requests.specs.ReadFiles.{FileFacts, AreTables, most_file_bytes, origin_of}
+use Rattle.requests.specs.ReadFiles.{FileFacts, most_file_bytes, origin_of}
+use Rattle.requests.specs.TableSources.{AreTablesBy}
+use Rattle.requests.specs.declared.request.TableSource.{TableSource}
 
 -- the exit status after a verdict was printed: 0 for a yes, 1 for a no
 abbrev pub verdict_status : Verdict → ℕ
@@ -27,11 +29,11 @@ pub record SaysVerdict (before after : Option (List ℕ)) (verdict : Verdict) (s
 abbrev pub IsClassesVerdict : List ℕ → Verdict → Type 0
 IsClassesVerdict bytes verdict = verdict ≡ classes_verdict standard bytes
 
--- the verdict on the bytes of a file whose rows are lists of code points, by the standard limits and the tables of a
--- folder that were read
-abbrev pub IsCharactersVerdict : FileFacts → List ℕ → List ℕ → Verdict → Type 0
-IsCharactersVerdict files folder bytes verdict =
-    (tables : TablesOf) × AreTables files folder tables × (verdict ≡ characters_verdict standard (unit_by tables) bytes)
+-- the verdict on the bytes of a file whose rows are lists of code points, by the standard limits and the tables of this
+-- source
+abbrev pub IsCharactersVerdict : FileFacts → TableSource → List ℕ → Verdict → Type 0
+IsCharactersVerdict files source bytes verdict =
+    (tables : TablesOf) × AreTablesBy files source tables × (verdict ≡ characters_verdict standard (unit_by tables) bytes)
 
 -- the verdict on the bytes of a file of such rows, by the standard limits
 abbrev pub IsVerdictOn : Kind → List ℕ → Verdict → Type 0
@@ -45,7 +47,7 @@ pub record HasJudged (files : FileFacts) (IsVerdict : List ℕ → Verdict → T
   pub is : IsVerdict bytes verdict
   pub said : SaysVerdict before after verdict status
 
--- the same by the tables of a folder, of a file whose rows are lists of code points
-abbrev pub HasJudgedBy : FileFacts → List ℕ → List ℕ → Option (List ℕ) → Option (List ℕ) → ℕ → Type 0
-HasJudgedBy files folder file before after status =
-    HasJudged files (IsCharactersVerdict files folder) file before after status
+-- the same by the tables of this source, of a file whose rows are lists of code points
+abbrev pub HasJudgedBy : FileFacts → TableSource → List ℕ → Option (List ℕ) → Option (List ℕ) → ℕ → Type 0
+HasJudgedBy files source file before after status =
+    HasJudged files (IsCharactersVerdict files source) file before after status

@@ -10,6 +10,7 @@ pub mod PrintedFiles
 pub mod PrintedLines
 pub mod RowsPrinted
 pub mod ReadFiles
+pub mod Reasons
 pub mod ReportedFiles
 pub mod LengthWords
 pub mod Parts

@@ -1,13 +1,13 @@
 -- The parts in which a request is done, in their order, and the fault of the first that fails.
 use Rattle.std.specs.Prelude.{◌≡◌, ◌<◌, ◌≤◌, ◌⊎◌, ℕ, List, [], ◌∷◌, ◌++◌, length, Option, Some, None, Ok}
-use Rattle.std.specs.Borrow.{Bor}
 use Rattle.std.specs.Str.{IsUtf8}
+use Rattle.printing.specs.ReadTexts.{IsNotUtf8}
+use Rattle.printing.specs.declared.written.Written.TheVariants.{Whole}
 use Rattle.ucdfiles.specs.ClassFile.{class_fault}
 use Rattle.ucdfiles.specs.PairFiles.{bracket_fault, char_of, mirror_fault}
 use Rattle.ucdfiles.specs.declared.fault.Fault.{Fault as LineFault}
-use Rattle.ucdfiles.specs.Tables.{TablesOf}
 use Rattle.bidtests.specs.declared.kind.Kind.{Kind}
-use Rattle.explain_row.specs.SoughtRows.{RowView}
+use Rattle.explain.specs.SoughtRows.{RowView}
 use Rattle.units.specs.ClassNames.{class_of_short}
 use Rattle.units.specs.declared.class.Class.{Class}
 use Rattle.rows.specs.Exhaustive.{ExhaustiveOf}
@@ -36,9 +36,8 @@ use Rattle.requests.specs.ItemWords.{EndsItems, classes_named, codes_said}
 use Rattle.requests.specs.Printed.{HoldsText, most_text_bytes}
 use Rattle.requests.specs.RowsPrinted.{CanBeMade, EndsMaking, EndsTexts, refusal_in}
 use Rattle.requests.specs.LengthWords.{EndsLengths, lengths_named}
-use Rattle.requests.specs.ReadFiles.{FileFacts, IsClassPath, bracket_name, mirror_name, in_folder, most_file_bytes, origin_of}
+use Rattle.requests.specs.ReadFiles.{FileFacts, IsClassPath, bracket_name, mirror_name, in_folder, most_file_bytes, named_file, origin_of, word_file}
 use Rattle.requests.specs.TableFaults.{EndsClasses, EndsTable, IsFaultless}
-use Rattle.requests.specs.TableSources.{AreBuiltIn, EndsBuiltIn}
 
 -- a part: that it is done, and the faults that end it
 pub record RequestPart : Type 1 where
@@ -55,14 +54,14 @@ abbrev pub IsFirstFault : List RequestPart → Fault → Type 0
 IsFirstFault [] fault = ⊥
 IsFirstFault (part ∷ parts) fault = part.EndsBy fault ⊎ (part.Done × IsFirstFault parts fault)
 
--- the folder of the tables, where none is named
+-- the source of the tables, if none is named
 abbrev pub EndsUnnamed : Fault → Type 0
 EndsUnnamed fault = fault ≡ TablesNeeded
 
 -- when a fault ends the reading of what FILE names: it can't be opened or a read of it fails, for the reason that is
 -- said, or memory was refused
 abbrev pub EndsFile : FileFacts → ℕ → List ℕ → Fault → Type 0
-EndsFile files most file (CannotRead said unread) = (said.now ≡ file)
+EndsFile files most file (CannotRead name folder limit unread Whole) = (named_file name folder limit ≡ word_file most file)
     × (files.Refuses (origin_of file) most unread ⊎ ((bytes : List ℕ) × files.Fails (origin_of file) most bytes unread))
 EndsFile files most file OutOfMemory = Unit {0}
 EndsFile files most file _ = ⊥
@@ -71,11 +70,13 @@ EndsFile files most file _ = ⊥
 -- can't be opened, or the search in it ends so
 abbrev pub EndsSearch : FileFacts → Kind → ℕ → List ℕ → Fault → Type 0
 EndsSearch files rows number file fault =
-    EndsOpening (files.Refuses (origin_of file) most_file_bytes) file fault ⊎ FindsNoRow files rows number file fault
+    EndsOpening (files.Refuses (origin_of file) most_file_bytes) (word_file most_file_bytes file) fault
+    ⊎ FindsNoRow files rows number file fault
 
 -- when a fault ends the reading of the characters of what FILE names: its bytes are not UTF-8, or memory was refused
 abbrev pub EndsText : FileFacts → List ℕ → Fault → Type 0
-EndsText files file (NotUtf8 named) = (named.now ≡ file) × (bytes : List ℕ) × files.Holds (origin_of file) most_text_bytes bytes × ¬ (IsUtf8 bytes)
+EndsText files file (NotUtf8 named place Whole) = (named.now ≡ file)
+    × (bytes : List ℕ) × files.Holds (origin_of file) most_text_bytes bytes × IsNotUtf8 bytes place
 EndsText files file OutOfMemory = Unit {0}
 EndsText files file _ = ⊥
 
@@ -149,13 +150,6 @@ alphabet_parts Characters (Alphabet word) = codes_part word.now ∷ []
 alphabet_parts Classes (OfForm form) = memory_part ∷ []
 alphabet_parts Characters (OfForm form) = []
 
--- the making of the tables that are built in
-abbrev pub built_in_part : RequestPart
-built_in_part = record {
-  Done = (tables : TablesOf) × AreBuiltIn tables;
-  EndsBy = EndsBuiltIn;
-}
-
 -- when a fault ends the writing: a write failed, or memory was refused
 abbrev pub EndsWriting : Fault → Type 0
 EndsWriting CannotWrite = Unit {0}
@@ -166,10 +160,14 @@ EndsWriting _ = ⊥
 abbrev pub MemoryLeaves : Option (List ℕ) → Option (List ℕ) → Fault → Type 0
 MemoryLeaves before after fault = fault ≡ OutOfMemory → after ≡ before
 
--- the fault is that of the first part of reading that fails, and nothing is written; or all is read, and a write or
--- memory failed
+-- the fault is that of the first of these parts of reading that fails, and nothing is written; or all these are done,
+-- and a write or memory failed
+abbrev pub FailsOver : List RequestPart → List RequestPart → Option (List ℕ) → Option (List ℕ) → Fault → Type 0
+FailsOver first all before after fault = (IsFirstFault first fault × (after ≡ before)) ⊎ (AreDone all × EndsWriting fault)
+
+-- the same where nothing is written before all parts of reading are done
 abbrev pub FailsIn : List RequestPart → Option (List ℕ) → Option (List ℕ) → Fault → Type 0
-FailsIn parts before after fault = (IsFirstFault parts fault × (after ≡ before)) ⊎ (AreDone parts × EndsWriting fault)
+FailsIn parts before after fault = FailsOver parts parts before after fault
 
 module _ (files : FileFacts) where
   -- the reading of the folder's table of this name, by the fault of a line behind others
@@ -191,15 +189,16 @@ module _ (files : FileFacts) where
   table_parts folder =
       class_part folder ∷ table_part bracket_fault folder bracket_name ∷ table_part mirror_fault folder mirror_name ∷ []
 
-  -- what is read for the tables of this source
+  -- what is read for the tables of this source: nothing, if they are built in
   abbrev pub source_parts : TableSource → List RequestPart
   source_parts (Folder folder) = table_parts folder.now
-  source_parts BuiltIn = built_in_part ∷ []
+  source_parts BuiltIn = []
 
-  -- what is read for the tables of rows of this kind
-  abbrev pub kind_parts : FileKind → TableSource → List RequestPart
-  kind_parts Classes source = []
-  kind_parts Characters source = source_parts source
+  -- what is read for the rows of a file of this kind: the tables of this source, if they are needed
+  abbrev pub row_table_parts : FileKind → Option TableSource → List RequestPart
+  row_table_parts Classes source = []
+  row_table_parts Characters (Some source) = source_parts source
+  row_table_parts Characters None = record { Done = ⊥; EndsBy = EndsUnnamed } ∷ []
 
   -- that the texts which are asked for can be enumerated or drawn
   abbrev pub texts_part : AskedRows → RequestPart
@@ -211,7 +210,7 @@ module _ (files : FileFacts) where
   -- what is read to print rows
   unfoldable pub rows_parts : AskedRows → List RequestPart
   rows_parts asked = lengths_part asked.lengths.now ∷ directions_part asked.directions.now
-      ∷ (alphabet_parts asked.kind asked.letters ++ (kind_parts asked.kind asked.tables ++ texts_part asked ∷ []))
+      ∷ (alphabet_parts asked.kind asked.letters ++ (row_table_parts asked.kind (Some asked.tables) ++ texts_part asked ∷ []))
 
   -- the reading of what FILE names to its end
   abbrev pub file_part : ℕ → List ℕ → RequestPart
@@ -224,7 +223,7 @@ module _ (files : FileFacts) where
   abbrev pub opening_part : ℕ → List ℕ → RequestPart
   opening_part most file = record {
     Done = (bytes : List ℕ) × files.Begins (origin_of file) most bytes;
-    EndsBy = EndsOpening (files.Refuses (origin_of file) most) file;
+    EndsBy = EndsOpening (files.Refuses (origin_of file) most) (word_file most file);
   }
 
   -- the reading of its characters
@@ -264,12 +263,6 @@ module _ (files : FileFacts) where
   unfoldable pub explaining_parts : List ℕ → TableSource → List RequestPart
   explaining_parts word source = codes_parts word ++ source_parts source
 
-  -- what is read for the rows of a file of this kind: the tables of this folder, where they are needed
-  abbrev pub row_table_parts : FileKind → Option (Bor (List ℕ)) → List RequestPart
-  row_table_parts Classes folder = []
-  row_table_parts Characters (Some folder) = table_parts folder.now
-  row_table_parts Characters None = record { Done = ⊥; EndsBy = EndsUnnamed } ∷ []
-
   -- the search for the row that is sought
   abbrev pub sought_part : SoughtRow → RequestPart
   sought_part sought = record {
@@ -282,7 +275,7 @@ module _ (files : FileFacts) where
   abbrev pub row_parts : SoughtRow → List RequestPart
   row_parts sought = row_table_parts sought.kind sought.tables ++ sought_part sought ∷ []
 
-  -- what is read for a request, in this order
+  -- what is read for a request, in this order, before anything is written
   abbrev pub parts_of : Request → List RequestPart
   parts_of (Text source direction file Levels) = printing_parts source file.now
   parts_of (Text source direction file (Reorder columns)) = printing_parts source file.now
@@ -294,3 +287,9 @@ module _ (files : FileFacts) where
   parts_of (Report kind tables file options) = row_table_parts kind tables ++ opening_part most_file_bytes file.now ∷ []
   parts_of (Rows asked) = rows_parts asked
   parts_of (RowsOf asked) = lines_parts asked
+
+  -- and what is read for it in all
+  abbrev pub all_parts_of : Request → List RequestPart
+  all_parts_of (Text source direction file print) = whole_parts source file.now
+  all_parts_of (Report kind tables file options) = row_table_parts kind tables ++ file_part most_file_bytes file.now ∷ []
+  all_parts_of request = parts_of request

@@ -1,5 +1,6 @@
 -- What was read, from standard input or from files by their names, and the tables that three files state.
-use Rattle.std.specs.Prelude.{◌≡◌, ◌⊎◌, ℕ, ◌^◌, List, [], ◌∷◌, codes, if◌then◌else◌}
+use Rattle.std.specs.Prelude.{◌≡◌, ◌⊎◌, ℕ, ◌^◌, List, [], ◌∷◌, Option, None, Some, option_map, codes, if◌then◌else◌}
+use Rattle.std.specs.Borrow.{Bor}
 use Rattle.std.specs.List.{concat}
 use Rattle.std.specs.Str.{bytes_eq}
 use Rattle.units.specs.HandsOut.{Reading, HandsOut}
@@ -36,6 +37,24 @@ pub record FileFacts : Type 1 where
 -- the most bytes that a conformance file or a table's file may have
 abbrev pub most_file_bytes : ℕ
 most_file_bytes = 2 ^ 40
+
+-- a file that a fault names: its name, the folder of a table's file, and how many bytes it may have at most
+pub record NamedFile : Type 0 where
+  pub name : List ℕ
+  pub folder : Option (List ℕ)
+  pub most : ℕ
+
+-- the file of this name, folder and limit
+abbrev pub named_file : Bor (List ℕ) → Option (Bor (List ℕ)) → ℕ → NamedFile
+named_file name folder most = record { name = name.now; folder = option_map (λ folder. folder.now) folder; most = most }
+
+-- what the word FILE names
+abbrev pub word_file : ℕ → List ℕ → NamedFile
+word_file most file = record { name = file; folder = None; most = most }
+
+-- the table's file of this name in the folder
+abbrev pub table_file : List ℕ → List ℕ → NamedFile
+table_file folder name = record { name = name; folder = Some folder; most = most_file_bytes }
 
 -- the names of the tables' files in their folder
 abbrev pub class_name : List ℕ

@@ -1,12 +1,10 @@
 -- What is printed of rows that are asked for: a conformance file of texts of some lengths, with right answers.
 use Rattle.std.specs.Prelude.{◌≡◌, ℕ, List, Option, None, Some, map}
-use Rattle.std.specs.Borrow.{Bor}
 use Rattle.std.specs.Io.KnownBytes.{Appends}
 use Rattle.std.specs.Option.{option_map}
 use Rattle.units.specs.Limits.{standard}
 use Rattle.units.specs.declared.class.Class.{Class}
 use Rattle.units.specs.declared.level.Direction.{Direction}
-use Rattle.ucdfiles.specs.Tables.{TablesOf}
 use Rattle.bidtests.specs.declared.kind.Kind.{Kind}
 use Rattle.bidtests.specs.declared.kind.Kind.TheVariants as file
 use Rattle.rows.specs.declared.fault.RowsFault.{RowsFault}
@@ -19,25 +17,17 @@ use Rattle.rows.specs.Random.{RandomOf, cases_drawn, no_drawing_of}
 use Rattle.rows.specs.Judged.{JudgeSaysYes}
 use Rattle.rows.specs.RowTexts.{Case, cases_text}
 use Rattle.requests.specs.DirectionWords.{SaysDirections}
+use Rattle.requests.specs.FileRows.{IsKindOfFile}
 use Rattle.requests.specs.ItemWords.{classes_named, codes_said}
 use Rattle.requests.specs.ReadFiles.{FileFacts}
 use Rattle.requests.specs.LengthWords.{lengths_named}
-use Rattle.requests.specs.TableSources.{AreTablesBy}
 use Rattle.requests.specs.declared.request.AskedRows.{AskedRows}
-use Rattle.requests.specs.declared.request.FileKind.{FileKind}
-use Rattle.requests.specs.declared.request.FileKind.TheVariants.{Classes, Characters}
 use Rattle.requests.specs.declared.request.RowLetters.{RowLetters}
 use Rattle.requests.specs.declared.request.RowLetters.TheVariants.{Alphabet, OfForm}
 use Rattle.requests.specs.declared.request.RowsForm.{RowsForm}
 use Rattle.requests.specs.declared.request.RowsForm.TheVariants.{Exhaustive, Random}
-use Rattle.requests.specs.declared.request.TableSource.{TableSource}
 use Rattle.requests.specs.declared.fault.Fault.{Fault}
 use Rattle.requests.specs.declared.fault.Fault.TheVariants.{NoRows, OutOfMemory}
-
--- what the rows hold in a file of this kind: classes, or characters by the tables of this source
-abbrev pub IsKindBySource : FileFacts → FileKind → TableSource → Kind → Type 0
-IsKindBySource files Classes source kind = kind ≡ file.Classes
-IsKindBySource files Characters source kind = (tables : Bor TablesOf) × AreTablesBy files source tables.now × (kind ≡ file.Characters tables)
 
 -- the classes of which texts are to be made: those that a word names, or those of a form
 abbrev pub classes_asked : RowLetters → Option (List Class)
@@ -92,7 +82,7 @@ pub record AreTextsOf (kind : Kind) (asked : AskedRows) (texts : ExhaustiveOf) :
 -- the rows that are asked for were printed: the file of their kind and form, of their texts under their directions
 pub record HasPrintedRows (files : FileFacts) (asked : AskedRows) (before after : Option (List ℕ)) : Type 0 where
   pub kind : Kind
-  pub is : IsKindBySource files asked.kind asked.tables kind
+  pub is : IsKindOfFile files asked.kind (Some asked.tables) kind
   pub texts : ExhaustiveOf
   pub are : AreTextsOf kind asked texts
   pub directions : List Direction
@@ -107,10 +97,10 @@ EndsMaking form texts _ = ⊥
 
 -- what is asked for says texts of which there is such a file
 abbrev pub CanBeMade : FileFacts → AskedRows → Type 0
-CanBeMade files asked = (kind : Kind) × IsKindBySource files asked.kind asked.tables kind
+CanBeMade files asked = (kind : Kind) × IsKindOfFile files asked.kind (Some asked.tables) kind
     × (texts : ExhaustiveOf) × AreTextsOf kind asked texts × (refusal_in asked.form texts ≡ None)
 
 -- when a fault ends what is made of the texts that are asked for
 abbrev pub EndsTexts : FileFacts → AskedRows → Fault → Type 0
-EndsTexts files asked fault = (kind : Kind) × IsKindBySource files asked.kind asked.tables kind
+EndsTexts files asked fault = (kind : Kind) × IsKindOfFile files asked.kind (Some asked.tables) kind
     × (texts : ExhaustiveOf) × AreTextsOf kind asked texts × EndsMaking asked.form texts fault

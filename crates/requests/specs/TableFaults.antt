@@ -3,6 +3,7 @@ use Rattle.std.specs.Prelude.{◌≡◌, ◌⊎◌, ℕ, List, [], Option, Some,
 use Rattle.std.specs.Borrow.{Bor}
 use Rattle.units.specs.Text.{lines_of, settled_lines}
 use Rattle.units.specs.declared.unread.Unread.{Unread}
+use Rattle.printing.specs.declared.written.Written.TheVariants.{Whole}
 use Rattle.ucdfiles.specs.ClassFile.{class_fault}
 use Rattle.ucdfiles.specs.Faults.{first_fault, line_of_fault}
 use Rattle.ucdfiles.specs.declared.fault.Fault.{Fault as LineFault}
@@ -11,17 +12,18 @@ use Rattle.ucdfiles.specs.declared.fault.TableFault.TheVariants as table
 use Rattle.requests.specs.declared.fault.Fault.{Fault}
 use Rattle.requests.specs.declared.fault.Fault.TheVariants.{CannotRead, FaultyLine, OutOfMemory}
 use Rattle.requests.specs.FaultText.{EndsOpening}
-use Rattle.requests.specs.ReadFiles.{CannotOpen, FileFacts, FileNamed, IsClassPath, class_name, extracted_name, in_folder, most_file_bytes}
+use Rattle.requests.specs.ReadFiles.{CannotOpen, FileFacts, FileNamed, IsClassPath, NamedFile, class_name, extracted_name, in_folder, most_file_bytes, named_file, table_file}
 
--- the fault of a table's file of this name: that of the line that it has, else memory or a read, with its reason
-abbrev pub said_as : Bor (List ℕ) → TableFault → Unread → Option ℕ → Fault
-said_as name fault unread (Some line) = FaultyLine name line fault
-said_as name table.Memory unread None = OutOfMemory
-said_as name _ unread None = CannotRead name unread
+-- the fault of a table's file of this name in a folder: that of the line that it has, else memory or a read, with its
+-- reason
+abbrev pub said_as : Bor (List ℕ) → Bor (List ℕ) → TableFault → Unread → Option ℕ → Fault
+said_as name folder fault unread (Some line) = FaultyLine name folder line fault
+said_as name folder table.Memory unread None = OutOfMemory
+said_as name folder _ unread None = CannotRead name (Some folder) most_file_bytes unread Whole
 
--- how the fault of a table's file of this name is said, by why a read of it failed
-abbrev pub table_fault : Bor (List ℕ) → TableFault → Unread → Fault
-table_fault name fault unread = said_as name fault unread (line_of_fault fault)
+-- how the fault of such a file is said, by why a read of it failed
+abbrev pub table_fault : Bor (List ℕ) → Bor (List ℕ) → TableFault → Unread → Fault
+table_fault name folder fault unread = said_as name folder fault unread (line_of_fault fault)
 
 -- this is the fault of the first faulty line: of those that are settled in what the file begins with, or of all that it
 -- holds
@@ -39,19 +41,21 @@ FailsFaultless files fault path unread = (bytes : List ℕ)
 abbrev pub IsFaultless : FileFacts → (List (List ℕ) → List ℕ → Option LineFault) → List ℕ → Type 0
 IsFaultless files fault path = (bytes : List ℕ) × files.Holds (FileNamed path) most_file_bytes bytes × (first_fault fault [] (lines_of bytes) ≡ None)
 
--- when a fault, said by this name, ends the reading of a table's file that was opened: a read fails, its first faulty
+-- when a fault that names this file ends the reading of a table's file that was opened: a read fails, its first faulty
 -- line is said, or memory was refused
-abbrev pub EndsReading : FileFacts → (List (List ℕ) → List ℕ → Option LineFault) → List ℕ → List ℕ → Fault → Type 0
-EndsReading files fault path name (CannotRead said unread) = (said.now ≡ name) × FailsFaultless files fault path unread
-EndsReading files fault path name (FaultyLine faulty line e) =
-    (faulty.now ≡ name) × (line_of_fault e ≡ Some line) × HasFault files fault path e
-EndsReading files fault path name OutOfMemory = Unit {0}
-EndsReading files fault path name _ = ⊥
+abbrev pub EndsReading : FileFacts → (List (List ℕ) → List ℕ → Option LineFault) → List ℕ → NamedFile → Fault → Type 0
+EndsReading files fault path file (CannotRead name folder most unread Whole) =
+    (named_file name folder most ≡ file) × FailsFaultless files fault path unread
+EndsReading files fault path file (FaultyLine name folder line e) =
+    (named_file name (Some folder) most_file_bytes ≡ file) × (line_of_fault e ≡ Some line) × HasFault files fault path e
+EndsReading files fault path file OutOfMemory = Unit {0}
+EndsReading files fault path file _ = ⊥
 
 -- when a fault ends the reading of the folder's table of this name: its file can't be opened, or its reading ends so
 abbrev pub EndsTable : FileFacts → (List (List ℕ) → List ℕ → Option LineFault) → List ℕ → List ℕ → Fault → Type 0
 EndsTable files fault folder name said =
-    EndsOpening (CannotOpen files folder name) name said ⊎ EndsReading files fault (in_folder folder name) name said
+    EndsOpening (CannotOpen files folder name) (table_file folder name) said
+    ⊎ EndsReading files fault (in_folder folder name) (table_file folder name) said
 
 -- neither of the two files of the folder's classes can be opened, the one in the folder for this reason
 abbrev pub CannotOpenClasses : FileFacts → List ℕ → Unread → Type 0
@@ -62,5 +66,5 @@ CannotOpenClasses files folder unread = CannotOpen files folder class_name unrea
 -- first that opens ends so; the file in the folder is named
 abbrev pub EndsClasses : FileFacts → List ℕ → Fault → Type 0
 EndsClasses files folder said =
-    EndsOpening (CannotOpenClasses files folder) class_name said
-    ⊎ ((path : List ℕ) × IsClassPath files folder path × EndsReading files class_fault path class_name said)
+    EndsOpening (CannotOpenClasses files folder) (table_file folder class_name) said
+    ⊎ ((path : List ℕ) × IsClassPath files folder path × EndsReading files class_fault path (table_file folder class_name) said)

@@ -17,7 +17,7 @@ impl ReadsItem<Direction> for DirectionWords {
 
     ghost reading = { λ _. direction_of };
 
-    ghost unread = { λ _ item. NoDirection item };
+    ghost unread = { λ _ word item. NoDirection word item };
 
     fn read(&self, item: &[u8]) -> Option<Direction> {
         match item {
@@ -29,8 +29,8 @@ impl ReadsItem<Direction> for DirectionWords {
         }
     }
 
-    fn fault<'a>(&self, item: &'a [u8]) -> Fault<'a> {
-        Fault::NoDirection(item)
+    fn fault<'a>(&self, word: &'a str, item: &'a [u8]) -> Fault<'a> {
+        Fault::NoDirection { word, item }
     }
 }
 
@@ -40,7 +40,7 @@ pub fn directions_in<'a>(alloc: Global, word: &'a str) -> Result<Vec<Direction>,
     ensures directions { IfOk result (λ directions. SaysDirections word.now directions.items) }
     ensures fault { IfErr result (EndsDirections word.now) }
 {
-    let directions = read_all(alloc, &DirectionWords, word.as_bytes())?;
+    let directions = read_all(alloc, &DirectionWords, word)?;
     if directions.is_empty() {
         return Err(Fault::NoDirections);
     }

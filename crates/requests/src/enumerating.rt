@@ -71,7 +71,7 @@ fn letters_of_classes<'a>(alloc: Global, letters: RowLetters<'a>) -> Result<Vec<
 {
     match letters {
         RowLetters::Alphabet(names) => {
-            let classes = read_all(alloc, &ClassNames, names.as_bytes())?;
+            let classes = read_all(alloc, &ClassNames, names)?;
             Ok(class_letters(alloc, &classes)?)
         }
         RowLetters::OfForm(form) => Ok(class_letters(alloc, form.classes())?),
@@ -144,7 +144,7 @@ pub fn print_rows<'a, F: Files, W: Write>(
         }
         FileKind::Characters => match asked.letters {
             RowLetters::Alphabet(codes) => {
-                let characters = read_all(alloc, &CodePoints, codes.as_bytes())?;
+                let characters = read_all(alloc, &CodePoints, codes)?;
                 print_of_characters(alloc, asked, &characters, lengths, &directions, files, out)
             }
             RowLetters::OfForm(form) => {

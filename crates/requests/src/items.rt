@@ -19,33 +19,33 @@ use units::text::items::next_item;
 pub trait ReadsItem<T> {
     ghost reading: { Self → List ℕ → Option T };
 
-    // How it is said of an item that it says nothing.
-    ghost unread: { Self → Bor (List ℕ) → FaultOf };
+    // How it is said of an item of a word that it says nothing.
+    ghost unread: { Self → Bor (List ℕ) → Bor (List ℕ) → FaultOf };
 
     /// What the item says, if it says something.
     fn read(&self, item: &[u8]) -> Option<T>
         ensures { result ≡ reading self.now item.now };
 
-    /// The fault that the item says nothing.
-    fn fault<'a>(&self, item: &'a [u8]) -> Fault<'a>
-        ensures { result ≡ unread self.now item.entry };
+    /// The fault that the item of the word says nothing.
+    fn fault<'a>(&self, word: &'a str, item: &'a [u8]) -> Fault<'a>
+        ensures { result ≡ unread self.now word.entry item.entry };
 }
 
 /// What each item of a word says, by this reader. The faults are the first item that says nothing, and refused memory.
 pub fn read_all<'a, T: Copy, R: ReadsItem<T>>(
     alloc: Global,
     reader: &R,
-    word: &'a [u8],
+    word: &'a str,
 ) -> Result<Vec<T>, Fault<'a>>
     ensures values { IfOk result (λ values. each_read (R.reading reader.now) (items_of word.now) ≡ Some values.items) }
     ensures count { IfOk result (λ values. length values.items ≤ length word.now) }
     ensures fault { IfErr result (EndsItems (R.reading reader.now) (R.unread reader.now) word.now) }
 {
     let mut values = Vec::new(alloc);
-    let mut left = word;
+    let mut left = word.as_bytes();
     while let Some((item, rest)) = next_item(left) {
         match reader.read(item) {
-            None => return Err(reader.fault(item)),
+            None => return Err(reader.fault(word, item)),
             Some(value) => values.push(value)?,
         }
         left = rest;
@@ -63,14 +63,14 @@ impl ReadsItem<Class> for ClassNames {
 
     ghost reading = { λ _. class_of_short };
 
-    ghost unread = { λ _ name. NoClass name };
+    ghost unread = { λ _ word item. NoClass word item };
 
     fn read(&self, item: &[u8]) -> Option<Class> {
         Class::from_short(item)
     }
 
-    fn fault<'a>(&self, item: &'a [u8]) -> Fault<'a> {
-        Fault::NoClass(item)
+    fn fault<'a>(&self, word: &'a str, item: &'a [u8]) -> Fault<'a> {
+        Fault::NoClass { word, item }
     }
 }
 
@@ -84,14 +84,14 @@ impl ReadsItem<char> for CodePoints {
 
     ghost reading = { λ _. char_of };
 
-    ghost unread = { λ _ item. NoCodePoint item };
+    ghost unread = { λ _ word item. NoCodePoint word item };
 
     fn read(&self, item: &[u8]) -> Option<char> {
         char::from_u32(code_point(item)?)
     }
 
-    fn fault<'a>(&self, item: &'a [u8]) -> Fault<'a> {
-        Fault::NoCodePoint(item)
+    fn fault<'a>(&self, word: &'a str, item: &'a [u8]) -> Fault<'a> {
+        Fault::NoCodePoint { word, item }
     }
 }
 
@@ -106,7 +106,7 @@ pub fn classes_in<'a>(alloc: Global, word: &'a str) -> Result<Vec<Class>, Fault<
     if word.len() as u64 > MOST_TEXT_BYTES {
         return Err(Fault::ClassesTooLong);
     }
-    read_all(alloc, &ClassNames, word.as_bytes())
+    read_all(alloc, &ClassNames, word)
 }
 
 /// The characters whose code points stand in a word, with blanks between them: as many as there are, or none. The
@@ -120,5 +120,5 @@ pub fn chars_in<'a>(alloc: Global, word: &'a str) -> Result<Vec<char>, Fault<'a>
     if word.len() as u64 > MOST_TEXT_BYTES {
         return Err(Fault::CodesTooLong);
     }
-    read_all(alloc, &CodePoints, word.as_bytes())
+    read_all(alloc, &CodePoints, word)
 }

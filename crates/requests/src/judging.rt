@@ -12,13 +12,14 @@ use crate::fault::Fault;
 use crate::files::Files;
 use crate::opening::{MOST_FILE_BYTES, open};
 use crate::outcome::Outcome;
-use crate::request::FileKind;
+use crate::request::{FileKind, TableSource};
 use crate::row_tables::{row_tables, rows_by};
 use crate::verdict_line::print_verdict;
 use bidtests::judge::Judge;
 use bidtests::kind::Kind;
 use bidtests::reader::judge_reader;
 use bidtests::verdict::Verdict;
+use printing::written::Written;
 use std::alloc::Global;
 use std::io::Write;
 use units::memory::Memory;
@@ -50,7 +51,13 @@ fn verdict_on<'a, F: Files>(
         Ok(verdict) => Ok(verdict),
         Err(_) => {
             let unread = files.unread(&source);
-            Err(Fault::CannotRead { name: file, unread })
+            Err(Fault::CannotRead {
+                name: file,
+                folder: None,
+                most: MOST_FILE_BYTES,
+                unread,
+                written: Written::Whole,
+            })
         }
     }
 }
@@ -89,7 +96,7 @@ fn judge_as<'a, F: Files, W: Write>(
 pub fn judge_file<'a, F: Files, W: Write>(
     alloc: Global,
     kind: FileKind,
-    tables: Option<&'a str>,
+    tables: Option<TableSource<'a>>,
     file: &'a str,
     files: &F,
     out: &mut W,

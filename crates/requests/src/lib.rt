@@ -6,6 +6,7 @@
 mod directions;
 mod enumerating;
 pub mod fault;
+mod fault_line;
 pub mod files;
 mod items;
 mod judging;
@@ -14,6 +15,7 @@ mod opening;
 pub mod outcome;
 pub mod performing;
 mod reading;
+mod reason;
 mod reporting;
 pub mod request;
 mod row_explaining;

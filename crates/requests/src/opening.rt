@@ -2,10 +2,11 @@
 ghost use Rattle.std.specs.Prelude.{◌≡◌, ◌≤◌, IfOk, IfErr};
 ghost use Rattle.units.specs.declared.unread.Unread.{Unread};
 ghost use Rattle.requests.specs.FaultText.{EndsOpening};
-ghost use Rattle.requests.specs.ReadFiles.{origin_of};
+ghost use Rattle.requests.specs.ReadFiles.{origin_of, word_file};
 
 use crate::fault::Fault;
 use crate::files::{Files, OpenFault};
+use printing::written::Written;
 use std::alloc::Global;
 use units::unread::Unread;
 
@@ -38,7 +39,8 @@ fn source_of<F: Files>(
 }
 
 /// Opens what FILE names, standard input by `-` and else the file of that name, of which a read past the first `most`
-/// bytes fails. The faults are that it can't be opened, said by that word with the reason, and refused memory.
+/// bytes fails. The faults are that it can't be opened, which has that word, the limit and the reason, and refused
+/// memory.
 pub fn open<'a, F: Files>(
     alloc: Global,
     files: &F,
@@ -47,11 +49,18 @@ pub fn open<'a, F: Files>(
 ) -> Result<F::Source, Fault<'a>>
     ensures opened { IfOk result (F.opens files.now (origin_of file.now) most) }
     ensures limit { IfOk result (λ source. F.Source.ByteSource.most_left source ≤ most) }
-    ensures fault { IfErr result (EndsOpening ((F.facts files.now).Refuses (origin_of file.now) most) file.now) }
+    ensures fault { IfErr result
+        (EndsOpening ((F.facts files.now).Refuses (origin_of file.now) most) (word_file most file.now)) }
 {
     match source_of(alloc, files, file, most) {
         Ok(source) => Ok(source),
-        Err(OpenFault::Cannot(unread)) => Err(Fault::CannotRead { name: file, unread }),
+        Err(OpenFault::Cannot(unread)) => Err(Fault::CannotRead {
+            name: file,
+            folder: None,
+            most,
+            unread,
+            written: Written::Whole,
+        }),
         Err(OpenFault::Memory) => Err(Fault::OutOfMemory),
     }
 }

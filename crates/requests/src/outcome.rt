@@ -17,6 +17,8 @@ pub enum Outcome {
 pub struct Ended {
     /// The exit status.
     pub status: u8,
+    /// Whether no write to the output failed.
+    pub is_written: bool,
     /// Whether the line of what went wrong, if something did, was written whole.
     pub is_said: bool,
 }

@@ -27,7 +27,7 @@ use units::level::Direction;
 /// Prints what each rule does to the text in what FILE names, by the tables of this source, which are read first.
 fn explain_file<'a, F: Files, W: Write>(
     alloc: Global,
-    source: TableSource<'_>,
+    source: TableSource<'a>,
     direction: Direction,
     file: &'a str,
     files: &F,
@@ -47,7 +47,7 @@ fn explain_file<'a, F: Files, W: Write>(
 /// Prints this of the text in what FILE names, by the tables of this source, which are read first.
 fn print_file<'a, F: Files, W: Write>(
     alloc: Global,
-    source: TableSource<'_>,
+    source: TableSource<'a>,
     direction: Direction,
     file: &'a str,
     print: Print,
@@ -90,7 +90,7 @@ fn explain_classes<'a, W: Write>(
 fn explain_codes<'a, F: Files, W: Write>(
     alloc: Global,
     word: &'a str,
-    source: TableSource<'_>,
+    source: TableSource<'a>,
     direction: Direction,
     files: &F,
     out: &mut W,

@@ -8,6 +8,8 @@ ghost use Rattle.requests.specs.Parts.{EndsFile, IsFirstFault, text_parts};
 use crate::fault::Fault;
 use crate::files::Files;
 use crate::opening::{MOST_TEXT_BYTES, open};
+use printing::place::TextPlace;
+use printing::written::Written;
 use std::alloc::Global;
 use units::source::ByteSource;
 
@@ -31,7 +33,13 @@ fn bytes_in_file<'a, F: Files>(
         match source.read(&mut piece) {
             Err(_) => {
                 let unread = files.unread(&source);
-                return Err(Fault::CannotRead { name: file, unread });
+                return Err(Fault::CannotRead {
+                    name: file,
+                    folder: None,
+                    most: MOST_TEXT_BYTES,
+                    unread,
+                    written: Written::Whole,
+                });
             }
             Ok(0) => return Ok(bytes),
             Ok(n) => bytes.extend_from_slice(&piece[..n])?,
@@ -53,6 +61,10 @@ pub fn text_in_file<'a, F: Files>(
     let bytes = bytes_in_file(alloc, file, files)?;
     match str::from_utf8(&bytes) {
         Ok(text) => Ok(text.chars().collect(alloc)?),
-        Err(_) => Err(Fault::NotUtf8(file)),
+        Err(_) => Err(Fault::NotUtf8 {
+            name: file,
+            place: TextPlace::after_utf8(&bytes),
+            written: Written::Whole,
+        }),
     }
 }

@@ -9,7 +9,7 @@ use crate::fault::Fault;
 use crate::files::Files;
 use crate::opening::{MOST_FILE_BYTES, open};
 use crate::outcome::Outcome;
-use crate::request::{FileKind, ReportOptions};
+use crate::request::{FileKind, ReportOptions, TableSource};
 use crate::row_tables::{row_tables, rows_by};
 use bidtests::kind::Kind;
 use report::print::{ReportFault, print_report};
@@ -51,9 +51,16 @@ fn report_as<'a, F: Files, W: Write>(
     match print_report(out, report, &mut source, options.most) {
         Ok(right) => Ok(status_of(right)),
         Err(ReportFault::Write) => Err(Fault::CannotWrite),
-        Err(ReportFault::Read) => {
+        Err(ReportFault::NobodyReads) => Err(Fault::NobodyReads),
+        Err(ReportFault::Read { written }) => {
             let unread = files.unread(&source);
-            Err(Fault::CannotRead { name: file, unread })
+            Err(Fault::CannotRead {
+                name: file,
+                folder: None,
+                most: MOST_FILE_BYTES,
+                unread,
+                written,
+            })
         }
     }
 }
@@ -62,7 +69,7 @@ fn report_as<'a, F: Files, W: Write>(
 pub fn report_file<'a, F: Files, W: Write>(
     alloc: Global,
     kind: FileKind,
-    tables: Option<&'a str>,
+    tables: Option<TableSource<'a>>,
     file: &'a str,
     options: ReportOptions,
     files: &F,

@@ -84,8 +84,8 @@ pub struct AskedLines<'a> {
 pub struct SoughtRow<'a> {
     /// The kind of the file.
     pub kind: FileKind,
-    /// The folder of the tables, where it is given; it is needed for files of characters alone.
-    pub tables: Option<&'a str>,
+    /// The tables, which only a file of characters needs.
+    pub tables: Option<TableSource<'a>>,
     /// The number of its line, counted from 1.
     pub line: NonZeroU64,
     pub file: &'a str,
@@ -124,17 +124,17 @@ pub enum Request<'a> {
     /// Print what each rule does to the text of this row, under each direction that it names, and what it claims beside
     /// what is defined.
     ExplainRow(SoughtRow<'a>),
-    /// Judge a conformance file. The folder of the tables, where it is given, is needed for files of characters alone.
+    /// Judge a conformance file. Only a file of characters needs the tables.
     Judge {
         kind: FileKind,
-        tables: Option<&'a str>,
+        tables: Option<TableSource<'a>>,
         file: &'a str,
     },
     /// Report on a conformance file: print the first of its wrong cases, at most so many, and how many there are. The
-    /// folder of the tables is needed as it is to judge.
+    /// tables are needed as they are to judge.
     Report {
         kind: FileKind,
-        tables: Option<&'a str>,
+        tables: Option<TableSource<'a>>,
         file: &'a str,
         options: ReportOptions,
     },

@@ -1,29 +1,42 @@
 // A row of a conformance file explained.
 ghost use Rattle.std.specs.Prelude.{◌≡◌, Ok, IfErr, IfOk, OnOk};
+ghost use Rattle.requests.specs.FileRows.{kind_of};
 ghost use Rattle.requests.specs.RowsExplained.{HasAtLine, HasExplainedRow, row_fault};
 ghost use Rattle.requests.specs.Parts.{EndsSearch, FailsIn, row_parts};
 
 use crate::fault::Fault;
 use crate::files::Files;
 use crate::opening::{MOST_FILE_BYTES, open};
-use crate::request::SoughtRow;
+use crate::request::{FileKind, SoughtRow};
 use crate::row_tables::{row_tables, rows_by};
 use bidtests::kind::Kind;
-use explain_row::find::find_row;
-use explain_row::found_row::FoundRow;
-use explain_row::print::print_row;
-use explain_row::row_fault::{RowFault, SearchFault};
+use explain::find::find_row;
+use explain::found_row::FoundRow;
+use explain::row_fault::{RowFault, SearchFault};
+use explain::row_print::print_row;
+use printing::written::Written;
 use std::alloc::Global;
 use std::io::Write;
 use std::num::NonZeroU64;
 
-/// How it is said of a file why there is no row at a line.
-fn fault_of_row<'a>(file: &'a str, line: NonZeroU64, fault: RowFault) -> Fault<'a>
-    ensures { result ≡ row_fault file.entry line.value fault }
+/// The kind of a file of such rows.
+fn kind_of(rows: Kind<'_>) -> FileKind
+    ensures { result ≡ kind_of rows.entry }
+{
+    match rows {
+        Kind::Classes => FileKind::Classes,
+        Kind::Characters(_) => FileKind::Characters,
+    }
+}
+
+/// How it is said of a file of this kind why there is no row at a line.
+fn fault_of_row<'a>(file: &'a str, kind: FileKind, line: NonZeroU64, fault: RowFault) -> Fault<'a>
+    ensures { result ≡ row_fault file.entry kind line.value fault }
 {
     match fault {
         RowFault::Malformed { line, cause } => Fault::MalformedLine {
             name: file,
+            kind,
             line,
             cause,
         },
@@ -48,10 +61,16 @@ fn row_in_file<'a, F: Files>(
     let mut source = open(alloc, files, file, MOST_FILE_BYTES)?;
     match find_row(alloc, rows, line, &mut source) {
         Ok(row) => Ok(row),
-        Err(SearchFault::OfRow(fault)) => Err(fault_of_row(file, line, fault)),
+        Err(SearchFault::OfRow(fault)) => Err(fault_of_row(file, kind_of(rows), line, fault)),
         Err(SearchFault::Read) => {
             let unread = files.unread(&source);
-            Err(Fault::CannotRead { name: file, unread })
+            Err(Fault::CannotRead {
+                name: file,
+                folder: None,
+                most: MOST_FILE_BYTES,
+                unread,
+                written: Written::Whole,
+            })
         }
         Err(SearchFault::Memory) => Err(Fault::OutOfMemory),
     }
@@ -59,7 +78,7 @@ fn row_in_file<'a, F: Files>(
 
 /// Explains the row that is sought: under each direction that it names, what each rule does to its text, and what it
 /// claims beside what is defined. Where tables are needed and none are named, nothing is opened. The faults are those
-/// of `read_tables`, that FILE can't be opened or read, that a line up to the one that is sought is malformed, that
+/// of `tables_by`, that FILE can't be opened or read, that a line up to the one that is sought is malformed, that
 /// this is no row, refused memory, and a failed write.
 pub fn explain_row<'a, F: Files, W: Write>(
     alloc: Global,

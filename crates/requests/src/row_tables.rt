@@ -5,26 +5,26 @@ ghost use Rattle.requests.specs.Parts.{IsFirstFault, row_table_parts};
 
 use crate::fault::Fault;
 use crate::files::Files;
-use crate::request::FileKind;
-use crate::table_files::read_tables;
+use crate::request::{FileKind, TableSource};
+use crate::table_source::tables_by;
 use bidtests::kind::Kind;
 use std::alloc::Global;
 use ucdfiles::tables::Tables;
 
-/// The tables of the folder, where the rows of a file of this kind need them. Where they are needed and none are named,
-/// nothing is opened.
-pub fn row_tables<F: Files>(
+/// Returns the tables of the source if the rows of a file of this kind need tables, with the faults of `tables_by`. If
+/// they are needed and no source is named, fails with `TablesNeeded` and opens nothing.
+pub fn row_tables<'a, F: Files>(
     alloc: Global,
     files: &F,
     kind: FileKind,
-    folder: Option<&str>,
-) -> Result<Option<Tables>, Fault<'static>>
-    ensures tables { IfOk result (HasRowTables (F.facts files.now) kind folder.entry) }
-    ensures fault { IfErr result (IsFirstFault (row_table_parts (F.facts files.now) kind folder.entry)) }
+    source: Option<TableSource<'a>>,
+) -> Result<Option<Tables>, Fault<'a>>
+    ensures tables { IfOk result (HasRowTables (F.facts files.now) kind source.entry) }
+    ensures fault { IfErr result (IsFirstFault (row_table_parts (F.facts files.now) kind source.entry)) }
 {
-    match (kind, folder) {
+    match (kind, source) {
         (FileKind::Classes, _) => Ok(None),
-        (FileKind::Characters, Some(folder)) => Ok(Some(read_tables(alloc, files, folder)?)),
+        (FileKind::Characters, Some(source)) => Ok(Some(tables_by(alloc, files, source)?)),
         (FileKind::Characters, None) => Err(Fault::TablesNeeded),
     }
 }

@@ -3,7 +3,7 @@ ghost use Rattle.std.specs.Prelude.{◌≡◌, ◌≤◌, IfOk, IfErr};
 ghost use Rattle.std.specs.Io.KnownBytes.{Keeps};
 ghost use Rattle.requests.specs.Outcomes.{Fails, HasEnded, IsDone, RefusalLeaves};
 
-use crate::fault::Fault;
+use crate::fault::{Detail, Fault};
 use crate::files::Files;
 use crate::outcome::{Ended, Outcome};
 use crate::performing::perform;
@@ -40,25 +40,26 @@ fn perform_and_flush<'a, F: Files, W: Write>(
     Ok(outcome)
 }
 
-/// Does what is asked for, and answers how the run ends, with the exit status: 0 where a text was printed or explained,
+/// Does what is asked for, and returns how the run ends, with the exit status: 0 where a text was printed or explained,
 /// a row was, or rows were printed, and after a yes or a report that is right, 1 after a no, or a report that is not
 /// right, that was written, 2 where no tables are named though they are needed, a word for classes or for code points
 /// has an item that is none or is too long, words make no rows, or the line that is to be explained is no row, 3 where
 /// a file or standard input can't be read, a table, the text or a line up to the one that is to be explained is faulty,
-/// a write fails or memory is refused. After 2 and 3 a line that says so is written to `err`, and whether it took that
-/// is answered too; after 0 and 1 nothing is written to it.
+/// a write fails or memory is refused. After 2 and 3 the fault is reported to `err` in this detail, and whether it took
+/// that is returned too; after 0 and 1 nothing is written to it.
 pub fn run_request<'a, F: Files, W: Write, E: Write>(
     alloc: Global,
     request: Request<'a>,
+    detail: Detail,
     files: &F,
     out: &mut W,
     err: &mut E,
 ) -> Ended
     ensures status { result.status ≤ 3 }
 
-    // The status is that of what was done, or of the fault of the first part that failed, whose line is written.
+    // The status is that of what was done, or of the fault of the first part that failed, which is reported.
     ensures ended { HasEnded (F.facts files.now) (W.contents out.old) (W.contents out.new)
-        (E.contents err.old) (E.contents err.new) request.entry result }
+        (E.contents err.old) (E.contents err.new) request.entry detail result }
 
     // 1 is answered only where the request came to a no, or to a report that is not right, that was written.
     ensures no { result.status ≡ 1 → IsDone (F.facts files.now)
@@ -68,8 +69,9 @@ pub fn run_request<'a, F: Files, W: Write, E: Write>(
     match perform_and_flush(alloc, request, files, out) {
         Ok(outcome) => Ended {
             status: outcome.status(),
+            is_written: true,
             is_said: true,
         },
-        Err(fault) => fault.report(err),
+        Err(fault) => fault.report(err, detail),
     }
 }

@@ -6,13 +6,15 @@ ghost use Rattle.ucdfiles.specs.PairFiles.{bracket_fault, mirror_fault, StatesBr
 ghost use Rattle.ucdfiles.specs.Tables.{class_by, bracket_by, glyph_by};
 ghost use Rattle.requests.specs.FaultText.{EndsOpening};
 ghost use Rattle.requests.specs.ReadFiles.{AreTables, CannotOpen, FileNamed, HoldsClasses, HoldsTable, IsClassPath};
-ghost use Rattle.requests.specs.ReadFiles.{bracket_name, class_name, extracted_name, in_folder, mirror_name, most_file_bytes};
+ghost use Rattle.requests.specs.ReadFiles.{bracket_name, class_name, extracted_name, in_folder, mirror_name};
+ghost use Rattle.requests.specs.ReadFiles.{most_file_bytes, table_file};
 ghost use Rattle.requests.specs.Parts.{IsFirstFault, table_parts};
 ghost use Rattle.requests.specs.TableFaults.{CannotOpenClasses, EndsClasses, EndsTable, table_fault};
 
 use crate::fault::Fault;
 use crate::files::{Files, OpenFault};
 use crate::opening::MOST_FILE_BYTES;
+use printing::written::Written;
 use std::alloc::Global;
 use ucdfiles::bracket_table::BracketTable;
 use ucdfiles::class_table::ClassTable;
@@ -50,39 +52,50 @@ fn open_in<F: Files>(
 
 /// Opens the table's file of this name in the folder. The faults are that it can't be opened, with the reason, and
 /// refused memory.
-fn open_table<F: Files>(
+fn open_table<'a, F: Files>(
     alloc: Global,
     files: &F,
-    folder: &str,
+    folder: &'a str,
     name: &'static str,
-) -> Result<F::Source, Fault<'static>>
+) -> Result<F::Source, Fault<'a>>
     ensures opened { IfOk result (F.opens files.now (FileNamed (in_folder folder.now name.now)) most_file_bytes) }
-    ensures fault { IfErr result (EndsOpening (CannotOpen (F.facts files.now) folder.now name.now) name.now) }
+    ensures fault { IfErr result
+        (EndsOpening (CannotOpen (F.facts files.now) folder.now name.now) (table_file folder.now name.now)) }
 {
     match open_in(alloc, files, folder, name) {
         Ok(source) => Ok(source),
-        Err(OpenFault::Cannot(unread)) => Err(Fault::CannotRead { name, unread }),
+        Err(OpenFault::Cannot(unread)) => Err(Fault::CannotRead {
+            name,
+            folder: Some(folder),
+            most: MOST_FILE_BYTES,
+            unread,
+            written: Written::Whole,
+        }),
         Err(OpenFault::Memory) => Err(Fault::OutOfMemory),
     }
 }
 
 /// Opens the file of the classes in the folder `extracted` of the folder, where the one in the folder can't be opened
 /// for this reason. The faults are that neither can be opened, said of the one in the folder, and refused memory.
-fn open_extracted<F: Files>(
+fn open_extracted<'a, F: Files>(
     alloc: Global,
     files: &F,
-    folder: &str,
+    folder: &'a str,
     unread: Unread,
-) -> Result<F::Source, Fault<'static>>
+) -> Result<F::Source, Fault<'a>>
     requires { CannotOpen (F.facts files.now) folder.now class_name unread }
     ensures opened { IfOk result (F.opens files.now (FileNamed (in_folder folder.now extracted_name)) most_file_bytes) }
-    ensures fault { IfErr result (EndsOpening (CannotOpenClasses (F.facts files.now) folder.now) class_name) }
+    ensures fault { IfErr result
+        (EndsOpening (CannotOpenClasses (F.facts files.now) folder.now) (table_file folder.now class_name)) }
 {
     match open_in(alloc, files, folder, EXTRACTED_CLASSES) {
         Ok(source) => Ok(source),
         Err(OpenFault::Cannot(_)) => Err(Fault::CannotRead {
             name: CLASSES,
+            folder: Some(folder),
+            most: MOST_FILE_BYTES,
             unread,
+            written: Written::Whole,
         }),
         Err(OpenFault::Memory) => Err(Fault::OutOfMemory),
     }
@@ -90,14 +103,15 @@ fn open_extracted<F: Files>(
 
 /// Opens the file of the classes: the one in the folder, or where that can't be opened the one in its folder
 /// `extracted`, where Unicode publishes it. Where neither can be opened, the fault names the first, with its reason.
-fn open_classes<F: Files>(
+fn open_classes<'a, F: Files>(
     alloc: Global,
     files: &F,
-    folder: &str,
-) -> Result<F::Source, Fault<'static>>
+    folder: &'a str,
+) -> Result<F::Source, Fault<'a>>
     ensures opened { IfOk result (λ source. (path : List ℕ) × IsClassPath (F.facts files.now) folder.now path
         × F.opens files.now (FileNamed path) most_file_bytes source) }
-    ensures fault { IfErr result (EndsOpening (CannotOpenClasses (F.facts files.now) folder.now) class_name) }
+    ensures fault { IfErr result
+        (EndsOpening (CannotOpenClasses (F.facts files.now) folder.now) (table_file folder.now class_name)) }
 {
     match open_in(alloc, files, folder, CLASSES) {
         Ok(source) => Ok(source),
@@ -106,23 +120,40 @@ fn open_classes<F: Files>(
     }
 }
 
-/// How the fault of the table's file of this name is said, by why a read of it failed.
-pub fn fault_of_table(name: &'static str, fault: TableFault, unread: Unread) -> Fault<'static>
-    ensures { result ≡ table_fault name.entry fault unread }
+/// Returns how the fault of the table's file of this name in the folder is reported, with the reason for which a read of
+/// it failed.
+fn fault_of_table<'a>(
+    folder: &'a str,
+    name: &'static str,
+    fault: TableFault,
+    unread: Unread,
+) -> Fault<'a>
+    ensures { result ≡ table_fault name.entry folder.entry fault unread }
 {
     match (fault.line(), fault) {
-        (Some(line), _) => Fault::FaultyLine { name, line, fault },
+        (Some(line), _) => Fault::FaultyLine {
+            name,
+            folder,
+            line,
+            fault,
+        },
         (None, TableFault::Memory) => Fault::OutOfMemory,
-        (None, _) => Fault::CannotRead { name, unread },
+        (None, _) => Fault::CannotRead {
+            name,
+            folder: Some(folder),
+            most: MOST_FILE_BYTES,
+            unread,
+            written: Written::Whole,
+        },
     }
 }
 
 /// The classes of the folder.
-fn read_classes<F: Files>(
+fn read_classes<'a, F: Files>(
     alloc: Global,
     files: &F,
-    folder: &str,
-) -> Result<ClassTable, Fault<'static>>
+    folder: &'a str,
+) -> Result<ClassTable, Fault<'a>>
     ensures ok { IfOk result (λ table. HoldsClasses (F.facts files.now) folder.now
         (λ bytes. StatesClasses bytes (class_by table))) }
     ensures err { IfErr result (EndsClasses (F.facts files.now) folder.now) }
@@ -130,16 +161,19 @@ fn read_classes<F: Files>(
     let mut source = open_classes(alloc, files, folder)?;
     match ClassTable::read(alloc, &mut source) {
         Ok(table) => Ok(table),
-        Err(fault) => Err(fault_of_table(CLASSES, fault, files.unread(&source))),
+        Err(fault) => {
+            let unread = files.unread(&source);
+            Err(fault_of_table(folder, CLASSES, fault, unread))
+        }
     }
 }
 
 /// The brackets of the folder.
-fn read_brackets<F: Files>(
+fn read_brackets<'a, F: Files>(
     alloc: Global,
     files: &F,
-    folder: &str,
-) -> Result<BracketTable, Fault<'static>>
+    folder: &'a str,
+) -> Result<BracketTable, Fault<'a>>
     ensures ok { IfOk result (λ table. HoldsTable (F.facts files.now) folder.now bracket_name
         (λ bytes. StatesBrackets bytes (bracket_by table))) }
     ensures err { IfErr result (EndsTable (F.facts files.now) bracket_fault folder.now bracket_name) }
@@ -147,16 +181,19 @@ fn read_brackets<F: Files>(
     let mut source = open_table(alloc, files, folder, BRACKETS)?;
     match BracketTable::read(alloc, &mut source) {
         Ok(table) => Ok(table),
-        Err(fault) => Err(fault_of_table(BRACKETS, fault, files.unread(&source))),
+        Err(fault) => {
+            let unread = files.unread(&source);
+            Err(fault_of_table(folder, BRACKETS, fault, unread))
+        }
     }
 }
 
 /// The mirror images of the folder.
-fn read_mirrors<F: Files>(
+fn read_mirrors<'a, F: Files>(
     alloc: Global,
     files: &F,
-    folder: &str,
-) -> Result<MirrorTable, Fault<'static>>
+    folder: &'a str,
+) -> Result<MirrorTable, Fault<'a>>
     ensures ok { IfOk result (λ table. HoldsTable (F.facts files.now) folder.now mirror_name
         (λ bytes. StatesMirrors bytes (glyph_by table))) }
     ensures err { IfErr result (EndsTable (F.facts files.now) mirror_fault folder.now mirror_name) }
@@ -164,18 +201,21 @@ fn read_mirrors<F: Files>(
     let mut source = open_table(alloc, files, folder, MIRRORS)?;
     match MirrorTable::read(alloc, &mut source) {
         Ok(table) => Ok(table),
-        Err(fault) => Err(fault_of_table(MIRRORS, fault, files.unread(&source))),
+        Err(fault) => {
+            let unread = files.unread(&source);
+            Err(fault_of_table(folder, MIRRORS, fault, unread))
+        }
     }
 }
 
 /// Reads the tables of a folder: the classes, from the folder or its folder `extracted`, then the brackets, then the
-/// mirror images. The fault is the first one: a
-/// file that can't be opened or read, its first faulty line, or refused memory.
-pub fn read_tables<F: Files>(
+/// mirror images. The fault is the first one: a file that can't be opened or read, its first faulty line, or refused
+/// memory.
+pub fn read_tables<'a, F: Files>(
     alloc: Global,
     files: &F,
-    folder: &str,
-) -> Result<Tables, Fault<'static>>
+    folder: &'a str,
+) -> Result<Tables, Fault<'a>>
     ensures tables { IfOk result (AreTables (F.facts files.now) folder.now) }
     ensures fault { IfErr result
         (IsFirstFault (table_parts (F.facts files.now) folder.now)) }

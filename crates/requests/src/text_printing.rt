@@ -17,11 +17,12 @@ use units::level::Direction;
 
 /// Prints the text in what FILE names in this form, by the tables of this source, which are read first: each paragraph
 /// is printed and handed on as soon as its end is read. The faults are those of `tables_by` and `open`, before anything
-/// is printed; that a read failed or that the text is not UTF-8, behind the paragraphs that have ended by then; refused
-/// memory, and a failed write.
+/// is printed; that a read failed or that the text is not UTF-8, after the paragraphs that have ended by then; and a
+/// failed write, if the whole text was read and is UTF-8. Two faults end it before: that nobody reads what is written
+/// any more, and refused memory.
 pub fn print_text<'a, F: Files, W: Write>(
     alloc: Global,
-    source: TableSource<'_>,
+    source: TableSource<'a>,
     direction: Direction,
     file: &'a str,
     form: Form,
@@ -38,11 +39,23 @@ pub fn print_text<'a, F: Files, W: Write>(
     let mut opened = open(alloc, files, file, MOST_TEXT_BYTES)?;
     match print_source(alloc, out, &tables, &mut opened, direction, form) {
         Ok(()) => Ok(()),
-        Err(TextFault::NotUtf8) => Err(Fault::NotUtf8(file)),
-        Err(TextFault::Print(fault)) => Err(Fault::from(fault)),
-        Err(TextFault::Read) => {
+        Err(TextFault::Write) => Err(Fault::CannotWrite),
+        Err(TextFault::NobodyReads) => Err(Fault::NobodyReads),
+        Err(TextFault::Memory) => Err(Fault::OutOfMemory),
+        Err(TextFault::NotUtf8 { place, written }) => Err(Fault::NotUtf8 {
+            name: file,
+            place,
+            written,
+        }),
+        Err(TextFault::Read { written }) => {
             let unread = files.unread(&opened);
-            Err(Fault::CannotRead { name: file, unread })
+            Err(Fault::CannotRead {
+                name: file,
+                folder: None,
+                most: MOST_TEXT_BYTES,
+                unread,
+                written,
+            })
         }
     }
 }

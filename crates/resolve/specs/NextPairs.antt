@@ -1,7 +1,7 @@
 -- The pairs of a sequence, one after another in the order of their openers.
 use Rattle.std.specs.Prelude.{ℕ, ◌<◌, ◌≤◌, ◌≡◌, Option, List, length, Some, None, slice_index}
 use Rattle.resolve.specs.Pairs.{closer_in}
-use Rattle.resolve.specs.declared.paired.Pair.{Pair}
+use Rattle.resolve.specs.declared.next_pair.Pair.{Pair}
 
 -- no pair begins at an index from this one on, before the end
 abbrev pub NoneBegins : List (Option ℕ) → List ℕ → ℕ → ℕ → Type 0

@@ -1,6 +1,6 @@
 //! The neutrals, by each of their two rules alone. `classes` are those of the sequence's paragraph, by position; the
 //! ones at positions outside the sequence stay.
-ghost use Rattle.std.specs.Prelude.{◌≡◌, length};
+ghost use Rattle.std.specs.Prelude.{◌≡◌, ◌+◌, ◌*◌, ◌≤◌, length};
 ghost use Rattle.units.specs.Runs.{direction_of};
 ghost use Rattle.resolve.specs.Rewritten.{Rewrites};
 ghost use Rattle.rule_columns.specs.Passes.{after_n1, after_n2, by_n2};
@@ -17,7 +17,9 @@ use units::steps::Steps;
 /// as it is.
 pub fn n1<L: Ledger>(s: &Sequence, classes: &mut [Class], steps: &mut Steps<L>)
     requires { length classes.old ≡ s.now.extent }
-    ensures { Rewrites (after_n1 s.now.sos s.now.eos) s.now.positions classes.old classes.new }
+    ensures classes { Rewrites (after_n1 s.now.sos s.now.eos) s.now.positions classes.old classes.new }
+    ensures at_least { steps.old + length s.now.positions ≤ steps.new }
+    ensures at_most { steps.new ≤ steps.old + 2 * length s.now.positions }
 {
     settle(
         s.as_slice(),

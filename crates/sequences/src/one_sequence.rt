@@ -3,8 +3,8 @@ ghost use Rattle.std.specs.Prelude.{◌≡◌, ◌+◌, ◌<◌, ◌≤◌, leng
 ghost use Rattle.units.specs.Classes.{classes_of, is_removed};
 ghost use Rattle.units.specs.Isolates.{level_of_para};
 ghost use Rattle.units.specs.Positions.{positions_from};
-ghost use Rattle.flat.specs.Flat.{IsFlat, remaining_of};
-ghost use Rattle.flat.specs.IdleRules.{HasNone};
+ghost use Rattle.explicit.specs.Flat.{IsFlat, remaining_of};
+ghost use Rattle.explicit.specs.IdleRules.{HasNone};
 ghost use Rattle.sequences.specs.Links.{ArePositions, IsChain};
 ghost use Rattle.sequences.specs.Heads.{only_head};
 ghost use Rattle.sequences.specs.OneSequence.{HoldSequencesOf};

@@ -7,6 +7,8 @@ mod arbitrary_tables;
 #[cfg(test)]
 mod given;
 #[cfg(test)]
+mod kit_classes;
+#[cfg(test)]
 mod large_tables;
 #[cfg(test)]
 mod standard_tables;

@@ -1,10 +1,9 @@
 //! The tables that are built in.
 use std::process::Abort;
-use ucdfiles::files::FileFault;
 use units::bracket::Bracket;
 use units::class::Class;
 
-/// Characters, with their classes by Unicode 15.0: of data lines, of defaults, and the last one.
+/// Characters, with their classes by the edition that is built in: of data lines, of defaults, and the last one.
 const CLASSES: [(char, Class); 8] = [
     ('A', Class::L),
     ('\u{5D0}', Class::R),
@@ -17,8 +16,8 @@ const CLASSES: [(char, Class); 8] = [
 ];
 
 #[test]
-fn standard_tables_are_those_of_unicode(rt: HostRuntime) -> Result<(), FileFault> {
-    let tables = standard::tables(rt.alloc())?;
+fn standard_tables_are_those_of_unicode(rt: HostRuntime) {
+    let tables = standard::tables();
     for (c, class) in CLASSES {
         assert_eq!(rt; tables.unit(c).class, class);
     }
@@ -30,5 +29,4 @@ fn standard_tables_are_those_of_unicode(rt: HostRuntime) -> Result<(), FileFault
     }
     assert_eq!(rt; tables.mirrors().glyph('('), Some(')'));
     assert_eq!(rt; tables.mirrors().glyph('a'), None);
-    Ok(())
 }

@@ -21,8 +21,9 @@ const DEFAULTS: &[u8] =
     b"# @missing: 0000..10FFFF; Left_To_Right\n# @missing: 0590..05FF; R\n05D0 ; AN\n";
 
 /// Files of classes, a character, and its class.
-const STATED: [(&[u8], char, Class); 6] = [
+const STATED: [(&[u8], char, Class); 7] = [
     (b"# @missing: 0041; Right_To_Left", 'A', Class::R),
+    (b"0041 ; L # @missing: zz", 'A', Class::L),
     (b"0041 ; AN # @missing: zz", 'A', Class::AN),
     (b"", '\u{10FFFF}', Class::L),
     (DEFAULTS, '\u{5D0}', Class::AN),

@@ -1,8 +1,9 @@
 //! Texts printed as they are read, paragraph by paragraph.
 use crate::given::tables;
-use printing::fault::PrintFault;
 use printing::form::Form;
+use printing::place::TextPlace;
 use printing::reading::{TextFault, print_source};
+use printing::written::Written;
 use std::alloc::{AllocError, Global};
 use std::process::Abort;
 use ucdfiles::fault::TableFault;
@@ -83,10 +84,19 @@ fn prints_paragraph_by_paragraph(rt: HostRuntime) -> Result<(), TableFault> {
 fn leaves_what_ended_before_a_fault(rt: HostRuntime) -> Result<(), TableFault> {
     let alloc = rt.alloc();
     let tables = tables(alloc)?;
-    let fault = Err(TextFault::NotUtf8);
-    shows(&rt, alloc, &tables, b"a\n<\nb\xFFc\nd\ne", b"a\n<\n", fault);
-    shows(&rt, alloc, &tables, b"a\nb\xD7", b"a\n", fault);
-    shows(&rt, alloc, &tables, b"\xF0\x90\xA4", b"", fault);
+    let rows: [(&[u8], &[u8], usize, usize); 4] = [
+        (b"a\n<\nb\xFFc\nd\ne", b"a\n<\n", 3, 5),
+        (b"a\nb\xD7", b"a\n", 2, 3),
+        (b"a\r\xD7\n", b"a\n", 1, 2),
+        (b"\xF0\x90\xA4", b"", 1, 0),
+    ];
+    for (text, printed, line, offset) in rows {
+        let fault = TextFault::NotUtf8 {
+            place: TextPlace { line, offset },
+            written: Written::Whole,
+        };
+        shows(&rt, alloc, &tables, text, printed, Err(fault));
+    }
     Ok(())
 }
 
@@ -94,7 +104,9 @@ fn leaves_what_ended_before_a_fault(rt: HostRuntime) -> Result<(), TableFault> {
 fn leaves_what_ended_before_a_failed_read(rt: HostRuntime) -> Result<(), TableFault> {
     let alloc = rt.alloc();
     let tables = tables(alloc)?;
-    let fault = Err(TextFault::Read);
+    let fault = Err(TextFault::Read {
+        written: Written::Whole,
+    });
     prints(
         &rt,
         alloc,
@@ -175,6 +187,6 @@ fn says_that_the_write_of_a_later_paragraph_failed(rt: HostRuntime) -> Result<()
     assert!(rt; source.most_left() <= 16);
     let (auto, levels) = (Direction::Auto, Form::Levels);
     let answer = print_source(rt.alloc(), &mut short, &tables, &mut source, auto, levels);
-    assert_eq!(rt; answer, Err(TextFault::Print(PrintFault::Write)));
+    assert_eq!(rt; answer, Err(TextFault::Write));
     Ok(())
 }

@@ -1,10 +1,10 @@
 //! Texts in one value with their layout: broken into two lines, refused, and as long as a text can be.
 use crate::given::tables;
 use lines::breaks::BreakFault;
+use room::text::{Direction, Text, TextFault};
 use std::alloc::Global;
 use std::process::Abort;
 use std::test::Fail;
-use texts::{Direction, Text, TextFault};
 use ucdfiles::tables::Tables;
 use units::memory::Memory;
 

@@ -8,8 +8,9 @@ use crate::reading::{LineTable, read_lines};
 use crate::sided_bracket::SidedBracket;
 use crate::span::Span;
 use crate::statements::Statements;
-use crate::two_stage::{LentStages, TwoStage};
+use crate::two_stage::{HeldStages, LentStages, TwoStage};
 use std::alloc::Global;
+use std::borrow::CowSlice;
 use std::marker::Model;
 use units::bracket::Bracket;
 use units::source::ByteSource;
@@ -33,25 +34,28 @@ impl LineTable for Statements<SidedBracket> {
 /// BD14 to BD16: the brackets of the characters, with their keys. Contracts see them by `bracket_by`.
 #[derive(Drop)]
 pub struct BracketTable {
-    brackets: TwoStage<Bracket>,
-    spans: Vec<Span<Bracket>>,
+    brackets: HeldStages<'static, Bracket>,
+    spans: CowSlice<'static, Span<Bracket>>,
 }
 
 impl Model for BracketTable {
+    ghost use Rattle.std.specs.Cow.{cow_slice_items};
+    ghost use Rattle.ucdfiles.specs.HeldStages.{held_stages};
     ghost use Rattle.ucdfiles.specs.Stages.{Stages};
     ghost use Rattle.ucdfiles.specs.Tables.{IsTableOf};
     ghost use Rattle.units.specs.declared.bracket.Bracket.{Bracket as BracketOf};
 
     ghost Value = { Stages BracketOf };
 
-    ghost view = { λ t. t.brackets };
+    ghost view = { λ t. held_stages t.brackets };
 
-    ghost invariant = { λ t. IsTableOf t.spans.items t.brackets };
+    ghost invariant = { λ t. IsTableOf (cow_slice_items t.spans) (held_stages t.brackets) };
 }
 
 impl BracketTable {
     ghost use Rattle.ucdfiles.specs.PairFiles.{bracket_fault, StatesBrackets};
     ghost use Rattle.ucdfiles.specs.Reading.{IsFault, OfAllBytes};
+    ghost use Rattle.ucdfiles.specs.Stages.{AreStages};
     ghost use Rattle.ucdfiles.specs.Tables.{bracket_by, IsTableOf};
 
     /// The bracket table that the source's bytes state, read to the source's end; or the fault of the first faulty
@@ -71,8 +75,27 @@ impl BracketTable {
             return Err(TableFault::Memory);
         };
         match TwoStage::new(alloc, &spans, &[], Bracket::No) {
-            Ok(brackets) => Ok(BracketTable { brackets, spans }),
+            Ok(brackets) => Ok(BracketTable {
+                brackets: HeldStages::Made(brackets),
+                spans: CowSlice::Owned(spans),
+            }),
             Err(_) => Err(TableFault::Memory),
+        }
+    }
+
+    /// Makes the table of constants: two stages, and the brackets in the order of their code points. Allocates nothing.
+    pub fn of_constants(
+        numbers: &'static [u16],
+        values: &'static [Bracket],
+        spans: &'static [Span<Bracket>],
+    ) -> BracketTable
+        requires stages { AreStages (record { numbers = numbers.now; values = values.now }) }
+        requires spans { IsTableOf spans.now (record { numbers = numbers.now; values = values.now }) }
+        ensures { result ≡ record { numbers = numbers.now; values = values.now } }
+    {
+        BracketTable {
+            brackets: HeldStages::Constant(LentStages::new(numbers, values)),
+            spans: CowSlice::Borrowed(spans),
         }
     }
 
@@ -89,7 +112,7 @@ impl BracketTable {
     pub(crate) fn spans(&self) -> &[Span<Bracket>]
         ensures { IsTableOf result.now self.now }
     {
-        &self.spans
+        self.spans.as_slice()
     }
 
     /// Its stages, lent.

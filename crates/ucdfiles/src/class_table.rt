@@ -5,7 +5,7 @@ use crate::class_line::class_line;
 use crate::fault::{Fault, TableFault};
 use crate::reading::{LineTable, read_lines};
 use crate::statements::Statements;
-use crate::two_stage::{LentStages, TwoStage};
+use crate::two_stage::{HeldStages, LentStages, TwoStage};
 use std::alloc::Global;
 use std::marker::Model;
 use units::class::Class;
@@ -30,21 +30,23 @@ impl LineTable for Statements<Class> {
 /// The classes of the characters. Contracts see them by `class_by`.
 #[derive(Drop)]
 pub struct ClassTable {
-    classes: TwoStage<Class>,
+    classes: HeldStages<'static, Class>,
 }
 
 impl Model for ClassTable {
+    ghost use Rattle.ucdfiles.specs.HeldStages.{held_stages};
     ghost use Rattle.ucdfiles.specs.Stages.{Stages};
     ghost use Rattle.units.specs.declared.class.Class.{Class as ClassOf};
 
     ghost Value = { Stages ClassOf };
 
-    ghost view = { λ t. t.classes };
+    ghost view = { λ t. held_stages t.classes };
 }
 
 impl ClassTable {
     ghost use Rattle.ucdfiles.specs.ClassFile.{class_fault, StatesClasses};
     ghost use Rattle.ucdfiles.specs.Reading.{IsFault, OfAllBytes};
+    ghost use Rattle.ucdfiles.specs.Stages.{AreStages};
     ghost use Rattle.ucdfiles.specs.Tables.{class_by};
 
     /// The class table that the source's bytes state, read to the source's end; or the fault of the first faulty
@@ -61,8 +63,20 @@ impl ClassTable {
         let mut lines = Statements::new(alloc);
         read_lines(&mut lines, source)?;
         match TwoStage::new(alloc, lines.data(), lines.defaults(), Class::L) {
-            Ok(classes) => Ok(ClassTable { classes }),
+            Ok(classes) => Ok(ClassTable {
+                classes: HeldStages::Made(classes),
+            }),
             Err(_) => Err(TableFault::Memory),
+        }
+    }
+
+    /// Makes the table of constants in two stages. Allocates nothing.
+    pub fn of_constants(numbers: &'static [u16], values: &'static [Class]) -> ClassTable
+        requires { AreStages (record { numbers = numbers.now; values = values.now }) }
+        ensures { result ≡ record { numbers = numbers.now; values = values.now } }
+    {
+        ClassTable {
+            classes: HeldStages::Constant(LentStages::new(numbers, values)),
         }
     }
 

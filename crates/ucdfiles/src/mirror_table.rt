@@ -7,7 +7,7 @@ use crate::pair_line::mirror_line;
 use crate::reading::{LineTable, read_lines};
 use crate::span::Span;
 use crate::statements::Statements;
-use crate::two_stage::TwoStage;
+use crate::two_stage::{HeldStages, LentStages, TwoStage};
 use std::alloc::{AllocError, Global};
 use std::marker::Model;
 use units::source::ByteSource;
@@ -48,21 +48,23 @@ fn images(alloc: Global, spans: &[Span<char>]) -> Result<Vec<Span<Option<char>>>
 /// L4: the mirror images of the characters. Contracts see them by `glyph_by`.
 #[derive(Drop)]
 pub struct MirrorTable {
-    glyphs: TwoStage<Option<char>>,
+    glyphs: HeldStages<'static, Option<char>>,
 }
 
 impl Model for MirrorTable {
     ghost use Rattle.std.specs.Prelude.{ℕ, Option};
+    ghost use Rattle.ucdfiles.specs.HeldStages.{held_stages};
     ghost use Rattle.ucdfiles.specs.Stages.{Stages};
 
     ghost Value = { Stages (Option ℕ) };
 
-    ghost view = { λ t. t.glyphs };
+    ghost view = { λ t. held_stages t.glyphs };
 }
 
 impl MirrorTable {
     ghost use Rattle.ucdfiles.specs.PairFiles.{mirror_fault, StatesMirrors};
     ghost use Rattle.ucdfiles.specs.Reading.{IsFault, OfAllBytes};
+    ghost use Rattle.ucdfiles.specs.Stages.{AreStages};
     ghost use Rattle.ucdfiles.specs.Tables.{glyph_by};
 
     /// The mirror table that the source's bytes state, read to the source's end; or the fault of the first faulty
@@ -82,8 +84,20 @@ impl MirrorTable {
             return Err(TableFault::Memory);
         };
         match TwoStage::new(alloc, &images, &[], None) {
-            Ok(glyphs) => Ok(MirrorTable { glyphs }),
+            Ok(glyphs) => Ok(MirrorTable {
+                glyphs: HeldStages::Made(glyphs),
+            }),
             Err(_) => Err(TableFault::Memory),
+        }
+    }
+
+    /// Makes the table of constants in two stages. Allocates nothing.
+    pub fn of_constants(numbers: &'static [u16], values: &'static [Option<char>]) -> MirrorTable
+        requires { AreStages (record { numbers = numbers.now; values = values.now }) }
+        ensures { result ≡ record { numbers = numbers.now; values = values.now } }
+    {
+        MirrorTable {
+            glyphs: HeldStages::Constant(LentStages::new(numbers, values)),
         }
     }
 

@@ -124,6 +124,24 @@ impl Tables {
         }
     }
 
+    /// Returns these three tables as `new` does, without its pass over the brackets: the caller knows that each bracket
+    /// has the class ON.
+    pub fn with_neutral_brackets(
+        classes: ClassTable,
+        brackets: BracketTable,
+        mirrors: MirrorTable,
+    ) -> Self
+        requires { AreNeutral classes brackets }
+        ensures { result ≡ record { classes = classes; brackets = brackets; mirrors = mirrors } }
+    {
+        Tables {
+            classes,
+            brackets,
+            mirrors,
+            brackets_are_neutral: true,
+        }
+    }
+
     /// The classes and the brackets, lent, for who looks up a text's characters one by one.
     pub fn units(&self) -> LentUnits<'_>
         ensures { result ≡ unit_stages self.now }

@@ -174,6 +174,28 @@ impl<'a, V> Model for LentStages<'a, V> {
     ghost invariant = { λ t. AreStages (record { numbers = t.numbers.now; values = t.values.now }) };
 }
 
+impl<'a, V> LentStages<'a, V> {
+    ghost use Rattle.ucdfiles.specs.Stages.{AreStages};
+
+    /// Makes two stages of constants.
+    pub fn new(numbers: &'a [u16], values: &'a [V]) -> LentStages<'a, V>
+        requires { AreStages (record { numbers = numbers.now; values = values.now }) }
+        ensures { result ≡ record { numbers = numbers.now; values = values.now } }
+    {
+        LentStages { numbers, values }
+    }
+
+    /// Borrows the same stages.
+    pub fn lent(&self) -> LentStages<'_, V>
+        ensures { result ≡ self.now }
+    {
+        LentStages {
+            numbers: self.numbers,
+            values: self.values,
+        }
+    }
+}
+
 impl<'a, V: Copy> LentStages<'a, V> {
     ghost use Rattle.ucdfiles.specs.Stages.{Stages};
 
@@ -199,10 +221,33 @@ impl<V: Copy> TwoStage<V> {
             values: self.values.as_slice(),
         }
     }
+}
 
-    /// The value of a character.
+/// Two stages, made of lines or constant.
+#[derive(Drop)]
+pub enum HeldStages<'a, V> {
+    /// Stages that own their values.
+    Made(TwoStage<V>),
+    /// Stages that are constants of the program.
+    Constant(LentStages<'a, V>),
+}
+
+impl<'a, V: Copy> HeldStages<'a, V> {
+    ghost use Rattle.ucdfiles.specs.HeldStages.{held_stages};
+
+    /// Borrows both stages.
+    pub fn lent(&self) -> LentStages<'_, V>
+        ensures { result ≡ held_stages self.now }
+    {
+        match self {
+            HeldStages::Made(stages) => stages.lent(),
+            HeldStages::Constant(stages) => stages.lent(),
+        }
+    }
+
+    /// Returns the value of a character.
     pub fn value(&self, c: char) -> V
-        ensures { (d : V) → result ≡ stage_at self.now c d }
+        ensures { (d : V) → result ≡ stage_at (held_stages self.now) c d }
     {
         self.lent().value(c)
     }

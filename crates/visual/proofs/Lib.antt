@@ -8,3 +8,5 @@ pub mod SameCount
 pub mod NextRuns
 pub mod Walked
 pub mod Told
+pub mod GivenOrder
+pub mod GivenResets

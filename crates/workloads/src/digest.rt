@@ -72,10 +72,10 @@ impl Digest {
         }
     }
 
-    /// Adds characters.
-    pub fn add_characters(&mut self, characters: &[char]) {
-        for character in characters {
-            self.add(u64::from(*character));
+    /// Adds code points.
+    pub fn add_codes(&mut self, codes: &[u32]) {
+        for code in codes {
+            self.add(u64::from(*code));
         }
     }
 

@@ -18,14 +18,6 @@ const DOCUMENT_BYTES: usize = 30_000;
 /// The most bytes of which a text is printed.
 const MOST_BYTES: usize = 16_777_216;
 
-/// The tables that are built in.
-pub fn tables(alloc: Global) -> io::Result<Tables> {
-    match standard::tables(alloc) {
-        Ok(tables) => Ok(tables),
-        Err(_) => Err(io::ErrorKind::OutOfMemory.into()),
-    }
-}
-
 /// Makes documents. All paragraphs of all of them differ.
 #[derive(Drop)]
 struct DocumentMaker {
@@ -111,7 +103,7 @@ fn print_each(
 
 /// Prints so many documents.
 pub fn print_documents(alloc: Global, form: Form, count: usize, seed: u64) -> io::Result<Digest> {
-    let tables = tables(alloc)?;
+    let tables = standard_15::tables();
     let mut maker = DocumentMaker::new(alloc, seed);
     let mut printed = Vec::new(alloc);
     print_each(alloc, &tables, form, count, &mut maker, &mut printed)

@@ -1,23 +1,17 @@
 //! Paragraphs laid out as a typesetter does it: characters are looked up, a paragraph is laid out without breaks, its
 //! runs are shaped by their levels, and then it is broken into lines, of which each is told run by run.
-ghost use Rattle.lines.specs.Scratches.{IsFilled};
-
 use crate::digest::Digest;
-use crate::documents::tables;
 use crate::inputs::Inputs;
 use crate::script::SCRIPTS;
 use crate::text_maker::TextMaker;
-use encoded::runs::ordered_line;
-use lines::breaks::Breaks;
-use lines::lay_out::{break_anew_into, lay_out_into};
-use lines::scratch::Scratch;
-use std::alloc::Global;
+use room::room::Room;
+use sources::source::{Ask, Source};
+use std::alloc::{AllocError, Global};
 use std::io;
 use ucdfiles::tables::Tables;
-use units::bracket::{Bracket, Unit};
-use units::class::Class;
 use units::level::{Direction, ParaLevel};
-use visual::line_runs::Runs;
+use units::limits::Limits;
+use visual::runs::VisualRun;
 
 /// How many characters the paragraphs have, pass by pass over the text.
 const LENGTHS: [usize; 16] = [
@@ -36,15 +30,26 @@ const START: usize = 64;
 /// What is used again and again.
 #[derive(Drop)]
 struct Typesetter {
-    units: Vec<Unit>,
+    runs: Vec<VisualRun>,
     breaks: Vec<usize>,
-    room: Scratch,
+    room: Room,
     maker: TextMaker,
     paragraphs: Inputs,
 }
 
-/// A text of so many characters and some more, of all scripts.
-fn make(alloc: Global, count: usize, seed: u64) -> io::Result<Vec<char>> {
+/// So many runs, of nothing.
+pub fn no_runs(alloc: Global, count: usize) -> Result<Vec<VisualRun>, AllocError> {
+    let run = VisualRun {
+        start: 0,
+        end: 0,
+        level: ParaLevel::Zero.level(),
+        shown: 0,
+    };
+    Vec::from_elem(alloc, run, count)
+}
+
+/// A text of so many characters and some more, of all scripts, as code points.
+fn make(alloc: Global, count: usize, seed: u64) -> io::Result<Vec<u32>> {
     let mut maker = TextMaker::new(seed, 0);
     let mut characters = Vec::with_capacity(alloc, count)?;
     let mut words = String::new(alloc);
@@ -55,7 +60,7 @@ fn make(alloc: Global, count: usize, seed: u64) -> io::Result<Vec<char>> {
         words.clear();
         maker.push_words(SCRIPTS[number % 8], STRETCH_WORDS, &mut words)?;
         for character in words.as_str().chars() {
-            characters.push(character)?;
+            characters.push(u32::from(character))?;
         }
     }
     Ok(characters)
@@ -76,18 +81,12 @@ fn choose_breaks(breaks: &mut Vec<usize>, maker: &mut TextMaker, len: usize) -> 
 }
 
 impl Typesetter {
-    ghost use Rattle.lines.specs.Scratches.{IsFilled};
-
     fn new(alloc: Global, seed: u64) -> io::Result<Typesetter> {
-        let unit = Unit {
-            class: Class::L,
-            bracket: Bracket::No,
-        };
-        let Ok(room) = Scratch::with_room(alloc, MOST_LENGTH) else {
+        let Ok(room) = Room::with_room(alloc, MOST_LENGTH, false) else {
             return Err(io::ErrorKind::OutOfMemory.into());
         };
         Ok(Typesetter {
-            units: Vec::from_elem(alloc, unit, MOST_LENGTH)?,
+            runs: no_runs(alloc, MOST_LENGTH)?,
             breaks: Vec::new(alloc),
             room,
             maker: TextMaker::new(seed, 1),
@@ -96,54 +95,55 @@ impl Typesetter {
     }
 
     /// Returns whether no earlier paragraph has the length and the start of this one.
-    fn is_new(&mut self, text: &[char]) -> io::Result<bool> {
+    fn is_new(&mut self, text: &[u32]) -> io::Result<bool> {
         let mut digest = Digest::new();
         digest.add_size(text.len());
-        digest.add_characters(text.get(..START).unwrap_or(text));
+        digest.add_codes(text.get(..START).unwrap_or(text));
         self.paragraphs.add(digest)
     }
 
-    /// Adds the level of the paragraph to the digest, and of each line the levels, the runs and the order.
-    fn tell(&self, para_level: ParaLevel, digest: &mut Digest)
-        requires { IsFilled self.now.room }
-    {
+    /// Adds the levels of a line to the digest, and its runs and its order.
+    fn tell_line(&mut self, k: usize, digest: &mut Digest) {
         let layout = self.room.layout();
-        digest.add_para_levels(layout.para_levels());
-        for k in 0..layout.line_count() {
-            digest.add_levels(layout.line(k).levels);
-            for run in Runs::of(ordered_line(&layout, k, para_level)) {
-                digest.add_size(run.start);
-                digest.add_size(run.end);
-                digest.add_level(Some(run.level));
-                digest.add_size(run.shown);
-            }
-            digest.add_sizes(layout.line(k).order);
+        if k >= layout.line_count() {
+            return;
+        }
+        digest.add_levels(layout.line(k).levels);
+        let runs = self.room.runs(k, &mut self.runs);
+        for run in self.runs.iter().take(runs) {
+            digest.add_size(run.start);
+            digest.add_size(run.end);
+            digest.add_level(Some(run.level));
+            digest.add_size(run.shown);
+        }
+        digest.add_sizes(layout.line(k).order);
+    }
+
+    /// Adds the level of the paragraph to the digest, and all lines.
+    fn tell(&mut self, digest: &mut Digest) {
+        digest.add_para_levels(self.room.layout().para_levels());
+        for k in 0..self.room.line_count() {
+            self.tell_line(k, digest);
         }
     }
 
     /// Lays a paragraph out, and breaks it into lines.
-    fn lay_out(&mut self, tables: &Tables, text: &[char], digest: &mut Digest) -> io::Result<()> {
-        if text.len() > self.units.len() {
-            return Err(io::ErrorKind::InvalidData.into());
-        }
-        tables.look_up(text, &mut self.units[..text.len()]);
+    fn lay_out(&mut self, tables: &Tables, text: &[u32], digest: &mut Digest) -> io::Result<()> {
         choose_breaks(&mut self.breaks, &mut self.maker, text.len())?;
-        let Some(units) = self.units.get(..text.len()) else {
-            return Err(io::ErrorKind::InvalidData.into());
+        let ask = Ask {
+            source: Source::Codes(text),
+            direction: Direction::Auto,
+            breaks: &[],
+            limits: Limits::standard(),
         };
-        let Ok(whole) = Breaks::new(&[], units.len()) else {
-            return Err(io::ErrorKind::InvalidData.into());
-        };
-        let Ok(lines) = Breaks::new(&self.breaks, units.len()) else {
-            return Err(io::ErrorKind::InvalidData.into());
-        };
-        let Ok(()) = lay_out_into(&mut self.room, units, Direction::Auto, &whole) else {
+        let Ok(()) = self.room.lay_out(tables, &ask) else {
             return Err(io::ErrorKind::InvalidData.into());
         };
         digest.add_levels(self.room.layout().levels());
-        break_anew_into(&mut self.room, units, &lines);
-        let para_level = self.room.layout().para_levels().first().copied();
-        self.tell(para_level.unwrap_or(ParaLevel::Zero), digest);
+        let Ok(()) = self.room.set_lines(&self.breaks) else {
+            return Err(io::ErrorKind::InvalidData.into());
+        };
+        self.tell(digest);
         Ok(())
     }
 }
@@ -151,7 +151,7 @@ impl Typesetter {
 /// Lays out the paragraphs of a pass over a text. Leaves out one that may equal an earlier one.
 fn lay_out_pass(
     tables: &Tables,
-    text: &[char],
+    text: &[u32],
     length: usize,
     typesetter: &mut Typesetter,
     digest: &mut Digest,
@@ -168,7 +168,7 @@ fn lay_out_pass(
 /// elsewhere.
 fn lay_out_passes(
     tables: &Tables,
-    text: &[char],
+    text: &[u32],
     typesetter: &mut Typesetter,
 ) -> io::Result<Digest> {
     let mut digest = Digest::new();
@@ -180,7 +180,7 @@ fn lay_out_passes(
 }
 
 /// The same, of a text that has so many characters, by these tables.
-fn typeset(alloc: Global, tables: &Tables, text: &[char], seed: u64) -> io::Result<Digest> {
+fn typeset(alloc: Global, tables: &Tables, text: &[u32], seed: u64) -> io::Result<Digest> {
     let mut typesetter = Typesetter::new(alloc, seed)?;
     lay_out_passes(tables, text, &mut typesetter)
 }
@@ -188,6 +188,6 @@ fn typeset(alloc: Global, tables: &Tables, text: &[char], seed: u64) -> io::Resu
 /// Lays out the paragraphs of a text of so many characters.
 pub fn lay_out_paragraphs(alloc: Global, count: usize, seed: u64) -> io::Result<Digest> {
     let text = make(alloc, count, seed)?;
-    let tables = tables(alloc)?;
+    let tables = standard_15::tables();
     typeset(alloc, &tables, &text, seed)
 }

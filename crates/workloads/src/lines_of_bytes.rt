@@ -2,17 +2,19 @@
 //! cursor is taken to some of its bytes.
 
 use crate::digest::Digest;
-use crate::documents::tables;
 use crate::inputs::{Inputs, MOST_DRAWS, no_new_input};
+use crate::layouts::no_runs;
 use crate::script::SCRIPTS;
 use crate::text_maker::TextMaker;
-use encoded::room::Room;
-use encoded::runs::EncodedRun;
+use decoding::fault::Faults;
+use room::room::Room;
+use sources::source::{Ask, Source};
 use std::alloc::Global;
 use std::io;
 use ucdfiles::tables::Tables;
-use units::level::{Direction, Level, ParaLevel};
+use units::level::Direction;
 use units::limits::Limits;
+use visual::runs::VisualRun;
 
 /// The most bytes of a line, and the most characters and runs.
 const MOST_BYTES: usize = 16_384;
@@ -22,11 +24,11 @@ const MOST_BYTES: usize = 16_384;
 struct Editor {
     room: Room,
     order: Vec<usize>,
-    runs: Vec<EncodedRun>,
+    runs: Vec<VisualRun>,
 }
 
 impl Editor {
-    fn new(room: Room, order: Vec<usize>, runs: Vec<EncodedRun>) -> Editor {
+    fn new(room: Room, order: Vec<usize>, runs: Vec<VisualRun>) -> Editor {
         Editor { room, order, runs }
     }
 
@@ -38,16 +40,14 @@ impl Editor {
         }
         digest.add_para_levels(layout.para_levels());
         digest.add_levels(layout.line(0).levels);
-        let para_level = layout.para_levels().first().copied();
-        let para_level = para_level.unwrap_or(ParaLevel::Zero);
-        let runs = self.room.write_runs(0, para_level, &mut self.runs);
+        let runs = self.room.runs(0, &mut self.runs);
         for run in self.runs.iter().take(runs) {
             digest.add_size(run.start);
             digest.add_size(run.end);
             digest.add_level(Some(run.level));
             digest.add_size(run.shown);
         }
-        let shown = self.room.write_order(0, &mut self.order);
+        let shown = self.room.order(0, &mut self.order);
         digest.add_sizes(self.order.get(..shown).unwrap_or(&[]));
     }
 
@@ -68,11 +68,13 @@ impl Editor {
         digest: &mut Digest,
     ) -> io::Result<()> {
         let bytes = line.as_bytes();
-        let limits = Limits::standard();
-        let Ok(()) = self
-            .room
-            .lay_out_utf8(tables, bytes, Direction::Auto, &[], limits)
-        else {
+        let ask = Ask {
+            source: Source::Utf8(bytes, Faults::Refused),
+            direction: Direction::Auto,
+            breaks: &[],
+            limits: Limits::standard(),
+        };
+        let Ok(()) = self.room.lay_out(tables, &ask) else {
             return Err(io::ErrorKind::InvalidData.into());
         };
         self.tell(digest);
@@ -115,22 +117,9 @@ impl LineMaker {
     }
 }
 
-/// A run, of which lists are made.
-fn no_run() -> io::Result<EncodedRun> {
-    match Level::new(0) {
-        Some(level) => Ok(EncodedRun {
-            start: 0,
-            end: 0,
-            level,
-            shown: 0,
-        }),
-        None => Err(io::ErrorKind::InvalidData.into()),
-    }
-}
-
 /// Room for lines.
 fn room(alloc: Global) -> io::Result<Room> {
-    Room::with_room(alloc, MOST_BYTES).map_err(|_| io::ErrorKind::OutOfMemory.into())
+    Room::with_room(alloc, MOST_BYTES, true).map_err(|_| io::ErrorKind::OutOfMemory.into())
 }
 
 /// Lays out so many lines one by one.
@@ -154,7 +143,7 @@ fn edit_with(
     count: usize,
     lines: &mut LineMaker,
     order: Vec<usize>,
-    runs: Vec<EncodedRun>,
+    runs: Vec<VisualRun>,
     room: Room,
 ) -> io::Result<Digest> {
     let mut editor = Editor::new(room, order, runs);
@@ -168,16 +157,15 @@ fn edit_lines(
     count: usize,
     lines: &mut LineMaker,
 ) -> io::Result<Digest> {
-    let run = no_run()?;
     let order = Vec::from_elem(alloc, 0, MOST_BYTES)?;
-    let runs = Vec::from_elem(alloc, run, MOST_BYTES)?;
+    let runs = no_runs(alloc, MOST_BYTES)?;
     let room = room(alloc)?;
     edit_with(tables, count, lines, order, runs, room)
 }
 
 /// Lays out so many lines one by one.
 pub fn lay_out_lines(alloc: Global, count: usize, seed: u64) -> io::Result<Digest> {
-    let tables = tables(alloc)?;
+    let tables = standard_15::tables();
     let mut lines = LineMaker::new(alloc, seed);
     edit_lines(alloc, &tables, count, &mut lines)
 }

@@ -1,6 +1,7 @@
 //! Jobs that users of these libraries wait for, each on texts that are made by a seed. What is printed of a job is how
 //! much it worked on and a digest of all its results, which is the same at each run with the same seed. No job gets
-//! a document, paragraph, line, file or text twice: one that equals an earlier one is drawn again or left out.
+//! a document, paragraph, line, file or text twice: one that equals an earlier one is drawn again or left out. The
+//! tables are always those of Unicode 15.0.0, so that a digest doesn't change with the edition that is built in.
 //!
 //! `workloads reorder 7` does the job of this name by the seed 7, which is a number below 2^32; the jobs are `reorder`,
 //! `levels`, `layout`, `lines`, `judge` and `hostile`. Without words it does all of them, small, by the seed 1.

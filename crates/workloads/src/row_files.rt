@@ -2,7 +2,6 @@
 //! judged, or reported on, some of them by other limits, so that rows are wrong.
 
 use crate::digest::Digest;
-use crate::documents::tables;
 use crate::inputs::{Inputs, MOST_DRAWS, no_new_input};
 use bidtests::judge::Judge;
 use bidtests::kind::Kind;
@@ -149,7 +148,7 @@ fn work_on(
 
 /// Works on so many files.
 pub fn judge_files(alloc: Global, count: usize, seed: u64) -> io::Result<Digest> {
-    let tables = tables(alloc)?;
+    let tables = standard_15::tables();
     let mut file = Vec::new(alloc);
     let mut files = Inputs::new(alloc);
     let mut digest = Digest::new();

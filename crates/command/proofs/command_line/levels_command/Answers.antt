@@ -10,4 +10,5 @@ returns c =
     ∙ ap app_of_fields c.long_about.ensures ∙ ap app_of_fields c.about.ensures ∙ c.new.ensures.app in
     let with_tables = adds c.in_ok-arg.ensures plain c.tables_argument.ensures refl in
     let with_direction = adds c.in_ok-arg-2.ensures with_tables c.direction_argument.ensures refl in
-    IfOk-weaker c.arg-3.result _ _ (λ command h. adds h with_direction c.file_argument.ensures refl) c.arg-3.ensures
+    let with_file = adds c.in_ok-arg-3.ensures with_direction c.file_argument.ensures refl in
+    IfOk-weaker c.arg-4.result _ _ (λ command h. adds h with_file c.verbose_argument.ensures refl) c.arg-4.ensures

@@ -11,4 +11,5 @@ returns c =
     let with_tables = adds c.in_ok-arg.ensures plain c.tables_argument.ensures refl in
     let with_direction = adds c.in_ok-arg-2.ensures with_tables c.direction_argument.ensures refl in
     let with_columns = adds c.in_ok-arg-3.ensures with_direction c.columns_argument.ensures refl in
-    IfOk-weaker c.arg-4.result _ _ (λ command h. adds h with_columns c.file_argument.ensures refl) c.arg-4.ensures
+    let with_file = adds c.in_ok-arg-4.ensures with_columns c.file_argument.ensures refl in
+    IfOk-weaker c.arg-5.result _ _ (λ command h. adds h with_file c.verbose_argument.ensures refl) c.arg-5.ensures

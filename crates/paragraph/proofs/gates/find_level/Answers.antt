@@ -5,7 +5,7 @@ use Rattle.explicit.specs.SideLevels.{level_under}
 use Rattle.paragraph.proofs.FirstSides.{level_under-flat}
 use Rattle.paragraph.proofs.FlatLevels.{flat_from}
 use Rattle.paragraph.specs.Contents.{are_flat}
-use Rattle.flat.proofs.FlatParagraph.{para_level_of-flat}
+use Rattle.explicit.proofs.FlatParagraph.{para_level_of-flat}
 use Rattle.paragraph.proofs.gates.find_level.Goals as goal
 
 pub returns-then-is_flat-clause-level : goal.returns-then-is_flat-clause-level

@@ -1,5 +1,5 @@
 use Rattle.std.proofs.Common.{◌≡◌, ◌+◌, map, take}
-use Rattle.flat.specs.Uniform.{kept_level}
+use Rattle.explicit.specs.Uniform.{kept_level}
 use Rattle.paragraph.proofs.gates.write_level.Given as goal
 
 abbrev pub invariant-loop-p : goal.invariant-loop-p

@@ -3,8 +3,8 @@ use Rattle.units.specs.Isolates.{level_of_para, para_level_of}
 use Rattle.units.specs.declared.bracket.Unit.{Unit as BidiUnit}
 use Rattle.units.specs.declared.class.Class.{Class}
 use Rattle.explicit.specs.SideLevels.{level_under}
-use Rattle.flat.proofs.FlatParagraph.{para_level_of-flat}
-use Rattle.flat.specs.Uniform.{kept_level}
+use Rattle.explicit.proofs.FlatParagraph.{para_level_of-flat}
+use Rattle.explicit.specs.Uniform.{kept_level}
 use Rattle.paragraph.specs.Contents.{are_flat, keeps_level}
 use Rattle.paragraph.proofs.FirstSides.{level_under-flat}
 use Rattle.paragraph.proofs.FlatLevels.{flat_from, levels_are_kept}

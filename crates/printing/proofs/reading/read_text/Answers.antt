@@ -1,9 +1,12 @@
-use Rattle.std.proofs.Common.{rules, ◌≡◌, ℕ, ◌+◌, ◌-◌, ◌≤◌, List, ◌++◌, ap, append-nil, arith, length, length-append, refl, subst, sym, take, ◌∙◌}
+use Rattle.std.proofs.Common.{rules, [], ◌≡◌, ℕ, ◌+◌, ◌-◌, ◌≤◌, List, ◌++◌, ap, append-nil, arith, length, length-append, refl, subst, sym, take, ◌∙◌}
 use Rattle.std.proofs.lemmas.List.{length-take}
+use borrow.Rule.Slice.PartMut.{put_mid}
 use Rattle.units.specs.Layout.{longest_text}
 use Rattle.printing.specs.UnderWay.{handed_in}
-use Rattle.printing.proofs.HeldLemmas.{broken_cut, filled_is}
-use Rattle.printing.proofs.ReadSources.{ended_read, more_fits, nothing_read, print_fails, read_more, whole_read}
+use Rattle.printing.proofs.HeldLemmas.{filled_is}
+use Rattle.printing.proofs.ReadSources.{HasRead, cut_of, ended_read, last_ends, more_fits, nothing_read, read_more, stop_ends, whole_read}
+use Rattle.printing.proofs.ReadingOn.{cut_broken, cut_whole, up_to}
+use Rattle.printing.proofs.TextPlaces.{passed_is}
 use Rattle.printing.proofs.UnderWay.{chars_le}
 use Rattle.printing.proofs.reading.read_text.Goals as goal
 
@@ -11,7 +14,8 @@ pub loop-n-init : goal.loop-n-init
 loop-n-init g c =
     let begun = c.requires in
     record {
-      read = nothing_read _ _ _ _ _ _ _ _ (g.met.S.ByteSource.gives_nothing _) begun.bound begun.begun begun.empty begun.first;
+      read = subst (HasRead g.S.ByteSource.gives g.S.ByteSource.most_left c.args.form c.args.tables.now c.args.direction c.args.source.now c.args.source.now
+          (g.W.Write.contents c.args.w.now) (g.W.Write.contents c.args.w.now) c.args.begun.now c.args.begun.now []) (sym c.start-place.ensures) (nothing_read _ _ _ _ _ _ _ _ (g.met.S.ByteSource.gives_nothing _) begun.bound begun.begun begun.empty begun.first);
       few = omega arith;
       long = refl;
     }
@@ -24,7 +28,7 @@ returns-in-Err-clause-fault g c =
       read.bytes,
       subst (λ xs. g.S.ByteSource.gives c.args.source.now xs c.read.new.self) (append-nil read.bytes)
           (g.met.S.ByteSource.gives_joined _ _ _ _ _ read.given c.in-Err.ensures.none_given),
-      (failed, ended_read _ _ _ _ _ _ _ _ _ _ _ _ read begun.empty begun.first),
+      (failed, ended_read _ _ _ _ _ _ _ _ _ _ _ _ _ read begun.empty begun.first),
     )
 
 pub take_front-requires-clause-small : goal.take_front-requires-clause-small
@@ -36,29 +40,53 @@ take_front-requires-clause-small g c =
     let falls : g.S.ByteSource.most_left c.read.new.self + length (take n buf) ≤ g.S.ByteSource.most_left l.source =
     omega (arith, c.in-Ok.ensures.most_left, length-take n buf) in
     subst (λ (bs : List ℕ). handed_in l.begun + length bs ≤ longest_text) (sym filled)
-    (more_fits _ _ _ _ _ _ _ _ l.source c.read.new.self (g.W.Write.contents l.w) (g.W.Write.contents l.w) l.begun l.begun (take l.held l.buffer) (take n buf) l.invariant.read falls)
+    (more_fits _ _ _ _ _ _ _ _ l.source c.read.new.self (g.W.Write.contents l.w) (g.W.Write.contents l.w) l.begun l.begun (take l.held l.buffer) (take n buf) l.place l.invariant.read falls)
 
-pub returns-in_err-taken-in-Ok-clause-fault : goal.returns-in_err-taken-in-Ok-clause-fault
-returns-in_err-taken-in-Ok-clause-fault g c =
-    let read = c.loop-n.invariant.read in
-    let given = g.met.S.ByteSource.gives_joined _ _ _ _ _ read.given c.in-Ok.ensures.given in
-    print_fails _ _ _ _ _ _ _ (λ xs. g.S.ByteSource.gives c.args.source.now xs c.read.new.self) _ given _ _ c.from_residual.ensures.1
+pub returns-in-Err-take_front-clause-fault : goal.returns-in-Err-take_front-clause-fault
+returns-in-Err-take_front-clause-fault g c =
+    let l = c.loop-n in
+    let read = l.invariant.read in
+    let begun = c.requires in
+    let buf = c.read.new.buf in
+    let n = c.in-Ok.n in
+    let joined = g.met.S.ByteSource.gives_joined in
+    let filled = filled_is l.buffer buf l.held n (4096 - l.held) (omega (arith, l.invariant.few, l.invariant.long)) c.in-Ok.ensures.bound in
+    let given = joined _ _ _ _ _ read.given c.in-Ok.ensures.given in
+    let cut = cut_of _ _ _ _ _ _ _ _ _ _ _ _ _ read begun.empty begun.first in
+    stop_ends _ _ _ _ _ _ _ g.S.ByteSource.gives _ c.read.new.self _ _ given c.in-Err-take_front.stop c.end_unwritten.result
+    c.end_unwritten.ensures.unread c.end_unwritten.ensures.memory
+    (λ is. c.end_unwritten.ensures.write is c.args.source.now
+    (up_to g.S.ByteSource.gives joined c.args.source.now l.source c.read.new.self l.place (take l.held l.buffer) (take n buf) _ cut c.in-Ok.ensures.given filled))
 
 pub loop-n-preserved : goal.loop-n-preserved
 loop-n-preserved g c =
     let l = c.loop-n in
     let buf = c.read.new.buf in
     let n = c.in-Ok.n in
-    let taken = c.in_ok-taken-in-Ok.ensures in
+    let taken = c.in-Ok-take_front.ensures in
     let filled = filled_is l.buffer buf l.held n (4096 - l.held) (omega (arith, l.invariant.few, l.invariant.long)) c.in-Ok.ensures.bound in
     let falls : g.S.ByteSource.most_left c.read.new.self + length (take n buf) ≤ g.S.ByteSource.most_left l.source =
     omega (arith, c.in-Ok.ensures.most_left, length-take n buf) in
     let given = g.met.S.ByteSource.gives_joined _ _ _ _ _ l.invariant.read.given c.in-Ok.ensures.given in
     let long : length c.hold-held.new.buffer ≡ 4096 = search rules in
+    let whole = put_mid l.held (4096 - l.held) l.buffer buf in
+    let within : l.held + n ≤ length whole =
+    omega (
+      arith,
+      ap length filled,
+      length-take (l.held + n) whole,
+      length-append (take l.held l.buffer) (take n buf),
+      length-take l.held l.buffer,
+      length-take n buf,
+      c.in-Ok.ensures.bound,
+      l.invariant.few,
+      l.invariant.long,
+    ) in
     record {
       read =
-          read_more _ _ _ _ _ _ _ _ l.source c.read.new.self (g.W.Write.contents l.w) _ l.begun _ (take l.held l.buffer) (take n buf) l.invariant.read falls
-          _ _ _ filled taken.taken c.hold-held.ensures.held given taken.begun taken.handed taken.printed;
+          read_more _ _ _ _ _ _ _ _ l.source c.read.new.self (g.W.Write.contents l.w) _ l.begun _ (take l.held l.buffer) (take n buf) l.place l.invariant.read falls
+          _ _ _ filled taken.taken c.hold-held.ensures.held given taken.begun taken.handed taken.printed _
+          (passed_is l.place c.after-place.result whole (l.held + n) _ within taken.taken c.after-place.ensures.line c.after-place.ensures.offset);
       few = c.hold-held.ensures.few;
       long = long;
     }
@@ -77,8 +105,8 @@ returns-then-held-gt0-clause-fault g c =
           (g.met.S.ByteSource.gives_joined _ _ _ _ _ read.given c.in-Ok-eq0.ensures.given),
       (
         ended,
-        broken_cut read.bytes read.front (take l.held l.buffer) read.cut (omega (arith, some, l.invariant.few, l.invariant.long, length-take l.held l.buffer)),
-        ended_read _ _ _ _ _ _ _ _ _ _ _ _ read begun.empty begun.first,
+        cut_broken read.bytes read.front (take l.held l.buffer) l.place read.cut read.place_is (omega (arith, some, l.invariant.few, l.invariant.long, length-take l.held l.buffer)),
+        ended_read _ _ _ _ _ _ _ _ _ _ _ _ _ read begun.empty begun.first,
       ),
     )
 
@@ -89,9 +117,15 @@ print_last-requires-clause-small g c =
 
 pub returns-in_err-print_last-clause-fault : goal.returns-in_err-print_last-clause-fault
 returns-in_err-print_last-clause-fault g c =
-    let read = c.loop-n.invariant.read in
-    let given = g.met.S.ByteSource.gives_joined _ _ _ _ _ read.given c.in-Ok-eq0.ensures.given in
-    print_fails _ _ _ _ _ _ _ (λ xs. g.S.ByteSource.gives c.args.source.now xs c.read.new.self) _ given _ _ c.from_residual-in_err-print_last.ensures.1
+    let l = c.loop-n in
+    let read = l.invariant.read in
+    let none : read.bytes ++ take c.in-Ok-eq0.field-0 c.read.new.buf ≡ read.bytes =
+    ap (λ k. read.bytes ++ take k c.read.new.buf) c.in-Ok-eq0.field-0-test ∙ append-nil read.bytes in
+    let given = subst (λ xs. g.S.ByteSource.gives c.args.source.now xs c.read.new.self) none
+    (g.met.S.ByteSource.gives_joined _ _ _ _ _ read.given c.in-Ok-eq0.ensures.given) in
+    let ended : g.S.ByteSource.ended c.read.new.self = search rules in
+    let utf8 = cut_whole read.bytes read.front (take l.held l.buffer) read.cut (omega (arith, c.if-held-gt0.false, length-take l.held l.buffer)) in
+    last_ends _ _ _ _ _ _ _ (λ xs. g.S.ByteSource.gives c.args.source.now xs c.read.new.self) _ given ended utf8 _ _ c.from_residual.ensures.1
 
 pub returns-clause-printed : goal.returns-clause-printed
 returns-clause-printed g c =
@@ -104,5 +138,5 @@ returns-clause-printed g c =
       read.bytes,
       subst (λ xs. g.S.ByteSource.gives c.args.source.now xs c.read.new.self) none
           (g.met.S.ByteSource.gives_joined _ _ _ _ _ read.given c.in-Ok-eq0.ensures.given),
-      whole_read _ _ _ _ _ _ _ _ _ _ _ _ read begun.empty begun.first (omega (arith, all, length-take l.held l.buffer)) _ c.in_ok-print_last.ensures,
+      whole_read _ _ _ _ _ _ _ _ _ _ _ _ _ read begun.empty begun.first (omega (arith, all, length-take l.held l.buffer)) _ c.in_ok-print_last.ensures,
     )

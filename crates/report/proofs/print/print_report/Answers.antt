@@ -11,4 +11,4 @@ returns-clause-printed g c =
 pub returns-clause-fault : goal.returns-clause-fault
 returns-clause-fault g c =
     let told = c.in_ok-left.ensures.told in
-    end-fails _ _ _ _ _ (λ xs. g.S.ByteSource.gives c.args.source.now xs c.print_source.new.source) _ told.2 c.print_end.result c.print_end.ensures.fault
+    end-fails _ _ _ _ _ _ (λ xs. g.S.ByteSource.gives c.args.source.now xs c.print_source.new.source) _ told.2 c.in_ok-left.ensures.whole c.print_end.result c.print_end.ensures.fault

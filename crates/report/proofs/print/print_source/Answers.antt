@@ -1,5 +1,5 @@
 use Rattle.std.proofs.Common.{rules, ◌≡◌, ◌++◌, [], take, ap, ◌∙◌, append-nil}
-use Rattle.report.proofs.Printing.{nothing-told, nothing-written, settled-written, told-more, write-fails, written-more}
+use Rattle.report.proofs.Printing.{nothing-told, nothing-written, settled-written, piece-ends, told-more, written-more}
 use Rattle.report.proofs.print.print_source.Goals as goal
 
 pub loop-n-init : goal.loop-n-init
@@ -27,16 +27,16 @@ returns-in-Ok-eq0-clause-told g c =
       inv.4,
     )
 
-pub returns-in_err-left-in-Ok-clause-fault : goal.returns-in_err-left-in-Ok-clause-fault
-returns-in_err-left-in-Ok-clause-fault g c =
+pub returns-in-Err-print_piece-clause-fault : goal.returns-in-Err-print_piece-clause-fault
+returns-in-Err-print_piece-clause-fault g c =
     let inv = c.loop-n.invariant in
     let given = g.met.S.ByteSource.gives_joined _ _ _ _ _ inv.2 c.in-Ok.ensures.given in
-    write-fails _ _ _ _ _ (λ xs. g.S.ByteSource.gives c.args.source.now xs c.read.new.self) _ given _ c.from_residual.ensures.1
+    piece-ends _ _ _ _ _ _ g.S.ByteSource.gives g.met.S.ByteSource.gives_joined c.args.source.now c.read.new.self _ _ given c.in-Err-print_piece.error c.end_unwritten.result c.end_unwritten.ensures.unread c.end_unwritten.ensures.write
 
 pub loop-n-preserved : goal.loop-n-preserved
 loop-n-preserved g c =
     let inv = c.loop-n.invariant in
-    let told = c.in_ok-left-in-Ok.ensures in (
+    let told = c.in-Ok-print_piece.ensures in (
       inv.0 ++ take c.in-Ok.n c.read.new.buf,
       inv.1 ++ told.0,
       g.met.S.ByteSource.gives_joined _ _ _ _ _ inv.2 c.in-Ok.ensures.given,

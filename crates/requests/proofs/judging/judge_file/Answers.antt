@@ -14,20 +14,21 @@ use Rattle.requests.specs.declared.outcome.Outcome.TheVariants.{Judged}
 use Rattle.requests.specs.declared.request.FileKind.{FileKind}
 use Rattle.requests.specs.declared.request.FileKind.TheVariants.{Classes, Characters}
 use Rattle.requests.specs.declared.request.Request.TheVariants.{Judge}
+use Rattle.requests.specs.declared.request.TableSource.{TableSource}
 use Rattle.requests.proofs.judging.judge_file.Goals as goal
 
 -- a file of such rows was judged
-judged : (files : FileFacts) (kind : FileKind) (folder : Option (Bor (List ℕ))) (file : Bor (List ℕ)) (before after : Option (List ℕ)) (rows : Kind)
-    (status : ℕ) → IsKindOfFile files kind folder rows → HasJudged files (IsVerdictOn rows) file.now before after status
-    → IsDone files before after (Judge kind folder file) (Judged status)
-judged files Classes folder file before after rows status is h = record {
+judged : (files : FileFacts) (kind : FileKind) (source : Option TableSource) (file : Bor (List ℕ)) (before after : Option (List ℕ)) (rows : Kind)
+    (status : ℕ) → IsKindOfFile files kind source rows → HasJudged files (IsVerdictOn rows) file.now before after status
+    → IsDone files before after (Judge kind source file) (Judged status)
+judged files Classes source file before after rows status is h = record {
   bytes = h.bytes;
   read = h.read;
   verdict = h.verdict;
   is = h.is ∙ ap (λ (r : Kind). verdict_of standard r h.bytes) is;
   said = h.said;
 }
-judged files Characters (Some folder) file before after rows status is h = record {
+judged files Characters (Some source) file before after rows status is h = record {
   bytes = h.bytes;
   read = h.read;
   verdict = h.verdict;

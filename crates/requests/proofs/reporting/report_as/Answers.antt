@@ -27,8 +27,13 @@ returns-in-Ok-clause-reported g c =
 
 pub returns-in-Err-Write-clause-fault : goal.returns-in-Err-Write-clause-fault
 returns-in-Err-Write-clause-fault g c =
-    let given = c.in-Err-Write.ensures.fault in
-    inl (inr (((given.0, g.met.F.Files.gave _ _ _ _ _ _ c.in_ok-source.ensures.opened given.1), tt), tt))
+    let given = rw c.in-Err-Write.field-0-is at c.in-Err-Write.ensures.fault in
+    inl (inr (((given.0, g.met.F.Files.gave_all _ _ _ _ _ _ c.in_ok-source.ensures.opened given.1 given.2), tt), tt))
+
+pub returns-in-Err-NobodyReads-clause-fault : goal.returns-in-Err-NobodyReads-clause-fault
+returns-in-Err-NobodyReads-clause-fault g c =
+    let given = c.in-Err-NobodyReads.ensures.fault in
+    inr ((given.0, g.met.F.Files.gave _ _ _ _ _ _ c.in_ok-source.ensures.opened given.1), tt)
 
 pub returns-clause-fault : goal.returns-clause-fault
 returns-clause-fault g c =

@@ -1,6 +1,6 @@
 use Rattle.std.proofs.Common.{rules, [], ◌∷◌, inl}
 use Rattle.std.specs.Io.KnownBytes.{Appends}
-use Rattle.explain_row.specs.RowTexts.{row_text}
+use Rattle.explain.specs.RowTexts.{row_text}
 use Rattle.requests.proofs.FirstFaults.{first_behind, first_of_all, has_rows, printing_fails, row_done, row_tables_done}
 use Rattle.requests.proofs.MadeRows.{first_fails}
 use Rattle.requests.specs.Parts.{row_parts, row_table_parts, sought_part}

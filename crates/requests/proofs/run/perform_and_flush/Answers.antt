@@ -4,7 +4,7 @@ use Rattle.requests.specs.FaultText.{print_fault}
 use Rattle.requests.specs.declared.fault.Fault.{Fault}
 use Rattle.requests.specs.declared.fault.Fault.TheVariants.{CannotWrite}
 use Rattle.requests.specs.declared.outcome.Outcome.{Outcome}
-use Rattle.requests.proofs.FirstFaults.{printing_fails, request_done}
+use Rattle.requests.proofs.FirstFaults.{request_done, writing_fails}
 use Rattle.requests.proofs.Refused.{leaves_written}
 use Rattle.requests.proofs.Reported.{steps_fail}
 use Rattle.requests.proofs.run.perform_and_flush.Goals as goal
@@ -17,7 +17,7 @@ handed_on (Err given) e same is = same ∙ is
 -- all was read and printed before what was printed is handed on
 pub returns-in_err-flush-clause-fault : goal.returns-in_err-flush-clause-fault
 returns-in_err-flush-clause-fault g c =
-    steps_fail _ _ _ _ _ (printing_fails _ _ _ _ Write (request_done _ _ _ _ _ c.in_ok-outcome.ensures.done)
+    steps_fail _ _ _ _ _ (writing_fails _ _ _ _ _ Write (request_done _ _ _ _ _ c.in_ok-outcome.ensures.done)
     (handed_on _ _ c.from_residual-in_err-flush.ensures.1 c.in_err-flush.ensures.fault))
 
 pub returns-in_err-flush-clause-memory : goal.returns-in_err-flush-clause-memory

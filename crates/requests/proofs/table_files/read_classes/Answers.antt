@@ -15,6 +15,6 @@ returns-clause-err g c =
     let read = c.in-Err.ensures.err in
     let ends = table_ends (g.F.Files.facts c.args.files.now) class_fault _ _ read.0 _
     (g.met.F.Files.gave _ _ _ _ _ _ opened.2 read.1)
-    (λ whole. g.met.F.Files.gave_all _ _ _ _ _ _ opened.2 read.1 whole) _ c.in-Err.fault
+    (λ whole. g.met.F.Files.gave_all _ _ _ _ _ _ opened.2 read.1 whole) _ _ c.in-Err.fault
     (λ e. g.met.F.Files.gave_up _ _ _ _ _ _ opened.2 read.1 (c.in-Err.ensures.read.0 (ap Err e))) read.2 in
-    rw (c.fault_of_table.ensures, c.unread.ensures) (inr (opened.0, opened.1, ends))
+    rw (c.fault_of_table.ensures, c.unread-unread.ensures) (inr (opened.0, opened.1, ends))

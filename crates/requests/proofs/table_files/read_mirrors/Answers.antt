@@ -14,6 +14,6 @@ returns-clause-err g c =
     let read = c.in-Err.ensures.err in
     let ends = table_ends (g.F.Files.facts c.args.files.now) mirror_fault _ _ read.0 _
     (g.met.F.Files.gave _ _ _ _ _ _ opened read.1)
-    (λ whole. g.met.F.Files.gave_all _ _ _ _ _ _ opened read.1 whole) _ c.in-Err.fault
+    (λ whole. g.met.F.Files.gave_all _ _ _ _ _ _ opened read.1 whole) _ _ c.in-Err.fault
     (λ e. g.met.F.Files.gave_up _ _ _ _ _ _ opened read.1 (c.in-Err.ensures.read.0 (ap Err e))) read.2 in
-    rw (c.fault_of_table.ensures, c.unread.ensures) (inr ends)
+    rw (c.fault_of_table.ensures, c.unread-unread.ensures) (inr ends)

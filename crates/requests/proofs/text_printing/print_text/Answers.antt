@@ -1,6 +1,7 @@
 use Rattle.std.proofs.Common.{inr, refl}
 use Rattle.std.specs.Str.{chars}
-use Rattle.requests.proofs.PrintedFails.{opening_fails, tables_fail, writing_fails}
+use Rattle.requests.proofs.FirstFaults.{begun_done}
+use Rattle.requests.proofs.PrintedFails.{opening_fails, tables_fail, write_fails}
 use Rattle.requests.proofs.text_printing.print_text.Goals as goal
 
 pub returns-in_err-tables-clause-fault : goal.returns-in_err-tables-clause-fault
@@ -30,6 +31,23 @@ returns-in-Ok-clause-printed g c =
       said = printed.2.said;
     }
 
+pub returns-in-Err-Write-clause-fault : goal.returns-in-Err-Write-clause-fault
+returns-in-Err-Write-clause-fault g c =
+    let given = rw c.in-Err-Write.field-0-is at c.in-Err-Write.ensures.fault in
+    let opened = c.in_ok-opened.ensures.opened in
+    write_fails _ c.args.form c.args.direction _ _ _ _ c.in_ok-tables.ensures.tables _ given.0 (g.met.F.Files.gave _ _ _ _ _ _ opened given.1)
+    (g.met.F.Files.gave_all _ _ _ _ _ _ opened given.1 given.2.0) given.2.1
+
+pub returns-in-Err-NobodyReads-clause-fault : goal.returns-in-Err-NobodyReads-clause-fault
+returns-in-Err-NobodyReads-clause-fault g c =
+    let given = c.in-Err-NobodyReads.ensures.fault in
+    inr (begun_done _ _ _ _ c.in_ok-tables.ensures.tables given.0 (g.met.F.Files.gave _ _ _ _ _ _ c.in_ok-opened.ensures.opened given.1))
+
+pub returns-in-Err-Memory-clause-fault : goal.returns-in-Err-Memory-clause-fault
+returns-in-Err-Memory-clause-fault g c =
+    let given = c.in-Err-Memory.ensures.fault in
+    inr (begun_done _ _ _ _ c.in_ok-tables.ensures.tables given.0 (g.met.F.Files.gave _ _ _ _ _ _ c.in_ok-opened.ensures.opened given.1))
+
 pub returns-in-Err-NotUtf8-clause-fault : goal.returns-in-Err-NotUtf8-clause-fault
 returns-in-Err-NotUtf8-clause-fault g c =
     let given = rw c.in-Err-NotUtf8.field-0-is at c.in-Err-NotUtf8.ensures.fault in
@@ -43,12 +61,6 @@ returns-in-Err-NotUtf8-clause-fault g c =
         said = given.2.2;
       },
     )
-
-pub returns-in-Err-Print-clause-fault : goal.returns-in-Err-Print-clause-fault
-returns-in-Err-Print-clause-fault g c =
-    let given = c.in-Err-Print.ensures.fault in
-    writing_fails _ _ _ _ _ _ _ c.in_ok-tables.ensures.tables _ given.0 (g.met.F.Files.gave _ _ _ _ _ _ c.in_ok-opened.ensures.opened given.1)
-    c.in-Err-Print.fault _ c.from.ensures
 
 pub returns-clause-fault : goal.returns-clause-fault
 returns-clause-fault g c =

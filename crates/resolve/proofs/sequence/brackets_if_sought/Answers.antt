@@ -3,8 +3,8 @@ use Rattle.std.proofs.lemmas.Bool.{both_ways}
 use Rattle.units.specs.Brackets.{is_open}
 use Rattle.units.specs.Classes.{classes_at}
 use Rattle.units.specs.declared.bracket.Unit.{Unit as BidiUnit}
-use Rattle.flat.proofs.LeftOut.{none_passes}
-use Rattle.flat.proofs.Unbracketed.{after_brackets-none}
+use Rattle.explicit.proofs.LeftOut.{none_passes}
+use Rattle.explicit.proofs.Unbracketed.{after_brackets-none}
 use Rattle.resolve.proofs.sequence.brackets_if_sought.Goals as goal
 
 pub paired-requires-clause-filled : goal.paired-requires-clause-filled

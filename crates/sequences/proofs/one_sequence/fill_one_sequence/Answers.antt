@@ -3,7 +3,7 @@ use Rattle.std.proofs.lemmas.List.{length-take-le}
 use Rattle.units.specs.Classes.{classes_of}
 use Rattle.units.specs.Isolates.{level_of_para}
 use Rattle.units.specs.Positions.{positions_from}
-use Rattle.flat.specs.Flat.{remaining_of}
+use Rattle.explicit.specs.Flat.{remaining_of}
 use Rattle.sequences.specs.Links.{ArePositions}
 use Rattle.units.proofs.Lengths.{length-classes_of}
 use Rattle.sequences.proofs.FilledFrom.{level_of_para-low}

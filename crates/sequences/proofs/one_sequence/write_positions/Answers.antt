@@ -1,7 +1,7 @@
 use Rattle.std.proofs.Common.{arith, ap, sym, ◌≡◌, ◌∙◌, length, ℕ}
 use Rattle.units.specs.Classes.{classes_of}
 use Rattle.units.specs.Positions.{positions_from}
-use Rattle.flat.specs.Flat.{remaining_of}
+use Rattle.explicit.specs.Flat.{remaining_of}
 use Rattle.units.proofs.Positions.{length-positions_from}
 use Rattle.units.proofs.Lengths.{length-classes_of}
 use Rattle.sequences.proofs.Remaining.{all_remain}

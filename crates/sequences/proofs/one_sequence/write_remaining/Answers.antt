@@ -5,7 +5,7 @@ use Rattle.units.specs.Classes.{class_at, classes_of}
 use Rattle.units.specs.Layout.{no_unit}
 use Rattle.units.specs.declared.bracket.Unit.{Unit as BidiUnit}
 use Rattle.units.specs.declared.class.Class.{Class}
-use Rattle.flat.specs.Flat.{is_kept}
+use Rattle.explicit.specs.Flat.{is_kept}
 use Rattle.units.proofs.Lengths.{length-classes_of}
 use Rattle.sequences.proofs.Remaining.{before_gone, before_kept, kept_by, remaining_before}
 use Rattle.sequences.proofs.one_sequence.write_remaining.Goals as goal

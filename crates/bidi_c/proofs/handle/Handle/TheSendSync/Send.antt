@@ -10,8 +10,8 @@ use Rattle.std.specs.declared.alloc.Global.{Global}
 use Rattle.std.proofs.Crossing.{crosses, frees}
 use Rattle.std_alloc.proofs.SendSync.{lies}
 use Rattle.bidi_c.specs.Kept.{kept}
-use Rattle.bidi_held.specs.contracts.held.Held as held
-use Rattle.bidi_held.proofs.held.Held.TheSendSync.{the_send as held_send}
+use Rattle.bidi_c.specs.contracts.held.Held as held
+use Rattle.bidi_c.proofs.held.Held.TheSendSync.{the_send as held_send}
 use Rattle.bidi_c.specs.contracts.handle.Handle.{the_row, the_type}
 
 fields_sent : AllSend (fields the_type)

@@ -17,6 +17,7 @@ use types.ByLocal.{alloc_all, pass_all, free_all, look_at, get, get_in, sets, la
 use types.Part.{agg, sub, whole}
 use contract.Monad.{fact, fact_i}
 use contract.BorrowLft.{◌⊑◌, ⊑_static}
+use contract.Lifetimes.{Lfts}
 use contract.Running.{Running, tables}
 use denote.Exit.{yes}
 use denote.RattleType.{RattleType, owns}
@@ -33,9 +34,10 @@ use denote.Triple.Clauses.{Lasts, lasts, at_exit}
 use denote.Triple.Entry.{alive}
 use denote.Triple.Spec.{triple_of}
 use denote.Triple.Call.{calls_at}
+use denote.Triple.Table.{widened}
 use denote.Triple.Walked.{Stays, stay_dropped, walk_of, Fit}
 use borrow.Fn.Glue.{glue_ps, glue_by}
-use borrow.Fn.Impl.{via_longer, method_Known}
+use borrow.Fn.Impl.{Picks, via_longer}
 use borrow.Fn.Kinds.{ended_of, stays, r_unit}
 use borrow.Fn.Run.{Over}
 use borrow.Fn.World.{World}
@@ -52,10 +54,11 @@ use Rattle.std_alloc.proofs.BoxSteps.Steps.{box_out, box_in}
 use Rattle.std_alloc.specs.contracts.boxed.Box.into_raw_with_allocator as callee
 use Rattle.std_alloc.proofs.boxed.Box.into_raw_with_allocator.Met.{met}
 use Rattle.std_heap.proofs.GlobalAllocator.TheImpl.Met.{passed}
-use Rattle.bidi_c.proofs.bidi_held++held++Held+Destruct.drop.Kinds as kinds
-use Rattle.bidi_c.proofs.bidi_held++held++Held+Destruct.drop.Reads as reads
-use Rattle.bidi_c.proofs.bidi_held++held++Held+Destruct.drop.Symbol as symbol
-use Rattle.bidi_c.proofs.bidi_held++held++Held+Destruct.drop.Met as dropped
+use Rattle.bidi_c.specs.contracts.bidi_c++held++Held+Destruct.drop as freed
+use Rattle.bidi_c.proofs.bidi_c++held++Held+Destruct.drop.Kinds as kinds
+use Rattle.bidi_c.proofs.bidi_c++held++Held+Destruct.drop.Reads as reads
+use Rattle.bidi_c.proofs.bidi_c++held++Held+Destruct.drop.Symbol as symbol
+use Rattle.bidi_c.proofs.bidi_c++held++Held+Destruct.drop.Met as dropped
 use Rattle.bidi_c.proofs.Destruct++none.drop.Code as none
 use Rattle.bidi_c.proofs.Handles.{R, Z, Rc, Rc_laws, Zc, Zc_laws, E, none_drops, held_drops, both, some_good, handle_in}
 use Rattle.bidi_c.specs.contracts.handle.Handle.of.{ended, clauses}
@@ -63,25 +66,28 @@ use Rattle.bidi_c.specs.contracts.handle.Handle.of.Key.{name as #self}
 use Rattle.bidi_c.proofs.handle.Handle.of.Statement.{statement}
 use Rattle.bidi_c.proofs.handle.Handle.of.Code as code
 
--- what is held can be let go
+-- what is held can be let go: its glue has one lifetime, that of the constants, which never ends
 held_glue : {M : Type 1} (𝓤 : Ura M) (𝓛 : Logic 𝓤) (𝓜 : Model 𝓤 𝓛.H) (𝓡 : Running 𝓤 𝓛.H 𝓜) → Wired 𝓡.env symbol.code → Met 𝓛 𝓜 𝓡 𝓡.env Rc held_drops
 held_glue {M} 𝓤 𝓛 𝓜 𝓡 wired =
-    let En = ended_of 0 kinds.ps kinds.r in let k = method held_drops 0 (layouts [] tt) in let w : World = record { M = M; 𝓤 = 𝓤; 𝓛 = 𝓛; 𝓜 = 𝓜; 𝓡 = 𝓡 } in
-    glue_by Rc Rc_laws w held_drops 𝓡.env (λ κs a. Lasts En tt a) (λ κs a. lasts En tt a) (λ κs a x ws. Fit En (stays kinds.ps) tt a ws × reads.Learnt tt a x (at_exit En tt a ws))
-    (λ κs a. AllWithin 1 (κs.0, tt) (Rc.lives, tt) × Unit {0}) 0 tt (λ κs a h. ((h, tt), tt))
-    (via_longer 𝓛 (Over 𝓛 𝓜 𝓡 𝓡.env) 1 (glue_ps Rc Rc_laws) r_unit (λ κs a. Lasts En tt a) (λ κs a. lasts En tt a) (λ κs a x ws. Fit En (stays kinds.ps) tt a ws × reads.Learnt tt a x (at_exit En tt a ws))
-    (λ κs a. AllWithin 1 (κs.0, tt) (Rc.lives, tt) × Unit {0}) k 0 tt (λ κs. tt) (λ κs a. reads.Asked tt a) (λ κs a p. (tt, tt))
-    (λ κs bd within a vss qs. method_Known 0 kinds.ps kinds.r reads.requires reads.ensures reads.Asked reads.Learnt reads.known w symbol.name k
-    (symbol.as_method 𝓡.env wired k refl) (dropped.met 𝓤 𝓛 𝓜 𝓡 wired) ((tt, qs, tt, a, vss), tt)))
+    let En = ended_of 1 kinds.ps kinds.r in let k = method held_drops 0 (layouts [] tt) in let w : World = record { M = M; 𝓤 = 𝓤; 𝓛 = 𝓛; 𝓜 = 𝓜; 𝓡 = 𝓡 } in
+    let ever : Lfts 1 = ([], tt) in let picks : Picks 1 1 = ((0, tt), tt) in
+    let released = triple_of 𝓛 freed.signature (freed.spec 𝓛 𝓜.mem 𝓡.returns) in
+    glue_by Rc Rc_laws w held_drops 𝓡.env (λ κs a. Lasts En ever a) (λ κs a. lasts En ever a) (λ κs a x ws. Fit En (stays kinds.ps) ever a ws × reads.Learnt ever a x (at_exit En ever a ws))
+    (λ κs a. AllWithin 1 (κs.0, tt) (Rc.lives, tt) × Unit {0}) 1 picks (λ κs a h. ((h, tt), tt))
+    (via_longer 𝓛 (Over 𝓛 𝓜 𝓡 𝓡.env) 1 (glue_ps Rc Rc_laws) r_unit (λ κs a. Lasts En ever a) (λ κs a. lasts En ever a) (λ κs a x ws. Fit En (stays kinds.ps) ever a ws × reads.Learnt ever a x (at_exit En ever a ws))
+    (λ κs a. AllWithin 1 (κs.0, tt) (Rc.lives, tt) × Unit {0}) k 1 picks (λ κs. ever) (λ κs a. reads.Asked ever a) (λ κs a p. ((⊑_static κs.0, tt), tt))
+    (λ κs bd within a vss qs. reads.known w 𝓡.env k (𝓡.env k) refl
+    (widened 𝓤 𝓛.H released 𝓜 𝓡 𝓡.env (𝓡.env symbol.name) (𝓡.env k) (symbol.as_method 𝓡.env wired k refl) (dropped.met 𝓤 𝓛 𝓜 𝓡 wired))
+    ((ever, qs, (⊑_static [], tt), a, vss), tt)))
 
 pub of_spec : {M : Type 1} → statement M
 unfolding none.code
 of_spec {M} 𝓤 𝓛 𝓜 𝓡 wired =
     let H = 𝓛.H in let 𝓣 = tables 𝓤 H 𝓜 𝓡 𝓡.env in let c = clauses 𝓛 𝓜.mem 𝓡.returns in let fn = code.function in
-    let Bd : RattleType = boxed.the_row R Z ghosts in let hs : Stays ended.signature.params ended.kept = (stay_dropped (plain (λ _. Bd)) yes, tt) in
+    let Bd : RattleType = boxed.the_row R Z ghosts in let hs : Stays ended.signature.params ended.kept = (stay_dropped (plain (λ _. Bd)) ended.kept.0, tt) in
     let allocator = passed 𝓡.env (code.calls-std_heap::GlobalAllocator::allocate 𝓡.env wired) (code.calls-std_heap::GlobalAllocator::deallocate 𝓡.env wired) (code.calls-std_heap::GlobalAllocator::grow 𝓡.env wired) (code.calls-std_heap::GlobalAllocator::shrink 𝓡.env wired) M 𝓤 𝓛 𝓜 𝓡 in
     let glued = glues "bidi_c::Destruct++none::drop" 𝓡.env (code.calls-bidi_c::Destruct++none::drop 𝓡.env wired) Zc Zc_laws M 𝓤 𝓛 𝓜 𝓡 in
-    let glue = held_glue 𝓤 𝓛 𝓜 𝓡 (code.calls-bidi_c::bidi_held++held++Held+Destruct::drop 𝓡.env wired) in
+    let glue = held_glue 𝓤 𝓛 𝓜 𝓡 (code.calls-bidi_c::bidi_c++held++Held+Destruct::drop 𝓡.env wired) in
     proved_at 𝓛 ended hs c 𝓜 𝓡 (Goes-blank 𝓛 0 (plain (λ _. Bd)) yes (λ κs x f. tt), tt) #self fn (code.unfolded 𝓤 H 𝓜 𝓡 wired) (λ z are.
     let v = z.0.3.0 in let a = v.alloc in let Post : Val → SProp 𝓤 = (walk_of 𝓛 ended hs c).post z in let Run : List Val → SProp 𝓤 = λ ws. WpFn 𝓤 H 𝓣.C 𝓣.Λ fn ws Post in
     let toks = ‵ (flft [] full_share) ⊛ ‵ (flft [] full_share) ⊛ ‵ ftrue in

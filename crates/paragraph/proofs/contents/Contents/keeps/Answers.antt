@@ -3,7 +3,7 @@ use Rattle.std.specs.Prelude.{◌&&◌, not}
 use Rattle.std.specs.List.{list_all, list_any}
 use Rattle.units.specs.Classes.{is_initiator}
 use Rattle.units.specs.declared.class.Class.{Class}
-use Rattle.flat.specs.Uniform.{may_rise_at_even, may_rise_at_odd}
+use Rattle.explicit.specs.Uniform.{may_rise_at_even, may_rise_at_odd}
 use Rattle.paragraph.proofs.ClassKinds.{none_where_not_any}
 use Rattle.paragraph.proofs.contents.Contents.keeps.Goals as goal
 

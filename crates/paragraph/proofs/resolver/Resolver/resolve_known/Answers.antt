@@ -4,7 +4,7 @@ use Rattle.units.specs.Isolates.{level_of_para}
 use Rattle.units.specs.Layout.{resolved_levels}
 use Rattle.units.specs.Runs.{SequenceView}
 use Rattle.units.specs.declared.bracket.Unit.{Unit as BidiUnit}
-use Rattle.flat.specs.Uniform.{kept_level}
+use Rattle.explicit.specs.Uniform.{kept_level}
 use Rattle.sequences.proofs.FilledFrom.{level_of_para-low}
 use Rattle.paragraph.specs.Contents.{are_flat}
 use Rattle.paragraph.specs.Covering.{AreDisjoint, positions_in}

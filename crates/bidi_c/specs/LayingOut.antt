@@ -1,0 +1,40 @@
+-- Calls that lay out texts.
+use Rattle.std.specs.Prelude.{ℕ, Bool, true, false, ◌≡◌, Option, None, List, MatchOption}
+use Rattle.units.specs.Limits.{LimitsOf}
+use Rattle.ucdfiles.specs.Tables.{TablesOf}
+use Rattle.sources.specs.Sources.{SourceOf, Codes, Classes, Units, Utf8, Utf16}
+use Rattle.room.specs.Rooms.{RoomOf}
+use Rattle.for_c.specs.RoomCalls.{LaysOut, PutsLineOf}
+use Rattle.for_c.specs.Statuses.{Outcome}
+use Rattle.for_c.specs.declared.call_error.CallError.TheVariants.{NoRoom}
+use Rattle.bidi_c.specs.AtHandles.{AtBoth, AtRoom, Fails, UnderDirection}
+use Rattle.bidi_c.specs.declared.held.Held.{Held}
+
+-- a room needs offsets for the text
+abbrev pub needs_offsets : SourceOf → Bool
+needs_offsets (Codes numbers) = false
+needs_offsets (Classes numbers) = false
+needs_offsets (Units numbered) = false
+needs_offsets (Utf8 bytes faults) = true
+needs_offsets (Utf16 units faults) = true
+
+-- P1 to L2: a room lays out a text by tables, under the direction with this number
+abbrev pub LaysOutUnder : SourceOf → LimitsOf → ℕ → List ℕ → TablesOf → RoomOf → RoomOf → Outcome → Type 0
+LaysOutUnder source limits number breaks tables =
+    UnderDirection number (λ direction. LaysOut (record { source = source; direction = direction; breaks = breaks; limits = limits }) tables)
+
+-- P1 to L2: what the handle of a room contains before and after a call that is to lay out a text
+abbrev pub LaysOutText : SourceOf → LimitsOf → ℕ → List ℕ → Option Held → Option Held → Option Held → Outcome → Type 0
+LaysOutText source limits number breaks tables old new outcome =
+    AtBoth (needs_offsets source) tables (LaysOutUnder source limits number breaks) old new outcome
+
+-- P1 to L2: of a call that is to lay out a text of classes, by their numbers, whatever the tables
+abbrev pub LaysOutClasses : List ℕ → LimitsOf → ℕ → List ℕ → Option Held → Option Held → Outcome → Type 0
+LaysOutClasses numbers limits number breaks old new outcome =
+    AtRoom false (λ room last outcome. (tables : TablesOf) → LaysOutUnder (Classes numbers) limits number breaks tables room last outcome)
+    old new outcome
+
+-- L1, L2: one line alone of the text of a room is written; without a room the call fails, and nothing is written
+pub record AtLineOf (room : Option RoomOf) (start end : ℕ) (levels levels2 order order2 : List ℕ) (shown shown2 : ℕ) (outcome : Outcome) : Type 0 where
+  pub so : MatchOption room (Fails {A = List ℕ × List ℕ × ℕ} NoRoom (levels, order, shown) (levels2, order2, shown2) outcome)
+      (λ room. PutsLineOf room start end levels levels2 order order2 shown shown2 outcome)

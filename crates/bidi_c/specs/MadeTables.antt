@@ -1,0 +1,23 @@
+-- Tables made from the bytes of their files.
+use Rattle.std.specs.Prelude.{ℕ, ◌≡◌, Option, Some, None, List, MatchOption}
+use Rattle.std.specs.Option.{unwrap_or}
+use Rattle.ucdfiles.specs.Files.{StateTables}
+use Rattle.ucdfiles.specs.Tables.{TablesOf, glyph_by}
+use Rattle.for_c.specs.ReadTables.{RejectsTables}
+use Rattle.for_c.specs.Statuses.{Outcome, Puts}
+use Rattle.bidi_c.specs.HeldIn.{tables_in}
+use Rattle.bidi_c.specs.declared.held.Held.{Held}
+
+-- a handle contains tables, and they are what the bytes state
+abbrev pub HaveTables : Option Held → List ℕ → List ℕ → List ℕ → Type 0
+HaveTables held classes brackets mirrors = MatchOption (tables_in held) ⊥ (StateTables classes brackets mirrors)
+
+-- what a call leaves in a handle that is to make tables from files with these bytes
+abbrev pub MakesTables : List ℕ → List ℕ → List ℕ → Option Held → Option Held → Outcome → Type 0
+MakesTables classes brackets mirrors old new outcome =
+    Puts (λ held. HaveTables held classes brackets mirrors) (RejectsTables classes brackets mirrors) old new outcome
+
+-- the mirrored character of a character by the tables, itself if it has none
+abbrev pub image_by : Option TablesOf → ℕ → ℕ
+image_by (Some tables) c = unwrap_or (glyph_by tables.mirrors c) c
+image_by None c = c

@@ -1,8 +1,0 @@
-use Rattle.bidi_held.proofs.FileRefusals.{first_refused}
-use Rattle.bidi_held.proofs.standard_tables.standard_tables.Goals as goal
-
-pub returns-in-Ok-clause-ok : goal.returns-in-Ok-clause-ok
-returns-in-Ok-clause-ok c = c.in-Ok.ensures.ok
-
-pub returns-in-Err-clause-err : goal.returns-in-Err-clause-err
-returns-in-Err-clause-err c = rw c.of_files.ensures (first_refused _ _ _ _ c.in-Err.ensures.err)

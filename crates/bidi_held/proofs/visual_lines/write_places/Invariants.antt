@@ -1,7 +1,0 @@
-use Rattle.std.proofs.Common.{◌≡◌, ◌<◌, ◌+◌, ℕ, length, slice_index}
-use Rattle.bidi_held.specs.Visual.{IsPlace}
-use Rattle.bidi_held.proofs.visual_lines.write_places.Given as goal
-
--- the places before this one are written
-abbrev pub invariant-loop-place : goal.invariant-loop-place
-invariant-loop-place l = (length l.out ≡ length l.fn.out) × ((i : ℕ) → i < length l.out → IsPlace l.order l.place (l.start + i) (slice_index l.out i))

@@ -1,0 +1,93 @@
+// What `explain` asks for.
+ghost use Rattle.std.specs.Prelude.{◌≡◌, codes, false, IfSome, IfNone};
+ghost use Rattle.clap.specs.Matches.{found_of};
+ghost use Rattle.clap.specs.Walk.{rows_of};
+ghost use Rattle.command.specs.CommandLine.{AsksFor, AsksToExplainRow};
+ghost use Rattle.command.specs.Refusals.{has_row_words, has_text_words, has_two_tables};
+ghost use Rattle.requests.specs.declared.request.Request.{Request as RequestOf};
+ghost use Rattle.requests.specs.declared.request.SoughtRow.{SoughtRow as SoughtRowOf};
+
+use crate::values::{
+    direction_in, has_table_words, has_two_tables, has_value, kind_in, line_in, named_tables,
+    tables_in, text_of,
+};
+use clap::ArgMatches;
+use requests::request::{Print, Request, SoughtRow};
+
+/// Returns whether `explain` is given a row, or the kind of a file, which only a row has.
+fn has_row_words(matches: &ArgMatches<'_>) -> bool
+    ensures { result ≡ has_row_words (rows_of (found_of matches.now)) }
+{
+    has_value(matches, "row") || has_value(matches, "kind")
+}
+
+/// Returns whether `explain` is given classes, code points or a direction, none of which a row takes.
+pub fn has_text_words(matches: &ArgMatches<'_>) -> bool
+    ensures { result ≡ has_text_words (rows_of (found_of matches.now)) }
+{
+    has_value(matches, "classes") || has_value(matches, "codes") || has_value(matches, "direction")
+}
+
+/// Returns the row that `explain` asks for.
+fn explain_row_in<'a>(matches: &ArgMatches<'a>) -> Option<SoughtRow<'a>>
+    requires { has_two_tables (rows_of (found_of matches.now)) ≡ false }
+    ensures some { IfSome result (AsksToExplainRow (rows_of (found_of matches.now))) }
+    ensures none { IfNone result ((sought : SoughtRowOf)
+        → ¬ (AsksToExplainRow (rows_of (found_of matches.now)) sought)) }
+{
+    if has_text_words(matches) || !has_value(matches, "row") {
+        return None;
+    }
+    Some(SoughtRow {
+        kind: kind_in(matches)?,
+        tables: named_tables(matches),
+        line: line_in(matches),
+        file: text_of(matches, "file")?,
+    })
+}
+
+/// Returns what `explain` asks for without a row: a text or code points, by tables that may be named, or classes.
+fn explain_text_in<'a>(matches: &ArgMatches<'a>) -> Option<Request<'a>>
+    requires row { has_row_words (rows_of (found_of matches.now)) ≡ false }
+    requires tables { has_two_tables (rows_of (found_of matches.now)) ≡ false }
+    ensures some { IfSome result (AsksFor (codes "explain") (rows_of (found_of matches.now))) }
+    ensures none { IfNone result ((request : RequestOf)
+        → ¬ (AsksFor (codes "explain") (rows_of (found_of matches.now)) request)) }
+{
+    let direction = direction_in(matches);
+    match (
+        has_table_words(matches),
+        text_of(matches, "classes"),
+        text_of(matches, "codes"),
+        text_of(matches, "file"),
+    ) {
+        (_, None, None, Some(file)) => Some(Request::Text {
+            tables: tables_in(matches),
+            direction,
+            file,
+            print: Print::Explained,
+        }),
+        (_, None, Some(codes), None) => Some(Request::ExplainCodes {
+            codes,
+            tables: tables_in(matches),
+            direction,
+        }),
+        (false, Some(classes), None, None) => Some(Request::ExplainClasses { classes, direction }),
+        _ => None,
+    }
+}
+
+/// Returns what `explain` asks for: a row, or what it asks for without one.
+pub fn explain_in<'a>(matches: &ArgMatches<'a>) -> Option<Request<'a>>
+    ensures some { IfSome result (AsksFor (codes "explain") (rows_of (found_of matches.now))) }
+    ensures none { IfNone result ((request : RequestOf)
+        → ¬ (AsksFor (codes "explain") (rows_of (found_of matches.now)) request)) }
+{
+    if has_two_tables(matches) {
+        None
+    } else if has_row_words(matches) {
+        Some(Request::ExplainRow(explain_row_in(matches)?))
+    } else {
+        explain_text_in(matches)
+    }
+}

@@ -1,0 +1,121 @@
+// Why the arguments of a subcommand make no request.
+ghost use Rattle.std.specs.Prelude.{◌≡◌};
+ghost use Rattle.clap.specs.Matches.{found_of};
+ghost use Rattle.clap.specs.Simple.{subcommand_rows_of};
+ghost use Rattle.clap.specs.Walk.{rows_of};
+ghost use Rattle.command.specs.Refusals.{explain_refusal, form_refusal, has_classes_and_text, has_codes_and_text};
+ghost use Rattle.command.specs.Refusals.{refusal_in_subcommand, refusal_without_request, row_refusal, rows_refusal};
+ghost use Rattle.command.specs.Refusals.{text_refusal};
+
+use crate::asked_rows::is_over_alphabet;
+use crate::explaining::has_text_words;
+use crate::refusal::{NoRequest, TableCommand};
+use crate::values::{has_table_words, has_two_tables, has_value, text_of};
+use clap::ArgMatches;
+
+/// Returns whether `explain` is given classes, and a text or tables beside them.
+fn has_classes_and_text(matches: &ArgMatches<'_>) -> bool
+    ensures { result ≡ has_classes_and_text (rows_of (found_of matches.now)) }
+{
+    has_value(matches, "classes") && (has_table_words(matches) || has_value(matches, "file"))
+}
+
+/// Returns whether `explain` is given code points, and classes or a text beside them.
+fn has_codes_and_text(matches: &ArgMatches<'_>) -> bool
+    ensures { result ≡ has_codes_and_text (rows_of (found_of matches.now)) }
+{
+    has_value(matches, "codes") && (has_value(matches, "classes") || has_value(matches, "file"))
+}
+
+/// Returns why `explain` makes no request of its arguments, with a row.
+fn row_refusal(matches: &ArgMatches<'_>) -> NoRequest
+    ensures { result ≡ row_refusal (rows_of (found_of matches.now)) }
+{
+    if has_text_words(matches) {
+        NoRequest::RowAndText
+    } else if has_value(matches, "kind") {
+        NoRequest::RowWithoutFile
+    } else {
+        NoRequest::RowWithoutKind
+    }
+}
+
+/// Returns why `explain` makes no request of its arguments, without a row.
+fn text_refusal(matches: &ArgMatches<'_>) -> NoRequest
+    ensures { result ≡ text_refusal (rows_of (found_of matches.now)) }
+{
+    if has_classes_and_text(matches) {
+        NoRequest::ClassesAndText
+    } else if has_codes_and_text(matches) {
+        NoRequest::CodesAndText
+    } else {
+        NoRequest::NoText
+    }
+}
+
+/// Returns why `explain` makes no request of its arguments.
+fn explain_refusal(matches: &ArgMatches<'_>) -> NoRequest
+    ensures { result ≡ explain_refusal (rows_of (found_of matches.now)) }
+{
+    if has_two_tables(matches) {
+        NoRequest::TwoTables(TableCommand::Explain)
+    } else if has_value(matches, "row") {
+        row_refusal(matches)
+    } else if has_value(matches, "kind") {
+        NoRequest::KindWithoutRow
+    } else {
+        text_refusal(matches)
+    }
+}
+
+/// Returns why `rows` makes no request of its arguments, with a form.
+fn form_refusal(matches: &ArgMatches<'_>) -> NoRequest
+    ensures { result ≡ form_refusal (rows_of (found_of matches.now)) }
+{
+    if !has_value(matches, "length") {
+        NoRequest::NoLength
+    } else if is_over_alphabet(text_of(matches, "form")) {
+        NoRequest::NoAlphabet
+    } else {
+        NoRequest::AlphabetAndForm
+    }
+}
+
+/// Returns why `rows` makes no request of its arguments.
+fn rows_refusal(matches: &ArgMatches<'_>) -> NoRequest
+    ensures { result ≡ rows_refusal (rows_of (found_of matches.now)) }
+{
+    if has_two_tables(matches) {
+        NoRequest::TwoTables(TableCommand::Rows)
+    } else if has_value(matches, "of") {
+        NoRequest::TextAndForm
+    } else if has_value(matches, "form") {
+        form_refusal(matches)
+    } else {
+        NoRequest::NoForm
+    }
+}
+
+/// Returns why the subcommand of this name makes no request of its arguments. `judge` and `report` make none only if
+/// two sources of tables are named, since `clap` requires the rest.
+fn refusal_in_subcommand(name: &str, matches: &ArgMatches<'_>) -> NoRequest
+    ensures { result ≡ refusal_in_subcommand name.now (rows_of (found_of matches.now)) }
+{
+    match name {
+        "explain" => explain_refusal(matches),
+        "judge" => NoRequest::TwoTables(TableCommand::Judge),
+        "report" => NoRequest::TwoTables(TableCommand::Report),
+        "rows" => rows_refusal(matches),
+        _ => NoRequest::NoSubcommand,
+    }
+}
+
+/// Returns why the subcommand that was met makes no request.
+pub fn refusal_without_request(matches: &ArgMatches<'_>) -> NoRequest
+    ensures { result ≡ refusal_without_request (subcommand_rows_of matches.now) }
+{
+    match matches.subcommand() {
+        Some((name, inner)) => refusal_in_subcommand(name, inner),
+        None => NoRequest::NoSubcommand,
+    }
+}

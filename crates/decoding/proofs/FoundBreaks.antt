@@ -1,0 +1,95 @@
+-- Breaks at offsets are breaks at characters.
+use Rattle.std.proofs.Common.{◌≡◌, ℕ, ◌+◌, ◌-◌, ◌<◌, ◌≤◌, List, [], ◌∷◌, length, get_or, map, zero, suc, refl, sym, ap, ◌∙◌, inl, inr, subst, arith, rules}
+use Rattle.std.specs.Prelude.{slice_index, Result, Ok, Err, MatchResult, IsOk}
+use Rattle.std.specs.List.{All}
+use Rattle.std.proofs.lemmas.Bool.{cases_lt}
+use Rattle.std.proofs.lemmas.List.{get_or-map, length-map}
+use Rattle.lines.specs.LineBreaks.{AreBreaks, IsFirstBreakFault, IsInside}
+use Rattle.lines.specs.declared.breaks.BreakFault.{BreakFault}
+use Rattle.lines.specs.declared.breaks.BreakFault.TheVariants.{OutOfRange, NotRising}
+use Rattle.decoding.specs.BreakFaults.{IsFirstInside}
+use Rattle.decoding.specs.Offsets.{Spelled, AreStarts, code_units, offset_of}
+use Rattle.decoding.specs.Starts.{AreFound, AreOffsets, BeginsAt, IsFirstBetween}
+use Rattle.decoding.proofs.OffsetLemmas.{offset-end}
+
+-- right breaks have no fault
+pub no_fault : (at : List ℕ) (len : ℕ) (fault : BreakFault) → AreBreaks at len → IsFirstBreakFault at len fault → ⊥
+no_fault at len (OutOfRange index) right (inside, _, wrong) =
+    let ok : IsInside at len index = right.inside index inside in
+    elim wrong [ inl e ↦ omega (arith, e, ok.after_start) | inr le ↦ omega (arith, le, ok.before_end) ]
+no_fault at len (NotRising index) right (inside, _, _, later, wrong) = omega (arith, wrong, right.rising index inside later)
+
+-- what cannot be refused is done
+pub ok_unless : {T E : Type 0} (P : T → Type 0) (Q : E → Type 0) (r : Result T E) → MatchResult r P Q → ((e : E) → Q e → ⊥) → IsOk r
+ok_unless P Q (Ok x) m none = search rules
+ok_unless P Q (Err e) m none = absurd (none e m)
+
+-- breaks rise by one at least, so there are fewer than code units
+breaks_above : (at : List ℕ) (len i : ℕ) → AreBreaks at len → i < length at → i < slice_index at i
+breaks_above at len zero right lt = (right.inside 0 lt).after_start
+breaks_above at len (suc i) right lt =
+    let below : i < slice_index at i = breaks_above at len i right (omega (arith, lt)) in
+    let rise : slice_index at i < slice_index at (suc i) = subst (λ (k : ℕ). slice_index at k < slice_index at (suc i)) {x = suc i - 1} {y = i} (omega arith) (right.rising (suc i) lt (omega arith)) in
+    omega (arith, below, rise)
+
+pub few_breaks : (at : List ℕ) (len : ℕ) → AreBreaks at len → length at ≤ len
+few_breaks [] len right = omega arith
+few_breaks (x ∷ xs) len right =
+    let last : length xs < slice_index (x ∷ xs) (length xs) = breaks_above (x ∷ xs) len (length xs) right (omega arith) in
+    omega (arith, last, (right.inside (length xs) (omega arith)).before_end)
+
+-- the break with an index is the offset with the index that was found
+found_at : (starts breaks indices : List ℕ) (i : ℕ) → AreFound starts breaks indices → i < length indices → slice_index starts (slice_index indices i) ≡ slice_index breaks i
+found_at starts breaks indices i f lt = sym (get_or-map (slice_index starts) indices i 0 0 lt) ∙ ap (λ xs. slice_index xs i) f.found
+
+-- the order of offsets is that of their indices
+index_before : (starts : List ℕ) (n j k : ℕ) → AreOffsets n starts → j ≤ n → slice_index starts j < slice_index starts k → j < k
+index_before starts n j k o le lt = elim (cases_lt j k) [
+  | inl below ↦ below
+  | inr above ↦ elim (cases_lt k j) [
+    | inl under ↦ absurd (omega (arith, lt, o.rising k j under le))
+    | inr same ↦ absurd (omega (arith, lt, ap (slice_index starts) {x = j} {y = k} (omega (arith, above, same))))
+  ]
+]
+
+-- breaks at offsets are breaks at the characters with the indices
+pub breaks_of_found : (starts breaks indices : List ℕ) (n : ℕ) → AreOffsets n starts → length starts ≡ n + 1 → AreBreaks breaks (slice_index starts n) → AreFound starts breaks indices → AreBreaks indices n
+breaks_of_found starts breaks indices n o whole right f =
+    let same : length indices ≡ length breaks = sym (length-map indices (slice_index starts)) ∙ ap length f.found in
+    let within : (i : ℕ) → i < length indices → slice_index indices i ≤ n = λ i lt. omega (arith, f.inside i 0 lt, whole) in
+    record {
+      inside = λ i lt.
+          let ok : IsInside breaks (slice_index starts n) i = right.inside i (omega (arith, lt, same)) in
+          let is = found_at starts breaks indices i f lt in
+          record {
+            after_start = index_before starts n 0 (slice_index indices i) o (omega arith) (omega (arith, o.first, is, ok.after_start));
+            before_end = index_before starts n (slice_index indices i) n o (within i lt) (omega (arith, is, ok.before_end));
+          };
+      rising = λ i lt later. index_before starts n (slice_index indices (i - 1)) (slice_index indices i) o (within (i - 1) (omega (arith, lt)))
+          (omega (arith, found_at starts breaks indices i f lt, found_at starts breaks indices (i - 1) f (omega (arith, lt)), right.rising i (omega (arith, lt, same)) later));
+    }
+
+-- a break that is none of the offsets stands inside a character
+pub first_inside : (text : List Spelled) (starts breaks : List ℕ) (index : ℕ) → length starts ≡ length text + 1 → AreStarts text starts → IsFirstBetween starts breaks index → IsFirstInside text breaks index
+first_inside text starts breaks index whole at f = record {
+  inside = f.inside;
+  between = λ b. f.between b.index (omega (arith, b.inside, whole)) (at b.index b.inside ∙ b.begins);
+  earlier = λ i lt. let e : BeginsAt starts (slice_index breaks i) = f.earlier i lt in
+      let inside : e.index ≤ length text = omega (arith, e.inside, whole) in
+      record { index = e.index; inside = inside; begins = sym (at e.index inside) ∙ e.begins };
+}
+
+-- the last offset is the number of code units
+pub last_start : (text : List Spelled) (starts : List ℕ) → AreStarts text starts → slice_index starts (length text) ≡ code_units text
+last_start text starts at = at (length text) (omega arith) ∙ offset-end text
+
+-- what is alike at each item
+map_alike : (f g : ℕ → ℕ) (xs : List ℕ) → All (λ (x : ℕ). f x ≡ g x) xs → map f xs ≡ map g xs
+map_alike f g [] same = refl
+map_alike f g (x ∷ xs) same =
+    ap (λ (y : ℕ). y ∷ map f xs) (same 0 x (omega arith)) ∙ ap (λ (ys : List ℕ). g x ∷ ys) (map_alike f g xs (λ k d lt. same (suc k) d (omega (arith, lt))))
+
+-- the breaks are the offsets of the characters that were found
+pub begin_of_found : (text : List Spelled) (starts breaks indices : List ℕ) → length starts ≡ length text + 1 → AreStarts text starts → AreFound starts breaks indices → map (offset_of text) indices ≡ breaks
+begin_of_found text starts breaks indices whole at f =
+    map_alike (offset_of text) (slice_index starts) indices (λ k d lt. sym (at (get_or indices k d) (omega (arith, f.inside k d lt, whole)))) ∙ f.found

@@ -1,0 +1,12 @@
+//! Texts in UTF-8 and UTF-16 decoded: the unit of each character, and the offset of code units at which it begins.
+#![tactic(auto)]
+
+pub mod breaking;
+pub mod fault;
+pub mod indices;
+pub mod known;
+pub mod lossy;
+mod reached;
+pub mod spelling;
+pub mod utf16;
+pub mod utf8;

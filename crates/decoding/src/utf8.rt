@@ -1,0 +1,163 @@
+//! The characters of a text in UTF-8: their units, the offsets at which they begin, and the offset of its first fault.
+ghost use Rattle.std.specs.Prelude.{◌≡◌, ◌<◌, ◌≤◌, ◌+◌, ◌^◌, ◌++◌, List, length, take, IfErr, IfOk, IsTrue, OnOk};
+ghost use Rattle.std.specs.Str.{chars, IsAscii, IsUtf8};
+ghost use Rattle.std.specs.Str.Lossy.{utf8_valid_len};
+ghost use Rattle.decoding.specs.Decoded.{AreDecoded, IsWritten};
+ghost use Rattle.decoding.specs.Encodings.{utf8_text};
+ghost use Rattle.decoding.specs.Offsets.{Spelled};
+
+use crate::known::known_char_at;
+use crate::reached::Reached;
+use crate::spelling::char_at;
+use std::simd::prelude::*;
+use ucdfiles::tables::Tables;
+use units::bracket::Unit;
+
+/// Writes the unit and the offset of each character of a text behind those of what was decoded before it.
+pub(crate) fn fill_str(
+    text: &str,
+    tables: &Tables,
+    before: Reached,
+    units: &mut [Unit],
+    starts: &mut [u32],
+) -> Reached
+    requires units { before.characters + length (chars text.now) ≤ length units.old }
+    requires starts { before.characters + length (chars text.now) ≤ length starts.old }
+    requires small { before.code_units + length text.now < 2 ^ 32 }
+    ensures units_len { length units.new ≡ length units.old }
+    ensures starts_len { length starts.new ≡ length starts.old }
+    ensures characters { result.characters ≡ before.characters + length (chars text.now) }
+    ensures code_units { result.code_units ≡ before.code_units + length text.now }
+    ensures written { (front : List Spelled) → IsWritten tables.now front before units.old starts.old
+        → IsWritten tables.now (front ++ utf8_text text.now) result units.new starts.new }
+{
+    let lent = tables.units();
+    let mut characters = before.characters;
+    let mut code_units = before.code_units;
+    for c in text.chars() {
+        lent.write_unit(c, &mut units[characters]);
+        starts[characters] = code_units as u32;
+        characters += 1;
+        code_units += c.len_utf8();
+    }
+    Reached {
+        characters,
+        code_units,
+    }
+}
+
+/// How many bytes are tested at once for being ASCII.
+const BLOCK: usize = 16;
+
+/// Whether each byte of a block is ASCII.
+#[inline(always)]
+fn is_ascii(block: u8x16) -> bool
+    ensures { IsTrue result → IsAscii block }
+{
+    block.simd_ge(u8x16::splat(0x80)).to_bitmask() == 0
+}
+
+/// Returns where the blocks of ASCII that begin at an offset end.
+#[inline(always)]
+fn ascii_end(bytes: &[u8], from: usize) -> usize
+    requires inside { from ≤ length bytes.now }
+    requires front { IsUtf8 (take from bytes.now) }
+    ensures forward { from ≤ result }
+    ensures inside { result ≤ length bytes.now }
+    ensures front { IsUtf8 (take result bytes.now) }
+{
+    let mut at = from;
+    while bytes.len() - at >= BLOCK && is_ascii(u8x16::from_slice(&bytes[at..])) {
+        at += BLOCK;
+    }
+    at
+}
+
+/// Tests the characters that begin from an offset up to `end`, and returns where the last of them ends. Fails with the
+/// offset of the first fault.
+#[inline(always)]
+fn test_chars(bytes: &[u8], from: usize, end: usize) -> Result<usize, usize>
+    requires bounds { (from ≤ end) × (end ≤ length bytes.now) }
+    requires front { IsUtf8 (take from bytes.now) }
+    ensures fault { IfErr result (λ at. (IsUtf8 bytes.now → ⊥) × (at ≡ utf8_valid_len bytes.now)) }
+    ensures passed { IfOk result (λ at. (end ≤ at) × (at ≤ length bytes.now) × IsUtf8 (take at bytes.now)) }
+{
+    let mut at = from;
+    while at < end {
+        let Some((_, behind)) = char_at(bytes, at) else {
+            return Err(at);
+        };
+        at = behind;
+    }
+    Ok(at)
+}
+
+/// Tests whether a text is well formed, block by block. Fails with the offset of the first fault.
+#[inline(never)]
+fn test_utf8(bytes: &[u8]) -> Result<(), usize>
+    requires small { length bytes.now < 2 ^ 32 }
+    ensures fault { IfErr result (λ at. (IsUtf8 bytes.now → ⊥) × (at ≡ utf8_valid_len bytes.now)) }
+    ensures well_formed { OnOk result (IsUtf8 bytes.now) }
+{
+    let mut at = 0;
+    while at < bytes.len() {
+        let ascii = ascii_end(bytes, at);
+        at = test_chars(bytes, ascii, bytes.len().min(ascii + BLOCK))?;
+    }
+    Ok(())
+}
+
+/// Writes the units and the offsets of a text that is well formed, and after the offsets that of its end. Returns how
+/// many characters there are.
+#[inline(never)]
+fn decode_well_formed(
+    bytes: &[u8],
+    tables: &Tables,
+    units: &mut [Unit],
+    starts: &mut [u32],
+) -> usize
+    requires well_formed { IsUtf8 bytes.now }
+    requires units { length bytes.now ≤ length units.old }
+    requires starts { length bytes.now < length starts.old }
+    requires small { length bytes.now < 2 ^ 32 }
+    ensures units_len { length units.new ≡ length units.old }
+    ensures starts_len { length starts.new ≡ length starts.old }
+    ensures decoded { AreDecoded tables.now (utf8_text bytes.now) result units.new starts.new }
+{
+    let lent = tables.units();
+    let mut count = 0;
+    let mut at = 0;
+    while at < bytes.len() {
+        let (c, behind) = known_char_at(bytes, at);
+        lent.write_unit(c, &mut units[count]);
+        starts[count] = at as u32;
+        count += 1;
+        at = behind;
+    }
+    starts[count] = at as u32;
+    count
+}
+
+/// Writes the units and the offsets of a text, and after the offsets that of its end. Returns how many characters there
+/// are. A first pass only tests the text; if it is ill-formed, nothing is written, and the offset of the first fault is
+/// returned.
+pub fn decode_utf8(
+    bytes: &[u8],
+    tables: &Tables,
+    units: &mut [Unit],
+    starts: &mut [u32],
+) -> Result<usize, usize>
+    requires units { length bytes.now ≤ length units.old }
+    requires starts { length bytes.now < length starts.old }
+    requires small { length bytes.now < 2 ^ 32 }
+    ensures units_len { length units.new ≡ length units.old }
+    ensures starts_len { length starts.new ≡ length starts.old }
+    ensures fault { IfErr result (λ at. (IsUtf8 bytes.now → ⊥) × (at ≡ utf8_valid_len bytes.now)) }
+    ensures unchanged { IfErr result (λ _. (units.new ≡ units.old) × (starts.new ≡ starts.old)) }
+    ensures well_formed { OnOk result (IsUtf8 bytes.now) }
+    ensures decoded { IfOk result (λ count.
+        AreDecoded tables.now (utf8_text bytes.now) count units.new starts.new) }
+{
+    test_utf8(bytes)?;
+    Ok(decode_well_formed(bytes, tables, units, starts))
+}

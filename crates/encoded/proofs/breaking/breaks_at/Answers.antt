@@ -1,7 +1,0 @@
-use Rattle.lines.specs.LineBreaks.{AreBreaksOf, IsFirstBreakFault}
-use Rattle.encoded.proofs.FoundBreaks.{no_fault, ok_unless}
-use Rattle.encoded.proofs.breaking.breaks_at.Goals as goal
-
-pub unwrap-requires : goal.unwrap-requires
-unwrap-requires c =
-    ok_unless (AreBreaksOf c.args.at.now c.args.len) (IsFirstBreakFault c.args.at.now c.args.len) c.new.result c.new.ensures (λ fault wrong. no_fault c.args.at.now c.args.len fault c.requires wrong)

@@ -1,5 +1,0 @@
-use Rattle.encoded.proofs.Utf8Tests.{ascii_of_mask}
-use Rattle.encoded.proofs.utf8.is_ascii.Goals as goal
-
-pub returns : goal.returns
-returns c = ascii_of_mask c.args.block c.fits-block.0

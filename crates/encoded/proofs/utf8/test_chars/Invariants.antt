@@ -1,9 +1,0 @@
-use Rattle.std.proofs.Common.{◌≤◌, ◌-◌, length, take}
-use Rattle.std.specs.Str.{IsUtf8}
-use Rattle.encoded.proofs.utf8.test_chars.Given as goal
-
-abbrev pub invariant-loop-at : goal.invariant-loop-at
-invariant-loop-at l = record { inside : l.at ≤ length l.bytes; front : IsUtf8 (take l.at l.bytes) }
-
-abbrev pub decreases-loop-at : goal.decreases-loop-at
-decreases-loop-at l = l.end - l.at

@@ -1,0 +1,24 @@
+use Rattle.std.proofs.Common.{◌≤◌, arith, sym, subst}
+use Rattle.units.specs.Lines.{most_counted}
+use Rattle.explain.specs.Searching.{Searching, SearchesOn}
+use Rattle.explain.proofs.SearchedBytes.{ends-last, ends-none}
+use Rattle.explain.proofs.search.RowSearch.finish.Goals as goal
+
+pub returns-in-None-clause-ends : goal.returns-in-None-clause-ends
+returns-in-None-clause-ends c = λ b h.
+    let kind = c.args.kind in
+    let inside = c.self.inside in
+    let most : c.args.sought ≤ most_counted = omega (arith, c.ranges.sought.fits) in
+    let old : Searching = record { cutting = inside.cutter; rows = inside.rows } in
+    let o : SearchesOn kind c.args.sought old b = subst (λ (s : Searching). SearchesOn kind c.args.sought s b) (sym c.self.view_is) h in
+    ends-none kind c.args.sought most old old b o (c.in-None.ensures.last b o.cutter)
+
+pub returns-in-Some-clause-ends : goal.returns-in-Some-clause-ends
+returns-in-Some-clause-ends c = λ b h.
+    let kind = c.args.kind in
+    let inside = c.self.inside in
+    let most : c.args.sought ≤ most_counted = omega (arith, c.ranges.sought.fits) in
+    let old : Searching = record { cutting = inside.cutter; rows = inside.rows } in
+    let new : Searching = record { cutting = inside.cutter; rows = c.take_line.new.self } in
+    let o : SearchesOn kind c.args.sought old b = subst (λ (s : Searching). SearchesOn kind c.args.sought s b) (sym c.self.view_is) h in
+    ends-last kind c.args.sought most old new b o c.in-Some.number c.in-Some.text (c.in-Some.ensures.last b o.cutter) c.take_line.result c.take_line.ensures.says c.of_last.result c.of_last.ensures

@@ -1,0 +1,226 @@
+//! What is printed of a row.
+ghost use Rattle.std.specs.Prelude.{◌≡◌, ◌≤◌, codes, length, map, IfErr, OnOk};
+ghost use Rattle.std.specs.Fmt.{decimal};
+ghost use Rattle.std.specs.Io.KnownBytes.{Appends};
+ghost use Rattle.std.specs.List.{flat_map};
+ghost use Rattle.std.specs.Option.{option_map};
+ghost use Rattle.units.specs.Isolates.{level_of_para};
+ghost use Rattle.units.specs.Layout.{all_orders};
+ghost use Rattle.units.specs.Limits.{standard};
+ghost use Rattle.lines.specs.Layouts.{view_of};
+ghost use Rattle.lines.specs.Scratches.{room_of};
+ghost use Rattle.bidtests.specs.Headline.{layout_under};
+ghost use Rattle.bidtests.specs.Readings.{claim_of};
+ghost use Rattle.bidtests.specs.Verdicts.{first_of};
+ghost use Rattle.printing.specs.Fronts.{FaultLeavesFront};
+ghost use Rattle.printing.specs.LevelsText.{level_text};
+ghost use Rattle.rows.specs.RowTexts.{behind_blanks};
+ghost use Rattle.explain.specs.RowTexts.{case_heading, case_text, claim_text, levels_lines, para_lines, para_text};
+ghost use Rattle.explain.specs.RowTexts.{row_text, said_line};
+
+use crate::found_row::FoundRow;
+use crate::print::print_units;
+use bidtests::claim::Claim;
+use bidtests::verdict_line::word_of_direction;
+use lines::breaks::Breaks;
+use lines::lay_out::lay_out_into;
+use lines::layout::Layout;
+use lines::scratch::Scratch;
+use printing::fault::PrintFault;
+use rows::case_text::{print_levels, print_orders, print_positions};
+use std::alloc::Global;
+use std::io;
+use std::io::Write;
+use units::level::{Direction, Level, ParaLevel};
+
+/// Writes the line of a paragraph's level, behind this name.
+fn print_level_line<W: Write>(w: &mut W, name: &str, level: Option<ParaLevel>) -> io::Result<()>
+    ensures { OnOk result (Appends (W.contents w.old) (W.contents w.new)
+        (said_line name.now (para_text (option_map level_of_para level)))) }
+{
+    match level {
+        Some(level) => writeln!(w, "{name}: {}", level.level().get()),
+        None => writeln!(w, "{name}:"),
+    }
+}
+
+/// The level of the first paragraph.
+fn first_level(paras: &[ParaLevel]) -> Option<ParaLevel>
+    ensures { option_map level_of_para result ≡ first_of (map level_of_para paras.now) }
+{
+    paras.first().copied()
+}
+
+/// Writes the level that is claimed of the first paragraph, and the one that is defined.
+fn print_levels_of_first<W: Write>(
+    w: &mut W,
+    claimed: ParaLevel,
+    layout: &Layout<'_>,
+) -> io::Result<()>
+    ensures { OnOk result (Appends (W.contents w.old) (W.contents w.new)
+        (para_lines (Some (level_of_para claimed)) (view_of layout.now))) }
+{
+    let defined = first_level(layout.para_levels());
+    print_level_line(w, "claimed paragraph level", Some(claimed))?;
+    print_level_line(w, "defined paragraph level", defined)
+}
+
+/// Writes these levels, if one is claimed.
+fn print_para_lines<W: Write>(
+    w: &mut W,
+    claimed: Option<ParaLevel>,
+    layout: &Layout<'_>,
+) -> io::Result<()>
+    ensures { OnOk result (Appends (W.contents w.old) (W.contents w.new)
+        (para_lines (option_map level_of_para claimed) (view_of layout.now))) }
+{
+    match claimed {
+        None => Ok(()),
+        Some(claimed) => print_levels_of_first(w, claimed, layout),
+    }
+}
+
+/// Writes the line of levels, behind this name.
+fn print_levels_line<W: Write>(w: &mut W, name: &str, levels: &[Option<Level>]) -> io::Result<()>
+    ensures { OnOk result (Appends (W.contents w.old) (W.contents w.new)
+        (said_line name.now (behind_blanks level_text levels.now))) }
+{
+    write!(w, "{name}:")?;
+    print_levels(w, levels)?;
+    writeln!(w)
+}
+
+/// Writes the levels that are claimed, and those that are defined.
+fn print_levels_lines<W: Write>(
+    w: &mut W,
+    claimed: &[Option<Level>],
+    layout: &Layout<'_>,
+) -> io::Result<()>
+    ensures { OnOk result (Appends (W.contents w.old) (W.contents w.new)
+        (levels_lines claimed.now (view_of layout.now))) }
+{
+    print_levels_line(w, "claimed levels", claimed)?;
+    print_levels_line(w, "defined levels", layout.levels())
+}
+
+/// Writes the order that is claimed.
+fn print_claimed_order<W: Write>(w: &mut W, order: &[usize]) -> io::Result<()>
+    ensures { OnOk result (Appends (W.contents w.old) (W.contents w.new)
+        (said_line (codes "claimed order") (behind_blanks decimal order.now))) }
+{
+    write!(w, "claimed order:")?;
+    print_positions(w, order)?;
+    writeln!(w)
+}
+
+/// Writes the order that is defined.
+fn print_defined_order<W: Write>(w: &mut W, layout: &Layout<'_>) -> io::Result<()>
+    ensures { OnOk result (Appends (W.contents w.old) (W.contents w.new)
+        (said_line (codes "defined order") (behind_blanks decimal (all_orders (view_of layout.now))))) }
+{
+    write!(w, "defined order:")?;
+    print_orders(w, layout)?;
+    writeln!(w)
+}
+
+/// Writes what a row claims, beside what a layout has.
+fn print_claim<W: Write>(w: &mut W, claim: Claim<'_>, layout: &Layout<'_>) -> io::Result<()>
+    ensures { OnOk result (Appends (W.contents w.old) (W.contents w.new)
+        (claim_text (claim_of claim.entry) (view_of layout.now))) }
+{
+    print_para_lines(w, claim.para_level, layout)?;
+    print_levels_lines(w, claim.levels, layout)?;
+    print_claimed_order(w, claim.order)?;
+    print_defined_order(w, layout)
+}
+
+/// Writes what a row claims, beside what the rules give under the direction.
+fn print_beside<W: Write>(
+    w: &mut W,
+    claim: Claim<'_>,
+    direction: Direction,
+    scratch: &mut Scratch,
+) -> io::Result<()>
+    requires { length claim.text.now ≤ room_of scratch.old }
+    ensures text { OnOk result (Appends (W.contents w.old) (W.contents w.new)
+        (claim_text (claim_of claim.entry) (layout_under standard (claim_of claim.entry) direction))) }
+    ensures room { room_of scratch.new ≡ room_of scratch.old }
+{
+    let breaks = Breaks::new(&[], claim.text.len()).unwrap();
+    lay_out_into(scratch, claim.text, direction, &breaks).unwrap();
+    print_claim(w, claim, &scratch.layout())
+}
+
+/// Writes the line before a case.
+fn print_case_heading<W: Write>(w: &mut W, number: u64, direction: Direction) -> io::Result<()>
+    ensures { OnOk result (Appends (W.contents w.old) (W.contents w.new) (case_heading number direction)) }
+{
+    let word = word_of_direction(direction);
+    writeln!(w, "line {number}: {word}")
+}
+
+/// Writes what is printed of the row at the line of this number under a direction.
+fn print_case<W: Write>(
+    alloc: Global,
+    w: &mut W,
+    number: u64,
+    row: &FoundRow,
+    direction: Direction,
+    scratch: &mut Scratch,
+) -> Result<(), PrintFault>
+    requires { length row.now.claim.text ≤ room_of scratch.old }
+    ensures text { OnOk result (Appends (W.contents w.old) (W.contents w.new)
+        (case_text number row.now direction)) }
+    ensures fault { IfErr result (FaultLeavesFront
+        (case_text number row.now direction) (W.contents w.old) (W.contents w.new)) }
+    ensures room { room_of scratch.new ≡ room_of scratch.old }
+{
+    let claim = row.claim();
+    print_case_heading(w, number, direction)?;
+    print_units(alloc, w, row.chars(), claim.text, direction)?;
+    print_beside(w, claim, direction, scratch)?;
+    Ok(())
+}
+
+/// Writes what is printed of the row at the line of this number under each of these directions.
+fn print_cases<W: Write>(
+    alloc: Global,
+    w: &mut W,
+    number: u64,
+    row: &FoundRow,
+    directions: &[Direction],
+    scratch: &mut Scratch,
+) -> Result<(), PrintFault>
+    requires { length row.now.claim.text ≤ room_of scratch.old }
+    ensures text { OnOk result (Appends (W.contents w.old) (W.contents w.new)
+        (flat_map (case_text number row.now) directions.now)) }
+    ensures fault { IfErr result (FaultLeavesFront
+        (flat_map (case_text number row.now) directions.now) (W.contents w.old) (W.contents w.new)) }
+{
+    for direction in directions {
+        print_case(alloc, w, number, row, *direction, scratch)?;
+    }
+    Ok(())
+}
+
+/// Writes what is printed of the row at the line of this number. For each direction that it names, in the order auto,
+/// LTR, RTL, AutoRtl: a line with that number and the direction, what `explain` prints of its text under that
+/// direction, and then what it claims and what the rules P1 to L2 give, each a line: the level of the first paragraph,
+/// if it claims one, the levels, with `x` where a position is removed, and the order. Items stand behind a blank each.
+///
+/// The fault is `Write` if the writer fails, when it is not known how much it took, and `Memory` if memory is refused.
+/// Then what is written is a front of that text, or nothing.
+pub fn print_row<W: Write>(
+    alloc: Global,
+    w: &mut W,
+    number: u64,
+    row: &FoundRow,
+) -> Result<(), PrintFault>
+    ensures text { OnOk result (Appends (W.contents w.old) (W.contents w.new) (row_text number row.now)) }
+    ensures fault { IfErr result (FaultLeavesFront
+        (row_text number row.now) (W.contents w.old) (W.contents w.new)) }
+{
+    let claim = row.claim();
+    let mut scratch = Scratch::reserve(alloc, claim.text.len())?;
+    print_cases(alloc, w, number, row, claim.directions, &mut scratch)
+}

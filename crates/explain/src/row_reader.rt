@@ -1,0 +1,93 @@
+// Lines read one behind the other, up to a row that is sought.
+ghost use Rattle.std.specs.Prelude.{◌≡◌, ◌*◌, ◌≤◌, IfOk, IsSome, length, vec_capacity};
+ghost use Rattle.units.specs.Text.{longest_line};
+ghost use Rattle.bidtests.specs.declared.line_reader.TheConstants.{MOST_UNITS};
+
+use crate::characters::read_characters;
+use crate::row_fault::RowFault;
+use bidtests::claim::Claim;
+use bidtests::kind::Kind;
+use bidtests::line_reader::{Asked, LineReader, MOST_UNITS};
+use std::alloc::Global;
+use std::marker::Model;
+use units::memory::Memory;
+
+/// What reads the lines, and the characters of the row that was found.
+#[derive(Drop)]
+pub struct RowReader {
+    reader: LineReader,
+    chars: Vec<char>,
+}
+
+impl Model for RowReader {
+    ghost use Rattle.std.specs.Prelude.{◌*◌, ◌≤◌, vec_capacity};
+    ghost use Rattle.units.specs.Text.{longest_line};
+    ghost use Rattle.explain.specs.Searching.{RowReading};
+
+    ghost Value = { RowReading };
+
+    ghost view = { λ s. record { reading = s.reader; chars = s.chars.items } };
+
+    ghost invariant = { λ s. longest_line ≤ 2 * vec_capacity s.chars };
+}
+
+impl RowReader {
+    ghost use Rattle.bidtests.specs.LineReadings.{HasNoList, claim_in};
+    ghost use Rattle.bidtests.specs.Readings.{claim_of};
+    ghost use Rattle.explain.specs.Searching.{SaysOfRow};
+
+    /// Before the first line.
+    pub fn new(alloc: Global) -> Result<RowReader, Memory>
+        ensures { IfOk result (λ rows. HasNoList rows.reading) }
+    {
+        let reader = LineReader::new(alloc)?;
+        let chars = Vec::with_capacity(alloc, MOST_UNITS)?;
+        Ok(RowReader { reader, chars })
+    }
+
+    /// Reads the line of this number of a file of this kind, by what the lines before it said, and answers what its row
+    /// asks for, if it stands at the number that is sought or behind it.
+    pub fn take_line(
+        &mut self,
+        kind: Kind<'_>,
+        sought: u64,
+        number: u64,
+        line: &[u8],
+    ) -> Result<Option<Asked>, RowFault>
+        requires { length line.now ≤ longest_line }
+        ensures says { SaysOfRow kind.entry sought number line.now self.old self.new result }
+        ensures fits { IfOk result (λ row. IsSome row → length self.new.reading.text ≤ MOST_UNITS) }
+    {
+        let row = match self.reader.read_line(kind, line) {
+            Ok(row) => row,
+            Err(cause) => {
+                return Err(RowFault::Malformed {
+                    line: number,
+                    cause,
+                });
+            }
+        };
+        if number < sought {
+            return Ok(None);
+        }
+        let Some(asked) = row else {
+            return Err(RowFault::NoRow);
+        };
+        read_characters(kind, line, &mut self.chars);
+        Ok(Some(asked))
+    }
+
+    /// What the row claims that was found, which asked for this.
+    pub fn claim(&self, asked: Asked) -> Claim<'_>
+        ensures { claim_of result ≡ claim_in self.now.reading asked }
+    {
+        self.reader.claim(asked)
+    }
+
+    /// The characters of its text, if it has some.
+    pub fn chars(&self) -> &[char]
+        ensures { result.now ≡ self.now.chars }
+    {
+        &self.chars
+    }
+}

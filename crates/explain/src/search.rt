@@ -1,0 +1,142 @@
+// A search for the row of a line, in the bytes of a file.
+ghost use Rattle.std.specs.Prelude.{◌≡◌, ◌≤◌, ◌<◌, ℕ, List, [], ◌++◌, IfOk, IsSome, OnOk, length};
+ghost use Rattle.units.specs.LineAnswers.{CutIsShort};
+ghost use Rattle.bidtests.specs.declared.kind.Kind.{Kind as FileKind};
+ghost use Rattle.bidtests.specs.declared.line_reader.TheConstants.{MOST_UNITS};
+ghost use Rattle.explain.specs.Searching.{SearchComesTo, EndsLast, EndsWith, SaysOfCut, SearchesOn, PieceSettles, row_in};
+
+use crate::found_row::FoundRow;
+use crate::row_fault::RowFault;
+use crate::row_reader::RowReader;
+use bidtests::kind::Kind;
+use bidtests::line_reader::Asked;
+use bidtests::verdict::Cause;
+use std::alloc::Global;
+use std::marker::Model;
+use units::line_cut::{Cut, LineCut};
+use units::memory::Memory;
+
+/// A search for a row: it holds one line, one row's text and the lists in force.
+#[derive(Drop)]
+pub struct RowSearch {
+    cutter: LineCut,
+    rows: RowReader,
+}
+
+impl Model for RowSearch {
+    ghost use Rattle.explain.specs.Searching.{Searching};
+
+    ghost Value = { Searching };
+
+    ghost view = { λ s. record { cutting = s.cutter; rows = s.rows } };
+}
+
+/// Reads the line that a cut ends, if it ends one.
+fn take_cut(
+    kind: Kind<'_>,
+    rows: &mut RowReader,
+    sought: u64,
+    cut: Cut<'_>,
+) -> Result<Option<Asked>, RowFault>
+    requires { CutIsShort cut }
+    ensures says { SaysOfCut kind.entry sought cut.entry rows.old rows.new result }
+    ensures fits { IfOk result (λ row. IsSome row → length rows.new.reading.text ≤ MOST_UNITS) }
+{
+    match cut {
+        Cut::More => Ok(None),
+        Cut::Line { number, text } => rows.take_line(kind, sought, number, text),
+        Cut::TooLong { number } => Err(RowFault::Malformed {
+            line: number,
+            cause: Cause::LineTooLong,
+        }),
+    }
+}
+
+/// What a search comes to by what the last line of its file says.
+fn of_last(row: Result<Option<Asked>, RowFault>) -> Result<Asked, RowFault>
+    ensures { EndsLast row result }
+{
+    match row {
+        Ok(Some(asked)) => Ok(asked),
+        Ok(None) => Err(RowFault::NoRow),
+        Err(fault) => Err(fault),
+    }
+}
+
+impl RowSearch {
+    /// Before the first byte of a file.
+    pub fn new(alloc: Global) -> Result<RowSearch, Memory>
+        ensures { IfOk result (λ search. (kind : FileKind) (sought : ℕ) → 0 < sought
+            → SearchesOn kind sought search []) }
+    {
+        let rows = RowReader::new(alloc)?;
+        Ok(RowSearch {
+            cutter: LineCut::new(),
+            rows,
+        })
+    }
+
+    /// Takes the next bytes of a file of this kind, through the end of a line at most, and answers how many, and what
+    /// the row asks for that is sought, if that line is the one.
+    fn take_next(
+        &mut self,
+        kind: Kind<'_>,
+        sought: u64,
+        piece: &[u8],
+    ) -> Result<(usize, Option<Asked>), RowFault>
+        ensures used { IfOk result (λ taken. taken.0 ≤ length piece.now) }
+        ensures some { IfOk result (λ taken. 0 < length piece.now → 0 < taken.0) }
+        ensures comes { (b : List ℕ) → SearchesOn kind.entry sought self.old b
+            → PieceSettles kind.entry sought self.new b piece.now result }
+        ensures fits { IfOk result (λ taken. IsSome taken.1 → length self.new.rows.reading.text ≤ MOST_UNITS) }
+    {
+        let (used, cut) = self.cutter.take(piece);
+        let row = take_cut(kind, &mut self.rows, sought, cut)?;
+        Ok((used, row))
+    }
+
+    /// Takes the next bytes of a file of this kind, up to the row that is sought, and answers what that asks for, if
+    /// they hold it. The error is why there is none.
+    pub fn take(
+        &mut self,
+        kind: Kind<'_>,
+        sought: u64,
+        piece: &[u8],
+    ) -> Result<Option<Asked>, RowFault>
+        ensures comes { (b : List ℕ) → SearchesOn kind.entry sought self.old b
+            → SearchComesTo kind.entry sought self.new (b ++ piece.now) result }
+        ensures fits { IfOk result (λ row. IsSome row → length self.new.rows.reading.text ≤ MOST_UNITS) }
+    {
+        let mut rest = piece;
+        while !rest.is_empty() {
+            let (used, row) = self.take_next(kind, sought, rest)?;
+            if row.is_some() {
+                return Ok(row);
+            }
+            rest = &rest[used..];
+        }
+        Ok(None)
+    }
+
+    /// The row that was found, which asked for this.
+    pub fn found(self, asked: Asked) -> FoundRow
+        requires { length self.rows.reading.text ≤ MOST_UNITS }
+        ensures { result ≡ row_in self.rows asked }
+    {
+        let RowSearch { rows, .. } = self;
+        FoundRow::new(rows, asked)
+    }
+
+    /// Takes the end of a file of this kind, and answers what the row asks for that is sought, if the line that has
+    /// begun is the one. The error is why there is none.
+    pub fn finish(&mut self, kind: Kind<'_>, sought: u64) -> Result<Asked, RowFault>
+        ensures ends { (b : List ℕ) → SearchesOn kind.entry sought self.old b
+            → EndsWith kind.entry sought self.new b result }
+        ensures fits { OnOk result (length self.new.rows.reading.text ≤ MOST_UNITS) }
+    {
+        match self.cutter.finish() {
+            None => Err(RowFault::NoRow),
+            Some((number, text)) => of_last(self.rows.take_line(kind, sought, number, text)),
+        }
+    }
+}

@@ -1,2 +1,0 @@
-pub mod RowLines
-pub mod SearchedBytes

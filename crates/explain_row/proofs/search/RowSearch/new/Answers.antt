@@ -1,5 +1,0 @@
-use Rattle.explain_row.proofs.SearchedBytes.{search-start}
-use Rattle.explain_row.proofs.search.RowSearch.new.Goals as goal
-
-pub returns : goal.returns
-returns c = λ kind sought some. search-start kind sought _ c.new-2.ensures c.in_ok-rows.ensures some

@@ -1,4 +1,0 @@
-pub mod SoughtRows
-pub mod Searching
-pub mod RowTexts
-pub mod WorkedRows

@@ -1,0 +1,63 @@
+//! What a class opens or closes (X2 to X6): which classes open and close nothing, and what an initiator asks for.
+ghost use Rattle.std.specs.Prelude.{◌≡◌, ◌≤◌, ◌+◌, if◌then◌else◌};
+ghost use Rattle.units.specs.Explicit.{next_odd, next_even, override_of};
+ghost use Rattle.explicit.specs.StatusStacks.{is_ordinary};
+ghost use Rattle.explicit.specs.WantedLevels.{IsOddWanted};
+
+use units::class::Class;
+use units::level::Level;
+
+/// X6: a class that neither begins nor ends anything, and isn't removed.
+pub(crate) fn is_ordinary(class: Class) -> bool
+    ensures { result ≡ is_ordinary class }
+{
+    matches!(
+        class,
+        Class::L
+            | Class::R
+            | Class::AL
+            | Class::EN
+            | Class::ES
+            | Class::ET
+            | Class::AN
+            | Class::CS
+            | Class::NSM
+            | Class::S
+            | Class::WS
+            | Class::ON
+    )
+}
+
+/// X2 to X5c: how far the least odd or the least even level above this one is.
+pub(crate) fn rise(level: Level, odd: bool) -> u8
+    ensures value { level + result ≡ (if odd then next_odd level else next_even level) }
+    ensures small { result ≤ 2 }
+{
+    if odd {
+        1 + level.get() % 2
+    } else {
+        2 - level.get() % 2
+    }
+}
+
+/// X2, X4, X5a, X5c: whether an initiator asks for an odd level; an FSI does where what it holds begins right to left.
+pub(crate) fn asks_odd(class: Class, right_to_left: bool) -> bool
+    ensures { IsOddWanted class right_to_left result }
+{
+    match class {
+        Class::RLE | Class::RLO | Class::RLI => true,
+        Class::FSI => right_to_left,
+        _ => false,
+    }
+}
+
+/// X4, X5: the class that an initiator gives to what it holds.
+pub(crate) fn overridden_by(class: Class) -> Option<Class>
+    ensures { result ≡ override_of class }
+{
+    match class {
+        Class::RLO => Some(Class::R),
+        Class::LRO => Some(Class::L),
+        _ => None,
+    }
+}

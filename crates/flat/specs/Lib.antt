@@ -1,4 +1,0 @@
-pub mod Flat
-pub mod IdleRules
-pub mod Uniform
-pub mod Laws

@@ -1,0 +1,24 @@
+-- The values that C gets, and judges and reports that own their tables.
+pub mod Statuses
+pub mod Reasons
+pub mod LimitsGiven
+pub mod Directions
+pub mod LevelBytes
+pub mod Lines
+pub mod Runs
+pub mod ReadTables
+pub mod Properties
+pub mod Fronts
+pub mod Pairs
+pub mod VerdictNumbers
+pub mod VerdictLines
+pub mod TableJudges
+pub mod ReportNumbers
+pub mod TableReports
+pub mod ReportCalls
+pub mod RoomCalls
+pub mod Positions
+pub mod InUnits
+pub mod LineRuns
+pub mod Shown
+pub mod Base

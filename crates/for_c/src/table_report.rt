@@ -1,0 +1,162 @@
+//! A report on a test file that owns its tables.
+ghost use Rattle.std.specs.Prelude.{◌≡◌, ◌↔◌, ◌≤◌, ◌<◌, [], true, false, IfErr, IfOk, MatchOption, OnOk, length, take};
+ghost use Rattle.std.specs.Option.{option_map};
+ghost use Rattle.std.specs.Arc.{arc_value};
+ghost use Rattle.for_c.specs.ReportCalls.{Ends, EndsReport, IsReady, RejectsBytes, Returns, ReturnsNext, Takes, TakesBytes};
+ghost use Rattle.for_c.specs.TableReports.{HasReported, cases_left};
+
+use crate::call_error::CallError;
+use crate::counts::{BidiCounts, counts_for_c};
+use crate::table_judge::kind_by;
+use crate::wrong_case::{BidiWrongCase, case_for_c};
+use report::state::ReportState;
+use report::terms::Terms;
+use report::wrong_case::WrongCase;
+use std::alloc::Global;
+use std::sync::Arc;
+use ucdfiles::tables::Tables;
+use units::limits::Limits;
+
+/// A report on a BidiCharacterTest.txt with its tables, or on a BidiTest.txt without tables. Other owners may share the
+/// tables.
+#[derive(Drop)]
+pub struct TableReport {
+    tables: Option<Arc<Tables, Global>>,
+    state: ReportState,
+    /// The number of wrong cases of the line that it judged last that it has returned.
+    returned: usize,
+    /// Whether it has taken the end of the file.
+    ended: bool,
+}
+
+impl TableReport {
+    /// Makes a report before its first byte that lays out with these limits: on a BidiCharacterTest.txt by the tables,
+    /// or on a BidiTest.txt without tables. It is boxed because it contains a line. Fails with `Memory`.
+    pub fn new(
+        alloc: Global,
+        tables: Option<Arc<Tables, Global>>,
+        limits: Limits,
+    ) -> Result<Box<TableReport>, CallError>
+        ensures made { IfOk result (λ report.
+            HasReported limits (option_map arc_value tables) false report.value [] []) }
+        ensures reason { IfErr result (λ error. error ≡ CallError.Memory) }
+    {
+        let Ok(state) = ReportState::new(alloc, Terms::strict(limits)) else {
+            return Err(CallError::Memory);
+        };
+        let report = TableReport {
+            tables,
+            state,
+            returned: 0,
+            ended: false,
+        };
+        match Box::new(alloc, report) {
+            Ok(report) => Ok(report),
+            Err(_) => Err(CallError::Memory),
+        }
+    }
+
+    /// Returns whether it has wrong cases that it has not yet returned.
+    fn has_cases(&self) -> bool
+        ensures { (result ≡ true) ↔ (0 < length (cases_left self.now)) }
+    {
+        self.returned < self.state.found().len()
+    }
+
+    /// Tests whether it can take bytes, or the end of its file. Fails with `NoReport` if the file has ended, and else
+    /// with `CasesLeft` if it has wrong cases that it has not yet returned.
+    fn check_ready(&self) -> Result<(), CallError>
+        ensures ready { OnOk result (IsReady self.now) }
+        ensures reason { IfErr result (RejectsBytes self.now) }
+    {
+        if self.ended {
+            return Err(CallError::NoReport);
+        }
+        if self.has_cases() {
+            return Err(CallError::CasesLeft);
+        }
+        Ok(())
+    }
+
+    /// Takes the next bytes of the file, through the end of a line at most. Returns how many.
+    fn take_line(&mut self, piece: &[u8]) -> usize
+        requires { cases_left self.old ≡ [] }
+        ensures used { result ≤ length piece.now }
+        ensures some { 0 < length piece.now → 0 < result }
+        ensures takes { Takes self.old self.new (take result piece.now) }
+    {
+        let used = self.state.take(kind_by(&self.tables), piece);
+        self.returned = 0;
+        used
+    }
+
+    /// Takes the next bytes of the file, through the end of the first line that has wrong cases. Returns how many.
+    fn take_piece(&mut self, piece: &[u8]) -> usize
+        requires { cases_left self.old ≡ [] }
+        ensures used { result ≤ length piece.now }
+        ensures takes { Takes self.old self.new (take result piece.now) }
+        ensures stops { result < length piece.now → 0 < length (cases_left self.new) }
+    {
+        let mut at = 0;
+        while at < piece.len() && !self.has_cases() {
+            at += self.take_line(&piece[at..]);
+        }
+        at
+    }
+
+    /// Takes the next bytes of the file, through the end of the first line that has wrong cases, or all. Returns how
+    /// many. It takes no memory.
+    ///
+    /// Fails with `NoReport` if the file has ended, and else with `CasesLeft` if it has wrong cases that it has not yet
+    /// returned; then it is unchanged.
+    pub fn feed(&mut self, piece: &[u8]) -> Result<usize, CallError>
+        ensures { TakesBytes piece.now self.old self.new result }
+    {
+        self.check_ready()?;
+        Ok(self.take_piece(piece))
+    }
+
+    /// Returns the next wrong case of the line that it judged last, if it has one that it has not yet returned.
+    fn next_case(&mut self) -> Option<WrongCase>
+        ensures { MatchOption result ((cases_left self.old ≡ []) × (self.new ≡ self.old))
+            (Returns self.old self.new) }
+    {
+        let case = *self.state.found().get(self.returned)?;
+        self.returned += 1;
+        Some(case)
+    }
+
+    /// Returns the next wrong case of the line that it judged last. It takes no memory. Fails with `NoCase` if it has
+    /// returned all; then it is unchanged.
+    pub fn next(&mut self) -> Result<BidiWrongCase, CallError>
+        ensures { ReturnsNext self.old self.new result }
+    {
+        match self.next_case() {
+            Some(case) => Ok(case_for_c(case)),
+            None => Err(CallError::NoCase),
+        }
+    }
+
+    /// Takes the end of the file. Returns the counts.
+    fn end(&mut self) -> BidiCounts
+        requires { cases_left self.old ≡ [] }
+        ensures { Ends self.old self.new result }
+    {
+        self.state.finish(kind_by(&self.tables));
+        self.returned = 0;
+        self.ended = true;
+        counts_for_c(&self.state.tally(), self.state.malformed())
+    }
+
+    /// Takes the end of the file. Returns the counts of the whole file. It has then the wrong cases of a last line
+    /// without LF. It takes no memory.
+    ///
+    /// Fails with `NoReport` if the file has ended before, and else with `CasesLeft` if it has wrong cases that it has
+    /// not yet returned; then it is unchanged.
+    pub fn finish(&mut self) -> Result<BidiCounts, CallError>
+        ensures { EndsReport self.old self.new result }
+    {
+        self.check_ready()?;
+        Ok(self.end())
+    }
+}

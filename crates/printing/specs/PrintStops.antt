@@ -1,0 +1,20 @@
+-- Why printing stops.
+use Rattle.std.specs.Prelude.{◌≡◌, ◌≢◌}
+use Rattle.std.specs.IoError.{error_kind}
+use Rattle.std.specs.declared.io.Error.{Error}
+use Rattle.std.specs.declared.io.ErrorKind.TheVariants.{BrokenPipe}
+use Rattle.printing.specs.declared.fault.PrintFault.{PrintFault}
+use Rattle.printing.specs.declared.fault.PrintFault.TheVariants as print_fault
+use Rattle.printing.specs.declared.fault.PrintStop.{PrintStop}
+use Rattle.printing.specs.declared.fault.PrintStop.TheVariants.{NobodyReads, Write, Memory}
+
+-- a write that failed by this error stops printing so: nobody reads what is written exactly where its kind says so
+pub record IsStopOf (error : Error) (stop : PrintStop) : Type 0 where
+  pub broken : error_kind error ≡ BrokenPipe → stop ≡ NobodyReads
+  pub other : error_kind error ≢ BrokenPipe → stop ≡ Write
+
+-- the fault of what is printed at once
+abbrev pub fault_of : PrintStop → PrintFault
+fault_of NobodyReads = print_fault.Write
+fault_of Write = print_fault.Write
+fault_of Memory = print_fault.Memory

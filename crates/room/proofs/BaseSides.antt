@@ -1,0 +1,90 @@
+-- The side of the first strong class of a text's first paragraph, as a walk finds it that ends there.
+use Rattle.std.proofs.Common.{◌≡◌, ℕ, zero, suc, ◌+◌, ◌<◌, ◌==◌, ◌&&◌, if◌then◌else◌, true, false, List, length, None, [], ◌∷◌, inl, inr, refl, sym, ap, ◌∙◌, arith, take, drop}
+use Rattle.std.proofs.lemmas.Bool.{cases_Bool}
+use Rattle.std.proofs.lemmas.List.{drop_all, drop_more}
+use Rattle.units.specs.Classes.{class_at, classes_of, is_right_to_left, is_separator, is_strong}
+use Rattle.units.specs.Isolates.{first_strong}
+use Rattle.units.specs.declared.bracket.Unit.{Unit as BidiUnit}
+use Rattle.units.specs.declared.class.Class.{Class}
+use Rattle.units.specs.declared.class.Class.TheVariants.{B, L}
+use Rattle.explicit.specs.FirstParagraph.{first_length}
+use Rattle.explicit.specs.Sides.{noted, side_at, strong_side}
+use Rattle.explicit.specs.declared.side.Side.{Side}
+use Rattle.explicit.specs.declared.side.Side.TheVariants.{Unknown}
+use Rattle.room.specs.BaseLevels.{depth_after, first_side}
+use Rattle.room.proofs.BaseWalk.{IsWalked, side_behind, walked_all, walked_more, walked_none}
+
+-- the side of the first strong class outside of isolates, up to a separator, where so many are open before
+abbrev pub side_from : List BidiUnit → ℕ → Side
+side_from [] depth = Unknown
+side_from (unit ∷ units) depth =
+    if is_separator unit.class then Unknown
+    else (if (depth == 0) && is_strong unit.class then strong_side unit.class
+    else side_from units (depth_after unit.class depth))
+
+-- the side that is known behind all of these classes
+abbrev side_behind_all : List Class → ℕ → Side → Side
+side_behind_all [] depth side = side
+side_behind_all (class ∷ cs) depth side = side_behind_all cs (depth_after class depth) (side_behind class depth side)
+
+-- from the classes on that were walked over it is the side of the first strong class
+others_walked : (cs : List Class) (n k depth : ℕ) (side : Side) → k + n ≡ length cs → IsWalked cs k depth side
+    → side_behind_all (drop k cs) depth side ≡ side_at cs (first_strong cs None)
+others_walked cs zero k depth side all walked =
+    let none : drop k cs ≡ [] = drop_all k cs (omega arith) in
+    let whole : k ≡ length cs = omega arith in
+    rw none (walked_all cs depth side (rw whole at walked))
+others_walked cs (suc n) k depth side all walked =
+    let inside : k < length cs = omega arith in
+    let next : drop k cs ≡ class_at cs k ∷ drop (k + 1) cs = drop_more cs k L inside in
+    rw next (others_walked cs n (k + 1) _ _ (omega arith) (walked_more cs k side inside depth walked))
+
+-- a side that is known stays
+noted_stays : (first class : Class) → noted (strong_side first) class ≡ strong_side first
+noted_stays first class = elim (cases_Bool (is_right_to_left first)) [ inl t ↦ rw t refl | inr f ↦ rw f refl ]
+
+side_stays : (class first : Class) (depth : ℕ) → side_behind class depth (strong_side first) ≡ strong_side first
+side_stays class first depth = elim (cases_Bool ((depth == 0) && is_strong class)) [
+  | inl here ↦ rw here (noted_stays first class)
+  | inr other ↦ rw other refl
+]
+
+all_stay : (cs : List Class) (first : Class) (depth : ℕ) → side_behind_all cs depth (strong_side first) ≡ strong_side first
+all_stay [] first depth = refl
+all_stay (class ∷ cs) first depth = rw (side_stays class first depth) (all_stay cs first (depth_after class depth))
+
+-- a separator is not strong
+nothing_noted : (class : Class) (depth : ℕ) → is_separator class ≡ true → side_behind class depth Unknown ≡ Unknown
+nothing_noted B depth ends = elim (cases_Bool (depth == 0)) [ inl none ↦ rw none refl | inr some ↦ rw some refl ]
+nothing_noted class depth ends = absurd (cc)
+
+-- a walk over the first paragraph knows the side that one finds which ends early
+first_class : (unit : BidiUnit) (units : List BidiUnit) (depth : ℕ) → is_separator unit.class ≡ false
+    → side_behind_all (classes_of (take (first_length (unit ∷ units)) (unit ∷ units))) depth Unknown
+    ≡ side_behind_all (classes_of (take (first_length units) units)) (depth_after unit.class depth) (side_behind unit.class depth Unknown)
+first_class unit units depth inside = rw inside refl
+
+first_walked : (units : List BidiUnit) (depth : ℕ) → side_behind_all (classes_of (take (first_length units) units)) depth Unknown ≡ side_from units depth
+first_walked [] depth = refl
+first_walked (unit ∷ units) depth =
+    let cs : List Class = classes_of (take (first_length units) units) in
+    let behind : ℕ = depth_after unit.class depth in
+    elim (cases_Bool (is_separator unit.class)) [
+      | inl ends ↦ rw ends (nothing_noted unit.class depth ends)
+      | inr inside ↦ elim (cases_Bool ((depth == 0) && is_strong unit.class)) [
+        | inl strong ↦
+            let here : side_behind unit.class depth Unknown ≡ strong_side unit.class = rw strong refl in
+            let found : side_from (unit ∷ units) depth ≡ strong_side unit.class = rw (inside, strong) refl in
+            first_class unit units depth inside ∙ ap (side_behind_all cs behind) here ∙ all_stay cs unit.class behind ∙ sym found
+        | inr other ↦
+            let here : side_behind unit.class depth Unknown ≡ Unknown = rw other refl in
+            let found : side_from (unit ∷ units) depth ≡ side_from units behind = rw (inside, other) refl in
+            first_class unit units depth inside ∙ ap (side_behind_all cs behind) here ∙ first_walked units behind ∙ sym found
+      ]
+    ]
+
+-- it is found by that walk
+pub side_found : (units : List BidiUnit) → first_side units ≡ side_from units 0
+side_found units =
+    let cs : List Class = classes_of (take (first_length units) units) in
+    sym (sym (first_walked units 0) ∙ others_walked cs (length cs) 0 0 Unknown (omega arith) (walked_none cs))

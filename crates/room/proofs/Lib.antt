@@ -1,0 +1,21 @@
+-- What is shared by calls.
+pub mod Encoded
+pub mod LineOrders
+pub mod Refilled
+pub mod Columns
+pub mod Rejecting
+pub mod Refused
+pub mod Showing
+pub mod ShownLines
+pub mod RunLists
+pub mod LevelWalk
+pub mod Boundaries
+pub mod Placing
+pub mod Spreading
+pub mod Spans
+pub mod ParagraphsAtZero
+pub mod BaseWalk
+pub mod BaseSides
+pub mod BaseParagraphs
+pub mod CharactersAt
+pub mod WholeLevels

@@ -1,0 +1,88 @@
+-- Runs of a line, one after another, in the units of the source.
+use Rattle.std.proofs.Common.{◌≡◌, ℕ, ◌+◌, ◌<◌, ◌≤◌, List, [], ◌∷◌, ◌++◌, length, map, take, drop, refl, subst, sym, ap, ◌∙◌, arith}
+use Rattle.std.proofs.Math.Seq.{take-length, take-append_seam, drop-append_seam}
+use Rattle.std.proofs.lemmas.List.{length-map, map-append}
+use Rattle.units.specs.declared.level.ParaLevel.{ParaLevel}
+use Rattle.visual.specs.NextRuns.{IsNextRun}
+use Rattle.visual.specs.VisualRuns.{IsInOrder, IsRunAt}
+use Rattle.visual.specs.declared.line.OrderedLine.{OrderedLine}
+use Rattle.visual.specs.declared.line_runs.Runs.{Runs}
+use Rattle.visual.specs.declared.runs.VisualRun.{VisualRun}
+use Rattle.visual.proofs.SameCount.{same_count}
+use Rattle.visual.proofs.Walked.{AreGiven}
+use Rattle.room.specs.Looking.{HasParaLevelOf}
+use Rattle.room.specs.Rooms.{RoomOf}
+use Rattle.room.specs.RunsIn.{IsOrderedLine, PutsRuns, WritesRuns, run_in}
+
+-- the next run lies within the line
+pub record IsWithin (line : OrderedLine) (run : VisualRun) : Type 0 where
+  pub forward : run.start ≤ run.end
+  pub end : run.end ≤ line.end
+
+pub run_within : (line : OrderedLine) (runs : List VisualRun) (old : Runs) (run : VisualRun) (new : Runs) → IsInOrder line → AreGiven line runs old → IsNextRun old run new → IsWithin line run
+run_within line runs old run new order given next =
+    let at : IsRunAt line old.place run = subst (λ (l : OrderedLine). IsRunAt l old.place run) given.of (next.run (subst IsInOrder (sym given.of) order)) in
+    record { forward = omega (arith, at.level.some); end = at.level.within }
+
+-- one run more is written
+pub written_run : (room : RoomOf) (runs : List VisualRun) (run : VisualRun) (out out_then : List VisualRun) (count : ℕ) (told : VisualRun)
+    → length out_then ≡ length out → told ≡ run_in room run
+    → (count < length out → take (count + 1) out_then ≡ take count out ++ told ∷ [])
+    → (count ≤ length out → take count out ≡ map (run_in room) runs)
+    → count + 1 ≤ length out_then → take (count + 1) out_then ≡ map (run_in room) (runs ++ run ∷ [])
+written_run room runs run out out_then count told len is put before le =
+    put (omega (arith, le, len)) ∙ ap (λ (xs : List VisualRun). xs ++ told ∷ []) (before (omega (arith, le, len)))
+    ∙ ap (λ (x : VisualRun). map (run_in room) runs ++ x ∷ []) is ∙ sym (map-append (run_in room) runs (run ∷ []))
+
+-- the line has the number k, and lies in a paragraph of its level
+pub record IsLineOf (room : RoomOf) (k : ℕ) (line : OrderedLine) : Type 0 where
+  pub is : IsOrderedLine room.layout k line.para_level line
+  pub para : HasParaLevelOf room line.start line.para_level
+
+-- a line of the layout that lies at a position in a paragraph of this level
+pub line_of_layout : (room : RoomOf) (k start : ℕ) (para : ParaLevel) (line : OrderedLine) → IsOrderedLine room.layout k para line → start ≡ line.start → HasParaLevelOf room start para → IsLineOf room k line
+line_of_layout room k start para line is begins level = record {
+  is = subst (λ (p : ParaLevel). IsOrderedLine room.layout k p line) (sym is.para) is;
+  para = subst (HasParaLevelOf room line.start) (sym is.para) (subst (λ (p : ℕ). HasParaLevelOf room p para) begins level);
+}
+
+module _ (room : RoomOf) (k : ℕ) (line : OrderedLine) (of : IsLineOf room k line) where
+  -- all runs of the line are written
+  pub all_put : (count again : ℕ) (old counting filled : List VisualRun) → PutsRuns room line count counting → PutsRuns room line again filled
+      → length filled ≡ count → count ≤ length old → WritesRuns room k count old (filled ++ drop count old)
+  all_put count again old counting filled first then len fits =
+      let n : length (map (run_in room) then.runs) ≡ count =
+      length-map then.runs (run_in room) ∙ sym (same_count line first.runs then.runs first.are then.are) ∙ sym first.counted in
+      let whole : again ≡ length filled = omega (arith, then.counted, n, len, length-map then.runs (run_in room)) in
+      let all : filled ≡ map (run_in room) then.runs = sym (take-length filled) ∙ ap (λ (m : ℕ). take m filled) (sym whole) ∙ then.written (omega (arith, whole)) in
+      record {
+        line = line;
+        is = of.is;
+        para = of.para;
+        runs = then.runs;
+        are = then.are;
+        writes = record {
+          count = sym n;
+          written = λ _. ap (λ (m : ℕ). take m (filled ++ drop count old)) (n ∙ sym len) ∙ take-append_seam filled (drop count old) ∙ all;
+          behind = ap (λ (m : ℕ). drop m (filled ++ drop count old)) (n ∙ sym len) ∙ drop-append_seam filled (drop count old) ∙ ap (λ (m : ℕ). drop m old) (sym n);
+          kept = λ few. absurd (omega (arith, few, fits, n));
+        };
+      }
+
+  -- none is
+  pub none_put : (count : ℕ) (old counting : List VisualRun) → PutsRuns room line count counting → length old < count → WritesRuns room k count old old
+  none_put count old counting first few =
+      let n : length (map (run_in room) first.runs) ≡ count = length-map first.runs (run_in room) ∙ sym first.counted in
+      record {
+        line = line;
+        is = of.is;
+        para = of.para;
+        runs = first.runs;
+        are = first.are;
+        writes = record {
+          count = sym n;
+          written = λ fits. absurd (omega (arith, few, fits, n));
+          behind = refl;
+          kept = λ _. refl;
+        };
+      }

@@ -1,0 +1,18 @@
+use Rattle.std.proofs.Common.{◌≡◌, ◌≤◌, ◌+◌}
+use Rattle.room.specs.BaseLevels.{first_side}
+use Rattle.sources.specs.Seen.{source_seen}
+use Rattle.sources.specs.Sources.{IsWellFormed, size_of, units_of}
+use Rattle.room.proofs.BaseSides.{side_from}
+use Rattle.room.proofs.base_levels.first_side.Given as goal
+
+-- no separator and no strong class outside of isolates is before the rest, and no more isolates are open than there are
+-- units before it
+abbrev pub invariant-loop-unit : goal.invariant-loop-unit
+invariant-loop-unit l = record {
+  well_formed : IsWellFormed (source_seen l.rest);
+  deep : l.depth + size_of (source_seen l.rest) ≤ size_of (source_seen l.source);
+  found : first_side (units_of l.tables (source_seen l.source)) ≡ side_from (units_of l.tables (source_seen l.rest)) l.depth;
+}
+
+abbrev pub decreases-loop-unit : goal.decreases-loop-unit
+decreases-loop-unit l = size_of (source_seen l.rest)

@@ -1,0 +1,470 @@
+//! Room for texts and their layouts.
+ghost use Rattle.std.specs.Prelude.{◌≡◌, length, IfOk};
+ghost use Rattle.std.specs.Box.{boxed_slice_items};
+
+use crate::decoded::decode;
+use crate::fault::LayoutFault;
+use crate::finding::find_indices;
+use crate::laying_out::{lay_out_decoded, lay_out_empty, lay_out_units, set_lines_of_units};
+use decoding::breaking::breaks_at;
+use decoding::indices::index_of;
+use lines::alone::SpanFault;
+use lines::breaks::Breaks;
+use lines::lay_out::line_alone_into;
+use lines::layout::Layout;
+use lines::scratch::{MOST, RoomFault, Scratch};
+use sources::class_numbers::{check_classes, fill_classes};
+use sources::codes::{check_codes, fill_codes};
+use sources::numbered_units::{NumberedUnit, check_units, fill_units};
+use sources::source::{Ask, Source};
+use std::alloc::{AllocError, Global};
+use std::boxed::BoxedSlice;
+use std::marker::Model;
+use std::mem::swap;
+use ucdfiles::tables::Tables;
+use units::bracket::{Bracket, Unit};
+use units::class::Class;
+use units::level::{Direction, Level, ParaLevel};
+use units::limits::Limits;
+
+/// A room for texts and their layouts, to be used again and again. It holds a text and its layout at all times, at
+/// first those of an empty text. Its columns don't grow.
+///
+/// A room without offsets holds texts of code points, classes and units, one with offsets holds all texts. Offsets, breaks and
+/// lengths are counted in the units of the text's source: code points, classes, bytes of UTF-8 or code units of UTF-16.
+#[derive(Drop)]
+pub struct Room {
+    pub(crate) scratch: Scratch,
+    pub(crate) units: BoxedSlice<Unit>,
+    spare_units: BoxedSlice<Unit>,
+    starts: BoxedSlice<u32>,
+    spare: BoxedSlice<u32>,
+    indices: BoxedSlice<usize>,
+    encodes: bool,
+    spelled: bool,
+    direction: Direction,
+    limits: Limits,
+}
+
+impl Model for Room {
+    ghost use Rattle.room.specs.Rooms.{RoomOf};
+
+    ghost Value = { RoomOf };
+
+    ghost use Rattle.room.specs.Insides.{seen, IsRoom};
+
+    ghost view = { seen };
+
+    ghost invariant = { IsRoom };
+}
+
+/// A column of units.
+fn unit_column(alloc: Global, n: usize) -> Result<BoxedSlice<Unit>, AllocError>
+    ensures { IfOk result (λ units. length (boxed_slice_items units) ≡ n) }
+{
+    let none = Unit {
+        class: Class::L,
+        bracket: Bracket::No,
+    };
+    Ok(Vec::from_elem(alloc, none, n)?.into_boxed_slice())
+}
+
+/// A column of offsets.
+fn offset_column(alloc: Global, n: usize) -> Result<BoxedSlice<u32>, AllocError>
+    ensures { IfOk result (λ starts. length (boxed_slice_items starts) ≡ n) }
+{
+    Ok(Vec::from_elem(alloc, 0, n)?.into_boxed_slice())
+}
+
+impl Room {
+    ghost use Rattle.std.specs.Prelude.{ℕ, true, ◌≡◌, ◌<◌, ◌≤◌, ◌↔◌, ◌-◌, Err, None, length, take};
+    ghost use Rattle.std.specs.Prelude.{IfOk, MatchOption, MatchResult, OnErr};
+    ghost use Rattle.std.specs.List.{All};
+    ghost use Rattle.units.specs.Layout.{longest_text, text_levels};
+    ghost use Rattle.ucdfiles.specs.Tables.{TablesOf};
+    ghost use Rattle.lines.specs.Layouts.{view_of};
+    ghost use Rattle.lines.specs.LinesAlone.{RefusesSpan};
+    ghost use Rattle.room.specs.OrderedLines.{LinesHaveOrder};
+    ghost use Rattle.room.specs.Leaving.{Leaves, SetsLines};
+    ghost use Rattle.room.specs.LinesAlone.{WritesCharacters};
+    ghost use Rattle.room.specs.Looking.{HasParaLevelOf, IsAt, size_in};
+    ghost use Rattle.room.specs.NewRooms.{new_room};
+    ghost use Rattle.room.specs.Rooms.{characters_in, offset_in};
+    ghost use Rattle.sources.specs.Seen.{source_seen};
+    ghost use Rattle.sources.specs.Sources.{Codes, Classes, IsEncoded, Units};
+
+    /// Makes a room for texts of up to `n` units, at most 16,777,216, code units only if it is to have offsets. It
+    /// holds the layout of an empty text.
+    ///
+    /// It takes 84 bytes for each unit, and 112 with offsets. Fails with `TooBig` exactly if `n` is greater than that,
+    /// else with `Memory` if there is not enough.
+    pub fn with_room(alloc: Global, n: usize, encodes: bool) -> Result<Room, RoomFault>
+        ensures made { IfOk result (λ room. room ≡ new_room n encodes) }
+        ensures too_big { (result ≡ Err RoomFault.TooBig) ↔ (longest_text < n) }
+    {
+        if n > MOST {
+            return Err(RoomFault::TooBig);
+        }
+        Room::reserve(alloc, n, encodes).map_err(|_| RoomFault::Memory)
+    }
+
+    /// Makes a room as `with_room` does, if `n` is known not to be too great.
+    pub fn reserve(alloc: Global, n: usize, encodes: bool) -> Result<Room, AllocError>
+        requires { n ≤ longest_text }
+        ensures { IfOk result (λ room. room ≡ new_room n encodes) }
+    {
+        let few = if encodes { n } else { 0 };
+        let units = unit_column(alloc, n)?;
+        let spare_units = unit_column(alloc, few)?;
+        let starts = offset_column(alloc, few + 1)?;
+        let spare = offset_column(alloc, few + 1)?;
+        let indices = Vec::from_elem(alloc, 0, few)?.into_boxed_slice();
+        let mut scratch = Scratch::reserve(alloc, n).map_err(|_| AllocError)?;
+        lay_out_empty(&mut scratch);
+        Ok(Room {
+            scratch,
+            units,
+            spare_units,
+            starts,
+            spare,
+            indices,
+            encodes,
+            spelled: false,
+            direction: Direction::Auto,
+            limits: Limits::standard(),
+        })
+    }
+
+    /// Returns how many units the longest text has that the room can hold.
+    pub fn capacity(&self) -> usize
+        ensures { result ≡ self.now.capacity }
+    {
+        self.scratch.room()
+    }
+
+    /// Returns whether it has offsets, so that it can hold texts in code units.
+    pub fn encodes(&self) -> bool
+        ensures { result ≡ self.now.encodes }
+    {
+        self.encodes
+    }
+
+    /// Lays out a text of code points.
+    // Inlined, a call on a short text takes fewer instructions.
+    #[inline(always)]
+    fn lay_out_codes(
+        &mut self,
+        tables: &Tables,
+        codes: &[u32],
+        direction: Direction,
+        breaks: &[usize],
+        limits: Limits,
+    ) -> Result<(), LayoutFault>
+        ensures { Leaves
+            (record { source = Codes codes.now; direction = direction; breaks = breaks.now; limits = limits })
+            tables.now self.old self.new result }
+    {
+        if self.scratch.room() < codes.len() {
+            return Err(LayoutFault::TooLong);
+        }
+        let breaks = match Breaks::new(breaks, codes.len()) {
+            Ok(breaks) => breaks,
+            Err(fault) => return Err(LayoutFault::Break(fault)),
+        };
+        if let Err(at) = check_codes(codes) {
+            return Err(LayoutFault::IllFormed(at));
+        }
+        fill_codes(&mut self.units, tables, codes);
+        let text = &self.units[..codes.len()];
+        lay_out_units(&mut self.scratch, text, direction, &breaks, limits);
+        self.spelled = false;
+        self.direction = direction;
+        self.limits = limits;
+        Ok(())
+    }
+
+    /// Lays out a text of these classes, by their numbers, as `lay_out` does. It needs no tables.
+    pub fn lay_out_classes(
+        &mut self,
+        numbers: &[u8],
+        direction: Direction,
+        breaks: &[usize],
+        limits: Limits,
+    ) -> Result<(), LayoutFault>
+        ensures { (tables : TablesOf) → Leaves
+            (record { source = Classes numbers.now; direction = direction; breaks = breaks.now; limits = limits })
+            tables self.old self.new result }
+    {
+        if self.scratch.room() < numbers.len() {
+            return Err(LayoutFault::TooLong);
+        }
+        let breaks = match Breaks::new(breaks, numbers.len()) {
+            Ok(breaks) => breaks,
+            Err(fault) => return Err(LayoutFault::Break(fault)),
+        };
+        if let Err(at) = check_classes(numbers) {
+            return Err(LayoutFault::IllFormed(at));
+        }
+        fill_classes(&mut self.units, numbers);
+        let text = &self.units[..numbers.len()];
+        lay_out_units(&mut self.scratch, text, direction, &breaks, limits);
+        self.spelled = false;
+        self.direction = direction;
+        self.limits = limits;
+        Ok(())
+    }
+
+    /// Lays out a text of these units, by their numbers, as `lay_out` does. It needs no tables.
+    pub fn lay_out_numbered(
+        &mut self,
+        numbered: &[NumberedUnit],
+        direction: Direction,
+        breaks: &[usize],
+        limits: Limits,
+    ) -> Result<(), LayoutFault>
+        ensures { (tables : TablesOf) → Leaves
+            (record { source = Units numbered.now; direction = direction; breaks = breaks.now; limits = limits })
+            tables self.old self.new result }
+    {
+        if self.scratch.room() < numbered.len() {
+            return Err(LayoutFault::TooLong);
+        }
+        let breaks = match Breaks::new(breaks, numbered.len()) {
+            Ok(breaks) => breaks,
+            Err(fault) => return Err(LayoutFault::Break(fault)),
+        };
+        if let Err(at) = check_units(numbered) {
+            return Err(LayoutFault::IllFormed(at));
+        }
+        fill_units(&mut self.units, numbered);
+        let text = &self.units[..numbered.len()];
+        lay_out_units(&mut self.scratch, text, direction, &breaks, limits);
+        self.spelled = false;
+        self.direction = direction;
+        self.limits = limits;
+        Ok(())
+    }
+
+    /// Lays out a text in code units.
+    fn lay_out_encoded(
+        &mut self,
+        tables: &Tables,
+        source: Source<'_>,
+        direction: Direction,
+        breaks: &[usize],
+        limits: Limits,
+    ) -> Result<(), LayoutFault>
+        requires { IsEncoded (source_seen source) }
+        ensures { Leaves
+            (record { source = source_seen source.entry; direction = direction; breaks = breaks.now; limits = limits })
+            tables.now self.old self.new result }
+    {
+        if !self.encodes {
+            return Err(LayoutFault::NoOffsets);
+        }
+        if self.scratch.room() < source.size() {
+            return Err(LayoutFault::TooLong);
+        }
+        let count = match decode(source, tables, &mut self.spare_units, &mut self.spare) {
+            Ok(count) => count,
+            Err(at) => return Err(LayoutFault::IllFormed(at)),
+        };
+        if let Err(fault) = lay_out_decoded(
+            &mut self.scratch,
+            &self.spare_units[..count],
+            &self.spare[..count + 1],
+            &mut self.indices,
+            breaks,
+            direction,
+            limits,
+        ) {
+            return Err(fault);
+        }
+        swap(&mut self.starts, &mut self.spare);
+        swap(&mut self.units, &mut self.spare_units);
+        self.spelled = true;
+        self.direction = direction;
+        self.limits = limits;
+        Ok(())
+    }
+
+    /// Lays out a text by the tables (P1 to L2). No memory is taken.
+    ///
+    /// Fails with `NoOffsets` if the text is one in code units and the room has no offsets; else with `TooLong` if it
+    /// has more units than the room can hold. Of all but code units the breaks are tested next, for `Break`, and
+    /// then the text, for `IllFormed`. Of code units the text is tested next, then the breaks for `Break`, and last for
+    /// `BreakInside`. If it fails, the room is unchanged.
+    // Inlined, a call on a short text takes fewer instructions.
+    #[inline(always)]
+    pub fn lay_out(&mut self, tables: &Tables, ask: &Ask<'_>) -> Result<(), LayoutFault>
+        ensures { Leaves ask.now tables.now self.old self.new result }
+    {
+        match ask.source {
+            Source::Codes(codes) => {
+                self.lay_out_codes(tables, codes, ask.direction, ask.breaks, ask.limits)
+            }
+            Source::Classes(numbers) => {
+                self.lay_out_classes(numbers, ask.direction, ask.breaks, ask.limits)
+            }
+            Source::Units(numbered) => {
+                self.lay_out_numbered(numbered, ask.direction, ask.breaks, ask.limits)
+            }
+            Source::Utf8(_, _) | Source::Utf16(_, _) => {
+                self.lay_out_encoded(tables, ask.source, ask.direction, ask.breaks, ask.limits)
+            }
+        }
+    }
+
+    /// Breaks the text that it holds into lines again (L1, L2), for callers that lay out a text, shape its runs, and
+    /// know only then where its lines end. The breaks are rising offsets in the units of the text's source, each of
+    /// them where a character begins, none of them 0. The text's direction and limits stay. No memory is taken.
+    ///
+    /// Fails with `Break`, else with `BreakInside`, for the first such break, and then the room is unchanged.
+    pub fn set_lines(&mut self, breaks: &[usize]) -> Result<(), LayoutFault>
+        ensures { SetsLines breaks.now self.old self.new result }
+    {
+        let count = self.characters();
+        if self.spelled {
+            if let Err(fault) = find_indices(&self.starts[..count + 1], breaks, &mut self.indices) {
+                return Err(fault);
+            }
+            let found = breaks_at(&self.indices[..breaks.len()], count);
+            set_lines_of_units(&mut self.scratch, &self.units[..count], &found);
+            return Ok(());
+        }
+        let found = match Breaks::new(breaks, count) {
+            Ok(found) => found,
+            Err(fault) => return Err(LayoutFault::Break(fault)),
+        };
+        set_lines_of_units(&mut self.scratch, &self.units[..count], &found);
+        Ok(())
+    }
+
+    /// Lays out one line alone of the text that it holds, of the characters from `first` up to `last`, as
+    /// `Scratch::line_alone` does, in positions of characters. What the room holds is unchanged.
+    pub(crate) fn line_of_characters(
+        &mut self,
+        first: usize,
+        last: usize,
+        levels: &mut [Option<Level>],
+        order: &mut [usize],
+    ) -> Result<usize, SpanFault>
+        requires levels { last - first ≤ length levels.old }
+        requires order { last - first ≤ length order.old }
+        ensures same { self.new ≡ self.old }
+        ensures line { MatchResult result
+            (WritesCharacters self.old first last levels.old levels.new order.old order.new)
+            (RefusesSpan self.old.text.units first last) }
+        ensures inside { IfOk result (λ shown. All (λ k. k < characters_in self.old) (take shown order.new)) }
+        ensures kept_levels { OnErr result (levels.new ≡ levels.old) }
+        ensures kept_order { OnErr result (order.new ≡ order.old) }
+    {
+        let count = self.characters();
+        let text = &self.units[..count];
+        line_alone_into(&mut self.scratch, text, first, last, levels, order)
+    }
+
+    /// Returns the layout, in positions of characters: the levels of its paragraphs and positions, and its lines.
+    pub fn layout(&self) -> Layout<'_>
+        ensures layout { view_of result ≡ self.now.layout }
+        ensures in_order { LinesHaveOrder (view_of result) }
+    {
+        self.scratch.layout()
+    }
+
+    /// Returns the level of each character before L1 (P1 to I2); a character that X9 removes has none.
+    pub fn resolved_levels(&self) -> &[Option<Level>]
+        ensures { result.now ≡ text_levels self.now.text.limits self.now.text.units self.now.text.direction }
+    {
+        self.scratch.resolved_levels()
+    }
+
+    /// Returns the class and the bracket of each character.
+    pub(crate) fn text_units(&self) -> &[Unit]
+        ensures units { result.now ≡ self.now.text.units }
+        ensures len { length result.now ≡ characters_in self.now }
+    {
+        self.units_are_characters();
+        &self.units[..self.characters()]
+    }
+
+    /// Returns the level of the paragraph (P2, P3) in which the character with the index `k` lies, found by a search
+    /// through the ends of the paragraphs.
+    pub fn para_level_of(&self, k: usize) -> ParaLevel
+        requires { k < characters_in self.now }
+        ensures { HasParaLevelOf self.now k result }
+    {
+        self.scratch.para_level_at(k)
+    }
+
+    /// Returns how many lines the text has; an empty text has none.
+    pub fn line_count(&self) -> usize
+        ensures { result ≡ length self.now.layout.lines }
+    {
+        self.scratch.layout().line_count()
+    }
+
+    /// Returns how many characters the text has.
+    pub fn characters(&self) -> usize
+        ensures { result ≡ characters_in self.now }
+    {
+        self.scratch.layout().levels().len()
+    }
+
+    /// Returns whether each character is one unit of the source, so that offsets are positions.
+    pub(crate) fn is_plain(&self) -> bool
+        ensures { result ≡ true → self.now.text.offsets ≡ None }
+    {
+        !self.spelled
+    }
+
+    /// Tells callers what holds for each room: the offsets of its characters rise, from 0 on.
+    pub fn offsets_rise(&self)
+        ensures first { offset_in self.now 0 ≡ 0 }
+        ensures rising { (j k : ℕ) → j < k → k ≤ characters_in self.now → offset_in self.now j < offset_in self.now k }
+    {
+        let _ = &self.scratch;
+    }
+
+    /// Tells callers what holds for each room: it can hold the text that it holds.
+    pub fn text_fits(&self)
+        ensures { size_in self.now ≤ self.now.capacity }
+    {
+        let _ = &self.scratch;
+    }
+
+    /// Tells callers what holds for each room: its text has a unit for each character.
+    pub fn units_are_characters(&self)
+        ensures { length self.now.text.units ≡ characters_in self.now }
+    {
+        let _ = &self.scratch;
+    }
+
+    /// Returns the offset at which the character with the index `k` begins, or for their number that of the text's end,
+    /// in the units of the source.
+    pub fn offset_of(&self, k: usize) -> usize
+        requires { k ≤ characters_in self.now }
+        ensures { result ≡ offset_in self.now k }
+    {
+        if self.spelled {
+            self.starts[k] as usize
+        } else {
+            k
+        }
+    }
+
+    /// Returns the index of the character that the unit of the source at an offset belongs to, none from the text's end
+    /// on.
+    pub fn index_of(&self, at: usize) -> Option<usize>
+        ensures { MatchOption result (offset_in self.now (characters_in self.now) ≤ at) (IsAt self.now at) }
+    {
+        let count = self.characters();
+        if self.spelled {
+            index_of(&self.starts[..count + 1], at)
+        } else if at < count {
+            Some(at)
+        } else {
+            None
+        }
+    }
+}

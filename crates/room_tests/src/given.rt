@@ -1,0 +1,28 @@
+//! What rooms are filled with: tables, and units that are no bracket.
+use std::alloc::Global;
+use ucdfiles::bracket_table::BracketTable;
+use ucdfiles::class_table::ClassTable;
+use ucdfiles::fault::TableFault;
+use ucdfiles::mirror_table::MirrorTable;
+use ucdfiles::small::{BRACKETS, CLASSES, MIRRORS};
+use ucdfiles::tables::Tables;
+use units::bracket::{Bracket, Unit};
+use units::class::Class;
+use units::slice_source::SliceSource;
+
+/// The tables of the small files.
+pub fn tables(alloc: Global) -> Result<Tables, TableFault> {
+    Ok(Tables::new(
+        ClassTable::read(alloc, &mut SliceSource::new(CLASSES))?,
+        BracketTable::read(alloc, &mut SliceSource::new(BRACKETS))?,
+        MirrorTable::read(alloc, &mut SliceSource::new(MIRRORS))?,
+    ))
+}
+
+/// A unit of this class that is no bracket.
+pub fn unit(class: Class) -> Unit {
+    Unit {
+        class,
+        bracket: Bracket::No,
+    }
+}

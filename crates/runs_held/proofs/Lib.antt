@@ -1,4 +1,0 @@
--- What the proofs share.
-mod RunLists
-pub mod LinesHeld
-mod EncodedRunLists

@@ -1,0 +1,2 @@
+pub mod FirstChars
+pub mod Nothing

@@ -1,0 +1,11 @@
+use Rattle.std.proofs.Common.{◌-◌, ◌<◌, ℕ, length}
+use Rattle.decoding.specs.Encodings.{IsPaired}
+use Rattle.decoding.proofs.Utf16Texts.{IsAt}
+use Rattle.sources.proofs.splitting.check_utf16.Given as goal
+
+-- some characters are passed, and none of them is a surrogate that is alone
+abbrev pub invariant-loop-at : goal.invariant-loop-at
+invariant-loop-at l = (count : ℕ) × IsAt l.text count l.at × ((k : ℕ) → k < count → IsPaired l.text k)
+
+abbrev pub decreases-loop-at : goal.decreases-loop-at
+decreases-loop-at l = length l.text - l.at

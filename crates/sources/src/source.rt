@@ -1,0 +1,73 @@
+//! What a caller asks for.
+ghost use Rattle.std.specs.Prelude.{◌≡◌};
+ghost use Rattle.sources.specs.Seen.{source_seen};
+ghost use Rattle.sources.specs.Sources.{size_of};
+
+use crate::numbered_units::NumberedUnit;
+use decoding::fault::Faults;
+use std::marker::Model;
+use units::level::Direction;
+use units::limits::Limits;
+
+/// A text as its caller has it. Its units are code points, classes, units by numbers or code units, and positions in it are counted in
+/// these.
+#[derive(Clone, Copy)]
+pub enum Source<'t> {
+    /// Code points. One that is no scalar value is a fault.
+    Codes(&'t [u32]),
+    /// Classes by their numbers, 0 to 22, in the order L, R, AL, EN, ES, ET, AN, CS, NSM, BN, B, S, WS, ON, LRE, LRO,
+    /// RLE, RLO, PDF, LRI, RLI, FSI, PDI. Each is a unit that is no bracket; a greater number is a fault.
+    Classes(&'t [u8]),
+    /// Units by the numbers of their classes and brackets. One with a number that is greater than any of these is a
+    /// fault.
+    Units(&'t [NumberedUnit]),
+    /// Bytes of UTF-8. If faults are replaced, each maximal subpart of what is no UTF-8 is read as U+FFFD: of the bytes
+    /// there, all that could begin a character, or else one.
+    Utf8(&'t [u8], Faults),
+    /// Code units of UTF-16. If faults are replaced, each surrogate that is alone is read as U+FFFD.
+    Utf16(&'t [u16], Faults),
+}
+
+impl<'t> Source<'t> {
+    /// Returns the number of its units.
+    pub fn size(self) -> usize
+        ensures { result ≡ size_of (source_seen self.entry) }
+    {
+        match self {
+            Source::Codes(codes) => codes.len(),
+            Source::Classes(numbers) => numbers.len(),
+            Source::Units(numbered) => numbered.len(),
+            Source::Utf8(bytes, _) => bytes.len(),
+            Source::Utf16(units, _) => units.len(),
+        }
+    }
+}
+
+/// A text, and how to lay it out.
+#[derive(Drop)]
+pub struct Ask<'t> {
+    /// The text.
+    pub source: Source<'t>,
+    /// The direction of its paragraphs.
+    pub direction: Direction,
+    /// Where new lines begin: rising offsets in the units of the source, each of them where a character begins, none of
+    /// them 0.
+    pub breaks: &'t [usize],
+    /// How deep explicit levels go (BD2), and how many brackets can be open at once (BD16).
+    pub limits: Limits,
+}
+
+impl<'t> Model for Ask<'t> {
+    ghost use Rattle.sources.specs.Asks.{AskOf};
+
+    ghost Value = { AskOf };
+
+    ghost use Rattle.sources.specs.Seen.{source_seen};
+
+    ghost view = { λ a. record {
+      source = source_seen a.source;
+      direction = a.direction;
+      breaks = a.breaks.now;
+      limits = a.limits;
+    } };
+}

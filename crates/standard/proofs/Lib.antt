@@ -1,0 +1,5 @@
+pub mod Numbering
+pub mod TestedBrackets
+pub mod TestedClasses
+pub mod TestedMirrors
+pub mod TestedTogether

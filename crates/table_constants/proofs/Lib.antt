@@ -1,0 +1,9 @@
+pub mod BracketConstants
+pub mod ClassConstants
+pub mod Faultless
+pub mod MirrorConstants
+pub mod NeutralConstants
+pub mod Numbered
+pub mod SpanSteps
+pub mod StageCheck
+pub mod Together

@@ -1,0 +1,67 @@
+//! Finds the library libbidi_c: in the folder that BIDI_LIB_DIR names, or else the one that pkg-config names. It links
+//! the archives if the folder has them, or else the shared object; BIDI_LINK, `static` or `shared`, chooses one.
+use std::env;
+use std::path::{Path, PathBuf};
+use std::process::Command;
+
+const VARIABLES: [&str; 4] = ["BIDI_LIB_DIR", "BIDI_LINK", "PKG_CONFIG", "PKG_CONFIG_PATH"];
+
+/// Returns the folder that pkg-config names.
+fn installed_folder() -> Result<PathBuf, String> {
+    let command = env::var("PKG_CONFIG").unwrap_or("pkg-config".to_string());
+    let output = Command::new(&command)
+        .args(["--print-errors", "--variable=libdir", "bidi_c"])
+        .output()
+        .map_err(|error| format!("no libbidi_c: set BIDI_LIB_DIR ({command}: {error})"))?;
+    let folder = String::from_utf8_lossy(&output.stdout).trim().to_string();
+    if !output.status.success() || folder.is_empty() {
+        let reason = String::from_utf8_lossy(&output.stderr).trim().to_string();
+        return Err(format!("no libbidi_c: set BIDI_LIB_DIR or PKG_CONFIG_PATH ({reason})"));
+    }
+    Ok(folder.into())
+}
+
+/// Says whether to link the archives of a folder, and not its shared object.
+fn links_archives(folder: &Path) -> Result<bool, String> {
+    let has = |names: &[&str]| names.iter().all(|name| folder.join(name).exists());
+    let archives = has(&["libbidi_c.a", "libbidi_c_heap.a"]);
+    let shared = has(&["libbidi_c.so"]);
+    match env::var("BIDI_LINK").unwrap_or_default().as_str() {
+        "" if archives => Ok(true),
+        "" if shared => Ok(false),
+        "" => Err(format!("neither libbidi_c.a with libbidi_c_heap.a nor libbidi_c.so in {}", folder.display())),
+        "static" if archives => Ok(true),
+        "static" => Err(format!("no libbidi_c.a and libbidi_c_heap.a in {}", folder.display())),
+        "shared" if shared => Ok(false),
+        "shared" => Err(format!("no libbidi_c.so in {}", folder.display())),
+        other => Err(format!("BIDI_LINK is `{other}`, neither `static` nor `shared`")),
+    }
+}
+
+/// Names the library for the linker.
+fn link() -> Result<(), String> {
+    println!("cargo:rerun-if-changed=build.rs");
+    for name in VARIABLES {
+        println!("cargo:rerun-if-env-changed={name}");
+    }
+    let folder = match env::var_os("BIDI_LIB_DIR") {
+        Some(folder) if !folder.is_empty() => PathBuf::from(folder),
+        _ => installed_folder()?,
+    };
+    let archives = links_archives(&folder)?;
+    println!("cargo:rustc-link-search=native={}", folder.display());
+    if archives {
+        println!("cargo:rustc-link-lib=static=bidi_c");
+        println!("cargo:rustc-link-lib=static=bidi_c_heap");
+    } else {
+        println!("cargo:rustc-link-lib=dylib=bidi_c");
+    }
+    Ok(())
+}
+
+fn main() {
+    if let Err(error) = link() {
+        eprintln!("{error}");
+        std::process::exit(1);
+    }
+}
