@@ -1,15 +1,13 @@
 -- Breaks at offsets are breaks at characters.
-use Rattle.std.proofs.Common.{◌≡◌, ℕ, ◌+◌, ◌-◌, ◌<◌, ◌≤◌, List, [], ◌∷◌, length, get_or, map, zero, suc, refl, sym, ap, ◌∙◌, inl, inr, subst, arith, rules}
+use Rattle.std.proofs.Common.{◌≡◌, ℕ, ◌+◌, ◌-◌, ◌<◌, ◌≤◌, List, [], ◌∷◌, length, zero, suc, sym, ap, ◌∙◌, inl, inr, subst, arith, rules}
 use Rattle.std.specs.Prelude.{slice_index, Result, Ok, Err, MatchResult, IsOk}
-use Rattle.std.specs.List.{All}
 use Rattle.std.proofs.lemmas.Bool.{cases_lt}
 use Rattle.std.proofs.lemmas.List.{get_or-map, length-map}
 use Rattle.lines.specs.LineBreaks.{AreBreaks, IsFirstBreakFault, IsInside}
 use Rattle.lines.specs.declared.breaks.BreakFault.{BreakFault}
 use Rattle.lines.specs.declared.breaks.BreakFault.TheVariants.{OutOfRange, NotRising}
-use Rattle.decoding.specs.BreakFaults.{IsFirstInside}
-use Rattle.decoding.specs.Offsets.{Spelled, AreStarts, code_units, offset_of}
-use Rattle.decoding.specs.Starts.{AreFound, AreOffsets, BeginsAt, IsFirstBetween}
+use Rattle.decoding.specs.Offsets.{Spelled, AreStarts, code_units}
+use Rattle.decoding.specs.Starts.{AreFound, AreOffsets}
 use Rattle.decoding.proofs.OffsetLemmas.{offset-end}
 
 -- right breaks have no fault
@@ -69,27 +67,6 @@ breaks_of_found starts breaks indices n o whole right f =
           (omega (arith, found_at starts breaks indices i f lt, found_at starts breaks indices (i - 1) f (omega (arith, lt)), right.rising i (omega (arith, lt, same)) later));
     }
 
--- a break that is none of the offsets stands inside a character
-pub first_inside : (text : List Spelled) (starts breaks : List ℕ) (index : ℕ) → length starts ≡ length text + 1 → AreStarts text starts → IsFirstBetween starts breaks index → IsFirstInside text breaks index
-first_inside text starts breaks index whole at f = record {
-  inside = f.inside;
-  between = λ b. f.between b.index (omega (arith, b.inside, whole)) (at b.index b.inside ∙ b.begins);
-  earlier = λ i lt. let e : BeginsAt starts (slice_index breaks i) = f.earlier i lt in
-      let inside : e.index ≤ length text = omega (arith, e.inside, whole) in
-      record { index = e.index; inside = inside; begins = sym (at e.index inside) ∙ e.begins };
-}
-
 -- the last offset is the number of code units
 pub last_start : (text : List Spelled) (starts : List ℕ) → AreStarts text starts → slice_index starts (length text) ≡ code_units text
 last_start text starts at = at (length text) (omega arith) ∙ offset-end text
-
--- what is alike at each item
-map_alike : (f g : ℕ → ℕ) (xs : List ℕ) → All (λ (x : ℕ). f x ≡ g x) xs → map f xs ≡ map g xs
-map_alike f g [] same = refl
-map_alike f g (x ∷ xs) same =
-    ap (λ (y : ℕ). y ∷ map f xs) (same 0 x (omega arith)) ∙ ap (λ (ys : List ℕ). g x ∷ ys) (map_alike f g xs (λ k d lt. same (suc k) d (omega (arith, lt))))
-
--- the breaks are the offsets of the characters that were found
-pub begin_of_found : (text : List Spelled) (starts breaks indices : List ℕ) → length starts ≡ length text + 1 → AreStarts text starts → AreFound starts breaks indices → map (offset_of text) indices ≡ breaks
-begin_of_found text starts breaks indices whole at f =
-    map_alike (offset_of text) (slice_index starts) indices (λ k d lt. sym (at (get_or indices k d) (omega (arith, f.inside k d lt, whole)))) ∙ f.found

@@ -5,4 +5,3 @@ pub mod Spelling
 pub mod LossyRows
 pub mod Decoded
 pub mod Starts
-pub mod BreakFaults
