@@ -1,5 +1,5 @@
 //! Room for texts and their layouts.
-ghost use Rattle.std.specs.Prelude.{◌≡◌, length, IfOk};
+ghost use Rattle.std.specs.Prelude.{◌≡◌, if◌then◌else◌, length, IfOk};
 ghost use Rattle.std.specs.Box.{boxed_slice_items};
 
 use crate::decoded::decode;
@@ -76,6 +76,13 @@ fn offset_column(alloc: Global, n: usize) -> Result<BoxedSlice<u32>, AllocError>
     Ok(Vec::from_elem(alloc, 0, n)?.into_boxed_slice())
 }
 
+/// Returns how many items a column has that only a room with offsets needs.
+fn items_if(encodes: bool, n: usize) -> usize
+    ensures { result ≡ (if encodes then n else 0) }
+{
+    if encodes { n } else { 0 }
+}
+
 impl Room {
     ghost use Rattle.std.specs.Prelude.{ℕ, true, ◌≡◌, ◌<◌, ◌≤◌, ◌↔◌, ◌-◌, Err, None, length, take};
     ghost use Rattle.std.specs.Prelude.{IfOk, MatchOption, MatchResult, OnErr};
@@ -113,11 +120,12 @@ impl Room {
         requires { n ≤ longest_text }
         ensures { IfOk result (λ room. room ≡ new_room n encodes) }
     {
-        let few = if encodes { n } else { 0 };
+        let few = items_if(encodes, n);
+        let offsets = items_if(encodes, n + 1);
         let units = unit_column(alloc, n)?;
         let spare_units = unit_column(alloc, few)?;
-        let starts = offset_column(alloc, few + 1)?;
-        let spare = offset_column(alloc, few + 1)?;
+        let starts = offset_column(alloc, offsets)?;
+        let spare = offset_column(alloc, offsets)?;
         let indices = Vec::from_elem(alloc, 0, few)?.into_boxed_slice();
         let mut scratch = Scratch::reserve(alloc, n).map_err(|_| AllocError)?;
         lay_out_empty(&mut scratch);
