@@ -1,7 +1,6 @@
 pub mod BaseLevels
 pub mod Boundaries
 pub mod Insides
-pub mod LaidOut
 pub mod Leaving
 pub mod Levels
 pub mod LinesAlone

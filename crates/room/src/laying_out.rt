@@ -1,19 +1,12 @@
 //! Units laid out in a scratch that has capacity for them.
-ghost use Rattle.std.specs.Prelude.{◌≡◌, ◌≤◌, ◌+◌, [], length, slice_index, IfErr, OnErr, OnOk};
+ghost use Rattle.std.specs.Prelude.{◌≡◌, ◌≤◌, [], length};
 ghost use Rattle.units.specs.Layout.{layout_of};
 ghost use Rattle.units.specs.Limits.{standard};
 ghost use Rattle.units.specs.declared.level.Direction.TheVariants.{Auto};
-ghost use Rattle.lines.specs.LineBreaks.{AreBreaks};
 ghost use Rattle.lines.specs.Scratches.{room_of, layout_in, HoldsSomeLayoutOf, HoldsText, IsBrokenAnew, IsFilled};
 ghost use Rattle.lines.specs.Scratches.{StillHoldsText};
-ghost use Rattle.decoding.specs.Starts.{AreOffsets};
-ghost use Rattle.room.specs.Boundaries.{RejectsBreaks};
-ghost use Rattle.room.specs.LaidOut.{IsLaidOutAt};
 ghost use Rattle.room.specs.OrderedLines.{LinesHaveOrder};
 
-use crate::fault::LayoutFault;
-use crate::finding::find_indices;
-use decoding::breaking::breaks_at;
 use lines::breaks::Breaks;
 use lines::lay_out::{break_anew_into, lay_out_into_with};
 use lines::scratch::Scratch;
@@ -64,32 +57,4 @@ pub(crate) fn lay_out_empty(scratch: &mut Scratch)
     if let Ok(breaks) = Breaks::new(&[], 0) {
         lay_out_units(scratch, &[], Direction::Auto, &breaks, Limits::standard());
     }
-}
-
-/// Lays out units that begin at these offsets, broken at those that begin at the breaks.
-pub(crate) fn lay_out_decoded(
-    scratch: &mut Scratch,
-    units: &[Unit],
-    starts: &[u32],
-    indices: &mut [usize],
-    breaks: &[usize],
-    direction: Direction,
-    limits: Limits,
-) -> Result<(), LayoutFault>
-    requires each { length starts.now ≡ length units.now + 1 }
-    requires offsets { AreOffsets (length units.now) starts.now }
-    requires fits { length units.now ≤ room_of scratch.old }
-    requires places { slice_index starts.now (length units.now) ≤ length indices.old }
-    ensures len { length indices.new ≡ length indices.old }
-    ensures room { room_of scratch.new ≡ room_of scratch.old }
-    ensures kept { OnErr result (scratch.new ≡ scratch.old) }
-    ensures rejected { IfErr result (RejectsBreaks (slice_index starts.now) (length units.now)
-        (slice_index starts.now (length units.now)) breaks.now) }
-    ensures rising { OnOk result (AreBreaks breaks.now (slice_index starts.now (length units.now))) }
-    ensures laid_out { OnOk result (IsLaidOutAt limits units.now direction starts.now breaks.now scratch.new) }
-{
-    find_indices(starts, breaks, indices)?;
-    let found = breaks_at(&indices[..breaks.len()], units.len());
-    lay_out_units(scratch, units, direction, &found, limits);
-    Ok(())
 }

@@ -5,7 +5,7 @@ ghost use Rattle.std.specs.Box.{boxed_slice_items};
 use crate::decoded::decode;
 use crate::fault::LayoutFault;
 use crate::finding::find_indices;
-use crate::laying_out::{lay_out_decoded, lay_out_empty, lay_out_units, set_lines_of_units};
+use crate::laying_out::{lay_out_empty, lay_out_units, set_lines_of_units};
 use decoding::breaking::breaks_at;
 use decoding::indices::index_of;
 use lines::alone::SpanFault;
@@ -277,17 +277,12 @@ impl Room {
             Ok(count) => count,
             Err(at) => return Err(LayoutFault::IllFormed(at)),
         };
-        if let Err(fault) = lay_out_decoded(
-            &mut self.scratch,
-            &self.spare_units[..count],
-            &self.spare[..count + 1],
-            &mut self.indices,
-            breaks,
-            direction,
-            limits,
-        ) {
+        if let Err(fault) = find_indices(&self.spare[..count + 1], breaks, &mut self.indices) {
             return Err(fault);
         }
+        let found = breaks_at(&self.indices[..breaks.len()], count);
+        let text = &self.spare_units[..count];
+        lay_out_units(&mut self.scratch, text, direction, &found, limits);
         swap(&mut self.starts, &mut self.spare);
         swap(&mut self.units, &mut self.spare_units);
         self.spelled = true;

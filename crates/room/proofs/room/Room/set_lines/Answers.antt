@@ -35,7 +35,7 @@ invariant_of-self c =
     let other = record self { indices = boxed_slice_with_items self.indices c.find_indices.new.indices } in
     let long : IsAsLong self other =
     record { spare_units = refl; spare = refl; indices = ap length (refilled self.indices c.find_indices.new.indices indices_len) ∙ indices_len } in
-    is_room_still self other self.scratch refl long c.self.invariant
+    is_room_still self other long c.self.invariant
 
 pub returns-in-Err : goal.returns-in-Err
 returns-in-Err c =
