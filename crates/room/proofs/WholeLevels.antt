@@ -1,5 +1,5 @@
 -- The levels of all characters, one after another.
-use Rattle.std.proofs.Common.{◌≡◌, ◌∙◌, ◌≢◌, ℕ, suc, ◌+◌, ◌-◌, ◌<◌, Bool, true, false, List, ap, arith, get_or, inl, inr, length, refl, set, subst, sym}
+use Rattle.std.proofs.Common.{◌≡◌, ◌∙◌, ◌≢◌, ℕ, suc, ◌+◌, ◌-◌, ◌<◌, ◌≤◌, Bool, true, false, List, ap, arith, get_or, inl, inr, length, refl, set, subst, sym}
 use Rattle.std.specs.Prelude.{◌==◌, if◌then◌else◌, slice_index}
 use Rattle.std.proofs.lemmas.Bool.{cases_lt}
 use Rattle.std.proofs.lemmas.List.{get_or-map, get_or-set_other, get_or-set_same, length-map}
@@ -11,7 +11,15 @@ use Rattle.units.specs.declared.class.Class.TheVariants.{L}
 use Rattle.lines.specs.Spaces.{resets_before}
 use Rattle.lines.proofs.LineEnd.{resets_at, resets_at-suc}
 use Rattle.room.specs.Rooms.{RoomOf}
-use Rattle.room.specs.WholeLevels.{AreMarked, AreWholeUpTo, trails, whole_level}
+use Rattle.room.specs.WholeLevels.{trails, whole_level}
+
+-- the positions from this one on are marked with 1 if only white space comes from them on, else with 0
+abbrev pub AreMarkedFrom : List Class → ℕ → List ℕ → Type 0
+AreMarkedFrom own from marks = (k : ℕ) → from ≤ k → k < length own → slice_index marks k ≡ (if trails own k then 1 else 0)
+
+-- these are the levels of the first n characters
+abbrev pub AreWholeUpTo : RoomOf → ℕ → List ℕ → Type 0
+AreWholeUpTo room n levels = (k : ℕ) → k < n → slice_index levels k ≡ whole_level room (slice_index levels (k - 1)) k
 
 -- what a read past the end gives
 abbrev pub no_unit : BidiUnit
@@ -34,7 +42,7 @@ trails_before us k trailing lt next =
 
 -- one mark more
 pub marked_more : (own : List Class) (k : ℕ) (trailing : Bool) (mark : ℕ) (marks : List ℕ) → k < length marks → mark ≡ (if trailing then 1 else 0) → trailing ≡ trails own k
-    → AreMarked own (k + 1) marks → AreMarked own k (set marks k mark)
+    → AreMarkedFrom own (k + 1) marks → AreMarkedFrom own k (set marks k mark)
 marked_more own k trailing mark marks lt is does are = λ q from low. elim (cases_lt k q) [
   | inl above ↦ let other : q ≢ k = omega (arith, above) in get_or-set_other marks k q mark 0 other ∙ are q (omega (arith, above)) low
   | inr under ↦

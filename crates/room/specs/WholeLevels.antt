@@ -1,5 +1,5 @@
 -- The levels of all characters, those included that X9 removes.
-use Rattle.std.specs.Prelude.{ℕ, Bool, ◌≡◌, ◌<◌, ◌≤◌, ◌-◌, ◌==◌, ◌||◌, if◌then◌else◌, None, List, length, slice_index, slice_index_or}
+use Rattle.std.specs.Prelude.{ℕ, Bool, ◌≡◌, ◌<◌, ◌-◌, ◌==◌, ◌||◌, if◌then◌else◌, None, List, length, slice_index, slice_index_or}
 use Rattle.std.specs.Option.{unwrap_or}
 use Rattle.units.specs.Classes.{class_at, classes_of, is_separator}
 use Rattle.units.specs.Layout.{para_levels_of}
@@ -34,14 +34,15 @@ removed_level room before k =
 abbrev pub whole_level : RoomOf → ℕ → ℕ → ℕ
 whole_level room before k = unwrap_or (slice_index_or room.layout.levels k None) (removed_level room before k)
 
--- these are the levels of the first n characters
-abbrev pub AreWholeUpTo : RoomOf → ℕ → List ℕ → Type 0
-AreWholeUpTo room n levels = (k : ℕ) → k < n → slice_index levels k ≡ whole_level room (slice_index levels (k - 1)) k
+-- these are the levels of all characters, each its own or, from the one before it, the one that it is given
+abbrev pub AreWholeLevels : RoomOf → List ℕ → Type 0
+AreWholeLevels room levels =
+    (k : ℕ) → k < characters_in room → slice_index levels k ≡ whole_level room (slice_index levels (k - 1)) k
 
 -- the characters are counted, and the levels of all are written whole or not at all
 abbrev pub WritesWholeLevels : RoomOf → ℕ → List ℕ → List ℕ → Type 0
-WritesWholeLevels room counted old new = Writes (characters_in room) (AreWholeUpTo room (characters_in room)) counted old new
+WritesWholeLevels room counted old new = Writes (characters_in room) (AreWholeLevels room) counted old new
 
--- L1: from the position on each is marked with 1 if only white space comes from it on, else with 0
-abbrev pub AreMarked : List Class → ℕ → List ℕ → Type 0
-AreMarked own from marks = (k : ℕ) → from ≤ k → k < length own → slice_index marks k ≡ (if trails own k then 1 else 0)
+-- L1: each position is marked with 1 if only white space comes from it on, else with 0
+abbrev pub AreMarked : List Class → List ℕ → Type 0
+AreMarked own marks = (k : ℕ) → k < length own → slice_index marks k ≡ (if trails own k then 1 else 0)

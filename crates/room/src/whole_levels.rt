@@ -20,13 +20,13 @@ impl Room {
     ghost use Rattle.std.specs.Prelude.{ℕ, ◌≡◌, ◌<◌, None, if◌then◌else◌, length, slice_index, slice_index_or};
     ghost use Rattle.units.specs.Classes.{classes_of};
     ghost use Rattle.room.specs.Rooms.{characters_in};
-    ghost use Rattle.room.specs.WholeLevels.{AreMarked, AreWholeUpTo, WritesWholeLevels, removed_level, trails, whole_level};
+    ghost use Rattle.room.specs.WholeLevels.{AreMarked, AreWholeLevels, WritesWholeLevels, removed_level, trails, whole_level};
 
     /// Writes 1 for each character from which on only white space comes (L1), 0 for the others.
     fn mark_trailing(&self, out: &mut [u8])
         requires { length out.old ≡ characters_in self.now }
         ensures len { length out.new ≡ length out.old }
-        ensures marks { AreMarked (classes_of self.now.text.units) 0 out.new }
+        ensures marks { AreMarked (classes_of self.now.text.units) out.new }
     {
         let units = self.text_units();
         let mut trailing = true;
@@ -66,7 +66,7 @@ impl Room {
     fn fill_whole_levels(&self, out: &mut [u8])
         requires { length out.old ≡ characters_in self.now }
         ensures len { length out.new ≡ length out.old }
-        ensures levels { AreWholeUpTo self.now (characters_in self.now) out.new }
+        ensures levels { AreWholeLevels self.now out.new }
     {
         self.units_are_characters();
         self.mark_trailing(out);

@@ -4,8 +4,8 @@ use Rattle.units.specs.Classes.{classes_of}
 use Rattle.units.specs.declared.bracket.Unit.{Unit as BidiUnit}
 use Rattle.units.specs.declared.class.Class.{Class}
 use Rattle.lines.proofs.BoolBytes.{bool_byte-is}
-use Rattle.room.specs.WholeLevels.{AreMarked, trails}
-use Rattle.room.proofs.WholeLevels.{marked_more, trails_before}
+use Rattle.room.specs.WholeLevels.{trails}
+use Rattle.room.proofs.WholeLevels.{AreMarkedFrom, marked_more, trails_before}
 use Rattle.room.proofs.room.Room.mark_trailing.Goals as goal
 
 pub loop-k-preserved : goal.loop-k-preserved
@@ -25,5 +25,8 @@ loop-k-preserved c =
       len = length-set l.out k c.from.result ∙ l.invariant.len;
       trailing = does;
       marked = marked_more own k c.resets_spaces_before-trailing.result c.from.result l.out (omega (arith, l.invariant.len)) (c.from.ensures ∙ bool_byte-is c.resets_spaces_before-trailing.result) does
-          (subst (λ (m : ℕ). AreMarked own m l.out) n l.invariant.marked);
+          (subst (λ (m : ℕ). AreMarkedFrom own m l.out) n l.invariant.marked);
     }
+
+pub returns-clause-marks : goal.returns-clause-marks
+returns-clause-marks c = λ k low. c.loop-k.invariant.marked k (omega arith) low
