@@ -1,8 +1,8 @@
 -- The runs of a line are as many, in whatever way they are found.
-use Rattle.std.proofs.Common.{◌≡◌, ◌≢◌, ℕ, ◌<◌, ◌≤◌, Bool, true, false, List, [], ◌∷◌, length, map, zero, suc, refl, sym, ◌∙◌, arith, subst, inl, inr}
+use Rattle.std.proofs.Common.{◌≡◌, ◌≢◌, ℕ, ◌+◌, ◌-◌, ◌<◌, ◌≤◌, Bool, true, false, List, [], ◌∷◌, length, map, zero, suc, refl, sym, ◌∙◌, arith, subst, inl, inr}
 use Rattle.std.specs.Prelude.{◌||◌, nat_eq}
 use Rattle.std.proofs.Math.Bool.{or-true}
-use Rattle.std.proofs.lemmas.Bool.{eq-eqb}
+use Rattle.std.proofs.lemmas.Bool.{cases_lt, eq-eqb}
 use Rattle.std.proofs.lemmas.Bool.Decides.{eqb_tells}
 use Rattle.std.proofs.lemmas.Cmp.{nat_eq_equiv}
 use Rattle.std.proofs.lemmas.List.{length-map}
@@ -10,8 +10,10 @@ use Rattle.std.proofs.lemmas.Map.Keys.{IsDistinct-cons}
 use Rattle.std.proofs.lemmas.Map.Made.{length-le_from_is_member}
 use Rattle.std.specs.List.{AllByRecursion, IsDistinct}
 use Rattle.std.specs.Set.{is_member}
+use Rattle.units.specs.Positions.{positions_from}
+use Rattle.units.proofs.Positions.{length-positions_from}
 use Rattle.visual.specs.VisualRuns.{Covers, IsLevelRun}
-use Rattle.visual.specs.LineRuns.{AreRunsOf, run_numbered}
+use Rattle.visual.specs.LineRuns.{AreRunsOf, HasAtMost, HasRuns, run_numbered}
 use Rattle.visual.specs.declared.line.OrderedLine.{OrderedLine}
 use Rattle.visual.specs.declared.runs.VisualRun.{VisualRun}
 use Rattle.visual.proofs.Partition.{run_at, same_span}
@@ -74,12 +76,14 @@ level_run line runs k are lt =
     let t = run_at line 0 runs (length line.order.now) k are.stand lt in
     t.2.level
 
-no_more : (line : OrderedLine) (runs others : List VisualRun) → AreRunsOf line runs → AreRunsOf line others → length runs ≤ length others
-no_more line runs others are too =
-    let apart : (i j : ℕ) → i < j → j < length runs → (run_numbered runs i).start ≢ (run_numbered runs j).start = λ i j lt within same.
+starts_apart : (line : OrderedLine) (runs : List VisualRun) → AreRunsOf line runs → (i j : ℕ) → i < j → j < length runs → (run_numbered runs i).start ≢ (run_numbered runs j).start
+starts_apart line runs are i j lt within same =
     let a = level_run line runs i are (omega (arith, lt, within)) in
     let b = level_run line runs j are within in
-    are.apart i j (run_numbered runs i).start lt within (omega arith, a.some) (omega (arith, same), omega (arith, same, b.some)) in
+    are.apart i j (run_numbered runs i).start lt within (omega arith, a.some) (omega (arith, same), omega (arith, same, b.some))
+
+no_more : (line : OrderedLine) (runs others : List VisualRun) → AreRunsOf line runs → AreRunsOf line others → length runs ≤ length others
+no_more line runs others are too =
     let other : (q : ℕ) → is_member nat_eq (starts runs) q ≡ true → is_member nat_eq (starts others) q ≡ true = λ q h.
     let m = start_of runs q h in
     let r = level_run line runs m.0 are m.1 in
@@ -89,9 +93,36 @@ no_more line runs others are too =
     let same : (run_numbered others t.0).start ≡ q =
     sym (same_start line (run_numbered runs m.0) (run_numbered others t.0) q r o c t.2) ∙ m.2 in
     subst (λ (n : ℕ). is_member nat_eq (starts others) n ≡ true) same (is_start others t.0 t.1) in
-    let few = length-le_from_is_member nat_eq_equiv (starts runs) (starts others) (distinct runs apart) other in
+    let few = length-le_from_is_member nat_eq_equiv (starts runs) (starts others) (distinct runs (starts_apart line runs are)) other in
     omega (arith, few, length-map runs (λ (run : VisualRun). run.start), length-map others (λ (run : VisualRun). run.start))
 
 -- two lists of all runs of a line are equally long
 pub same_count : (line : OrderedLine) (runs others : List VisualRun) → AreRunsOf line runs → AreRunsOf line others → length runs ≡ length others
 same_count line runs others are too = omega (arith, no_more line runs others are too, no_more line others runs too are)
+
+-- a line has no other number of runs
+pub at_most : (line : OrderedLine) (count most : ℕ) → HasRuns line count → count ≤ most → HasAtMost line most
+at_most line count most has le runs are = omega (arith, le, has.counted, same_count line runs has.runs are has.are)
+
+-- the position is one of these
+is_position : (start count q : ℕ) → start ≤ q → q < start + count → is_member nat_eq (positions_from start count) q ≡ true
+is_position start zero q le lt = absurd (omega (arith, le, lt))
+is_position start (suc count) q le lt =
+    let others = positions_from (start + 1) count in
+    elim (cases_lt start q) [
+      | inl below ↦
+          let rest : is_member nat_eq others q ≡ true = is_position (start + 1) count q (omega (arith, below)) (omega (arith, lt)) in
+          subst (λ (b : Bool). (nat_eq q start || b) ≡ true) (sym rest) (or-true (nat_eq q start))
+      | inr above ↦ subst (λ (b : Bool). (b || is_member nat_eq others q) ≡ true) (sym (eq-eqb q start (omega (arith, above, le)))) refl
+    ]
+
+-- a line has no more runs than positions
+pub few_runs : (line : OrderedLine) → HasAtMost line (line.end - line.start)
+few_runs line runs are =
+    let positions = positions_from line.start (line.end - line.start) in
+    let other : (q : ℕ) → is_member nat_eq (starts runs) q ≡ true → is_member nat_eq positions q ≡ true = λ q h.
+    let m = start_of runs q h in
+    let r = level_run line runs m.0 are m.1 in
+    is_position line.start (line.end - line.start) q (omega (arith, m.2, r.from)) (omega (arith, m.2, r.from, r.some, r.within)) in
+    let few = length-le_from_is_member nat_eq_equiv (starts runs) positions (distinct runs (starts_apart line runs are)) other in
+    omega (arith, few, length-map runs (λ (run : VisualRun). run.start), length-positions_from line.start (line.end - line.start))

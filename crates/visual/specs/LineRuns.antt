@@ -1,9 +1,9 @@
 -- All runs of a line.
-use Rattle.std.specs.Prelude.{ℕ, ◌≡◌, ◌<◌, ◌≤◌, ◌+◌, Option, MatchOption, List, [], ◌∷◌, length, slice_index_or, take}
+use Rattle.std.specs.Prelude.{ℕ, ◌≡◌, ◌<◌, ◌≤◌, ◌+◌, Option, MatchOption, List, [], ◌∷◌, length, slice_index_or}
 use Rattle.units.specs.Isolates.{level_of_para}
 use Rattle.lines.specs.LinePositions.{HasLevel}
 use Rattle.visual.specs.Spans.{AllRemoved}
-use Rattle.visual.specs.VisualRuns.{Covers, IsInOrder, IsRunAt, end_place}
+use Rattle.visual.specs.VisualRuns.{Covers, IsRunAt, end_place}
 use Rattle.visual.specs.declared.line.OrderedLine.{OrderedLine}
 use Rattle.visual.specs.declared.runs.VisualRun.{VisualRun}
 
@@ -27,12 +27,15 @@ pub record AreRunsOf (line : OrderedLine) (runs : List VisualRun) : Type 0 where
   pub covered : (p : ℕ) → line.start ≤ p → p < line.end → (k : ℕ) × (k < length runs) × Covers (run_numbered runs k) p
   pub apart : (i j p : ℕ) → i < j → j < length runs → Covers (run_numbered runs i) p → Covers (run_numbered runs j) p → ⊥
 
--- the runs of the line are counted, and written if all fit
-pub record WritesRuns (line : OrderedLine) (count : ℕ) (out : List VisualRun) : Type 0 where
+-- the line has so many runs
+pub record HasRuns (line : OrderedLine) (count : ℕ) : Type 0 where
   pub runs : List VisualRun
-  pub are : IsInOrder line → AreRunsOf line runs
+  pub are : AreRunsOf line runs
   pub counted : count ≡ length runs
-  pub written : count ≤ length out → take count out ≡ runs
+
+-- the line has no more runs than these
+abbrev pub HasAtMost : OrderedLine → ℕ → Type 0
+HasAtMost line most = (runs : List VisualRun) → AreRunsOf line runs → length runs ≤ most
 
 -- the run of the removed positions at the line's end: it stands left of all others where the paragraph's level is 1, else
 -- right of them

@@ -1,8 +1,8 @@
 //! All runs of a line, one after another.
-ghost use Rattle.std.specs.Prelude.{◌≡◌, ◌≤◌, ◌<◌, true, length, slice_set};
-ghost use Rattle.visual.specs.LineRuns.{WritesRuns};
+ghost use Rattle.std.specs.Prelude.{◌≡◌, ◌≤◌, ◌<◌, true, length, slice_set, MatchOption};
+ghost use Rattle.visual.specs.LineRuns.{HasAtMost, HasRuns};
 ghost use Rattle.visual.specs.Spans.{BeginsAt};
-ghost use Rattle.visual.specs.VisualRuns.{end_place};
+ghost use Rattle.visual.specs.VisualRuns.{IsInOrder, end_place};
 
 use crate::line::OrderedLine;
 use crate::runs::VisualRun;
@@ -83,28 +83,36 @@ impl<'a> Iterator for Runs<'a> {
     }
 }
 
-/// Writes what is told of a run behind so many others, if there is a place for it.
-pub fn put<T: Copy>(out: &mut [T], count: usize, told: T)
-    ensures { out.new ≡ slice_set out.old count told }
+/// Writes an item for a run after so many others, if there is a place for it.
+pub fn put<T: Copy>(out: &mut [T], count: usize, item: T)
+    ensures { out.new ≡ slice_set out.old count item }
 {
     if count < out.len() {
-        out[count] = told;
+        out[count] = item;
     }
 }
 
-/// Writes the runs of a line from left to right to the front of `out`, if all fit there. It answers how many they are.
-///
-/// The runs have each position of the line once, removed ones included, and those that remain stand as they do in its
-/// order. The one that shows nothing, if there is such, is the first where the paragraph's level is 1, and else the
-/// last. It takes time in proportion to the line's length.
-pub fn write_runs(line: OrderedLine<'_>, out: &mut [VisualRun]) -> usize
-    ensures len { length out.new ≡ length out.old }
-    ensures runs { WritesRuns line.entry result out.new }
+/// Returns how many runs a line has. It takes time in proportion to the line's length.
+pub fn run_count(line: &OrderedLine<'_>) -> usize
+    requires { IsInOrder line.now }
+    ensures { HasRuns line.now result }
 {
     let mut count = 0;
-    for run in Runs::of(line) {
-        put(out, count, run);
+    for _run in Runs::of(*line) {
         count += 1;
     }
     count
+}
+
+/// Returns how many runs a line has, if they are more than `items`. A line of no more positions than that has no more
+/// runs, so they are not counted then.
+pub fn runs_above(line: &OrderedLine<'_>, items: usize) -> Option<usize>
+    requires { IsInOrder line.now }
+    ensures { MatchOption result (HasAtMost line.now items) (λ count. (items < count) × HasRuns line.now count) }
+{
+    if line.end - line.start <= items {
+        return None;
+    }
+    let count = run_count(line);
+    if items < count { Some(count) } else { None }
 }
