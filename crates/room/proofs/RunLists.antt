@@ -1,14 +1,13 @@
 -- Runs of a line, one after another, in the units of the source.
 use Rattle.std.proofs.Common.{◌≡◌, ℕ, ◌+◌, ◌<◌, ◌≤◌, List, [], ◌∷◌, ◌++◌, length, map, take, drop, refl, subst, sym, ap, ◌∙◌, arith}
-use Rattle.std.proofs.Math.Seq.{take-length, take-append_seam, drop-append_seam}
 use Rattle.std.proofs.lemmas.List.{length-map, map-append}
 use Rattle.units.specs.declared.level.ParaLevel.{ParaLevel}
+use Rattle.visual.specs.LineRuns.{HasAtMost, HasRuns}
 use Rattle.visual.specs.NextRuns.{IsNextRun}
 use Rattle.visual.specs.VisualRuns.{IsInOrder, IsRunAt}
 use Rattle.visual.specs.declared.line.OrderedLine.{OrderedLine}
 use Rattle.visual.specs.declared.line_runs.Runs.{Runs}
 use Rattle.visual.specs.declared.runs.VisualRun.{VisualRun}
-use Rattle.visual.proofs.SameCount.{same_count}
 use Rattle.visual.proofs.Walked.{AreGiven}
 use Rattle.room.specs.Looking.{HasParaLevelOf}
 use Rattle.room.specs.Rooms.{RoomOf}
@@ -48,37 +47,34 @@ line_of_layout room k start para line is begins level = record {
 
 module _ (room : RoomOf) (k : ℕ) (line : OrderedLine) (of : IsLineOf room k line) where
   -- all runs of the line are written
-  pub all_put : (count again : ℕ) (old counting filled : List VisualRun) → PutsRuns room line count counting → PutsRuns room line again filled
-      → length filled ≡ count → count ≤ length old → WritesRuns room k count old (filled ++ drop count old)
-  all_put count again old counting filled first then len fits =
-      let n : length (map (run_in room) then.runs) ≡ count =
-      length-map then.runs (run_in room) ∙ sym (same_count line first.runs then.runs first.are then.are) ∙ sym first.counted in
-      let whole : again ≡ length filled = omega (arith, then.counted, n, len, length-map then.runs (run_in room)) in
-      let all : filled ≡ map (run_in room) then.runs = sym (take-length filled) ∙ ap (λ (m : ℕ). take m filled) (sym whole) ∙ then.written (omega (arith, whole)) in
+  pub all_put : (count : ℕ) (old new : List VisualRun) → PutsRuns room line count old new → length new ≡ length old → HasAtMost line (length old) → WritesRuns room k count old new
+  all_put count old new puts len few =
+      let n : length (map (run_in room) puts.runs) ≡ count = length-map puts.runs (run_in room) ∙ sym puts.counted in
+      let fits : length puts.runs ≤ length old = few puts.runs puts.are in
       record {
         line = line;
         is = of.is;
         para = of.para;
-        runs = then.runs;
-        are = then.are;
+        runs = puts.runs;
+        are = puts.are;
         writes = record {
           count = sym n;
-          written = λ _. ap (λ (m : ℕ). take m (filled ++ drop count old)) (n ∙ sym len) ∙ take-append_seam filled (drop count old) ∙ all;
-          behind = ap (λ (m : ℕ). drop m (filled ++ drop count old)) (n ∙ sym len) ∙ drop-append_seam filled (drop count old) ∙ ap (λ (m : ℕ). drop m old) (sym n);
-          kept = λ few. absurd (omega (arith, few, fits, n));
+          written = λ _. ap (λ (m : ℕ). take m new) n ∙ puts.written (omega (arith, puts.counted, fits, len));
+          behind = ap (λ (m : ℕ). drop m new) n ∙ puts.behind ∙ ap (λ (m : ℕ). drop m old) (sym n);
+          kept = λ short. absurd (omega (arith, short, fits, puts.counted, n));
         };
       }
 
   -- none is
-  pub none_put : (count : ℕ) (old counting : List VisualRun) → PutsRuns room line count counting → length old < count → WritesRuns room k count old old
-  none_put count old counting first few =
-      let n : length (map (run_in room) first.runs) ≡ count = length-map first.runs (run_in room) ∙ sym first.counted in
+  pub none_put : (count : ℕ) (old : List VisualRun) → HasRuns line count → length old < count → WritesRuns room k count old old
+  none_put count old has few =
+      let n : length (map (run_in room) has.runs) ≡ count = length-map has.runs (run_in room) ∙ sym has.counted in
       record {
         line = line;
         is = of.is;
         para = of.para;
-        runs = first.runs;
-        are = first.are;
+        runs = has.runs;
+        are = has.are;
         writes = record {
           count = sym n;
           written = λ fits. absurd (omega (arith, few, fits, n));

@@ -9,7 +9,7 @@ use crate::room::Room;
 use lines::layout::Layout;
 use units::level::ParaLevel;
 use visual::line::OrderedLine;
-use visual::line_runs::{Runs, put};
+use visual::line_runs::{Runs, put, runs_above};
 use visual::runs::VisualRun;
 
 /// Returns the line with the number `k` of a layout, in a paragraph of this level.
@@ -54,7 +54,7 @@ impl Room {
         requires order { IsInOrder line.now }
         requires inside { line.now.end ≤ characters_in self.now }
         ensures len { length out.new ≡ length out.old }
-        ensures runs { PutsRuns self.now line.now result out.new }
+        ensures runs { PutsRuns self.now line.now result out.old out.new }
     {
         let mut count = 0;
         for run in Runs::of(*line) {
@@ -74,10 +74,9 @@ impl Room {
         let layout = self.layout();
         let start = layout.line(k).start;
         let line = ordered_line(&layout, k, self.para_level_of(start));
-        let count = self.put_runs(&line, &mut []);
-        if count <= out.len() {
-            self.put_runs(&line, &mut out[..count]);
+        if let Some(count) = runs_above(&line, out.len()) {
+            return count;
         }
-        count
+        self.put_runs(&line, out)
     }
 }

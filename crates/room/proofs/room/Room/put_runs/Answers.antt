@@ -1,5 +1,5 @@
 use Rattle.std.proofs.Common.{◌++◌, ◌∷◌, [], arith, ◌∙◌}
-use Rattle.visual.proofs.Told.{told-behind, told-len}
+use Rattle.visual.proofs.Told.{told-behind, told-len, told-rest}
 use Rattle.visual.proofs.Walked.{all_given, given_more, length_more}
 use Rattle.room.proofs.RunLists.{run_within}
 use Rattle.room.proofs.RunLists.{written_run}
@@ -21,6 +21,7 @@ loop-run-preserved c =
         given_more c.args.line.now runs c.loop-run.run-iterator run c.next.new.self i.3.1 c.in-Some.ensures.steps,
         omega (arith, n, i.3.2),
         written_run c.args.self.now runs run c.loop-run.out c.put.new.out c.loop-run.count c.in_units.result len c.in_units.ensures put i.3.3,
+        told-rest c.args.out.now c.loop-run.out c.put.new.out c.loop-run.count c.in_units.result c.put.ensures i.3.4,
       ),
     )
 
@@ -44,4 +45,5 @@ returns-clause-runs c =
       are = all_given c.args.line.now i.3.0 c.loop-run.run-iterator i.3.1 c.in-None.ensures.steps c.requires.order;
       counted = i.3.2;
       written = i.3.3;
+      behind = i.3.4;
     }
