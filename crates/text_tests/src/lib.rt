@@ -31,4 +31,6 @@ mod room_rows;
 #[cfg(test)]
 mod room_shown;
 #[cfg(test)]
+mod room_sizes;
+#[cfg(test)]
 mod text_rows;

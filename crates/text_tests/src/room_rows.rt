@@ -2,12 +2,10 @@
 use crate::given::tables;
 use crate::room_given::{lay_out, no_run};
 use decoding::fault::Faults;
-use lines::scratch::RoomFault;
 use room::lookups::Line;
 use room::places::NOWHERE;
 use room::room::Room;
 use sources::source::Source;
-use std::alloc::Global;
 use std::process::Abort;
 use std::test::Fail;
 use ucdfiles::tables::Tables;
@@ -326,26 +324,4 @@ fn lays_out_each_source(rt: HostRuntime) -> Result<(), Fail> {
     let mut room = Room::with_room(rt.alloc(), 13, true)?;
     are_laid_out(&rt, &mut room, &tables);
     Ok(())
-}
-
-/// Makes a room for so many units, which holds the empty text.
-fn room_is_made(rt: &impl Abort, alloc: Global, n: usize, encodes: bool) -> Result<(), RoomFault> {
-    let room = Room::with_room(alloc, n, encodes)?;
-    assert_eq!(rt; room.characters(), 0, "for {n}");
-    assert_eq!(rt; room.capacity(), n);
-    Ok(())
-}
-
-#[test]
-fn rooms_of_any_size_are_made(rt: HostRuntime) -> Result<(), Fail> {
-    for n in [0, 1, 4_097, 1_000_001] {
-        room_is_made(&rt, rt.alloc(), n, n > 1)?;
-    }
-    Ok(())
-}
-
-#[test]
-fn a_room_that_is_too_big_is_not_made(rt: HostRuntime) {
-    let room = Room::with_room(rt.alloc(), 16_777_217, false);
-    assert_eq!(&rt; room.err(), Some(RoomFault::TooBig));
 }

@@ -61,6 +61,27 @@ fn letters(alloc: Global, count: usize) -> Result<String, Memory> {
     Ok(text)
 }
 
+/// Lays out so many letters in one line, and compares it as it is shown.
+fn shows_one_line(
+    rt: &impl Abort,
+    alloc: Global,
+    tables: &Tables,
+    count: usize,
+) -> Result<(), Fail> {
+    let words = letters(alloc, count)?;
+    let text = Text::lay_out(alloc, tables, &words, Direction::Auto, &[])?;
+    is_shown(rt, alloc, &text, 0, &words)
+}
+
+#[test]
+fn shows_a_line_of_any_length(rt: HostRuntime) -> Result<(), Fail> {
+    let tables = tables(rt.alloc())?;
+    for count in [1, 254, 255, 256, 4_097, 65_535, 65_536, 65_537] {
+        shows_one_line(&rt, rt.alloc(), &tables, count)?;
+    }
+    Ok(())
+}
+
 /// Lays out these words in two lines, of which the second one begins here and is `aa`.
 fn ends_in_two(
     rt: &impl Abort,
@@ -89,7 +110,7 @@ fn lays_out_long(
 #[test]
 fn lays_out_a_text_of_any_length(rt: HostRuntime) -> Result<(), Fail> {
     let tables = tables(rt.alloc())?;
-    for count in [4_097, 1_000_001, 16_777_216] {
+    for count in [4_097, 65_536, 65_537, 1_000_001, 1_048_577, 16_777_216] {
         lays_out_long(&rt, rt.alloc(), &tables, count)?;
     }
     Ok(())
