@@ -1,12 +1,9 @@
-//! Tests of the engine: worked rows of each rule, from the cutting into paragraphs to the resolved levels, and of what
-//! is known without a layout. They stand here, and not beside what they test, so that no crate is proved a second time
-//! with its tests.
+//! Tests of the engine: worked rows of each rule, from the cutting into paragraphs to the resolved levels. They stand
+//! here, and not beside what they test, so that no crate is proved a second time with its tests.
 #![tactic(auto)]
 
 #[cfg(test)]
 mod cutting_rows;
-#[cfg(test)]
-mod direction_rows;
 #[cfg(test)]
 mod engine;
 #[cfg(test)]

@@ -1,25 +1,29 @@
 //! The direction of a text that is not laid out: the levels of its paragraphs, and whether all its levels are 0.
 //! Nothing is allocated.
-ghost use Rattle.std.specs.Prelude.{◌≡◌, ◌<◌, length, IfErr, IfOk, MatchOption, OnOk};
+ghost use Rattle.std.specs.Prelude.{◌≡◌, ◌<◌, ◌≤◌, ◌+◌, true, List, length, IfErr, IfOk, MatchOption, OnOk};
 ghost use Rattle.units.specs.Classes.{classes_of};
 ghost use Rattle.units.specs.Isolates.{level_of_para};
 ghost use Rattle.units.specs.Layout.{para_levels_of};
+ghost use Rattle.units.specs.Limits.{LimitsOf};
 ghost use Rattle.units.specs.Paragraphs.{paragraphs_of};
-ghost use Rattle.room.specs.StaysLeft.{all_stay_left};
+ghost use Rattle.units.specs.declared.bracket.Unit.{Unit as BidiUnit};
+ghost use Rattle.room.specs.StaysLeft.{AreLevelsZero, all_stay_left, stays_left};
 ghost use Rattle.room.specs.BaseLevels.{IsAfterParagraph, IsNextText, WritesBaseLevels};
 ghost use Rattle.room.specs.BaseLevels.{base_level, depth_after, first_side};
 ghost use Rattle.sources.specs.Seen.{source_seen};
-ghost use Rattle.sources.specs.Sources.{IsFirstFault, IsWellFormed, units_of};
+ghost use Rattle.sources.specs.Sources.{IsFirstFault, IsWellFormed, size_of, units_of};
 ghost use Rattle.sources.specs.Splitting.{IsEmpty};
 ghost use Rattle.room.specs.Written.{WritesWhole};
 
-use crate::scan::stays_left;
 use explicit::para_level::level_under;
 use explicit::side::Side;
 use sources::source::Source;
+use std::marker::Brand;
+use std::sync::ledger::{Blank, Ledger};
 use ucdfiles::tables::Tables;
 use units::class::Class;
 use units::level::{Direction, ParaLevel};
+use units::steps::Steps;
 
 /// BD9: how many isolates are open after a class, where so many are before it.
 fn depth_after(class: Class, depth: usize) -> usize
@@ -36,16 +40,18 @@ fn depth_after(class: Class, depth: usize) -> usize
 }
 
 /// P1, P2: the side of the first strong class of a text's first paragraph outside of all isolates. Reads no further
-/// than that class or the paragraph.
+/// than that class or the paragraph, so it takes at most one step for each unit of the text.
 #[tactic(auto, using(crate::proofs::BaseSides::side_found))]
-fn first_side(tables: &Tables, source: Source<'_>) -> Side
+fn first_side<L: Ledger>(tables: &Tables, source: Source<'_>, steps: &mut Steps<L>) -> Side
     requires { IsWellFormed (source_seen source) }
-    ensures { result ≡ first_side (units_of tables.now (source_seen source.entry)) }
+    ensures side { result ≡ first_side (units_of tables.now (source_seen source.entry)) }
+    ensures steps { steps.new ≤ steps.old + size_of (source_seen source.entry) }
 {
     let _size = source.size();
     let mut depth = 0;
     let mut rest = source;
     while let Some((unit, after)) = rest.split_first(tables) {
+        steps.tick();
         if unit.class.is_separator() {
             return Side::Unknown;
         }
@@ -88,12 +94,43 @@ fn next_text<'t>(tables: &Tables, source: Source<'t>) -> Option<Source<'t>>
     Some(after_paragraph(tables, after))
 }
 
-/// P1 to P3: the level of the first paragraph of a text under a direction.
+/// Returns the level of the first paragraph of a well-formed text under a direction (P1 to P3), in at most one step for
+/// each unit of the text. What comes after that paragraph is not read.
+pub fn first_level<L: Ledger>(
+    tables: &Tables,
+    source: Source<'_>,
+    direction: Direction,
+    steps: &mut Steps<L>,
+) -> ParaLevel
+    requires { IsWellFormed (source_seen source) }
+    ensures level { level_of_para result ≡ base_level (units_of tables.now (source_seen source.entry)) direction }
+    ensures steps { steps.new ≤ steps.old + size_of (source_seen source.entry) }
+{
+    level_under(direction, first_side(tables, source, steps))
+}
+
+/// Returns that level, by a count of steps that ends with the call.
+fn level_counting<L: Ledger>(
+    tables: &Tables,
+    source: Source<'_>,
+    direction: Direction,
+    blank: Blank,
+) -> ParaLevel
+    requires well_formed { IsWellFormed (source_seen source) }
+    requires name { blank.name ≡ L.name }
+    requires parts { blank.parts ≡ L.parts }
+    requires some { 0 < blank.parts }
+    ensures { level_of_para result ≡ base_level (units_of tables.now (source_seen source.entry)) direction }
+{
+    first_level(tables, source, direction, &mut Steps::<L>::new(blank))
+}
+
+/// Returns that level for a caller that counts no steps.
 fn level_of_first(tables: &Tables, source: Source<'_>, direction: Direction) -> ParaLevel
     requires { IsWellFormed (source_seen source) }
     ensures { level_of_para result ≡ base_level (units_of tables.now (source_seen source.entry)) direction }
 {
-    level_under(direction, first_side(tables, source))
+    level_counting::<Brand>(tables, source, direction, Blank::new(1))
 }
 
 /// P1: how many paragraphs a text has.
@@ -141,6 +178,26 @@ fn write_base_levels(
         fill_base_levels(tables, source, direction, &mut levels[..count]);
     }
     count
+}
+
+/// A class that leaves a paragraph of level 0, and each position in it, at that level: neither R, AL or AN nor an
+/// initiator of an embedding, an override or an isolate.
+fn stays_left(class: Class) -> bool
+    ensures { result ≡ stays_left class }
+{
+    !matches!(
+        class,
+        Class::R
+            | Class::AL
+            | Class::AN
+            | Class::LRE
+            | Class::RLE
+            | Class::LRO
+            | Class::RLO
+            | Class::LRI
+            | Class::RLI
+            | Class::FSI
+    )
 }
 
 /// Whether the classes of a text leave all levels at 0.
@@ -191,8 +248,9 @@ pub fn base_levels(
     Ok(write_base_levels(tables, source, direction, levels))
 }
 
-/// Whether all levels of a text are 0, unless its paragraphs are asked to be right-to-left: it has only classes that
-/// stay at level 0. Fails with the offset of the first unit that is not part of a character.
+/// Returns whether a text has only classes that stay at level 0. Then each of its levels is 0 under `Direction::Auto`
+/// and `Direction::Ltr`, whatever the limits and the breaks are (`levels_are_zero`). X9 may still remove some of its
+/// positions. Fails with the offset of the first unit that is not part of a character.
 pub fn is_left_to_right(tables: &Tables, source: Source<'_>) -> Result<bool, usize>
     ensures well_formed { OnOk result (IsWellFormed (source_seen source.entry)) }
     ensures stays { IfOk result (λ stays. stays
@@ -202,3 +260,10 @@ pub fn is_left_to_right(tables: &Tables, source: Source<'_>) -> Result<bool, usi
     source.check()?;
     Ok(all_stay_left(tables, source))
 }
+
+/// Where a text has only classes that stay at level 0, the level of each position that remains is 0, if the direction
+/// is found or asked to be left-to-right.
+pub fn levels_are_zero()
+    ensures { (limits : LimitsOf) (text : List BidiUnit) → all_stay_left (classes_of text) ≡ true
+        → AreLevelsZero limits text }
+{}

@@ -2,7 +2,6 @@
 //! is known of a text without a layout.
 #![tactic(auto)]
 
-pub mod base;
 pub mod base_levels;
 mod decoded;
 pub mod fault;
@@ -14,7 +13,6 @@ pub mod lookups;
 pub mod places;
 pub mod room;
 pub mod runs;
-pub mod scan;
 pub mod shown;
 pub mod shown_units;
 pub mod text;

@@ -3,6 +3,8 @@
 #![tactic(auto)]
 
 #[cfg(test)]
+mod direction_rows;
+#[cfg(test)]
 mod explained_rows;
 #[cfg(test)]
 mod given;

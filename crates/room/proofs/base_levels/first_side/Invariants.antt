@@ -5,14 +5,15 @@ use Rattle.sources.specs.Sources.{IsWellFormed, size_of, units_of}
 use Rattle.room.proofs.BaseSides.{side_from}
 use Rattle.room.proofs.base_levels.first_side.Given as goal
 
--- no separator and no strong class outside of isolates is before the rest, and no more isolates are open than there are
--- units before it
+-- no separator and no strong class outside of isolates is before the rest; no more isolates are open than there are units
+-- before it, and no more steps were taken
 abbrev pub invariant-loop-unit : goal.invariant-loop-unit
-invariant-loop-unit l = record {
+invariant-loop-unit g l = record {
   well_formed : IsWellFormed (source_seen l.rest);
   deep : l.depth + size_of (source_seen l.rest) ≤ size_of (source_seen l.source);
+  steps : l.steps + size_of (source_seen l.rest) ≤ l.initial.steps + size_of (source_seen l.source);
   found : first_side (units_of l.tables (source_seen l.source)) ≡ side_from (units_of l.tables (source_seen l.rest)) l.depth;
 }
 
 abbrev pub decreases-loop-unit : goal.decreases-loop-unit
-decreases-loop-unit l = size_of (source_seen l.rest)
+decreases-loop-unit g l = size_of (source_seen l.rest)

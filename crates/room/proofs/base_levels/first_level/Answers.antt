@@ -5,9 +5,9 @@ use Rattle.explicit.specs.SideLevels.{level_under}
 use Rattle.room.specs.BaseLevels.{first_paragraph}
 use Rattle.sources.specs.Seen.{source_seen}
 use Rattle.sources.specs.Sources.{units_of}
-use Rattle.room.proofs.base_levels.level_of_first.Goals as goal
+use Rattle.room.proofs.base_levels.first_level.Goals as goal
 
-pub returns : goal.returns
-returns c =
+pub returns-clause-level : goal.returns-clause-level
+returns-clause-level g c =
     let units = units_of c.args.tables.now (source_seen c.args.source) in
-    c.level_under.ensures ∙ ap (level_under c.args.direction) c.first_side.ensures ∙ level_under-is (classes_of (first_paragraph units)) c.args.direction
+    c.level_under.ensures ∙ ap (level_under c.args.direction) c.first_side.ensures.side ∙ level_under-is (classes_of (first_paragraph units)) c.args.direction

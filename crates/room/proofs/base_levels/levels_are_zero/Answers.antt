@@ -1,6 +1,6 @@
 use Rattle.room.proofs.ParagraphsAtZero.{auto_leaves, ltr_leaves, zero_under}
 use Rattle.units.specs.declared.level.Direction.TheVariants.{Auto, Ltr}
-use Rattle.room.proofs.scan.levels_are_zero.Goals as goal
+use Rattle.room.proofs.base_levels.levels_are_zero.Goals as goal
 
 pub returns : goal.returns
 returns c limits text h =
