@@ -3,7 +3,7 @@ use Rattle.std.proofs.Common.{◌≡◌, ◌∙◌, ◌≤◌, ℕ, List, Option
 use Rattle.std.specs.Prelude.{◌-◌, ◌++◌}
 use Rattle.std.proofs.lemmas.List.{length-map, length-take-le}
 use Rattle.std.proofs.Math.Seq.{take-append_seam}
-use Rattle.room.specs.LinesAlone.{WritesLineOf}
+use Rattle.room.specs.LineOf.{WritesLineOf}
 use Rattle.room.specs.Rooms.{RoomOf}
 use Rattle.room.specs.Written.{WritesWhole}
 use Rattle.for_c.specs.LevelBytes.{level_byte}

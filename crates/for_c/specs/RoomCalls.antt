@@ -4,7 +4,7 @@ use Rattle.units.specs.Layout.{longest_text}
 use Rattle.ucdfiles.specs.Tables.{TablesOf}
 use Rattle.sources.specs.Asks.{AskOf}
 use Rattle.room.specs.Leaving.{Leaves, SetsLines as RoomSetsLines}
-use Rattle.room.specs.LinesAlone.{RefusesLineOf, WritesLineOf}
+use Rattle.room.specs.LineOf.{RejectsLineIn, WritesLineOf}
 use Rattle.room.specs.Rooms.{RoomOf}
 use Rattle.room.specs.declared.line_of.LineFault.{LineFault}
 use Rattle.for_c.specs.LevelBytes.{level_byte}
@@ -47,7 +47,7 @@ pub record WritesLineBytes (room : RoomOf) (start end : ℕ) (levels levels2 ord
 -- no line of the text is written where there are so many places, for this reason
 abbrev pub RejectsLineOf : RoomOf → ℕ → ℕ → ℕ → CallError → Type 0
 RejectsLineOf room start end places error =
-    (fault : LineFault) × (error ≡ error_of_line fault) × RefusesLineOf room start end places fault
+    (fault : LineFault) × (error ≡ error_of_line fault) × RejectsLineIn room start end places fault
 
 -- a call that is to lay out one line alone writes it, if each list has an item for each unit, or fails for a reason, and
 -- nothing is written

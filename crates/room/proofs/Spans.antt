@@ -7,7 +7,7 @@ use Rattle.units.specs.Reordering.{line_order}
 use Rattle.lines.specs.LinesAlone.{RefusesSpan}
 use Rattle.lines.specs.declared.alone.SpanFault.{SpanFault}
 use Rattle.lines.specs.declared.alone.SpanFault.TheVariants.{NotForward, BeyondText, CrossesParagraph}
-use Rattle.room.specs.LinesAlone.{IsSpan, RefusesLineOf, WritesCharacters, WritesLineOf, broken_at, fault_of_span}
+use Rattle.room.specs.LineOf.{IsSpan, RejectsLineIn, WritesCharacters, WritesLineOf, broken_at, fault_of_span}
 use Rattle.room.specs.Looking.{IsAt}
 use Rattle.room.specs.Rooms.{RoomOf, characters_in, offset_in}
 use Rattle.room.proofs.Boundaries.{before_it, not_below, spread_out}
@@ -97,7 +97,7 @@ module _ (room : RoomOf) (rise : Rise room) (start end first last : ℕ) (span :
     }
 
   -- a line of its characters that is refused is one of units that is
-  pub refused : (places : ℕ) (fault : SpanFault) → length room.text.units ≡ characters_in room → end - start ≤ places → RefusesSpan room.text.units first last fault → RefusesLineOf room start end places (fault_of_span fault)
+  pub refused : (places : ℕ) (fault : SpanFault) → length room.text.units ≡ characters_in room → end - start ≤ places → RefusesSpan room.text.units first last fault → RejectsLineIn room start end places (fault_of_span fault)
   refused places NotForward all fits h = absurd (omega (arith, h, span.forward))
   refused places BeyondText all fits h = absurd (omega (arith, h.1, all, span.inside))
   refused places CrossesParagraph all fits h = (fits, record { first = first; last = last; span = span; separates = h.2 })

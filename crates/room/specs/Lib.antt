@@ -3,7 +3,7 @@ pub mod Boundaries
 pub mod Insides
 pub mod Leaving
 pub mod Levels
-pub mod LinesAlone
+pub mod LineOf
 pub mod Looking
 pub mod NewRooms
 pub mod OrderedLines

@@ -1,6 +1,6 @@
 //! One line alone of the text that a room holds, in the units of its source.
 ghost use Rattle.std.specs.Prelude.{◌≡◌};
-ghost use Rattle.room.specs.LinesAlone.{fault_of_span};
+ghost use Rattle.room.specs.LineOf.{fault_of_span};
 
 use crate::places::put;
 use crate::room::Room;
@@ -40,7 +40,7 @@ impl Room {
     ghost use Rattle.std.specs.Prelude.{MatchOption, MatchResult, OnErr};
     ghost use Rattle.std.specs.List.{All};
     ghost use Rattle.room.specs.Boundaries.{IsBoundary};
-    ghost use Rattle.room.specs.LinesAlone.{IsSpan, RefusesLineOf, RefusesUnits, WritesLineOf};
+    ghost use Rattle.room.specs.LineOf.{IsSpan, RejectsLineIn, RejectsSpan, WritesLineOf};
     ghost use Rattle.room.specs.Looking.{IsAt};
     ghost use Rattle.room.specs.Rooms.{characters_in, offset_in};
 
@@ -62,7 +62,7 @@ impl Room {
     /// The characters of a line from one offset up to another: the index of the first, and the one after the last.
     fn span_of(&self, start: usize, end: usize) -> Result<(usize, usize), LineFault>
         ensures { MatchResult result (λ span. IsSpan self.now start end span.0 span.1)
-            (RefusesUnits self.now start end) }
+            (RejectsSpan self.now start end) }
     {
         self.offsets_rise();
         if end <= start {
@@ -127,7 +127,7 @@ impl Room {
         ensures same { self.new ≡ self.old }
         ensures line { MatchResult result
             (WritesLineOf self.old start end levels.old levels.new order.old order.new)
-            (RefusesLineOf self.old start end (min (length levels.old) (length order.old))) }
+            (RejectsLineIn self.old start end (min (length levels.old) (length order.old))) }
         ensures kept_levels { OnErr result (levels.new ≡ levels.old) }
         ensures kept_order { OnErr result (order.new ≡ order.old) }
     {

@@ -93,7 +93,7 @@ impl Room {
     ghost use Rattle.lines.specs.LinesAlone.{RefusesSpan};
     ghost use Rattle.room.specs.OrderedLines.{LinesHaveOrder};
     ghost use Rattle.room.specs.Leaving.{Leaves, SetsLines};
-    ghost use Rattle.room.specs.LinesAlone.{WritesCharacters};
+    ghost use Rattle.room.specs.LineOf.{WritesCharacters};
     ghost use Rattle.room.specs.Looking.{HasParaLevelOf, IsAt, size_in};
     ghost use Rattle.room.specs.NewRooms.{new_room};
     ghost use Rattle.room.specs.Rooms.{characters_in, offset_in};

@@ -3,7 +3,7 @@ use Rattle.std.proofs.lemmas.Bool.{cases_lt}
 use Rattle.std.proofs.lemmas.List.{length-take-le}
 use Rattle.std.specs.Prelude.{◌-◌}
 use Rattle.room.specs.Looking.{size_in}
-use Rattle.room.specs.LinesAlone.{WritesLineOf}
+use Rattle.room.specs.LineOf.{WritesLineOf}
 use Rattle.room.specs.Rooms.{RoomOf, characters_in, offset_in}
 use Rattle.room.specs.Written.{WritesWhole}
 use Rattle.for_c.specs.LevelBytes.{level_byte}

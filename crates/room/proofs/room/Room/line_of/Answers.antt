@@ -1,7 +1,7 @@
 use Rattle.std.proofs.Common.{◌≡◌, ap, arith, length, subst, sym}
 use Rattle.std.specs.Prelude.{min}
 use Rattle.std.proofs.lemmas.List.{length-take-le}
-use Rattle.room.specs.LinesAlone.{RefusesLineOf}
+use Rattle.room.specs.LineOf.{RejectsLineIn}
 use Rattle.room.specs.Rooms.{RoomOf, offset_in}
 use Rattle.room.specs.declared.line_of.LineFault.{LineFault}
 use Rattle.room.proofs.Spans.{narrow, refused, whole, written}
@@ -50,6 +50,6 @@ returns-in-Ok-clause-line c =
 pub returns-in-Err-clause-line : goal.returns-in-Err-clause-line
 returns-in-Err-clause-line c =
     let places = min (length c.args.levels.now) (length c.args.order.now) in
-    subst (λ (f : LineFault). RefusesLineOf c.args.self.now c.args.start c.args.end places f) (sym c.fault_of_span.ensures)
+    subst (λ (f : LineFault). RejectsLineIn c.args.self.now c.args.start c.args.end places f) (sym c.fault_of_span.ensures)
     (refused c.args.self.now c.offsets_rise.ensures.rising c.args.start c.args.end c.in_ok-first.first c.in_ok-first.last c.in_ok-first.ensures
     places c.in-Err.fault c.units_are_characters.ensures (omega (arith, c.if-min-count.false, c.min.ensures, c.saturating_sub-count.ensures)) c.in-Err.ensures.line)

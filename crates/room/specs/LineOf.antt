@@ -23,7 +23,7 @@ pub record IsSpan (room : RoomOf) (start end first last : ℕ) : Type 0 where
   pub ends : offset_in room last ≡ end
 
 -- one line of characters, from the first up to the last, is written to the fronts of two lists, whatever breaks make it
--- one, and what comes after it stays
+-- one, and what comes after it is unchanged
 pub record WritesCharacters (room : RoomOf) (first last : ℕ) (levels levels2 : List (Option ℕ)) (order order2 : List ℕ) (shown : ℕ) : Type 0 where
   pub taken : IsLineIn room.text.units (breaks_around first last) first last
   pub line : (breaks : List ℕ) → IsLineIn room.text.units breaks first last →
@@ -34,7 +34,7 @@ pub record WritesCharacters (room : RoomOf) (first last : ℕ) (levels levels2 :
 
 -- L1, L2: in this layout each unit from the start on has the level of its character, and the characters from the first up
 -- to the last begin in this order
-pub record IsLineTold (room : RoomOf) (layout : TextLayout) (start end first last : ℕ) (levels : List (Option ℕ)) (order : List ℕ) : Type 0 where
+pub record IsLineInUnits (room : RoomOf) (layout : TextLayout) (start end first last : ℕ) (levels : List (Option ℕ)) (order : List ℕ) : Type 0 where
   pub leveled : (i k : ℕ) → i < end - start → IsAt room (start + i) k → slice_index_or levels i None ≡ slice_index_or layout.levels k None
   pub ordered : order ≡ map (offset_in room) (line_order layout.levels first last)
 
@@ -45,7 +45,7 @@ pub record WritesLineOf (room : RoomOf) (start end : ℕ) (levels levels2 : List
   pub span : IsSpan room start end first last
   pub taken : IsLineIn room.text.units (breaks_around first last) first last
   pub line : (breaks : List ℕ) → IsLineIn room.text.units breaks first last →
-      IsLineTold room (broken_at room breaks) start end first last levels2 (take shown order2)
+      IsLineInUnits room (broken_at room breaks) start end first last levels2 (take shown order2)
   pub few : shown ≤ end - start
   pub levels_behind : drop (end - start) levels2 ≡ drop (end - start) levels
   pub order_behind : drop (end - start) order2 ≡ drop (end - start) order
@@ -57,26 +57,29 @@ pub record CrossesIn (room : RoomOf) (start end : ℕ) : Type 0 where
   pub span : IsSpan room start end first last
   pub separates : SeparatesWithin room.text.units first last
 
--- no line of the text goes from one offset up to another, for this reason; where there are several it is the first
-abbrev pub RefusesUnits : RoomOf → ℕ → ℕ → LineFault → Type 0
-RefusesUnits room start end NotForward = end ≤ start
-RefusesUnits room start end BeyondText = (start < end) × (size_in room < end)
-RefusesUnits room start end StartsInside = (start < end) × (end ≤ size_in room) × (IsBoundary (offset_in room) (characters_in room) start → ⊥)
-RefusesUnits room start end EndsInside = (start < end) × (end ≤ size_in room) × IsBoundary (offset_in room) (characters_in room) start × (IsBoundary (offset_in room) (characters_in room) end → ⊥)
-RefusesUnits room start end CrossesParagraph = CrossesIn room start end
-RefusesUnits room start end TooSmall = ⊥
+-- no line of the text goes from one offset up to another, for this reason; if there are several it is the first
+abbrev pub RejectsSpan : RoomOf → ℕ → ℕ → LineFault → Type 0
+RejectsSpan room start end NotForward = end ≤ start
+RejectsSpan room start end BeyondText = (start < end) × (size_in room < end)
+RejectsSpan room start end StartsInside =
+    (start < end) × (end ≤ size_in room) × (IsBoundary (offset_in room) (characters_in room) start → ⊥)
+RejectsSpan room start end EndsInside =
+    (start < end) × (end ≤ size_in room) × IsBoundary (offset_in room) (characters_in room) start
+    × (IsBoundary (offset_in room) (characters_in room) end → ⊥)
+RejectsSpan room start end CrossesParagraph = CrossesIn room start end
+RejectsSpan room start end TooSmall = ⊥
 
--- a line for which there are so many places is refused for this reason: they are too few; where they are enough, there is
--- no such line
-abbrev pub RefusesLineOf : RoomOf → ℕ → ℕ → ℕ → LineFault → Type 0
-RefusesLineOf room start end places TooSmall = places < end - start
-RefusesLineOf room start end places NotForward = RefusesUnits room start end NotForward
-RefusesLineOf room start end places BeyondText = (end - start ≤ places) × RefusesUnits room start end BeyondText
-RefusesLineOf room start end places StartsInside = (end - start ≤ places) × RefusesUnits room start end StartsInside
-RefusesLineOf room start end places EndsInside = (end - start ≤ places) × RefusesUnits room start end EndsInside
-RefusesLineOf room start end places CrossesParagraph = (end - start ≤ places) × RefusesUnits room start end CrossesParagraph
+-- a line for which there are so many places is rejected for this reason: they are too few; if they are enough, there is no
+-- such line
+abbrev pub RejectsLineIn : RoomOf → ℕ → ℕ → ℕ → LineFault → Type 0
+RejectsLineIn room start end places TooSmall = places < end - start
+RejectsLineIn room start end places NotForward = RejectsSpan room start end NotForward
+RejectsLineIn room start end places BeyondText = (end - start ≤ places) × RejectsSpan room start end BeyondText
+RejectsLineIn room start end places StartsInside = (end - start ≤ places) × RejectsSpan room start end StartsInside
+RejectsLineIn room start end places EndsInside = (end - start ≤ places) × RejectsSpan room start end EndsInside
+RejectsLineIn room start end places CrossesParagraph = (end - start ≤ places) × RejectsSpan room start end CrossesParagraph
 
--- how a line of characters is refused
+-- the fault of a line whose characters have this one
 abbrev pub fault_of_span : SpanFault → LineFault
 fault_of_span span.NotForward = NotForward
 fault_of_span span.BeyondText = BeyondText
