@@ -64,8 +64,8 @@ fn is_left_to_right(
     }
 }
 
-/// Writes the level of the first paragraph of a text of code points under a direction (P1 to P3) to `level`. If there are no
-/// tables, or the number is no direction, or a code point is no scalar value, `level` is unchanged.
+/// Writes the level of the first paragraph of a text of code points under a direction (P1 to P3) to `level`. If there
+/// are no tables, or the number is no direction, or a code point is no scalar value, `level` is unchanged.
 #[unsafe(no_mangle)]
 pub extern "C" fn bidi_base_level(
     tables: &mut BidiHandle,
@@ -82,8 +82,9 @@ pub extern "C" fn bidi_base_level(
     status_and_place(base_level(tables, source, direction, level), place)
 }
 
-/// Writes the level of each paragraph of a text of code points under a direction (P1 to P3), in their order, to `levels`, if
-/// all fit there, and to `count` how many there are. If it fails as `bidi_base_level` does, both are unchanged.
+/// Writes the level of each paragraph of a text of code points under a direction (P1 to P3), in their order, to
+/// `levels`, if all fit there, and to `count` how many there are. If it fails as `bidi_base_level` does, both are
+/// unchanged.
 #[unsafe(no_mangle)]
 pub extern "C" fn bidi_base_levels(
     tables: &mut BidiHandle,
@@ -101,9 +102,9 @@ pub extern "C" fn bidi_base_levels(
     status_and_place(base_levels(tables, source, direction, levels, count), place)
 }
 
-/// Writes to `stays` whether a text of code points has only classes that stay at level 0 (1) or not (0): if so, all of its
-/// levels are 0, unless its paragraphs are asked to be right-to-left. If there are no tables, or a code point is no scalar value, `stays` is
-/// unchanged.
+/// Writes to `stays` whether a text of code points has only classes that stay at level 0 (1) or not (0): if so, all of
+/// its levels are 0, unless its paragraphs are asked to be right-to-left. If there are no tables, or a code point is no
+/// scalar value, `stays` is unchanged.
 #[unsafe(no_mangle)]
 pub extern "C" fn bidi_is_left_to_right(
     tables: &mut BidiHandle,
@@ -112,15 +113,15 @@ pub extern "C" fn bidi_is_left_to_right(
     place: &mut u64,
 ) -> u32
     ensures tables { held_at tables.new ≡ held_at tables.old }
-    ensures stays { AnswersNaming place_named (PutsLeftToRightAt (tables_at tables.old) (Codes codes.now) stays.old stays.new)
-        result place.old place.new }
+    ensures stays { AnswersNaming place_named (PutsLeftToRightAt (tables_at tables.old) (Codes codes.now)
+        stays.old stays.new) result place.old place.new }
 {
     let source = Source::Codes(codes);
     status_and_place(is_left_to_right(tables, source, stays), place)
 }
 
-/// Writes the level of the first paragraph of a text of bytes of UTF-8 under a direction (P1 to P3) to `level`. If there are no
-/// tables, or the number is no direction, or the bytes are no UTF-8, `level` is unchanged.
+/// Writes the level of the first paragraph of a text of bytes of UTF-8 under a direction (P1 to P3) to `level`. If
+/// there are no tables, or the number is no direction, or the bytes are no UTF-8, `level` is unchanged.
 #[unsafe(no_mangle)]
 pub extern "C" fn bidi_base_level_utf8(
     tables: &mut BidiHandle,
@@ -137,8 +138,9 @@ pub extern "C" fn bidi_base_level_utf8(
     status_and_place(base_level(tables, source, direction, level), place)
 }
 
-/// Writes the level of each paragraph of a text of bytes of UTF-8 under a direction (P1 to P3), in their order, to `levels`, if
-/// all fit there, and to `count` how many there are. If it fails as `bidi_base_level_utf8` does, both are unchanged.
+/// Writes the level of each paragraph of a text of bytes of UTF-8 under a direction (P1 to P3), in their order, to
+/// `levels`, if all fit there, and to `count` how many there are. If it fails as `bidi_base_level_utf8` does, both are
+/// unchanged.
 #[unsafe(no_mangle)]
 pub extern "C" fn bidi_base_levels_utf8(
     tables: &mut BidiHandle,
@@ -149,16 +151,16 @@ pub extern "C" fn bidi_base_levels_utf8(
     place: &mut u64,
 ) -> u32
     ensures tables { held_at tables.new ≡ held_at tables.old }
-    ensures levels { AnswersNaming place_named (PutsBaseLevelsAt (tables_at tables.old) (Utf8 text.now Refused) direction
-        levels.old levels.new count.old count.new) result place.old place.new }
+    ensures levels { AnswersNaming place_named (PutsBaseLevelsAt (tables_at tables.old) (Utf8 text.now Refused)
+        direction levels.old levels.new count.old count.new) result place.old place.new }
 {
     let source = Source::Utf8(text, Faults::Refused);
     status_and_place(base_levels(tables, source, direction, levels, count), place)
 }
 
-/// Writes to `stays` whether a text of bytes of UTF-8 has only classes that stay at level 0 (1) or not (0): if so, all of its
-/// levels are 0, unless its paragraphs are asked to be right-to-left. If there are no tables, or the bytes are no UTF-8, `stays` is
-/// unchanged.
+/// Writes to `stays` whether a text of bytes of UTF-8 has only classes that stay at level 0 (1) or not (0): if so, all
+/// of its levels are 0, unless its paragraphs are asked to be right-to-left. If there are no tables, or the bytes are
+/// no UTF-8, `stays` is unchanged.
 #[unsafe(no_mangle)]
 pub extern "C" fn bidi_is_left_to_right_utf8(
     tables: &mut BidiHandle,
@@ -167,15 +169,15 @@ pub extern "C" fn bidi_is_left_to_right_utf8(
     place: &mut u64,
 ) -> u32
     ensures tables { held_at tables.new ≡ held_at tables.old }
-    ensures stays { AnswersNaming place_named (PutsLeftToRightAt (tables_at tables.old) (Utf8 text.now Refused) stays.old stays.new)
-        result place.old place.new }
+    ensures stays { AnswersNaming place_named (PutsLeftToRightAt (tables_at tables.old) (Utf8 text.now Refused)
+        stays.old stays.new) result place.old place.new }
 {
     let source = Source::Utf8(text, Faults::Refused);
     status_and_place(is_left_to_right(tables, source, stays), place)
 }
 
-/// Writes the level of the first paragraph of a text of code units of UTF-16 under a direction (P1 to P3) to `level`. If there are no
-/// tables, or the number is no direction, or a surrogate is alone, `level` is unchanged.
+/// Writes the level of the first paragraph of a text of code units of UTF-16 under a direction (P1 to P3) to `level`.
+/// If there are no tables, or the number is no direction, or a surrogate is alone, `level` is unchanged.
 #[unsafe(no_mangle)]
 pub extern "C" fn bidi_base_level_utf16(
     tables: &mut BidiHandle,
@@ -192,8 +194,9 @@ pub extern "C" fn bidi_base_level_utf16(
     status_and_place(base_level(tables, source, direction, level), place)
 }
 
-/// Writes the level of each paragraph of a text of code units of UTF-16 under a direction (P1 to P3), in their order, to `levels`, if
-/// all fit there, and to `count` how many there are. If it fails as `bidi_base_level_utf16` does, both are unchanged.
+/// Writes the level of each paragraph of a text of code units of UTF-16 under a direction (P1 to P3), in their order,
+/// to `levels`, if all fit there, and to `count` how many there are. If it fails as `bidi_base_level_utf16` does, both
+/// are unchanged.
 #[unsafe(no_mangle)]
 pub extern "C" fn bidi_base_levels_utf16(
     tables: &mut BidiHandle,
@@ -204,16 +207,16 @@ pub extern "C" fn bidi_base_levels_utf16(
     place: &mut u64,
 ) -> u32
     ensures tables { held_at tables.new ≡ held_at tables.old }
-    ensures levels { AnswersNaming place_named (PutsBaseLevelsAt (tables_at tables.old) (Utf16 text.now Refused) direction
-        levels.old levels.new count.old count.new) result place.old place.new }
+    ensures levels { AnswersNaming place_named (PutsBaseLevelsAt (tables_at tables.old) (Utf16 text.now Refused)
+        direction levels.old levels.new count.old count.new) result place.old place.new }
 {
     let source = Source::Utf16(text, Faults::Refused);
     status_and_place(base_levels(tables, source, direction, levels, count), place)
 }
 
-/// Writes to `stays` whether a text of code units of UTF-16 has only classes that stay at level 0 (1) or not (0): if so, all of its
-/// levels are 0, unless its paragraphs are asked to be right-to-left. If there are no tables, or a surrogate is alone, `stays` is
-/// unchanged.
+/// Writes to `stays` whether a text of code units of UTF-16 has only classes that stay at level 0 (1) or not (0): if
+/// so, all of its levels are 0, unless its paragraphs are asked to be right-to-left. If there are no tables, or a
+/// surrogate is alone, `stays` is unchanged.
 #[unsafe(no_mangle)]
 pub extern "C" fn bidi_is_left_to_right_utf16(
     tables: &mut BidiHandle,
@@ -222,8 +225,8 @@ pub extern "C" fn bidi_is_left_to_right_utf16(
     place: &mut u64,
 ) -> u32
     ensures tables { held_at tables.new ≡ held_at tables.old }
-    ensures stays { AnswersNaming place_named (PutsLeftToRightAt (tables_at tables.old) (Utf16 text.now Refused) stays.old stays.new)
-        result place.old place.new }
+    ensures stays { AnswersNaming place_named (PutsLeftToRightAt (tables_at tables.old) (Utf16 text.now Refused)
+        stays.old stays.new) result place.old place.new }
 {
     let source = Source::Utf16(text, Faults::Refused);
     status_and_place(is_left_to_right(tables, source, stays), place)

@@ -4,7 +4,8 @@ ghost use Rattle.room.specs.Looking.{line_in};
 ghost use Rattle.room.specs.Rooms.{characters_in, offset_in};
 ghost use Rattle.room.specs.ShownUnits.{shown_utf16, shown_utf8};
 ghost use Rattle.room.specs.Written.{WritesWhole};
-ghost use Rattle.for_c.specs.InUnits.{IsIndexAt, IsLevelByteAt, IsParaByteAt, IsUnitLine, IsUnitRun, WritesLevelBytes, WritesUnitPlaces};
+ghost use Rattle.for_c.specs.InUnits.{IsIndexAt, IsLevelByteAt, IsParaByteAt, IsUnitLine, IsUnitRun, WritesLevelBytes};
+ghost use Rattle.for_c.specs.InUnits.{WritesUnitPlaces};
 ghost use Rattle.for_c.specs.LineRuns.{WritesRuns};
 ghost use Rattle.for_c.specs.Positions.{RejectsLine};
 ghost use Rattle.for_c.specs.Runs.{RejectsRun};
@@ -42,8 +43,8 @@ pub extern "C" fn bidi_index_of(room: &mut BidiHandle, at: usize) -> usize
     }
 }
 
-/// Returns the offset at which the character with this index begins; from the number of characters on that of the text's
-/// end; 0 without a room for code units.
+/// Returns the offset at which the character with this index begins; from the number of characters on that of the
+/// text's end; 0 without a room for code units.
 #[unsafe(no_mangle)]
 pub extern "C" fn bidi_offset_of(room: &mut BidiHandle, index: usize) -> usize
     ensures room { held_at room.new ≡ held_at room.old }
@@ -75,8 +76,8 @@ pub extern "C" fn bidi_level_at(room: &mut BidiHandle, at: usize) -> u8
     }
 }
 
-/// Writes the line with the number `k`, counted from 0, to `line`: the offsets at which it begins and ends, and how many
-/// of its characters are shown. If there is none, `line` is unchanged.
+/// Writes the line with the number `k`, counted from 0, to `line`: the offsets at which it begins and ends, and how
+/// many of its characters are shown. If there is none, `line` is unchanged.
 #[unsafe(no_mangle)]
 #[tactic(auto, using(crate::proofs::Needed::no_room, crate::proofs::Needed::not_found))]
 pub extern "C" fn bidi_encoded_line(room: &mut BidiHandle, k: usize, line: &mut BidiLine) -> u32
@@ -127,8 +128,8 @@ pub extern "C" fn bidi_encoded_order(room: &mut BidiHandle, k: usize, order: &mu
     }
 }
 
-/// Writes the run of the line with the number `k` that begins at the place `from` to `run`, as `bidi_run` does, but with
-/// its beginning and its length in code units.
+/// Writes the run of the line with the number `k` that begins at the place `from` to `run`, as `bidi_run` does, but
+/// with its beginning and its length in code units.
 #[unsafe(no_mangle)]
 #[tactic(auto, using(crate::proofs::Needed::no_room, crate::proofs::Needed::not_found))]
 pub extern "C" fn bidi_encoded_run(
@@ -168,8 +169,8 @@ pub extern "C" fn bidi_encoded_runs(room: &mut BidiHandle, k: usize, runs: &mut 
 }
 
 /// Writes the place of each code unit of the line with the number `k`, in the line's order, to `places`, if all fit
-/// there: that of its character, `SIZE_MAX` if the character was removed (X9). Returns how many code units the line has,
-/// 0 without such a line or a room for code units.
+/// there: that of its character, `SIZE_MAX` if the character was removed (X9). Returns how many code units the line
+/// has, 0 without such a line or a room for code units.
 #[unsafe(no_mangle)]
 pub extern "C" fn bidi_encoded_places(
     room: &mut BidiHandle,
@@ -189,8 +190,8 @@ pub extern "C" fn bidi_encoded_places(
     }
 }
 
-/// Returns the level of the paragraph (P2, P3) in which the code unit at an offset lies: 255 from the text's end on, and
-/// without a room for code units.
+/// Returns the level of the paragraph (P2, P3) in which the code unit at an offset lies: 255 from the text's end on,
+/// and without a room for code units.
 #[unsafe(no_mangle)]
 pub extern "C" fn bidi_encoded_para_level_at(room: &mut BidiHandle, at: usize) -> u8
     ensures room { held_at room.new ≡ held_at room.old }

@@ -23,8 +23,8 @@ use sources::source::Source;
 use units::limits::Limits;
 
 /// Writes the number of the class of each code point to the front of `classes`, and what it does as a bracket (BD14,
-/// BD15) to the front of `brackets`: 0 if it is none, 1 if it opens, 2 if it closes. If there are no tables, or an array
-/// has fewer items than there are code points, or one of these is no scalar value, both are unchanged.
+/// BD15) to the front of `brackets`: 0 if it is none, 1 if it opens, 2 if it closes. If there are no tables, or an
+/// array has fewer items than there are code points, or one of these is no scalar value, both are unchanged.
 #[unsafe(no_mangle)]
 #[tactic(auto, using(crate::proofs::Needed::no_tables_named, crate::proofs::FrontsNeeded::no_tables_no_properties))]
 pub extern "C" fn bidi_classes(

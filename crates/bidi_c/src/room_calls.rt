@@ -13,7 +13,8 @@ use for_c::room_for_c::RoomForC;
 use std::alloc::Global;
 
 fn make_room(alloc: Global, n: usize, encodes: bool, room: &mut BidiHandle) -> Result<(), CallError>
-    ensures { Puts (λ held. room_in held ≡ Some (new_room n encodes)) (RejectsCapacity n) (held_at room.old) (held_at room.new) result }
+    ensures { Puts (λ held. room_in held ≡ Some (new_room n encodes)) (RejectsCapacity n)
+        (held_at room.old) (held_at room.new) result }
 {
     let made = RoomForC::with_room(alloc, n, encodes)?;
     room.hold(alloc, Held::Room(made))

@@ -73,8 +73,8 @@ pub extern "C" fn bidi_tables_new(
 }
 
 /// Puts the tables of the edition of Unicode that is built in into the handle. They are constants; memory is only taken
-/// for the handle. What the handle contained before is freed then. It fails only if that memory is refused, and then the
-/// handle is unchanged.
+/// for the handle. What the handle contained before is freed then. It fails only if that memory is refused, and then
+/// the handle is unchanged.
 #[unsafe(no_mangle)]
 pub extern "C" fn bidi_tables_standard(alloc: Global, tables: &mut BidiHandle) -> u32
     ensures { Answers (Puts (λ held. HaveTables held CLASSES BRACKETS MIRRORS) (λ error. error ≡ CallError.Memory)

@@ -27,7 +27,8 @@ pub fn base_level_of(tables: &Tables, source: Source<'_>, direction: u32) -> Res
 }
 
 /// Writes the level of each paragraph of a text under the direction with this number (P1 to P3) to the front of
-/// `levels`, if all fit there, and to `count` how many there are. Fails as `base_level_of` does, and nothing is written.
+/// `levels`, if all fit there, and to `count` how many there are. Fails as `base_level_of` does, and nothing is
+/// written.
 pub fn write_base_levels(
     tables: &Tables,
     source: Source<'_>,

@@ -3,7 +3,8 @@ ghost use Rattle.std.specs.Prelude.{◌≡◌, length, OnOk, IfErr};
 ghost use Rattle.std.specs.Char.{IsScalar};
 ghost use Rattle.sources.specs.Kinds.{AllAre, IsFirstOther};
 ghost use Rattle.visual.specs.GivenLevels.{levels_reset_in};
-ghost use Rattle.for_c.specs.Fronts.{AreProperties, IsLevelNumber, PutsProperties, RejectsLevels, RejectsLine, Reorders, ResetsLine, classes_numbered};
+ghost use Rattle.for_c.specs.Fronts.{AreProperties, IsLevelNumber, PutsProperties, RejectsLevels, RejectsLine};
+ghost use Rattle.for_c.specs.Fronts.{Reorders, ResetsLine, classes_numbered};
 ghost use Rattle.for_c.specs.Statuses.{Puts};
 
 use crate::call_error::CallError;
@@ -68,8 +69,8 @@ fn check_levels(levels: &[u8]) -> Result<(), usize>
     Ok(())
 }
 
-/// Writes all positions from left to right (L2), by the level of each, to the front of `order`. Fails with `TooSmall` if
-/// that has fewer items than there are levels, or else with `NoLevel` at the first level that is above 126.
+/// Writes all positions from left to right (L2), by the level of each, to the front of `order`. Fails with `TooSmall`
+/// if that has fewer items than there are levels, or else with `NoLevel` at the first level that is above 126.
 pub fn reorder(levels: &[u8], order: &mut [usize]) -> Result<(), CallError>
     ensures { Puts (Reorders levels.now order.old) (RejectsLevels levels.now order.old) order.old order.new result }
 {
@@ -100,9 +101,10 @@ fn write_numbers(tables: &Tables, codes: &[u32], classes: &mut [u8], brackets: &
     }
 }
 
-/// Writes the number of the class of each code point to the front of `classes`, and that of what its bracket does to the
-/// front of `brackets`: 0 if it is no bracket, 1 if it opens, 2 if it closes. Fails with `TooSmall` if one of them has
-/// fewer items than there are code points, or else with `NoCharacter` at the first code point that is no scalar value.
+/// Writes the number of the class of each code point to the front of `classes`, and that of what its bracket does to
+/// the front of `brackets`: 0 if it is no bracket, 1 if it opens, 2 if it closes. Fails with `TooSmall` if one of them
+/// has fewer items than there are code points, or else with `NoCharacter` at the first code point that is no scalar
+/// value.
 pub fn write_properties(
     tables: &Tables,
     codes: &[u32],

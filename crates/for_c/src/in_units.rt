@@ -3,7 +3,8 @@ ghost use Rattle.std.specs.Prelude.{◌≡◌, ◌≤◌, ◌+◌, min, IfErr, I
 ghost use Rattle.room.specs.Looking.{line_in, size_in};
 ghost use Rattle.room.specs.Rooms.{characters_in, offset_in};
 ghost use Rattle.room.specs.Written.{WritesWhole};
-ghost use Rattle.for_c.specs.InUnits.{AreLevelBytes, IsIndexAt, IsLevelByteAt, IsUnitLine, IsParaByteAt, IsUnitRun, WritesLevelBytes, WritesUnitPlaces, run_in_units};
+ghost use Rattle.for_c.specs.InUnits.{AreLevelBytes, IsIndexAt, IsLevelByteAt, IsUnitLine, IsParaByteAt, IsUnitRun};
+ghost use Rattle.for_c.specs.InUnits.{WritesLevelBytes, WritesUnitPlaces, run_in_units};
 ghost use Rattle.for_c.specs.Positions.{RejectsLine};
 ghost use Rattle.for_c.specs.Runs.{RejectsRun};
 
@@ -90,8 +91,8 @@ pub fn write_unit_order(room: &Room, k: usize, out: &mut [usize]) -> usize
     room.order(k, out)
 }
 
-/// Writes the place of each unit of the line with the number `k`, in the line's order, to the front of `out`, if all fit
-/// there. Returns how many units the line has, 0 if there is no such line.
+/// Writes the place of each unit of the line with the number `k`, in the line's order, to the front of `out`, if all
+/// fit there. Returns how many units the line has, 0 if there is no such line.
 pub fn write_unit_places(room: &Room, k: usize, out: &mut [usize]) -> usize
     ensures { WritesUnitPlaces room.now k result out.old out.new }
 {

@@ -2,7 +2,8 @@
 ghost use Rattle.std.specs.Prelude.{◌≡◌, ◌↔◌, ◌≤◌, ◌<◌, [], true, false, IfErr, IfOk, MatchOption, OnOk, length, take};
 ghost use Rattle.std.specs.Option.{option_map};
 ghost use Rattle.std.specs.Arc.{arc_value};
-ghost use Rattle.for_c.specs.ReportCalls.{Ends, EndsReport, IsReady, RejectsBytes, Returns, ReturnsNext, Takes, TakesBytes};
+ghost use Rattle.for_c.specs.ReportCalls.{Ends, EndsReport, IsReady, RejectsBytes, Returns, ReturnsNext, Takes};
+ghost use Rattle.for_c.specs.ReportCalls.{TakesBytes};
 ghost use Rattle.for_c.specs.TableReports.{HasReported, cases_left};
 
 use crate::call_error::CallError;
