@@ -1,6 +1,6 @@
 //! The values that C gets (errors and statuses, limits, directions, lines, runs, level bytes, verdicts, wrong cases,
-//! counts), and what lies behind its calls apart from rooms: tables from files, properties, judges and reports. This
-//! crate has no handles and no pointers.
+//! counts), and what its calls do with the contents of a handle: a room, tables, a judge or a report. This crate has no
+//! handles and no pointers.
 #![tactic(auto)]
 
 pub mod base;
