@@ -1,6 +1,7 @@
 /* sizes UCD: the greatest sizes that calls take, where memory suffices: rooms of up to 16,777,216 code points or code
- * units that are filled, and property files of more than a million bytes. The output is stored in sizes.out, and is the
- * same for the published files as for those of the folder ucd. */
+ * units that are filled, property files of more than a million bytes, and tables with 65,538 owners. No call returns
+ * BIDI_MEMORY here, whatever the size. The output is stored in sizes.out, and is the same for the published files as for
+ * those of the folder ucd. */
 #include "bidi.h"
 #include "read_file.h"
 #include <string.h>
@@ -65,6 +66,41 @@ static void fill_encoded(bidi_tables *tables, size_t n) {
   free(text);
 }
 
+/* A room of each kind for n units, if it is made. */
+static void make_rooms(size_t n) {
+  bidi_room codes = BIDI_NONE, encoded = BIDI_NONE;
+  uint32_t status = bidi_room_new(n, &codes), encoded_status = bidi_room_new_encoded(n, &encoded);
+  printf("rooms of %zu: status %u %u, size %zu %zu\n", n, status, encoded_status, bidi_room_size(&codes),
+         bidi_room_size(&encoded));
+  bidi_room_free(&codes);
+  bidi_room_free(&encoded);
+}
+
+#define OWNERS 65537
+#define ROOMS 1024
+
+/* Tables with so many more owners, each of which lays out a text in one of many rooms. The first owner is freed before
+ * the others. */
+static void share_tables(bidi_tables *tables) {
+  static bidi_tables owners[OWNERS];
+  static bidi_room rooms[ROOMS];
+  static const uint32_t codes[] = { 0x5D0, ' ', '1' };
+  size_t failed = 0, wrong = 0;
+  uint64_t place = 0;
+  for (size_t i = 0; i < ROOMS; i++) failed += bidi_room_new(3, &rooms[i]) != BIDI_DONE;
+  for (size_t i = 0; i < OWNERS; i++) failed += bidi_tables_share(tables, &owners[i]) != BIDI_DONE;
+  bidi_tables_free(tables);
+  for (size_t i = 0; i < OWNERS; i++) {
+    bidi_room *room = &rooms[i % ROOMS];
+    uint8_t levels[3] = { 0 };
+    failed += bidi_lay_out(room, &owners[i], codes, 3, BIDI_AUTO, NULL, 0, &place) != BIDI_DONE;
+    wrong += bidi_levels(room, levels, 3) != 3 || levels[0] != 1 || levels[1] != 1 || levels[2] != 2;
+    bidi_tables_free(&owners[i]);
+  }
+  for (size_t i = 0; i < ROOMS; i++) bidi_room_free(&rooms[i]);
+  printf("%d owners of tables, %d rooms: %zu failed, %zu wrong\n", OWNERS, ROOMS, failed, wrong);
+}
+
 /* The bytes of a property file behind so many of comments. */
 static uint8_t *behind_comments(const char *folder, const char *name, size_t comments, size_t *n) {
   uint8_t *file = read_file(folder, name, n), *bytes = malloc(comments + *n);
@@ -101,6 +137,9 @@ int main(int argc, char **argv) {
   fill_room(&tables, 16777216);
   fill_encoded(&tables, 1000001);
   fill_encoded(&tables, 16777216);
-  bidi_tables_free(&tables);
+  make_rooms(65536);
+  make_rooms(65537);
+  make_rooms(1048577);
+  share_tables(&tables);
   return 0;
 }
