@@ -247,5 +247,5 @@ pub extern "C" fn bidi_encoded_line_of(
     ensures line { Answers (AtLineOf (encoded_at room.old) start end levels.old levels.new order.old order.new
         shown.old shown.new) result }
 {
-    status(line_of(room, true, start, end, levels, order, shown))
+    status(line_of(room, true, start..end, levels, order, shown))
 }

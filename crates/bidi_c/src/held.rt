@@ -13,6 +13,7 @@ use room::room::Room;
 use sources::numbered_units::NumberedUnit;
 use sources::source::{Ask, Source};
 use std::alloc::Global;
+use std::ops::Range;
 use std::sync::Arc;
 use ucdfiles::tables::Tables;
 use units::limits::Limits;
@@ -181,24 +182,23 @@ impl Held {
         }
     }
 
-    /// Lays out one line alone of the text of the room. Fails with `NoRoom` if it is no room of the kind that is asked
-    /// for, else as `RoomForC::line_of` does.
+    /// Lays out one line alone of the text of the room, from the start of the span up to its end. Fails with `NoRoom`
+    /// if it is no room of the kind that is asked for, else as `RoomForC::line_of` does.
     pub(crate) fn line_of(
         &mut self,
         encodes: bool,
-        start: usize,
-        end: usize,
+        span: Range<usize>,
         levels: &mut [u8],
         order: &mut [usize],
         shown: &mut usize,
     ) -> Result<(), CallError>
         ensures same { self.new ≡ self.old }
-        ensures line { AtLineOf (room_for encodes (Some self.old)) start end levels.old levels.new order.old order.new
-            shown.old shown.new result }
+        ensures line { AtLineOf (room_for encodes (Some self.old)) span.start span.end levels.old levels.new
+            order.old order.new shown.old shown.new result }
     {
         match self {
             Held::Room(room) if room.room().encodes() == encodes => {
-                room.line_of(start, end, levels, order, shown)
+                room.line_of(span.start, span.end, levels, order, shown)
             }
             _ => Err(CallError::NoRoom),
         }

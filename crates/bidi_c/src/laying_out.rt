@@ -15,6 +15,7 @@ use crate::bidi_handle::BidiHandle;
 use for_c::call_error::{CallError, status, status_and_place};
 use for_c::limits::BidiLimits;
 use sources::source::Source;
+use std::ops::Range;
 use units::limits::Limits;
 
 // Inlined, a call on a short text takes fewer instructions.
@@ -174,18 +175,17 @@ pub extern "C" fn bidi_set_lines(room: &mut BidiHandle, breaks: &[usize], place:
 pub(crate) fn line_of(
     room: &mut BidiHandle,
     encodes: bool,
-    start: usize,
-    end: usize,
+    span: Range<usize>,
     levels: &mut [u8],
     order: &mut [usize],
     shown: &mut usize,
 ) -> Result<(), CallError>
     ensures room { held_at room.new ≡ held_at room.old }
-    ensures line { AtLineOf (room_for encodes (held_at room.old)) start end levels.old levels.new order.old order.new
-        shown.old shown.new result }
+    ensures line { AtLineOf (room_for encodes (held_at room.old)) span.start span.end levels.old levels.new
+        order.old order.new shown.old shown.new result }
 {
     match room.held() {
-        Some(held) => held.line_of(encodes, start, end, levels, order, shown),
+        Some(held) => held.line_of(encodes, span, levels, order, shown),
         None => Err(CallError::NoRoom),
     }
 }
@@ -206,5 +206,5 @@ pub extern "C" fn bidi_line_of(
     ensures line { Answers (AtLineOf (room_for false (held_at room.old)) start end levels.old levels.new order.old
         order.new shown.old shown.new) result }
 {
-    status(line_of(room, false, start, end, levels, order, shown))
+    status(line_of(room, false, start..end, levels, order, shown))
 }
