@@ -6,13 +6,15 @@
  * call is proved to do.
  *
  * What a caller owes. Nothing checks it; each line says what goes wrong otherwise.
- *  - A handle (bidi_tables, bidi_room, bidi_judge, bidi_report) is BIDI_NONE before its first call, and only these calls change it.
- *    Else: a call follows a pointer that is none.
+ *  - A handle (bidi_tables, bidi_room, bidi_judge, bidi_report) is BIDI_NONE before its first call, and only these
+ *    calls change it. Else: a call follows a pointer that is none.
  *  - A handle that holds something is not copied; pass its address. Else: what it holds is used after it was freed.
  *    (bidi_tables_share makes another handle on the same tables.)
  *  - A handle that holds something is freed by its call. Else: its memory is lost, and nothing worse.
- *  - One call at a time uses a handle, a look-up too. Else: a call reads what another one writes. Threads that use the
- *    same tables at once have a handle each on them, which bidi_tables_share makes.
+ *  - While a call uses a handle that it does not take as `const`, no other call uses that handle. Else: a call reads
+ *    what another one writes. Calls that take a handle as `const` only read it: any number of them may run at once, in
+ *    any threads. (In the library such a call takes a reference that may be written through. It is proved that what
+ *    the handle holds is the same after the call, and the code only reads it, so no memory is written by two calls.)
  *  - Between calls a handle may move to another thread (that it may is proved, as `Send`), where what the first one
  *    did is known to it, as behind a lock, a start, a join or a sequentially consistent atomic. Else: as above.
  *  - Each pointer stands for as many items as its length says, and is aligned for its type; where the length is 0 it
@@ -122,60 +124,62 @@ uint32_t bidi_tables_standard(bidi_tables *tables);
 size_t bidi_edition(uint8_t *text, size_t capacity);
 /* The version of the product, as 1.1.0, in the same way. */
 size_t bidi_version(uint8_t *text, size_t capacity);
-/* `shared` holds the same tables as `tables` from now on, for another thread or for longer; what it held before is
- * freed. The tables are freed with the last of the handles and judges that hold them. */
-uint32_t bidi_tables_share(bidi_tables *tables, bidi_tables *shared);
+/* `shared` holds the same tables as `tables` from now on, also after `tables` is freed; what it held before is freed.
+ * The tables are freed with the last of the handles and judges that hold them. */
+uint32_t bidi_tables_share(const bidi_tables *tables, bidi_tables *shared);
 void bidi_tables_free(bidi_tables *tables);
 /* The mirror image of a code point (L4), or itself where it has none. */
-uint32_t bidi_mirror(bidi_tables *tables, uint32_t code);
+uint32_t bidi_mirror(const bidi_tables *tables, uint32_t code);
 /* The class of a code point by the tables: its number, as bidi_lay_out_classes takes it. BIDI_NO_TABLES, or else
  * BIDI_NO_CHARACTER: `code` is no scalar value. */
-uint32_t bidi_class(bidi_tables *tables, uint32_t code, uint8_t *class_number);
+uint32_t bidi_class(const bidi_tables *tables, uint32_t code, uint8_t *class_number);
 /* What a code point does as a bracket by the tables (BD14, BD15): BIDI_NO_BRACKET, BIDI_OPENING or BIDI_CLOSING. It is
  * refused as bidi_class is. */
 enum { BIDI_NO_BRACKET = 0, BIDI_OPENING = 1, BIDI_CLOSING = 2 };
-uint32_t bidi_bracket(bidi_tables *tables, uint32_t code, uint8_t *bracket);
+uint32_t bidi_bracket(const bidi_tables *tables, uint32_t code, uint8_t *bracket);
 
 /* What is known of a text of code points without a layout. The level of its first paragraph (P1 to P3), 0 or 1; and
  * whether it has only classes that stay at level 0, neither R, AL nor AN, and no initiator, 1 or 0: if so, all of its
  * levels are 0, unless its paragraphs are asked to be right-to-left. BIDI_NO_TABLES, or else BIDI_NO_DIRECTION, or else
  * BIDI_NO_CHARACTER, of which `place` is the index; what is asked for stays as it was then. No memory is taken. */
-uint32_t bidi_base_level(bidi_tables *tables, const uint32_t *codes, size_t n, uint32_t direction, uint8_t *level,
+uint32_t bidi_base_level(const bidi_tables *tables, const uint32_t *codes, size_t n, uint32_t direction, uint8_t *level,
                          uint64_t *place);
-uint32_t bidi_is_left_to_right(bidi_tables *tables, const uint32_t *codes, size_t n, uint8_t *stays, uint64_t *place);
+uint32_t bidi_is_left_to_right(const bidi_tables *tables, const uint32_t *codes, size_t n, uint8_t *stays,
+                               uint64_t *place);
 /* The level of each of a text's paragraphs, in their order: `count` says how many there are, no more than n, and they
  * are written only if all fit. It is refused as bidi_base_level is; `levels` and `count` stay as they were then. */
-uint32_t bidi_base_levels(bidi_tables *tables, const uint32_t *codes, size_t n, uint32_t direction, uint8_t *levels,
-                          size_t capacity, size_t *count, uint64_t *place);
+uint32_t bidi_base_levels(const bidi_tables *tables, const uint32_t *codes, size_t n, uint32_t direction,
+                          uint8_t *levels, size_t capacity, size_t *count, uint64_t *place);
 /* The same of a text in UTF-8 or UTF-16: BIDI_ILL_FORMED in place of BIDI_NO_CHARACTER, and `place` is then the offset
  * of the first code unit that is no part of a character. */
-uint32_t bidi_base_level_utf8(bidi_tables *tables, const uint8_t *text, size_t n, uint32_t direction, uint8_t *level,
-                              uint64_t *place);
-uint32_t bidi_base_level_utf16(bidi_tables *tables, const uint16_t *text, size_t n, uint32_t direction, uint8_t *level,
-                               uint64_t *place);
-uint32_t bidi_base_levels_utf8(bidi_tables *tables, const uint8_t *text, size_t n, uint32_t direction, uint8_t *levels,
-                               size_t capacity, size_t *count, uint64_t *place);
-uint32_t bidi_base_levels_utf16(bidi_tables *tables, const uint16_t *text, size_t n, uint32_t direction,
+uint32_t bidi_base_level_utf8(const bidi_tables *tables, const uint8_t *text, size_t n, uint32_t direction,
+                              uint8_t *level, uint64_t *place);
+uint32_t bidi_base_level_utf16(const bidi_tables *tables, const uint16_t *text, size_t n, uint32_t direction,
+                               uint8_t *level, uint64_t *place);
+uint32_t bidi_base_levels_utf8(const bidi_tables *tables, const uint8_t *text, size_t n, uint32_t direction,
+                               uint8_t *levels, size_t capacity, size_t *count, uint64_t *place);
+uint32_t bidi_base_levels_utf16(const bidi_tables *tables, const uint16_t *text, size_t n, uint32_t direction,
                                 uint8_t *levels, size_t capacity, size_t *count, uint64_t *place);
-uint32_t bidi_is_left_to_right_utf8(bidi_tables *tables, const uint8_t *text, size_t n, uint8_t *stays,
+uint32_t bidi_is_left_to_right_utf8(const bidi_tables *tables, const uint8_t *text, size_t n, uint8_t *stays,
                                     uint64_t *place);
-uint32_t bidi_is_left_to_right_utf16(bidi_tables *tables, const uint16_t *text, size_t n, uint8_t *stays,
+uint32_t bidi_is_left_to_right_utf16(const bidi_tables *tables, const uint16_t *text, size_t n, uint8_t *stays,
                                      uint64_t *place);
 
 /* Room for texts of up to n code points, 86 bytes for each. What `room` held before is freed once it is made. */
 uint32_t bidi_room_new(size_t n, bidi_room *room);
 void bidi_room_free(bidi_room *room);
 /* The n that the room was made for, 0 without a room. */
-size_t bidi_room_size(bidi_room *room);
+size_t bidi_room_size(const bidi_room *room);
 
 /* Lays out a text of code points (P1 to L2). Lines begin at its start, behind each paragraph separator, and at each of
  * `breaks`: positions of the text, rising, none 0, all below n. */
-uint32_t bidi_lay_out(bidi_room *room, bidi_tables *tables, const uint32_t *codes, size_t n, uint32_t direction,
+uint32_t bidi_lay_out(bidi_room *room, const bidi_tables *tables, const uint32_t *codes, size_t n, uint32_t direction,
                       const size_t *breaks, size_t break_count, uint64_t *place);
 
 /* The same by these limits. */
-uint32_t bidi_lay_out_with(bidi_room *room, bidi_tables *tables, const uint32_t *codes, size_t n, uint32_t direction,
-                           const size_t *breaks, size_t break_count, bidi_limits limits, uint64_t *place);
+uint32_t bidi_lay_out_with(bidi_room *room, const bidi_tables *tables, const uint32_t *codes, size_t n,
+                           uint32_t direction, const size_t *breaks, size_t break_count, bidi_limits limits,
+                           uint64_t *place);
 
 /* The same for a text of classes, which has no brackets. Classes by number, from 0:
  * L R AL EN ES ET AN CS NSM BN B S WS ON LRE LRO RLE RLO PDF LRI RLI FSI PDI. */
@@ -197,34 +201,34 @@ uint32_t bidi_line_of(bidi_room *room, size_t start, size_t end, uint8_t *levels
 
 /* Look-ups of what was laid out last. Each answers how many items there are, 0 where there is nothing of what is asked
  * for, and writes them only if all fit. */
-size_t bidi_levels(bidi_room *room, uint8_t *levels, size_t capacity);      /* after L1, one for each code point */
-size_t bidi_para_levels(bidi_room *room, uint8_t *levels, size_t capacity); /* P2, P3, one for each paragraph */
-size_t bidi_line_count(bidi_room *room);
+size_t bidi_levels(const bidi_room *room, uint8_t *levels, size_t capacity);      /* after L1, of each code point */
+size_t bidi_para_levels(const bidi_room *room, uint8_t *levels, size_t capacity); /* P2, P3, of each paragraph */
+size_t bidi_line_count(const bidi_room *room);
 
 /* Line k, from 0: [start, end) of the text, and how many of its positions are shown (X9 removes the others). */
 typedef struct { size_t start, end, shown; } bidi_line_t;
-uint32_t bidi_line(bidi_room *room, size_t k, bidi_line_t *line);
+uint32_t bidi_line(const bidi_room *room, size_t k, bidi_line_t *line);
 /* Its shown positions, those of the whole text, from left to right (L2): the map from places to positions. */
-size_t bidi_order(bidi_room *room, size_t k, size_t *order, size_t capacity);
+size_t bidi_order(const bidi_room *room, size_t k, size_t *order, size_t capacity);
 /* The place from the left of each of its positions, from `start` on: the map from positions to places. */
-size_t bidi_places(bidi_room *room, size_t k, size_t *places, size_t capacity);
+size_t bidi_places(const bidi_room *room, size_t k, size_t *places, size_t capacity);
 
 /* The visual run of line k that begins at the place `from`: positions [start, start + length), removed ones between
  * them included, but not beside them, of one level, which stand at the `shown` places from there. One after another:
  *   for (size_t at = 0; bidi_run(&room, k, at, &run) == BIDI_DONE; at += run.shown) */
 typedef struct { size_t start, length, shown; uint8_t level; } bidi_run_t;
-uint32_t bidi_run(bidi_room *room, size_t k, size_t from, bidi_run_t *run);
+uint32_t bidi_run(const bidi_room *room, size_t k, size_t from, bidi_run_t *run);
 /* All visual runs of line k from left to right, copied as bidi_order copies positions. They cover the line: each of its
  * positions is in just one of them. One that X9 removes has the level of the next one of its line that remains, and
  * that of the paragraph where none does, so a run may begin and end with such positions. Those at the line's end that
  * join no run are one of their own, whose `shown` is 0: the leftmost where the paragraph's level is 1, else the
  * rightmost. */
-size_t bidi_runs(bidi_room *room, size_t k, bidi_run_t *runs, size_t capacity);
+size_t bidi_runs(const bidi_room *room, size_t k, bidi_run_t *runs, size_t capacity);
 
 /* Line k as it is shown, from left to right, mirrored by the tables where the level is odd (L4). `codes` is the whole
  * text that was laid out; for one of another length the answer is 0. */
-size_t bidi_shown(bidi_room *room, bidi_tables *tables, const uint32_t *codes, size_t n, size_t k, uint32_t *shown,
-                  size_t capacity);
+size_t bidi_shown(const bidi_room *room, const bidi_tables *tables, const uint32_t *codes, size_t n, size_t k,
+                  uint32_t *shown, size_t capacity);
 
 /* Texts in UTF-8 and UTF-16, told of in offsets: how many code units (bytes, or 16 bits) stand before something. */
 
@@ -237,28 +241,28 @@ uint32_t bidi_room_new_encoded(size_t n, bidi_room *room);
  * a break out of range or not rising; BIDI_BREAK_INSIDE. The lossy calls refuse nothing as ill-formed, and read U+FFFD
  * there: of UTF-8 for each maximal subpart (of the bytes there, all that could begin a character, or else one), of
  * UTF-16 for each surrogate that stands alone. No break stands within such a part. */
-uint32_t bidi_lay_out_utf8(bidi_room *room, bidi_tables *tables, const uint8_t *text, size_t n, uint32_t direction,
-                           const size_t *breaks, size_t break_count, uint64_t *place);
-uint32_t bidi_lay_out_utf8_lossy(bidi_room *room, bidi_tables *tables, const uint8_t *text, size_t n,
+uint32_t bidi_lay_out_utf8(bidi_room *room, const bidi_tables *tables, const uint8_t *text, size_t n,
+                           uint32_t direction, const size_t *breaks, size_t break_count, uint64_t *place);
+uint32_t bidi_lay_out_utf8_lossy(bidi_room *room, const bidi_tables *tables, const uint8_t *text, size_t n,
                                  uint32_t direction, const size_t *breaks, size_t break_count, uint64_t *place);
-uint32_t bidi_lay_out_utf16(bidi_room *room, bidi_tables *tables, const uint16_t *text, size_t n, uint32_t direction,
-                            const size_t *breaks, size_t break_count, uint64_t *place);
-uint32_t bidi_lay_out_utf16_lossy(bidi_room *room, bidi_tables *tables, const uint16_t *text, size_t n,
+uint32_t bidi_lay_out_utf16(bidi_room *room, const bidi_tables *tables, const uint16_t *text, size_t n,
+                            uint32_t direction, const size_t *breaks, size_t break_count, uint64_t *place);
+uint32_t bidi_lay_out_utf16_lossy(bidi_room *room, const bidi_tables *tables, const uint16_t *text, size_t n,
                                   uint32_t direction, const size_t *breaks, size_t break_count, uint64_t *place);
 
 /* The same by these limits. */
-uint32_t bidi_lay_out_utf8_with(bidi_room *room, bidi_tables *tables, const uint8_t *text, size_t n,
+uint32_t bidi_lay_out_utf8_with(bidi_room *room, const bidi_tables *tables, const uint8_t *text, size_t n,
                                 uint32_t direction, const size_t *breaks, size_t break_count, bidi_limits limits,
                                 uint64_t *place);
-uint32_t bidi_lay_out_utf8_lossy_with(bidi_room *room, bidi_tables *tables, const uint8_t *text, size_t n,
-                                      uint32_t direction, const size_t *breaks, size_t break_count,
-                                      bidi_limits limits, uint64_t *place);
-uint32_t bidi_lay_out_utf16_with(bidi_room *room, bidi_tables *tables, const uint16_t *text, size_t n,
+uint32_t bidi_lay_out_utf8_lossy_with(bidi_room *room, const bidi_tables *tables, const uint8_t *text, size_t n,
+                                      uint32_t direction, const size_t *breaks, size_t break_count, bidi_limits limits,
+                                      uint64_t *place);
+uint32_t bidi_lay_out_utf16_with(bidi_room *room, const bidi_tables *tables, const uint16_t *text, size_t n,
                                  uint32_t direction, const size_t *breaks, size_t break_count, bidi_limits limits,
                                  uint64_t *place);
-uint32_t bidi_lay_out_utf16_lossy_with(bidi_room *room, bidi_tables *tables, const uint16_t *text, size_t n,
-                                       uint32_t direction, const size_t *breaks, size_t break_count,
-                                       bidi_limits limits, uint64_t *place);
+uint32_t bidi_lay_out_utf16_lossy_with(bidi_room *room, const bidi_tables *tables, const uint16_t *text, size_t n,
+                                       uint32_t direction, const size_t *breaks, size_t break_count, bidi_limits limits,
+                                       uint64_t *place);
 
 /* Breaks the text that the room holds into lines anew as bidi_set_lines does, but at offsets, which are refused as the
  * calls above refuse them. The room then holds the lines that it held. */
@@ -267,36 +271,36 @@ uint32_t bidi_encoded_set_lines(bidi_room *room, const size_t *breaks, size_t br
 /* From an offset to the index of the character that the code unit there belongs to, from the text's end on how many
  * characters it has; and from a character to the offset at which it begins, behind the last one that of the text's end.
  * Without such room both are 0. */
-size_t bidi_index_of(bidi_room *room, size_t offset);
-size_t bidi_offset_of(bidi_room *room, size_t index);
+size_t bidi_index_of(const bidi_room *room, size_t offset);
+size_t bidi_offset_of(const bidi_room *room, size_t index);
 /* The level of the code unit at an offset, that of its character: BIDI_REMOVED where X9 removes it, and where there is
  * no such code unit; and the levels of all of them, copied as bidi_levels does those of characters. */
-uint8_t bidi_level_at(bidi_room *room, size_t offset);
-size_t bidi_encoded_levels(bidi_room *room, uint8_t *levels, size_t capacity);
+uint8_t bidi_level_at(const bidi_room *room, size_t offset);
+size_t bidi_encoded_levels(const bidi_room *room, uint8_t *levels, size_t capacity);
 /* Line k as bidi_line tells of it, but with `start` and `end` in offsets. */
-uint32_t bidi_encoded_line(bidi_room *room, size_t k, bidi_line_t *line);
+uint32_t bidi_encoded_line(const bidi_room *room, size_t k, bidi_line_t *line);
 /* The offsets at which the shown characters of line k begin, from left to right (L2), copied as bidi_order copies their
  * indices. */
-size_t bidi_encoded_order(bidi_room *room, size_t k, size_t *order, size_t capacity);
+size_t bidi_encoded_order(const bidi_room *room, size_t k, size_t *order, size_t capacity);
 /* The visual run of line k that begins at the place `from`, as bidi_run tells of it, but with `start` and `length` in
  * code units. */
-uint32_t bidi_encoded_run(bidi_room *room, size_t k, size_t from, bidi_run_t *run);
+uint32_t bidi_encoded_run(const bidi_room *room, size_t k, size_t from, bidi_run_t *run);
 /* All visual runs of line k as bidi_runs tells them, but with `start` and `length` in code units. */
-size_t bidi_encoded_runs(bidi_room *room, size_t k, bidi_run_t *runs, size_t capacity);
-/* The place from the left of each code unit of line k, from its `start` on: that of its character, copied as bidi_places
- * copies those of positions. */
-size_t bidi_encoded_places(bidi_room *room, size_t k, size_t *places, size_t capacity);
+size_t bidi_encoded_runs(const bidi_room *room, size_t k, bidi_run_t *runs, size_t capacity);
+/* The place from the left of each code unit of line k, from its `start` on: that of its character, copied as
+ * bidi_places copies those of positions. */
+size_t bidi_encoded_places(const bidi_room *room, size_t k, size_t *places, size_t capacity);
 /* Line k as bidi_shown writes it, but in the encoding of the text that was laid out: `text` is the whole text, and code
  * units are counted. What was read as U+FFFD is shown as U+FFFD. For a text of another length the answer is 0. */
-size_t bidi_encoded_shown_utf8(bidi_room *room, bidi_tables *tables, const uint8_t *text, size_t n, size_t k,
-                               uint8_t *shown, size_t capacity);
-size_t bidi_encoded_shown_utf16(bidi_room *room, bidi_tables *tables, const uint16_t *text, size_t n, size_t k,
-                                uint16_t *shown, size_t capacity);
+size_t bidi_encoded_shown_utf8(const bidi_room *room, const bidi_tables *tables, const uint8_t *text, size_t n,
+                               size_t k, uint8_t *shown, size_t capacity);
+size_t bidi_encoded_shown_utf16(const bidi_room *room, const bidi_tables *tables, const uint16_t *text, size_t n,
+                                size_t k, uint16_t *shown, size_t capacity);
 /* The level of the paragraph (P2, P3) in which the code unit at an offset lies; 255 if there is no such code unit. */
-uint8_t bidi_encoded_para_level_at(bidi_room *room, size_t offset);
-/* One line alone of the text, as bidi_line_of lays it out, but from the offset `start` up to `end`: the level of each of
- * its code units, the offsets of its shown characters from left to right, and how many these are. BIDI_BREAK_INSIDE if
- * it starts or ends inside a character; nothing is written then. */
+uint8_t bidi_encoded_para_level_at(const bidi_room *room, size_t offset);
+/* One line alone of the text, as bidi_line_of lays it out, but from the offset `start` up to `end`: the level of each
+ * of its code units, the offsets of its shown characters from left to right, and how many these are. BIDI_BREAK_INSIDE
+ * if it starts or ends inside a character; nothing is written then. */
 uint32_t bidi_encoded_line_of(bidi_room *room, size_t start, size_t end, uint8_t *levels, size_t level_capacity,
                               size_t *order, size_t order_capacity, size_t *shown);
 
@@ -306,13 +310,13 @@ uint32_t bidi_encoded_line_of(bidi_room *room, size_t start, size_t end, uint8_t
 
 /* The class and the bracket of each of n code points, as bidi_class and bidi_bracket give them, to the fronts of two
  * arrays. BIDI_NO_TABLES; BIDI_TOO_SMALL: one of the arrays takes fewer than n items; BIDI_NO_CHARACTER. */
-uint32_t bidi_classes(bidi_tables *tables, const uint32_t *codes, size_t n, uint8_t *classes, size_t class_capacity,
-                      uint8_t *brackets, size_t bracket_capacity, uint64_t *place);
+uint32_t bidi_classes(const bidi_tables *tables, const uint32_t *codes, size_t n, uint8_t *classes,
+                      size_t class_capacity, uint8_t *brackets, size_t bracket_capacity, uint64_t *place);
 /* The bracket that a code point pairs with (BD14 to BD16): the one that closes it, or the one that it closes. 0: it is
  * no bracket, or no scalar value, or pairs with none by the tables, or there are no tables. Canonically equivalent
  * brackets have the same partner by the published files: 3009 for 2329 and for 3008. So the partner of a bracket's
  * partner is the same for both. */
-uint32_t bidi_paired_bracket(bidi_tables *tables, uint32_t code);
+uint32_t bidi_paired_bracket(const bidi_tables *tables, uint32_t code);
 /* The level of the first paragraph of a text of classes by number, as bidi_base_level has it of code points.
  * BIDI_NO_DIRECTION; BIDI_NO_CLASS. */
 uint32_t bidi_base_level_classes(const uint8_t *classes, size_t n, uint32_t direction, uint8_t *level, uint64_t *place);
@@ -340,15 +344,15 @@ uint32_t bidi_lay_out_units(bidi_room *room, const bidi_unit *units, size_t n, u
  * bidi_whole_levels: after L1, where one that X9 removes has the level of the one before it; at the start of a
  * paragraph, and if only white space, isolate formatting characters and what X9 removes come between it and the next
  * separator or the text's end, it has that of its paragraph. */
-size_t bidi_resolved_levels(bidi_room *room, uint8_t *levels, size_t capacity);
-size_t bidi_whole_levels(bidi_room *room, uint8_t *levels, size_t capacity);
+size_t bidi_resolved_levels(const bidi_room *room, uint8_t *levels, size_t capacity);
+size_t bidi_whole_levels(const bidi_room *room, uint8_t *levels, size_t capacity);
 
 /* A judge of a BidiTest.txt. What `judge` held before is freed once it is made. */
 uint32_t bidi_judge_new_classes(bidi_judge *judge);
 uint32_t bidi_judge_new_classes_with(bidi_judge *judge, bidi_limits limits);
 /* A judge of a BidiCharacterTest.txt by tables, which it shares: `tables` keeps them, and may be freed before it. */
-uint32_t bidi_judge_new_characters(bidi_tables *tables, bidi_judge *judge);
-uint32_t bidi_judge_new_characters_with(bidi_tables *tables, bidi_judge *judge, bidi_limits limits);
+uint32_t bidi_judge_new_characters(const bidi_tables *tables, bidi_judge *judge);
+uint32_t bidi_judge_new_characters_with(const bidi_tables *tables, bidi_judge *judge, bidi_limits limits);
 void bidi_judge_free(bidi_judge *judge);
 /* The next bytes of the file, as many or as few as there are. */
 uint32_t bidi_judge_feed(bidi_judge *judge, const uint8_t *bytes, size_t n);
@@ -375,8 +379,8 @@ uint32_t bidi_judge_finish(bidi_judge *judge, bidi_verdict *verdict);
 
 /* The line that says a verdict, as the command prints it, with its LF and no zero behind it. It is written to `text` if
  * it fits there, and `length` says how many bytes it has: behind BIDI_DONE, and behind BIDI_TOO_SMALL, where
- * nothing is written, as with a capacity of 0. BIDI_NO_VERDICT: a number is none of those above, or one that the verdict
- * doesn't name is not 0; `length` stays as it was then, and behind BIDI_MEMORY. No line has more than
+ * nothing is written, as with a capacity of 0. BIDI_NO_VERDICT: a number is none of those above, or one that the
+ * verdict doesn't name is not 0; `length` stays as it was then, and behind BIDI_MEMORY. No line has more than
  * BIDI_VERDICT_LINE bytes. */
 #define BIDI_VERDICT_LINE 72
 uint32_t bidi_verdict_text(const bidi_verdict *verdict, uint8_t *text, size_t capacity, size_t *length);
@@ -392,8 +396,8 @@ uint32_t bidi_verdict_text(const bidi_verdict *verdict, uint8_t *text, size_t ca
 typedef struct { void *at; bool made; } bidi_report;
 uint32_t bidi_report_new_classes(bidi_report *report);
 uint32_t bidi_report_new_classes_with(bidi_report *report, bidi_limits limits);
-uint32_t bidi_report_new_characters(bidi_tables *tables, bidi_report *report);
-uint32_t bidi_report_new_characters_with(bidi_tables *tables, bidi_report *report, bidi_limits limits);
+uint32_t bidi_report_new_characters(const bidi_tables *tables, bidi_report *report);
+uint32_t bidi_report_new_characters_with(const bidi_tables *tables, bidi_report *report, bidi_limits limits);
 void bidi_report_free(bidi_report *report);
 /* The next bytes of the file, as many or as few as there are. It stops behind the first line that has wrong cases, or
  * takes all: `used` says how many bytes that were. BIDI_NO_REPORT, or else BIDI_CASES_LEFT: bidi_report_next has not

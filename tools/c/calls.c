@@ -110,8 +110,8 @@ static void refuse_files(bidi_tables *tables) {
   print_fault("mirrors", status, &fault, tables);
 }
 
-typedef uint32_t run_call(bidi_room *, size_t, size_t, bidi_run_t *);
-typedef size_t runs_call(bidi_room *, size_t, bidi_run_t *, size_t);
+typedef uint32_t run_call(const bidi_room *, size_t, size_t, bidi_run_t *);
+typedef size_t runs_call(const bidi_room *, size_t, bidi_run_t *, size_t);
 
 /* The statuses of the runs of line 0 from the place behind its last and from one further on, and of the line behind the
  * last, how many runs these two lines have, and whether what was there is left. */

@@ -1,4 +1,4 @@
-// The header as C++ reads it.
+// The header as C++ reads it. What was laid out is read by a room that is not `const`, and by one that is.
 #include "bidi.h"
 #include <cstdio>
 int main() {
@@ -9,7 +9,9 @@ int main() {
   uint8_t levels[2];
   if (bidi_room_new(2, &room) || bidi_lay_out_classes(&room, classes, 2, BIDI_AUTO, none, 0, &place)) return 1;
   std::printf("C++: %zu levels", bidi_levels(&room, levels, 2));
-  std::printf(" %u %u\n", levels[0], levels[1]);
+  std::printf(" %u %u", levels[0], levels[1]);
+  const bidi_room &read = room;
+  std::printf(", again %zu\n", bidi_levels(&read, levels, 2));
   bidi_room_free(&room);
   return 0;
 }

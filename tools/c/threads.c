@@ -1,6 +1,7 @@
-/* threads UCD: eight threads lay out texts at once by the same tables, each by a handle of its own on them and in a room
- * of its own, and two of them judge a file by these tables besides; the answers are those of one thread. The handle that
- * the tables came from is freed while they work, and a room is made in one thread and read in another. */
+/* threads UCD: eight threads lay out texts at once by the same tables, each by a handle of its own on them and in a
+ * room of its own, and two of them judge a file by these tables besides; the results are those of one thread. The
+ * handle that the tables came from is freed while they work, and a room is made in one thread and read in another. Then
+ * eight threads read one room and one handle on tables at once, lay out by that handle, and share it. */
 #include "bidi.h"
 #include "read_file.h"
 #include <pthread.h>
@@ -38,19 +39,26 @@ static size_t text_of(size_t number, uint32_t *codes) {
   return n;
 }
 
-static bool lays_out(bidi_room *room, bidi_tables *tables, size_t number, answer *found) {
+/* Reads the text with this number, which the room holds. */
+static void read_out(const bidi_room *room, const bidi_tables *tables, size_t number, answer *found) {
+  uint32_t codes[LENGTH];
+  size_t n = text_of(number, codes);
+  memset(found, 0, sizeof *found);
+  found->levels_count = bidi_levels(room, found->levels, LENGTH);
+  found->shown_count = bidi_shown(room, tables, codes, n, 0, found->shown, LENGTH);
+}
+
+static bool lays_out(bidi_room *room, const bidi_tables *tables, size_t number, answer *found) {
   const size_t none[1] = { 0 };
   uint32_t codes[LENGTH];
   size_t n = text_of(number, codes);
   uint64_t place;
-  memset(found, 0, sizeof *found);
   if (bidi_lay_out(room, tables, codes, n, number % 4, none, 0, &place)) return false;
-  found->levels_count = bidi_levels(room, found->levels, LENGTH);
-  found->shown_count = bidi_shown(room, tables, codes, n, 0, found->shown, LENGTH);
+  read_out(room, tables, number, found);
   return true;
 }
 
-static bool judges_right(bidi_tables *tables) {
+static bool judges_right(const bidi_tables *tables) {
   static const char row[] = "0061 05D0;2;0;0 1;0 1\n";
   bidi_judge judge = BIDI_NONE;
   bidi_verdict verdict;
@@ -73,6 +81,54 @@ static void *work(void *passed) {
   return NULL;
 }
 
+/* What the threads read that share a room and a handle on tables. `own` is the room of one of them. */
+typedef struct {
+  pthread_t thread;
+  const bidi_tables *tables;
+  const bidi_room *read;
+  bidi_room own;
+  size_t wrong;
+} reader;
+
+/* The room that all readers read holds the text with the number 0. */
+static void *read_shared(void *passed) {
+  reader *self = passed;
+  for (size_t round = 0; round < 400; round++) {
+    const bidi_room *room = self->read;
+    bidi_tables shared = BIDI_NONE;
+    answer found, own;
+    bidi_line_t line = { 0 };
+    bidi_run_t run;
+    size_t number = round % TEXTS;
+    read_out(room, self->tables, 0, &found);
+    self->wrong += memcmp(&found, &expected[0], sizeof found) != 0;
+    self->wrong += bidi_line_count(room) != 1 || bidi_line(room, 0, &line) || line.shown != found.shown_count;
+    self->wrong += bidi_run(room, 0, 0, &run) || bidi_runs(room, 0, NULL, 0) == 0;
+    self->wrong += !lays_out(&self->own, self->tables, number, &own) || memcmp(&own, &expected[number], sizeof own);
+    self->wrong += bidi_tables_share(self->tables, &shared) || bidi_mirror(&shared, '(') != ')';
+    bidi_tables_free(&shared);
+  }
+  return NULL;
+}
+
+/* How many results of these threads are wrong. */
+static size_t read_at_once(const bidi_tables *tables, const bidi_room *room) {
+  static reader readers[THREADS];
+  size_t wrong = 0;
+  for (size_t i = 0; i < THREADS; i++) {
+    reader *it = &readers[i];
+    it->tables = tables;
+    it->read = room;
+    if (bidi_room_new(LENGTH, &it->own) || pthread_create(&it->thread, NULL, read_shared, it)) exit(2);
+  }
+  for (size_t i = 0; i < THREADS; i++) {
+    pthread_join(readers[i].thread, NULL);
+    wrong += readers[i].wrong;
+    bidi_room_free(&readers[i].own);
+  }
+  return wrong;
+}
+
 int main(int argc, char **argv) {
   bidi_tables tables = BIDI_NONE;
   bidi_room room = BIDI_NONE;
@@ -87,6 +143,8 @@ int main(int argc, char **argv) {
     if (bidi_tables_share(&tables, &it->tables) || bidi_room_new(LENGTH, &it->room)) return 2;
     if (pthread_create(&it->thread, NULL, work, it)) return 2;
   }
+  bidi_tables kept = BIDI_NONE;
+  if (bidi_tables_share(&tables, &kept)) return 2;
   bidi_tables_free(&tables);
   for (size_t i = 0; i < THREADS; i++) {
     uint8_t levels[LENGTH];
@@ -96,7 +154,12 @@ int main(int argc, char **argv) {
     wrong += workers[i].wrong + (n != last->levels_count || memcmp(levels, last->levels, n));
     bidi_room_free(&workers[i].room);
   }
-  bidi_room_free(&room);
   printf("threads %d, texts %d: %zu wrong\n", THREADS, TEXTS, wrong);
-  return wrong != 0;
+  answer first;
+  size_t wrong_read = !lays_out(&room, &kept, 0, &first);
+  wrong_read += read_at_once(&kept, &room);
+  printf("threads %d, one room and one handle on tables: %zu wrong\n", THREADS, wrong_read);
+  bidi_room_free(&room);
+  bidi_tables_free(&kept);
+  return wrong + wrong_read != 0;
 }
