@@ -9,6 +9,7 @@ macro_rules! handles {
     ($($name:ident)*) => {
         $(
             #[repr(C)]
+            #[derive(Debug)]
             #[allow(dead_code)] // only the library reads the fields
             pub struct $name {
                 at: *mut c_void,
@@ -146,13 +147,13 @@ extern "C" {
     pub fn bidi_tables_standard(tables: *mut bidi_tables) -> u32;
     pub fn bidi_edition(text: *mut u8, capacity: usize) -> usize;
     pub fn bidi_version(text: *mut u8, capacity: usize) -> usize;
-    pub fn bidi_tables_share(tables: *mut bidi_tables, shared: *mut bidi_tables) -> u32;
+    pub fn bidi_tables_share(tables: *const bidi_tables, shared: *mut bidi_tables) -> u32;
     pub fn bidi_tables_free(tables: *mut bidi_tables);
-    pub fn bidi_mirror(tables: *mut bidi_tables, code: u32) -> u32;
-    pub fn bidi_class(tables: *mut bidi_tables, code: u32, class_number: *mut u8) -> u32;
-    pub fn bidi_bracket(tables: *mut bidi_tables, code: u32, bracket: *mut u8) -> u32;
+    pub fn bidi_mirror(tables: *const bidi_tables, code: u32) -> u32;
+    pub fn bidi_class(tables: *const bidi_tables, code: u32, class_number: *mut u8) -> u32;
+    pub fn bidi_bracket(tables: *const bidi_tables, code: u32, bracket: *mut u8) -> u32;
     pub fn bidi_base_level_utf8(
-        tables: *mut bidi_tables,
+        tables: *const bidi_tables,
         text: *const u8,
         n: usize,
         direction: u32,
@@ -160,7 +161,7 @@ extern "C" {
         place: *mut u64,
     ) -> u32;
     pub fn bidi_base_level_utf16(
-        tables: *mut bidi_tables,
+        tables: *const bidi_tables,
         text: *const u16,
         n: usize,
         direction: u32,
@@ -168,7 +169,7 @@ extern "C" {
         place: *mut u64,
     ) -> u32;
     pub fn bidi_base_levels_utf8(
-        tables: *mut bidi_tables,
+        tables: *const bidi_tables,
         text: *const u8,
         n: usize,
         direction: u32,
@@ -178,7 +179,7 @@ extern "C" {
         place: *mut u64,
     ) -> u32;
     pub fn bidi_base_levels_utf16(
-        tables: *mut bidi_tables,
+        tables: *const bidi_tables,
         text: *const u16,
         n: usize,
         direction: u32,
@@ -188,26 +189,26 @@ extern "C" {
         place: *mut u64,
     ) -> u32;
     pub fn bidi_is_left_to_right_utf8(
-        tables: *mut bidi_tables,
+        tables: *const bidi_tables,
         text: *const u8,
         n: usize,
         stays: *mut u8,
         place: *mut u64,
     ) -> u32;
     pub fn bidi_is_left_to_right_utf16(
-        tables: *mut bidi_tables,
+        tables: *const bidi_tables,
         text: *const u16,
         n: usize,
         stays: *mut u8,
         place: *mut u64,
     ) -> u32;
     pub fn bidi_room_free(room: *mut bidi_room);
-    pub fn bidi_room_size(room: *mut bidi_room) -> usize;
-    pub fn bidi_para_levels(room: *mut bidi_room, levels: *mut u8, capacity: usize) -> usize;
-    pub fn bidi_line_count(room: *mut bidi_room) -> usize;
+    pub fn bidi_room_size(room: *const bidi_room) -> usize;
+    pub fn bidi_para_levels(room: *const bidi_room, levels: *mut u8, capacity: usize) -> usize;
+    pub fn bidi_line_count(room: *const bidi_room) -> usize;
     pub fn bidi_shown(
-        room: *mut bidi_room,
-        tables: *mut bidi_tables,
+        room: *const bidi_room,
+        tables: *const bidi_tables,
         codes: *const u32,
         n: usize,
         k: usize,
@@ -217,7 +218,7 @@ extern "C" {
     pub fn bidi_room_new_encoded(n: usize, room: *mut bidi_room) -> u32;
     pub fn bidi_lay_out_utf8_with(
         room: *mut bidi_room,
-        tables: *mut bidi_tables,
+        tables: *const bidi_tables,
         text: *const u8,
         n: usize,
         direction: u32,
@@ -228,7 +229,7 @@ extern "C" {
     ) -> u32;
     pub fn bidi_lay_out_utf8_lossy_with(
         room: *mut bidi_room,
-        tables: *mut bidi_tables,
+        tables: *const bidi_tables,
         text: *const u8,
         n: usize,
         direction: u32,
@@ -239,7 +240,7 @@ extern "C" {
     ) -> u32;
     pub fn bidi_lay_out_utf16_with(
         room: *mut bidi_room,
-        tables: *mut bidi_tables,
+        tables: *const bidi_tables,
         text: *const u16,
         n: usize,
         direction: u32,
@@ -250,7 +251,7 @@ extern "C" {
     ) -> u32;
     pub fn bidi_lay_out_utf16_lossy_with(
         room: *mut bidi_room,
-        tables: *mut bidi_tables,
+        tables: *const bidi_tables,
         text: *const u16,
         n: usize,
         direction: u32,
@@ -265,15 +266,15 @@ extern "C" {
         break_count: usize,
         place: *mut u64,
     ) -> u32;
-    pub fn bidi_index_of(room: *mut bidi_room, offset: usize) -> usize;
-    pub fn bidi_offset_of(room: *mut bidi_room, index: usize) -> usize;
-    pub fn bidi_level_at(room: *mut bidi_room, offset: usize) -> u8;
-    pub fn bidi_encoded_levels(room: *mut bidi_room, levels: *mut u8, capacity: usize) -> usize;
-    pub fn bidi_encoded_line(room: *mut bidi_room, k: usize, line: *mut bidi_line_t) -> u32;
-    pub fn bidi_encoded_order(room: *mut bidi_room, k: usize, order: *mut usize, capacity: usize) -> usize;
-    pub fn bidi_encoded_runs(room: *mut bidi_room, k: usize, runs: *mut bidi_run_t, capacity: usize) -> usize;
-    pub fn bidi_encoded_places(room: *mut bidi_room, k: usize, places: *mut usize, capacity: usize) -> usize;
-    pub fn bidi_encoded_para_level_at(room: *mut bidi_room, offset: usize) -> u8;
+    pub fn bidi_index_of(room: *const bidi_room, offset: usize) -> usize;
+    pub fn bidi_offset_of(room: *const bidi_room, index: usize) -> usize;
+    pub fn bidi_level_at(room: *const bidi_room, offset: usize) -> u8;
+    pub fn bidi_encoded_levels(room: *const bidi_room, levels: *mut u8, capacity: usize) -> usize;
+    pub fn bidi_encoded_line(room: *const bidi_room, k: usize, line: *mut bidi_line_t) -> u32;
+    pub fn bidi_encoded_order(room: *const bidi_room, k: usize, order: *mut usize, capacity: usize) -> usize;
+    pub fn bidi_encoded_runs(room: *const bidi_room, k: usize, runs: *mut bidi_run_t, capacity: usize) -> usize;
+    pub fn bidi_encoded_places(room: *const bidi_room, k: usize, places: *mut usize, capacity: usize) -> usize;
+    pub fn bidi_encoded_para_level_at(room: *const bidi_room, offset: usize) -> u8;
     pub fn bidi_encoded_line_of(
         room: *mut bidi_room,
         start: usize,
@@ -285,15 +286,18 @@ extern "C" {
         shown: *mut usize,
     ) -> u32;
     pub fn bidi_judge_new_classes_with(judge: *mut bidi_judge, limits: bidi_limits) -> u32;
-    pub fn bidi_judge_new_characters_with(tables: *mut bidi_tables, judge: *mut bidi_judge, limits: bidi_limits)
-        -> u32;
+    pub fn bidi_judge_new_characters_with(
+        tables: *const bidi_tables,
+        judge: *mut bidi_judge,
+        limits: bidi_limits,
+    ) -> u32;
     pub fn bidi_judge_free(judge: *mut bidi_judge);
     pub fn bidi_judge_feed(judge: *mut bidi_judge, bytes: *const u8, n: usize) -> u32;
     pub fn bidi_judge_finish(judge: *mut bidi_judge, verdict: *mut bidi_verdict) -> u32;
     pub fn bidi_verdict_text(verdict: *const bidi_verdict, text: *mut u8, capacity: usize, length: *mut usize) -> u32;
     pub fn bidi_report_new_classes_with(report: *mut bidi_report, limits: bidi_limits) -> u32;
     pub fn bidi_report_new_characters_with(
-        tables: *mut bidi_tables,
+        tables: *const bidi_tables,
         report: *mut bidi_report,
         limits: bidi_limits,
     ) -> u32;

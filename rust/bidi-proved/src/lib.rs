@@ -24,9 +24,8 @@
 //!
 //! # Threads
 //!
-//! [`Tables`], [`Room`], [`Layout`], [`Judge`] and [`Report`] are `Send` and not `Sync`: two calls of the library must
-//! not use one of them at once, not even look-ups. Each thread takes a room of its own, and tables of its own, which
-//! [`Tables::share`] makes at the cost of a handle.
+//! Any number of threads use the same [`Tables`] at once, by reference or by [`Tables::share`]. [`Room`], [`Layout`],
+//! [`Judge`] and [`Report`] are `Send` and not `Sync`: each thread takes a room of its own.
 #![warn(missing_docs)]
 #![deny(unsafe_op_in_unsafe_fn)]
 

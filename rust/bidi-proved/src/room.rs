@@ -21,7 +21,7 @@ unsafe impl Send for Room {}
 /// A call of the library that lays out a text in units `U`.
 type Call<U> = unsafe extern "C" fn(
     *mut ffi::bidi_room,
-    *mut ffi::bidi_tables,
+    *const ffi::bidi_tables,
     *const U,
     usize,
     u32,

@@ -2,26 +2,28 @@
 use crate::error::{check, check_files, Error};
 use crate::ffi;
 use crate::numbers::{Bracket, Class, Direction, Level};
-use std::cell::UnsafeCell;
 
 /// The classes, brackets and mirrored characters of one edition of Unicode.
 ///
-/// One thread at a time uses them; [`share`](Tables::share) returns the same tables for another thread.
+/// Any number of threads use them at once. [`share`](Tables::share) returns the same tables with a lifetime of their own.
 #[derive(Debug)]
 pub struct Tables {
-    handle: UnsafeCell<ffi::bidi_tables>,
+    handle: ffi::bidi_tables,
 }
 
-// SAFETY: a handle may move to another thread between calls (bidi.h). Each call takes a reference to `Tables`, which
-// are not `Sync`, so no two calls are made at once.
+// SAFETY: a handle may move to another thread between calls (bidi.h).
 unsafe impl Send for Tables {}
+
+// SAFETY: each call that takes a `&Tables` passes its handle as `const`, and any number of such calls may run at once
+// (bidi.h).
+unsafe impl Sync for Tables {}
 
 /// Calls of the library that say something of a text in units `U`: the level of its first paragraph, that of each, and
 /// whether it stays at level 0.
-type LevelCall<U> = unsafe extern "C" fn(*mut ffi::bidi_tables, *const U, usize, u32, *mut u8, *mut u64) -> u32;
+type LevelCall<U> = unsafe extern "C" fn(*const ffi::bidi_tables, *const U, usize, u32, *mut u8, *mut u64) -> u32;
 type LevelsCall<U> =
-    unsafe extern "C" fn(*mut ffi::bidi_tables, *const U, usize, u32, *mut u8, usize, *mut usize, *mut u64) -> u32;
-type StaysCall<U> = unsafe extern "C" fn(*mut ffi::bidi_tables, *const U, usize, *mut u8, *mut u64) -> u32;
+    unsafe extern "C" fn(*const ffi::bidi_tables, *const U, usize, u32, *mut u8, usize, *mut usize, *mut u64) -> u32;
+type StaysCall<U> = unsafe extern "C" fn(*const ffi::bidi_tables, *const U, usize, *mut u8, *mut u64) -> u32;
 
 impl Tables {
     /// Returns the tables that are built into the library. They are constants: nothing is read, and memory is taken for
@@ -29,9 +31,9 @@ impl Tables {
     ///
     /// Fails with `Memory`.
     pub fn standard() -> Result<Self, Error> {
-        let tables = Self::none();
+        let mut tables = Self::none();
         // SAFETY: the handle begins as `BIDI_NONE`, and only calls of the library change it.
-        check(unsafe { ffi::bidi_tables_standard(tables.handle()) }, 0)?;
+        check(unsafe { ffi::bidi_tables_standard(&mut tables.handle) }, 0)?;
         Ok(tables)
     }
 
@@ -39,7 +41,7 @@ impl Tables {
     ///
     /// Fails with `ClassFile`, `BracketFile` or `MirrorFile`, or with `Memory`.
     pub fn read(classes: &[u8], brackets: &[u8], mirrors: &[u8]) -> Result<Self, Error> {
-        let (tables, mut fault) = (Self::none(), ffi::bidi_fault::default());
+        let (mut tables, mut fault) = (Self::none(), ffi::bidi_fault::default());
         // SAFETY: as in `standard`; each pointer comes with its slice's length.
         let status = unsafe {
             ffi::bidi_tables_new(
@@ -49,7 +51,7 @@ impl Tables {
                 brackets.len(),
                 mirrors.as_ptr(),
                 mirrors.len(),
-                tables.handle(),
+                &mut tables.handle,
                 &mut fault,
             )
         };
@@ -57,13 +59,13 @@ impl Tables {
         Ok(tables)
     }
 
-    /// Returns the same tables for another thread, at the cost of a handle.
+    /// Returns the same tables with a lifetime of their own, at the cost of a handle.
     ///
     /// Fails with `Memory`.
     pub fn share(&self) -> Result<Self, Error> {
-        let shared = Self::none();
+        let mut shared = Self::none();
         // SAFETY: both handles are valid, and they are two.
-        check(unsafe { ffi::bidi_tables_share(self.handle(), shared.handle()) }, 0)?;
+        check(unsafe { ffi::bidi_tables_share(self.handle(), &mut shared.handle) }, 0)?;
         Ok(shared)
     }
 
@@ -169,18 +171,18 @@ impl Tables {
     }
 
     /// Returns the handle, for a call while the tables are borrowed.
-    pub(crate) fn handle(&self) -> *mut ffi::bidi_tables {
-        self.handle.get()
+    pub(crate) fn handle(&self) -> *const ffi::bidi_tables {
+        &self.handle
     }
 
     fn none() -> Self {
-        Self { handle: UnsafeCell::new(ffi::bidi_tables::NONE) }
+        Self { handle: ffi::bidi_tables::NONE }
     }
 }
 
 impl Drop for Tables {
     fn drop(&mut self) {
         // SAFETY: the handle is valid, and no call follows.
-        unsafe { ffi::bidi_tables_free(self.handle()) }
+        unsafe { ffi::bidi_tables_free(&mut self.handle) }
     }
 }

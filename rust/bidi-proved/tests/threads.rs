@@ -4,6 +4,8 @@ use std::thread;
 
 fn is_send<T: Send>() {}
 
+fn is_sync<T: Sync>() {}
+
 /// Compiles only if a type is not `Sync`: otherwise both implementations of `Choice` fit.
 macro_rules! is_not_sync {
     ($($name:ty),*) => {
@@ -20,13 +22,14 @@ macro_rules! is_not_sync {
 }
 
 #[test]
-fn send_and_not_sync() {
+fn send_and_sync() {
     is_send::<Tables>();
     is_send::<Room>();
     is_send::<Layout<'static>>();
     is_send::<Judge>();
     is_send::<Report>();
-    is_not_sync!(Tables, Room, Layout<'static>, Judge, Report);
+    is_sync::<Tables>();
+    is_not_sync!(Room, Layout<'static>, Judge, Report);
 }
 
 fn shown(room: &mut Room, tables: &Tables, number: usize) -> Result<String, Error> {
@@ -51,6 +54,23 @@ fn a_room_and_tables_for_each_thread() -> Result<(), Error> {
         .collect::<Result<_, Error>>()?;
     drop(tables);
     workers.into_iter().try_for_each(|worker| worker.join().unwrap())
+}
+
+#[test]
+fn one_table_for_all_threads() -> Result<(), Error> {
+    let tables = Tables::standard()?;
+    thread::scope(|scope| {
+        let work = |worker: usize| {
+            let (tables, mut room) = (&tables, Room::new(40)?);
+            for number in (worker * 100)..(worker * 100 + 100) {
+                assert_eq!(shown(&mut room, tables, number)?, format!("(a) {number} \u{5D1}\u{5D0}"));
+                assert_eq!(tables.share()?.mirror('('), ')');
+            }
+            Ok(())
+        };
+        let workers: Vec<_> = (0..8).map(|worker| scope.spawn(move || work(worker))).collect();
+        workers.into_iter().try_for_each(|worker| worker.join().unwrap())
+    })
 }
 
 #[test]
