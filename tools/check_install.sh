@@ -2,9 +2,10 @@
 # Installs the program and the library for C into folders whose names have blanks, quotes and other signs, below DESTDIR
 # and beside where one stands, and looks at what is there: the program runs, the manual page is the one of docs, and
 # programs in C are built by what pkg-config says, over the archive and over the shared object, and print what is
-# stored. Then it removes everything again. Words that are unknown are refused. No line of a manual page is wider than
-# 80 columns. It ends with 0 where all is as it is to be, with 1 where not, and with 2 where the program or the library
-# is missing. Without gcc it does nothing, and says so.
+# stored. If libfribidi-dev is installed, a program over FriBidi runs on this library. Then it removes everything again.
+# Words that are unknown are refused. No line of a manual page is wider than 80 columns. It ends with 0 where all is as
+# it is to be, with 1 where not, and with 2 where the program or the library is missing. Without gcc it does nothing,
+# and says so.
 #
 # usage: tools/check_install.sh
 #
@@ -24,6 +25,14 @@ unset DESTDIR
 wrong=0
 checks=0
 "$tools/c/build_shared.sh" || wrong=1
+has_fribidi=no
+if [ -e /usr/include/fribidi/fribidi.h ]; then
+    has_fribidi=yes
+    "$tools/fribidi/build.sh" || wrong=1
+else
+    rm -f "$top/crates/bidi_c/out/libfribidi_over_bidi.so"
+    echo "no libfribidi-dev: FriBidi's calls are not installed"
+fi
 
 # is WHAT EXPECTED FOUND: counts a comparison, and says where it fails.
 is() {
@@ -45,6 +54,7 @@ parts() {
         printf '%s\n' bin/bidi bin/bidi-draw include/bidi.h share/man/man1/bidi.1 share/man/man1/bidi-draw.1 \
             "$1/libbidi_c.a" "$1/libbidi_c_heap.a" "$1/pkgconfig/bidi_c.pc" "$1/libbidi_c.so" \
             "$1/libbidi_c.so.${version%%.*}" "$1/libbidi_c.so.$version"
+        [ "$has_fribidi" = no ] || echo "$1/libfribidi_over_bidi.so"
         (cd "$top" && printf 'share/doc/bidi/%s\n' LICENSE-* NOTICES ./*.md docs/*.md docs/*.svg | sed 's|/\./|/|')
     } | LC_ALL=C sort
 }
@@ -120,6 +130,14 @@ starts() {
     prints "with the folder of $1 noted" ./noted_demo
 }
 
+# replaces PREFIX: a program over FriBidi, linked with what is installed before FriBidi, calls this library alone.
+replaces() {
+    [ "$has_fribidi" = yes ] || return 0
+    gcc -I/usr/include/fribidi -o calls "$tools/fribidi/calls.c" "-L$1/$libdir" -lfribidi_over_bidi -lfribidi \
+        "-Wl,-rpath,$1/$libdir"
+    is "FriBidi's calls of $1" "replaced: 10 of 10" "$(./calls < /dev/null 2>&1)"
+}
+
 odd="$work/a b'c\"d\$e\${f}&g|h\\i(k)*[l]#m"
 has_tools=yes
 for command in pkg-config readelf python3; do
@@ -127,6 +145,7 @@ for command in pkg-config readelf python3; do
 done
 installs "$work/plain" "$work/plain"
 [ "$has_tools" = no ] || { runs "$work/plain"; starts "$work/plain"; }
+replaces "$work/plain"
 goes "$work/plain" "$work/plain"
 # The shared object is installed whatever its time is, and not if it is of another build of the library.
 shared=$top/crates/bidi_c/out/libbidi_c.so.$version
@@ -142,6 +161,7 @@ goes "$work/plain" "$work/plain"
 libdir="lib/x86_64 linux"
 installs "$work/plain" --libdir "$libdir" "$work/plain"
 [ "$has_tools" = no ] || { runs "$work/plain"; starts "$work/plain"; }
+replaces "$work/plain"
 goes "$work/plain" "--libdir=$work/plain/$libdir" "$work/plain"
 libdir=lib
 installs "$odd" "$odd"

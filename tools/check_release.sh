@@ -2,9 +2,10 @@
 # Makes a release twice (tools/release.sh), compares the bytes, and tries each file of it in an empty root: a folder
 # with the C library, a shell, gcc, pkg-config and Python, copied from the Debian packages of this machine, and without
 # the kit. There the program, a program in C and one in Python run from the archive and the wheel, and then from the
-# Debian packages, which `dpkg --root` installs and removes. Nothing else is started there. Where cargo is, a program in
-# Rust is built over the crate and the archive, outside of the root. It says what it leaves out because this machine
-# lacks it. It ends with 0 if all is as it should be, with 1 if not, and with 2 if no release can be made.
+# Debian packages, which `dpkg --root` installs and removes. If libfribidi-dev is installed, programs that use FriBidi
+# run there too, over this library. Nothing else is started there. Where cargo is, a program in Rust is built over the
+# crate and the archive, outside of the root. It says what it leaves out because this machine lacks it. It ends with 0
+# if all is as it should be, with 1 if not, and with 2 if no release can be made.
 #
 # usage: tools/check_release.sh      (some 30 seconds; build first, as tools/release.sh says)
 set -u
@@ -32,7 +33,13 @@ export SOURCE_DATE_EPOCH=1700000000
 "$tools/release.sh" "$work/dist" > "$work/said" || exit 2
 "$tools/release.sh" "$work/again" > "$work/said" || exit 2
 is "a release made twice" "" "$(diff -r "$work/dist" "$work/again" 2>&1)"
-is "files of a release" 10 "$(find "$work/dist" -type f | wc -l)"
+released=(bidi bidi-draw libbidi-c1 libbidi-c-dev python3-bidi-proved)
+if [ -e /usr/include/fribidi/fribidi.h ]; then
+    released+=(libfribidi-over-bidi)
+else
+    echo "no libfribidi-dev: FriBidi's calls are not released"
+fi
+is "files of a release" $((5 + ${#released[@]})) "$(find "$work/dist" -type f | wc -l)"
 for file in "$work"/dist/*.tar.gz "$work"/dist/*.crate; do
     is "times in ${file##*/}" "2023-11-14 22:13:20" \
         "$(tar -tvzf "$file" --full-time --utc | awk '{ print $4, $5 }' | sort -u)"
@@ -99,7 +106,7 @@ print("\n".join(sorted(taken)))' "$@"
 # make_root: fills the folder root with the files of these packages, and with the list of packages that dpkg keeps.
 make_root() {
     local folder packages
-    mapfile -t packages < <(closure coreutils dash gcc libc6-dev pkg-config python3)
+    mapfile -t packages < <(closure coreutils dash gcc libc6-dev libfribidi-dev pkg-config python3)
     mkdir -p "$root"/{usr/{bin,sbin,lib,lib64},tmp,var/lib/dpkg/{info,updates,triggers}}
     for folder in bin sbin lib lib64; do
         [ ! -L "/$folder" ] || ln -s "usr/$folder" "$root/$folder"
@@ -137,6 +144,18 @@ builds() {
         "$(inside "$environment" /tmp/demo /tmp/ucd 20 < "$tools/c/demo.txt")"
 }
 
+# replaces LABEL PRELOAD WORD..: programs over FriBidi run on this library if this shared object is named at the start,
+# and if they are linked with these words before FriBidi. FriBidi 1.0.8 gets the row wrong.
+replaces() {
+    local label=$1 preload=$2 row='2068 0026 2069 2068 05D0;0;0;0 2 0 0 1;0 1 2 3 4'
+    shift 2
+    [ -e "$root/usr/include/fribidi/fribidi.h" ] || return 0
+    inside gcc -I/usr/include/fribidi -o /tmp/calls /tmp/calls.c -lfribidi
+    is "$label: FriBidi's calls" "replaced: 10 of 10" "$(inside "LD_PRELOAD=$preload" /tmp/calls < /dev/null)"
+    inside gcc -I/usr/include/fribidi -o /tmp/rows /tmp/rows.c "$@" -lfribidi
+    is "$label: a program over FriBidi" "$row" "$(inside /tmp/rows <<< "$row")"
+}
+
 # imports LABEL PATH: a program in Python runs with the module of this folder, or with the one that is installed.
 imports() {
     is "$1: a program in Python" "$version 12 (cd) בא" "$(inside PYTHONPATH="$2" python3 -c '
@@ -154,6 +173,7 @@ try_archive() {
     builds "archive, its folder noted" A=1 "${said_flags[@]}" "-Wl,-rpath,$libdir"
     flags "$libdir" --cflags
     builds "archive, static" A=1 "${said_flags[@]}" "$libdir/libbidi_c.a" "$libdir/libbidi_c_heap.a"
+    replaces archive "$libdir/libfribidi_over_bidi.so" "-L$libdir" -lfribidi_over_bidi "-Wl,-rpath,$libdir"
     if python3 -m pip --version > /dev/null 2>&1; then
         python3 -m pip install -q --no-index --no-deps --no-compile --target "$root/site" "$work"/dist/*.whl \
             > "$work/said" 2>&1
@@ -175,14 +195,14 @@ try_packages() {
     files > "$work/before"
     dpkg --root="$root" --log="$work/log" -i "$work"/dist/*.deb > "$work/said" 2>&1
     is "status of dpkg" 0 $?
-    is "packages installed" 5 \
+    is "packages installed" ${#released[@]} \
         "$(dpkg-query --root="$root" -W -f '${Source} ${db:Status-Status}\n' | grep -c '^bidi installed')"
     runs packages /usr
     flags /none --libs
     builds packages A=1 "${said_flags[@]}"
+    replaces packages libfribidi_over_bidi.so -lfribidi_over_bidi
     imports packages /none
-    dpkg --root="$root" --log="$work/log" -P bidi bidi-draw libbidi-c1 libbidi-c-dev python3-bidi-proved \
-        > "$work/said" 2>&1
+    dpkg --root="$root" --log="$work/log" -P "${released[@]}" > "$work/said" 2>&1
     is "status of dpkg at the end" 0 $?
     is "what the packages left" "" "$(files | diff "$work/before" -)"
 }
@@ -196,7 +216,8 @@ elif ! command -v dpkg-query > /dev/null || [ "$(closure gcc libc6-dev pkg-confi
 else
     make_root
     printf 'אב (cd) 12\n' > "$root/tmp/text.txt"
-    cp -r "$tools/c/demo.c" "$tools/c/read_file.h" "$tools/c/ucd" "$root/tmp"
+    cp -r "$tools/c/demo.c" "$tools/c/read_file.h" "$tools/c/ucd" "$tools/fribidi/calls.c" "$tools/fribidi/rows.c" \
+        "$root/tmp"
     is "the kit in the root" "" "$(inside env | grep -i rattle; ls -d "$root/opt" "$root/work" 2> /dev/null)"
     try_archive
     try_packages

@@ -1,7 +1,7 @@
 #!/bin/bash
 # Installs the proved program and `bidi-draw`, their manual pages, the documents and the licences, and if the library
-# for C was built also that, as an archive and as a shared object, its header and its file for pkg-config; or removes
-# all these. It says what it did and what not.
+# for C was built also that, as an archive and as a shared object, its header and its file for pkg-config, and FriBidi's
+# calls over it; or removes all these. It says what it did and what not.
 #
 # usage: tools/install.sh [--uninstall] [--libdir DIR] PREFIX      (--help says what is installed and what it needs)
 #
@@ -17,9 +17,9 @@ filled below that folder, and begins with /. --libdir names the folder of librar
 lib/x86_64-linux-gnu; it is lib if not given. --uninstall removes the files below, and leaves the folders.
 
 Build first: \`rt run -- --help\` in crates/bidi proves and builds the program, \`rt lib\` in crates/bidi_c the library
-for C, tools/c/build_shared.sh its shared object. The first of the two proofs takes some 40 minutes on four cores, the
-other one a few minutes then, and both take seconds if nothing changed. The library and the shared object are installed
-if they were built. What is installed:
+for C, tools/c/build_shared.sh its shared object, and tools/fribidi/build.sh FriBidi's calls over it. The first of the
+two proofs takes some 40 minutes on four cores, the other one a few minutes then, and both take seconds if nothing
+changed. The library and the shared objects are installed if they were built. What is installed:
 
   PREFIX/bin/bidi
   PREFIX/bin/bidi-draw
@@ -28,6 +28,7 @@ if they were built. What is installed:
   PREFIX/include/bidi.h
   PREFIX/LIBDIR/libbidi_c.a, PREFIX/LIBDIR/libbidi_c_heap.a, PREFIX/LIBDIR/pkgconfig/bidi_c.pc
   PREFIX/LIBDIR/libbidi_c.so.$version, and the links libbidi_c.so.${version%%.*} and libbidi_c.so to it
+  PREFIX/LIBDIR/libfribidi_over_bidi.so, which docs/FRIBIDI.md describes
 
 The program needs Linux on x86-64-v2 (a processor of 2009 or later) and the C library, no other library. bidi-draw
 needs Python 3.8 or later. DIR of the option --tables holds the property files of Unicode, as the package unicode-data

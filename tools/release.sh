@@ -7,6 +7,7 @@
 #   bidi-draw_VERSION-1_all.deb             the program that draws texts
 #   libbidi-c1_VERSION-1_amd64.deb          the shared object
 #   libbidi-c-dev_VERSION-1_amd64.deb       header, archives, and the file for pkg-config
+#   libfribidi-over-bidi_VERSION-1_amd64.deb    FriBidi's calls over the shared object of libbidi-c1
 #   python3-bidi-proved_VERSION-1_all.deb   the module for Python, which uses the shared object of libbidi-c1
 #   bidi_proved-VERSION-py3-none-linux_x86_64.whl    the module with a shared object of its own, for pip
 #   bidi-proved-VERSION.crate               the crate for Rust, with its licences, for cargo
@@ -18,7 +19,8 @@
 #
 # Build first: the program (`rt run -- --help` in crates/bidi) and the library (tools/c/build_library.sh). It ends with
 # 2 if one of them or a tool is missing, if VERSION is no version, or if a tracked file is not committed, and with 1 if
-# making a file fails.
+# making a file fails. Without FriBidi's headers (the package libfribidi-dev) it leaves out libfribidi-over-bidi, and
+# says so.
 set -eu
 umask 022
 top=$(cd "$(dirname "$0")/.." && pwd)
@@ -189,6 +191,28 @@ $ABOUT
 TEXT
 }
 
+# The shared object of this package is linked with the one of libbidi-c1. The installed one has the library in it.
+make_fribidi_package() {
+    local package=libfribidi-over-bidi root=$work/libfribidi-over-bidi libc
+    local shared=$root/usr/$multiarch/libfribidi_over_bidi.so
+    mkdir -p "$root/DEBIAN" "$root/usr/$multiarch" "$root/usr/share/doc/$package"
+    LIBRARY=$work/libbidi-c1/usr/$multiarch/libbidi_c.so.$version "$top/tools/fribidi/build.sh" "$root/usr/$multiarch"
+    libc=$(needs_libc "$shared")
+    strip --strip-unneeded --remove-section=.comment "$shared"
+    chmod 644 "$shared"
+    install -m 644 "$top/docs/FRIBIDI.md" "$root/usr/share/doc/$package/"
+    echo "activate-noawait ldconfig" > "$root/DEBIAN/triggers"
+    build "$package" amd64 libs "Depends: libbidi-c1 (>= $version), $libc
+Enhances: libfribidi0
+Multi-Arch: same" << TEXT
+Unicode Bidirectional Algorithm, proved: in the place of FriBidi
+ The shared object libfribidi_over_bidi.so has FriBidi's calls of the Unicode
+ Bidirectional Algorithm (UAX #9) over the library of libbidi-c1. With LD_PRELOAD
+ a program that uses FriBidi runs on that library. So does a program that is
+ linked with this shared object before FriBidi. FriBidi itself is unchanged.
+TEXT
+}
+
 make_python() {
     local folder=$work/python3-bidi-proved/usr/lib/python3/dist-packages file
     (cd "$top/python" && python3 -B -c 'import make_wheel, sys; print(make_wheel.build_wheel(sys.argv[1]))' "$dist") \
@@ -228,11 +252,20 @@ if ! diff <(grep -o '\bbidi_[a-z0-9_]*(' "$top/tools/c/bidi.h" | tr -d '(' | sor
     <(sed -n 's/^ \(bidi_[a-z0-9_]*\)@.*/\1/p' "$top/tools/c/libbidi-c1.symbols" | sort -u) >&2; then
     stop "tools/c/libbidi-c1.symbols does not name the calls of bidi.h: give a new call the next version"
 fi
+has_fribidi=no
+if [ -e "${FRIBIDI:-/usr/include/fribidi}/fribidi.h" ]; then
+    has_fribidi=yes
+    "$top/tools/fribidi/build.sh"
+else
+    echo "no headers of FriBidi (libfribidi-dev): the package libfribidi-over-bidi is left out"
+    rm -f "$dist/libfribidi-over-bidi_${debian}_amd64.deb"
+fi
 make_source
 make_binary
 DESTDIR=$work/installed "$top/tools/install.sh" --libdir "$multiarch" /usr > /dev/null
 make_program_packages
 make_library_packages
+[ "$has_fribidi" = no ] || make_fribidi_package
 make_python
 make_crate
 (cd "$dist" && sha256sum -- "bidi-$version.tar.gz" "bidi-$version-linux-x86_64.tar.gz" *"_${debian}_"*.deb \

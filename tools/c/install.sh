@@ -1,11 +1,12 @@
 #!/bin/bash
-# Installs the header, the library, its shared object, its file for pkg-config and the licences, so that
-# `gcc program.c $(pkg-config --cflags --libs bidi_c)` builds a program.
+# Installs the header, the library, its shared object, its file for pkg-config, FriBidi's calls over the library and the
+# licences, so that `gcc program.c $(pkg-config --cflags --libs bidi_c)` builds a program.
 #
 # usage: tools/c/install.sh [--uninstall] [--libdir DIR] PREFIX     (with DESTDIR in the environment, below that folder)
 #
-# Build the library first, by `rt lib` in crates/bidi_c, and the shared object, if it is wanted, by
-# tools/c/build_shared.sh. A shared object of another build of the library is not installed. The part that allocates,
+# Build the library first, by `rt lib` in crates/bidi_c, and the shared objects, if they are wanted, by
+# tools/c/build_shared.sh and tools/fribidi/build.sh. One of another build of the library is not installed, and it says
+# so. The part that allocates,
 # liblibc_c.a, is taken from the kit, whose folder c is found by the command rt, or named by RATTLE_C in the environment
 # if rt isn't on PATH, as under sudo. --libdir names the folder of libraries below PREFIX, lib if not given. It ends
 # with 2, before it installs anything, if a file is missing or a word is unknown.
@@ -18,6 +19,7 @@ version=$(cat "$here/../../VERSION") || exit 2
 out=$here/../../crates/bidi_c/out
 library=$out/libbidi_c.a
 shared=$out/libbidi_c.so.$version
+fribidi=$out/libfribidi_over_bidi.so
 heap=
 if [ "$uninstall" = no ]; then
     if [ -z "${RATTLE_C:-}" ]; then
@@ -47,16 +49,23 @@ put 644 "$here/bidi.h" include/bidi.h &&
     put 644 "$work/bidi_c.pc" "$libdir/pkgconfig/bidi_c.pc" &&
     put_licences "$here/../.." || exit 1
 
-# The shared object belongs to the library whose sum tools/c/build_shared.sh noted, whatever the times of the files are.
-if [ "$uninstall" = no ]; then
-    if [ ! -e "$shared" ]; then
-        echo "no shared object was built: tools/c/build_shared.sh builds it"
-        exit 0
-    elif [ "$(sha256sum < "$library")" != "$(cat "$shared.of" 2> /dev/null)" ]; then
-        echo "the shared object is of another build of the library: tools/c/build_shared.sh builds it again"
-        exit 0
+# goes_on FILE SCRIPT: whether a shared object is to be installed or removed. It belongs to the library whose sum the
+# script that builds it stored, whatever the times of the files are. If it isn't installed, this says why.
+goes_on() {
+    [ "$uninstall" = no ] || return 0
+    if [ ! -e "$1" ]; then
+        echo "no ${1##*/} was built: $2 builds it"
+        return 1
+    elif [ "$(sha256sum < "$library")" != "$(cat "$1.of" 2> /dev/null)" ]; then
+        echo "${1##*/} is of another build of the library: $2 builds it again"
+        return 1
     fi
+}
+if goes_on "$shared" tools/c/build_shared.sh; then
+    put 755 "$shared" "$libdir/libbidi_c.so.$version" &&
+        link "libbidi_c.so.$version" "$libdir/libbidi_c.so.${version%%.*}" &&
+        link "libbidi_c.so.${version%%.*}" "$libdir/libbidi_c.so" || exit 1
 fi
-put 755 "$shared" "$libdir/libbidi_c.so.$version" &&
-    link "libbidi_c.so.$version" "$libdir/libbidi_c.so.${version%%.*}" &&
-    link "libbidi_c.so.${version%%.*}" "$libdir/libbidi_c.so"
+if goes_on "$fribidi" tools/fribidi/build.sh; then
+    put 755 "$fribidi" "$libdir/${fribidi##*/}" || exit 1
+fi
