@@ -73,6 +73,11 @@ run_transcripts() {
 }
 
 export CARGO_TARGET_DIR=$work/target
+# cargo runs build.rs elsewhere than it is called, so a folder that is not named in full is an error.
+if ! BIDI_LIB_DIR=lib cargo build --offline 2>&1 | grep -q 'name the folder in full'; then
+    echo "the crate for Rust takes a folder that is not named in full"
+    wrong=1
+fi
 BIDI_LIB_DIR=$work/prefix/lib tests static
 if command -v pkg-config > /dev/null; then
     export PKG_CONFIG_PATH=$work/prefix/lib/pkgconfig

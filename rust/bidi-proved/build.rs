@@ -1,5 +1,5 @@
-//! Finds the library libbidi_c: in the folder that BIDI_LIB_DIR names, or else the one that pkg-config names. It links
-//! the archives if the folder has them, or else the shared object; BIDI_LINK, `static` or `shared`, chooses one.
+//! Finds the library libbidi_c: in the folder that BIDI_LIB_DIR names in full, or else the one that pkg-config names. It
+//! links the archives if the folder has them, or else the shared object; BIDI_LINK, `static` or `shared`, chooses one.
 use std::env;
 use std::path::{Path, PathBuf};
 use std::process::Command;
@@ -16,9 +16,19 @@ fn installed_folder() -> Result<PathBuf, String> {
     let folder = String::from_utf8_lossy(&output.stdout).trim().to_string();
     if !output.status.success() || folder.is_empty() {
         let reason = String::from_utf8_lossy(&output.stderr).trim().to_string();
-        return Err(format!("no libbidi_c: set BIDI_LIB_DIR or PKG_CONFIG_PATH ({reason})"));
+        return Err(format!("no libbidi_c: name its folder in full in BIDI_LIB_DIR or PKG_CONFIG_PATH ({reason})"));
     }
     Ok(folder.into())
+}
+
+/// Returns the folder that BIDI_LIB_DIR names, or else the one that pkg-config names.
+fn library_folder() -> Result<PathBuf, String> {
+    match env::var_os("BIDI_LIB_DIR").filter(|name| !name.is_empty()).map(PathBuf::from) {
+        None => installed_folder(),
+        Some(folder) if folder.is_absolute() => Ok(folder),
+        // cargo runs this program in the folder of the crate, not in the one where cargo was called.
+        Some(folder) => Err(format!("BIDI_LIB_DIR is `{}`: name the folder in full, from /", folder.display())),
+    }
 }
 
 /// Says whether to link the archives of a folder, and not its shared object.
@@ -44,10 +54,7 @@ fn link() -> Result<(), String> {
     for name in VARIABLES {
         println!("cargo:rerun-if-env-changed={name}");
     }
-    let folder = match env::var_os("BIDI_LIB_DIR") {
-        Some(folder) if !folder.is_empty() => PathBuf::from(folder),
-        _ => installed_folder()?,
-    };
+    let folder = library_folder()?;
     let archives = links_archives(&folder)?;
     println!("cargo:rustc-link-search=native={}", folder.display());
     if archives {
