@@ -50,7 +50,7 @@ results() {
 suite() {
     local package=$1 folder
     if ! apt-get source -qq "$package" > "$package.get" 2>&1; then
-        echo "$package: no source ($(tail -n 1 "$package.get"))"
+        echo "$package: no source ($(grep '^E:' "$package.get" | head -n 1))"
         return
     fi
     folder=$(find . -maxdepth 1 -type d -name "$package-[0-9]*" | sort | tail -n 1)
