@@ -47,9 +47,12 @@ def version():
 def shared_object():
     """The shared object that goes into the wheel."""
     made = HERE.parent / "crates/bidi_c/out" / f"libbidi_c.so.{version()}"
-    found = pathlib.Path(os.environ.get("BIDI_LIBRARY") or made)
+    named = os.environ.get("BIDI_LIBRARY")
+    found = pathlib.Path(named or made)
     if not found.exists():
-        raise SystemExit(f"no {found}: build it first, by `rt lib` in crates/bidi_c and tools/c/build_shared.sh")
+        # pip builds in this folder, and not in the one where it was called.
+        build = "build it first, by `rt lib` in crates/bidi_c and tools/c/build_shared.sh"
+        raise SystemExit(f"no {found}: " + ("name it in full in BIDI_LIBRARY" if named else build))
     return found
 
 
