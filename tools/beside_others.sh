@@ -1,18 +1,18 @@
 #!/bin/bash
-# Lays the same texts out by the built program `bench`, by the library for programs in C, by ICU and by FriBidi, class
-# look-up included, and prints one table. Of ordinary texts it counts the instructions that a character takes, by
-# valgrind, which are the same on each run; of hostile ones it takes the time, which is not. Each text is one paragraph
-# and one line, in direction auto. Between the two stands what it takes to break a text that is laid out into lines of
-# 80 anew, and to copy each line's order; what it takes to lay out each of these lines alone; and what texts in UTF-8
-# and UTF-16 take, with what a code unit takes above the library's call on code points. What is counted is done again
-# and again over what was made once. In the columns of the C library levels and order are copied out besides.
+# Lays out the same texts with the built program `bench`, the library for C, ICU and FriBidi, class look-up included,
+# and prints tables. For ordinary texts it counts the instructions for each character with valgrind, which are the same
+# on each run. For hostile texts it measures the time, which is not. Each text is one paragraph and one line, in
+# direction auto. Between these it prints what it takes to break a text into lines of 80 again and to copy each line's
+# order, to lay out each of these lines alone, and to lay out texts in UTF-8 and UTF-16, with what a code unit takes
+# above the library's call on code points. Tables and rooms are made once, and only the calls on them are counted. In
+# the columns of the C library levels and order are also copied out.
 #
 # usage: tools/beside_others.sh [FOLDER]      (FOLDER, with the property files: /usr/share/unicode)
 #
-# It needs gcc, valgrind and python3, and ends with 2 where one of them or a property file is missing. A column whose
-# program is missing or does not build has `-`: build the program by `rt run` in crates/bench (BENCH and LIBRARY may
-# name one) and the library by `rt lib` in crates/bidi_c; ICU and FriBidi are the packages libicu-dev and
-# libfribidi-dev. Not part of `rt ci`; it takes some minutes.
+# It needs gcc, valgrind and python3, and ends with 2 if one of them or a property file is missing. A column whose
+# program is missing or does not build has `-`. Build the program with `rt run` in crates/bench and the library with
+# `rt lib` in crates/bidi_c, or name them with BENCH and LIBRARY. ICU and FriBidi are the packages libicu-dev and
+# libfribidi-dev. It is not part of `rt ci`, and takes some minutes.
 set -u
 folder=${1:-/usr/share/unicode}
 tools=$(cd "$(dirname "$0")" && pwd)
@@ -41,7 +41,7 @@ for name in DerivedBidiClass.txt BidiBrackets.txt BidiMirroring.txt; do
 done
 python3 "$tools/bench_texts.py" "$work/texts" || missing "the texts were not written"
 
-# build NAME WORD..: the program of an engine, with these words for gcc; says so where it does not build.
+# build NAME WORD..: builds the program of an engine with these arguments of gcc, and says so if that fails.
 build() {
     local name=$1
     shift
@@ -61,24 +61,24 @@ build utf8_fribidi -lfribidi
 build utf16_bidi_c "$library" "$heap"
 [ -x "$program" ] || echo "no program at $program" >&2
 
-# characters_of TEXT: how many characters a file has.
+# characters_of TEXT: prints how many characters a file has.
 characters_of() {
     python3 -c 'import sys; print(len(open(sys.argv[1], encoding="utf-8", newline="").read()))' "$1"
 }
 
-# units_of ENCODING TEXT: how many code units it has in UTF-8 or UTF-16.
+# units_of ENCODING TEXT: prints how many code units it has in UTF-8 or UTF-16.
 units_of() {
     python3 -c 'import sys
 text = open(sys.argv[2], encoding="utf-8", newline="").read()
 print(len(text.encode(sys.argv[1])) // {"utf-8": 1, "utf-16-le": 2}[sys.argv[1]])' "$1" "$2"
 }
 
-# instructions WORD..: how many instructions a command runs. Words for callgrind stand before the command.
+# instructions WORD..: prints how many instructions a command runs. Options of callgrind come before the command.
 instructions() {
     valgrind --tool=callgrind --callgrind-out-file=/dev/null "$@" 2>&1 | sed -n 's/.*Collected : \([0-9]*\)$/\1/p'
 }
 
-# each_of_program TEXT COUNT: the instructions of the program `bench` for a character, or `-`.
+# each_of_program TEXT COUNT: prints the instructions of the program `bench` for a character, or `-`.
 each_of_program() {
     [ -x "$program" ] || { echo -; return; }
     local few more
@@ -87,7 +87,7 @@ each_of_program() {
     [ -n "$few" ] && [ -n "$more" ] && echo "$(((more - few + 10 * $2) / (20 * $2)))" || echo -
 }
 
-# all_of NAME TEXT: the instructions of 21 calls of an engine's program, or `-`.
+# all_of NAME TEXT: prints the instructions of 21 calls of an engine's program, or `-`.
 all_of() {
     [ -x "$work/$1" ] || { echo -; return; }
     local all
@@ -95,21 +95,21 @@ all_of() {
     echo "${all:--}"
 }
 
-# each_of NAME TEXT COUNT: those of one call for a character.
+# each_of NAME TEXT COUNT: prints those of one call for a character.
 each_of() {
     local all
     all=$(all_of "$1" "$2")
     [ "$all" != - ] && echo "$(((all + 10 * $3) / (21 * $3)))" || echo -
 }
 
-# time_of WORD..: the nanoseconds that a program takes for a character, or `-` where it is missing or out of time.
+# time_of WORD..: prints the nanoseconds that a program takes for a character, or `-` if it is missing or out of time.
 time_of() {
     local found
     found=$(timeout $seconds "$@" 2>&1 | sed -n 's/.* \([0-9.]*\) ns a character.*/\1/p')
     echo "${found:--}"
 }
 
-# row NAME PROGRAM LIBRARY ICU FRIBIDI, of which each may be `-`: a line of the table, with the ratios to ICU.
+# row NAME PROGRAM LIBRARY ICU FRIBIDI, of which each may be `-`: prints a line of the table, with the ratios to ICU.
 row() {
     awk -v name="$1" -v ours="$2" -v from_c="$3" -v icu="$4" -v fribidi="$5" '
         function beside(a, b) { return a == "-" || b == "-" || b == 0 ? "-" : sprintf("%.2f", a / b) }
@@ -119,8 +119,9 @@ row() {
         }'
 }
 
-# encoded_row NAME CHARACTERS UNITS CODES OURS ICU FRIBIDI, the last four of 21 calls, each of which may be `-`: a line
-# of the table of texts in code units, with the ratio to ICU, and what each unit takes above the call on code points.
+# encoded_row NAME CHARACTERS UNITS CODES OURS ICU FRIBIDI, the last four of 21 calls, each of which may be `-`: prints
+# a line of the table of texts in code units, with the ratio to ICU, and what each unit takes above the call on code
+# points.
 encoded_row() {
     awk -v name="$1" -v characters="$2" -v units="$3" -v codes="$4" -v ours="$5" -v icu="$6" -v fribidi="$7" '
         function each(all) { return all == "-" ? "-" : sprintf("%.0f", all / (21 * characters)) }

@@ -1,7 +1,7 @@
 #!/bin/bash
-# Draws texts with `bidi-draw` over the built program, and looks at the drawings: of a file and of what `bidi explain`
-# printed they are the same, they are well-formed XML, several paragraphs have headings, a long one has rows, and each
-# shown character is there once, mirrored. Then it looks at what is rejected. It ends with 0 if all is as it should be,
+# Draws texts with `bidi-draw` over the built program, and checks the drawings. That of a file and that of what
+# `bidi explain` printed are the same. They are well-formed XML, several paragraphs have headings, a long one has rows,
+# and each shown character is there once, mirrored. Then it checks what is rejected. It ends with 0 if all is right,
 # with 1 if not, and with 2 if the program is missing. Without python3 it does nothing, and says so.
 #
 # usage: tools/check_draw.sh      (it takes some seconds; BIDI names another program than crates/bidi/out/bidi)
@@ -20,7 +20,7 @@ cd "$work" || exit 2
 wrong=0
 checks=0
 
-# is WHAT EXPECTED FOUND: counts a comparison, and says where it fails.
+# is WHAT EXPECTED FOUND: counts a comparison, and says if it fails.
 is() {
     checks=$((checks + 1))
     if [ "$2" != "$3" ]; then
@@ -29,7 +29,7 @@ is() {
     fi
 }
 
-# count PATTERN FILE: how many lines of a drawing match.
+# count PATTERN FILE: prints how many lines of a drawing match.
 count() {
     grep -cE "$1" "$2"
 }
@@ -63,7 +63,7 @@ is "the width of a long paragraph" 1 "$(count 'viewBox="0 0 2156 ' long.svg)"
 bidi explain --classes 'R ON LRE L PDF' | bidi-draw > classes.svg
 is "status of a drawing of classes" "0 0" "$? $(parses classes.svg)"
 
-# rejected STATUS TEXT WORD..: with these words, and a file as input, there is no drawing, for this reason.
+# rejected STATUS TEXT WORD..: with these arguments, and a file as input, there is no drawing, for this reason.
 rejected() {
     local status=$1 text=$2
     shift 2

@@ -1,14 +1,14 @@
 #!/bin/bash
-# Builds libfribidi_over_bidi.so and tries it: rows of `bidi rows` that go through FriBidi's calls, under `bidi judge`;
-# each of the replaced calls on texts on which FriBidi is right, with and without the shared object; levels and orders,
-# those of removed characters too, of all short texts over two alphabets on which FriBidi is right; and what the command
-# `fribidi` prints. It ends with 0 if all is as it is to be, with 1 if not, and with 2 if the program or the library is
-# missing. Without gcc or FriBidi's headers it does nothing, and says so.
+# Builds libfribidi_over_bidi.so and tests it. `bidi judge` judges rows of `bidi rows` that went through FriBidi's
+# calls. These are the same with and without the shared object: each of the replaced calls on texts on which FriBidi is
+# right; levels and orders, those of removed characters too, of all short texts over two alphabets on which FriBidi is
+# right; and what the command `fribidi` prints. It ends with 0 if all is right, with 1 if not, and with 2 if the program
+# or the library is missing. Without gcc or FriBidi's headers it does nothing, and says so.
 #
 # usage: tools/check_fribidi.sh
 #
-# It takes the program that `rt ci` leaves (BIDI may name another) and the library that tools/c/build_library.sh builds,
-# and some seconds.
+# It uses the program that `rt ci` built (BIDI may name another) and the library that tools/c/build_library.sh built,
+# and takes some seconds.
 set -u
 tools=$(cd "$(dirname "$0")" && pwd)
 top=$(dirname "$tools")
@@ -22,7 +22,7 @@ trap 'rm -r "$work"' EXIT
 shared=$work/libfribidi_over_bidi.so
 wrong=0
 
-# build NAME FILE: a program over FriBidi.
+# build NAME FILE: builds a program over FriBidi.
 build() {
     gcc -O2 -I/usr/include/fribidi -o "$work/$1" "$2" -lfribidi -ldl || exit 2
 }
@@ -30,7 +30,7 @@ build rows "$tools/fribidi/rows.c"
 build calls "$tools/fribidi/calls.c"
 build levels "$tools/engines/fribidi.c"
 
-# judged WHAT WORD..: the rows that `bidi rows` prints by these words are right as FriBidi's calls make them.
+# judged WHAT WORD..: the rows that `bidi rows` prints with these arguments are right as FriBidi's calls make them.
 judged() {
     local what=$1 verdict
     shift

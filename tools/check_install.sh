@@ -1,15 +1,14 @@
 #!/bin/bash
 # Installs the program and the library for C into folders whose names have blanks, quotes and other signs, below DESTDIR
-# and beside where one stands, and looks at what is there: the program runs, the manual page is the one of docs, and
-# programs in C are built by what pkg-config says, over the archive and over the shared object, and print what is
-# stored. If libfribidi-dev is installed, a program over FriBidi runs on this library. Then it removes everything again.
-# Words that are unknown are refused. No line of a manual page is wider than 80 columns. It ends with 0 where all is as
-# it is to be, with 1 where not, and with 2 where the program or the library is missing. Without gcc it does nothing,
-# and says so.
+# and by a relative name, and checks what is there. The program runs, the manual page is the one of docs. Programs in C
+# are built with the output of pkg-config, over the archive and over the shared object, and print what is stored. If
+# libfribidi-dev is installed, a program over FriBidi runs on this library. Then it removes everything again. Unknown
+# arguments are rejected. No line of a manual page is wider than 80 columns. It ends with 0 if all is right, with 1 if
+# not, and with 2 if the program or the library is missing. Without gcc it does nothing, and says so.
 #
 # usage: tools/check_install.sh
 #
-# It installs what `rt ci` and tools/c/build_library.sh leave, or what was built by hand, and takes some seconds.
+# It installs what `rt ci` and tools/c/build_library.sh built, or what was built by hand, and takes some seconds.
 set -u
 tools=$(cd "$(dirname "$0")" && pwd)
 top=$(dirname "$tools")
@@ -34,7 +33,7 @@ else
     echo "no libfribidi-dev: FriBidi's calls are not installed"
 fi
 
-# is WHAT EXPECTED FOUND: counts a comparison, and says where it fails.
+# is WHAT EXPECTED FOUND: counts a comparison, and says if it fails.
 is() {
     checks=$((checks + 1))
     if [ "$2" != "$3" ]; then
@@ -60,7 +59,7 @@ parts() {
 }
 libdir=lib
 
-# installs ROOT WORD..: with these words everything is installed below a folder, is what it is to be, and goes again.
+# installs ROOT WORD..: with these arguments everything is installed below a folder, is right, and is removed again.
 installs() {
     local root=$1
     shift
@@ -74,7 +73,7 @@ installs() {
     fi
 }
 
-# goes ROOT WORD..: with these words all of it is removed, and nothing else.
+# goes ROOT WORD..: with these arguments all of it is removed, and nothing else.
 goes() {
     local root=$1
     shift
@@ -85,7 +84,7 @@ goes() {
     rm -r "$root"
 }
 
-# flags PREFIX WORD..: what pkg-config says, as an array `said_flags`, taken apart as a shell takes it.
+# flags PREFIX WORD..: sets the array `said_flags` to what pkg-config prints, split as a shell splits it.
 flags() {
     local prefix=$1
     shift
@@ -93,22 +92,22 @@ flags() {
         python3 -c 'import shlex, sys; print(*shlex.split(sys.stdin.read()), sep="\0", end="\0")')
 }
 
-# prints NAME WORD..: the demo of this name, begun by these words, prints what is stored.
+# prints NAME WORD..: the demo of this name, started with these words, prints what is stored.
 prints() {
     local name=$1
     shift
     is "the demo $name" "$(cat "$tools/c/demo.out")" "$("$@" "$tools/c/ucd" 20 < "$tools/c/demo.txt" 2>&1)"
 }
 
-# builds NAME WORD..: a demo, built by these words.
+# builds NAME WORD..: builds a demo with these arguments.
 builds() {
     local name=$1
     shift
     gcc -O2 -o "$name" "$tools/c/demo.c" "$@" 2> "$work/said" || cat "$work/said" >&2
 }
 
-# runs PREFIX: the demo, built by what pkg-config says, prints what is stored, over the shared object, whose folder is
-# named at the start, and over the archives.
+# runs PREFIX: the demo, built with the output of pkg-config, prints what is stored, over the shared object, whose
+# folder is named at the start, and over the archives.
 runs() {
     local prefix=$1
     flags "$prefix" --cflags --libs
@@ -123,7 +122,7 @@ runs() {
         "$(PKG_CONFIG_PATH=$prefix/$libdir/pkgconfig pkg-config --modversion bidi_c)"
 }
 
-# starts PREFIX: the demo that has the folder of the shared object noted in it starts, with no further word.
+# starts PREFIX: the demo that records the folder of the shared object starts without naming it.
 starts() {
     flags "$1" --cflags --libs
     builds noted_demo "${said_flags[@]}" "-Wl,-rpath,$1/$libdir"
@@ -176,7 +175,7 @@ is "the prefix in the file for pkg-config" "prefix=/usr/local" \
 DESTDIR="$work/stage \$x" goes "$work/stage \$x/usr/local" /usr/local
 rm -r "$work/stage \$x"
 
-# refused WORD..: with these words nothing is done.
+# refused WORD..: with these arguments nothing is done.
 refused() {
     "$tools/install.sh" "$@" > "$work/said" 2>&1
     is "status of install.sh $*" 2 $?
@@ -203,8 +202,8 @@ DESTDIR=$work/empty refused relative
 is "what refused words installed" "" "$(files .)"
 is "status of --help" 0 "$("$tools/install.sh" --help > /dev/null; echo $?)"
 
-# manual NAME: a manual page at 80 columns has no wider line, and in its synopsis no call is broken elsewhere than the
-# page says.
+# manual NAME: a manual page at 80 columns has no wider line, and in its synopsis calls are broken only where the page
+# says so.
 manual() {
     local page synopsis
     page=$(LC_ALL=C MANWIDTH=80 man -l "$top/docs/$1" | col -bx)

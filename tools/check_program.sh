@@ -1,14 +1,14 @@
 #!/bin/bash
 # Runs the built program over files of the system, and compares its statuses and what it writes: a yes, a no, a missing
-# file, texts by tables, by those built in, from standard input and in a pipe that shows the first line before the next
-# is written, reports, one of them on a thousand faults that are planted here, a full disk, a closed pipe. Where the
-# package unicode-data is installed it judges and reports on the official test files too, with the property files of
-# data/ and with the tables that are built in; else it says that it does not. It ends with 0 where all is as it is to
-# be, with 1 where not, and with 2 where the program is missing.
+# file, a full disk, a closed pipe. It lays out texts with tables, with the built-in ones, from standard input, and in a
+# pipe that shows the first line before the next is written. It makes reports, one of them on a thousand faults that it
+# plants. If the package unicode-data is installed, it also judges and reports on the official test files, with the
+# property files of data/ and with the built-in tables; else it says that it does not. It ends with 0 if all is right,
+# with 1 if not, and with 2 if the program is missing.
 #
 # usage: tools/check_program.sh [FOLDER]      (FOLDER, with the test files and their property files: /usr/share/unicode)
 #
-# It runs what `rt ci` leaves, or `rt run` in crates/bidi, and takes some seconds.
+# It runs what `rt ci` built, or `rt run` in crates/bidi, and takes some seconds.
 set -u
 folder=${1:-/usr/share/unicode}
 tools=$(cd "$(dirname "$0")" && pwd)
@@ -25,7 +25,7 @@ cd "$work" || exit 2
 checks=0
 wrong=0
 
-# is WHAT EXPECTED FOUND: counts a comparison, and says where it fails.
+# is WHAT EXPECTED FOUND: counts a comparison, and says if it fails.
 is() {
     checks=$((checks + 1))
     if [ "$2" != "$3" ]; then
@@ -34,7 +34,7 @@ is() {
     fi
 }
 
-# ends STATUS OUT ERR WORD..: runs the program with these words, and compares its status and what it writes.
+# ends STATUS OUT ERR WORD..: runs the program with these arguments, and compares its status and what it writes.
 ends() {
     local status=$1 out=$2 err=$3
     shift 3
@@ -63,7 +63,7 @@ ends 0 'yes: 1 rows, 1 cases' '' judge --kind characters --built-in characters.t
 ends 3 '' 'bidi: cannot read missing.txt' judge --kind classes missing.txt
 ends 3 '' 'bidi: cannot read t' judge --kind classes t
 ends 3 '' 'bidi: cannot read no.txt/no.txt' judge --kind classes no.txt/no.txt
-# The reason, which -v adds: by either of its names, at any place after the subcommand, and only if there is one.
+# The reason, which -v adds: with either of its names, at any place after the subcommand, and only if there is one.
 unread=$'bidi: cannot read missing.txt\nbidi: reason: no such file'
 for word in -v --verbose; do
     ends 3 '' "$unread" judge "$word" --kind classes missing.txt
@@ -124,7 +124,7 @@ ends 0 $'a) \xd7\x90' '' reorder --tables t text.txt
 ends 0 $' \xd7\x90\na)' '' reorder --tables t --columns 2 text.txt
 ends 0 $'\xd7\x90 \n(a' '' reorder --tables t --direction ltr --columns 2 text.txt
 ends 0 $'\xd7\x90 \n(a' '' reorder --direction=ltr --columns 2 --tables t text.txt
-# As many words as a run of `reorder` can have, and one more.
+# As many arguments as a run of `reorder` can have, and one more.
 ends 0 $'\xd7\x90 \n(a' '' reorder --tables t --direction ltr --columns 2 -- text.txt
 "$program" reorder --tables t --direction ltr --columns 2 -- text.txt more > found_out 2> found_err
 is 'status of one word more' 2 $?
@@ -168,7 +168,7 @@ ends 3 '' 'bidi: row.txt: line 4: malformed: BitSet' explain --row 5 --kind clas
 ends 3 '' $'bidi: row.txt: line 4: malformed: BitSet\nbidi: reason: field 1, the bit set' \
     explain -v --row 5 --kind classes row.txt
 ends 2 '' 'bidi: --tables is needed' explain --row 1 --kind characters characters.txt
-# Classes in a word of 131,071 bytes, the longest that Linux hands to a program.
+# Classes in an argument of 131,071 bytes, the longest that Linux passes to a program.
 "$program" explain --classes "ON$(printf '%131069s' '')" > found_out 2> found_err
 is 'status of the longest word of classes' 0 $?
 is 'order of the longest word of classes' 'order 0' "$(tail -n 1 found_out)"
@@ -176,7 +176,7 @@ is 'order of the longest word of classes' 'order 0' "$(tail -n 1 found_out)"
 "$program" explain --codes "0061$(printf '%131067s' '')" > found_out 2> found_err
 is 'status of the longest word of code points' 0 $?
 is 'order of the longest word of code points' 'order 0' "$(tail -n 1 found_out)"
-# Words of nearly that length, of many classes and of many code points.
+# Arguments of nearly that length, of many classes and of many code points.
 "$program" explain --classes "$(yes ON | head -n 40000 | tr '\n' ' ')" 2> found_err | tail -n 1 | tail -c 7 > found_out
 is 'status of a word of many classes' 0 "${PIPESTATUS[0]}"
 is 'end of explain of a word of many classes' ' 39999' "$(cat found_out)"
@@ -204,7 +204,7 @@ ends 3 '' $'bidi: cannot read large.txt\nbidi: reason: more than 16777216 bytes'
 ends 3 '' $'bidi: cannot read DerivedBidiClass.txt\nbidi: reason: no such file, folder of tables none' \
     levels -v --tables none text.txt
 
-# The tables that are built in, where no folder is named: they mirror a guillemet. A folder without a name is refused.
+# The built-in tables, if no folder is named: they mirror a guillemet. A folder without a name is rejected.
 printf '\xd7\x90\xc2\xab' > guillemet.txt
 ends 0 $'paragraph 0 level 1\n0 05D0 R 1\n1 0020 WS 1\n2 0028 ON 1\n3 0061 L 2' '' levels text.txt
 ends 0 $'a) \xd7\x90' '' reorder text.txt
@@ -218,7 +218,7 @@ is 'standard output of a folder without a name' '' "$(cat found_out)"
 is 'standard error of a folder without a name' \
     "error: a value is required for '--tables <DIR>' but none was supplied" "$(head -n 1 found_err)"
 
-# The classes in the folder `extracted`, which are read where the folder has none.
+# The classes in the folder `extracted`, which are read if the folder has none.
 mkdir -p e/extracted
 cp t/BidiBrackets.txt t/BidiMirroring.txt e
 printf '05D0 ; R\n05D0 ; R\n' > e/extracted/DerivedBidiClass.txt
@@ -238,7 +238,7 @@ ends 3 '' $'bidi: BidiMirroring.txt: line 1: CodePoint\nbidi: reason: the folder
     levels -v --tables t text.txt
 printf '0028; 0029\n0029; 0028\n' > t/BidiMirroring.txt
 
-# Standard input in the place of a file, also where it is closed or a file has its name.
+# Standard input in place of a file, also if it is closed or a file has its name.
 ends 0 $'a) \xd7\x90' '' reorder --tables t - < text.txt
 ends 0 $'paragraph 0 level 1\n0 05D0 R 1\n1 0020 WS 1\n2 0028 ON 1\n3 0061 L 2' '' levels --tables t - < <(cat text.txt)
 ends 0 $'paragraph 0 level 1: R at 0\n'"$explained" '' explain --tables t - < text.txt
@@ -253,7 +253,7 @@ cp text.txt ./-
 ends 0 'yes: 1 rows, 1 cases' '' judge --kind classes - < yes.txt
 ends 0 $'a) \xd7\x90' '' reorder --tables t ./- < yes.txt
 
-# Texts that are printed while they are read, up to where that breaks off.
+# Texts that are printed while they are read, up to where reading breaks off.
 printf 'ab\nc\xff\nd\n' > broken.txt
 ends 3 ab 'bidi: broken.txt: not UTF-8' reorder broken.txt
 ends 3 $'paragraph 0 level 0\n0 0061 L 0\n1 0062 L 0\n2 000A B 0' 'bidi: -: not UTF-8' levels - < broken.txt
@@ -265,7 +265,7 @@ rm broken.txt
 is 'status of bytes that are not UTF-8 to a full disk' 3 $?
 is 'standard error of bytes that are not UTF-8 to a full disk' 'bidi: bytes.txt: not UTF-8' "$(cat found_err)"
 
-# Of two faults a failed read or a text that is not UTF-8 comes before a failed write, also if the write fails first.
+# Of two errors a failed read or a text that is not UTF-8 comes before a failed write, also if the write fails first.
 printf 'ab\nc\xff\nd\n' > broken.txt
 "$program" reorder broken.txt > /dev/full 2> found_err
 is 'status of a text that is not UTF-8 to a full disk' 3 $?
@@ -276,7 +276,7 @@ is 'status of a text that is too long to a full disk' 3 $?
 is 'standard error of it' 'bidi: cannot read broken.txt' "$(cat found_err)"
 rm broken.txt
 
-# If nobody reads what is printed any more, no more of FILE is read.
+# If nobody reads the output any more, no more of FILE is read.
 for word in levels reorder; do
     { yes | timeout 60 "$program" "$word" - 2> found_err; echo "${PIPESTATUS[1]}" > status; } | head -n 1 > found_out
     is "status of $word that nobody reads" 3 "$(cat status)"
@@ -330,7 +330,7 @@ for word in reorder levels; do
             ;;
     esac
 done
-# A row is explained while the pipe that it came by stays open: behind its line nothing is read.
+# A row is explained while the pipe that it came from stays open: nothing is read after its line.
 timeout 60 "$program" explain --row 3 --kind classes - < written > shown 2> found_err &
 exec 3> written 4< shown
 head -n 3 row.txt >&3
@@ -382,7 +382,7 @@ head -c 1048576 most.txt > million.txt
 is 'status of explain of a long text' 0 "${PIPESTATUS[0]}"
 is 'end of explain of a long text' ' 1048575' "$(cat found_out)"
 
-# Rows of the longest texts, which the judge says yes to, and of longer ones.
+# Rows of the longest texts, to which the judge says yes, and of longer ones.
 "$program" rows --form exhaustive --alphabet R --length 4095 > rows.txt 2> found_err
 is 'status of rows of the longest text' 0 $?
 is 'lines of rows of the longest text' 9 "$(wc -l < rows.txt)"
@@ -400,8 +400,8 @@ is 'end of explain of the longest row' ' 4094' "$(cat found_out)"
 printf x >> line.txt
 ends 3 '' 'bidi: line.txt: line 1: too long' rows --of line.txt
 
-# Rows of each form of hard texts and of each kind, by the tables that are built in, which the judge says yes to by
-# the published files of the same edition. Among 20 texts some pass the greatest depth, and the most open brackets.
+# Rows of each form of hard texts and of each kind, with the built-in tables. The judge says yes to them, with the
+# published files of the same edition. Among 20 texts some exceed the greatest depth, and the most open brackets.
 for form in nest marks numbers isolates separators; do
     "$program" rows --form "$form" --count 20 --length 300..600 --directions 'ltr auto-rtl' > rows.txt 2> found_err
     is "status of rows of $form" 0 $?
@@ -419,7 +419,7 @@ ends 2 '' 'bidi: up is no direction' rows --form nest --length 1 --directions 'a
 ends 0 $'05D0 05D0;1;1;1 1;1 0\n05D0 05D0;1;1;1 1;1 0' '' rows --kind characters --tables t --form random \
     --alphabet 05D0 --length 2..2 --seed 7 --count 2 --directions rtl
 
-# Rows of characters in a pipe, by the tables that are built in, which exclude a folder.
+# Rows of characters in a pipe, with the built-in tables, which exclude a folder.
 found=$({ "$program" rows --kind characters --form nest --count 20 --length 300..600 |
     "$program" judge --kind characters --built-in -; echo "${PIPESTATUS[*]}"; } 2> found_err)
 is 'verdict on rows of characters in a pipe' $'yes: 60 rows, 60 cases\n0 0' "$found"
@@ -446,10 +446,10 @@ ends 3 '' 'bidi: cannot read t' report --kind classes t
 "$program" report --kind classes --most many faults.txt > found_out 2> found_err
 is 'status of a word that is no number of wrong cases' 2 $?
 
-# What an engine keeps of the positions that X9 removes, and a level that is wrong, by what is compared; and files that
-# rows and an explained row are to be of.
+# An engine that keeps the positions that X9 removes, and a wrong level, under each comparison. Then files for rows and
+# for an explained row.
 printf '@Levels: 0 1 1\n@Reorder: 0 2 1\nRLE R PDF; 2\n@Levels: 1\n@Reorder: 0\nL; 2\n' > engine.txt
-# counted WRONG LEVELS ORDER: the counts of that file.
+# counted WRONG LEVELS ORDER: prints the counts of that file.
 counted() {
     printf '2 rows, %s wrong; 2 cases, %s wrong\nwrong by direction: auto 0, ltr %s, rtl 0, auto-rtl 0\n' "$1" "$1" "$1"
     printf 'wrong by place: paragraph level 0, levels %s, order %s' "$2" "$3"
@@ -463,8 +463,8 @@ ends 0 "$(counted 0 0 0)" '' report --kind classes --order --shown engine.txt
 ends 3 '' 'bidi: cannot read missing.txt' rows --of missing.txt
 ends 3 '' 'bidi: cannot read t' explain --row 1 --kind classes t
 
-# Rows of the hard texts pass the limits: in some of those of nest a level is as deep as can be, and in some of those of
-# brackets more than 63 are open, by a walk of its own over each text.
+# Rows of the hard texts exceed the limits: in some of those of nest a level is as deep as can be, and in some of those
+# of brackets more than 63 are open. A script counts these in each text.
 "$program" rows --form nest --count 20 --length 300..600 > rows.txt
 is 'a level of 124 in rows of nest' 0 "$(grep -q '^@Levels:.* 124' rows.txt; echo $?)"
 is 'a level of 126 in rows of nest' 0 "$(grep -q '^@Levels:.* 126' rows.txt; echo $?)"
@@ -494,8 +494,8 @@ passed=$(awk -F ';' '
 ' rows.txt)
 is 'rows of brackets with more than 63 open' some "$passed"
 
-# A thousand faults, one in a row of each text of a file that is right: a level of two more, a level too many, a
-# position left out. The report finds each at its place, and no other.
+# A thousand faults, one in a row of each text of a right file: a level higher by two, a level too many, a position left
+# out. The report finds each at its place, and no other.
 "$program" rows --form random --seed 9 --count 1000 --alphabet 'L R AL EN ON' --length 1..9 > right.txt
 awk -v planted=planted.txt '
     function direction(bits) { return bits == 1 ? "auto" : bits == 2 ? "ltr" : "rtl" }
@@ -535,7 +535,7 @@ is 'places of planted faults' 'wrong by place: paragraph level 0, levels 667, or
 is 'first planted faults' "$(head -n 20 planted.txt)" "$(head -n 20 found_out)"
 is 'lines of the report on planted faults' 23 "$(wc -l < found_out)"
 
-# Words that are refused, help and the version.
+# Arguments that are rejected, help and the version.
 "$program" reorder --columns 0 --tables t text.txt > found_out 2> found_err
 is 'status of refused words' 2 $?
 is 'standard output of refused words' '' "$(cat found_out)"
@@ -561,7 +561,7 @@ for words in 'judge --kind classes yes.txt' 'judge --kind classes no.txt' 'repor
     is "standard error of $words to a closed pipe" 'bidi: cannot write' "$(cat found_err)"
 done
 
-# The constants that are built in, and the published files of their edition.
+# The built-in constants, and the published files of their edition.
 "$tools/standard_tables.py" --check
 is 'status of the tables that are built in' 0 $?
 ln -s "$data" real
@@ -583,7 +583,7 @@ if [ -n "$found" ]; then
             *) cp "$published" "$name" ;;
         esac
     done
-    # As many rows and cases as the judge says yes to, of which none is wrong.
+    # As many rows and cases as the judge counts, and none is wrong.
     for words in '--kind classes BidiTest.txt' '--kind characters --tables real BidiCharacterTest.txt' \
         '--kind characters --built-in BidiCharacterTest.txt'; do
         # shellcheck disable=SC2086
@@ -591,7 +591,7 @@ if [ -n "$found" ]; then
         # shellcheck disable=SC2086
         ends 0 "$rows rows, 0 wrong; $cases cases, 0 wrong"$'\n'"$none" '' report $words
     done
-    # Of the last row of each, what is claimed and what is defined are the same, under each of its directions.
+    # In the last row of each, what is claimed and what is defined are the same, under each of its directions.
     for words in '--kind classes BidiTest.txt' '--kind characters --tables real BidiCharacterTest.txt' \
         '--kind characters --built-in BidiCharacterTest.txt'; do
         last=$(grep -n -v '^[#@]' "${words##* }" | grep ';' | tail -n 1 | cut -d : -f 1)

@@ -1,13 +1,13 @@
 #!/bin/bash
-# Runs the tests of the module for Python (python/tests) over the shared object of the library for C, and installs the
-# module by pip into a folder, without a network, and runs it there. It ends with 0 where all is as it is to be, with 1
-# where not, and with 2 where the shared object can't be made. Without python3 or gcc it does nothing, and says so.
-# Texts are compared with what python-bidi shows, as python/tests/peer.txt stores it, and where python3 or the system's
-# Python has it with python-bidi itself; it says so if neither has.
+# Runs the tests of the module for Python (python/tests) over the shared object of the library for C. Then it installs
+# the module with pip into a folder, without a network, and runs it there. It ends with 0 if all is right, with 1 if
+# not, and with 2 if the shared object can't be made. Without python3 or gcc it does nothing, and says so. It compares
+# texts with what python-bidi shows, as python/tests/peer.txt stores it, and with python-bidi itself if python3 or the
+# system's Python has it; it says so if neither has.
 #
 # usage: tools/check_python.sh
 #
-# PYTHON_BIDI in the environment names a folder with the source of python-bidi, whose own tests are then run too.
+# PYTHON_BIDI in the environment names a folder with the source of python-bidi; then its own tests are run too.
 # Build the library first, as tools/c/run.sh does.
 set -u
 tools=$(cd "$(dirname "$0")" && pwd)
@@ -31,7 +31,7 @@ if ! python3 -c 'import bidi.algorithm' 2> /dev/null; then
     fi
 fi
 if python3 -m pip --version > /dev/null 2>&1; then
-    # pip builds where the files lie: in a copy, so that it leaves nothing.
+    # pip builds in the folder of the files: here in a copy, so that it leaves nothing.
     cp -r "$python" "$work/python"
     BIDI_LIBRARY=$shared python3 -m pip install -q --no-index --no-deps --target "$work/site" "$work/python" \
         > "$work/said" 2>&1 || { cat "$work/said"; wrong=1; }

@@ -20,7 +20,7 @@ done
 wrong=0
 checks=0
 
-# is WHAT EXPECTED FOUND: counts a comparison, and says where it fails.
+# is WHAT EXPECTED FOUND: counts a comparison, and says if it fails.
 is() {
     checks=$((checks + 1))
     if [ "$2" != "$3" ]; then
@@ -103,7 +103,7 @@ while wanted:
 print("\n".join(sorted(taken)))' "$@"
 }
 
-# make_root: fills the folder root with the files of these packages, and with the list of packages that dpkg keeps.
+# make_root: fills the folder root with the files of these packages, and with the list of packages that dpkg has.
 make_root() {
     local folder packages
     mapfile -t packages < <(closure coreutils dash gcc libc6-dev libfribidi-dev pkg-config python3)
@@ -122,14 +122,14 @@ inside() {
     chroot "$root" /usr/bin/env -i PATH=/usr/bin LC_ALL=C.UTF-8 "$@" 2>&1
 }
 
-# runs LABEL PREFIX: the programs below a prefix of the root do what they are to do.
+# runs LABEL PREFIX: the programs below a prefix of the root do what they should.
 runs() {
     is "$1: the version" "bidi $version" "$(inside "$2/bin/bidi" --version | sed -n '1s/ (.*//p')"
     is "$1: a text" "12 (cd) בא" "$(inside "$2/bin/bidi" reorder /tmp/text.txt)"
     is "$1: a drawing" "<svg xmlns" "$(inside "$2/bin/bidi-draw" /tmp/text.txt | head -c 10)"
 }
 
-# flags LIBDIR WORD: what pkg-config says in the root, as an array `said_flags`.
+# flags LIBDIR WORD: sets the array `said_flags` to what pkg-config prints in the root.
 flags() {
     read -r -a said_flags < <(inside PKG_CONFIG_PATH="$1/pkgconfig" pkg-config --cflags "$2" bidi_c)
 }

@@ -1,8 +1,8 @@
 #!/bin/bash
 # Runs the tests of the crate for Rust (rust/bidi-proved) over the library for C, with its archives and with its shared
-# object, as tools/c/install.sh installs them, and compares what its examples print with docs/RUST.md, and the example in
-# that with the one of README.md, which is one of the tests. It ends with 0 if all is as expected, with 1 if not, and with
-# 2 if the library can't be installed. Without cargo or gcc it does nothing, and says so.
+# object, as tools/c/install.sh installs them. It compares what the crate's examples print with docs/RUST.md, and the
+# example there with that of README.md, which is one of the tests. It ends with 0 if all is right, with 1 if not, and
+# with 2 if the library can't be installed. Without cargo or gcc it does nothing, and says so.
 #
 # usage: tools/check_rust.sh
 #
@@ -17,7 +17,7 @@ done
 work=$(mktemp -d) || exit 2
 trap 'rm -r "$work"' EXIT
 "$tools/c/install.sh" "$work/prefix" || exit 2
-# cargo writes where the crate is: it runs in a copy, beside the header, which a test reads.
+# cargo writes into the crate's folder, so it runs in a copy, beside the header, which a test reads.
 mkdir -p "$work/tools/c" "$work/rust" && cp -r "$top/rust/bidi-proved" "$work/rust" &&
     cp "$tools/c/bidi.h" "$work/tools/c" || exit 2
 cd "$work/rust/bidi-proved" || exit 2
@@ -31,13 +31,13 @@ tests() {
     wrong=1
 }
 
-# examples FILE: the examples in Rust of a document.
+# examples FILE: prints the examples in Rust of a document.
 examples() {
     awk '/^```/ { inside = /^```rust$/; next } inside' "$1"
 }
 
-# transcripts: writes each command of docs/RUST.md that begins with one of these words to a numbered file, and what it
-# is to print to another.
+# transcripts: writes each command of docs/RUST.md that begins with one of these words to a numbered file, and its
+# expected output to another.
 transcripts() {
     awk -v work="$work" '
         /^```/ { shown = ""; inside = !inside; next }

@@ -1,11 +1,11 @@
 #!/bin/bash
-# Looks whether all that says the version of the product says what the file VERSION does: the command, the library for
-# C, the header, the manual pages, `bidi-draw`, the changelog, the module for Python, the crate for Rust, the file for
-# pkg-config that is installed, and the soname's number; and, if the program is built, `bidi --version`. Likewise whether
-# all that names the edition of Unicode that is built in says what data/EDITION does: the facts, the header, the command
-# with its version and its help, the manual page, the documents, the module for Python, the crate for Rust and the tests.
-# Likewise whether the command and the documents name the kit that `rt version` names, if there is `rt`. It ends with 0
-# if all agree, and with 1 if not.
+# Checks that every place that names the version of the product agrees with the file VERSION: the command, the library
+# for C, the header, the manual pages, `bidi-draw`, the changelog, the module for Python, the crate for Rust, the
+# installed file for pkg-config, the soname's number and, if the program is built, `bidi --version`. It checks likewise
+# that every place that names the built-in edition of Unicode agrees with data/EDITION: the facts, the header, the
+# command with its version and its help, the manual page, the documents, the module for Python, the crate for Rust and
+# the tests. If there is `rt`, it also checks that the command and the documents name the kit that `rt version` names.
+# It ends with 0 if all agree, and with 1 if not.
 #
 # usage: tools/check_version.sh
 set -u
@@ -31,8 +31,8 @@ says_edition() {
     fi
 }
 
-# names_edition FILE: each edition of Unicode that the file names is that of data/EDITION, whole or without its last
-# number, and it names one.
+# names_edition FILE: the file names an edition of Unicode, and each that it names is that of data/EDITION, whole or
+# without its last number.
 names_edition() {
     local named found=0
     while read -r named; do

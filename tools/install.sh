@@ -1,11 +1,11 @@
 #!/bin/bash
-# Installs the proved program and `bidi-draw`, their manual pages, the documents and the licences, and if the library
-# for C was built also that, as an archive and as a shared object, its header and its file for pkg-config, and FriBidi's
-# calls over it; or removes all these. It says what it did and what not.
+# Installs the proved program and `bidi-draw`, their manual pages, the documents and the licences; and, if the library
+# for C was built, also that, as an archive and as a shared object, its header and its file for pkg-config, and
+# FriBidi's calls over it. Or it removes all these. It says what it did and what not.
 #
 # usage: tools/install.sh [--uninstall] [--libdir DIR] PREFIX      (--help says what is installed and what it needs)
 #
-# It ends with 1 where something that was built is not installed, and with 2, before it does anything, where a word is
+# It ends with 1 if something that was built is not installed, and with 2, before it does anything, if an argument is
 # unknown or the program is missing.
 set -u
 top=$(cd "$(dirname "$0")/.." && pwd)

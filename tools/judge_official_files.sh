@@ -1,12 +1,11 @@
 #!/bin/bash
-# Judges the official BidiTest.txt and BidiCharacterTest.txt by the built program, with the tables of the same folder,
-# as the package unicode-data installs them. It prints what the program prints, and ends with 0 where both verdicts are
-# yes. It ends with 2 where the program or one of the files is missing, and with 1 after any other answer of the
-# program.
+# Judges the official BidiTest.txt and BidiCharacterTest.txt with the built program, with the tables of the same folder,
+# as the package unicode-data installs them. It prints what the program prints, and ends with 0 if both verdicts are
+# yes. It ends with 2 if the program or one of the files is missing, and otherwise with 1.
 #
 # usage: tools/judge_official_files.sh [FOLDER]      (FOLDER: /usr/share/unicode)
 #
-# Build the program first, by `rt run -- --help` in crates/bidi.
+# Build the program first, with `rt run -- --help` in crates/bidi.
 set -u
 folder=${1:-/usr/share/unicode}
 program=$(cd "$(dirname "$0")/../crates/bidi" && pwd)/out/bidi
@@ -31,7 +30,7 @@ for name in $names; do
     esac
 done
 
-# judge WORD..: runs the program with these words behind `judge`, and fails unless it says yes and ends with 0.
+# judge WORD..: runs the program with `judge` and these arguments, and fails unless it says yes and ends with 0.
 judge() {
     local said status
     said=$("$program" judge "$@")

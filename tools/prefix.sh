@@ -1,8 +1,8 @@
 # shellcheck shell=bash
-# What the install scripts are told, for them to source: `read_words USAGE [--uninstall] [--libdir DIR] PREFIX` sets
-# `prefix` to the folder in full, `root` to where it is filled, below DESTDIR if that is set, `libdir` to the folder of
-# libraries below PREFIX, and `uninstall` to yes or no. Other words are rejected with status 2. `put MODE FILE NAME`
-# installs a file below root, or removes it.
+# The arguments of the install scripts, which source this file. `read_words USAGE [--uninstall] [--libdir DIR] PREFIX`
+# sets `prefix` to the folder in full, `root` to where it is filled, below DESTDIR if that is set, `libdir` to the
+# folder of libraries below PREFIX, and `uninstall` to yes or no. Other arguments are rejected with status 2.
+# `put MODE FILE NAME` installs a file below root, or removes it.
 
 # reject TEXT: ends with status 2.
 reject() {
@@ -21,7 +21,7 @@ read_prefix() {
     root=${DESTDIR:-}$prefix
 }
 
-# read_libdir WORD: sets `libdir`. The word is a folder below PREFIX, as lib64, or in full, as PREFIX/lib64.
+# read_libdir WORD: sets `libdir`. The argument is a folder below PREFIX, as lib64, or in full, as PREFIX/lib64.
 read_libdir() {
     local whole
     case $1 in
@@ -78,8 +78,8 @@ put_licences() {
     done
 }
 
-# put_documents TOP: the same for README.md, CHANGELOG.md and the documents with their drawings, which lie as they do in
-# the repository, so that each name in them is right.
+# put_documents TOP: the same for README.md, CHANGELOG.md and the documents with their drawings. Their folders are those
+# of the repository, so that each name in them is right.
 put_documents() {
     local file
     for file in "$1"/*.md "$1"/docs/*.md "$1"/docs/*.svg; do

@@ -1,14 +1,14 @@
 #!/bin/bash
-# Refuses each growth in turn, of the tests that are made for it and of the program: the first one, the second, .. until
-# a run that has no such growth. Each test must pass each time: it expects the ordinary answer, or that memory was
-# refused, and no other. The program must end as ever, or say `bidi: out of memory` and end with 3. It prints, for each
-# crate that takes memory, how many growths were refused, and ends with 0 where all passed.
+# Refuses each growth of memory in turn, in the tests that are made for it and in the program: the first one, the
+# second, .. until a run has no such growth. Each test must pass each time: it expects the usual result or a `Memory`
+# error, and no other. The program must end as usual, or print `bidi: out of memory` and end with 3. It prints, for each
+# crate that takes memory, how many growths were refused, and ends with 0 if all passed.
 #
 # usage: tools/refused_growths.sh [CRATE ..]    (of table_tests, file_tests, engine_tests, layout_tests, text_tests,
 #        command_tests, bidi; with none all of them)
 #
-# It runs what `rt ci` leaves in crates/*/out, or `rt test` and `rt run` in a crate's folder, and takes two minutes. It
-# needs a C compiler (CC, else cc), and ends with 2 where that or a program is missing.
+# It runs what `rt ci` built, or `rt test` and `rt run` in a crate's folder, and takes two minutes. It needs a C
+# compiler (CC, else cc), and ends with 2 if that or a program is missing.
 set -u
 tools=$(cd "$(dirname "$0")" && pwd)
 crates=$tools/../crates
@@ -22,15 +22,15 @@ trap 'rm -r "$work"' EXIT
 "${CC:-cc}" -shared -fPIC -O1 -fno-builtin -o "$work/refuse_growth.so" "$tools/growths/refuse_growth.c" ||
     missing "no C compiler, or it does not build"
 
-# refusing N COMMAND..: runs a command with the growth of this number refused, and notes in the file `refused` whether
-# there was one, in `out` and `err` what it wrote. The status is the command's.
+# refusing N COMMAND..: runs a command with the growth of this number refused. It writes to the file `refused` whether
+# there was one, and to `out` and `err` the command's output. The status is the command's.
 refusing() {
     local number=$1
     shift
     REFUSED_GROWTH=$number LD_PRELOAD=$work/refuse_growth.so "$@" > "$work/out" 2> "$work/err" 9> "$work/refused"
 }
 
-# every COMMAND..: runs a command with each growth refused in turn, has `is_right STATUS` judge each run, and counts the
+# every COMMAND..: runs a command with each growth refused in turn, calls `is_right STATUS` for each run, and counts the
 # growths.
 every() {
     local number=0 status
@@ -48,7 +48,7 @@ every() {
     done
 }
 
-# tests_of CRATE WHAT TEST..: every growth of these tests, of which each runs alone.
+# tests_of CRATE WHAT TEST..: refuses every growth of these tests, each of which runs alone.
 tests_of() {
     local crate=$1 what=$2 growths=0 test program
     shift 2
@@ -64,9 +64,9 @@ tests_of() {
     echo "$crate: $growths growths refused, each in turn: $what"
 }
 
-# rows STATUS WORD..: every growth of the program with these words, which ends with this status as ever. Where one is
-# refused, nothing is printed, or for `front` in place of STATUS, which stands for 0, any front of what is printed as
-# ever.
+# rows STATUS WORD..: refuses every growth of the program with these arguments, which usually ends with this status.
+# Then nothing is printed. With `front` in place of STATUS, which stands for 0, any front of the usual output is
+# printed.
 rows() {
     local expected=$1 most=0
     shift

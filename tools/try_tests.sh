@@ -6,8 +6,8 @@
 # usage: tools/try_tests.sh [CRATE ..]    (with no name: each crate that has tests or the stored output of a program)
 #
 # It leaves out the tests of the crates in LEFT_OUT, which make and fill large rooms, and names them: unproved they take
-# minutes each. So each test may take SECONDS_OF_A_TEST, in place of the minute that `rt try` gives it. Crates run side
-# by side, as many as there are processors, or RT_JOBS says.
+# minutes each. Each test may take SECONDS_OF_A_TEST, in place of the minute that `rt try` gives it. As many crates run
+# at once as there are processors, or as RT_JOBS says.
 set -u
 cd "$(dirname "$0")/.." || exit 2
 LEFT_OUT=(room_tests)
@@ -16,7 +16,8 @@ work=$(mktemp -d) || exit 2
 trap 'rm -r "$work"' EXIT
 export work SECONDS_OF_A_TEST
 
-# try_crate CRATE: runs its tests, or its program as it is stored, and notes in the file CRATE how that ended.
+# try_crate CRATE: runs its tests, or its program with the stored arguments, and writes to the file CRATE how that
+# ended.
 try_crate() {
     local crate=$1 began=$SECONDS status file words=() data=() input=/dev/null wanted=0
     cd "crates/$crate" || exit 2

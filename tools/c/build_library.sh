@@ -1,6 +1,7 @@
 #!/bin/bash
 # Builds the library that C links, crates/bidi_c/out/libbidi_c.a, with `rt lib`, and its shared object if gcc is
-# installed. It takes seconds if `rt check` or `rt lib` kept work on this machine. Otherwise it proves each crate below.
+# installed. It takes seconds if `rt check` or `rt lib` proved the crates on this machine before. Otherwise it proves
+# each crate below.
 #
 # usage: tools/c/build_library.sh      (its status is 0 if they are built)
 set -eu

@@ -1,12 +1,12 @@
 #!/bin/bash
-# Links the shared object crates/bidi_c/out/libbidi_c.so.VERSION, by gcc, of the archive beside it and of the kit's part
-# that allocates. Its soname is libbidi_c.so with the first number of the version, and of its symbols it shows the calls
-# of bidi.h alone, with the symbol version LIBBIDI_C_ and that number. Beside it, in libbidi_c.so.VERSION.of, is the sum
-# of that archive. It ends with 2 where a file is missing, and with 1 where a call of the header is none of the archive.
+# Links the shared object crates/bidi_c/out/libbidi_c.so.VERSION with gcc, from the archive beside it and the kit's part
+# that allocates. Its soname is libbidi_c.so with the first number of the version. It exports only the calls of bidi.h,
+# with the symbol version LIBBIDI_C_ and that number. Beside it, libbidi_c.so.VERSION.of has the sum of that archive.
+# The script ends with 2 if a file is missing, and with 1 if the archive lacks a call of the header.
 #
 # usage: tools/c/build_shared.sh
 #
-# Build the archive first, by `rt lib` in crates/bidi_c. RATTLE_C names the kit's folder c where rt isn't on PATH.
+# Build the archive first, with `rt lib` in crates/bidi_c. RATTLE_C names the kit's folder c if rt isn't on PATH.
 set -u
 here=$(cd "$(dirname "$0")" && pwd)
 version=$(cat "$here/../../VERSION")

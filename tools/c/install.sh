@@ -4,12 +4,12 @@
 #
 # usage: tools/c/install.sh [--uninstall] [--libdir DIR] PREFIX     (with DESTDIR in the environment, below that folder)
 #
-# Build the library first, by `rt lib` in crates/bidi_c, and the shared objects, if they are wanted, by
-# tools/c/build_shared.sh and tools/fribidi/build.sh. One of another build of the library is not installed, and it says
-# so. The part that allocates,
-# liblibc_c.a, is taken from the kit, whose folder c is found by the command rt, or named by RATTLE_C in the environment
-# if rt isn't on PATH, as under sudo. --libdir names the folder of libraries below PREFIX, lib if not given. It ends
-# with 2, before it installs anything, if a file is missing or a word is unknown.
+# Build the library first, with `rt lib` in crates/bidi_c, and the shared objects, if you want them, with
+# tools/c/build_shared.sh and tools/fribidi/build.sh. One of another build of the library is not installed, and the
+# script says so. The part that allocates, liblibc_c.a, comes from the kit's folder c. The command rt finds it; if rt
+# isn't on PATH, as under sudo, RATTLE_C in the environment names it. --libdir names the folder of libraries below
+# PREFIX, lib if not given. The script ends with 2, before it installs anything, if a file is missing or an argument is
+# unknown.
 set -u
 here=$(cd "$(dirname "$0")" && pwd)
 # shellcheck source=tools/prefix.sh
@@ -34,7 +34,7 @@ fi
 work=$(mktemp -d) || exit 2
 trap 'rm -r "$work"' EXIT
 
-# escaped TEXT: what a shell would not take as it is, pkg-config does not either, so a backslash comes before it.
+# escaped TEXT: puts a backslash before each character that a shell, and so pkg-config, would not take literally.
 escaped() {
     printf %s "$1" | LC_ALL=C sed 's/[][ "'\''\\$`&|;<>(){}*?#!^~]/\\&/g'
 }
@@ -49,8 +49,8 @@ put 644 "$here/bidi.h" include/bidi.h &&
     put 644 "$work/bidi_c.pc" "$libdir/pkgconfig/bidi_c.pc" &&
     put_licences "$here/../.." || exit 1
 
-# goes_on FILE SCRIPT: whether a shared object is to be installed or removed. It belongs to the library whose sum the
-# script that builds it stored, whatever the times of the files are. If it isn't installed, this says why.
+# goes_on FILE SCRIPT: succeeds if a shared object is to be installed or removed. It belongs to the library whose sum
+# the script that builds it stored, whatever the times of the files are. If it isn't installed, this says why.
 goes_on() {
     [ "$uninstall" = no ] || return 0
     if [ ! -e "$1" ]; then

@@ -1,18 +1,19 @@
 #!/bin/bash
-# Builds the library that C links and the programs of this folder, and runs them: the demo, the examples of the manual,
-# a typesetter, a terminal, every call, those for engines with their own front, each refused allocation, threads that
-# share tables, and reports, against their stored output, the greatest sizes (in some 1.9 GB of memory), a C++ program,
-# and a program built as tools/c/install.sh installs the library; then, but for the sizes, again under
-# -fsanitize=address,undefined and under valgrind, and the threads under -fsanitize=thread. Where the package
-# unicode-data is installed the sizes are taken with its property files, and the official files are laid out and judged
-# too. Where the command is built (`rt run -- --help` in crates/bidi), the lines that say verdicts and the reports are
-# compared with what it prints. It says what it leaves out because something isn't installed or built, without gcc all.
+# Builds the library that C links and the programs of this folder, and runs them. Compared with their stored output are
+# the demo, the examples of the manual, a typesetter, a terminal, every call, those for engines with their own front,
+# each refused allocation, threads that share tables, and reports. Then come the greatest sizes (in some 1.9 GB of
+# memory), a C++ program, and a program built as tools/c/install.sh installs the library. All but the sizes run again
+# under -fsanitize=address,undefined and under valgrind, and the threads under -fsanitize=thread. If the package
+# unicode-data is installed, the sizes run with its property files, and the official files are laid out and judged too.
+# If the command is built (`rt run -- --help` in crates/bidi), the lines that state verdicts and the reports are
+# compared with what it prints. The script says what it leaves out because something isn't installed or built: without
+# gcc everything.
 #
 # usage: tools/c/run.sh [FOLDER]      (FOLDER, with the files of the Unicode database: /usr/share/unicode)
 #
-# build_library.sh makes the library with `rt lib`: in seconds if `rt check` or `rt lib` kept work on this machine, else
-# by proving each crate below it. It ends with 0 where all is as it should be, with 1 where not, and with 2 where the
-# library can't be made.
+# build_library.sh makes the library with `rt lib`: in seconds if `rt check` or `rt lib` proved the crates on this
+# machine before, else by proving each crate below it. The script ends with 0 if all is right, with 1 if not, and with 2
+# if the library can't be made.
 set -u
 here=$(cd "$(dirname "$0")" && pwd)
 folder=${1:-/usr/share/unicode}
@@ -42,7 +43,7 @@ fails() {
     failures=$((failures + 1))
 }
 
-# build NAME WORD..: a program of this folder, with these words for gcc.
+# build NAME WORD..: builds a program of this folder with these arguments of gcc.
 build() {
     local name=$1
     shift
@@ -50,7 +51,7 @@ build() {
         fails "gcc $name"
 }
 
-# expect NAME STORED WORD..: what a command prints is what is stored in this file.
+# expect NAME STORED WORD..: a command prints what is stored in this file.
 expect() {
     local name=$1 stored=$2
     shift 2
@@ -62,13 +63,13 @@ expect() {
     fi
 }
 
-# says_no WORD..: whether a command ends with 1.
+# says_no WORD..: succeeds if a command ends with 1.
 says_no() {
     "$@"
     [ $? -eq 1 ]
 }
 
-# all LABEL WORD..: each program, begun by these words.
+# all LABEL WORD..: runs each program, started with these words.
 all() {
     local label=$1
     shift
@@ -98,7 +99,7 @@ build_all() {
     build report "$@"
 }
 
-# same_line KIND FILE: of this test file the library and the command say the same verdict.
+# same_line KIND FILE: the library and the command print the same verdict on this test file.
 same_line() {
     "$command" judge --kind "$1" --tables "$here/ucd" "$2" > "$work/said" 2> "$work/errors"
     local status=$?

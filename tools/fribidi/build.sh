@@ -1,9 +1,9 @@
 #!/bin/bash
-# Links libfribidi_over_bidi.so, FriBidi's calls of the algorithm over the library for C, with gcc, into FOLDER. The
-# library is in it, from its archive, so it needs no other shared object than the C library's. It shows FriBidi's names
-# alone. Without FOLDER it is linked into crates/bidi_c/out, from which tools/install.sh installs it, and
-# libfribidi_over_bidi.so.of beside it has the sum of the library. The status is 2 if gcc, FriBidi's headers or the
-# library is missing, and 1 if gcc fails.
+# Links libfribidi_over_bidi.so, FriBidi's calls of the algorithm over the library for C, with gcc, into FOLDER. It
+# contains the library, from its archive, so it needs no other shared object than the C library's. It exports only
+# FriBidi's names. Without FOLDER it is linked into crates/bidi_c/out, from which tools/install.sh installs it, and
+# libfribidi_over_bidi.so.of beside it has the sum of the library. The script ends with 2 if gcc, FriBidi's headers or
+# the library is missing, and with 1 if gcc fails.
 #
 # usage: tools/fribidi/build.sh [FOLDER]
 #

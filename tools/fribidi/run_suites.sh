@@ -1,9 +1,9 @@
 #!/bin/bash
-# Runs the tests of FriBidi and raqm themselves with FriBidi's calls replaced by libfribidi_over_bidi.so: gets the
-# sources of the Debian packages by `apt-get source`, builds them, and runs what their `make check` or `meson test`
-# runs, first as they are and then with that shared object in front. It ends with 0 if the tests that passed before pass
-# then too, with 1 if not, and with 2 if the shared object can't be built. A package whose sources the system's package
-# source doesn't give, or that does not build here, is left out, and it says so.
+# Runs the tests of FriBidi and raqm themselves with FriBidi's calls replaced by libfribidi_over_bidi.so. It gets the
+# sources of the Debian packages with `apt-get source`, builds them, and runs what their `make check` or `meson test`
+# runs, first without that shared object and then with it. It ends with 0 if the tests that passed before pass then too,
+# with 1 if not, and with 2 if the shared object can't be built. It leaves out a package whose sources the system's
+# package source doesn't have, or that does not build here, and says so.
 #
 # usage: tools/fribidi/run_suites.sh [FOLDER]      (FOLDER, in which sources and logs stay: a temporary one)
 #
@@ -40,13 +40,13 @@ tests() {
     fi
 }
 
-# results FILE: the lines of a log that say that a test passed, or that it did not.
+# results FILE: prints the lines of a log that say that a test passed, or that it did not.
 results() {
     grep -E '^(PASS|FAIL|ERROR|XFAIL|SKIP): |^ *[0-9]+/[0-9]+ .* (OK|FAIL|SKIP|TIMEOUT)' "$1" |
         sed -E 's/ +[0-9.]+ ?s.*//'
 }
 
-# suite PACKAGE: gets, builds and runs one.
+# suite PACKAGE: gets, builds and runs one package.
 suite() {
     local package=$1 folder
     if ! apt-get source -qq "$package" > "$package.get" 2>&1; then
