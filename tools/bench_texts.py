@@ -3,8 +3,8 @@
 
 usage: tools/bench_texts.py FOLDER
 
-The ordinary ones have about 1,000 characters, one of them ten times as many, two of them one. The others are hard for an engine that walks back and
-forth; each has its number of characters in its name.
+The ordinary ones have about 1,000 characters, one of them ten times as many, and two of them one. The others are hard
+for an engine that searches back and forth; their names say how many characters they have.
 """
 import os
 import random
@@ -28,12 +28,12 @@ BOTH_DIRECTIONS = 'a\u05d0'
 
 
 def filled(length, part):
-    """The part over and over, cut to a length."""
+    """Returns the part over and over, cut to a length."""
     return (part * (length // len(part) + 1))[:length]
 
 
 def phrase(chance):
-    """Some words of one language, often with brackets or a number, and what follows them."""
+    """Returns some words of one language, often with brackets or a number, and what follows them."""
     pick = chance.random()
     words = HEBREW if pick < .35 else ARABIC if pick < .68 else LATIN
     text = ' '.join(chance.choice(words) for _ in range(chance.randint(1, 5)))
@@ -52,7 +52,7 @@ def phrase(chance):
 
 
 def mixed(length):
-    """Phrases of three languages, cut to a length; the same ones on every run."""
+    """Returns phrases of three languages, cut to a length; the same ones on every run."""
     chance = random.Random(7)
     parts, count = [], 0
     while count < length:
@@ -62,13 +62,13 @@ def mixed(length):
 
 
 def with_pairs(text, period, opening, closing):
-    """The text with a pair of controls in each stretch of so many characters, half of which stand between them."""
+    """Returns the text with a pair of controls around half of each stretch of so many characters."""
     after = {9: opening, 9 + period // 2: closing}
     return ''.join(c + after.get(at % period, '') for at, c in enumerate(text))
 
 
 def ordinary_texts():
-    """The names and texts of ordinary kinds."""
+    """Returns the names and texts of ordinary kinds."""
     text = mixed(1000)
     return {
         'english': filled(1000, ENGLISH),
@@ -92,7 +92,7 @@ def ordinary_texts():
 
 
 def hostile_texts(length):
-    """The names and texts of about so many characters that are hard to lay out in linear time."""
+    """Returns the names and texts of about so many characters that are hard to lay out in linear time."""
     half = length // 2
     return {
         'fsi': BOTH_DIRECTIONS + FSI * length,

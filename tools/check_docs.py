@@ -1,20 +1,20 @@
 #!/usr/bin/env python3
-"""Runs the transcripts of the documents by the built program, and compares what it writes with what they say.
+"""Runs the transcripts of the documents with the built program, and compares the output with what they show.
 
 usage: tools/check_docs.py [--store] [FOLDER]      (FOLDER, with the property and test files: /usr/share/unicode)
 
-A transcript is a block of a document (README.md and those of docs/) with lines `$ COMMAND`; what stands behind such a
-line, up to the next one, is what the command writes to a terminal. Commands that begin with one of the words in RUN
-are run by bash, those of a document one after another in one folder; others are passed over. A file that no command
-has made is made of what `cat FILE`, or `od -A n -t x1 FILE`, shows of it. `ucd` is a folder with the published
-property files and test files; where FOLDER has none, commands that name it are passed over, and it says so. RUN_IN has
-further words for single documents; commands whose tool is not installed are passed over too. Each example in C must be
-part of tools/c/manual.c, where it may be indented.
+A transcript is a block of a document (README.md and those of docs/) with lines `$ COMMAND`. The lines after such a
+line, up to the next one, are what the command writes to a terminal. bash runs the commands that begin with one of the
+words in RUN, those of a document one after another in one folder; others are skipped. RUN_IN has further words for
+single documents. A file that no command has made is made from what `cat FILE`, or `od -A n -t x1 FILE`, shows of it.
+`ucd` is a folder with the published property files and test files. If FOLDER has none, commands that name it are
+skipped, and the script says so. Commands whose tool is not installed are skipped too. Each example in C must be part of
+tools/c/manual.c, where it may be indented.
 
-It ends with 0 where all is as it is written, with 1 where not, and with 2 where the program is missing. A drawing that
-a command makes, as docs/layout.svg, is compared with the one of that name in docs/; with --store it is stored there. It
-also looks whether docs/crates.svg is the drawing of the crates. It runs what `rt ci` leaves, or `rt run` in
-crates/bidi.
+A drawing that a command makes, such as docs/layout.svg, is compared with the one of that name in docs/; with --store it
+is stored there. The script also checks that docs/crates.svg is the drawing of the crates. It runs the program that
+`rt ci` built, or `rt run` in crates/bidi. It ends with 0 if all is as written, with 1 if not, and with 2 if the program
+is missing.
 """
 
 import bz2
@@ -40,7 +40,7 @@ PACKED = {".gz": gzip.decompress, ".bz2": bz2.decompress}
 
 
 def transcripts(text):
-    """Each command of the document, with the lines behind it."""
+    """Returns each command of the document, with the lines after it."""
     inside, found = False, []
     for line in text.splitlines():
         if line.startswith("```"):
@@ -54,7 +54,7 @@ def transcripts(text):
 
 
 def make_shown(work, command, shown):
-    """Makes the file of what a command shows of it, unless it is there."""
+    """Makes the file from what a command shows of it, unless it is there."""
     words = command.split()
     if words[0] not in ("cat", "od") or not (len(words) == 2 or command.startswith(BYTES)):
         return
@@ -67,7 +67,7 @@ def make_shown(work, command, shown):
 
 
 def published(folder, place):
-    """Puts the published files into a folder `ucd`, and answers whether all were found."""
+    """Puts the published files into a folder `ucd`, and returns whether all were found."""
     place.mkdir()
     for name in UCD:
         found = sorted(path for path in folder.rglob(name + "*") if path.name in (name, name + ".gz", name + ".bz2"))
@@ -79,7 +79,7 @@ def published(folder, place):
 
 
 def written(command, work, path):
-    """The lines that a command writes to a terminal, without blanks at their ends."""
+    """Returns the lines that a command writes to a terminal, without blanks at their ends."""
     try:
         done = subprocess.run(
             ["bash", "-c", command], cwd=work, stdout=subprocess.PIPE, stderr=subprocess.STDOUT, timeout=SECONDS,
@@ -91,7 +91,7 @@ def written(command, work, path):
 
 
 def wrong_examples(file):
-    """How many examples in C of a document are no part of tools/c/manual.c."""
+    """Returns how many examples in C of a document are no part of tools/c/manual.c."""
     source = (TOP / "tools/c/manual.c").read_text()
     indented = re.sub("^  ", "", source, flags=re.MULTILINE)
     examples = re.findall(r"^```c\n(.*?)^```$", file.read_text(), re.MULTILINE | re.DOTALL)
@@ -102,7 +102,7 @@ def wrong_examples(file):
 
 
 def wrong_drawings(work):
-    """How many drawings that the commands of a document made are not those in docs/. With --store it stores them."""
+    """Returns how many drawings of a document's commands differ from those in docs/. With --store it stores them."""
     wrong = 0
     for made in sorted(work.glob("*.svg")):
         stored = TOP / "docs" / made.name
@@ -115,7 +115,7 @@ def wrong_drawings(work):
 
 
 def run_document(file, folder, program):
-    """Runs the transcripts of a document: how many ran, how many were wrong, and what the ones passed over lack."""
+    """Runs the transcripts of a document. Returns how many ran, how many were wrong, and what the skipped ones lack."""
     ran, wrong, lacking = 0, 0, []
     with tempfile.TemporaryDirectory() as made:
         work = pathlib.Path(made)

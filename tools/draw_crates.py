@@ -1,13 +1,13 @@
 #!/usr/bin/env python3
-"""Draws the crates: docs/crates.svg, of crates.txt (which crate stands on which) and docs/crates_drawing.txt (where a
-crate stands, what it does and what it hands on).
+"""Draws the crates: docs/crates.svg, from crates.txt (which crate depends on which) and docs/crates_drawing.txt (the
+column of a crate, what it does and what it provides).
 
-A crate stands a row below the lowest of those that it stands on. An arrow leads to each crate that stands on another,
-unless it does so by way of a third one. It stops where a crate of crates.txt has no line, or a line no crate, and where
-a box or an arrow would cover a box.
+A crate is a row below the lowest of those that it depends on. An arrow leads to a crate from each on which it depends,
+except from those on which it depends through a third one. The script stops if a crate of crates.txt has no line, or a
+line has no crate, or a box or an arrow would cover a box.
 
-usage: tools/draw_crates.py [--check]      (--check: writes nothing, and ends with 1 where the drawing is not the one
-that would be written)
+usage: tools/draw_crates.py [--check]      (--check: writes nothing, and ends with 1 if the drawing is not the one that
+would be written)
 """
 
 import pathlib
@@ -30,7 +30,7 @@ FILLS = {
 
 
 def read_crates():
-    """Which crates each crate of the repository stands on."""
+    """Returns the crates that each crate of the repository depends on."""
     crates = {}
     for line in (TOP / "crates.txt").read_text().splitlines():
         if line.strip() and not line.startswith("#"):
@@ -40,7 +40,7 @@ def read_crates():
 
 
 def read_notes():
-    """The column, the kind, what it does and what it hands on, of each crate."""
+    """Returns the column and the kind of each crate, what it does and what it provides."""
     notes = {}
     for line in (TOP / "docs/crates_drawing.txt").read_text().splitlines():
         if line.strip() and not line.startswith("#"):
@@ -50,7 +50,7 @@ def read_notes():
 
 
 def all_below(crates, name):
-    """All crates that a crate stands on, by way of others too."""
+    """Returns all crates that a crate depends on, through others too."""
     found = set()
     for low in crates[name]:
         found |= {low} | all_below(crates, low)
@@ -58,7 +58,7 @@ def all_below(crates, name):
 
 
 def arrows_of(crates):
-    """The pairs of a crate and one that stands on it, but not by way of a third one."""
+    """Returns the pairs of a crate and one that depends on it, but not through a third one."""
     for name, below in crates.items():
         for low in below:
             if not any(low in all_below(crates, other) for other in below):
@@ -66,19 +66,19 @@ def arrows_of(crates):
 
 
 def row_of(crates, name):
-    """A row below the lowest of those that it stands on."""
+    """Returns the row of a crate: one below the lowest of those that it depends on."""
     return max((row_of(crates, low) + 1 for low in crates[name]), default=0)
 
 
 def words_of(note):
-    """The lines of a box below its name: what the crate does, and what it hands on."""
+    """Returns the lines of a box below its name: what the crate does, and what it provides."""
     _, _, does, gives = note
     lines = [(line, "does") for line in textwrap.wrap(does, CHARACTERS)]
     return lines + [(line, "gives") for line in textwrap.wrap("\u2192 " + gives, CHARACTERS) if gives]
 
 
 def place(crates, notes):
-    """The boxes by name: left, top, width, height."""
+    """Returns the boxes by name: left, top, width, height."""
     rows = {name: row_of(crates, name) for name in crates}
     leftmost = min(note[0] for note in notes.values())
     boxes, top = {}, MARGIN
@@ -91,12 +91,12 @@ def place(crates, notes):
 
 
 def covers(a, b):
-    """Whether two boxes have a point in common."""
+    """Returns whether two boxes have a point in common."""
     return a[0] < b[0] + b[2] and b[0] < a[0] + a[2] and a[1] < b[1] + b[3] and b[1] < a[1] + a[3]
 
 
 def route(boxes, low, name):
-    """The way of an arrow: straight down in its own column, and then over to the crate's."""
+    """Returns the way of an arrow: straight down in its own column, and then over to the crate's."""
     left, top, width, height = boxes[low]
     x, y = left + width / 2, top + height
     to_x, to_y = boxes[name][0] + boxes[name][2] / 2, boxes[name][1] - 3
@@ -110,7 +110,7 @@ def route(boxes, low, name):
 
 
 def draw(crates, notes):
-    """The drawing, as SVG."""
+    """Returns the drawing, as SVG."""
     boxes = place(crates, notes)
     for a in boxes:
         for b in boxes:

@@ -1,6 +1,5 @@
 #!/usr/bin/env python3
-"""Puts random cases of the official conformance files as equations that the definitions must compute to, and checks
-them.
+"""Checks random cases of the official conformance files against the definitions, as equations that hold by computation.
 
 usage: official_cases.py classes|characters COUNT [--seed N] [--skip N] [--ucd FOLDER] [--batch N] [--print]
 
@@ -8,10 +7,10 @@ classes: cases of BidiTest.txt (a row under one of its directions): levels and o
 characters: rows of BidiCharacterTest.txt: the first paragraph's level, levels and order; classes and keys of brackets
 come from DerivedBidiClass.txt and BidiBrackets.txt.
 
-The cases are shuffled by the seed; COUNT of them are taken after the first --skip, so runs of one seed have no case in
-common. Each batch becomes a file of equations, each proved by `refl` alone, in a copy of crates/units outside the
-repository, which `rt check` then checks. With --print the equations are printed and nothing is checked. The files are
-those of Debian's package unicode-data (/usr/share/unicode)."""
+The script shuffles the cases with the seed, skips the first --skip of them and takes COUNT. So runs with one seed can
+take different cases. Each batch becomes a file of equations in a copy of crates/units outside the repository, each
+proved by `refl` alone. `rt check` then checks the copy. With --print the script prints the equations and checks
+nothing. The files are those of Debian's package unicode-data (/usr/share/unicode)."""
 import argparse
 import bisect
 import os
@@ -76,7 +75,7 @@ def equation(name, left, right):
 
 
 def data_lines(folder, name):
-    """The lines of a file with their numbers."""
+    """Returns the lines of a file with their numbers."""
     for place in (folder, folder + '/extracted'):
         if os.path.exists(place + '/' + name):
             with open(place + '/' + name, encoding='utf-8') as file:
@@ -108,7 +107,7 @@ def class_equation(case):
 
 
 def class_table(folder):
-    """The class of a code point: that of its data line, else of the last default line that holds it, else L."""
+    """Returns the class of a code point: that of its data line, else of the last default line that has it, else L."""
     spans, defaults = [], []
     for _, line in data_lines(folder, 'DerivedBidiClass.txt'):
         default = line.startswith('# @missing:')
@@ -168,7 +167,7 @@ def character_equation(class_of, brackets):
 
 
 def check(workspace, equations):
-    """Checks equations in the copy of units; True if all hold."""
+    """Checks equations in the copy of units. Returns whether all hold."""
     specs = workspace + '/crates/units/specs'
     with open(specs + '/OfficialCases.antt', 'w', encoding='utf-8') as file:
         file.write(HEAD + '\n' + '\n'.join(equations))

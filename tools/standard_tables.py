@@ -3,14 +3,14 @@
 
 usage: tools/standard_tables.py [--check]
 
-The edition is the one that data/EDITION names, and its three property files are in data/unicode-EDITION. From these come,
-in crates/standard, src/facts.rt (what the files state, in the files' own form, without comments, with adjacent ranges of
-one class joined), src/{classes,brackets,mirrors}.rt (the same as the two stages that a look-up reads) and
+The edition is the one that data/EDITION names, and its three property files are in data/unicode-EDITION. From these
+come, in crates/standard, src/facts.rt (what the files state, in the files' own form, without comments, with adjacent
+ranges of one class joined), src/{classes,brackets,mirrors}.rt (the same as the two stages that a look-up reads) and
 proofs/Numbering.antt (which bracket has which key). In crates/standard_15 the facts are those of an older edition and
 never change; the constants come from these facts.
 
 With --check nothing is written. It ends with status 1 if a file isn't the one that would be written, or if the class,
-the bracket or the mirror image of some code point differs between the published files and the facts.
+the bracket or the mirrored character of some code point differs between the published files and the facts.
 """
 
 import pathlib
@@ -177,7 +177,7 @@ def classes_file(text, edition):
 
 
 def mirrors_file(text, edition):
-    """Returns the source file of the mirror images."""
+    """Returns the source file of the mirrored characters."""
     head = f"//! The mirror images of Unicode {edition} in two stages. {WRITTEN}\n"
     images = [named(it) for it in values(text)]
     return stages(head, "Option<char>", [f"Some('\\u{{{int(it[0], 16):X}}}')" if it else "None" for it in images])

@@ -21,8 +21,8 @@ these. They are neither passed nor failed, and a crate that has some gets no rec
 
 The tool works in copies of crates/, crates.txt and HANDLES outside the checkout, and uses the commands of the kit
 alone. So the checkout may change meanwhile. A check in a copy proves all crates below its own there. With --here the
-tool works in the checkout itself, over what `rt check` and `rt lib` kept there, and puts back each file that it
-changed. It starts only if git knows all files of crates/ as they are.
+tool works in the checkout itself, over what `rt check` and `rt lib` stored there, and puts back each file that it
+changed. It starts only if all files of crates/ are committed.
 
 Callers depend on contracts alone, so a wrong body hides no other. The tool applies the edits of a crate that change
 different functions together, and runs one `rt check` over these functions and their callees. An edit passes there only
@@ -44,7 +44,7 @@ and over the same libraries. Otherwise all edits of the crate fail.
 The tool works on as many crates at once as processors and memory allow, or RT_JOBS says. Each crate gets one job. A
 check reads all crates below its own, so each job has its own copy. It takes next the crate that needs the fewest new
 libraries there. With --here it goes from the highest crates down: it begins a crate once it has come to the end of all
-that stand on it, so that no wrong body is ever below a crate that is checked. Then each check gets as many jobs.
+that depend on it, so that no wrong body is ever below a crate that is checked. Then each check gets as many jobs.
 """
 import concurrent.futures as futures
 import contextlib
@@ -167,7 +167,7 @@ def all_below(name, named):
 
 
 def parameters_of(header):
-    """Returns the type parameters of an impl, and what stands behind them."""
+    """Returns the type parameters of an impl, and the text after them."""
     if not header.startswith("<"):
         return set(), header
     depth = 0
@@ -179,7 +179,7 @@ def parameters_of(header):
 
 
 def owner_of(header):
-    """Returns how the check names what holds a method, a type with the trait behind it or a trait, and that type where
+    """Returns how the check names what has a method, which is a type followed by the trait or a trait, and that type if
     it has the method by itself."""
     header = re.sub(r"\bwhere\b.*", "", header, flags=re.S)
     if found := re.match(r"(?:pub(?:\(\w+\))? )?trait (\w+)", header):
@@ -199,7 +199,7 @@ def home_of(crate, name, path):
 
 
 def function_at(crate, path, text, row):
-    """Returns the path, as the check names it, of the function whose lines hold this row; None where none does."""
+    """Returns the path, as the check names it, of the function whose lines have this row; None if none does."""
     lines, owner, own_type = text.split("\n"), "", ""
     found, end = None, ""
     for at, line in enumerate(lines[: row + 1]):
@@ -277,7 +277,7 @@ def round_of(crate, edits):
 
 
 def parts_of(path):
-    """Returns the parts of a function's path without what marks a closure or a name that stands twice."""
+    """Returns the parts of a function's path without what marks a closure or a duplicate name."""
     return tuple(it.lstrip("+") for it in path if it != "fn")
 
 
@@ -308,7 +308,7 @@ def is_part(path, functions):
 
 
 def words_of(edits):
-    """Returns the words by which a check looks only at the functions that these edits change."""
+    """Returns the arguments with which a check looks only at the functions that these edits change."""
     paths = sorted({"::".join(path) for it in edits for path in it.functions})
     return [word for path in paths for word in ("--only", path)]
 
@@ -328,7 +328,7 @@ def without(crate, folder):
 
 @contextlib.contextmanager
 def put_in(crate, texts):
-    """Puts these texts into the crate's files, and at the end those that stood there."""
+    """Puts these texts into the crate's files, and at the end the earlier ones again."""
     right = {path: crate.text(path) for path in texts}
     try:
         for path, text in texts.items():
@@ -340,7 +340,7 @@ def put_in(crate, texts):
 
 
 def own_goal(edit, goals, lost):
-    """Returns an open goal of a function that the edit changes, none where a proof file of one names what is gone."""
+    """Returns an open goal of a function that the edit changes, none if a proof file of one names what is gone."""
     if any(is_part(path, edit.functions) for path in lost):
         return None
     return next((goal for path, goal in goals.items() if is_part(path, edit.functions)), None)
@@ -355,7 +355,7 @@ def unread(crate, edits, texts, said):
 
 
 def try_round(crate, edits, tell):
-    """Checks once what these edits change, all of them together, and says which are refused. Returns the others."""
+    """Checks once what these edits change, all of them together, and says which are rejected. Returns the others."""
     texts, _ = applied(crate, [pair for it in edits for pair in it.pairs], {})
     with put_in(crate, texts):
         status, said = crate.check(words_of(edits))
@@ -385,7 +385,8 @@ def is_over():
 
 
 def in_rounds(crate, edits, tell):
-    """Tries each of these edits once, together with others, while there is time. Returns those that were not refused."""
+    """Tries each of these edits once, together with others, while there is time. Returns those that were not
+    rejected."""
     missed, left = [], edits
     while left and not is_over():
         chosen = round_of(crate, left)
@@ -395,7 +396,7 @@ def in_rounds(crate, edits, tell):
 
 
 def try_alone(crate, edit):
-    """Tries one edit by `rt must-fail`. Returns whether it is refused for what it says, and what to say."""
+    """Tries one edit with `rt must-fail`. Returns whether it is rejected for what it says, and what to say."""
     name = edit.label.partition("/")[2]
     crate.put(f"must-fail/{name}.edit", edit.text)
     try:
@@ -447,7 +448,7 @@ def try_edits(crate, files):
 
 def unproved(crate, edits):
     """Returns what a check says of the right code of a function that one of these edits changes, or of the whole crate
-    where they change none; nothing where that is proved."""
+    if they change none; nothing if that is proved."""
     status, said = crate.check(words_of([it for it in edits if it.functions][:1]))
     return said if status else ""
 
@@ -457,7 +458,7 @@ def names_in(folder):
 
 
 def strays(crates):
-    """Returns what lies below a folder of wrong bodies and is none of a crate's edits."""
+    """Returns the files below a folder of wrong bodies that are none of a crate's edits."""
     found = []
     for folder in sorted(glob.glob("crates/*/wrong")):
         for at, _, names in os.walk(folder):
@@ -535,7 +536,7 @@ def record_all(crates, asked, try_these):
 
 
 def lanes(count):
-    """Returns how many of so many crates are tried side by side."""
+    """Returns how many of so many crates are tried at once."""
     memory = os.sysconf("SC_PAGE_SIZE") * os.sysconf("SC_PHYS_PAGES")
     most = int(os.environ.get("RT_JOBS") or min(os.cpu_count() or 1, memory // BYTES_OF_A_CHECK))
     return max(1, min(most, count))
@@ -578,7 +579,7 @@ def try_all(crates, asked, ended):
 
 
 def try_here(crates, asked, ended):
-    """Tries the edits of all these crates in the checkout, each crate after those that stand on it. Says and returns
+    """Tries the edits of all these crates in the checkout, each crate after those that depend on it. Says and returns
     the same."""
     run = subprocess.run(["git", "status", "--porcelain", "crates"], capture_output=True, text=True, check=False)
     if run.returncode or run.stdout:
@@ -601,7 +602,7 @@ def try_here(crates, asked, ended):
 
 @contextlib.contextmanager
 def ending_all():
-    """Ends the commands that still run, where what it holds ends early."""
+    """Ends the commands that still run if the block ends early."""
     signal.signal(signal.SIGTERM, lambda *_: sys.exit(143))
     try:
         yield

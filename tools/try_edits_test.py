@@ -7,7 +7,7 @@ Edits that break a contract must pass. Each edit that shows nothing must fail, a
 changes nothing, one that can't be applied, one that doesn't compile, one that means the same as the right code, and one
 that is rejected only because a proof file cites a name that it removed. No such run writes a record. A record of
 rejected edits serves until what they depend on changes, and the edits that a commit draws show that a false one is
-false. With --here the checkout is afterwards as it was, but for records.
+false. With --here the checkout is unchanged afterwards, except for records.
 """
 import os
 import pathlib
@@ -94,7 +94,7 @@ def put(file, text):
 
 
 def ran_with(top, words):
-    """Runs the tool with these words. Returns the status, and the lines that were printed."""
+    """Runs the tool with these arguments. Returns the status, and the lines that were printed."""
     ran = subprocess.run([TOOL, *words], cwd=top, stdout=subprocess.PIPE, stderr=subprocess.STDOUT, check=False)
     return ran.returncode, ran.stdout.decode(errors="replace").splitlines()
 

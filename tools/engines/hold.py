@@ -1,26 +1,24 @@
 #!/usr/bin/env python3
-"""Holds an engine's rows against those of the library for C, and against what `bidi report` says of them.
+"""Compares an engine's rows with those of the library for C, and with what `bidi report` says of them.
 
 usage: tools/engines/hold.py [--each] TABLES TEXTS ROWS COMMAND..
 
-BIDI_LIBRARY names the shared object, and BIDI the program. TABLES is a folder with the three property files, TEXTS a
-file of lines `CODE POINTS;DIRECTION` (what stands behind a further semicolon is passed over, so that a test file of
-characters serves too); a text that stands there twice under a direction is taken once. A `|` between two code points
-ends a line of layout, and each paragraph separator needs one after it, unless it is the last character. COMMAND runs
-the engine, as rows.h says.
+BIDI_LIBRARY names the shared object, and BIDI the program. TABLES is a folder with the three property files. TEXTS is a
+file of lines `CODE POINTS;DIRECTION`; what follows a further semicolon is skipped, so a test file of characters serves
+too. Duplicates count once. A `|` between two code points ends a line of layout, and each paragraph separator needs one
+after it, unless it is the last character. COMMAND runs the engine, as rows.h says.
 
-First the library's own rows are made, and reported on: none may be wrong. Then the engine's are made, and written to
-ROWS as a test file, without those that it failed to make, which are counted apart. They are compared with the library's
-and, by `bidi report --shown`, with the rules; both must find as many that are wrong. Levels of characters that X9
-removes, and their places, are passed over, since an engine need not tell them. A test file has no form for several
-lines: rows of such texts are compared with the library's alone.
+The script first makes and reports on the library's own rows: none may be wrong. Then it makes the engine's rows, and
+writes them to ROWS as a test file, without those that the engine failed to make, which it counts apart. It compares
+them with the library's and, with `bidi report --shown`, with the rules; both must find as many that are wrong. Levels
+and places of characters that X9 removes are skipped, since an engine need not report them. A test file has no form for
+several lines, so rows of such texts are only compared with the library's.
 
-It prints which engine it is, how many rows there are, how many of them are wrong and in what, and of each kind some
-smallest texts with both claims. To find them, characters are left out of texts that are wrong, for as long as what is
-left is wrong in the same way and direction. With `--each` it prints all wrong rows instead, and looks for no smaller
-ones.
+It prints which engine it is, how many rows there are, and how many of them are wrong and in what. For each kind it
+prints some smallest texts with both claims. To find these, it leaves characters out of wrong texts, as long as the rest
+is wrong in the same way and direction. With `--each` it prints all wrong rows instead, and looks for no smaller ones.
 
-It ends with 0 where both counts are one, and with 1 where they aren't, or a row of the library's is wrong.
+It ends with 0 if both counts are one, and with 1 if they aren't, or a row of the library's is wrong.
 """
 import collections
 import itertools
@@ -72,7 +70,7 @@ class Holder:
         return [codes, direction, str(made.paragraph_levels[0]), joined(levels), joined(orders)]
 
     def rows_of(self, texts):
-        """The rows that the engine makes of texts, as it tells them."""
+        """Returns the rows that the engine makes of texts, as it prints them."""
         asked = "".join(f"{codes};{direction}\n" for codes, direction in texts)
         made = subprocess.run(self.command, input=asked, stdout=subprocess.PIPE, text=True, check=True).stdout
         rows = [line.split(";") for line in made.splitlines()]
@@ -142,7 +140,7 @@ def length_of(text):
 
 
 def smaller(text, size):
-    """A text without as many of its items, which stand side by side, at each place, if no line is empty then."""
+    """Returns a text without as many of its adjacent items, at each place, if no line is empty then."""
     items = text[0].split()
     starts = range(0, len(items) if len(items) > size else 0, size)
     left = [" ".join(items[:at] + items[at + size :]) for at in starts]

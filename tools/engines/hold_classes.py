@@ -1,5 +1,5 @@
 #!/usr/bin/env python3
-"""Holds the classes that an engine gives all code points against DerivedBidiClass.txt.
+"""Compares the classes that an engine gives all code points with DerivedBidiClass.txt.
 
 usage: tools/engines/hold_classes.py TABLES COMMAND..
 
