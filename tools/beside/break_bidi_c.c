@@ -1,5 +1,5 @@
-/* The engine of this repository, by the library for programs in C: a text that is laid out is broken into lines of 80
- * anew, and each line's order copied out. What is timed is that alone. */
+/* The engine of this repository, through the library for C: breaks a text that is laid out into lines of 80 again, and
+ * copies out each line's order. Only that is timed. */
 #include "lay_out.h"
 #include "../c/bidi.h"
 

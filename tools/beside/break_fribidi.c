@@ -1,5 +1,5 @@
-/* FriBidi: a paragraph that is laid out is broken into lines of 80 code points anew: a copy of its levels, in which each
- * line is put in order with its positions. FRIBIDI_FLAG_REORDER_NSM (rule L3) is off. */
+/* FriBidi: breaks a paragraph that is laid out into lines of 80 code points again: copies its levels, and reorders each
+ * line with its positions. FRIBIDI_FLAG_REORDER_NSM (rule L3) is off. */
 #include "lay_out.h"
 #include <fribidi.h>
 #include <string.h>

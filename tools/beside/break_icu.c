@@ -1,4 +1,4 @@
-/* ICU: a paragraph that is laid out is broken into lines of 80 code points anew, and each line's order copied out. */
+/* ICU: breaks a paragraph that is laid out into lines of 80 code points again, and copies out each line's order. */
 #include "lay_out.h"
 #include <unicode/ubidi.h>
 #include <unicode/utf16.h>

@@ -1,13 +1,13 @@
-/* Lays a text out by an engine, again and again: the levels and the visual order of one paragraph as one line,
+/* Lays out a text with an engine, again and again: the levels and the visual order of one paragraph as one line,
  * direction auto.
  *
  * usage: lay_out_.. FILE ROUNDS [FOLDER]
  *
- * An engine's file defines `prepare`, which makes room and keeps the text, and `lay_out_once`, which looks up the
- * classes and lays the text out; one that takes UTF-8 takes the bytes of the file. FOLDER holds the property files, for
- * an engine that reads them. Of all ROUNDS + 1 calls all but the first are timed. It prints the number of characters
- * and the nanoseconds that each takes, the least of ten batches. Instructions: valgrind --tool=callgrind
- * --toggle-collect=lay_out_once.
+ * An engine's file defines `prepare`, which allocates and stores the text, and `lay_out_once`, which looks up the
+ * classes and lays out the text. An engine that takes UTF-8 gets the bytes of the file. FOLDER has the property files,
+ * for an engine that reads them. Of all ROUNDS + 1 calls all but the first are timed. It prints the number of
+ * characters and the nanoseconds that each takes, the least of ten batches. Count instructions with valgrind
+ * --tool=callgrind --toggle-collect=lay_out_once.
  */
 #include <stdint.h>
 #include <stdio.h>

@@ -1,4 +1,4 @@
-/* The engine of this repository, by the library for programs in C: the layout, its levels and its order copied out. */
+/* The engine of this repository, through the library for C: the layout, with its levels and its order copied out. */
 #include "lay_out.h"
 #include "../c/bidi.h"
 

@@ -1,5 +1,5 @@
-/* The engine of this repository, by the library for programs in C: of a text that is laid out each line of 80 is laid
- * out alone, one after another, with its levels and its order. What is timed is that alone. */
+/* The engine of this repository, through the library for C: lays out each line of 80 of a text that is laid out, alone,
+ * one after another, with its levels and its order. Only that is timed. */
 #include "lay_out.h"
 #include "../c/bidi.h"
 

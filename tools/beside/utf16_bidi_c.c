@@ -1,5 +1,5 @@
-/* The engine of this repository, by the library for programs in C: a text in UTF-16, made beforehand, is decoded and
- * laid out, and the levels and the order of its characters are copied out. */
+/* The engine of this repository, through the library for C: decodes and lays out a text in UTF-16, made beforehand, and
+ * copies out the levels and the order of its characters. */
 #include "lay_out.h"
 #include "../c/bidi.h"
 

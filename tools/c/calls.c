@@ -1,4 +1,4 @@
-/* calls UCD: every call once or more, refused ones too, but for those of fronts.c; its output is stored in calls.out. */
+/* calls UCD: makes every call once or more, failing ones too, except those of fronts.c. calls.out has its output. */
 #include "bidi.h"
 #include "read_file.h"
 #include <string.h>
@@ -113,8 +113,8 @@ static void refuse_files(bidi_tables *tables) {
 typedef uint32_t run_call(const bidi_room *, size_t, size_t, bidi_run_t *);
 typedef size_t runs_call(const bidi_room *, size_t, bidi_run_t *, size_t);
 
-/* The statuses of the runs of line 0 from the place behind its last and from one further on, and of the line behind the
- * last, how many runs these two lines have, and whether what was there is left. */
+/* Prints the statuses of the runs of line 0 from the place after its last and from the next one, and of the line after
+ * the last; then how many runs these two lines have, and whether the run is unchanged. */
 static void refuse_runs(const char *what, run_call run_of, runs_call runs_of, bidi_room *room) {
   bidi_run_t run = { 77, 77, 77, 77 };
   size_t lines = bidi_line_count(room), shown = lines ? bidi_order(room, 0, NULL, 0) : 0;
@@ -160,7 +160,7 @@ static void set_lines(bidi_room *room, bidi_tables *tables, const size_t *breaks
   print_layout(room, tables, text, 5);
 }
 
-/* A text on one line, broken in two, refused breaks, and one line again. */
+/* A text on one line, broken in two, faulty breaks, and one line again. */
 static void break_anew(bidi_room *room, bidi_tables *tables) {
   static const uint32_t text[] = { 0x5D0, ' ', 0x5D1, ' ', 'a' };
   const size_t one[] = { 2 }, two[] = { 2, 4 }, out[] = { 2, 5 }, falling[] = { 3, 3 };
@@ -187,7 +187,7 @@ static void print_line_alone(bidi_room *room, size_t start, size_t end, size_t p
   printf("\n");
 }
 
-/* One line alone, of two paragraphs, each with white space at its end; refused ones; and what is held stays. */
+/* One line alone, of two paragraphs, each with white space at its end; faulty lines; and the room is unchanged. */
 static void lay_out_lines_alone(bidi_room *room, bidi_tables *tables) {
   static const uint32_t text[] = { 'a', ' ', 'b', '\n', 'c', ' ', 0x5D0, 0x202C, ' ', '1' };
   const size_t breaks[] = { 1 };
@@ -289,14 +289,14 @@ static void share_tables(bidi_tables *tables, bidi_room *room) {
   bidi_tables_free(&shared);
 }
 
-/* The class and the bracket of a code point, and refusals, which leave both as they were. */
+/* The class and the bracket of a code point, and errors, after which both are unchanged. */
 static void print_properties(bidi_tables *tables, uint32_t code) {
   uint8_t class_number = 77, bracket = 77;
   uint32_t status = bidi_class(tables, code, &class_number), of_bracket = bidi_bracket(tables, code, &bracket);
   printf("%04X: class %u %u, bracket %u %u\n", code, status, class_number, of_bracket, bracket);
 }
 
-/* What is known of a text without a layout, and refusals, which leave all but the place as it was. */
+/* What is known of a text without a layout, and errors, after which all but the place is unchanged. */
 static void print_base(bidi_tables *tables, const uint32_t *codes, size_t n, uint32_t direction) {
   uint8_t level = 77, stays = 77;
   uint64_t place = 99, stays_place = 99;
@@ -306,7 +306,7 @@ static void print_base(bidi_tables *tables, const uint32_t *codes, size_t n, uin
          (unsigned long long)place, of_stays, stays, (unsigned long long)stays_place);
 }
 
-/* The levels of all paragraphs, with so many places, and refusals, which leave all but the place as it was. */
+/* The levels of all paragraphs, with this capacity, and errors, after which all but the place is unchanged. */
 static void print_bases(bidi_tables *tables, const uint32_t *codes, size_t n, uint32_t direction, size_t capacity) {
   uint8_t levels[4] = { 77, 77, 77, 77 };
   uint64_t place = 99;
@@ -340,7 +340,7 @@ static void find_bases(bidi_tables *tables, bidi_room *room) {
   print_base((bidi_tables *)room, wrong, 3, 9);
 }
 
-/* All runs of a line, if there are so many places; else what was there. */
+/* Prints all runs of a line if the capacity is enough; else what was there. */
 static void print_runs(bidi_room *room, size_t k, size_t place) {
   bidi_run_t runs[4] = { { 77, 77, 77, 77 } };
   size_t n = bidi_runs(room, k, place ? runs : NULL, place);
@@ -349,7 +349,7 @@ static void print_runs(bidi_room *room, size_t k, size_t place) {
     printf(" %zu+%zu(%zu)@%u", runs[i].start, runs[i].length, runs[i].shown, runs[i].level);
 }
 
-/* Runs of texts with joiners and a mark of byte order, which cover their lines: a joiner between two letters, before
+/* Runs of texts with joiners and a byte order mark, which cover their lines: a joiner between two letters, before
  * another level, at the end of a line, and on a line of its own. */
 static void find_runs(bidi_tables *tables, bidi_room *room) {
   const uint32_t joined[] = { 0xFEFF, 0x5D0, 0x200D, 0x5D1, ' ', 0x200D, 'a', 0x200D, 0x200D };
@@ -366,7 +366,7 @@ static void find_runs(bidi_tables *tables, bidi_room *room) {
   }
 }
 
-/* Null pointers where nothing is to be read or written. */
+/* Null pointers if nothing is read or written. */
 static void pass_nulls(bidi_room *room, bidi_tables *tables) {
   uint64_t place = 99;
   bidi_tables made = BIDI_NONE;
@@ -411,7 +411,7 @@ static void use_standard_tables(bidi_room *room) {
   print_properties(&tables, 'a');
 }
 
-/* A line of a text in code units: its bounds and its runs in offsets. */
+/* Prints a line of a text in code units: its bounds and its runs in offsets. */
 static void print_encoded_line(bidi_room *room, size_t k) {
   bidi_line_t line = { 77, 77, 77 };
   bidi_run_t run;
@@ -430,7 +430,7 @@ static void print_encoded_line(bidi_room *room, size_t k) {
   for (size_t i = 0; i < n; i++) printf(" %zu+%zu(%zu)@%u", all[i].start, all[i].length, all[i].shown, all[i].level);
 }
 
-/* A text in code units: their levels, the characters that they belong to, and where these begin. */
+/* Prints a text in code units: their levels, the characters that they belong to, and where these begin. */
 static void print_encoded(bidi_room *room) {
   uint8_t levels[64];
   size_t n = bidi_encoded_levels(room, levels, 64), lines = bidi_line_count(room);
@@ -487,7 +487,7 @@ static void lay_out_utf16(bidi_room *room, bidi_tables *tables, const uint16_t *
   print_encoded(room);
 }
 
-/* The same pair of brackets, kept and not, in each encoding, and limits that are refused before all else. */
+/* The same pair of brackets, paired and not, in each encoding, and limits, which are checked before all else. */
 static void lay_out_encoded_by_limits(bidi_room *room, bidi_tables *tables) {
   const uint16_t units[] = { 'a', '(', 'b', ')', 0x5D0 }, lone[] = { 'a', '(', 'b', ')', 0xD800 };
   const uint8_t *bytes = (const uint8_t *)"a(b)\xD7\x90";
@@ -510,8 +510,8 @@ static void lay_out_encoded_by_limits(bidi_room *room, bidi_tables *tables) {
   }
 }
 
-/* Bytes that are no UTF-8: a character that is cut short by a letter, two bytes that begin none, one that is cut short by
- * the end; and breaks inside of these. */
+/* Bytes that are not UTF-8: a character that a letter cuts short, two bytes that begin none, one that the end cuts
+ * short; and breaks inside of these. */
 static void lay_out_ill_formed(bidi_room *room, bidi_room *codes, bidi_tables *tables) {
   const char *text = "a\xF0\x9F\x98" "b\xFF\xFE\xD7\x90\xE2\x82";
   const size_t four[] = { 1, 4, 6, 9 }, within[] = { 4, 10 }, outside[] = { 11 };
@@ -524,7 +524,7 @@ static void lay_out_ill_formed(bidi_room *room, bidi_room *codes, bidi_tables *t
   set_encoded_lines(room, within, 2);
 }
 
-/* Breaks of a text that is held: those that it had, none, others, and such as are refused. */
+/* Breaks of the text of a room: those that it had, none, others, and faulty ones. */
 static void break_encoded(bidi_room *room, bidi_room *codes, bidi_tables *tables) {
   const size_t three[] = { 3 }, others[] = { 2, 6 }, falling[] = { 6, 2 }, outside[] = { 2, 11 }, inside[] = { 2, 4 };
   lay_out_utf8(room, tables, "ab \xD7\x90(\xD7\x91) 1", BIDI_AUTO, three, 1);
@@ -581,7 +581,7 @@ static void lay_out_encoded(bidi_tables *tables) {
   bidi_room_free(&room);
 }
 
-/* Reports: each refusal, and what it leaves. */
+/* Reports: each error, and what is unchanged after it. */
 static void print_next(bidi_report *report) {
   bidi_wrong_case w = { 99, 99, 99, 99, { 99, 99 }, { 99, 99 } };
   uint32_t status = bidi_report_next(report, &w);
@@ -666,7 +666,7 @@ static void report_on_files(bidi_tables *tables, bidi_room *room) {
   printf("freed: %d\n", report.made);
 }
 
-/* What a call on a line alone of a text in code units writes, or that it writes nothing. */
+/* Prints what a call on a line alone of a text in code units writes, or that it writes nothing. */
 static void encoded_line_of(bidi_room *room, size_t start, size_t end) {
   uint8_t levels[8] = { 77, 77, 77, 77, 77, 77, 77, 77 };
   size_t order[8] = { 77, 77, 77, 77, 77, 77, 77, 77 }, shown = 77;
@@ -723,7 +723,7 @@ static void ask_in_code_units(bidi_tables *tables) {
   printf(", ill-formed %u at %llu\n", status, (unsigned long long)place);
 }
 
-/* A line of a text in code units as it is shown, and what is behind it in the array. */
+/* Prints a line of a text in code units as it is shown, and what comes after it in the array. */
 static void show_utf8(bidi_room *room, bidi_tables *tables, const uint8_t *text, size_t n, size_t k, size_t capacity) {
   uint8_t shown[8] = { 0x77, 0x77, 0x77, 0x77, 0x77, 0x77, 0x77, 0x77 };
   printf("shown utf8 %zu:", bidi_encoded_shown_utf8(room, tables, text, n, k, shown, capacity));

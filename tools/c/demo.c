@@ -3,7 +3,7 @@
 #include "read_file.h"
 #define MOST 4096
 
-static size_t read_text(uint32_t *codes) { /* UTF-8, taken to be well formed */
+static size_t read_text(uint32_t *codes) { /* UTF-8, assumed to be well-formed */
   size_t n = 0;
   for (int c; n < MOST && (c = getchar()) != EOF; n++) {
     int more = c < 0x80 ? 0 : c < 0xE0 ? 1 : c < 0xF0 ? 2 : 3;

@@ -1,4 +1,4 @@
-/* fronts UCD: the calls for engines that have their own front, failing ones too; its output is stored in fronts.out. */
+/* fronts UCD: makes the calls for engines that have their own front, failing ones too. fronts.out has its output. */
 #include "bidi.h"
 #include "read_file.h"
 #include <string.h>
@@ -66,7 +66,8 @@ static void print_levels(const char *what, const uint8_t *levels, size_t n) {
     else printf(" %u", levels[i]);
 }
 
-/* The levels before L1, after it, and of all positions; then how many there are if only two fit, and what is there. */
+/* Prints the levels before L1, after it, and of all positions; then how many there are if only two fit, and the
+ * array. */
 static void print_layout(bidi_room *room) {
   uint8_t levels[MOST], few[MOST];
   memset(few, 99, sizeof few);

@@ -1,5 +1,5 @@
-/* manual: the examples of README.md and docs/C.md, run on small texts. tools/check_docs.py compares the documents with
- * this file. A run is drawn as its code points in brackets, with R for right to left. */
+/* manual: runs the examples of README.md and docs/C.md on small texts. tools/check_docs.py compares the documents with
+ * this file. A run is printed as its code points in brackets, with R for right to left. */
 #include "bidi.h"
 #include <stdio.h>
 #include <stdlib.h>

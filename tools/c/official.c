@@ -1,5 +1,5 @@
-/* official UCD: BidiTest.txt and BidiCharacterTest.txt of the folder, judged by the calls for judges, and row by row by
- * those for layouts. Ends with 1 where a case is wrong. */
+/* official UCD: judges BidiTest.txt and BidiCharacterTest.txt of the folder with the calls for judges, and row by row
+ * with those for layouts. Ends with 1 if a case is wrong. */
 #include "bidi.h"
 #include "read_file.h"
 #include <string.h>
@@ -9,7 +9,7 @@ static bidi_tables tables = BIDI_NONE;
 static bidi_room room = BIDI_NONE;
 static size_t cases, wrong;
 
-/* Numbers, in this base, up to the end of the field; `x` is BIDI_REMOVED. It answers how many there are. */
+/* Reads numbers, in this base, up to the end of the field; `x` is BIDI_REMOVED. Returns how many there are. */
 static size_t read_numbers(const char *field, int base, size_t *numbers) {
   size_t n = 0;
   for (field += strspn(field, " \t"); *field && *field != ';' && *field != '\n'; field += strspn(field, " \t")) {
@@ -20,7 +20,7 @@ static size_t read_numbers(const char *field, int base, size_t *numbers) {
   return n;
 }
 
-/* Whether the runs of all lines have so many positions, and, each read by its level, give this order. */
+/* Returns whether the runs of all lines have so many positions, and, each read by its level, give this order. */
 static int run_through(const size_t *levels, size_t m, const size_t *order, size_t count) {
   bidi_run_t runs[MOST];
   size_t at = 0, covered = 0;
@@ -34,8 +34,8 @@ static int run_through(const size_t *levels, size_t m, const size_t *order, size
   return covered == m && at == count;
 }
 
-/* Whether what was laid out has these levels and this order, also by its runs; SIZE_MAX for a paragraph level asks for
- * none. */
+/* Returns whether the layout has these levels and this order, also by its runs. SIZE_MAX as the paragraph level asks
+ * for none. */
 static void compare(size_t para, const size_t *levels, size_t m, const size_t *order, size_t count) {
   uint8_t found[MOST], paras[MOST];
   size_t shown[MOST], at = 0, bad = bidi_levels(&room, found, MOST) != m;

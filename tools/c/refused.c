@@ -1,5 +1,5 @@
-/* refused UCD: each allocation of tables, room and judges is refused in turn. The call answers BIDI_MEMORY, the handle
- * holds what it held, and nothing is lost (seen under valgrind). Link with -Wl,--wrap=malloc,--wrap=realloc. */
+/* refused UCD: refuses each allocation of tables, rooms and judges in turn. The call returns BIDI_MEMORY, the handle is
+ * unchanged, and nothing is lost (seen under valgrind). Link with -Wl,--wrap=malloc,--wrap=realloc. */
 #include "bidi.h"
 #include <stdlib.h>
 static long refused_at, asked;
@@ -10,7 +10,7 @@ void *__wrap_realloc(void *p, size_t n) { return ++asked == refused_at ? NULL : 
 #include "read_file.h"
 
 static long wrong;
-/* Refuses the first, the second .. allocation of a call until it is done; it answers how many were refused. */
+/* Refuses the first, the second .. allocation of a call until the call succeeds. Returns how many were refused. */
 #define IN_TURN(call, held) ({ \
     long k = 1; \
     for (;; k++) { \

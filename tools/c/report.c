@@ -1,6 +1,6 @@
-/* report KIND UCD PIECE: reports on the standard input, a BidiTest.txt where KIND is `classes` and a BidiCharacterTest.txt,
- * by the tables of UCD, where it is `characters`, fed in pieces of PIECE bytes at most; prints what `bidi report` prints,
- * and ends with 0 where the file is right. */
+/* report KIND UCD PIECE: reports on the standard input: a BidiTest.txt if KIND is `classes`, and a
+ * BidiCharacterTest.txt, by the tables of UCD, if it is `characters`. It is fed in pieces of at most PIECE bytes.
+ * Prints what `bidi report` prints, and ends with 0 if the file is right. */
 #include "bidi.h"
 #include "read_file.h"
 #include <string.h>

@@ -1,12 +1,12 @@
-/* sizes UCD: the greatest sizes that calls take, where memory suffices: rooms of up to 16,777,216 code points or code
- * units that are filled, property files of more than a million bytes, and tables with 65,538 owners. No call returns
- * BIDI_MEMORY here, whatever the size. The output is stored in sizes.out, and is the same for the published files as for
- * those of the folder ucd. */
+/* sizes UCD: tries the greatest sizes that calls take if memory suffices: full rooms of up to 16,777,216 code points or
+ * code units, property files of more than a million bytes, and tables with 65,538 owners. No call returns BIDI_MEMORY
+ * here, whatever the size. sizes.out has the output, which is the same for the published files as for those of the
+ * folder ucd. */
 #include "bidi.h"
 #include "read_file.h"
 #include <string.h>
 
-/* A room for n code points, and a text of Latin letters that fills it, broken in its midst. */
+/* Fills a room for n code points with a text of Latin letters, broken in its middle. */
 static void fill_room(bidi_tables *tables, size_t n) {
   bidi_room room = BIDI_NONE;
   uint64_t place = 0;
@@ -25,8 +25,8 @@ static void fill_room(bidi_tables *tables, size_t n) {
   free(codes);
 }
 
-/* A room for n code points, and a text of pieces that fills it: how many positions have each level, how many stand in
- * the order elsewhere than where L2 puts those of each piece, and how many runs there are, four of each piece. */
+/* Fills a room for n code points with a text of pieces. Prints how many positions have each level, how many are
+ * elsewhere in the order than where L2 puts those of each piece, and how many runs there are, four of each piece. */
 static void fill_mixed(bidi_tables *tables, size_t n) {
   static const uint32_t piece[] = { 'a', ' ', 0x5D0, '(', '1', ')', 0x202B, ' ', 0x202C, 0x5D1 };
   static const size_t shown[] = { 0, 1, 9, 7, 5, 4, 3, 2 };
@@ -47,7 +47,7 @@ static void fill_mixed(bidi_tables *tables, size_t n) {
   free(codes); free(levels); free(order);
 }
 
-/* A room for n code units, and a text of Latin letters in UTF-8 that fills it, broken in its midst. */
+/* Fills a room for n code units with a text of Latin letters in UTF-8, broken in its middle. */
 static void fill_encoded(bidi_tables *tables, size_t n) {
   bidi_room room = BIDI_NONE;
   uint64_t place = 0;
@@ -66,7 +66,7 @@ static void fill_encoded(bidi_tables *tables, size_t n) {
   free(text);
 }
 
-/* A room of each kind for n units, if it is made. */
+/* Makes a room of each kind for n units. */
 static void make_rooms(size_t n) {
   bidi_room codes = BIDI_NONE, encoded = BIDI_NONE;
   uint32_t status = bidi_room_new(n, &codes), encoded_status = bidi_room_new_encoded(n, &encoded);
@@ -79,8 +79,8 @@ static void make_rooms(size_t n) {
 #define OWNERS 65537
 #define ROOMS 1024
 
-/* Tables with so many more owners, each of which lays out a text in one of many rooms. The first owner is freed before
- * the others. */
+/* Shares tables with so many more owners, each of which lays out a text in one of many rooms. The first owner is freed
+ * before the others. */
 static void share_tables(bidi_tables *tables) {
   static bidi_tables owners[OWNERS];
   static bidi_room rooms[ROOMS];
@@ -101,7 +101,7 @@ static void share_tables(bidi_tables *tables) {
   printf("%d owners of tables, %d rooms: %zu failed, %zu wrong\n", OWNERS, ROOMS, failed, wrong);
 }
 
-/* The bytes of a property file behind so many of comments. */
+/* Returns the bytes of a property file after so many bytes of comments. */
 static uint8_t *behind_comments(const char *folder, const char *name, size_t comments, size_t *n) {
   uint8_t *file = read_file(folder, name, n), *bytes = malloc(comments + *n);
   if (!bytes) exit(2);
@@ -113,7 +113,7 @@ static uint8_t *behind_comments(const char *folder, const char *name, size_t com
   return bytes;
 }
 
-/* Tables of files that begin with so many bytes of comments. */
+/* Makes tables from files that begin with so many bytes of comments. */
 static void read_long_files(const char *folder, size_t comments, bidi_tables *tables) {
   size_t a, b, c;
   bidi_fault fault = { 0 };

@@ -1,7 +1,7 @@
-/* terminal COLUMNS < text: shows a file in UTF-8 as a terminal does that is so many columns wide. Each line of the file
- * is laid out in the same room and wrapped into rows. Each row is printed as it is shown, with the byte of the line that
- * each of its columns shows, for a click, and the column of each of its bytes, for the cursor. A column is one shown
- * character. The program decodes nothing: the room tells where characters begin. */
+/* terminal COLUMNS < text: shows a file in UTF-8 as a terminal does that is so many columns wide. It lays out each line
+ * of the file in the same room and wraps it into rows. It prints each row as it is shown, with the byte of the line
+ * that each of its columns shows, for a click, and the column of each of its bytes, for the cursor. A column is one
+ * shown character. The program decodes nothing: the room says where characters begin. */
 #include "bidi.h"
 #include <stdio.h>
 #include <stdlib.h>
@@ -16,7 +16,7 @@ static size_t read_line(void) { /* the next line of the file, without its LF */
   return n;
 }
 
-/* Breaks each paragraph of the line behind so many columns. What X9 removes takes none. */
+/* Breaks each paragraph of the line after so many columns. What X9 removes takes none. */
 static size_t wrap(bidi_room *room, size_t width) {
   size_t count = 0;
   bidi_line_t line;

@@ -1,7 +1,7 @@
-/* threads UCD: eight threads lay out texts at once by the same tables, each by a handle of its own on them and in a
- * room of its own, and two of them judge a file by these tables besides; the results are those of one thread. The
- * handle that the tables came from is freed while they work, and a room is made in one thread and read in another. Then
- * eight threads read one room and one handle on tables at once, lay out by that handle, and share it. */
+/* threads UCD: eight threads lay out texts at once by the same tables, each with a handle of its own on them and a room
+ * of its own. Two of them also judge a file by these tables. The results are those of one thread. The first handle on
+ * the tables is freed while they work, and a room is made in one thread and read in another. Then eight threads read
+ * one room and one handle on tables at once, lay out by that handle, and share it. */
 #include "bidi.h"
 #include "read_file.h"
 #include <pthread.h>
@@ -10,7 +10,7 @@
 #define TEXTS 40
 #define LENGTH 64
 
-/* What a text comes to: its levels and the line as it is shown. */
+/* The result of a text: its levels and the line as it is shown. */
 typedef struct {
   size_t levels_count, shown_count;
   uint8_t levels[LENGTH];
@@ -27,7 +27,7 @@ typedef struct {
 
 static answer expected[TEXTS];
 
-/* The text with this number, of letters of both directions, digits, brackets and signs. */
+/* Makes the text with this number, of letters of both directions, digits, brackets and signs. */
 static size_t text_of(size_t number, uint32_t *codes) {
   static const uint32_t some[] = { 'a', 0x5D0, ' ', '(', ')', '1', 0x5D1, 'b', '+', '[', ']', 0x202B, 0x202C, '-' };
   size_t n = 8 + number % (LENGTH - 8);

@@ -1,7 +1,7 @@
-/* typesetter COLUMNS.. < text: sets each paragraph of a text in lines of at most so many columns, for each width that
- * is named, as an editor does whose window is resized. A paragraph is laid out once; its runs are shaped, which gives
- * each character its advance; the lines are broken by these, and bidi_set_lines says then how each is shown. For
- * another width only lines are broken anew. */
+/* typesetter COLUMNS.. < text: sets each paragraph of a text in lines of at most so many columns, for each given width,
+ * as an editor does whose window is resized. It lays out a paragraph once and shapes its runs, which gives each
+ * character its advance. By these it breaks the lines, and bidi_set_lines then says how each is shown. For another
+ * width it only breaks the lines again. */
 #include "bidi.h"
 #include <stdio.h>
 #include <stdlib.h>
@@ -12,7 +12,7 @@ static uint32_t codes[MOST], shown[MOST];
 static uint8_t levels[MOST];
 static bidi_run_t runs[MOST];
 
-static size_t read_line(void) { /* one paragraph of UTF-8, taken to be well formed, without its LF */
+static size_t read_line(void) { /* one paragraph of UTF-8, assumed to be well-formed, without its LF */
   size_t n = 0;
   for (int c; n < MOST && (c = getchar()) != EOF && c != '\n'; n++) {
     int more = c < 0x80 ? 0 : c < 0xE0 ? 1 : c < 0xF0 ? 2 : 3;
@@ -32,8 +32,8 @@ static int is_mark(uint32_t c) {
   return (c >= 0x300 && c < 0x370) || (c >= 0x591 && c < 0x5C0) || (c >= 0x64B && c < 0x660);
 }
 
-/* Stands for a shaper, which sees one run of one level at a time: marks and what X9 removes take no column, and an
- * alef behind a lam is part of the ligature. */
+/* In place of a shaper, which sees one run of one level at a time: marks and what X9 removes take no column, and an
+ * alef after a lam is part of the ligature. */
 static void shape(size_t start, size_t end) {
   for (size_t i = start; i < end; i++) {
     int joined = i > start && codes[i] == 0x627 && codes[i - 1] == 0x644;
@@ -41,14 +41,14 @@ static void shape(size_t start, size_t end) {
   }
 }
 
-static size_t shape_runs(bidi_room *room) { /* answers how many runs there are */
+static size_t shape_runs(bidi_room *room) { /* returns how many runs there are */
   size_t all = 0;
   for (size_t k = 0, n; (n = bidi_runs(room, k, runs, MOST)) > 0; k++, all += n)
     for (size_t i = 0; i < n; i++) shape(runs[i].start, runs[i].start + runs[i].length);
   return all;
 }
 
-static size_t break_lines(size_t n, size_t width) { /* behind the last space that still fits, or within a word */
+static size_t break_lines(size_t n, size_t width) { /* after the last space that still fits, or within a word */
   size_t count = 0, column = 0, start = 0, space = 0;
   for (size_t i = 0; i < n; i++) {
     if (column + advances[i] > width && codes[i] != ' ') {

@@ -1,6 +1,5 @@
-/* verdict KIND [UCD]: judges the standard input, a BidiTest.txt where KIND is `classes` and a BidiCharacterTest.txt, by
- * the tables of UCD, where it is `characters`; prints the line that says the verdict, and ends with 0 where it is
- * yes. */
+/* verdict KIND [UCD]: judges the standard input: a BidiTest.txt if KIND is `classes`, and a BidiCharacterTest.txt, by
+ * the tables of UCD, if it is `characters`. Prints the line that states the verdict, and ends with 0 if it is yes. */
 #include "bidi.h"
 #include "read_file.h"
 #include <string.h>

@@ -1,5 +1,5 @@
-// Stands in a copy of golang.org/x/text/unicode/bidi that run.sh makes: what that package tells nobody, levels and an
-// order, by the functions that its own tests call.
+// Part of a copy of golang.org/x/text/unicode/bidi that run.sh makes: returns what that package doesn't export, levels
+// and an order, with the functions that its own tests call.
 package bidi
 
 // Names are the short names of classes.

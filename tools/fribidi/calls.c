@@ -1,6 +1,6 @@
-/* calls: what each call of FriBidi that libfribidi_over_bidi.so replaces makes of some texts on which FriBidi is right,
- * one text a line of standard input, code points in hexadecimal. With and without that shared object it prints the same
- * but for its first line, which says how many of these calls are replaced. */
+/* calls: prints what each call of FriBidi that libfribidi_over_bidi.so replaces makes of texts on which FriBidi is
+ * right. Each line of standard input is a text, code points in hexadecimal. With and without that shared object it
+ * prints the same, except for its first line, which says how many of these calls are replaced. */
 #define _GNU_SOURCE
 #include <dlfcn.h>
 #include <fribidi.h>
@@ -27,7 +27,7 @@ static void print_codes(const FriBidiChar *codes, int n) {
   for (int i = 0; i < n; i++) printf(" %04X", codes[i]);
 }
 
-/* Reorders a line of a text, by these flags, with its map and its characters or one of them alone. */
+/* Reorders a line of a text, with these flags, its map and its characters, or one of the two alone. */
 static void reorder(const FriBidiChar *codes, const FriBidiCharType *types, const FriBidiLevel *levels, int n,
                     FriBidiParType direction, int start, int end, FriBidiFlags flags, int parts) {
   FriBidiLevel line[MOST];
@@ -61,7 +61,7 @@ static void lay_out(const FriBidiChar *codes, const FriBidiCharType *types, cons
     reorder(codes, types, levels, n, found, end / 2, end, FRIBIDI_FLAG_REORDER_NSM, 3);
 }
 
-/* Whether the removal of marks leaves this character. */
+/* Returns whether the removal of marks leaves this character. */
 static int is_kept(FriBidiChar code) { return fribidi_remove_bidi_marks(&code, 1, NULL, NULL, NULL) == 1; }
 
 static void remove_marks(const FriBidiChar *codes, int n, int parts) {

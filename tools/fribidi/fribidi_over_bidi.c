@@ -1,6 +1,6 @@
 /* FriBidi's calls of the algorithm, over the calls of bidi.h: bidi types, bracket types, mirrored characters, the
- * direction of a paragraph, embedding levels, the order of a line, and the removal of marks. What FriBidi has besides
- * (character sets, joining, shaping, log2vis and the deprecated names) stays FriBidi's own and calls these.
+ * direction of a paragraph, embedding levels, the order of a line, and the removal of marks. All other calls (character
+ * sets, joining, shaping, log2vis and the deprecated names) stay FriBidi's own and call these.
  *
  * build.sh builds the shared object; docs/FRIBIDI.md says how to use it and what differs. */
 #define _GNU_SOURCE
@@ -89,7 +89,7 @@ static void free_state(void *at) {
 
 static void make_key(void) { no_key = pthread_key_create(&key, free_state); }
 
-/* The first call of a thread: its state with tables, or NULL if there is no memory. */
+/* Makes the state of a thread, with tables, at its first call. Returns NULL if there is no memory. */
 static __attribute__((noinline)) state *make_state(void) {
   state *s = calloc(1, sizeof *s);
   pthread_once(&once, make_key);
@@ -103,7 +103,7 @@ static __attribute__((noinline)) state *make_state(void) {
 
 static inline state *state_of_thread(void) { return __builtin_expect(own != NULL, 1) ? own : make_state(); }
 
-/* Makes the columns of a thread greater. If there is no memory, they are of no use and none. */
+/* Makes the columns of a thread larger. If there is no memory, the thread has no columns. */
 static __attribute__((noinline)) bool grow(state *s, size_t n) {
   size_t capacity = LEAST_CAPACITY;
   while (capacity < n && capacity < KEPT_CAPACITY) capacity *= 2;
@@ -124,13 +124,13 @@ static __attribute__((noinline)) bool grow(state *s, size_t n) {
   return false;
 }
 
-/* The state of this thread with columns for n characters, or NULL if there is no memory. */
+/* Returns the state of this thread, with columns for n characters, or NULL if there is no memory. */
 static inline state *state_for(FriBidiStrIndex n) {
   state *s = state_of_thread();
   return s && (s->capacity >= (size_t)n || grow(s, n)) ? s : NULL;
 }
 
-/* After a text that was longer than the others, its columns are not kept. */
+/* Frees the columns after a text that was longer than the others. */
 static inline void end(state *s) {
   if (__builtin_expect(s->capacity > KEPT_CAPACITY, 0)) free_columns(s);
 }
@@ -159,16 +159,16 @@ SHOW FriBidiCharType fribidi_get_bidi_type(FriBidiChar ch) {
   return s && !bidi_class(&s->tables, ch, &number) ? types_of_classes[number] : FRIBIDI_TYPE_LTR;
 }
 
-/* The bracket type of a character by the tables. */
+/* Returns the bracket type of a character by the tables. */
 static __attribute__((noinline)) FriBidiBracketType find_bracket(state *s, FriBidiChar ch) {
   uint8_t kind;
   if (bidi_bracket(&s->tables, ch, &kind) || kind == BIDI_NO_BRACKET) return FRIBIDI_NO_BRACKET;
-  /* The opening bracket of the pair, the same one for canonical equivalents. */
+  /* the opening bracket of the pair, the same one for canonical equivalents */
   uint32_t pair = bidi_paired_bracket(&s->tables, ch);
   return kind == BIDI_CLOSING ? pair : bidi_paired_bracket(&s->tables, pair) | FRIBIDI_BRACKET_OPEN_MASK;
 }
 
-/* The same, from the characters that were asked for before; at first U+0000, which is none, is in each place. */
+/* Returns the same, from a cache of earlier characters. At first each entry is U+0000, which is no bracket. */
 static inline FriBidiBracketType bracket_of(state *s, FriBidiChar ch) {
   seen_bracket *seen = &s->seen[ch % SEEN];
   if (seen->ch != ch) *seen = (seen_bracket){ ch, find_bracket(s, ch) };
@@ -206,7 +206,7 @@ static bool find_level_in(const uint8_t *classes, size_t n, uint8_t *level) {
   return *level == if_rtl;
 }
 
-/* The same of all of them. If the first ones say it, the others have no say. */
+/* Does the same for all of them. If the first ones say the level, the others don't count. */
 static bool find_level(const uint8_t *classes, size_t n, uint8_t *level) {
   return (n > 32 && find_level_in(classes, 32, level)) || find_level_in(classes, n, level);
 }
@@ -246,12 +246,12 @@ static bool lay_out(state *s, const FriBidiCharType *types, const FriBidiBracket
     *direction = direction_of(base);
   }
   if (bidi_lay_out_units(&s->room, s->units, n, base ? BIDI_RTL : BIDI_LTR, NULL, 0, &place)) return false;
-  /* Without a character that X9 removes each has a level, which is faster to copy. */
+  /* If X9 removes no character, each has a level, and copying them is faster. */
   if (!FRIBIDI_IS_EXPLICIT_OR_BN(masks)) return bidi_levels(&s->room, (uint8_t *)levels, n) == n;
   return bidi_whole_levels(&s->room, (uint8_t *)levels, n) == n;
 }
 
-/* The greatest of these levels, and one more. */
+/* Returns the greatest of these levels plus one. */
 static FriBidiLevel one_above(FriBidiLevel most, const FriBidiLevel *levels, FriBidiStrIndex len) {
   for (FriBidiStrIndex i = 0; i < len; i++)
     if (levels[i] > most) most = levels[i];
@@ -274,7 +274,7 @@ SHOW FriBidiLevel fribidi_get_par_embedding_levels(const FriBidiCharType *types,
   return fribidi_get_par_embedding_levels_ex(types, NULL, len, pbase_dir, levels);
 }
 
-/* Reverses the items from `start` up to `end` of what is given. */
+/* Reverses the items from `start` up to `end` of the given arrays. */
 static void reverse(FriBidiChar *str, FriBidiStrIndex *map, FriBidiStrIndex start, FriBidiStrIndex end) {
   for (end--; start < end; start++, end--) {
     if (str) {
@@ -306,7 +306,7 @@ SHOW FriBidiLevel fribidi_reorder_line(FriBidiFlags flags, const FriBidiCharType
   if (len <= 0) return len == 0;
   state *s = state_for(len);
   if (!s) return 0;
-  /* What stands before the line's last letter, number or mark was reset when the levels were made. */
+  /* What comes before the line's last letter, number or mark was reset when the levels were made. */
   FriBidiStrIndex tail = len;
   while (tail > 0 && !(FRIBIDI_IS_LETTER(types[off + tail - 1]) || FRIBIDI_IS_NUMBER(types[off + tail - 1]) ||
                        types[off + tail - 1] == FRIBIDI_TYPE_NSM))
@@ -331,7 +331,8 @@ SHOW FriBidiLevel fribidi_reorder_line(FriBidiFlags flags, const FriBidiCharType
   return made ? one_above(0, levels + off, len) : 0;
 }
 
-/* X9, and the marks U+200E and U+200F besides. */
+/* Returns whether the removal of marks removes a character: what X9 removes, isolate formatting characters, U+200E and
+ * U+200F. */
 static bool is_mark(FriBidiChar ch) {
   FriBidiCharType type = fribidi_get_bidi_type(ch);
   return FRIBIDI_IS_EXPLICIT_OR_BN(type) || FRIBIDI_IS_ISOLATE(type) || ch == FRIBIDI_CHAR_LRM ||

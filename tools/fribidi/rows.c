@@ -1,5 +1,5 @@
-/* rows < FILE: of each row of a BidiCharacterTest.txt the same text under the same direction, with what FriBidi's calls
- * make of it, as a row of such a file. What X9 removes is what FriBidi's types say; it has no level and no place. */
+/* rows < FILE: for each row of a BidiCharacterTest.txt, prints a row with the same text under the same direction, and
+ * with what FriBidi's calls make of it. What X9 removes, by FriBidi's types, has no level and no place. */
 #include <fribidi.h>
 #include <stdio.h>
 #include <stdlib.h>
@@ -13,7 +13,7 @@ static FriBidiStrIndex order[MOST];
 
 static int removed(int i) { return FRIBIDI_IS_EXPLICIT_OR_BN(types[i]); }
 
-/* The direction of a row, 0 to 3, as FriBidi has it. */
+/* Returns FriBidi's form of the direction of a row, 0 to 3. */
 static FriBidiParType direction_of(int number) {
   const FriBidiParType directions[] = { FRIBIDI_PAR_LTR, FRIBIDI_PAR_RTL, FRIBIDI_PAR_ON, FRIBIDI_PAR_WRTL };
   return directions[number & 3];
