@@ -40,12 +40,12 @@ level x86-64-v2. docs/PYTHON.md of the source is the manual.
 
 
 def version():
-    """The version, as the package says it."""
+    """Returns the version of the package."""
     return re.search(r'^__version__ = "(.*)"$', (PACKAGE / "__init__.py").read_text(), re.MULTILINE)[1]
 
 
 def shared_object():
-    """The shared object that goes into the wheel."""
+    """Returns the shared object that goes into the wheel."""
     made = HERE.parent / "crates/bidi_c/out" / f"libbidi_c.so.{version()}"
     named = os.environ.get("BIDI_LIBRARY")
     found = pathlib.Path(named or made)
@@ -57,7 +57,7 @@ def shared_object():
 
 
 def contents(info):
-    """The wheel's files, by their names in it, without its list of them."""
+    """Returns the wheel's files, by their names in it, without its list of them."""
     names = "".join(f"License-File: {name}\n" for name in licences())
     about = METADATA.format(version=version(), summary=SUMMARY, licences=names)
     made_by = f"Wheel-Version: 1.0\nGenerator: make_wheel\nRoot-Is-Purelib: false\nTag: {TAG}\n"
@@ -70,24 +70,24 @@ def contents(info):
 
 
 def licences():
-    """The licences, as far as they are there: pip builds in a copy of this folder alone."""
+    """Returns the licences, as far as they are there: pip builds in a copy of only this folder."""
     found = ((name, HERE.parent / name) for name in LICENCES)
     return {name: file.read_bytes() for name, file in found if file.exists()}
 
 
 def written_at():
-    """The time of all files in the wheel."""
+    """Returns the time of all files in the wheel."""
     return time.gmtime(max(int(os.environ.get("SOURCE_DATE_EPOCH") or 0), 315532800))[:6]
 
 
 def listed(name, content):
-    """The line of a file in the wheel's list."""
+    """Returns the line of a file in the wheel's list."""
     digest = base64.urlsafe_b64encode(hashlib.sha256(content).digest()).rstrip(b"=").decode()
     return f"{name},sha256={digest},{len(content)}\n"
 
 
 def build_wheel(wheel_directory, config_settings=None, metadata_directory=None):
-    """Writes the wheel into this folder, and answers its name (the hook of pip)."""
+    """Writes the wheel into this folder, and returns its name (the hook of pip)."""
     info = f"bidi_proved-{version()}.dist-info"
     files = contents(info)
     record = "".join(listed(name, content) for name, content in files.items()) + f"{info}/RECORD,,\n"
@@ -101,5 +101,5 @@ def build_wheel(wheel_directory, config_settings=None, metadata_directory=None):
 
 
 def build_sdist(sdist_directory, config_settings=None):
-    """There is none: the package is made of the built repository."""
+    """Fails: there is no source package, since the wheel contains the built library."""
     raise SystemExit("bidi_proved has no source distribution: build the wheel in the repository")

@@ -1,16 +1,16 @@
-"""What the library refuses, one exception for each of its statuses."""
+"""Errors of the library: one exception for each of its statuses."""
 import enum
 
 
 class BidiError(Exception):
-    """A call of the library was refused. What was laid out, read or judged before stands as it was."""
+    """A call of the library failed. What was laid out, read or judged before is unchanged."""
 
     status = 0
-    says = "the library refused a call"  # python -OO leaves out the texts above
+    says = "a call of the library failed"  # python -OO leaves out the texts above
 
 
 class PlacedError(BidiError, ValueError):
-    """A refusal that names a place: the index of the first faulty item."""
+    """An error that names a place: the index of the first faulty item."""
 
     def __init__(self, place):
         super().__init__(f"{self.says} (at {place})")
@@ -28,9 +28,9 @@ class MemoryRefused(BidiError, MemoryError):
 
 
 class RoomTooBig(BidiError, ValueError):
-    """More room than for 16,777,216 characters was asked for."""
+    """A room for more than 16,777,216 characters was asked for."""
 
-    says = "More room than for 16,777,216 characters was asked for"
+    says = "A room for more than 16,777,216 characters was asked for"
     status = 2
 
 
@@ -77,9 +77,9 @@ class NoLine(BidiError, IndexError):
 
 
 class NoJudge(BidiError, ValueError):
-    """The judge has told its verdict, and takes no more bytes."""
+    """The judge has returned its verdict, and takes no more bytes."""
 
-    says = "The judge has told its verdict, and takes no more bytes"
+    says = "The judge has returned its verdict, and takes no more bytes"
     status = 16
 
 
@@ -98,9 +98,9 @@ class BracketsRefused(BidiError, ValueError):
 
 
 class NoVerdict(BidiError, ValueError):
-    """No verdict is told by such numbers."""
+    """The numbers encode no verdict."""
 
-    says = "No verdict is told by such numbers"
+    says = "The numbers encode no verdict"
     status = 19
 
 
@@ -112,30 +112,30 @@ class LineNotForward(BidiError, ValueError):
 
 
 class LineBeyondText(BidiError, ValueError):
-    """The line starts below 0, or ends behind the text."""
+    """The line starts below 0, or ends after the text."""
 
-    says = "The line starts below 0, or ends behind the text"
+    says = "The line starts below 0, or ends after the text"
     status = 22
 
 
 class LineCrossesParagraph(BidiError, ValueError):
-    """The line goes on behind the end of a paragraph."""
+    """The line goes on after the end of a paragraph."""
 
-    says = "The line goes on behind the end of a paragraph"
+    says = "The line goes on after the end of a paragraph"
     status = 23
 
 
 class IllFormed(PlacedError):
-    """The bytes are no UTF-8: `place` is the offset of the first that is no part of a character."""
+    """The bytes are not UTF-8: `place` is the offset of the first that is not part of a character."""
 
-    says = "The bytes are no UTF-8"
+    says = "The bytes are not UTF-8"
     status = 24
 
 
 class BreakInside(PlacedError):
-    """A break stands inside a character."""
+    """A break is inside a character."""
 
-    says = "A break stands inside a character"
+    says = "A break is inside a character"
     status = 25
 
 
@@ -198,7 +198,7 @@ class MirrorFileFault(TableFault):
 
 
 def _kinds(base):
-    """This class and all below it."""
+    """Returns this class and all below it."""
     return [base, *(kind for below in base.__subclasses__() for kind in _kinds(below))]
 
 
@@ -206,7 +206,7 @@ BY_STATUS = {kind.status: kind for kind in _kinds(BidiError) if kind.status}
 
 
 def refuse(status, place=None, fault=None):
-    """Raises the exception of a status; does nothing where it is 0."""
+    """Raises the exception of a status; does nothing if it is 0."""
     if status == 0:
         return
     kind = BY_STATUS.get(status)

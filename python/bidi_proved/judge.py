@@ -18,7 +18,7 @@ LINE = 72
 
 
 class Answer(enum.IntEnum):
-    """What the judge answers."""
+    """The three kinds of a verdict."""
 
     YES = 0
     MALFORMED = 1
@@ -43,7 +43,7 @@ class Cause(enum.IntEnum):
 
 
 class Wrong(enum.IntEnum):
-    """What of a row is not what the algorithm gives."""
+    """Which part of a row differs from what the algorithm gives."""
 
     PARA_LEVEL = 1
     LEVELS = 2
@@ -53,9 +53,9 @@ class Wrong(enum.IntEnum):
 class Verdict(typing.NamedTuple):
     """What a judge says of a file; `str` of it is the line that the command `bidi judge` prints.
 
-    `reason` is a Cause where the file is malformed, a Wrong where a row is wrong. What a verdict doesn't name is None:
-    `line` counts from 1, `direction` and `index` (in the list of levels or of the order) are of a wrong row, `rows`
-    and `cases` say how many a right file has.
+    `reason` is a Cause if the file is malformed, and a Wrong if a row is wrong. `line` counts from 1. `direction` and
+    `index` (in the list of levels or of the order) are of a wrong row. `rows` and `cases` say how many a right file
+    has. What a verdict doesn't name is None.
     """
 
     answer: Answer
@@ -107,7 +107,7 @@ class Judge:
 
 
 def _line_of(told):
-    """The line that says a verdict, without its end."""
+    """Returns the line that states a verdict, without its LF."""
     text, length = items("B", LINE), ctypes.c_size_t(0)
     refuse(CALL.bidi_verdict_text(told, address(text), LINE, length))
     return text[: length.value].tobytes().decode("ascii").rstrip("\n")
@@ -124,7 +124,7 @@ def _verdict_of(told):
 
 
 def _pieces(source):
-    """The pieces of bytes, of a file that is open for reading bytes, or of what yields bytes."""
+    """Yields the pieces of bytes, of a file that is open for reading bytes, or of what yields bytes."""
     try:
         return [memoryview(source)]
     except TypeError:

@@ -21,8 +21,8 @@ NUMBERS = {name: number for number, name in enumerate(CLASSES)}
 
 
 class Direction(enum.IntEnum):
-    """The direction of all paragraphs; AUTO and AUTO_RTL find that of each (P2, P3), and take left-to-right and
-    right-to-left if it has no strong character. Calls also take the names, such as "rtl" or "auto"."""
+    """The direction of all paragraphs. AUTO and AUTO_RTL find that of each (P2, P3); if it has no strong character,
+    AUTO takes left-to-right and AUTO_RTL right-to-left. Calls also take the names, such as "rtl" or "auto"."""
 
     LTR = 0
     RTL = 1
@@ -47,14 +47,14 @@ class Limits(typing.NamedTuple):
     brackets: int = 63
 
     def _for_call(self):
-        # A number that has no place in a byte becomes one that is refused as well.
+        # A number that does not fit into a byte becomes one that is rejected too.
         return library.Limits(*(n if 0 <= n <= 255 else 255 for n in self))
 
 
 class Run(typing.NamedTuple):
-    """A visual run: positions [start, start + length) of one level, of which `shown` are shown, side by side. One that
-    X9 removes has the level of the next one of its line that is shown, and that of the paragraph where none is. Such
-    ones alone are a run at a line's end, where the last one before them has another level: the leftmost where the
+    """A visual run: positions [start, start + length) of one level, of which `shown` are shown, next to each other. A
+    removed position (X9) has the level of its line's next shown position, else that of the paragraph. At a line's end
+    such positions are a run of their own if the last one before them has another level. This run is the leftmost if the
     paragraph's level is 1, else the rightmost."""
 
     start: int
@@ -64,27 +64,27 @@ class Run(typing.NamedTuple):
 
 
 def _placed(breaks):
-    """Breaks as words, and how many; one that has no place in a word becomes one that is refused as well."""
+    """Returns breaks as words, and how many; one that does not fit into a word becomes one that is rejected too."""
     placed = array.array("Q", (at if 0 <= at <= NOWHERE else NOWHERE for at in breaks))
     return placed or items("Q", 0), len(placed)
 
 
 def _span(start, end, most):
-    """A line as the library takes it, of a text of at most so many positions; numbers that no such text has become a
-    line that is refused for the same reason."""
+    """Returns a line as the library takes it, of a text of at most so many positions; numbers that no such text has
+    become a line that is rejected for the same reason."""
     if start >= end:
         return 0, 0
     return (start, end) if 0 <= start and end <= most else (most, most + 1)
 
 
 def _number_of(item):
-    """The number of a class; what names none becomes one that is refused as well."""
+    """Returns the number of a class; what names none becomes one that is rejected too."""
     number = NUMBERS.get(item, REMOVED) if isinstance(item, str) else item
     return number if 0 <= number <= REMOVED else REMOVED
 
 
 def _without_removed(levels):
-    """Levels as lists have them: None for the number of one that X9 removes."""
+    """Returns levels as lists have them: None for the number of a position that X9 removes."""
     return [None if level == REMOVED else level for level in levels]
 
 
@@ -105,7 +105,7 @@ class AnyRoom:
         return f"{type(self).__name__}({self.size})"
 
     def _by_tables(self, call, tables, *text):
-        """The call on this room by tables, or by those that are built in, of a text."""
+        """Makes a call on this room with tables, or with those that are built in, on a text."""
         if tables is None:
             tables = default_tables()
 
@@ -118,7 +118,7 @@ class AnyRoom:
         return called
 
     def _hold(self, call, laid_out, direction, breaks, limits):
-        """What the call lays out: `laid_out(room, number, lent)`."""
+        """Returns what a call lays out: `laid_out(room, number, lent)`."""
         placed, count = _placed(breaks)
         by, place = Limits(*limits)._for_call(), library.c_uint64(0)
         with self._lock:
@@ -164,7 +164,7 @@ class Room(AnyRoom):
         breaks: Breaks = (),
         limits: Limits = Limits(),
     ) -> "Layout":
-        """The same for a text of classes, by their short names (such as "AL") or numbers; it has no brackets."""
+        """Does the same for a text of classes, by their short names (such as "AL") or numbers; it has no brackets."""
         numbers = bytes(_number_of(it) for it in classes)
 
         def call(*words):
@@ -174,7 +174,7 @@ class Room(AnyRoom):
 
 
 class AnyLayout:
-    """What a room laid out, while it holds that."""
+    """What a room laid out, until it lays out another text."""
 
     def __init__(self, room, number, lent):
         self._room, self._number, self._lent = room, number, lent
@@ -190,7 +190,7 @@ class AnyLayout:
         return self.set_lines(breaks)
 
     def _broken(self, call, breaks, laid_out):
-        """What the call makes of the text with these breaks: `laid_out(room, number, lent)`."""
+        """Returns what a call makes of the text with these breaks: `laid_out(room, number, lent)`."""
         placed, count = _placed(breaks)
         place = library.c_uint64(0)
         with self._held() as handle:
@@ -220,12 +220,12 @@ class AnyLayout:
         return shown[:place] + shown[place + 1 :]
 
     def _asked(self, code, call, *words):
-        """What a look-up of the library writes."""
+        """Returns what a look-up of the library writes."""
         with self._held() as handle:
             return copied(code, lambda at, place: call(handle, *words, at, place))
 
     def _runs(self, name, number):
-        """The visual runs of a line from left to right, as the call with this name tells them."""
+        """Returns the visual runs of a line from left to right, with the call of this name."""
         if not library.HAS_RUNS:
             raise NotImplementedError("this library does not tell all runs of a line")
         call = getattr(CALL, name)
@@ -236,7 +236,7 @@ class AnyLayout:
 
     @contextlib.contextmanager
     def _held(self):
-        """The room's handle, while no other thread uses it and the room holds this layout."""
+        """Yields the room's handle, for one thread at a time. Fails with StaleLayout if the room has another layout."""
         with self._room._lock:
             if self._room._laid_out != self._number:
                 raise StaleLayout(StaleLayout.says)
@@ -247,7 +247,7 @@ class Layout(AnyLayout):
     """What a room laid out: levels, paragraphs and lines. Places of lines are counted from the left."""
 
     def __init__(self, room, number, lent, text, codes):
-        """The text is None where it is one of classes; `codes` are their numbers then."""
+        """The text is None if it is one of classes; `codes` are their numbers then."""
         super().__init__(room, number, lent)
         self._text, self._codes = text, codes
 
@@ -298,8 +298,8 @@ class Layout(AnyLayout):
         return [Line(self, number) for number in range(self._line_count())]
 
     def display(self) -> typing.List[str]:
-        """Its lines as they are shown, each a str from left to right with mirror images (L4), without the paragraph
-        separator at its end and without what X9 removes. What shows them may not reorder them once more."""
+        """Its lines as they are shown, each a str from left to right with mirrored characters (L4), without the
+        paragraph separator at its end and without what X9 removes. What shows them must not reorder them again."""
         return [line.display() for line in self.lines]
 
     def _characters(self):
@@ -366,8 +366,8 @@ class Line:
 
     @property
     def shown(self) -> str:
-        """Its characters as they are shown, from left to right, with mirror images (L4); a paragraph separator is one
-        of them. ValueError: a text of classes has no characters."""
+        """Its characters as they are shown, from left to right, with mirrored characters (L4); a paragraph separator is
+        one of them. ValueError: a text of classes has no characters."""
         layout = self._layout
         n = len(layout._characters())
 
@@ -383,8 +383,8 @@ class Line:
 
 
 class AnyLineAlone:
-    """A line of a text that was laid out, found without the text's other lines: [start, end) of the text. All of it
-    stays when the room lays out another text."""
+    """A line of a text that was laid out, without the text's other lines: [start, end) of the text. It stays valid when
+    the room lays out another text."""
 
     levels: Levels
     order: typing.List[int]
@@ -392,7 +392,7 @@ class AnyLineAlone:
     def __init__(self, layout: AnyLayout, start: int, end: int) -> None:
         self._layout, self.start, self.end = layout, start, end
         self.levels, self.order = layout._line_alone(start, end)
-        # Its paragraph's level, which only positions have that are removed at its end.
+        # Its paragraph's level, for positions that are removed at its end.
         self._end_level = layout.para_level_at(start) if self.levels[-1] is None else None
 
     def __repr__(self) -> str:
@@ -419,13 +419,13 @@ class AnyLineAlone:
         return [run for _, run in sorted(found)]
 
     def _shown(self, character_at):
-        """Its characters as they are shown, of which `character_at` returns the one at a position."""
+        """Returns its characters as they are shown; `character_at` returns the one at a position."""
         mirror = self._layout._lent.tables.mirror
         return "".join(mirror(character_at(at)) if self._level(at) % 2 else character_at(at) for at in self.order)
 
     def _kept_levels(self):
-        """The level of each of its positions: where X9 removes it, that of the next one that is shown, and the
-        paragraph's where none is."""
+        """The level of each of its positions: if X9 removes it, that of the next one that is shown, else the
+        paragraph's."""
         after, kept = self._end_level, []
         for level in reversed(self.levels):
             after = after if level is None else level
@@ -437,16 +437,16 @@ class AnyLineAlone:
 
 
 class LineAlone(AnyLineAlone):
-    """A line of a text that was laid out, found without the text's other lines: positions [start, end) of the text.
+    """A line of a text that was laid out, without the text's other lines: positions [start, end) of the text.
 
-    `levels` has the level of each of them after L1, None where X9 removes it, and `order` those that are shown, from
-    left to right (L2). All of it stays when the room lays out another text.
+    `levels` has the level of each of them after L1, None if X9 removes it, and `order` those that are shown, from left
+    to right (L2). It stays valid when the room lays out another text.
     """
 
     @property
     def shown(self) -> str:
-        """Its characters as they are shown, from left to right, with mirror images (L4); a paragraph separator is one
-        of them. ValueError: a text of classes has no characters."""
+        """Its characters as they are shown, from left to right, with mirrored characters (L4); a paragraph separator is
+        one of them. ValueError: a text of classes has no characters."""
         return self._shown(self._layout._characters().__getitem__)
 
     def display(self) -> str:
@@ -461,7 +461,7 @@ def lay_out(
     breaks: Breaks = (),
     limits: Limits = Limits(),
 ) -> Layout:
-    """Lays out a str in a room of its own: Room.lay_out says how. The layout stays."""
+    """Lays out a str in a room of its own, as Room.lay_out does. The layout stays valid."""
     return Room(len(text)).lay_out(text, tables, direction, breaks, limits)
 
 
@@ -471,7 +471,7 @@ def lay_out_classes(
     breaks: Breaks = (),
     limits: Limits = Limits(),
 ) -> Layout:
-    """Lays out a list of classes in a room of its own: Room.lay_out_classes says how. The layout stays."""
+    """Lays out a list of classes in a room of its own, as Room.lay_out_classes does. The layout stays valid."""
     return Room(len(classes)).lay_out_classes(classes, direction, breaks, limits)
 
 
@@ -482,5 +482,5 @@ def display(
     breaks: Breaks = (),
     limits: Limits = Limits(),
 ) -> typing.List[str]:
-    """The lines of a str as they are shown: Layout.display says how."""
+    """Returns the lines of a str as they are shown, as Layout.display does."""
     return lay_out(text, tables, direction, breaks, limits).display()

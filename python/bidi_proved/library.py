@@ -48,7 +48,7 @@ class Verdict(ctypes.Structure):
 
 
 class Item(ctypes.Structure):
-    """What stands at a place of a row's claim, or of a layout."""
+    """What a row claims at a place, or what a layout has there."""
 
     _fields_ = [("kind", c_uint32), ("value", c_size_t)]
 
@@ -165,8 +165,8 @@ MOST = 2**64 - 1
 
 
 def candidates():
-    """The names under which the library is looked for: what BIDI_LIBRARY says alone, or else the one that was installed
-    with this package, and then the system's."""
+    """Returns the names under which the library is looked for: only that of BIDI_LIBRARY if it is set, else the one
+    that was installed with this package, and then the system's."""
     named = os.environ.get("BIDI_LIBRARY")
     if named:
         return [named]
@@ -189,7 +189,7 @@ def load():
 
 
 def declare(found):
-    """Declares what the calls take and answer."""
+    """Declares what the calls take and return."""
     utf8 = {**UTF8_CALLS, **UTF8_LINE_CALLS, **UTF8_BASE_CALLS, **UTF8_SHOWN_CALLS}
     newer = {**NEWER_CALLS, **utf8, **REPORT_CALLS}
     known = {**CALLS, **{name: types for name, types in newer.items() if hasattr(found, name)}}
@@ -206,13 +206,13 @@ SHARES_TABLES = hasattr(CALL, "bidi_tables_share")
 SETS_LINES = hasattr(CALL, "bidi_set_lines")
 # Whether one line alone of such a text can be laid out.
 HAS_LINE_OF = hasattr(CALL, "bidi_line_of")
-# Whether it tells all visual runs of a line at once, removed positions included.
+# Whether it returns all visual runs of a line at once, with removed positions.
 HAS_RUNS = hasattr(CALL, "bidi_runs") and hasattr(CALL, "bidi_encoded_runs")
 # Whether it says of a text what is known without a layout.
 HAS_BASE_LEVEL = hasattr(CALL, "bidi_base_level") and hasattr(CALL, "bidi_is_left_to_right")
 # Whether it says so of all paragraphs.
 HAS_BASE_LEVELS = hasattr(CALL, "bidi_base_levels")
-# Whether it lays out texts in UTF-8, refused or read with U+FFFD where they are ill-formed, and breaks them anew.
+# Whether it lays out texts in UTF-8, strictly or with U+FFFD for ill-formed bytes, and breaks them again.
 HAS_UTF8 = all(hasattr(CALL, name) for name in UTF8_CALLS)
 # Whether one line alone of such a text can be laid out, and each byte has a place and the level of its paragraph.
 HAS_UTF8_LINE_OF = all(hasattr(CALL, name) for name in UTF8_LINE_CALLS)
@@ -225,19 +225,19 @@ HAS_REPORTS = all(hasattr(CALL, name) for name in REPORT_CALLS)
 
 
 def items(code, n):
-    """Memory for n items of a type of the module array, and for one where n is 0, so that it has an address."""
+    """Returns memory for n items of a type of the module array, and for one if n is 0, so that it has an address."""
     kept = array.array(code)
     kept.frombytes(bytes(kept.itemsize * max(n, 1)))
     return kept
 
 
 def address(kept):
-    """Where the items of an array stand."""
+    """Returns the address of the items of an array."""
     return kept.buffer_info()[0]
 
 
 def copied(code, ask):
-    """The items that a look-up writes: `ask(address, place)` answers how many there are."""
+    """Returns the items that a look-up writes: `ask(address, place)` returns how many there are."""
     kept = items(code, 0)
     n = ask(address(kept), 0)
     kept = items(code, n)
@@ -263,5 +263,5 @@ def bytes_of(text):
 
 
 def version():
-    """The version of the library that was loaded, such as "1.1.0", or None where it tells none."""
+    """Returns the version of the library that was loaded, such as "1.1.0", or None if it has no call for that."""
     return copied("B", CALL.bidi_version).tobytes().decode("ascii") if hasattr(CALL, "bidi_version") else None

@@ -19,13 +19,13 @@ PLACES = {Wrong.PARA_LEVEL: "paragraph level", Wrong.LEVELS: "levels at {}", Wro
 
 
 class Nothing(enum.Enum):
-    """What stands behind the end of a list."""
+    """What is after the end of a list."""
 
     ENDED = "nothing"
 
 
 ENDED = Nothing.ENDED
-# A level or a position, None where X9 removes the position, ENDED where the list ends before the place.
+# A level or a position, None if X9 removes the position, ENDED if the list ends before the place.
 Item = typing.Union[int, None, Nothing]
 
 
@@ -77,8 +77,8 @@ class Counts(typing.NamedTuple):
 
 
 class MalformedLine(BidiError, ValueError):
-    """A line of a test file is malformed: `line` is the first such line, from 1, and `cause` says why. What stands
-    behind it is not reported on."""
+    """A line of a test file is malformed: `line` is the first such line, from 1, and `cause` says why. Nothing after it
+    is reported on."""
 
     def __init__(self, line: int, cause: int) -> None:
         super().__init__(f"line {line}: malformed: {Cause(cause).name}")
@@ -133,7 +133,7 @@ class Report:
         weakref.finalize(self, CALL.bidi_report_free, self._handle)
 
     def _next(self):
-        """The next of the wrong cases that were found last, or None where none is left."""
+        """Returns the next of the wrong cases that were found last, or None if none is left."""
         told = library.WrongCase()
         status = CALL.bidi_report_next(self._handle, told)
         if status == NO_CASE:

@@ -1,4 +1,4 @@
-"""Tables: the class, the bracket and the mirror image of each character."""
+"""Tables: the class, the bracket and the mirrored character of each character."""
 import contextlib
 import ctypes
 import enum
@@ -25,39 +25,40 @@ class Bracket(enum.IntEnum):
 
 
 def _file_of(folder, name):
-    """The file of this name in the folder, or else in its folder `extracted`, as Unicode publishes it."""
+    """Returns the file of this name in the folder, or else in its folder `extracted`, as Unicode publishes it."""
     here = folder / name
     return here if here.exists() or not (folder / "extracted" / name).exists() else folder / "extracted" / name
 
 
 def edition() -> typing.Optional[str]:
-    """The edition of Unicode whose tables are built into the library, such as "17.0.0", or None where it has none."""
+    """Returns the edition of Unicode of the built-in tables, such as "17.0.0", or None if the library has none."""
     return copied("B", CALL.bidi_edition).tobytes().decode("ascii") if HAS_STANDARD_TABLES else None
 
 
 class Tables:
-    """The classes, brackets and mirror images of all characters, by three property files of one edition of Unicode.
+    """The classes, brackets and mirrored characters of all characters, from three property files of one edition of
+    Unicode.
 
-    Any number of threads may use one at once. A pickled one is made anew where it is loaded.
+    Any number of threads may use one at once. A pickled one is made again when it is loaded.
     """
 
     def __init__(self, classes: bytes, brackets: bytes, mirrors: bytes) -> None:
         """Reads them from the bytes of DerivedBidiClass.txt, BidiBrackets.txt and BidiMirroring.txt.
 
-        A faulty file is refused with ClassFileFault, BracketFileFault or MirrorFileFault, which name the line.
+        Fails with ClassFileFault, BracketFileFault or MirrorFileFault, which name the line, if a file is faulty.
         """
         self._begin((bytes(classes), bytes(brackets), bytes(mirrors)))
 
     @classmethod
     def read(cls, folder: typing.Union[str, "os.PathLike[str]"]) -> "Tables":
-        """Reads them from the three files in a folder; DerivedBidiClass.txt may lie in its folder `extracted`."""
+        """Reads them from the three files in a folder; DerivedBidiClass.txt may be in its folder `extracted`."""
         folder = pathlib.Path(folder)
         names = ("DerivedBidiClass.txt", "BidiBrackets.txt", "BidiMirroring.txt")
         return cls(*(_file_of(folder, name).read_bytes() for name in names))
 
     @classmethod
     def standard(cls) -> "Tables":
-        """The tables that are built into the library. NotImplementedError: this library has none."""
+        """Returns the tables that are built into the library. NotImplementedError: this library has none."""
         if not HAS_STANDARD_TABLES:
             raise NotImplementedError("this libbidi_c has no tables built in: use Tables.read")
         made = cls.__new__(cls)
@@ -107,7 +108,7 @@ class Tables:
         weakref.finalize(self, CALL.bidi_tables_free, self._handle)
 
     def _made(self):
-        """A handle on tables made anew; whoever asks for it frees it."""
+        """Returns a handle on new tables; the caller frees it."""
         handle, fault = Handle(), Fault()
         if self._files is None:
             refuse(CALL.bidi_tables_standard(handle))
@@ -117,7 +118,7 @@ class Tables:
         return handle
 
     def _another(self):
-        """Another handle on these tables; whoever asks for it frees it."""
+        """Returns another handle on these tables; the caller frees it."""
         if not SHARES_TABLES:
             return self._made()
         handle = Handle()
@@ -126,7 +127,7 @@ class Tables:
         return handle
 
     def _separates(self, character):
-        """Whether a character ends a paragraph (class B): whether one that follows it begins another."""
+        """Returns whether a character ends a paragraph (class B): whether one after it begins another."""
         if character not in self._separators:
             from .layout import lay_out
 
@@ -141,8 +142,8 @@ def default_tables() -> Tables:
 
 
 class Lent:
-    """Tables as a room uses them: by a handle of its own, or, where the library shares none, by the tables' own, for
-    one thread at a time."""
+    """Tables as a room uses them: through a handle of its own, or, if the library shares none, through that of the
+    tables, for one thread at a time."""
 
     def __init__(self, tables):
         self.tables = tables

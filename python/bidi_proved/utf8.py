@@ -1,4 +1,4 @@
-"""Texts in UTF-8 laid out, and told of by the offsets of their bytes."""
+"""Texts in UTF-8, laid out, with the offsets of bytes as positions."""
 import typing
 
 from . import library
@@ -11,7 +11,7 @@ from .tables import Tables
 
 Text = typing.Union[str, bytes, bytearray, memoryview]
 
-# The call for each way to read what is ill-formed.
+# The call for each way to read ill-formed bytes.
 _CALLS = {"strict": "bidi_lay_out_utf8_with", "replace": "bidi_lay_out_utf8_lossy_with"}
 
 
@@ -41,8 +41,8 @@ class Utf8Room(AnyRoom):
         direction. Lines begin at its start, after each paragraph separator and at each of `breaks`: rising offsets
         above 0 and below the number of its bytes, at each of which a character begins.
 
-        With errors="replace" each maximal subpart of what is no UTF-8 is read as U+FFFD, as bytes.decode does it; such
-        a part is one character.
+        With errors="replace" each maximal subpart of what is not UTF-8 is read as U+FFFD, as bytes.decode does; such a
+        part is one character.
 
         Fails with TextTooLong, IllFormed, BreakOutOfRange, BreakNotRising, BreakInside, DepthRefused or
         BracketsRefused; the room is unchanged then.
@@ -53,7 +53,7 @@ class Utf8Room(AnyRoom):
 
 
 class Utf8Layout(AnyLayout):
-    """What such a room laid out: levels, paragraphs and lines, told of by offsets. `text` are the bytes."""
+    """What such a room laid out: levels, paragraphs and lines, in offsets. `text` are the bytes."""
 
     def __init__(self, room, number, lent, text):
         super().__init__(room, number, lent)
@@ -198,10 +198,10 @@ class Utf8Line:
 
 
 class Utf8LineAlone(AnyLineAlone):
-    """A line of such a layout, found without the text's other lines: the bytes at offsets [start, end).
+    """A line of such a layout, without the text's other lines: the bytes at offsets [start, end).
 
     `levels` has the level of each byte after L1, that of its character, None if X9 removes it, and `order` the offsets
-    at which its shown characters begin, from left to right (L2). All of it stays when the room lays out another text.
+    at which its shown characters begin, from left to right (L2). It stays valid when the room lays out another text.
     """
 
     @property
@@ -223,7 +223,7 @@ def lay_out_utf8(
     limits: Limits = Limits(),
     errors: str = "strict",
 ) -> Utf8Layout:
-    """Lays out UTF-8 in a room of its own: Utf8Room.lay_out says how. The layout stays."""
+    """Lays out UTF-8 in a room of its own, as Utf8Room.lay_out does. The layout stays valid."""
     text = bytes_of(text)
     return Utf8Room(len(text)).lay_out(text, tables, direction, breaks, limits, errors)
 

@@ -1,6 +1,6 @@
 """Drawn texts, with what python-bidi shows of them.
 
-peer.txt stores this of some of them, so that it is compared where python-bidi is not installed too. Where it is,
+peer.txt stores this for some of them, so that it is compared also if python-bidi is not installed. If it is,
 `python3 -m tests.peer` in the folder python writes the file. Each of its lines is a list in JSON: the base direction or
 null, whether capitals are read as right-to-left letters, the text, what is shown, and the base level.
 """

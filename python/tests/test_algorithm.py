@@ -1,5 +1,5 @@
-"""python-bidi's functions over the library: worked texts, drawn texts with what python-bidi shows of them, as stored and
-where it is installed, and python-bidi's own tests where PYTHON_BIDI names a folder with its source."""
+"""python-bidi's functions over the library: worked texts; drawn texts with what python-bidi shows of them, as stored
+and if it is installed; and python-bidi's own tests if PYTHON_BIDI names a folder with its source."""
 import concurrent.futures
 import contextlib
 import io
@@ -16,7 +16,7 @@ from bidi_proved.algorithm import get_base_level, get_display
 from . import TOP, peer
 from .test_pairs import ALEF, BET, CONTROLS, PAIRS
 
-# A program that runs python-bidi's own tests: its words are a folder with the package `bidi` and one with the tests.
+# A program that runs python-bidi's own tests. Its arguments are folders: with the package `bidi`, and with the tests.
 SUITE = """
 import importlib.util, pathlib, sys, unittest
 sys.path.insert(0, sys.argv[1])
@@ -119,7 +119,7 @@ class AsPythonBidi(unittest.TestCase):
 
 
 class OwnTests(unittest.TestCase):
-    """python-bidi's own tests, with a package `bidi` over this module in the place of python-bidi's."""
+    """python-bidi's own tests, with a package `bidi` over this module in place of python-bidi's."""
 
     def test_suite(self):
         source = os.environ.get("PYTHON_BIDI")

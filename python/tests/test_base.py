@@ -83,7 +83,7 @@ class LeftToRight(unittest.TestCase):
 
 @unittest.skipUnless(library.HAS_UTF8_BASE_LEVELS, "this library says nothing of UTF-8 without a layout")
 class Utf8(unittest.TestCase):
-    """What is said of a text in UTF-8 is what is said of its characters."""
+    """A text in UTF-8 has the same properties as its characters."""
 
     def setUp(self):
         self.tables = small_tables()

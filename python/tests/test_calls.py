@@ -1,4 +1,4 @@
-"""What calls take and say: tables and directions left out or by name, bytes for a str, properties, and texts for people."""
+"""Arguments of calls: tables and directions left out or by name, bytes for a str; properties; and texts for people."""
 import pathlib
 import unittest
 import warnings

@@ -196,7 +196,7 @@ class Refused(unittest.TestCase):
 
 
 class Statuses(unittest.TestCase):
-    """Each status of the header has an exception, but for those that no call of the module can be answered with."""
+    """Each status of the header has an exception, except those that no call of the module can return."""
 
     NEVER = {
         "BIDI_DONE", "BIDI_NO_DIRECTION", "BIDI_NO_ROOM", "BIDI_NO_TABLES", "BIDI_NO_PLACE", "BIDI_TOO_SMALL",

@@ -14,7 +14,7 @@ LONG = "".join(WORDS[i * i % 11 % 6] for i in range(500))
 
 
 def said(line, levels):
-    """All that a line tells, and these levels of its positions."""
+    """Returns all properties of a line, and these levels of its positions."""
     told = (line.start, line.end, line.order, line.places, line.runs, line.shown, line.display())
     return (*told, levels)
 
@@ -89,7 +89,7 @@ class Worked(unittest.TestCase):
 
 
 class BesideLines(unittest.TestCase):
-    """Each line of a long text is told alone as it is among the others."""
+    """Each line of a long text has the same properties alone as among the others."""
 
     def setUp(self):
         self.whole = bidi.lay_out(LONG, all_tables())
@@ -107,7 +107,7 @@ class BesideLines(unittest.TestCase):
                 self.assertEqual(sorted(covered), list(range(line.start, line.end)))
 
     def test_other_lines(self):
-        """Wherever the lines that the room holds end."""
+        """Wherever the lines of the room's layout end."""
         broken = self.whole.set_lines(range(5, len(LONG), 5))
         levels, lines = broken.levels, broken.lines
         told = [(line.start, line.end, line.order) for line in lines]

@@ -1,4 +1,4 @@
-"""Many texts at once: threads over one handle on tables, processes, Dask where it is installed."""
+"""Many texts at once: threads over one handle on tables, processes, Dask if it is installed."""
 import concurrent.futures
 import copy
 import logging

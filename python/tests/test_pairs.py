@@ -1,4 +1,4 @@
-"""Texts with what python-bidi shows of them, and beside python-bidi where it is installed."""
+"""Texts with what python-bidi shows of them, and beside python-bidi if it is installed."""
 import unittest
 
 import bidi_proved as bidi
@@ -41,7 +41,7 @@ CONTROLS = {"_l": "\u202a", "_r": "\u202b", "_o": "\u202c", "_L": "\u202d", "_R"
 
 
 def in_hebrew(text):
-    """The text with a Hebrew letter for each capital, and a control for each underscore with its letter."""
+    """Returns the text with a Hebrew letter for each capital, and a control for each underscore with its letter."""
     for name, control in CONTROLS.items():
         text = text.replace(name, control)
     return "".join(chr(ord(ALEF) + ord(it) - ord("A")) if "A" <= it <= "Z" else it for it in text)
@@ -56,7 +56,7 @@ class Pairs(unittest.TestCase):
             self.assertEqual(bidi.display(in_hebrew(text), self.tables), [in_hebrew(shown)], text)
 
     def test_beside_python_bidi(self):
-        """Texts without isolates, and with no brackets that N0 decides: not every edition of python-bidi has their rules."""
+        """Texts without isolates and brackets that N0 decides, whose rules some editions of python-bidi lack."""
         try:
             from bidi.algorithm import get_display
         except ImportError:

@@ -1,4 +1,4 @@
-"""Texts in UTF-8, told of by offsets: worked ones, and many beside their characters."""
+"""Texts in UTF-8, with offsets as positions: worked ones, and many beside their characters."""
 import unittest
 import unittest.mock
 
@@ -17,7 +17,7 @@ TEXTS = ["".join(PARTS[(k * i) % 8] for i in range(k % 19)) for k in range(200)]
 
 
 def starts_of(characters):
-    """The offset at which each character begins, and that of the text's end."""
+    """Returns the offset at which each character begins, and that of the text's end."""
     found = [0]
     for character in characters:
         found.append(found[-1] + len(character.encode("utf-8")))
@@ -112,7 +112,7 @@ class Worked(unittest.TestCase):
 
 
 def said(line):
-    """All that a line tells, but for what is shown."""
+    """Returns all properties of a line, except what is shown."""
     return line.start, line.end, line.levels, line.order, line.places, line.runs
 
 
@@ -231,7 +231,7 @@ class Shown(unittest.TestCase):
 
 @unittest.skipUnless(bidi.HAS_UTF8, "this library lays out no UTF-8")
 class BesideCharacters(unittest.TestCase):
-    """Of each text, what is told in offsets is what a layout of its characters says."""
+    """Each text has the same properties in offsets as in a layout of its characters."""
 
     def setUp(self):
         self.tables = all_tables()
@@ -255,7 +255,7 @@ class BesideCharacters(unittest.TestCase):
         self.assertEqual(len(layout.lines), len(other.lines))
 
     def check_line(self, layout, line, other, expected, widths):
-        """What is told of a line in the calls that not every library has."""
+        """The properties of a line from the calls that not every library has."""
         if not library.HAS_UTF8_LINE_OF:
             return
         wide = widths[expected.start : expected.end]
