@@ -2,7 +2,7 @@
 import typing
 
 from . import library
-from .errors import refuse
+from .errors import check_status
 from .layout import AnyDirection, Direction
 from .library import CALL, address, bytes_of, codes_of, items
 from .tables import Tables, default_tables
@@ -19,7 +19,7 @@ def base_level(
     """
     _need_base_level()
     codes = codes_of(text)
-    return _said(CALL.bidi_base_level, tables, address(codes), len(text), Direction(direction))
+    return _number_of(CALL.bidi_base_level, tables, address(codes), len(text), Direction(direction))
 
 
 def base_level_utf8(
@@ -31,7 +31,7 @@ def base_level_utf8(
     """
     _need_utf8()
     encoded = bytes_of(text)
-    return _said(CALL.bidi_base_level_utf8, tables, encoded, len(encoded), Direction(direction))
+    return _number_of(CALL.bidi_base_level_utf8, tables, encoded, len(encoded), Direction(direction))
 
 
 def base_levels(
@@ -69,7 +69,7 @@ def is_left_to_right(text: str, tables: typing.Optional[Tables] = None) -> bool:
     """
     _need_base_level()
     codes = codes_of(text)
-    return bool(_said(CALL.bidi_is_left_to_right, tables, address(codes), len(text)))
+    return bool(_number_of(CALL.bidi_is_left_to_right, tables, address(codes), len(text)))
 
 
 def is_left_to_right_utf8(text: Text, tables: typing.Optional[Tables] = None) -> bool:
@@ -79,7 +79,7 @@ def is_left_to_right_utf8(text: Text, tables: typing.Optional[Tables] = None) ->
     """
     _need_utf8()
     encoded = bytes_of(text)
-    return bool(_said(CALL.bidi_is_left_to_right_utf8, tables, encoded, len(encoded)))
+    return bool(_number_of(CALL.bidi_is_left_to_right_utf8, tables, encoded, len(encoded)))
 
 
 def _levels(call, tables, text, n, direction):
@@ -89,18 +89,18 @@ def _levels(call, tables, text, n, direction):
     tables = default_tables() if tables is None else tables
     with tables._lock:
         status = call(tables._handle, text, n, direction, address(levels), n, count, place)
-    refuse(status, place=place.value)
+    check_status(status, place=place.value)
     return levels[: count.value].tolist()
 
 
-def _said(call, tables, *words):
+def _number_of(call, tables, *words):
     """Returns the number that a call of the library says of a text."""
-    said, place = library.c_uint8(0), library.c_uint64(0)
+    number, place = library.c_uint8(0), library.c_uint64(0)
     tables = default_tables() if tables is None else tables
     with tables._lock:
-        status = call(tables._handle, *words, said, place)
-    refuse(status, place=place.value)
-    return said.value
+        status = call(tables._handle, *words, number, place)
+    check_status(status, place=place.value)
+    return number.value
 
 
 def _need_base_level():

@@ -205,7 +205,7 @@ def _kinds(base):
 BY_STATUS = {kind.status: kind for kind in _kinds(BidiError) if kind.status}
 
 
-def refuse(status, place=None, fault=None):
+def check_status(status, place=None, fault=None):
     """Raises the exception of a status; does nothing if it is 0."""
     if status == 0:
         return

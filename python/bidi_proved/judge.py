@@ -6,7 +6,7 @@ import typing
 import weakref
 
 from . import library
-from .errors import refuse
+from .errors import check_status
 from .layout import Direction, Limits
 from .library import CALL, Handle, address, items
 from .tables import Tables, default_tables
@@ -83,11 +83,11 @@ class Judge:
         self._lock = threading.Lock()
         limits = Limits(*limits)._for_call()
         if tables is None:
-            refuse(CALL.bidi_judge_new_classes_with(self._handle, limits))
+            check_status(CALL.bidi_judge_new_classes_with(self._handle, limits))
         else:
             of_its_own = tables._another()
             try:
-                refuse(CALL.bidi_judge_new_characters_with(of_its_own, self._handle, limits))
+                check_status(CALL.bidi_judge_new_characters_with(of_its_own, self._handle, limits))
             finally:
                 CALL.bidi_tables_free(of_its_own)
         weakref.finalize(self, CALL.bidi_judge_free, self._handle)
@@ -96,31 +96,31 @@ class Judge:
         """Takes the next bytes of the file. NoJudge: the verdict was returned."""
         piece = bytes(memoryview(piece))
         with self._lock:
-            refuse(CALL.bidi_judge_feed(self._handle, piece, len(piece)))
+            check_status(CALL.bidi_judge_feed(self._handle, piece, len(piece)))
 
     def finish(self) -> Verdict:
         """Returns the verdict on all bytes that were given. NoJudge: it was returned before."""
-        told = library.Verdict()
+        encoded = library.Verdict()
         with self._lock:
-            refuse(CALL.bidi_judge_finish(self._handle, told))
-        return _verdict_of(told)
+            check_status(CALL.bidi_judge_finish(self._handle, encoded))
+        return _verdict_of(encoded)
 
 
-def _line_of(told):
+def _line_of(encoded):
     """Returns the line that states a verdict, without its LF."""
     text, length = items("B", LINE), ctypes.c_size_t(0)
-    refuse(CALL.bidi_verdict_text(told, address(text), LINE, length))
+    check_status(CALL.bidi_verdict_text(encoded, address(text), LINE, length))
     return text[: length.value].tobytes().decode("ascii").rstrip("\n")
 
 
-def _verdict_of(told):
-    answer, words = Answer(told.answer), _line_of(told)
+def _verdict_of(encoded):
+    answer, words = Answer(encoded.answer), _line_of(encoded)
     if answer == Answer.YES:
-        return Verdict(answer, None, None, None, None, told.rows, told.cases, words)
+        return Verdict(answer, None, None, None, None, encoded.rows, encoded.cases, words)
     if answer == Answer.MALFORMED:
-        return Verdict(answer, Cause(told.reason), None, told.line, None, None, None, words)
-    index = None if told.reason == Wrong.PARA_LEVEL else told.index
-    return Verdict(answer, Wrong(told.reason), Direction(told.direction), told.line, index, None, None, words)
+        return Verdict(answer, Cause(encoded.reason), None, encoded.line, None, None, None, words)
+    index = None if encoded.reason == Wrong.PARA_LEVEL else encoded.index
+    return Verdict(answer, Wrong(encoded.reason), Direction(encoded.direction), encoded.line, index, None, None, words)
 
 
 def _pieces(source):

@@ -11,9 +11,9 @@ import warnings
 import weakref
 
 from . import library
-from .errors import StaleLayout, refuse
+from .errors import StaleLayout, check_status
 from .library import CALL, Handle, address, codes_of, copied, items
-from .tables import CLASSES, Lent, Tables, default_tables
+from .tables import CLASSES, RoomTables, Tables, default_tables
 
 REMOVED = 255
 NOWHERE = library.MOST
@@ -97,8 +97,8 @@ class AnyRoom:
         self.size = size
         self._handle = Handle()
         self._lock = threading.Lock()
-        self._laid_out, self._lent = 0, None
-        refuse(make(min(size, NOWHERE), self._handle))
+        self._laid_out, self._room_tables = 0, None
+        check_status(make(min(size, NOWHERE), self._handle))
         weakref.finalize(self, CALL.bidi_room_free, self._handle)
 
     def __repr__(self) -> str:
@@ -110,22 +110,22 @@ class AnyRoom:
             tables = default_tables()
 
         def called(*words):
-            if self._lent is None or self._lent.tables is not tables:
-                self._lent = Lent(tables)
-            with self._lent.guard:
-                return call(self._handle, self._lent.handle, *text, *words)
+            if self._room_tables is None or self._room_tables.tables is not tables:
+                self._room_tables = RoomTables(tables)
+            with self._room_tables.guard:
+                return call(self._handle, self._room_tables.handle, *text, *words)
 
         return called
 
     def _hold(self, call, laid_out, direction, breaks, limits):
-        """Returns what a call lays out: `laid_out(room, number, lent)`."""
+        """Returns what a call lays out: `laid_out(room, number, room_tables)`."""
         placed, count = _placed(breaks)
         by, place = Limits(*limits)._for_call(), library.c_uint64(0)
         with self._lock:
             status = call(Direction(direction), address(placed), count, by, place)
-            refuse(status, place=place.value)
+            check_status(status, place=place.value)
             self._laid_out += 1
-            return laid_out(self, self._laid_out, self._lent)
+            return laid_out(self, self._laid_out, self._room_tables)
 
 
 class Room(AnyRoom):
@@ -155,7 +155,7 @@ class Room(AnyRoom):
         """
         codes = codes_of(text)
         call = self._by_tables(CALL.bidi_lay_out_with, tables, address(codes), len(text))
-        return self._hold(call, lambda *held: Layout(*held, text, codes), direction, breaks, limits)
+        return self._hold(call, lambda *state: Layout(*state, text, codes), direction, breaks, limits)
 
     def lay_out_classes(
         self,
@@ -170,14 +170,14 @@ class Room(AnyRoom):
         def call(*words):
             return CALL.bidi_lay_out_classes_with(self._handle, numbers, len(numbers), *words)
 
-        return self._hold(call, lambda *held: Layout(*held, None, numbers), direction, breaks, limits)
+        return self._hold(call, lambda *state: Layout(*state, None, numbers), direction, breaks, limits)
 
 
 class AnyLayout:
     """What a room laid out, until it lays out another text."""
 
-    def __init__(self, room, number, lent):
-        self._room, self._number, self._lent = room, number, lent
+    def __init__(self, room, number, room_tables):
+        self._room, self._number, self._room_tables = room, number, room_tables
 
     @property
     def paragraph_levels(self) -> typing.List[int]:
@@ -190,16 +190,16 @@ class AnyLayout:
         return self.set_lines(breaks)
 
     def _broken(self, call, breaks, laid_out):
-        """Returns what a call makes of the text with these breaks: `laid_out(room, number, lent)`."""
+        """Returns what a call makes of the text with these breaks: `laid_out(room, number, room_tables)`."""
         placed, count = _placed(breaks)
         place = library.c_uint64(0)
-        with self._held() as handle:
-            refuse(call(handle, address(placed), count, place), place=place.value)
+        with self._locked_handle() as handle:
+            check_status(call(handle, address(placed), count, place), place=place.value)
             self._room._laid_out += 1
-            return laid_out(self._room, self._room._laid_out, self._lent)
+            return laid_out(self._room, self._room._laid_out, self._room_tables)
 
     def _line_count(self):
-        with self._held() as handle:
+        with self._locked_handle() as handle:
             return CALL.bidi_line_count(handle)
 
     def _line_alone(self, start, end):
@@ -207,21 +207,21 @@ class AnyLayout:
         start, end = _span(start, end, self._room.size)
         n, shown = end - start, library.c_size_t(0)
         levels, order = items("B", n), items("Q", n)
-        with self._held() as handle:
+        with self._locked_handle() as handle:
             self._lay_out_line(handle, start, end, address(levels), n, address(order), n, shown)
         return _without_removed(levels), order[: shown.value].tolist()
 
     def _without_separator(self, line, shown):
         """Returns the characters that a line shows without the paragraph separator at its end."""
         last, at = self._last_character(line)
-        if not self._lent.tables._separates(last):
+        if not self._room_tables.tables._separates(last):
             return shown
         place = line.order.index(at)
         return shown[:place] + shown[place + 1 :]
 
     def _asked(self, code, call, *words):
         """Returns what a look-up of the library writes."""
-        with self._held() as handle:
+        with self._locked_handle() as handle:
             return copied(code, lambda at, place: call(handle, *words, at, place))
 
     def _runs(self, name, number):
@@ -229,13 +229,13 @@ class AnyLayout:
         if not library.HAS_RUNS:
             raise NotImplementedError("this library does not tell all runs of a line")
         call = getattr(CALL, name)
-        with self._held() as handle:
+        with self._locked_handle() as handle:
             found = (library.Run * call(handle, number, None, 0))()
             call(handle, number, found, len(found))
         return [Run(run.start, run.length, run.shown, run.level) for run in found]
 
     @contextlib.contextmanager
-    def _held(self):
+    def _locked_handle(self):
         """Yields the room's handle, for one thread at a time. Fails with StaleLayout if the room has another layout."""
         with self._room._lock:
             if self._room._laid_out != self._number:
@@ -246,9 +246,9 @@ class AnyLayout:
 class Layout(AnyLayout):
     """What a room laid out: levels, paragraphs and lines. Places of lines are counted from the left."""
 
-    def __init__(self, room, number, lent, text, codes):
+    def __init__(self, room, number, room_tables, text, codes):
         """The text is None if it is one of classes; `codes` are their numbers then."""
-        super().__init__(room, number, lent)
+        super().__init__(room, number, room_tables)
         self._text, self._codes = text, codes
 
     @property
@@ -269,7 +269,7 @@ class Layout(AnyLayout):
         """
         if not library.SETS_LINES:
             raise NotImplementedError("this library breaks no text into other lines")
-        return self._broken(CALL.bidi_set_lines, breaks, lambda *held: Layout(*held, self._text, self._codes))
+        return self._broken(CALL.bidi_set_lines, breaks, lambda *state: Layout(*state, self._text, self._codes))
 
     def line_of(self, start: int, end: int) -> "LineAlone":
         """Returns one line alone of the text (L1, L2), from `start` to before `end`, at the cost of that line, wherever
@@ -288,7 +288,7 @@ class Layout(AnyLayout):
         if position < 0:
             raise ValueError(f"no position: {position}")
         separators, levels = self._paragraphs
-        with self._held():
+        with self._locked_handle():
             beyond = position >= len(self._items)
             return None if beyond else levels[bisect.bisect_left(separators, position)]
 
@@ -316,13 +316,13 @@ class Layout(AnyLayout):
     @functools.cached_property
     def _paragraphs(self):
         """The positions of the paragraph separators, and the level of each paragraph."""
-        separates = NUMBERS["B"].__eq__ if self._text is None else self._lent.tables._separates
+        separates = NUMBERS["B"].__eq__ if self._text is None else self._room_tables.tables._separates
         separators = {item for item in set(self._items) if separates(item)}
         return [at for at, item in enumerate(self._items) if item in separators], self.paragraph_levels
 
     def _lay_out_line(self, *words):
         """Makes the call for one line alone."""
-        refuse(CALL.bidi_line_of(*words))
+        check_status(CALL.bidi_line_of(*words))
 
     def _last_character(self, line):
         """Returns the last character of a line and its position."""
@@ -335,8 +335,8 @@ class Line:
     def __init__(self, layout: Layout, number: int) -> None:
         self._layout, self._number = layout, number
         line = library.Line()
-        with layout._held() as handle:
-            refuse(CALL.bidi_line(handle, number, line))
+        with layout._locked_handle() as handle:
+            check_status(CALL.bidi_line(handle, number, line))
         self.start, self.end = line.start, line.end
 
     def __repr__(self) -> str:
@@ -372,8 +372,9 @@ class Line:
         n = len(layout._characters())
 
         def call(handle, *words):
-            with layout._lent.guard:
-                return CALL.bidi_shown(handle, layout._lent.handle, address(layout._codes), n, self._number, *words)
+            tables = layout._room_tables
+            with tables.guard:
+                return CALL.bidi_shown(handle, tables.handle, address(layout._codes), n, self._number, *words)
 
         return layout._asked("I", call).tobytes().decode("utf-32-le")
 
@@ -410,8 +411,8 @@ class AnyLineAlone:
     @property
     def runs(self) -> typing.List[Run]:
         """Its visual runs from left to right; each of its positions, or bytes, is in one of them."""
-        kept, places, found = self._kept_levels(), self.places, []
-        for level, group in itertools.groupby(range(len(kept)), kept.__getitem__):
+        run_levels, places, found = self._run_levels(), self.places, []
+        for level, group in itertools.groupby(range(len(run_levels)), run_levels.__getitem__):
             positions = list(group)
             taken = {places[at] for at in positions} - {None}
             first = min(taken, default=-1 if level % 2 else len(self.order))
@@ -420,17 +421,17 @@ class AnyLineAlone:
 
     def _shown(self, character_at):
         """Returns its characters as they are shown; `character_at` returns the one at a position."""
-        mirror = self._layout._lent.tables.mirror
+        mirror = self._layout._room_tables.tables.mirror
         return "".join(mirror(character_at(at)) if self._level(at) % 2 else character_at(at) for at in self.order)
 
-    def _kept_levels(self):
+    def _run_levels(self):
         """The level of each of its positions: if X9 removes it, that of the next one that is shown, else the
         paragraph's."""
-        after, kept = self._end_level, []
+        after, run_levels = self._end_level, []
         for level in reversed(self.levels):
             after = after if level is None else level
-            kept.append(after)
-        return kept[::-1]
+            run_levels.append(after)
+        return run_levels[::-1]
 
     def _level(self, at):
         return self.levels[at - self.start]

@@ -226,23 +226,23 @@ HAS_REPORTS = all(hasattr(CALL, name) for name in REPORT_CALLS)
 
 def items(code, n):
     """Returns memory for n items of a type of the module array, and for one if n is 0, so that it has an address."""
-    kept = array.array(code)
-    kept.frombytes(bytes(kept.itemsize * max(n, 1)))
-    return kept
+    memory = array.array(code)
+    memory.frombytes(bytes(memory.itemsize * max(n, 1)))
+    return memory
 
 
-def address(kept):
+def address(memory):
     """Returns the address of the items of an array."""
-    return kept.buffer_info()[0]
+    return memory.buffer_info()[0]
 
 
 def copied(code, ask):
     """Returns the items that a look-up writes: `ask(address, place)` returns how many there are."""
-    kept = items(code, 0)
-    n = ask(address(kept), 0)
-    kept = items(code, n)
-    ask(address(kept), n)
-    return kept[:n]
+    memory = items(code, 0)
+    n = ask(address(memory), 0)
+    memory = items(code, n)
+    ask(address(memory), n)
+    return memory[:n]
 
 
 def codes_of(text):

@@ -6,7 +6,7 @@ import typing
 import weakref
 
 from . import library
-from .errors import BidiError, NoReport, refuse
+from .errors import BidiError, NoReport, check_status
 from .judge import Cause, Piece, Source, Wrong, _pieces
 from .layout import Direction, Limits
 from .library import CALL, Handle
@@ -88,27 +88,27 @@ class MalformedLine(BidiError, ValueError):
         return type(self), (self.line, self.cause)
 
 
-def _item_of(told):
-    if told.kind in (LEVEL, POSITION):
-        return told.value
-    return None if told.kind == REMOVED else ENDED
+def _item_of(encoded):
+    if encoded.kind in (LEVEL, POSITION):
+        return encoded.value
+    return None if encoded.kind == REMOVED else ENDED
 
 
-def _case_of(told):
-    place = Wrong(told.place)
-    index = None if place == Wrong.PARA_LEVEL else told.index
+def _case_of(encoded):
+    place = Wrong(encoded.place)
+    index = None if place == Wrong.PARA_LEVEL else encoded.index
     return WrongCase(
-        told.line, Direction(told.direction), place, index, _item_of(told.claimed), _item_of(told.defined))
+        encoded.line, Direction(encoded.direction), place, index, _item_of(encoded.claimed), _item_of(encoded.defined))
 
 
-def _counts_of(told):
+def _counts_of(encoded):
     directions = {
-        Direction.LTR: told.ltr, Direction.RTL: told.rtl, Direction.AUTO: told.auto_ltr,
-        Direction.AUTO_RTL: told.auto_rtl,
+        Direction.LTR: encoded.ltr, Direction.RTL: encoded.rtl, Direction.AUTO: encoded.auto_ltr,
+        Direction.AUTO_RTL: encoded.auto_rtl,
     }
-    places = {Wrong.PARA_LEVEL: told.para_level, Wrong.LEVELS: told.levels, Wrong.ORDER: told.order}
-    malformed = (told.malformed, Cause(told.cause)) if told.cause else (None, None)
-    return Counts(told.rows, told.cases, told.wrong_rows, told.wrong_cases, directions, places, *malformed)
+    places = {Wrong.PARA_LEVEL: encoded.para_level, Wrong.LEVELS: encoded.levels, Wrong.ORDER: encoded.order}
+    malformed = (encoded.malformed, Cause(encoded.cause)) if encoded.cause else (None, None)
+    return Counts(encoded.rows, encoded.cases, encoded.wrong_rows, encoded.wrong_cases, directions, places, *malformed)
 
 
 class Report:
@@ -123,23 +123,23 @@ class Report:
         self._counts = None
         limits = Limits(*limits)._for_call()
         if tables is None:
-            refuse(CALL.bidi_report_new_classes_with(self._handle, limits))
+            check_status(CALL.bidi_report_new_classes_with(self._handle, limits))
         else:
             of_its_own = tables._another()
             try:
-                refuse(CALL.bidi_report_new_characters_with(of_its_own, self._handle, limits))
+                check_status(CALL.bidi_report_new_characters_with(of_its_own, self._handle, limits))
             finally:
                 CALL.bidi_tables_free(of_its_own)
         weakref.finalize(self, CALL.bidi_report_free, self._handle)
 
     def _next(self):
         """Returns the next of the wrong cases that were found last, or None if none is left."""
-        told = library.WrongCase()
-        status = CALL.bidi_report_next(self._handle, told)
+        encoded = library.WrongCase()
+        status = CALL.bidi_report_next(self._handle, encoded)
         if status == NO_CASE:
             return None
-        refuse(status)
-        return _case_of(told)
+        check_status(status)
+        return _case_of(encoded)
 
     def feed(self, piece: Piece) -> typing.List[WrongCase]:
         """Takes the next bytes of the file, and returns the wrong cases on the lines that end in them. NoReport: the
@@ -150,7 +150,7 @@ class Report:
             if self._counts is not None:
                 raise NoReport(NoReport.says)
             while piece:
-                refuse(CALL.bidi_report_feed(self._handle, piece, len(piece), used))
+                check_status(CALL.bidi_report_feed(self._handle, piece, len(piece), used))
                 found.extend(iter(self._next, None))
                 piece = piece[used.value :]
         return found
@@ -158,10 +158,10 @@ class Report:
     def finish(self) -> typing.List[WrongCase]:
         """Takes the end of the file, and returns the wrong cases on a last line without LF. NoReport: the file has
         ended before."""
-        told = library.Counts()
+        encoded = library.Counts()
         with self._lock:
-            refuse(CALL.bidi_report_finish(self._handle, told))
-            self._counts = _counts_of(told)
+            check_status(CALL.bidi_report_finish(self._handle, encoded))
+            self._counts = _counts_of(encoded)
             return list(iter(self._next, None))
 
     @property

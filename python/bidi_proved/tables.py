@@ -10,7 +10,7 @@ import typing
 import weakref
 
 from . import library
-from .errors import refuse
+from .errors import check_status
 from .library import CALL, HAS_STANDARD_TABLES, SHARES_TABLES, Fault, Handle, copied
 
 CLASSES = "L R AL EN ES ET AN CS NSM BN B S WS ON LRE LRO RLE RLO PDF LRI RLI FSI PDI".split()
@@ -94,7 +94,7 @@ class Tables:
         found = library.c_uint8(0)
         with self._lock:
             status = getattr(CALL, name)(self._handle, ord(character), found)
-        refuse(status, place=0)
+        check_status(status, place=0)
         return found.value
 
     def __reduce__(self):
@@ -111,10 +111,10 @@ class Tables:
         """Returns a handle on new tables; the caller frees it."""
         handle, fault = Handle(), Fault()
         if self._files is None:
-            refuse(CALL.bidi_tables_standard(handle))
+            check_status(CALL.bidi_tables_standard(handle))
         else:
             words = [word for file in self._files for word in (file, len(file))]
-            refuse(CALL.bidi_tables_new(*words, handle, ctypes.byref(fault)), fault=fault)
+            check_status(CALL.bidi_tables_new(*words, handle, ctypes.byref(fault)), fault=fault)
         return handle
 
     def _another(self):
@@ -123,7 +123,7 @@ class Tables:
             return self._made()
         handle = Handle()
         with self._lock:
-            refuse(CALL.bidi_tables_share(self._handle, handle))
+            check_status(CALL.bidi_tables_share(self._handle, handle))
         return handle
 
     def _separates(self, character):
@@ -141,7 +141,7 @@ def default_tables() -> Tables:
     return Tables.standard()
 
 
-class Lent:
+class RoomTables:
     """Tables as a room uses them: through a handle of its own, or, if the library shares none, through that of the
     tables, for one thread at a time."""
 

@@ -2,7 +2,7 @@
 import typing
 
 from . import library
-from .errors import refuse
+from .errors import check_status
 from .layout import (
     NOWHERE, REMOVED, AnyDirection, AnyLayout, AnyLineAlone, AnyRoom, Breaks, Direction, Levels, Limits, Run,
 )
@@ -49,14 +49,14 @@ class Utf8Room(AnyRoom):
         """
         encoded = bytes_of(text)
         call = self._by_tables(getattr(CALL, _CALLS[errors]), tables, encoded, len(encoded))
-        return self._hold(call, lambda *held: Utf8Layout(*held, encoded), direction, breaks, limits)
+        return self._hold(call, lambda *state: Utf8Layout(*state, encoded), direction, breaks, limits)
 
 
 class Utf8Layout(AnyLayout):
     """What such a room laid out: levels, paragraphs and lines, in offsets. `text` are the bytes."""
 
-    def __init__(self, room, number, lent, text):
-        super().__init__(room, number, lent)
+    def __init__(self, room, number, room_tables, text):
+        super().__init__(room, number, room_tables)
         self.text = text
 
     def __repr__(self) -> str:
@@ -69,24 +69,24 @@ class Utf8Layout(AnyLayout):
 
     def level_at(self, offset: int) -> typing.Optional[int]:
         """The level of the byte at an offset: None if X9 removes its character, and if there is no such byte."""
-        level = self._told(CALL.bidi_level_at, offset)
+        level = self._looked_up(CALL.bidi_level_at, offset)
         return None if level == REMOVED else level
 
     def para_level_at(self, offset: int) -> typing.Optional[int]:
         """Returns the level of the paragraph (P2, P3) in which the byte at an offset lies, None if there is no such
         byte. NotImplementedError: the library is an older one."""
         _need_lines()
-        level = self._told(CALL.bidi_encoded_para_level_at, offset)
+        level = self._looked_up(CALL.bidi_encoded_para_level_at, offset)
         return None if level == REMOVED else level
 
     def index_of(self, offset: int) -> int:
         """The index of the character that the byte at an offset belongs to; from the text's end on how many characters
         it has."""
-        return self._told(CALL.bidi_index_of, offset)
+        return self._looked_up(CALL.bidi_index_of, offset)
 
     def offset_of(self, index: int) -> int:
         """The offset at which the character with an index begins, from their number on how many bytes there are."""
-        return self._told(CALL.bidi_offset_of, index)
+        return self._looked_up(CALL.bidi_offset_of, index)
 
     def set_lines(self, breaks: Breaks) -> "Utf8Layout":
         """Returns the layout of the same text with lines that begin at these offsets (L1, L2). It doesn't find levels
@@ -94,7 +94,7 @@ class Utf8Layout(AnyLayout):
 
         Fails with BreakOutOfRange, BreakNotRising or BreakInside; the room is unchanged then.
         """
-        return self._broken(CALL.bidi_encoded_set_lines, breaks, lambda *held: Utf8Layout(*held, self.text))
+        return self._broken(CALL.bidi_encoded_set_lines, breaks, lambda *state: Utf8Layout(*state, self.text))
 
     def line_of(self, start: int, end: int) -> "Utf8LineAlone":
         """Returns one line alone of the text (L1, L2), from the offset `start` to before `end`, at the cost of that
@@ -121,7 +121,7 @@ class Utf8Layout(AnyLayout):
         """Makes the call for one line alone."""
         status = CALL.bidi_encoded_line_of(handle, start, *words)
         begins = CALL.bidi_offset_of(handle, CALL.bidi_index_of(handle, start)) == start
-        refuse(status, place=int(begins))
+        check_status(status, place=int(begins))
 
     def _character_at(self, offset):
         """Returns the character that begins at an offset, or U+FFFD for bytes that are not UTF-8."""
@@ -132,10 +132,10 @@ class Utf8Layout(AnyLayout):
         last = self.text[max(line.end - 4, line.start) : line.end].decode("utf-8", "replace")[-1]
         return last, line.end - len(last.encode("utf-8"))
 
-    def _told(self, call, number):
+    def _looked_up(self, call, number):
         if number < 0:
             raise ValueError(f"no offset or index: {number}")
-        with self._held() as handle:
+        with self._locked_handle() as handle:
             return call(handle, min(number, library.MOST))
 
 
@@ -145,8 +145,8 @@ class Utf8Line:
     def __init__(self, layout: Utf8Layout, number: int) -> None:
         self._layout, self._number = layout, number
         line = library.Line()
-        with layout._held() as handle:
-            refuse(CALL.bidi_encoded_line(handle, number, line))
+        with layout._locked_handle() as handle:
+            check_status(CALL.bidi_encoded_line(handle, number, line))
         self.start, self.end = line.start, line.end
 
     def __repr__(self) -> str:
@@ -186,9 +186,9 @@ class Utf8Line:
         layout = self._layout
 
         def call(handle, *words):
-            with layout._lent.guard:
-                text = layout.text
-                return CALL.bidi_encoded_shown_utf8(handle, layout._lent.handle, text, len(text), self._number, *words)
+            tables, text = layout._room_tables, layout.text
+            with tables.guard:
+                return CALL.bidi_encoded_shown_utf8(handle, tables.handle, text, len(text), self._number, *words)
 
         return layout._asked("B", call).tobytes()
 

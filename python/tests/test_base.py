@@ -108,9 +108,9 @@ class Utf8(unittest.TestCase):
     def test_ill_formed(self):
         for call in (bidi.base_level_utf8, bidi.base_levels_utf8, bidi.is_left_to_right_utf8):
             for text, place in ((b"a\xff", 1), (f"{ALEF}\n\ud800", 3), (b"\xd7", 0)):
-                with self.assertRaises(bidi.IllFormed) as told:
+                with self.assertRaises(bidi.IllFormed) as raised:
                     call(text, self.tables)
-                self.assertEqual(told.exception.place, place)
+                self.assertEqual(raised.exception.place, place)
 
     def test_no_direction(self):
         for call in (bidi.base_level_utf8, bidi.base_levels_utf8):
@@ -124,16 +124,16 @@ class Utf8(unittest.TestCase):
                     call(b"a", self.tables)
 
 
-class Refused(unittest.TestCase):
+class Rejected(unittest.TestCase):
     def setUp(self):
         self.tables = small_tables()
 
     def test_no_character(self):
         for call in (bidi.base_level, bidi.base_levels, bidi.is_left_to_right):
             for text, place in (("a\ud800", 1), (f"\n{ALEF}b\udfff\ud800", 3)):
-                with self.assertRaises(bidi.NoCharacter) as told:
+                with self.assertRaises(bidi.NoCharacter) as raised:
                     call(text, self.tables)
-                self.assertEqual(told.exception.place, place)
+                self.assertEqual(raised.exception.place, place)
 
     def test_no_direction(self):
         for call in (bidi.base_level, bidi.base_levels):

@@ -67,9 +67,10 @@ class Calls(unittest.TestCase):
     def test_texts_for_people(self):
         tables = small_tables()
         layout, utf8 = bidi.lay_out("ab", tables), bidi.lay_out_utf8("ab", tables)
-        said = [repr(it) for it in (bidi.Room(3), layout, layout.lines[0], layout.line_of(0, 1), bidi.Utf8Room(3), utf8,
-                                    utf8.lines[0], tables)]
-        self.assertEqual(said, [
+        objects = (
+            bidi.Room(3), layout, layout.lines[0], layout.line_of(0, 1), bidi.Utf8Room(3), utf8, utf8.lines[0], tables)
+        texts = [repr(it) for it in objects]
+        self.assertEqual(texts, [
             "Room(3)", "<Layout of 2 positions>", "<Line from 0 to 2>", "<LineAlone from 0 to 1>", "Utf8Room(3)",
             "<Utf8Layout of 2 bytes>", "<Utf8Line from 0 to 2>", "<Tables of three property files>"])
         if library.HAS_UTF8_LINE_OF:
@@ -78,10 +79,10 @@ class Calls(unittest.TestCase):
     def test_old_names(self):
         for lay_out in (bidi.lay_out, bidi.lay_out_utf8):
             layout = lay_out("ab", small_tables())
-            with warnings.catch_warnings(record=True) as said:
+            with warnings.catch_warnings(record=True) as warned:
                 warnings.simplefilter("always")
                 broken = layout.with_lines([1])
-            self.assertEqual([it.category for it in said], [DeprecationWarning])
+            self.assertEqual([it.category for it in warned], [DeprecationWarning])
             self.assertEqual(len(broken.lines), 2)
 
     def test_types_are_marked(self):

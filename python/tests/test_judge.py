@@ -22,13 +22,13 @@ class Judged(unittest.TestCase):
         verdict = bidi.judge_classes(WRONG)
         self.assertFalse(verdict)
         self.assertEqual(str(verdict), "no: line 3: rtl: levels at 0")
-        told = (verdict.answer, verdict.reason, verdict.direction, verdict.line, verdict.index)
-        self.assertEqual(told, (bidi.Answer.WRONG, bidi.Wrong.LEVELS, bidi.Direction.RTL, 3, 0))
+        found = (verdict.answer, verdict.reason, verdict.direction, verdict.line, verdict.index)
+        self.assertEqual(found, (bidi.Answer.WRONG, bidi.Wrong.LEVELS, bidi.Direction.RTL, 3, 0))
 
     def test_malformed(self):
         verdict = bidi.judge_classes(b"L; 7\n")
-        told = (verdict.answer, verdict.reason, verdict.line, verdict.rows)
-        self.assertEqual(told, (bidi.Answer.MALFORMED, bidi.Cause.NO_EXPECTATION, 1, None))
+        found = (verdict.answer, verdict.reason, verdict.line, verdict.rows)
+        self.assertEqual(found, (bidi.Answer.MALFORMED, bidi.Cause.NO_EXPECTATION, 1, None))
 
     def test_pieces(self):
         bytewise = (bytes([byte]) for byte in WRONG)
@@ -48,7 +48,7 @@ class Judged(unittest.TestCase):
         with self.assertRaises(bidi.DepthRefused):
             bidi.judge_classes(row, bidi.Limits(0, 63))
 
-    def test_told_once(self):
+    def test_one_verdict(self):
         judge = bidi.Judge()
         judge.feed(RIGHT)
         self.assertTrue(judge.finish())

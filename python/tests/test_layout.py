@@ -133,9 +133,9 @@ class Runs(unittest.TestCase):
         before = [[(0, 2, 2, 0)], [(2, 1, 1, 0)]]
         whole = [[(5, 2, 1, 1), (4, 1, 1, 2), (3, 1, 1, 1)]]
         parts = [[(5, 1, 0, 1), (4, 1, 1, 2), (3, 1, 1, 1)], [(6, 1, 1, 1)]]
-        behind = [[(10, 2, 1, 1), (8, 2, 1, 2), (7, 1, 1, 1)], [(12, 1, 1, 0)]]
-        self.check(self.lay_out(text), *before, *whole, *behind)
-        self.check(self.lay_out(text, breaks=[6]), *before, *parts, *behind)
+        last_runs = [[(10, 2, 1, 1), (8, 2, 1, 2), (7, 1, 1, 1)], [(12, 1, 1, 0)]]
+        self.check(self.lay_out(text), *before, *whole, *last_runs)
+        self.check(self.lay_out(text, breaks=[6]), *before, *parts, *last_runs)
 
     def test_classes(self):
         layout = bidi.lay_out_classes(["L", "BN", "B", "R", "EN", "BN"])
@@ -148,14 +148,14 @@ class Runs(unittest.TestCase):
             line.runs  # pylint: disable=pointless-statement
 
 
-class Refused(unittest.TestCase):
+class Rejected(unittest.TestCase):
     def setUp(self):
         self.tables = small_tables()
 
     def check_placed(self, kind, place, call, *words, **named):
-        with self.assertRaises(kind) as told:
+        with self.assertRaises(kind) as raised:
             call(*words, **named)
-        self.assertEqual(told.exception.place, place)
+        self.assertEqual(raised.exception.place, place)
 
     def test_places(self):
         self.check_placed(bidi.NoCharacter, 1, bidi.lay_out, "a\ud800", self.tables)
@@ -185,10 +185,10 @@ class Refused(unittest.TestCase):
             bidi.lay_out("a", self.tables, 4)
 
     def test_faulty_tables(self):
-        with self.assertRaises(bidi.ClassFileFault) as told:
+        with self.assertRaises(bidi.ClassFileFault) as raised:
             bidi.Tables(b"0041 ; L\n41 ; L\n", b"", b"")
-        self.assertEqual((told.exception.line, told.exception.kind), (2, bidi.FaultKind.CODE_POINT))
-        self.assertEqual(str(told.exception), "DerivedBidiClass.txt: line 2: CODE_POINT")
+        self.assertEqual((raised.exception.line, raised.exception.kind), (2, bidi.FaultKind.CODE_POINT))
+        self.assertEqual(str(raised.exception), "DerivedBidiClass.txt: line 2: CODE_POINT")
         with self.assertRaises(bidi.BracketFileFault):
             bidi.Tables(b"", b"0028; 0029; x\n", b"")
         with self.assertRaises(bidi.MirrorFileFault):

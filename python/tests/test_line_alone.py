@@ -13,10 +13,10 @@ WORDS = ["\ufeffab ", f"({ALEF}\u200d{BET}) ", "12,\u200d ", f"\u202b{BET}a\u202
 LONG = "".join(WORDS[i * i % 11 % 6] for i in range(500))
 
 
-def said(line, levels):
+def properties(line, levels):
     """Returns all properties of a line, and these levels of its positions."""
-    told = (line.start, line.end, line.order, line.places, line.runs, line.shown, line.display())
-    return (*told, levels)
+    common = (line.start, line.end, line.order, line.places, line.runs, line.shown, line.display())
+    return (*common, levels)
 
 
 class Worked(unittest.TestCase):
@@ -57,18 +57,18 @@ class Worked(unittest.TestCase):
             line.shown  # pylint: disable=pointless-statement
 
     def test_layout_stays(self):
-        before = [said(line, self.layout.levels) for line in self.layout.lines]
+        before = [properties(line, self.layout.levels) for line in self.layout.lines]
         self.layout.line_of(4, 9)
-        self.assertEqual([said(line, self.layout.levels) for line in self.layout.lines], before)
+        self.assertEqual([properties(line, self.layout.levels) for line in self.layout.lines], before)
         self.assertEqual([line.start for line in self.layout.lines], [0, 1, 4])
 
     def test_line_stays(self):
         room = bidi.Room(20)
         layout = room.lay_out(TEXT, self.tables)
         line = layout.line_of(4, 10)
-        before = said(line, line.levels)
+        before = properties(line, line.levels)
         room.lay_out(f"{BET} 1", self.tables)
-        self.assertEqual(said(line, line.levels), before)
+        self.assertEqual(properties(line, line.levels), before)
         with self.assertRaises(bidi.StaleLayout):
             layout.line_of(4, 10)
 
@@ -101,8 +101,8 @@ class BesideLines(unittest.TestCase):
             levels = broken.levels
             for line in broken.lines:
                 alone = broken.line_of(line.start, line.end)
-                told = said(line, levels[line.start : line.end])
-                self.assertEqual(said(alone, alone.levels), told)
+                among = properties(line, levels[line.start : line.end])
+                self.assertEqual(properties(alone, alone.levels), among)
                 covered = [at for run in line.runs for at in range(run.start, run.start + run.length)]
                 self.assertEqual(sorted(covered), list(range(line.start, line.end)))
 
@@ -110,9 +110,9 @@ class BesideLines(unittest.TestCase):
         """Wherever the lines of the room's layout end."""
         broken = self.whole.set_lines(range(5, len(LONG), 5))
         levels, lines = broken.levels, broken.lines
-        told = [(line.start, line.end, line.order) for line in lines]
+        spans = [(line.start, line.end, line.order) for line in lines]
         whole = broken.set_lines([])
-        for start, end, order in told:
+        for start, end, order in spans:
             alone = whole.line_of(start, end)
             self.assertEqual((alone.levels, alone.order), (levels[start:end], order))
 
@@ -123,34 +123,34 @@ class BesideLines(unittest.TestCase):
             self.assertEqual(list(pool.map(lambda span: self.whole.line_of(*span).order, spans)), expected)
 
 
-class Refused(unittest.TestCase):
+class Rejected(unittest.TestCase):
     def setUp(self):
         self.tables = small_tables()
         self.layout = bidi.Room(30).lay_out(TEXT, self.tables)
 
-    def check_refused(self, kind, spans):
+    def check_rejected(self, kind, spans):
         before = [self.layout.levels, self.layout.display()]
         for span in spans:
-            with self.assertRaises(kind, msg=span) as told:
+            with self.assertRaises(kind, msg=span) as raised:
                 self.layout.line_of(*span)
-            self.assertIs(type(told.exception), kind, span)
-            self.assertIsInstance(told.exception, ValueError)
-            self.assertEqual(str(told.exception), kind.says)
+            self.assertIs(type(raised.exception), kind, span)
+            self.assertIsInstance(raised.exception, ValueError)
+            self.assertEqual(str(raised.exception), kind.says)
         self.assertEqual([self.layout.levels, self.layout.display()], before)
 
     def test_not_forward(self):
         spans = [(0, 0), (2, 2), (3, 2), (10, 10), (30, 11), (99, 12), (-1, -1), (0, -1), (2**64, 0), (2**64, 2**64)]
-        self.check_refused(bidi.LineNotForward, spans)
+        self.check_rejected(bidi.LineNotForward, spans)
 
     def test_beyond_text(self):
         spans = [(9, 11), (0, 11), (10, 11), (2, 30), (5, 31), (99, 100), (0, 2**64), (2**64, 2**65)]
-        self.check_refused(bidi.LineBeyondText, spans + [(-1, 2), (-3, -1), (-1, 11), (-(2**64), 4)])
+        self.check_rejected(bidi.LineBeyondText, spans + [(-1, 2), (-3, -1), (-1, 11), (-(2**64), 4)])
 
     def test_crosses_paragraph(self):
-        self.check_refused(bidi.LineCrossesParagraph, [(0, 5), (3, 5), (2, 10), (0, 10)])
+        self.check_rejected(bidi.LineCrossesParagraph, [(0, 5), (3, 5), (2, 10), (0, 10)])
         self.assertEqual(self.layout.line_of(4, 10).end, 10)
 
     def test_of_nothing(self):
         self.layout = bidi.lay_out("", self.tables)
-        self.check_refused(bidi.LineNotForward, [(0, 0)])
-        self.check_refused(bidi.LineBeyondText, [(0, 1), (0, 2**64)])
+        self.check_rejected(bidi.LineNotForward, [(0, 0)])
+        self.check_rejected(bidi.LineBeyondText, [(0, 1), (0, 2**64)])

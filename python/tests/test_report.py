@@ -16,7 +16,7 @@ CASES = [
     bidi.WrongCase(6, Direction.LTR, Wrong.ORDER, 0, bidi.ENDED, 1),
     bidi.WrongCase(7, Direction.AUTO, Wrong.LEVELS, 0, None, 0),
 ]
-SAID = [
+LINES = [
     "line 3: rtl: levels at 0: claimed 0, defined 2",
     "line 6: auto: order at 0: claimed nothing, defined 1",
     "line 6: ltr: order at 0: claimed nothing, defined 1",
@@ -30,7 +30,7 @@ class Reported(unittest.TestCase):
     def test_cases(self):
         found = list(bidi.report_classes(FAULTS))
         self.assertEqual(found, CASES)
-        self.assertEqual([str(case) for case in found], SAID)
+        self.assertEqual([str(case) for case in found], LINES)
 
     def test_pieces(self):
         for size in (1, 2, 7, 30, 1000):
@@ -60,18 +60,18 @@ class Reported(unittest.TestCase):
 
     def test_malformed(self):
         found = []
-        with self.assertRaises(bidi.MalformedLine) as told:
+        with self.assertRaises(bidi.MalformedLine) as raised:
             for case in bidi.report_classes(FAULTS + b"\nL; 16\nL; 1\n"):
                 found.append(case)
         self.assertEqual(found, CASES)
-        again = pickle.loads(pickle.dumps(told.exception))
+        again = pickle.loads(pickle.dumps(raised.exception))
         self.assertEqual((again.line, again.cause), (8, bidi.Cause.BIT_SET))
 
     def test_characters(self):
         tables = small_tables()
-        told = [(case.line, case.direction, case.place, case.index, case.claimed, case.defined)
-                for case in bidi.report_characters(ROWS, tables)]
-        self.assertEqual(told, [
+        found = [(case.line, case.direction, case.place, case.index, case.claimed, case.defined)
+                 for case in bidi.report_characters(ROWS, tables)]
+        self.assertEqual(found, [
             (1, Direction.AUTO, Wrong.PARA_LEVEL, None, 1, 0),
             (2, Direction.LTR, Wrong.ORDER, 0, 1, 0),
         ])

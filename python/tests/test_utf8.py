@@ -71,16 +71,16 @@ class Worked(unittest.TestCase):
         self.assertEqual(broken.levels, bidi.lay_out_utf8(self.text, self.tables, 1, [2, 6]).levels)
         with self.assertRaises(bidi.StaleLayout):
             whole.levels  # pylint: disable=pointless-statement
-        with self.assertRaises(bidi.BreakInside) as told:
+        with self.assertRaises(bidi.BreakInside) as raised:
             broken.set_lines([2, 4])
-        self.assertEqual((told.exception.place, len(broken.lines)), (1, 3))
+        self.assertEqual((raised.exception.place, len(broken.lines)), (1, 3))
         self.assertEqual(broken.set_lines([]).levels, [2, 2, 1, 1, 1, 1, 1, 1, 1, 1, 2])
 
     def test_ill_formed(self):
         text = b"a\xf0\x9f\x98b\xff\xfe\xd7\x90\xe2\x82"
-        with self.assertRaises(bidi.IllFormed) as told:
+        with self.assertRaises(bidi.IllFormed) as raised:
             bidi.lay_out_utf8(text, self.tables)
-        self.assertEqual(told.exception.place, 1)
+        self.assertEqual(raised.exception.place, 1)
         layout = bidi.lay_out_utf8(text, self.tables, errors="replace", breaks=[4, 9])
         self.assertEqual([layout.offset_of(index) for index in range(8)], [0, 1, 4, 5, 6, 7, 9, 11])
         self.assertEqual([(line.start, line.end) for line in layout.lines], [(0, 4), (4, 9), (9, 11)])
@@ -91,9 +91,9 @@ class Worked(unittest.TestCase):
         with self.assertRaises(LookupError):
             bidi.lay_out_utf8("a", self.tables, errors="ignore")
 
-    def test_refused_by_a_room(self):
+    def test_rejected_by_a_room(self):
         room = bidi.Utf8Room(11)
-        held = room.lay_out(self.text, self.tables)
+        earlier = room.lay_out(self.text, self.tables)
         for kind, text, named in (
             (bidi.TextTooLong, self.text + "a", {}),
             (bidi.IllFormed, b"\x80", {}),
@@ -104,14 +104,14 @@ class Worked(unittest.TestCase):
         ):
             with self.assertRaises(kind):
                 room.lay_out(text, self.tables, **named)
-        self.assertEqual(held.levels, [0, 0, 0, 1, 1, 1, 1, 1, 1, 1, 2])
+        self.assertEqual(earlier.levels, [0, 0, 0, 1, 1, 1, 1, 1, 1, 1, 2])
         with self.assertRaises(ValueError):
             bidi.Utf8Room(-1)
         with self.assertRaises(bidi.RoomTooBig):
             bidi.Utf8Room(16777217)
 
 
-def said(line):
+def properties(line):
     """Returns all properties of a line, except what is shown."""
     return line.start, line.end, line.levels, line.order, line.places, line.runs
 
@@ -169,33 +169,33 @@ class Lines(unittest.TestCase):
     def test_line_stays(self):
         room = bidi.Utf8Room(20)
         layout = room.lay_out(self.text, self.tables)
-        line, (held, _) = layout.line_of(4, 13), layout.lines
-        before, shown = said(line), line.display()
+        line, (line_before, _) = layout.line_of(4, 13), layout.lines
+        before, shown = properties(line), line.display()
         room.lay_out(f"{BET} 1", self.tables)
-        self.assertEqual((said(line), line.display()), (before, shown))
-        for call in (lambda: layout.line_of(4, 13), lambda: layout.para_level_at(0), lambda: held.places):
+        self.assertEqual((properties(line), line.display()), (before, shown))
+        for call in (lambda: layout.line_of(4, 13), lambda: layout.para_level_at(0), lambda: line_before.places):
             with self.assertRaises(bidi.StaleLayout):
                 call()
 
-    def check_refused(self, kind, spans):
-        before = [said(line) for line in self.layout.lines]
+    def check_rejected(self, kind, spans):
+        before = [properties(line) for line in self.layout.lines]
         for span in spans:
-            with self.assertRaises(kind, msg=span) as told:
+            with self.assertRaises(kind, msg=span) as raised:
                 self.layout.line_of(*span)
-            self.assertIs(type(told.exception), kind, span)
-        self.assertEqual([said(line) for line in self.layout.lines], before)
+            self.assertIs(type(raised.exception), kind, span)
+        self.assertEqual([properties(line) for line in self.layout.lines], before)
 
-    def test_refused(self):
-        self.check_refused(bidi.LineNotForward, [(0, 0), (3, 2), (13, 13), (99, 12), (0, -1), (7, 7), (2**64, 0)])
-        self.check_refused(bidi.LineBeyondText, [(7, 14), (13, 14), (0, 2**64), (-1, 2), (2**64, 2**65)])
-        self.check_refused(bidi.BreakInside, [(7, 8), (4, 7), (9, 13), (0, 7)])
-        self.check_refused(bidi.LineCrossesParagraph, [(0, 5), (3, 6), (0, 13)])
+    def test_rejected(self):
+        self.check_rejected(bidi.LineNotForward, [(0, 0), (3, 2), (13, 13), (99, 12), (0, -1), (7, 7), (2**64, 0)])
+        self.check_rejected(bidi.LineBeyondText, [(7, 14), (13, 14), (0, 2**64), (-1, 2), (2**64, 2**65)])
+        self.check_rejected(bidi.BreakInside, [(7, 8), (4, 7), (9, 13), (0, 7)])
+        self.check_rejected(bidi.LineCrossesParagraph, [(0, 5), (3, 6), (0, 13)])
 
     def test_place_of_an_end_inside(self):
         for start, end, place in ((7, 8, 0), (7, 9, 0), (6, 7, 1), (0, 10, 1)):
-            with self.assertRaises(bidi.BreakInside) as told:
+            with self.assertRaises(bidi.BreakInside) as raised:
                 self.layout.line_of(start, end)
-            self.assertEqual(told.exception.place, place)
+            self.assertEqual(raised.exception.place, place)
 
     def test_older_library(self):
         (line, _) = self.layout.lines
@@ -261,7 +261,7 @@ class BesideCharacters(unittest.TestCase):
         wide = widths[expected.start : expected.end]
         self.assertEqual(line.places, [place for place, width in zip(expected.places, wide) for _ in range(width)])
         alone = layout.line_of(line.start, line.end)
-        self.assertEqual(said(alone), said(line))
+        self.assertEqual(properties(alone), properties(line))
         self.assertEqual((alone.shown, alone.display()), (expected.shown.encode(), expected.display().encode()))
         self.assertEqual(layout.para_level_at(line.end - 1), other.para_level_at(expected.end - 1))
         if library.HAS_UTF8_SHOWN:
