@@ -365,7 +365,7 @@ impl<T: Text + ?Sized> LineAlone<'_, T> {
 
     /// Returns its visual runs from left to right. Each of its code units is in one of them.
     pub fn runs(&self) -> Vec<Run> {
-        let (levels, places) = (self.kept_levels(), self.places());
+        let (levels, places) = (self.run_levels(), self.places());
         let (mut found, mut first) = (Vec::new(), 0);
         for next in 1..=levels.len() {
             if levels.get(next) == Some(&levels[first]) {
@@ -412,14 +412,14 @@ impl<T: Text + ?Sized> LineAlone<'_, T> {
 
     /// Returns the level of each of its code units. What X9 removes has the level of the next unit that is shown, and
     /// that of the paragraph if there is none.
-    fn kept_levels(&self) -> Vec<Level> {
+    fn run_levels(&self) -> Vec<Level> {
         let mut after = self.layout.para_level_at(self.range.start).unwrap_or(Level::new(0));
-        let mut kept = Vec::with_capacity(self.levels.len());
+        let mut levels = Vec::with_capacity(self.levels.len());
         for level in self.levels.iter().rev() {
             after = level.unwrap_or(after);
-            kept.push(after);
+            levels.push(after);
         }
-        kept.reverse();
-        kept
+        levels.reverse();
+        levels
     }
 }

@@ -173,8 +173,8 @@ fn utf16() -> Tested {
     assert_eq!(layout.line(1).unwrap().order(), [3, 2]);
     assert_eq!(layout.line(1).unwrap().shown(&tables), "\u{1F600}a");
     let lone = [0x5D0, 0xD800, 0x61];
-    let refused = room.lay_out_utf16(&lone, &tables, Direction::Auto, &[]);
-    assert_eq!(refused.err(), Some(Error::IllFormed { offset: 1 }));
+    let rejected = room.lay_out_utf16(&lone, &tables, Direction::Auto, &[]);
+    assert_eq!(rejected.err(), Some(Error::IllFormed { offset: 1 }));
     let layout = room.lay_out_utf16_lossy(&lone, &tables, Direction::Auto, &[])?;
     assert_eq!(layout.line(0).unwrap().shown(&tables), "a\u{FFFD}\u{5D0}");
     Ok(())
@@ -210,8 +210,8 @@ fn limits() -> Tested {
         assert_eq!(layout.level_at(5).map(Level::number), Some(level));
     }
     for (depth, brackets, error) in [(0, 63, Error::Depth), (126, 64, Error::Depth), (125, 64, Error::Brackets)] {
-        let refused = room.lay_out_with(text, &tables, Direction::Ltr, &[], Limits { depth, brackets });
-        assert_eq!(refused.err(), Some(error));
+        let rejected = room.lay_out_with(text, &tables, Direction::Ltr, &[], Limits { depth, brackets });
+        assert_eq!(rejected.err(), Some(error));
     }
     Ok(())
 }
@@ -226,8 +226,8 @@ fn errors() -> Tested {
         ("abcd", [2, 2], Error::BreakNotRising { index: 1 }),
         ("a\u{5D0}b", [1, 2], Error::BreakInside { index: 1 }),
     ] {
-        let refused = room.lay_out(text, &tables, Direction::Auto, &breaks).err();
-        assert_eq!(refused, Some(error), "{text}");
+        let rejected = room.lay_out(text, &tables, Direction::Auto, &breaks).err();
+        assert_eq!(rejected, Some(error), "{text}");
     }
     assert_eq!(Room::new(16_777_217).err(), Some(Error::TooBig));
     let error: Box<dyn std::error::Error + Send + Sync> = Error::BreakInside { index: 1 }.into();
