@@ -30,19 +30,19 @@ def body_begins(line, indent, is_first):
 def without_bodies(text):
     """Returns a source text, as `rt fmt` lays it out, without the bodies of its functions. What it doesn't recognize as
     a body stays, and so does that of a `const fn`, which a constant may use."""
-    kept, head, end = [], None, None
+    outside, head, end = [], None, None
     for line in text.split("\n"):
         if end is not None:
             end = None if line == end else end
             continue
-        kept.append(line)
+        outside.append(line)
         found = FUNCTION.match(line)
         head = found[1] if found else head
         if head is not None and body_begins(line, head, found):
             head, end = None, f"{head}}}"
         elif line.endswith((";", "{}")):
             head = None
-    return "\n".join(kept)
+    return "\n".join(outside)
 
 
 def without_comments(text):

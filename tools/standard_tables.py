@@ -156,17 +156,17 @@ def array(doc, name, item, items):
 
 def stages(head, item, items):
     """Returns a source file with the values of all code points in two stages; equal blocks are shared."""
-    numbers, kept, seen = [], [], {}
+    numbers, block_values, seen = [], [], {}
     for start in range(0, CODE_POINTS, BLOCK):
         block = tuple(items[start : start + BLOCK])
         if block not in seen:
             seen[block] = len(seen)
-            kept.extend(block)
+            block_values.extend(block)
         numbers.append(str(seen[block]))
     return (
         head
         + array("The number of the block of each 128 code points.", "NUMBERS", "u16", numbers)
-        + array("The values of the blocks.", "VALUES", item, kept)
+        + array("The values of the blocks.", "VALUES", item, block_values)
     )
 
 

@@ -137,9 +137,9 @@ def command(words, folder):
     into = {"stdin": subprocess.DEVNULL, "stdout": subprocess.PIPE, "stderr": subprocess.STDOUT}
     with subprocess.Popen(["rt", *words], cwd=folder, encoding="utf-8", errors="replace", **into) as ran:
         running.add(ran)
-        said, _ = ran.communicate()
+        output, _ = ran.communicate()
         running.discard(ran)
-    return ran.returncode, said
+    return ran.returncode, output
 
 
 def crates_here():
@@ -281,13 +281,13 @@ def parts_of(path):
     return tuple(it.lstrip("+") for it in path if it != "fn")
 
 
-def goals_of(crate, texts, said):
+def goals_of(crate, texts, output):
     """Returns the functions with an open goal of a contract, by path, and one such goal of each; and those of which a
     proof file is rejected for anything else, such as a missing name."""
-    found = re.findall(OPEN.format(crate.name), said, re.M)
+    found = re.findall(OPEN.format(crate.name), output, re.M)
     goals = {parts_of(path.split("::")): goal for path, goal in found if not OF_PROOF.match(goal)}
     lost = set()
-    for folder, error in IN_PROOF.findall(said):
+    for folder, error in IN_PROOF.findall(output):
         stuck = STUCK.match(error)
         if NOT_CHECKED.match(error):
             continue
@@ -295,7 +295,7 @@ def goals_of(crate, texts, said):
             lost.add(parts_of(folder.split("/")))
         elif not OF_PROOF.match(stuck[1]):
             goals.setdefault(parts_of(folder.split("/")), stuck[1])
-    for path, row, goal in NOTED.findall(said):
+    for path, row, goal in NOTED.findall(output):
         function = function_at(crate, path, texts.get(path) or crate.text(path), int(row) - 1)
         if function and not OF_PROOF.match(goal):
             goals.setdefault(function, goal)
@@ -346,34 +346,34 @@ def own_goal(edit, goals, lost):
     return next((goal for path, goal in goals.items() if is_part(path, edit.functions)), None)
 
 
-def unread(crate, edits, texts, said):
+def unread(crate, edits, texts, output):
     """Returns those of the edits for which a check did not come to the prover."""
     at = {function_at(crate, path, texts.get(path) or crate.text(path), int(row) - 1)
-          for path, row in MISREAD.findall(said)}
-    at |= {tuple(path.split("::")) for path in NO_FUNCTION.findall(said)}
+          for path, row in MISREAD.findall(output)}
+    at |= {tuple(path.split("::")) for path in NO_FUNCTION.findall(output)}
     return [it for it in edits if at & it.functions]
 
 
-def try_round(crate, edits, tell):
+def try_round(crate, edits, report):
     """Checks once what these edits change, all of them together, and says which are rejected. Returns the others."""
     texts, _ = applied(crate, [pair for it in edits for pair in it.pairs], {})
     with put_in(crate, texts):
-        status, said = crate.check(words_of(edits))
-    if not re.search(REACHED.format(crate.name), said, re.M):
-        bad = unread(crate, edits, texts, said)
+        status, output = crate.check(words_of(edits))
+    if not re.search(REACHED.format(crate.name), output, re.M):
+        bad = unread(crate, edits, texts, output)
         rest = [it for it in edits if it not in bad]
-        return bad + try_round(crate, rest, tell) if bad and rest else edits
+        return bad + try_round(crate, rest, report) if bad and rest else edits
     if status != 1:
         return edits
-    goals, lost = goals_of(crate, texts, said)
+    goals, lost = goals_of(crate, texts, output)
     changed = set().union(*(it.functions for it in edits))
     for path in sorted({*goals, *lost}):
         if not is_part(path, changed):
-            tell(False, f"{crate.name}: {'::'.join(path)} IS REFUSED, and no edit of its round changes it")
+            report(False, f"{crate.name}: {'::'.join(path)} IS REFUSED, and no edit of its round changes it")
     missed = []
     for it in edits:
         if goal := own_goal(it, goals, lost):
-            tell(True, f"{it.label}: refused (joint): {goal}")
+            report(True, f"{it.label}: refused (joint): {goal}")
         else:
             missed.append(it)
     return missed
@@ -384,13 +384,13 @@ def is_over():
     return time.monotonic() >= ends_at
 
 
-def in_rounds(crate, edits, tell):
+def in_rounds(crate, edits, report):
     """Tries each of these edits once, together with others, while there is time. Returns those that were not
     rejected."""
     missed, left = [], edits
     while left and not is_over():
         chosen = round_of(crate, left)
-        missed += try_round(crate, chosen, tell)
+        missed += try_round(crate, chosen, report)
         left = [it for it in left if it not in chosen]
     return missed + left
 
@@ -400,12 +400,12 @@ def try_alone(crate, edit):
     name = edit.label.partition("/")[2]
     crate.put(f"must-fail/{name}.edit", edit.text)
     try:
-        status, said = command(["must-fail", crate.name], crate.top)
+        status, output = command(["must-fail", crate.name], crate.top)
     finally:
         os.remove(f"{crate.folder}/must-fail/{name}.edit")
-    found = re.findall(rf"^rt: must-fail {re.escape(edit.label)}\.edit: (.*(?:\nsrc/.*)?)", said, re.M)
+    found = re.findall(rf"^rt: must-fail {re.escape(edit.label)}\.edit: (.*(?:\nsrc/.*)?)", output, re.M)
     if len(found) != 1:
-        return False, f"NOT TRIED: {said.strip()[-500:]}"
+        return False, f"NOT TRIED: {output.strip()[-500:]}"
     if status == 0 and found[0].startswith(AS_IT_MUST):
         return True, f"refused (singly): {found[0].removeprefix(AS_IT_MUST)}"
     return False, f"FAILED (singly): {found[0]}"
@@ -415,7 +415,7 @@ def try_edits(crate, files):
     """Tries a crate's edits, prints a line for each, and returns how many passed and how many failed."""
     counts = [0, 0]
 
-    def tell(is_well, text):
+    def report(is_well, text):
         counts[not is_well] += 1
         with printing:
             print(text, flush=True)
@@ -423,24 +423,24 @@ def try_edits(crate, files):
     edits = [read_edit(crate, f"{crate.folder}/{it}") for it in files]
     for it in edits:
         if it.fault:
-            tell(False, f"{it.label}: BAD EDIT: {it.fault}")
+            report(False, f"{it.label}: BAD EDIT: {it.fault}")
     tried = [it for it in edits if not it.fault]
     if is_over():
         untried[crate.name] = len(tried)
         return counts
-    if tried and (said := unproved(crate, tried)):
-        tell(False, f"{crate.name}: NOT JUDGED, since its right code is not proved here: {said.strip()[-500:]}")
+    if tried and (output := unproved(crate, tried)):
+        report(False, f"{crate.name}: NOT JUDGED, since its right code is not proved here: {output.strip()[-500:]}")
         return [counts[0], counts[1] + len(tried)]
     joined = [it for it in tried if it.functions]
-    missed = in_rounds(crate, joined, tell)
+    missed = in_rounds(crate, joined, report)
     if len(missed) < len(joined):
-        missed = in_rounds(crate, missed, tell)
+        missed = in_rounds(crate, missed, report)
     with without(crate, "must-fail"):
         singly = [*missed, *(it for it in tried if not it.functions)]
         while singly and not is_over():
             it = singly.pop(0)
             is_well, text = try_alone(crate, it)
-            tell(is_well, f"{it.label}: {text}")
+            report(is_well, f"{it.label}: {text}")
     if singly:
         untried[crate.name] = len(singly)
     return counts
@@ -449,8 +449,8 @@ def try_edits(crate, files):
 def unproved(crate, edits):
     """Returns what a check says of the right code of a function that one of these edits changes, or of the whole crate
     if they change none; nothing if that is proved."""
-    status, said = crate.check(words_of([it for it in edits if it.functions][:1]))
-    return said if status else ""
+    status, output = crate.check(words_of([it for it in edits if it.functions][:1]))
+    return output if status else ""
 
 
 def names_in(folder):

@@ -183,9 +183,9 @@ def main():
         status, lines = tried(top, GOOD)
         joint = sum(": refused (joint): " in it for it in lines)
         well = [is_as_expected("good edits", lines, status == 0 and joint == 3 and lines[-1] == "3 passed, 0 failed")]
-        for name, (_, _, said) in BAD.items():
+        for name, (_, _, output) in BAD.items():
             status, lines = tried(top, [name])
-            is_well = lines[0].startswith(f"small/{name}: {said}") and lines[-1] == "0 passed, 1 failed"
+            is_well = lines[0].startswith(f"small/{name}: {output}") and lines[-1] == "0 passed, 1 failed"
             well.append(is_as_expected(name, lines, status == 1 and is_well))
         status, lines = tried(top, ["other", "misread", "larger"])
         is_well = status == 1 and lines[-1] == "2 passed, 1 failed"

@@ -40,7 +40,7 @@ MOST = 6
 TRIED = 24
 
 # A row that an engine made, the library's of the same text, and in what the first is wrong, or nothing.
-Held = collections.namedtuple("Held", "row own kind")
+Compared = collections.namedtuple("Compared", "row own kind")
 
 
 class Holder:
@@ -78,10 +78,10 @@ class Holder:
             sys.exit(f"{self.command}: {len(rows)} rows of {len(texts)} texts")
         return rows
 
-    def held(self, texts):
+    def compared(self, texts):
         """The engine's rows of these texts, beside the library's."""
         right = [self.right_row(text) for text in texts]
-        return [Held(row, own, kind_of(row, own)) for row, own in zip(self.rows_of(texts), right)]
+        return [Compared(row, own, kind_of(row, own)) for row, own in zip(self.rows_of(texts), right)]
 
     def check_own(self, right):
         """Ends the run where a row of the library's is wrong, or is none."""
@@ -95,9 +95,9 @@ class Holder:
     def reported(self, file):
         """How many rows `bidi report` finds in a file and how many of them wrong, and what it says."""
         words = ["report", "--kind", "characters", "--tables", self.folder, "--shown", "--most", "0", file]
-        said = subprocess.run([os.environ["BIDI"], *words], stdout=subprocess.PIPE, text=True, check=False).stdout
-        found = re.search(r"^(\d+) rows, (\d+) wrong;", said, re.MULTILINE)
-        return (int(found[1]), int(found[2]), said) if found else (0, 0, said)
+        output = subprocess.run([os.environ["BIDI"], *words], stdout=subprocess.PIPE, text=True, check=False).stdout
+        found = re.search(r"^(\d+) rows, (\d+) wrong;", output, re.MULTILINE)
+        return (int(found[1]), int(found[2]), output) if found else (0, 0, output)
 
 
 def joined(lines):
@@ -153,7 +153,7 @@ def smallest(texts, kind, holder):
     ended, under_way = {}, [(text, max(1, length_of(text) // 2)) for text in texts]
     while under_way:
         tried = [smaller(text, size) for text, size in under_way]
-        found = iter(holder.held([one for some in tried for one in some]))
+        found = iter(holder.compared([one for some in tried for one in some]))
         left = []
         for (text, size), some in zip(under_way, tried):
             good = [one for one in some if next(found).kind == kind]
@@ -167,47 +167,47 @@ def smallest(texts, kind, holder):
     return sorted(ended, key=length_of)
 
 
-def tell_rows(held):
+def print_rows(compared):
     """Prints wrong rows beside the right ones."""
-    for one in held:
+    for one in compared:
         made = without_removed(one.row, one.own) if is_row(one.row) else one.row
         print(f"    {';'.join(one.own[:2])}\n      right {';'.join(one.own[2:])}\n      made  {';'.join(made[2:])}")
 
 
-def tell_kind(kind, found, holder, each):
+def print_kind(kind, found, holder, each):
     """Prints how many rows are wrong in this way, and each of them or some smallest ones."""
     print(f"  {kind}: {len(found)}{'' if each else ', such as'}")
     if each:
-        tell_rows(found)
+        print_rows(found)
         return
     texts = sorted(((one.row[0], one.row[1]) for one in found), key=length_of)
     some = smallest(texts[:: -(-len(texts) // TRIED)], kind, holder)
-    tell_rows(holder.held(some[:MOST]))
+    print_rows(holder.compared(some[:MOST]))
 
 
-def tell(held, holder, each):
+def print_wrong(compared, holder, each):
     """Prints what is wrong."""
     wrong = collections.defaultdict(list)
-    for one in held:
+    for one in compared:
         if one.kind:
             wrong[one.kind].append(one)
     failed = len(wrong[FAILED])
     count = sum(map(len, wrong.values())) - failed
-    print(f"{holder.version()}: {len(held) - failed} rows, {count} wrong; {failed} failed")
+    print(f"{holder.version()}: {len(compared) - failed} rows, {count} wrong; {failed} failed")
     for kind, found in sorted(wrong.items()):
         if found:
-            tell_kind(kind, found, holder, each)
+            print_kind(kind, found, holder, each)
 
 
-def agrees(held, holder, file):
+def agrees(compared, holder, file):
     """Writes the rows that the engine made to a file, and returns whether `bidi report` counts as many wrong ones."""
-    made = [one for one in held if is_row(one.row) and BREAK not in one.row[0]]
+    made = [one for one in compared if is_row(one.row) and BREAK not in one.row[0]]
     pathlib.Path(file).write_text("".join(";".join(one.row) + "\n" for one in made))
     wrong = sum(1 for one in made if one.kind)
-    rows, reported, said = holder.reported(file)
+    rows, reported, output = holder.reported(file)
     if (rows, reported) == (len(made), wrong):
         return True
-    print(f"  {wrong} of {len(made)} rows are wrong, and of {file} bidi report says\n{said}", end="")
+    print(f"  {wrong} of {len(made)} rows are wrong, and of {file} bidi report says\n{output}", end="")
     return False
 
 
@@ -219,10 +219,10 @@ def main():
     folder, file, rows, *command = words
     texts = read_texts(file)
     holder = Holder(folder, command, max(map(length_of, texts)))
-    held = holder.held(texts)
-    holder.check_own([one.own for one in held])
-    tell(held, holder, each)
-    sys.exit(not agrees(held, holder, rows))
+    compared = holder.compared(texts)
+    holder.check_own([one.own for one in compared])
+    print_wrong(compared, holder, each)
+    sys.exit(not agrees(compared, holder, rows))
 
 
 if __name__ == "__main__":

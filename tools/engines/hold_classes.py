@@ -42,8 +42,8 @@ def read_classes(file):
 def classes_of(command):
     """The class that an engine gives each code point, `-` if it takes it for no character."""
     classes = ["-"] * CODES
-    said = subprocess.run([*command, "--classes"], stdout=subprocess.PIPE, text=True, check=True).stdout
-    for line in said.splitlines():
+    output = subprocess.run([*command, "--classes"], stdout=subprocess.PIPE, text=True, check=True).stdout
+    for line in output.splitlines():
         codes, name = line.split(";")
         first, last = (int(code, 16) for code in codes.split(".."))
         classes[first : last + 1] = [name] * (last + 1 - first)
