@@ -97,15 +97,15 @@ fn shows_utf8(rt: HostRuntime) -> Result<(), Fail> {
 /// A bracket, a Hebrew letter, a character of two units, and half of one, and the same as it is shown.
 const UTF16: [u16; 5] = [0x28, 0x5D0, 0xD83D, 0xDE00, 0xD83D];
 
-const UTF16_SHOWN: &[u16] = &[0xD83D, 0xDE00, 0xFFFD, 0x5D0, 0x29];
+const UTF16_SHOWN: [u16; 5] = [0xD83D, 0xDE00, 0xFFFD, 0x5D0, 0x29];
 
-/// Compares the line of this text.
-fn shows_units(rt: &impl Abort, room: &Room, tables: &Tables) {
+/// Compares the line of a text of these code units.
+fn shows_units(rt: &impl Abort, room: &Room, tables: &Tables, units: &[u16], shown: &[u16]) {
     let mut out = [0; 6];
     assert!(rt; room.line_count() == 1);
-    assert!(rt; room.size() == 5);
-    let count = room.shown_utf16(tables, &UTF16, 0, &mut out);
-    assert_eq!(rt; out.get(..count), Some(UTF16_SHOWN));
+    assert!(rt; units.len() == room.size());
+    let count = room.shown_utf16(tables, units, 0, &mut out);
+    assert_eq!(rt; out.get(..count), Some(shown));
 }
 
 #[test]
@@ -114,6 +114,6 @@ fn shows_utf16(rt: HostRuntime) -> Result<(), Fail> {
     let mut room = Room::with_room(rt.alloc(), 5, true)?;
     let text = Source::Utf16(&UTF16, Faults::Replaced);
     lay_out(&mut room, &tables, text, Direction::Rtl, &[])?;
-    shows_units(&rt, &room, &tables);
+    shows_units(&rt, &room, &tables, &UTF16, &UTF16_SHOWN);
     Ok(())
 }
