@@ -12,10 +12,9 @@
  *    (bidi_tables_share makes another handle on the same tables.)
  *  - A handle that is not empty is freed by its call. Otherwise its memory is lost, and nothing worse.
  *  - While a call uses a handle that it does not take as `const`, no other call uses that handle. Otherwise a call
- *    reads what another one writes. Calls that take a handle as `const` only read it, so any number of them may run at
- *    once, in any threads. (In the library such a call takes a reference that may be written through. It is proved that
- *    the handle's contents are unchanged after the call. The code only reads them, so no two calls write the same
- *    memory.)
+ *    reads what another one writes. Any number of calls that take a handle as `const` may run at once, in any threads.
+ *    (It is proved that such a call leaves the handle's contents unchanged. That such calls may run at once is tested,
+ *    not proved: their code writes only the counts of owners of tables, which are atomic.)
  *  - Between calls a handle may move to another thread (`Send` is proved of it) if that thread sees what the first one
  *    did, as after a lock, a start, a join or a sequentially consistent atomic. Otherwise: as above.
  *  - Each pointer points to as many items as its length says, and is aligned for its type. If the length is 0, it may
@@ -57,7 +56,7 @@ typedef struct { void *at; bool made; } bidi_judge;
  * or the length that it names. After BIDI_DONE place and fault are unchanged. */
 enum {
   BIDI_DONE = 0,
-  BIDI_MEMORY = 1,             /* memory was refused */
+  BIDI_MEMORY = 1,             /* an allocation failed */
   BIDI_TOO_BIG = 2,            /* a room for more than 16,777,216 code points or code units */
   BIDI_TOO_LONG = 3,           /* the text is longer than the room */
   BIDI_NO_CHARACTER = 4,       /* place: index of the first code point that is no scalar value */
@@ -118,15 +117,15 @@ enum {
  * before is freed after that. */
 uint32_t bidi_tables_new(const uint8_t *classes, size_t classes_len, const uint8_t *brackets, size_t brackets_len,
                          const uint8_t *mirrors, size_t mirrors_len, bidi_tables *tables, bidi_fault *fault);
-/* bidi_tables_standard makes the tables of the built-in edition of Unicode. They are constants: nothing is read, and
- * memory is taken for the handle alone. bidi_edition writes the number of that edition to `text`, as 17.0.0, if it fits
- * there, with no zero after it. It returns how many bytes the number has. */
+/* bidi_tables_standard puts the tables of the built-in edition of Unicode into a handle. They are constants: nothing is
+ * read, and memory is taken for the handle alone. bidi_edition writes the number of that edition to `text`, as 17.0.0,
+ * if it fits there, with no zero after it. It returns how many bytes the number has. */
 uint32_t bidi_tables_standard(bidi_tables *tables);
 size_t bidi_edition(uint8_t *text, size_t capacity);
 /* Writes the version of the library, as 1.1.0, in the same way. */
 size_t bidi_version(uint8_t *text, size_t capacity);
-/* Makes `shared` another handle on the same tables, which stays valid when `tables` is freed. What it contained before
- * is freed. The tables are freed with the last of their owners: handles, judges and reports. */
+/* Makes `shared` another handle on the same tables, which stays valid when `tables` is freed. What `shared` contained
+ * before is freed. The tables are freed with the last of their owners: handles, judges and reports. */
 uint32_t bidi_tables_share(const bidi_tables *tables, bidi_tables *shared);
 void bidi_tables_free(bidi_tables *tables);
 /* Returns the mirrored character of a code point (L4), or the code point itself if it has none. */
@@ -346,8 +345,8 @@ uint32_t bidi_lay_out_units(bidi_room *room, const bidi_unit *units, size_t n, u
                             size_t break_count, uint64_t *place);
 /* Write the level of each position of the text that was laid out last, in positions of characters, as bidi_levels
  * writes those after L1. bidi_resolved_levels: before L1 (P1 to I2), BIDI_REMOVED if X9 removes the position.
- * bidi_whole_levels: after L1. There a position that X9 removes has the level of the one before it. At the start of a
- * paragraph it has that of the paragraph. So it has if only white space, isolate formatting characters and what X9
+ * bidi_whole_levels: after L1. There a position that X9 removes has the level of the one before it, but in two cases
+ * that of its paragraph: at the paragraph's start, and if only white space, isolate formatting characters and what X9
  * removes come between it and the next separator or the text's end. */
 size_t bidi_resolved_levels(const bidi_room *room, uint8_t *levels, size_t capacity);
 size_t bidi_whole_levels(const bidi_room *room, uint8_t *levels, size_t capacity);
