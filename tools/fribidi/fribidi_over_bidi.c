@@ -24,7 +24,8 @@ static const FriBidiCharType types_of_classes[CLASSES] = {
   [RLI] = FRIBIDI_TYPE_RLI, [FSI] = FRIBIDI_TYPE_FSI, [PDI] = FRIBIDI_TYPE_PDI,
 };
 
-/* The class of FriBidi's type; ON for types of an application's own. No two types have one slot. */
+/* The class of FriBidi's type; ON for types of an application's own, as 0 is. No two types have one slot, and the slot
+ * of 0 is that of another type. */
 #define SLOT(TYPE) ((uint32_t)(TYPE) * 22696005u >> 26)
 #define TYPE_OF(NUMBER, TYPE) [SLOT(FRIBIDI_TYPE_##TYPE##_VAL)] = { FRIBIDI_TYPE_##TYPE##_VAL, NUMBER }
 static const struct { uint32_t type; uint8_t number; } slots[64] = {
@@ -36,7 +37,7 @@ static const struct { uint32_t type; uint8_t number; } slots[64] = {
 
 static inline uint8_t class_of(FriBidiCharType type) {
   uint32_t number = type, slot = SLOT(number);
-  return number && slots[slot].type == number ? slots[slot].number : ON;
+  return slots[slot].type == number ? slots[slot].number : ON;
 }
 
 /* A character and its bracket type. */
@@ -61,7 +62,7 @@ enum { LEAST_CAPACITY = 256, KEPT_CAPACITY = 65536 };
 static pthread_once_t once = PTHREAD_ONCE_INIT;
 static pthread_key_t key;
 static int no_key;
-static __thread state *own;
+static __thread state *own __attribute__((tls_model("initial-exec"))); /* found without a call */
 
 static void free_columns(state *s) {
   bidi_room_free(&s->room);
@@ -206,9 +207,12 @@ static bool find_level_in(const uint8_t *classes, size_t n, uint8_t *level) {
   return *level == if_rtl;
 }
 
-/* Does the same for all of them. If the first ones say the level, the others don't count. */
+/* Does the same for all of them. If the first ones say the level, the others don't count. Most texts begin with a
+ * letter. */
 static bool find_level(const uint8_t *classes, size_t n, uint8_t *level) {
-  return (n > 32 && find_level_in(classes, 32, level)) || find_level_in(classes, n, level);
+  for (size_t first = 8; first < n; first *= 8)
+    if (find_level_in(classes, first, level)) return true;
+  return find_level_in(classes, n, level);
 }
 
 SHOW FriBidiParType fribidi_get_par_direction(const FriBidiCharType *types, const FriBidiStrIndex len) {
@@ -232,15 +236,18 @@ static bool lay_out(state *s, const FriBidiCharType *types, const FriBidiBracket
   uint8_t base = FRIBIDI_DIR_TO_LEVEL(*direction), found;
   uint32_t masks = 0;
   uint64_t place;
+  uint8_t *classes = s->classes;
+  bidi_unit *units = s->units;
   for (size_t i = 0; i < n; i++) {
     masks |= types[i];
-    s->classes[i] = class_of(types[i]);
-    s->units[i] = (bidi_unit){ .class_number = s->classes[i] };
-    if (brackets && brackets[i] != FRIBIDI_NO_BRACKET) {
-      s->units[i].bracket = FRIBIDI_IS_BRACKET_OPEN(brackets[i]) ? BIDI_OPENING : BIDI_CLOSING;
-      s->units[i].key = FRIBIDI_BRACKET_ID(brackets[i]);
-    }
+    classes[i] = class_of(types[i]);
+    units[i] = (bidi_unit){ .class_number = classes[i] };
   }
+  for (size_t i = 0; brackets && i < n; i++)
+    if (brackets[i] != FRIBIDI_NO_BRACKET) {
+      units[i].bracket = FRIBIDI_IS_BRACKET_OPEN(brackets[i]) ? BIDI_OPENING : BIDI_CLOSING;
+      units[i].key = FRIBIDI_BRACKET_ID(brackets[i]);
+    }
   if (!FRIBIDI_IS_STRONG(*direction) && find_level(s->classes, n, &found)) {
     base = found;
     *direction = direction_of(base);
@@ -313,8 +320,8 @@ SHOW FriBidiLevel fribidi_reorder_line(FriBidiFlags flags, const FriBidiCharType
     tail--;
   for (FriBidiStrIndex i = tail; i < len; i++) s->classes[i] = class_of(types[off + i]);
   uint8_t *line = (uint8_t *)levels + off;
-  bool made = !bidi_reset_levels(s->classes + tail, len - tail, FRIBIDI_DIR_TO_LEVEL(base_dir), line + tail,
-                                 len - tail, &place) &&
+  bool made = (tail == len || !bidi_reset_levels(s->classes + tail, len - tail, FRIBIDI_DIR_TO_LEVEL(base_dir),
+                                                 line + tail, len - tail, &place)) &&
               !bidi_reorder(line, len, s->order, len, &place);
   if (made) {
     if (flags & FRIBIDI_FLAG_REORDER_NSM) reorder_marks(types, off, off + len, levels, str, map);
