@@ -3,8 +3,8 @@
 
 usage: tools/bench_texts.py FOLDER
 
-The ordinary ones have about 1,000 characters, one of them ten times as many, and two of them one. The others are hard
-for an engine that searches back and forth; their names say how many characters they have.
+The ordinary ones have about 1,000 characters, one of them ten times as many, three of them 20, and two of them one. The
+others are hard for an engine that searches back and forth; their names say how many characters they have.
 """
 import os
 import random
@@ -20,6 +20,9 @@ HEBREW_WITH_VOWELS = 'שָׁלוֹם לְכֻלָּם, בּוֹאוּ וְנִק
 ARABIC_TEXT = 'كتبت كتب كثيرة في سنة ١٩٩٨ عن هذا الموضوع، وكذلك مقالات قصيرة. '
 CODE = 'for (let i = 0; i < rows[n].length; i++) { call(rows[n][i], "אב", f(x)); } '
 PERSIAN = 'کتاب‌ها و نامه‌هایی که می‌نویسیم؛ در سال ۱۳۹۹ (یا 2020) خوانده می‌شوند و نمی‌مانند. '
+
+HEBREW_20 = 'ספרים רבים (2) נכתבו'
+MIXED_20 = 'a paper (אבן) 12 בית'
 
 ZWJ = '\u200d'
 RLE, PDF, RLO = '\u202b', '\u202c', '\u202e'
@@ -86,6 +89,9 @@ def ordinary_texts():
         'code': filled(1000, CODE),
         'alternating': filled(1000, BOTH_DIRECTIONS),
         'mixed_10000': mixed(10000),
+        'english_20': ENGLISH[:20],
+        'hebrew_20': HEBREW_20,
+        'mixed_20': MIXED_20,
         'one_latin': 'a',
         'one_hebrew': '\u05d0',
     }

@@ -4,7 +4,8 @@
 # on each run. For hostile texts it measures the time, which is not. Each text is one paragraph and one line, in
 # direction auto. Between these it prints what it takes to break a text into lines of 80 again and to copy each line's
 # order, to lay out each of these lines alone, and to lay out texts in UTF-8 and UTF-16, with what a code unit takes
-# above the library's call on code points. Tables and rooms are made once, and only the calls on them are counted. In
+# above the library's call on code points. Then it prints what FriBidi's calls take after the first ones, with
+# libfribidi_over_bidi.so and with FriBidi. Tables and rooms are made once, and only the calls on them are counted. In
 # the columns of the C library levels and order are also copied out.
 #
 # usage: tools/beside_others.sh [FOLDER]      (FOLDER, with the property files: /usr/share/unicode)
@@ -51,6 +52,10 @@ build() {
 build lay_out_bidi_c "$library" "$heap"
 build lay_out_icu -licuuc
 build lay_out_fribidi -lfribidi
+if "$tools/fribidi/build.sh" "$work"; then
+    gcc -O2 -I/usr/include/fribidi -o "$work/lay_out_over_bidi" "$tools/beside/lay_out_fribidi.c" \
+        "$work/libfribidi_over_bidi.so" -lfribidi "-Wl,-rpath,$work"
+fi
 build break_bidi_c "$library" "$heap"
 build break_icu -licuuc
 build break_fribidi -lfribidi
@@ -100,6 +105,26 @@ each_of() {
     local all
     all=$(all_of "$1" "$2")
     [ "$all" != - ] && echo "$(((all + 10 * $3) / (21 * $3)))" || echo -
+}
+
+# later_of NAME TEXT: prints the instructions of one call of an engine's program after the first ones, or `-`.
+later_of() {
+    [ -x "$work/$1" ] || { echo -; return; }
+    local few more
+    few=$(instructions --toggle-collect=lay_out_once "$work/$1" "$2" 10)
+    more=$(instructions --toggle-collect=lay_out_once "$work/$1" "$2" 30)
+    echo $(((more - few) / 20))
+}
+
+# calls_row NAME CHARACTERS OVER FRIBIDI, the last two of which may be `-`: prints a line of the table of FriBidi's
+# calls.
+calls_row() {
+    awk -v name="$1" -v characters="$2" -v over="$3" -v fribidi="$4" '
+        function each(all) { return all == "-" ? "-" : sprintf("%.0f", all / characters) }
+        BEGIN {
+            ratio = over == "-" || fribidi == "-" ? "-" : sprintf("%.2f", over / fribidi)
+            printf "%-18s %10s %10s %8s\n", name, each(over), each(fribidi), ratio
+        }'
 }
 
 # time_of WORD..: prints the nanoseconds that a program takes for a character, or `-` if it is missing or out of time.
@@ -171,6 +196,12 @@ for name in ${ordinary%% one_*}; do
     text=$work/texts/$name.txt
     encoded_row "$name" "$(characters_of "$text")" "$(units_of utf-16-le "$text")" "$(all_of lay_out_bidi_c "$text")" \
         "$(all_of utf16_bidi_c "$text")" "$(all_of lay_out_icu "$text")" -
+done
+printf '%-18s %10s %10s %8s\n' "FriBidi's calls" "over ours" "FriBidi" "ratio"
+for name in english hebrew mixed english_20 hebrew_20 mixed_20; do
+    text=$work/texts/$name.txt
+    calls_row "$name" "$(characters_of "$text")" "$(later_of lay_out_over_bidi "$text")" \
+        "$(later_of lay_out_fribidi "$text")"
 done
 # shellcheck disable=SC2059
 printf "$head" "ns" "ours" "from C" "ICU" "FriBidi" "to ICU" "C to ICU"
