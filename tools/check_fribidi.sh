@@ -86,6 +86,8 @@ if command -v fribidi > /dev/null; then
     same 'the command fribidi' fribidi --nopad
     same 'the command fribidi, right-to-left' fribidi --nopad --rtl --levels --ltov --vtol
     same 'the command fribidi, without marks' fribidi --nopad --clean --nobreak
+    levels=$(echo '[ا］א' | LD_PRELOAD=$shared fribidi --ltr --novisual --levels)
+    [ "${levels% }" = '0 1 1 1' ] || { echo "the levels that docs/FRIBIDI.md shows: $levels"; wrong=1; }
 else
     echo "no command fribidi (libfribidi-bin): it is left out"
 fi
