@@ -1,5 +1,5 @@
-//! Finds the library libbidi_c: in the folder that BIDI_LIB_DIR names in full, or else the one that pkg-config names. It
-//! links the archives if the folder has them, or else the shared object; BIDI_LINK, `static` or `shared`, chooses one.
+//! Finds the library libbidi_c: in the folder that BIDI_LIB_DIR names in full, or else the one that pkg-config names.
+//! It links the archives if the folder has them, or else the shared object; BIDI_LINK, `static` or `shared`, chooses.
 use std::env;
 use std::path::{Path, PathBuf};
 use std::process::Command;
