@@ -172,6 +172,9 @@ else
 fi
 if command -v valgrind > /dev/null; then
     all valgrind valgrind -q --leak-check=full --error-exitcode=9
+    # Unlike the sanitizer of threads below, it sees what the library itself reads and writes.
+    expect "threads, helgrind" "$here/threads.out" valgrind -q --tool=helgrind --error-exitcode=9 "$work/threads" \
+        "$here/ucd"
 else
     echo "no valgrind: nothing is run under it"
 fi

@@ -90,6 +90,19 @@ typedef struct {
   size_t wrong;
 } reader;
 
+/* Looks up characters by shared tables, and what else a shared room has of the text with the number 0. */
+static size_t look_up(const bidi_tables *tables, const bidi_room *room, const answer *found) {
+  uint8_t number, levels[LENGTH];
+  size_t order[LENGTH], wrong = bidi_mirror(tables, '(') != ')' || bidi_paired_bracket(tables, '(') != ')';
+  wrong += bidi_class(tables, 0x5D0, &number) || number != 1;
+  wrong += bidi_bracket(tables, ')', &number) || number != BIDI_CLOSING;
+  wrong += bidi_order(room, 0, order, LENGTH) != found->shown_count;
+  wrong += bidi_places(room, 0, order, LENGTH) != found->levels_count;
+  wrong += bidi_whole_levels(room, levels, LENGTH) != found->levels_count;
+  wrong += bidi_resolved_levels(room, levels, LENGTH) != found->levels_count;
+  return wrong;
+}
+
 /* The room that all readers read holds the text with the number 0. */
 static void *read_shared(void *passed) {
   reader *self = passed;
@@ -104,6 +117,7 @@ static void *read_shared(void *passed) {
     self->wrong += memcmp(&found, &expected[0], sizeof found) != 0;
     self->wrong += bidi_line_count(room) != 1 || bidi_line(room, 0, &line) || line.shown != found.shown_count;
     self->wrong += bidi_run(room, 0, 0, &run) || bidi_runs(room, 0, NULL, 0) == 0;
+    self->wrong += look_up(self->tables, room, &found) + (round % 100 == 0 && !judges_right(self->tables));
     self->wrong += !lays_out(&self->own, self->tables, number, &own) || memcmp(&own, &expected[number], sizeof own);
     self->wrong += bidi_tables_share(self->tables, &shared) || bidi_mirror(&shared, '(') != ')';
     bidi_tables_free(&shared);

@@ -28,7 +28,7 @@ trap 'rm -r "$work"' EXIT
 echo '{ global: fribidi_*; local: *; };' > "$work/names.map"
 gcc -O3 -funroll-loops -march=x86-64-v2 -Wall -Wextra -fPIC -fvisibility=hidden -I"$headers" -I"$here/../c" -shared \
     -pthread -o "$work/shared" "$here/fribidi_over_bidi.c" "${linked[@]}" -Wl,-soname,libfribidi_over_bidi.so \
-    -Wl,--version-script="$work/names.map" -Wl,-z,defs,-z,relro,-z,now,-z,noexecstack,--gc-sections || exit 1
+    -Wl,--version-script="$work/names.map" -Wl,-z,defs,-z,relro,-z,now,-z,noexecstack,-z,nodelete,--gc-sections || exit 1
 shared=${1:-$out}/libfribidi_over_bidi.so
 mv "$work/shared" "$shared" && chmod 755 "$shared" || exit 1
 [ $# -gt 0 ] || sha256sum < "$library" > "$shared.of"

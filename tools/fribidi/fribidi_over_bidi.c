@@ -137,11 +137,13 @@ static inline void end(state *s) {
 }
 
 SHOW void fribidi_get_bidi_types(const FriBidiChar *str, const FriBidiStrIndex len, FriBidiCharType *types) {
-  state *s = len > 0 ? state_for(len) : NULL;
+  enum { PIECE = 1024 }; /* at a value that is no character, bidi_classes reads the rest of a piece once more */
+  state *s = len > 0 ? state_for(len < PIECE ? len : PIECE) : NULL;
   for (FriBidiStrIndex done = 0; done < len;) {
     uint64_t place = 0;
-    size_t n = len - done;
+    size_t n = len - done < PIECE ? len - done : PIECE;
     uint32_t status = s ? bidi_classes(&s->tables, str + done, n, s->classes, n, s->brackets, n, &place) : BIDI_MEMORY;
+    bool whole = status == BIDI_DONE;
     if (status == BIDI_NO_CHARACTER) {
       n = place;
       status = bidi_classes(&s->tables, str + done, n, s->classes, n, s->brackets, n, &place);
@@ -149,9 +151,8 @@ SHOW void fribidi_get_bidi_types(const FriBidiChar *str, const FriBidiStrIndex l
     if (status) n = 0;
     for (size_t i = 0; i < n; i++) types[done + i] = types_of_classes[s->classes[i]];
     done += n;
-    if (done < len) types[done++] = FRIBIDI_TYPE_LTR; /* as FriBidi has it of what is no character */
+    if (!whole) types[done++] = FRIBIDI_TYPE_LTR; /* as FriBidi has it of what is no character */
   }
-  if (s) end(s);
 }
 
 SHOW FriBidiCharType fribidi_get_bidi_type(FriBidiChar ch) {
@@ -354,7 +355,9 @@ SHOW FriBidiStrIndex fribidi_remove_bidi_marks(FriBidiChar *str, const FriBidiSt
   if (!s) return -1;
   if (to_this && !from_this) {
     inverse = s->map;
-    for (FriBidiStrIndex i = 0; i < len; i++) inverse[to_this[i]] = i;
+    for (FriBidiStrIndex i = 0; i < len; i++) inverse[i] = -1;
+    for (FriBidiStrIndex i = 0; i < len; i++)
+      if (to_this[i] >= 0 && to_this[i] < len) inverse[to_this[i]] = i;
   }
   for (FriBidiStrIndex i = 0; i < len; i++)
     if (!is_mark(str[i])) {
@@ -365,7 +368,8 @@ SHOW FriBidiStrIndex fribidi_remove_bidi_marks(FriBidiChar *str, const FriBidiSt
     }
   if (to_this) {
     for (FriBidiStrIndex i = 0; i < len; i++) to_this[i] = -1;
-    for (FriBidiStrIndex i = 0; i < kept; i++) to_this[inverse[i]] = i;
+    for (FriBidiStrIndex i = 0; i < kept; i++)
+      if (inverse[i] >= 0 && inverse[i] < len) to_this[inverse[i]] = i;
   }
   end(s);
   return kept;

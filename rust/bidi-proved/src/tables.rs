@@ -5,7 +5,8 @@ use crate::numbers::{Bracket, Class, Direction, Level};
 
 /// The classes, brackets and mirrored characters of one edition of Unicode.
 ///
-/// Any number of threads use them at once. [`share`](Tables::share) returns the same tables with a lifetime of their own.
+/// Any number of threads use them at once. [`share`](Tables::share) returns the same tables with a lifetime of their
+/// own.
 #[derive(Debug)]
 pub struct Tables {
     handle: ffi::bidi_tables,
