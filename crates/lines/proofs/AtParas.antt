@@ -1,4 +1,4 @@
--- Paragraphs that stay at their levels make a text that does.
+-- A text keeps the levels of its paragraphs if each of these keeps its level.
 use Rattle.std.specs.Prelude.{Option, None, Some, ℕ, zero, suc, ◌+◌, ◌-◌, ◌<◌, ◌≡◌, true, false, List, [], ◌∷◌, ◌++◌, length, map, take, count_by, refl}
 use Rattle.std.specs.List.{All, flat_map, list_all}
 use Rattle.std.proofs.Common.{arith, ap, sym, ◌∙◌, cond, get_or, inl, inr}
@@ -31,7 +31,7 @@ zero_more n = omega arith
 count-other : (u : BidiUnit) (cs : List Class) → is_separator u.class ≡ false → count_by is_separator (u.class ∷ cs) ≡ count_by is_separator cs
 count-other u cs plain = count-cons u.class cs ∙ ap (λ b. cond b 1 0 + count_by is_separator cs) plain ∙ zero_more (count_by is_separator cs)
 
--- no separator stands before a position of a paragraph
+-- no separator is before a position of a paragraph
 none_before : (us : List BidiUnit) (p : ℕ) → SeparatorOnlyLast us → p < length us → count_by is_separator (take p (classes_of us)) ≡ 0
 none_before [] p only lt = absurd (omega arith)
 none_before (u ∷ us) zero only lt = refl
@@ -39,14 +39,14 @@ none_before (u ∷ []) (suc p) only lt = absurd (omega arith)
 none_before (u ∷ v ∷ us) (suc p) only lt =
     count-other u (take p (classes_of (v ∷ us))) only.0 ∙ none_before (v ∷ us) p only.1 (omega arith)
 
--- one is in it, where another follows
+-- the paragraph has one separator, if another paragraph follows
 one_within : (us : List BidiUnit) → SeparatorOnlyLast us → EndsWithSeparator us → count_by is_separator (classes_of us) ≡ 1
 one_within [] only ends = absurd ends
 one_within (u ∷ []) only ends = count-cons u.class [] ∙ ap (λ b. cond b 1 0 + 0) ends
 one_within (u ∷ v ∷ us) only ends =
     count-other u (classes_of (v ∷ us)) only.0 ∙ one_within (v ∷ us) only.1 ends
 
--- the paragraph stays at its level
+-- each remaining position of the paragraph has its level
 abbrev pub Stays : LimitsOf → Direction → List BidiUnit → Type 0
 Stays limits direction us = StaysAt (para_level direction us) (para_levels limits direction us)
 
@@ -89,7 +89,7 @@ module _ (limits : LimitsOf) (direction : Direction) where
             same ∙ sym (ap (λ i. get_or (para_level direction us ∷ paras) i 0) more)
       ]
 
-  -- where each paragraph stays at its level, the text does
+  -- if each paragraph keeps its level, each position of the text has the level of its paragraph
   pub text_at_paras : (text : List BidiUnit) → All (Stays limits direction) (paragraphs_of text) → AreAtParas (classes_of text) (para_levels_of text direction) (text_levels limits text direction)
   text_at_paras text all = record {
     same = λ p v e.
@@ -97,7 +97,7 @@ module _ (limits : LimitsOf) (direction : Direction) where
         ∙ ap (λ (us : List BidiUnit). para_level_at (classes_of us) (para_levels_of text direction) p) (joined-paragraphs_of text);
   }
 
-  -- paragraphs that keep their levels stay at them
+  -- paragraphs that keep their levels have them at each remaining position
   pub all_stay : (pieces : List (List BidiUnit)) → list_all (keeps_own_level direction) pieces ≡ true → All (Stays limits direction) pieces
   all_stay [] keeps = All-nil (Stays limits direction)
   all_stay (us ∷ pieces) keeps = grind (arith, and_parts, kept_stays, levels_are_kept, all_stay pieces)

@@ -1,4 +1,4 @@
--- How many paragraphs begin before a position.
+-- The number of paragraphs that begin before a position.
 use Rattle.std.proofs.Common.{◌≡◌, ℕ, ◌+◌, ◌-◌, ◌<◌, ◌≤◌, Bool, true, List, length, take, zero, suc, refl, sym, ap, inl, inr, arith}
 use Rattle.std.specs.Prelude.{count_by, slice_index}
 use Rattle.std.proofs.lemmas.Bool.{cases_lt}
@@ -11,16 +11,16 @@ use Rattle.lines.proofs.ParagraphFound.{counted_paragraphs}
 use Rattle.lines.proofs.TextEnd.{counted_step}
 use Rattle.lines.proofs.Unsegmented.{at_most_one, counted_up_to}
 
--- the first one, and one behind each separator before the last of the positions that stand before it
+-- the first one, and one after each separator before the position, without a separator directly before it
 abbrev pub begun : List Class → ℕ → ℕ
 begun own zero = 0
 begun own (suc p) = count_by is_separator (take p own) + 1
 
--- before the first position none does
+-- before the first position none begins
 pub begun_none : (own : List Class) (position : ℕ) → position ≡ 0 → begun own position ≡ 0
 begun_none own position e = ap (begun own) e
 
--- one position lower at most one less begins
+-- one position lower, at most one less begins
 pub begun_step : (own : List Class) (position : ℕ) → 0 < position → position ≤ length own → begun own position ≤ begun own (position - 1) + 1
 begun_step own zero some h = absurd (omega arith)
 begun_step own (suc zero) some h =
@@ -35,7 +35,8 @@ begun_step own (suc (suc p)) some h =
     let b : Bool = is_separator (class_at own p) in
     omega (arith, here, lower, same, counted_step own p b (omega arith) refl, at_most_one b)
 
--- the paragraph with this number is not the first of those that begin before a position behind its start, or there
+-- if the paragraph with this number begins at a position or before it, at least this number of paragraphs begin before
+-- the position
 begun_number : (own : List Class) (ends : List ℕ) (k q : ℕ) → AreParagraphEnds own ends (length own) → k < length ends → paragraph_start ends k ≤ q → q ≤ length own → k ≤ begun own q
 begun_number own ends zero q a few le h = omega arith
 begun_number own ends (suc k) zero a few le h =
@@ -59,7 +60,7 @@ begun_number own ends (suc k) (suc q) a few le h =
     let here : begun own (suc q) ≡ count_by is_separator (take q own) + 1 = refl in
     omega (arith, all, same, step, here, counted_up_to own (start - 1) q (omega (arith, some, low)) (omega (arith, h)))
 
--- from a position that ends no paragraph to one in its paragraph at most one less begins
+-- from a position that ends no paragraph back to one in the same paragraph, at most one less begins
 pub begun_over : (text : List BidiUnit) (ends : List ℕ) (position number q : ℕ) → AreAllParagraphEnds text ends → number < length ends → 0 < position → q ≤ length text
     → number ≡ count_by is_separator (take (position - 1) (classes_of text)) → paragraph_start ends number ≤ q → begun (classes_of text) position ≤ begun (classes_of text) q + 1
 begun_over text ends zero number q a few some to n le = absurd (omega arith)
@@ -72,7 +73,7 @@ begun_over text ends (suc p) number q a few some to n le =
     let here : begun own (suc p) ≡ count_by is_separator (take p own) + 1 = refl in
     omega (arith, n, same, here, begun_number own ends number q all few le (omega (arith, len, to)))
 
--- before the end of the text all of them begin
+-- all paragraphs begin before the end of the text
 pub begun_all : (text : List BidiUnit) (ends : List ℕ) → AreAllParagraphEnds text ends → length ends ≤ begun (classes_of text) (length text)
 begun_all text ends a =
     elim (cases_lt 0 (length ends)) [

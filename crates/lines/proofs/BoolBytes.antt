@@ -1,4 +1,4 @@
--- A truth value as a byte: 1 where it is true, and else 0.
+-- A truth value as a byte: 1 if it is true, else 0.
 use Rattle.std.proofs.Common.{◌≡◌, ◌≤◌, Bool, true, false, cond, arith, refl}
 use mir.Val.{bool_byte}
 

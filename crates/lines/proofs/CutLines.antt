@@ -1,11 +1,11 @@
--- A text that is cut at the positions that pass a test, line by line.
+-- A text that is divided at the positions that pass a test, line by line.
 use Rattle.std.proofs.Common.{◌≡◌, ℕ, ◌+◌, ◌-◌, ◌<◌, ◌≤◌, Bool, true, false, cond, Option, List, [], ◌∷◌, zero, suc, ap, ◌∙◌, arith}
 use Rattle.std.specs.Prelude.{filter}
 use Rattle.units.specs.Layout.{LineLayout, line_of, lines_from}
 use Rattle.units.specs.Positions.{positions_from}
 use Rattle.lines.specs.LineEnds.{EndsLineAt}
 
--- the lines of the last count positions
+-- the lines of the last `count` positions
 abbrev pub lines_left : List (Option ℕ) → (ℕ → Bool) → ℕ → ℕ → ℕ → List LineLayout
 lines_left levels test start end zero = []
 lines_left levels test start end (suc count) = lines_from levels start (filter test (positions_from (start + 1) count)) end
@@ -25,7 +25,7 @@ cut_rest : (levels : List (Option ℕ)) (test : ℕ → Bool) (start end stop re
 cut_rest levels test start end stop zero e here = grind arith
 cut_rest levels test start end stop (suc rest) e here = grind arith
 
--- the next line, and what is left behind it
+-- the next line, and the lines after it
 pub lines_left-next : (levels : List (Option ℕ)) (test : ℕ → Bool) (start end stop : ℕ) → EndsLineAt test start end stop → lines_left levels test start stop (stop - start) ≡ line_of levels start end ∷ lines_left levels test end stop (stop - end)
 lines_left-next levels test start end stop c =
     let between = end - (start + 1) in

@@ -1,4 +1,4 @@
--- Positions at their paragraph's level are not moved by L1.
+-- L1 changes no position that has the level of its paragraph.
 use Rattle.std.proofs.Common.{◌≡◌, ℕ, ◌<◌, Bool, true, false, cond, Option, None, Some, List, length, get_or, refl, sym, ap, ◌∙◌, arith}
 use Rattle.std.proofs.lemmas.List.{ext_get_or}
 use Rattle.units.specs.declared.class.Class.{Class}

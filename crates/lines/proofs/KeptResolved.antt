@@ -1,7 +1,7 @@
--- What is kept of a text for the next breaks.
+-- The resolved levels of a text, stored for the next breaks.
 use Rattle.std.specs.Prelude.{ℕ, ◌≡◌, Bool, true, false, if◌then◌else◌, IsTrue, Option, List, take, refl}
 
--- the resolved levels stay, where levels of a uniform text do
+-- the resolved levels are unchanged, if the levels of a uniform text are
 pub resolved_stay : (uniform : Bool) (n : ℕ) (resolved before after : List (Option ℕ)) → (IsTrue uniform → take n after ≡ take n before) →
     take n (if uniform then after else resolved) ≡ take n (if uniform then before else resolved)
 resolved_stay true n resolved before after same = same refl

@@ -1,4 +1,4 @@
--- L1 of one line alone: what stands before it and behind it in the text changes none of its levels.
+-- L1 of one line alone: the text before and after the line changes none of its levels.
 use Rattle.std.proofs.Common.{◌≡◌, ℕ, ◌+◌, ◌-◌, ◌<◌, ◌≤◌, Bool, true, false, cond, Option, None, List, [], ◌∷◌, length, take, get_or, zero, suc, refl, sym, ap, ◌∙◌, arith}
 use Rattle.std.specs.Prelude.{◌||◌, ◌&&◌, count_by, slice_range}
 use Rattle.std.proofs.lemmas.List.Sums.{count_by_more_no}
@@ -22,7 +22,7 @@ use Rattle.units.specs.declared.bracket.Unit.{Unit as BidiUnit}
 use Rattle.explicit.proofs.Holders.Roles.{class_read}
 use Rattle.lines.proofs.Separators.{length-begin_with, length-paragraphs}
 
--- the line from start up to end is one of the text
+-- the text has this line from start up to end
 abbrev pub IsLineOf : List Class → List ℕ → ℕ → ℕ → Type 0
 IsLineOf own at start end = EndsLineAt (begins_line own at) start end (length own)
 
@@ -30,7 +30,7 @@ from_end : (own : List Class) (at : List ℕ) (p : ℕ) → length own ≤ p →
 from_end own at p h =
     let e : length own - p ≡ 0 = omega arith in ap (λ n. unwrap_or (first_from (begins_line own at) p n) (length own)) e
 
--- the line ends at the end for each position behind its start
+-- from each position after its start, the line ends at its end
 line_from_within : (own : List Class) (at : List ℕ) (start end d p : ℕ) → IsLineOf own at start end → start < p → p + d ≡ end → line_from own at p ≡ end
 line_from_within own at start end zero p l above there = grind (arith, line_from-step, from_end)
 line_from_within own at start end (suc d) p l above there =
@@ -58,7 +58,7 @@ or_none : (a : Bool) → a ≡ false → (a || false) ≡ false
 or_none false h = refl
 or_none true h = cc
 
--- no separator stands in the line but in last place
+-- a line has no separator, except in last place
 plain_within : (own line : List Class) (at : List ℕ) (start end j : ℕ) → IsLineOf own at start end → AreFrom own start line → length line ≡ end - start → j + 1 < length line → is_separator (class_at line j) ≡ false
 plain_within own line at start end j l same len low =
     let e : start + j + 1 - 1 ≡ start + j = omega arith in
@@ -68,7 +68,7 @@ plain_within own line at start end j l same len low =
     ∙ ap (λ q. is_separator (class_at own q)) (sym e)
     ∙ first_of (is_separator (class_at own (start + j + 1 - 1))) (is_break at (start + j + 1)) none
 
--- by itself it is one line
+-- the line alone is one line
 pub line_by_itself : (own line : List Class) (at : List ℕ) (start end : ℕ) → IsLineOf own at start end → AreFrom own start line → length line ≡ end - start → IsLineOf line [] 0 (length line)
 line_by_itself own line at start end l same len =
     let above = l.above in
@@ -82,7 +82,7 @@ line_by_itself own line at start end l same len =
       here = λ h. absurd (omega arith);
     }
 
--- each position of the line is reset by itself where it is in the text
+-- a position of the line alone is reset exactly if it is reset in the text
 pub is_reset_alone : (own line : List Class) (at : List ℕ) (start end k : ℕ) → IsLineOf own at start end → AreFrom own start line → length line ≡ end - start → k < length line → is_reset own at (start + k) ≡ is_reset line [] k
 is_reset_alone own line at start end k l same len low =
     let above = l.above in
@@ -103,7 +103,7 @@ is_reset_alone own line at start end k l same len low =
     ∙ ap (λ c. resets_before c (resets_in line [] (k + 1)) && may_reset c) (same k low)
     ∙ sym (is_reset-is line [] k)
 
--- up to each of its positions as many separators stand as before it
+-- the same number of separators is before each of its positions
 count_alone : (own line : List Class) (at : List ℕ) (start end k : ℕ) → IsLineOf own at start end → AreFrom own start line → length line ≡ end - start → k < length line → count_by is_separator (take (start + k) own) ≡ count_by is_separator (take start own)
 count_alone own line at start end zero l same len low =
     let e : start + zero ≡ start = omega arith in ap (λ n. count_by is_separator (take n own)) e
@@ -119,7 +119,7 @@ count_alone own line at start end (suc k) l same len low =
 itself : (line : List Class) → AreFrom line 0 line
 itself line = λ j low. let e : 0 + j ≡ j = omega arith in ap (class_at line) e
 
--- all its positions lie in the paragraph of its first one
+-- the paragraph of its first position has all its positions
 pub para_alone : (own line : List Class) (at paras : List ℕ) (start end k : ℕ) → IsLineOf own at start end → AreFrom own start line → length line ≡ end - start → k < length line → para_level_at own paras (start + k) ≡ para_level_at line (para_level_at own paras start ∷ []) k
 para_alone own line at paras start end k l same len low =
     let value : ℕ = para_level_at own paras start in
@@ -131,7 +131,7 @@ para_alone own line at paras start end k l same len low =
     ap (λ n. get_or paras n 0) (count_alone own line at start end k l same len low)
     ∙ sym (ap (λ n. get_or (value ∷ []) n 0) none)
 
--- L1 of a line alone is that of the text, taken at its positions
+-- L1 of a line alone is L1 of the text at the positions of the line
 pub reset_alone : (own line : List Class) (at paras : List ℕ) (levels part : List (Option ℕ)) (start end : ℕ) → IsLineOf own at start end → AreFrom own start line → length line ≡ end - start → length levels ≡ length own → length part ≡ length line → ((j : ℕ) → j < length line → get_or levels (start + j) None ≡ get_or part j None) → (k : ℕ) → k < length line → get_or (after_resets own at paras levels) (start + k) None ≡ get_or (after_resets line [] (para_level_at own paras start ∷ []) part) k None
 reset_alone own line at paras levels part start end l same len all parts read k low =
     let within = l.within in
@@ -152,7 +152,7 @@ classes_of_line text start end within = λ k low.
     ∙ ap (λ (u : BidiUnit). u.class) (sym (get_or-between text start end k no_unit (omega arith)))
     ∙ sym (class_read line k no_unit (omega arith))
 
--- units without a separator but in last place are one paragraph
+-- units without a separator, except in last place, are one paragraph
 one_paragraph : (us : List BidiUnit) → 0 < length us → ((j : ℕ) → j + 1 < length us → is_separator (class_at (classes_of us) j) ≡ false) → length (paragraphs_of us) ≡ 1
 one_paragraph [] some plain = absurd (omega arith)
 one_paragraph (u ∷ []) some plain = refl
@@ -169,7 +169,7 @@ pub line_in_paragraph : (text : List BidiUnit) (start end : ℕ) → start < end
 line_in_paragraph text start end above within plain =
     grind (arith, length-map, length-between, one_paragraph, classes_of_line)
 
--- L1 of a line alone is the stretch of that of the text
+-- L1 of a line alone is the part of L1 of the text for this line
 pub line_reset_alone : (text : List BidiUnit) (at paras : List ℕ) (all part : List (Option ℕ)) (start end value : ℕ) → IsLineOf (classes_of text) at start end → end ≤ length text → length all ≡ length text → slice_range all start end ≡ part → value ≡ para_level_at (classes_of text) paras start → after_resets (classes_of (slice_range text start end)) [] (value ∷ []) part ≡ slice_range (after_resets (classes_of text) at paras all) start end
 line_reset_alone text at paras all part start end value l within len is has =
     let units : List BidiUnit = slice_range text start end in

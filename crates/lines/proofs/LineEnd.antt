@@ -1,4 +1,4 @@
--- White space at a line's end (L1), from the end on.
+-- White space at the end of a line (L1), from that end on.
 use Rattle.std.proofs.Common.{◌≡◌, ℕ, ◌+◌, Bool, true, false, cond, Option, Some, List, suc, refl, ◌∙◌}
 use Rattle.std.specs.Prelude.{not, ◌&&◌, ◌||◌}
 use Rattle.units.specs.declared.class.Class.{Class}

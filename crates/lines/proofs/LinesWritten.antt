@@ -59,7 +59,7 @@ map_same f g start (suc count) same = grind (arith, map_same f g (start + 1) cou
 line_kept : (orders more : List ℕ) (from to : Bound) → to.order ≤ length orders → line_between (orders ++ more) from to ≡ line_between orders from to
 line_kept orders more from to h = grind (arith, range_kept)
 
--- the lines with one line more
+-- the lines with one more line
 pub lines_in-more : (levels : List (Option ℕ)) (orders more : List ℕ) (bounds : List Bound) (start end : ℕ) → AreBounds levels orders bounds → bound_at bounds (length bounds - 1) ≡ record { position = start; order = length orders } → lines_in (orders ++ more) (bounds ++ record { position = end; order = length orders + length more } ∷ []) ≡ lines_in orders bounds ++ record { start = start; end = end; order = more } ∷ []
 lines_in-more levels orders more bounds start end b last =
     let bound : Bound = record { position = end; order = length orders + length more } in
@@ -143,7 +143,7 @@ filling_next levels test start end orders bounds c fits f =
           ∙ f.lines;
     }
 
--- one line more
+-- one more line
 pub filling_more : (levels : List (Option ℕ)) (test : ℕ → Bool) (start end : ℕ) (orders orders2 : List ℕ) (bounds bounds2 : List Bound) → EndsLineAt test start end (length levels) → orders2 ≡ orders ++ line_order levels start end → length orders2 ≤ end → bounds2 ≡ bounds ++ record { position = end; order = length orders2 } ∷ [] → Filling levels test start orders bounds → Filling levels test end orders2 bounds2
 filling_more levels test start end orders orders2 bounds bounds2 c written few bound f =
     let more = line_order levels start end in
@@ -153,11 +153,11 @@ filling_more levels test start end orders orders2 bounds bounds2 c written few b
     (subst (Filling levels test end (orders ++ more)) (sym (bound ∙ ap at_end len))
     (filling_next levels test start end orders bounds c (omega arith) f))
 
--- all lines of a text are left before the first
+-- at the start, all lines of the text remain
 all_left : (levels : List (Option ℕ)) (own : List Class) (breaks : List ℕ) → length own ≡ length levels → lines_left levels (begins_line own breaks) 0 (length levels) (length levels) ≡ lines_cut_at levels (cuts_of own breaks)
 all_left [] own breaks same = refl
 all_left (level ∷ levels) own breaks same = grind arith
 
--- at the text's end all are written
+-- at the end of the text, all lines are written
 pub filling_end : (levels : List (Option ℕ)) (own : List Class) (breaks : List ℕ) (start : ℕ) (orders : List ℕ) (bounds : List Bound) → length own ≡ length levels → start ≡ length levels → Filling levels (begins_line own breaks) start orders bounds → lines_in orders bounds ≡ lines_cut_at levels (cuts_of own breaks)
 filling_end levels own breaks start orders bounds same done f = grind (arith, append-nil, all_left)

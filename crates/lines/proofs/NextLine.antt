@@ -1,4 +1,4 @@
--- The end of the next line, by the end of its paragraph and the breaks that were passed.
+-- The end of the next line, from the end of its paragraph and the breaks that have been passed.
 use Rattle.std.proofs.Common.{◌≡◌, ℕ, ◌+◌, ◌-◌, ◌<◌, ◌≤◌, Bool, true, false, cond, List, length, refl, sym, ap, ◌∙◌, subst, inl, inr, arith, ne_eqb}
 use Rattle.std.specs.Prelude.{◌||◌, ◌==◌, slice_index}
 use Rattle.std.proofs.lemmas.Bool.{cases_lt, eqb-true, eqb-false, or_from, or_left, or_right}
@@ -9,7 +9,7 @@ use Rattle.lines.specs.LineBreaks.{AreBreaks}
 use Rattle.lines.specs.LineEnds.{BreaksArePassed, EndsLineAt, IsParagraphAt}
 use Rattle.lines.proofs.BreakAt.{is_break_at, is_break_none, rising_le}
 
--- none was passed at the start of the text
+-- at the start of the text no break has been passed
 pub passed_none : (at : List ℕ) (len : ℕ) → AreBreaks at len → BreaksArePassed at 0 0
 passed_none at len breaks = record { behind = λ k h some. absurd (omega arith); ahead = λ h. let i = breaks.inside 0 h in i.after_start }
 
@@ -18,11 +18,11 @@ pub record IsLimit (at : List ℕ) (passed len limit : ℕ) : Type 0 where
   pub coming : passed < length at → limit ≡ slice_index at passed
   pub last : length at ≤ passed → limit ≡ len
 
--- it stands behind the position
+-- the limit is after the position
 pub limit_above : (at : List ℕ) (passed len start limit : ℕ) → BreaksArePassed at passed start → start < len → IsLimit at passed len limit → start < limit
 limit_above at passed len start limit q below l = grind arith
 
--- no break between the last one that was passed and the next one
+-- there is no break between the last one that has been passed and the next one
 no_break : (at : List ℕ) (passed start len limit p : ℕ) → AreBreaks at len → BreaksArePassed at passed start → IsLimit at passed len limit → start < p → p < limit → is_break at p ≡ false
 no_break at passed start len limit p breaks q l low high =
     is_break_none at p (λ k h e. elim (cases_lt k passed) [
@@ -68,7 +68,7 @@ passed_if : (at : List ℕ) (len passed start limit end : ℕ) (reached : Bool) 
 passed_if at len passed start limit end true breaks q l above within is = grind (arith, eqb-true)
 passed_if at len passed start limit end false breaks q l above within is = grind (arith, eqb-false)
 
--- the breaks that were passed at the line's end
+-- the breaks that have been passed at the end of the line
 pub passed_on : (at : List ℕ) (len passed passed2 start limit end : ℕ) → AreBreaks at len → BreaksArePassed at passed start → IsLimit at passed len limit → start < end → end ≤ limit → passed2 ≡ passed + cond (end == limit) 1 0 → BreaksArePassed at passed2 end
 passed_on at len passed passed2 start limit end breaks q l above within count =
     subst (λ m. BreaksArePassed at m end) (sym count) (passed_if at len passed start limit end (end == limit) breaks q l above within refl)

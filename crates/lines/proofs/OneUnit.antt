@@ -18,20 +18,20 @@ use Rattle.lines.specs.ResolvedTexts.{IsResolved, one_unit}
 use Rattle.lines.specs.declared.bounds.Bound.{Bound}
 use Rattle.lines.specs.declared.columns.TextColumns.{TextColumns}
 
--- it is one paragraph, which keeps its level where the unit does
+-- it is one paragraph, which keeps its level exactly if the unit does
 pub keeps_one : (text : List BidiUnit) (direction : Direction) → length text ≡ 1 → each_keeps_level text direction ≡ keeps_unit direction (get_or text 0 no_unit)
 keeps_one [] direction one = absurd (omega arith)
 keeps_one (unit ∷ []) direction one = and-true (keeps_unit direction unit)
 keeps_one (unit ∷ second ∷ others) direction one = absurd (omega arith)
 
--- it ends where its one unit does
+-- it ends after its only unit
 ends_one : (unit : BidiUnit) → AreAllParagraphEnds (unit ∷ []) (1 ∷ [])
 ends_one unit = record {
   each = λ k h. let e : k ≡ 0 = omega arith in rw e record { above = omega arith; within = omega arith; joined = λ p low high. absurd (omega arith); closed = λ lt. absurd (omega arith) };
   last = refl;
 }
 
--- and so does its line
+-- so does its line
 line_one : (unit : BidiUnit) (bounds : List Bound) → bound_at bounds 0 ≡ first_bound → (bound_at bounds 1).position ≡ 1 → (breaks : List ℕ) → AreAllLineEnds (unit ∷ []) breaks 1 bounds
 line_one unit bounds first last breaks = record {
   first = first;

@@ -1,4 +1,4 @@
--- L2 of one line alone: its order by its own levels is that in its text, moved to where the line begins.
+-- L2 of one line alone: its order in the text is its order alone, with the start of the line added to each position.
 use Rattle.std.proofs.Common.{◌≡◌, ℕ, ◌+◌, ◌-◌, ◌<◌, ◌≤◌, Bool, true, false, cond, Option, Some, None, List, [], ◌∷◌, length, zero, suc, refl, sym, ap, ◌∙◌, inl, inr, arith, get_or}
 use Rattle.std.specs.Prelude.{fold, map, slice_range}
 use Rattle.std.proofs.lemmas.List.{ext_get_or}
@@ -13,7 +13,7 @@ record AreLevelsFrom (all : List (Option ℕ)) (start : ℕ) (line : List (Optio
   pub same : (j : ℕ) → j < length line → get_or all (start + j) None ≡ get_or line j None
 
 module _ (all : List (Option ℕ)) (start : ℕ) (line : List (Option ℕ)) (a : AreLevelsFrom all start line) where
-  -- a position of the line, in its text
+  -- a position of the line, as a position of the text
   abbrev moved : ℕ → ℕ
   moved p = start + p
 
@@ -60,7 +60,7 @@ module _ (all : List (Option ℕ)) (start : ℕ) (line : List (Option ℕ)) (a :
       let inside = later.holds.sound j among in
       before_same i j (omega (arith, inside.0)) (omega (arith, inside.1)))
 
--- the order of a line by its own levels, moved to where it begins
+-- the order of the line alone, with its start added
 pub order_alone : (all line : List (Option ℕ)) (start end : ℕ) → line ≡ slice_range all start end → start ≤ end → end ≤ length all → map (λ p. start + p) (line_order line 0 (length line)) ≡ line_order all start end
 unfolding line_order
 order_alone all line start end is forward within =

@@ -1,4 +1,4 @@
--- The paragraph of a position, by where the paragraphs of its text end.
+-- The paragraph of a position, from the ends of the paragraphs of the text.
 use Rattle.std.proofs.Common.{◌≡◌, ◌≢◌, ℕ, ◌+◌, ◌-◌, ◌<◌, ◌≤◌, true, List, [], ◌∷◌, ◌++◌, length, take, zero, suc, refl, sym, ap, ◌∙◌, inl, inr, arith, get_or, leb, length-append}
 use Rattle.std.specs.Prelude.{count_by, slice_index}
 use Rattle.std.specs.List.{AllWithin}
@@ -18,7 +18,7 @@ use Rattle.lines.proofs.BreakAt.{is_break_at, is_break_none}
 use Rattle.lines.proofs.NextLine.{begins_later}
 use Rattle.lines.proofs.ParagraphLines.{counted_line, counted_on}
 
--- a paragraph is a line of the text where that has no breaks
+-- in a text without breaks, a paragraph is a line
 paragraph_is_line : (own : List Class) (start end : ℕ) → IsParagraphAt own start end → EndsLineAt (begins_line own []) start end (length own)
 paragraph_is_line own start end q =
     let above = q.above in
@@ -38,7 +38,7 @@ start_kept : (ends : List ℕ) (end k : ℕ) → k ≤ length ends → paragraph
 start_kept ends end zero h = refl
 start_kept ends end (suc k) h = get_or-append ends (end ∷ []) 0 k (omega arith)
 
--- with a paragraph more
+-- with one more paragraph
 pub paragraph_ends_more : (own : List Class) (ends : List ℕ) (position end : ℕ) → AreParagraphEnds own ends position → IsParagraphAt own position end → AreParagraphEnds own (ends ++ end ∷ []) end
 paragraph_ends_more own ends position end a q =
     let long : length (ends ++ end ∷ []) ≡ length ends + 1 = length-append ends (end ∷ []) in
@@ -71,7 +71,7 @@ ends_rise own ends position a j k lt h =
     let e : k ≡ j + suc (k - j - 1) = omega arith in
     rw e (rises_by own ends position j (k - j - 1) a (omega arith))
 
--- those that are not above a position come first
+-- the ends that are not above a position come first
 pub parted : (ends : List ℕ) (at : ℕ) → Rises ends → IsPartitionedBy (λ (s : ℕ). leb s at) ends
 parted ends at rises i j d le lt low =
     let below : get_or ends j d ≤ at = leb-true _ _ low in
@@ -82,7 +82,7 @@ parted ends at rises i j d le lt low =
       | inl same ↦ ap (λ k. leb (get_or ends k d) at) same ∙ low
     ]
 
--- before each paragraph stand as many separators as paragraphs
+-- the number of separators before a paragraph is the number of paragraphs before it
 pub counted_paragraphs : (own : List Class) (ends : List ℕ) (position k : ℕ) → AreParagraphEnds own ends position → k < length ends → k ≡ count_by is_separator (take (paragraph_start ends k) own)
 counted_paragraphs own ends position zero a h = refl
 counted_paragraphs own ends position (suc k) a h =
@@ -95,7 +95,7 @@ counted_paragraphs own ends position (suc k) a h =
     e
     ∙ counted_on own [] (paragraph_start ends k) (slice_index ends k) k true (paragraph_is_line own (paragraph_start ends k) (slice_index ends k) here) (counted_paragraphs own ends position k a (omega arith)) (sym closed)
 
--- the position lies in the paragraph with this number
+-- the paragraph with this number contains the position
 pub record IsFound (own : List Class) (ends : List ℕ) (position number : ℕ) : Type 0 where
   pub inside : number < length ends
   pub from : paragraph_start ends number ≤ position
@@ -107,7 +107,7 @@ start_below : (ends : List ℕ) (position k : ℕ) → AllWithin (λ end. end �
 start_below ends position zero below = omega arith
 start_below ends position (suc k) below = below k 0 (omega arith) (omega arith)
 
--- it is the one before whose end as many end as stand before it
+-- its number is the number of paragraphs that end at the position or before it
 pub found : (own : List Class) (ends : List ℕ) (position k : ℕ) → AreParagraphEnds own ends (length own) → position < length own → k ≤ length ends → AllWithin (λ end. end ≤ position) ends 0 k → AllWithin (λ end. position < end) ends k (length ends) → IsFound own ends position k
 found own ends position k a within few below above =
     let from : paragraph_start ends k ≤ position = start_below ends position k below in
@@ -158,7 +158,7 @@ line_found text ends start end k f forward short =
       };
     }
 
--- a line that goes on behind the end of its paragraph
+-- a line that continues after the end of its paragraph
 pub line_crosses : (text : List TextUnit) (ends : List ℕ) (start end k : ℕ) → IsFound (classes_of text) ends start k → slice_index ends k < end → end ≤ length text → SeparatesWithin text start end
 line_crosses text ends start end k f long within =
     let own : List Class = classes_of text in

@@ -1,4 +1,4 @@
--- Lines and the paragraphs that they stand in.
+-- Lines and the paragraphs that contain them.
 use Rattle.std.proofs.Common.{◌≡◌, ℕ, ◌+◌, ◌-◌, ◌<◌, ◌≤◌, Bool, true, false, cond, Option, List, length, take, zero, suc, inl, inr, [], ◌∷◌, sym, ap, ◌∙◌, arith}
 use Rattle.std.specs.Prelude.{count_by, drop, map, slice_index_or}
 use Rattle.std.proofs.lemmas.Bool.{cases_Bool, or_parts}
@@ -18,7 +18,7 @@ use Rattle.lines.specs.LinePositions.{IsAtOneLevel}
 use Rattle.lines.proofs.NextLine.{begins_later}
 use Rattle.lines.proofs.TextEnd.{counted_step}
 
--- P1: no position of the first paragraph of a text but its last separates
+-- P1: in the first paragraph of a text, only the last position can be a separator
 joined_first : (us : List TextUnit) (k : ℕ) → k + 1 < first_length us → is_separator (class_at (classes_of us) k) ≡ false
 joined_first [] k h = absurd (omega arith)
 joined_first (u ∷ us) zero h = grind arith
@@ -29,13 +29,13 @@ first_some [] h = absurd (omega arith)
 first_some (u ∷ us) h =
     elim (cases_Bool (is_separator u.class)) [ inl separates ↦ rw separates (omega arith) | inr plain ↦ rw plain (omega arith) ]
 
--- and its last does, where another follows it
+-- the last position is one, if another paragraph follows
 closed_first : (us : List TextUnit) (k : ℕ) → first_length us ≡ k + 1 → k + 1 < length us → is_separator (class_at (classes_of us) k) ≡ true
 closed_first [] k e h = absurd (omega arith)
 closed_first (u ∷ us) zero e h = grind (arith, first_some)
 closed_first (u ∷ us) (suc k) e h = grind (arith, closed_first us k)
 
--- P1: the first paragraph of what is left of a text
+-- P1: the first paragraph of the rest of a text
 pub paragraph_from : (us : List TextUnit) (start n : ℕ) → start < length us → n ≡ first_length (drop start us) → 0 < n → n ≤ length us - start → IsParagraphAt (classes_of us) start (start + n)
 paragraph_from us start n below is some within =
     let own = classes_of us in
@@ -54,11 +54,11 @@ paragraph_from us start n below is some within =
           ap (λ m. is_separator (class_at own m)) f ∙ ap is_separator (read (n - 1)) ∙ closed_first (drop start us) (n - 1) (omega arith) (omega arith);
     }
 
--- no position of a line but its last separates
+-- in a line, only the last position can be a separator
 pub joined_line : (own : List Class) (at : List ℕ) (start end p : ℕ) → EndsLineAt (begins_line own at) start end (length own) → start < p → p < end → is_separator (class_at own (p - 1)) ≡ false
 joined_line own at start end p e low high = grind (arith, begins_later, or_parts)
 
--- as many separators stand before each position of a line
+-- the same number of separators is before each position of a line
 counted_inside : (own : List Class) (at : List ℕ) (start end k : ℕ) → EndsLineAt (begins_line own at) start end (length own) → start + k < end → count_by is_separator (take (start + k) own) ≡ count_by is_separator (take start own)
 counted_inside own at start end zero e h =
     let f : start + 0 ≡ start = omega arith in ap (λ n. count_by is_separator (take n own)) f
@@ -76,7 +76,7 @@ counted_line own at start end p e low high =
     let f : p ≡ start + (p - start) = omega arith in
     ap (λ n. count_by is_separator (take n own)) f ∙ counted_inside own at start end (p - start) e (omega arith)
 
--- and before what comes behind it one more, where it ends with one
+-- there is one more before the position after the line, if the line ends with one
 pub counted_on : (own : List Class) (at : List ℕ) (start end before : ℕ) (closed : Bool) → EndsLineAt (begins_line own at) start end (length own) → before ≡ count_by is_separator (take start own) → closed ≡ is_separator (class_at own (end - 1)) → before + cond closed 1 0 ≡ count_by is_separator (take end own)
 counted_on own at start end before closed e is last =
     let above = e.above in
@@ -86,7 +86,7 @@ counted_on own at start end before closed e is last =
     let there : count_by is_separator (take (end - 1 + 1) own) ≡ count_by is_separator (take end own) = ap (λ n. count_by is_separator (take n own)) f in
     omega arith
 
--- positions at their paragraphs' levels have one level in a line
+-- positions with the levels of their paragraphs have one level in a line
 pub line_uniform : (own : List Class) (at : List ℕ) (paras : List ℕ) (levels : List (Option ℕ)) (start end : ℕ) → AreAtParas own paras levels → EndsLineAt (begins_line own at) start end (length own) → IsAtOneLevel levels start end (para_level_at own paras start)
 line_uniform own at paras levels start end all e =
     record {
@@ -94,7 +94,7 @@ line_uniform own at paras levels start end all e =
           all.same p v h ∙ ap (λ n. slice_index_or paras n 0) (counted_line own at start end p e low high);
     }
 
--- the level of a paragraph, read by its number
+-- the level of a paragraph, read with its number
 pub para_read : (own : List Class) (paras : List ParaLevel) (p number : ℕ) → number ≡ count_by is_separator (take p own) → number < length paras → level_of_para (slice_index_or paras number Zero) ≡ para_level_at own (map level_of_para paras) p
 para_read own paras p number is lt =
     sym (get_or-map level_of_para paras number Zero 0 lt) ∙ ap (λ n. slice_index_or (map level_of_para paras) n 0) is

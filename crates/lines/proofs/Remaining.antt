@@ -10,7 +10,7 @@ use Rattle.lines.specs.LinePositions.{is_remaining, remaining}
 use Rattle.lines.proofs.Turns.{ListsRemaining, Ordered}
 use Rattle.units.proofs.Positions.{positions_from-next}
 
--- a position behind the first count, which are one more where it is kept
+-- a position is written after the first `count` items, and is one more item if the flag is set
 pub kept : (order : List ℕ) (count count2 position : ℕ) (b : Bool) → count < length order → count2 ≡ count + bool_byte b → take count2 (set order count position) ≡ take count order ++ cond b (position ∷ []) []
 kept order count count2 position true h e = ap (λ n. take n (set order count position)) e ∙ take_more_set order count position h
 kept order count count2 position false h e = grind (arith, take-set, append-nil)
@@ -36,11 +36,11 @@ rising_from : (levels : List (Option ℕ)) (i count end : ℕ) → i + count ≡
 rising_from levels i zero end e = grind arith
 rising_from levels i (suc count) end e = grind (arith, rising_more, rising_from levels (i + 1) count end)
 
--- the remaining positions are such
+-- the remaining positions are rising
 pub remaining-rising : (levels : List (Option ℕ)) (start end : ℕ) → start ≤ end → Rising levels start end (remaining levels start end)
 remaining-rising levels start end le = rising_from levels start (end - start) end (omega arith)
 
--- those of one position more
+-- the remaining positions, with one more at the end
 pub remaining-next : (levels : List (Option ℕ)) (start position : ℕ) → start ≤ position → remaining levels start (position + 1) ≡ remaining levels start position ++ cond (is_remaining levels position) (position ∷ []) []
 remaining-next levels start position le = grind (arith, positions_from-next, filter-append)
 
@@ -48,11 +48,11 @@ reverse_if : (b : Bool) (x : ℕ) (xs : List ℕ) → reverse (cond b (x ∷ xs)
 reverse_if true x xs = reverse-append (x ∷ []) xs
 reverse_if false x xs = sym (append-nil (reverse xs))
 
--- those of one position more before them, falling
+-- the remaining positions in falling order, with one more position before them
 pub remaining-before : (levels : List (Option ℕ)) (position end : ℕ) → position < end → reverse (remaining levels position end) ≡ reverse (remaining levels (position + 1) end) ++ cond (is_remaining levels position) (position ∷ []) []
 remaining-before levels position end lt = grind (arith, reverse_if)
 
--- none remain at the end
+-- an empty range has none
 pub remaining-none : (levels : List (Option ℕ)) (position : ℕ) → remaining levels position position ≡ []
 remaining-none levels position =
     let e : position - position ≡ 0 = omega arith in ap (λ n. filter (is_remaining levels) (positions_from position n)) e

@@ -1,4 +1,4 @@
--- A position of a layout has no level exactly where it is removed.
+-- A position of a layout has no level exactly if it is removed.
 use Rattle.std.specs.Prelude.{Option, None, Some, ℕ, ◌<◌, ◌≤◌, ◌≡◌, Bool, true, List, [], ◌∷◌, length, map, is_none, slice_index_or, refl}
 use Rattle.std.specs.List.{flat_map}
 use Rattle.std.proofs.Common.{arith, ap, sym, ◌∙◌, get_or}
@@ -34,7 +34,7 @@ none-reset reset para None = refl
 none-reset reset para (Some level) = refl
 
 module _ (limits : LimitsOf) (allowed : AreAllowed limits) (direction : Direction) where
-  -- the levels of a paragraph that are none, position by position
+  -- in a paragraph, exactly the removed positions have no level
   none_in_para : (us : List BidiUnit) → SeparatorOnlyLast us → map is_none (para_levels limits direction us) ≡ map is_removed (classes_of us)
   none_in_para us only =
       let levels : List (Option ℕ) = para_levels limits direction us in
@@ -57,7 +57,7 @@ module _ (limits : LimitsOf) (allowed : AreAllowed limits) (direction : Directio
       none_in_pieces (paragraphs_of text) (IsCut-paragraphs_of text)
       ∙ ap (λ (us : List BidiUnit). map is_removed (classes_of us)) (joined-paragraphs_of text)
 
-  -- X9: none exactly where the position is removed
+  -- X9: in a layout, exactly the removed positions have no level
   pub none_in_layout : (text : List BidiUnit) (breaks : List ℕ) (p : ℕ) → p < length text →
       is_none (slice_index_or (layout_of limits text direction breaks).levels p None) ≡ is_removed (class_at (classes_of text) p)
   unfolding layout_of

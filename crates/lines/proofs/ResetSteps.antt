@@ -1,4 +1,4 @@
--- One step of a walk of L1 from the end of a text.
+-- One step of the pass of L1 from the end of a text.
 use Rattle.std.proofs.Common.{◌≡◌, ◌≢◌, ◌<◌, ◌≤◌, ◌+◌, ◌-◌, ℕ, List, Option, Bool, true, false, cond, length, take, count_by, get_or, set, None, arith, refl, inl, inr, sym, ap, ◌∙◌, subst}
 use Rattle.std.specs.Prelude.{◌||◌, ◌&&◌, slice_index, slice_index_or, map}
 use Rattle.std.proofs.lemmas.Bool.{cases_eq, cases_lt}
@@ -46,7 +46,7 @@ module _ (us : List BidiUnit) (paras : List ParaLevel) {at : List ℕ} {old : Li
   walk_start separators all breaks count = resetting_start (classes_of us) at (map level_of_para paras) old separators (len us ∙ sym all) (subst (AreBreaks at) (sym (len us)) breaks) count
 
   module _ {position ahead paragraph : ℕ} {resets : Bool} {levels : List (Option ℕ)} (before : Resetting (classes_of us) at (map level_of_para paras) old position ahead paragraph resets levels) where
-    -- behind the last one
+    -- after the last step
     pub walk_end : (breaks : List ℕ) → position ≡ 0 → at ≡ breaks → levels ≡ levels_reset us breaks paras old
     walk_end breaks none same =
         resetting_end (classes_of us) at (map level_of_para paras) old ahead paragraph resets levels (subst (λ n. Resetting (classes_of us) at (map level_of_para paras) old n ahead paragraph resets levels) none before)
@@ -61,7 +61,7 @@ module _ (us : List BidiUnit) (paras : List ParaLevel) {at : List ℕ} {old : Li
       read_at : (test : Class → Bool) (d : BidiUnit) (answer : Bool) → answer ≡ test (get_or us (position - 1) d).class → answer ≡ test (class_at (classes_of us) (position - 1))
       read_at test d answer e = e ∙ ap test (sym (class_read us (position - 1) d (omega (arith, some, within))))
 
-      -- the separators before the position are those that were counted, less one where it is one
+      -- the separators before the position are those that were counted, without the position itself
       pub counted_back : (d : BidiUnit) (less : ℕ) (ends : Bool) → ends ≡ is_separator (get_or us (position - 1) d).class → less ≡ bool_byte ends → less + count_by is_separator (take (position - 1) (classes_of us)) ≡ paragraph
       counted_back d less ends e b =
           let n = counted_step (classes_of us) (position - 1) ends (omega (arith, len us, some, within)) (read_at is_separator d ends e) in
@@ -72,11 +72,11 @@ module _ (us : List BidiUnit) (paras : List ParaLevel) {at : List ℕ} {old : Li
         pub counted_here : count_by is_separator (take (position - 1) (classes_of us)) < length paras
         counted_here = paragraph_at us (length paras) (position - 1) same (omega (arith, some, within))
 
-        -- as many paragraphs end before it as one of them has for its number
+        -- the number of the paragraph of the position is below the number of paragraphs
         pub paragraph_here : (d : BidiUnit) (less : ℕ) (ends : Bool) → ends ≡ is_separator (get_or us (position - 1) d).class → less ≡ bool_byte ends → paragraph - less < length paras
         paragraph_here d less ends e b = omega (arith, counted_back d less ends e b, counted_here)
 
-        -- a position that separates lines, or behind which one begins or spaces are reset
+        -- a position that separates lines, or after which a line begins or spaces are reset
         pub resets_one : (d : BidiUnit) (less passed : ℕ) (ends broken resets2 may : Bool) (level put : Option ℕ) → AreBreaks at (length us) → ends ≡ is_separator (get_or us (position - 1) d).class
             → (broken ≡ true → Comes at ahead (position - 1 + 1)) → (Comes at ahead (position - 1 + 1) → broken ≡ true)
             → resets2 ≡ resets_before (get_or us (position - 1) d).class (ends || broken || resets) → may ≡ may_reset (get_or us (position - 1) d).class → level ≡ get_or levels (position - 1) level
@@ -100,7 +100,7 @@ module _ (us : List BidiUnit) (paras : List ParaLevel) {at : List ℕ} {old : Li
             subst (λ a. Resetting own at ps old p (ahead - a) (paragraph - less) resets2 (set levels p put)) (sym (comes ∙ bool_byte-is broken))
             (subst (λ a. Resetting own at ps old p (ahead - cond broken 1 0) (paragraph - a) resets2 (set levels p put)) (sym (fewer ∙ bool_byte-is ends)) more)
 
-      -- a position that does not, and behind which nothing does
+      -- a position that does not separate lines, and after which no line begins and no spaces are reset
       module _ (d : BidiUnit) (broken separates : Bool) (none : ((resets || broken) || separates) ≡ false) (is : separates ≡ is_line_separator (get_or us (position - 1) d).class) (hit : Comes at ahead (position - 1 + 1) → broken ≡ true) where
         pub solid : is_line_separator (class_at (classes_of us) (position - 1)) ≡ false
         solid = sym (read_at is_line_separator d separates is) ∙ (none_holds resets broken separates none).2
@@ -108,7 +108,7 @@ module _ (us : List BidiUnit) (paras : List ParaLevel) {at : List ℕ} {old : Li
         whole : Comes at ahead (position - 1 + 1) → ⊥
         whole comes = let z : false ≡ true = sym (none_holds resets broken separates none).1 ∙ hit comes in cc
 
-        -- the last break that comes is not behind it
+        -- the next break towards the start is not after it
         pub last_before : (last : ℕ) → (0 < ahead → last ≡ slice_index at (ahead - 1)) → (ahead ≡ 0 → last ≡ 0) → last ≤ position - 1
         last_before last from first =
             elim (cases_lt 0 ahead) [
@@ -126,7 +126,7 @@ module _ (us : List BidiUnit) (paras : List ParaLevel) {at : List ℕ} {old : Li
               resetting_on (classes_of us) at (map level_of_para paras) old (position - 1) ahead paragraph levels (subst (AreBreaks at) (sym (len us)) breaks) (omega (arith, len us, some, within)) solid whole
               (subst (λ b. Resetting (classes_of us) at (map level_of_para paras) old (position - 1 + 1) ahead paragraph b levels) (none_holds resets broken separates none).0 lower)
 
-          -- and those before it, none of which separates lines
+          -- the positions before it are passed too, if none of them separates lines
           pub passed_to : (q last : ℕ) → (0 < ahead → last ≡ slice_index at (ahead - 1)) → last ≤ q → q ≤ position - 1 → SeparateNone (classes_of us) q (position - 1) → Resetting (classes_of us) at (map level_of_para paras) old q ahead paragraph resets levels
           passed_to q last from le low free =
               let own : List Class = classes_of us in

@@ -1,4 +1,4 @@
--- The runs of a line as they are written, from left to right.
+-- The runs of a line, written from left to right.
 use Rattle.std.proofs.Common.{◌≡◌, ℕ, ◌+◌, ◌-◌, ◌*◌, ◌<◌, ◌≤◌, ◌%◌, Option, List, [], ◌∷◌, ◌++◌, length, take, append_assoc, refl, sym, ap, ◌∙◌, inl, inr, arith, subst}
 use Rattle.std.specs.Prelude.{reverse}
 use Rattle.std.proofs.lemmas.List.{append-nil}
@@ -27,8 +27,8 @@ pub run-some : (levels : List (Option ℕ)) (start end : ℕ) → IsLevelRun lev
 run-some levels start end r =
     none_has (line_order levels start end) start ((line_order-in_order levels start end (omega (arith, r.rises))).holds.complete start r.level (omega arith) r.rises r.has)
 
--- the positions of a line are those that are written and those of the runs that are left; there are places and steps
--- for these
+-- the positions of a line are the written ones and those of the remaining runs, for which there are enough places and
+-- steps
 pub record Writes (levels : List (Option ℕ)) (runs : List Run) (positions : List ℕ) (last places most : ℕ) (order : List ℕ) (count position steps : ℕ) : Type 0 where
   pub rest : List ℕ
   pub leads : LinksThrough runs position rest last
@@ -50,7 +50,7 @@ writes_start levels runs start end most chain order steps le h budget =
       budget = omega (arith, h.units);
     }
 
--- the run that is written next, and what is left then
+-- the next run, and the state after it is written
 pub record Next (levels : List (Option ℕ)) (runs : List Run) (positions : List ℕ) (last places most : ℕ) (order : List ℕ) (count position steps : ℕ) : Type 0 where
   pub run : IsLevelRun levels position (run_in runs position).end
   pub has : IsAmong positions position
@@ -95,7 +95,7 @@ pub next_run : {levels : List (Option ℕ)} {runs : List Run} {positions : List 
 next_run {levels} {runs} {positions} {last} {places} {most} {order} {count} {position} {steps} w =
     next_from levels runs positions last places most order count position steps w.rest w.leads w.are_runs w.is w.apart w.room w.budget
 
--- it begins in the line
+-- the run begins in the line
 pub next-within : {levels : List (Option ℕ)} {runs : List Run} {last places most : ℕ} {order : List ℕ} {count position steps : ℕ} (start end : ℕ) → start ≤ end → Next levels runs (line_order levels start end) last places most order count position steps → position < end
 next-within {levels} {runs} {last} {places} {most} {order} {count} {position} {steps} start end le n =
     let s = (line_order-in_order levels start end le).holds.sound position n.has in s.1

@@ -1,4 +1,4 @@
--- As many paragraphs as separators, and one more where the last has none.
+-- A text has as many paragraphs as separators, and one more if it does not end with a separator.
 use Rattle.std.proofs.Common.{◌≡◌, ℕ, ◌+◌, ◌-◌, ◌<◌, Bool, true, false, cond, List, [], ◌∷◌, length, take, zero, suc, refl, sym, ap, ◌∙◌, arith, get_or}
 use Rattle.std.specs.Prelude.{count_by, not}
 use mir.Val.{bool_byte}
@@ -8,7 +8,7 @@ use Rattle.units.specs.declared.class.Class.{Class}
 use Rattle.units.specs.Classes.{classes_of, is_separator}
 use Rattle.units.specs.Paragraphs.{begin_with, paragraphs_of}
 
--- 1 where the text ends without a separator
+-- 1 if the text ends without a separator, else 0
 abbrev pub open_ends : List BidiUnit → ℕ
 open_ends [] = 0
 open_ends (u ∷ []) = cond (is_separator u.class) 0 1

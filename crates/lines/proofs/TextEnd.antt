@@ -66,7 +66,7 @@ resets_to-end own at p h = resets_none own p (line_from own at (p + 1)) (let e =
 pub resets_in-end : (own : List Class) (at : List ℕ) (p : ℕ) → length own ≤ p → resets_in own at p ≡ true
 resets_in-end own at p h = resets_none own p (line_from own at p) (let e = line_from-end own at p h in omega (arith, e))
 
--- what the walk says before p + 1, from what it said after
+-- the state of the pass before p + 1, from its state after p + 1
 pub resets_in-next : (own : List Class) (at : List ℕ) (p : ℕ) (ends broken resets : Bool) → p < length own → ends ≡ is_separator (class_at own p) → broken ≡ is_break at (p + 1) → resets ≡ resets_to own at (p + 1) → (ends || broken || resets) ≡ resets_in own at (p + 1)
 resets_in-next own at p ends broken resets lt e b r =
     elim (cases_lt (p + 1) (length own)) [
@@ -90,7 +90,7 @@ resets_to-is own at p lt =
 pub is_reset-is : (own : List Class) (at : List ℕ) (p : ℕ) → is_reset own at p ≡ (resets_before (class_at own p) (resets_in own at (p + 1)) && may_reset (class_at own p))
 is_reset-is own at p = class_reset (class_at own p) (resets_in own at (p + 1))
 
--- the positions from p on are reset, those below are as before
+-- the positions from p on are reset, and those before p are unchanged
 pub record Resetting (own : List Class) (at : List ℕ) (paras : List ℕ) (old : List (Option ℕ)) (p ahead paragraph : ℕ) (resets : Bool) (levels : List (Option ℕ)) : Type 0 where
   pub len : length levels ≡ length old
   pub all : length own ≡ length old
@@ -129,7 +129,7 @@ pub counted_step : (own : List Class) (p : ℕ) (ends : Bool) → p < length own
 counted_step own p true lt e = count_by_more_yes is_separator own p L lt (sym e)
 counted_step own p false lt e = count_by_more_no is_separator own p L lt (sym e) ∙ omega arith
 
--- what is known of the breaks, one position lower
+-- the breaks that remain, one position lower
 pub record Breaking (at : List ℕ) (p ahead : ℕ) : Type 0 where
   pub in_breaks : ahead ≤ length at
   pub passed : (k : ℕ) → ahead ≤ k → k < length at → p < slice_index at k
@@ -209,7 +209,7 @@ reset_to-false : (para : ℕ) (level : Option ℕ) → reset_to false para level
 reset_to-false para None = refl
 reset_to-false para (Some n) = refl
 
--- a position that neither separates lines nor has spaces behind it that are reset is passed over
+-- the pass skips a position that is no separator of lines, if no line begins after it and no spaces after it are reset
 pub resetting_on : (own : List Class) (at : List ℕ) (paras : List ℕ) (old : List (Option ℕ)) (p ahead paragraph : ℕ) (levels : List (Option ℕ)) → AreBreaks at (length own) → p < length own → is_line_separator (class_at own p) ≡ false → (Comes at ahead (p + 1) → ⊥) → Resetting own at paras old (p + 1) ahead paragraph false levels → Resetting own at paras old p ahead paragraph false levels
 resetting_on own at paras old p ahead paragraph levels breaks lt solid whole r =
     let c = none_separates (class_at own p) solid in
@@ -222,7 +222,7 @@ resetting_on own at paras old p ahead paragraph levels breaks lt solid whole r =
     resetting_more own at paras old p ahead paragraph (para_level_at own paras p) false false false false levels levels breaks lt c.0 (λ h. cc) (λ h. absurd (whole h)) c.1 refl same r in
     subst (λ n. Resetting own at paras old p n paragraph false levels) e (subst (λ n. Resetting own at paras old p (ahead - 0) n false levels) f next)
 
--- positions none of which separates lines, and behind none of which a line begins, are passed over
+-- the pass skips positions that are no separators of lines, if no line begins after any of them
 pub resetting_over : (own : List Class) (at : List ℕ) (paras : List ℕ) (old : List (Option ℕ)) (q d ahead paragraph : ℕ) (levels : List (Option ℕ)) → AreBreaks at (length own) → q + d ≤ length own → SeparateNone own q (q + d) → (0 < ahead → slice_index at (ahead - 1) ≤ q) → Resetting own at paras old (q + d) ahead paragraph false levels → Resetting own at paras old q ahead paragraph false levels
 resetting_over own at paras old q zero ahead paragraph levels breaks within free coming r =
     let e : q + 0 ≡ q = omega arith in

@@ -22,7 +22,7 @@ para_level direction us = para_level_of (classes_of us) direction
 abbrev pub para_levels : LimitsOf → Direction → List BidiUnit → List (Option ℕ)
 para_levels limits direction us = resolved_levels limits us (para_level direction us)
 
--- the paragraphs before start are written, and these are still to come
+-- the paragraphs before start are written, and those of `rest` are not
 pub record IsWritten (limits : LimitsOf) (text : List BidiUnit) (direction : Direction) (start : ℕ) (paras : List ParaLevel) (levels : List (Option ℕ)) (rest : List (List BidiUnit)) : Type 0 where
   pub cut : IsCut rest
   pub ahead : start + length (joined rest) ≡ length text
@@ -53,7 +53,7 @@ module _ {limits : LimitsOf} {text : List BidiUnit} {direction : Direction} {sta
         IsWritten limits text direction (start + length para) (paras ++ (level ∷ [])) now rest
     written_next level now at put = grind (arith, length-append, map-push, append_assoc)
 
-    -- the same, where it ends there
+    -- the same, with the end of the paragraph
     pub written_to : (end : ℕ) (level : ParaLevel) (now : List (Option ℕ)) → end ≡ start + length para → level_of_para level ≡ para_level direction para →
         take end now ≡ take start levels ++ para_levels limits direction para →
         IsWritten limits text direction end (paras ++ (level ∷ [])) now rest
@@ -71,7 +71,7 @@ module _ {limits : LimitsOf} {text : List BidiUnit} {direction : Direction} {sta
     pub written_levels : take (length text) levels ≡ text_levels limits text direction
     written_levels = ap (λ (n : ℕ). take n levels) (sym all_written) ∙ sym (append-nil (take start levels)) ∙ w.found_levels
 
--- the parts that were written are those of the layout
+-- the written parts are those of the layout
 pub laid_out : (limits : LimitsOf) (text : List BidiUnit) (direction : Direction) (breaks : List ℕ) (paras : List ℕ) (resolved levels front : List (Option ℕ)) (lines : List LineLayout) →
     front ≡ levels → paras ≡ para_levels_of text direction → resolved ≡ text_levels limits text direction → levels ≡ after_resets (classes_of text) breaks paras resolved →
     lines ≡ lines_cut_at levels (cuts_of (classes_of text) breaks) →

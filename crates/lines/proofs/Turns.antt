@@ -1,9 +1,9 @@
--- Which of two positions stands first once the levels of a line were turned (L2), by the least level between them.
+-- Which of two positions comes first after reversals (L2), from the least level between them.
 use Rattle.std.specs.Prelude.{Option, None, Some, ℕ, ◌+◌, ◌-◌, ◌<◌, ◌≤◌, ◌≡◌, ◌≢◌, ◌%◌, List, [], ◌∷◌}
 use Rattle.units.specs.Reordering.{least_level}
 use Rattle.lines.specs.LinePositions.{IsAmong, HasLevel}
 
--- a level as a number, 0 where there is none
+-- a level as a number, or 0 if there is none
 abbrev pub number_or_zero : Option ℕ → ℕ
 number_or_zero None = 0
 number_or_zero (Some n) = n
@@ -12,17 +12,17 @@ number_or_zero (Some n) = n
 unfoldable pub least : List (Option ℕ) → ℕ → ℕ → ℕ
 least levels i j = number_or_zero (least_level levels i j)
 
--- L2: how many of the levels from k on all remaining positions from i to j reach
+-- L2: the number of reversals, at levels from k on, that include all remaining positions from i to j
 abbrev pub turns : List (Option ℕ) → ℕ → ℕ → ℕ → ℕ
 turns levels k i j = (least levels i j + 1) - k
 
--- L2: a stands before b once the levels from k on were turned: each turn changes which of the two is first
+-- L2: a comes before b after the reversals at levels from k on; each one that includes both swaps them
 pub record Before (levels : List (Option ℕ)) (k a b : ℕ) : Type 0 where
   pub apart : a ≢ b
   pub rising : a < b → turns levels k a b % 2 ≡ 0
   pub falling : b < a → turns levels k b a % 2 ≡ 1
 
--- each element stands in the relation to all after it
+-- each element has the relation to all elements after it
 abbrev pub Ordered : (ℕ → ℕ → Type 0) → List ℕ → Type 0
 Ordered r [] = Unit {0}
 Ordered r (x ∷ xs) = ((y : ℕ) → IsAmong xs y → r x y) × Ordered r xs

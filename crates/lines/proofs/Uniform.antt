@@ -10,7 +10,7 @@ use Rattle.lines.proofs.Levels.{AllBelow, LowestOdd, finished, rising_before}
 use Rattle.lines.proofs.LineOrder.{in_order_same, line_order-in_order}
 use Rattle.lines.proofs.Remaining.{remaining-rising}
 
--- an even level keeps the positions as they stand in the text
+-- at an even level, the positions are in the order of the text
 pub uniform-rising : (levels : List (Option ℕ)) (start end v : ℕ) → start ≤ end → v % 2 ≡ 0 → IsAtOneLevel levels start end v → line_order levels start end ≡ remaining levels start end
 uniform-rising levels start end v le even u =
     let r = remaining-rising levels start end le in
@@ -23,7 +23,7 @@ uniform-rising levels start end v le even u =
     (line_order-in_order levels start end le)
     (finished levels start end (v + 1) (remaining levels start end) r.holds lowest (rising_before levels start end (v + 1) (remaining levels start end) r.holds below r.ordered))
 
--- two positions of the line are turned round at their level
+-- two positions of the line are swapped at their level
 turned_round : (levels : List (Option ℕ)) (start end v a b : ℕ) → ListsRemaining levels start end (remaining levels start end) → IsAtOneLevel levels start end v → IsAmong (remaining levels start end) a → IsAmong (remaining levels start end) b → a < b → Before levels v b a
 turned_round levels start end v a b h u ha hb lt =
     let sa = h.sound a ha in
@@ -36,7 +36,7 @@ turned_round levels start end v a b h u ha hb lt =
       falling = λ up. let e : turns levels v a b ≡ 1 = omega arith in ap (λ n. n % 2) e;
     }
 
--- an odd level turns them round
+-- at an odd level, the positions are in reverse order
 pub uniform-falling : (levels : List (Option ℕ)) (start end v : ℕ) → start ≤ end → v % 2 ≡ 1 → IsAtOneLevel levels start end v → line_order levels start end ≡ reverse (remaining levels start end)
 uniform-falling levels start end v le odd u =
     let xs = remaining levels start end in

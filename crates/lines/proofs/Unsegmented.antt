@@ -1,4 +1,4 @@
--- In a text without segment separators nothing separates lines but the ends of its paragraphs.
+-- In a text without segment separators, lines are only separated at the ends of its paragraphs.
 use Rattle.std.proofs.Common.{◌≡◌, ℕ, ◌+◌, ◌-◌, ◌<◌, ◌≤◌, Bool, true, false, cond, List, drop, length, take, zero, suc, refl, sym, ap, ◌∙◌, inl, inr, arith}
 use Rattle.std.specs.Prelude.{◌||◌, count_by, slice_index}
 use Rattle.std.specs.List.{list_any}
@@ -22,7 +22,7 @@ some_true : (b : Bool) → (b ≡ true → ⊥) → b ≡ false
 some_true true h = absurd (h refl)
 some_true false h = refl
 
--- behind more positions stand no fewer separators
+-- before a later position there are at least as many separators
 counted_more : (own : List Class) (p d : ℕ) → p + d ≤ length own → count_by is_separator (take p own) ≤ count_by is_separator (take (p + d) own)
 counted_more own p zero h = let e : p + 0 ≡ p = omega arith in rw e (omega arith)
 counted_more own p (suc d) h =
@@ -35,11 +35,12 @@ counted_up_to own p q le h =
     let e : q ≡ p + (q - p) = omega arith in
     rw e (counted_more own p (q - p) (omega arith))
 
--- and more, if a separator is among them
+-- there are more, if one of them is in between
 counted_over : (own : List Class) (p q : ℕ) → p < q → q ≤ length own → is_separator (class_at own p) ≡ true → count_by is_separator (take p own) < count_by is_separator (take q own)
 counted_over own p q lt h is = omega (arith, counted_step own p true (omega arith) (sym is), counted_up_to own (p + 1) q (omega arith) h)
 
--- where as many separators stand before a position as paragraphs before one, it is not before that one
+-- if as many separators are before a position as paragraphs are before a paragraph, that paragraph begins at or before
+-- the position
 starts_before : (own : List Class) (ends : List ℕ) (p k : ℕ) → AreParagraphEnds own ends (length own) → k < length ends → p ≤ length own → k ≡ count_by is_separator (take p own) → paragraph_start ends k ≤ p
 starts_before own ends p zero a few within n = omega arith
 starts_before own ends p (suc k) a few within n =
@@ -55,7 +56,7 @@ starts_before own ends p (suc k) a few within n =
           absurd (omega (arith, n, all, counted_up_to own p (slice_index ends k - 1) (omega arith) (omega (arith, above, inside)), counted_over own (slice_index ends k - 1) (slice_index ends k) (omega arith) (omega (arith, above, inside)) closed))
     ]
 
--- whether a text has segment separators up to the end of a stretch, by whether it has any before it, and in it
+-- whether a text has segment separators up to the end of a stretch, from the same before the stretch and in it
 pub segments_on : (text : List BidiUnit) (start n : ℕ) (before here : Bool) → before ≡ has_segments (take start text) → here ≡ has_segments (take n (drop start text)) → (before || here) ≡ has_segments (take (start + n) text)
 segments_on text start n before here first next =
     let is : Class → Bool = is_class S in
@@ -70,7 +71,7 @@ either S segment end = cc
 either B segment end = cc
 either _ segment end = refl
 
--- the paragraph with this number begins before the position, or there, and up to it nothing separates lines
+-- the paragraph with this number begins at the position or before it, and nothing in between separates lines
 pub record Free (text : List BidiUnit) (ends : List ℕ) (position number : ℕ) : Type 0 where
   pub start : paragraph_start ends number ≤ position
   pub none : (p : ℕ) → paragraph_start ends number ≤ p → p < position → is_line_separator (class_at (classes_of text) p) ≡ false
@@ -95,7 +96,7 @@ pub at_most_one : (b : Bool) → cond b 1 0 ≤ 1
 at_most_one true = omega arith
 at_most_one false = omega arith
 
--- no more separators stand before a position than the text has paragraphs
+-- the number of separators before a position is at most the number of paragraphs
 pub counted_within : (text : List BidiUnit) (paragraphs position : ℕ) → paragraphs ≡ length (paragraphs_of text) → position ≤ length text → count_by is_separator (take position (classes_of text)) ≤ paragraphs
 counted_within text paragraphs zero same h = omega arith
 counted_within text paragraphs (suc p) same h =

@@ -15,7 +15,7 @@ filter-all : (test : ℕ → Bool) (start count : ℕ) → ((p : ℕ) → start 
 filter-all test start zero all = refl
 filter-all test start (suc count) all = grind (arith, filter-all test (start + 1) count)
 
--- the levels of the line are all there
+-- each position of the line has a level
 pub record AllRemain (levels : List (Option ℕ)) (start end : ℕ) : Type 0 where
   pub here : (p : ℕ) → start ≤ p → p < end → is_remaining levels p ≡ true
 
@@ -38,7 +38,7 @@ zero_or_one : (level : ParaLevel) → (level_of_para level ≡ 0) ⊎ (level_of_
 zero_or_one Zero = inl refl
 zero_or_one One = inr refl
 
--- all positions, rising at the level 0 and falling at 1
+-- all positions, rising at level 0 and falling at level 1
 pub whole-order : (levels : List (Option ℕ)) (start end : ℕ) (level : ParaLevel) (written : List ℕ) → start ≤ end → IsAtOneLevel levels start end (level_of_para level) → AllRemain levels start end → (level_of_para level ≡ 0 → written ≡ positions_from start (end - start)) → (level_of_para level ≡ 1 → written ≡ reverse (positions_from start (end - start))) → written ≡ line_order levels start end
 whole-order levels start end level written le u all even odd =
     grind (arith, zero_or_one, remaining-all, uniform-rising, uniform-falling)

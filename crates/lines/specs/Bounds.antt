@@ -1,4 +1,4 @@
--- The lines of a text as their bounds and the list of their orders hold them.
+-- The lines of a text, as their bounds and the list of their orders.
 use Rattle.std.specs.Prelude.{Option, ℕ, ◌+◌, ◌-◌, ◌<◌, ◌≤◌, List, length, map, slice_index_or, slice_range}
 use Rattle.std.specs.List.{All}
 use Rattle.units.specs.Layout.{LineLayout}
@@ -9,7 +9,7 @@ use Rattle.lines.specs.declared.bounds.Bound.{Bound}
 abbrev pub first_bound : Bound
 first_bound = record { position = 0; order = 0 }
 
--- the bound before the line with the number k, which is the one behind the line before
+-- the bound with the number k: the line with the number k begins there, and the one before it ends there
 abbrev pub bound_at : List Bound → ℕ → Bound
 bound_at bounds k = slice_index_or bounds k first_bound
 
@@ -21,11 +21,11 @@ line_between orders from to = record { start = from.position; end = to.position;
 abbrev pub line_in : List ℕ → List Bound → ℕ → LineLayout
 line_in orders bounds k = line_between orders (bound_at bounds k) (bound_at bounds (k + 1))
 
--- the lines, one between each two bounds
+-- the lines, one between each two consecutive bounds
 abbrev pub lines_in : List ℕ → List Bound → List LineLayout
 lines_in orders bounds = map (line_in orders bounds) (positions_from 0 (length bounds - 1))
 
--- one bound is not before the other
+-- the second bound is not before the first
 pub record Follows (from to : Bound) : Type 0 where
   pub position : from.position ≤ to.position
   pub order : from.order ≤ to.order

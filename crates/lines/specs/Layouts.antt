@@ -1,4 +1,4 @@
--- What a layout shows.
+-- The contents of a layout.
 use Rattle.std.specs.Prelude.{◌≡◌, Option, ℕ, List, [], map, slice_index_or, slice_range}
 use Rattle.units.specs.Isolates.{level_of_para}
 use Rattle.units.specs.Layout.{LineLayout, TextLayout}
@@ -9,7 +9,7 @@ use Rattle.lines.specs.declared.bounds.Bound.{Bound}
 use Rattle.lines.specs.declared.layout.Layout.{Layout}
 use Rattle.lines.specs.declared.layout.Line.{Line}
 
--- what a read past the last line gives, and no caller asks
+-- the value of a read past the last line, which no caller requests
 abbrev pub no_line : LineLayout
 no_line = record { start = 0; end = 0; order = [] }
 
@@ -26,11 +26,12 @@ view_of layout = layout_view layout.paras.now layout.levels.now layout.orders.no
 abbrev pub line_at : TextLayout → ℕ → LineLayout
 line_at layout k = slice_index_or layout.lines k no_line
 
--- L4: the characters of the line with the number k from left to right, by the mirror images and the text's characters
+-- L4: the characters of the line with the number k from left to right, from the mirrored characters and the characters
+-- of the text
 abbrev pub line_shown : (ℕ → Option ℕ) → List ℕ → TextLayout → ℕ → List ℕ
 line_shown images chars layout k = shown_of images layout.levels chars (line_at layout k).order
 
--- L1, L2: the line with the number k, lent
+-- L1, L2: the borrowed line is the line with the number k
 pub record IsLineAt (layout : TextLayout) (k : ℕ) (line : Line) : Type 0 where
   pub shows : line_at layout k ≡ record { start = line.start; end = line.end; order = line.order.now }
   pub levels : line.levels.now ≡ slice_range layout.levels line.start line.end

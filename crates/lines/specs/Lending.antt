@@ -1,4 +1,4 @@
--- What a scratch is once the layout that borrows it is gone.
+-- The state of a scratch after the layout that borrows it is dropped.
 use Rattle.std.specs.Prelude.{◌≡◌, ⊤, List, Result, OnErr, OnOk}
 use Rattle.std.specs.Borrow.{follows_so, MutBor, Fml}
 use mathlib.Core.Option.{none}
@@ -9,11 +9,11 @@ use Rattle.lines.specs.Scratches.{room_of, HoldsText, StillHoldsText}
 use Rattle.lines.specs.declared.scratch.Scratch.{Scratch}
 use Rattle.lines.specs.contracts.scratch.Scratch.{the_row}
 
--- it is what it was
+-- it is unchanged
 abbrev pub IsLentOut : MutBor Scratch → Fml
 IsLentOut room = follows_so the_row the_row room.ghost_name none (λ _ _. ⊤) (λ last. last ≡ room.now)
 
--- it has the room that it had; after an error it is what it was, and else it holds the text that was laid out
+-- its capacity is unchanged; after an error all of it is unchanged, and else it contains the text that was laid out
 abbrev pub KeepsRoom : {T E : Type 0} → LimitsOf → List BidiUnit → Direction → MutBor Scratch → Result T E → Fml
 KeepsRoom limits text direction room result =
     follows_so the_row the_row room.ghost_name none (λ _ _. ⊤)
@@ -21,7 +21,7 @@ KeepsRoom limits text direction room result =
     (room_of last ≡ room_of room.now) × OnErr result (last ≡ room.now)
     × OnOk result (HoldsText limits text direction last))
 
--- it has the room that it had, and still holds the text
+-- its capacity is unchanged, and it still contains the text
 abbrev pub KeepsText : List BidiUnit → MutBor Scratch → Fml
 KeepsText text room =
     follows_so the_row the_row room.ghost_name none (λ _ _. ⊤)

@@ -15,7 +15,7 @@ remaining levels start end = filter (is_remaining levels) (positions_from start 
 abbrev pub HasLevel : List (Option ℕ) → ℕ → ℕ → Type 0
 HasLevel levels p v = slice_index_or levels p None ≡ Some v
 
--- the list has the position
+-- the list contains the position
 abbrev pub IsAmong : List ℕ → ℕ → Type 0
 IsAmong [] y = ⊥
 IsAmong (x ∷ xs) y = (y ≡ x) ⊎ IsAmong xs y

@@ -10,16 +10,16 @@ use Rattle.lines.specs.LineEnds.{EndsLineAt}
 use Rattle.lines.specs.declared.alone.SpanFault.{SpanFault}
 use Rattle.lines.specs.declared.alone.SpanFault.TheVariants.{NotForward, BeyondText, CrossesParagraph}
 
--- broken at these positions the text has a line from start up to end
+-- with these breaks the text has a line from start up to end
 abbrev pub IsLineIn : List BidiUnit → List ℕ → ℕ → ℕ → Type 0
 IsLineIn text breaks start end = EndsLineAt (begins_line (classes_of text) breaks) start end (length (classes_of text))
 
--- P1: no paragraph ends between the two but with the last position below the end
+-- P1: no paragraph ends from start up to end, except with the last position
 abbrev pub IsWithinParagraph : List BidiUnit → ℕ → ℕ → Type 0
 IsWithinParagraph text start end =
     (p : ℕ) → start < p + 1 → p + 1 < end → is_separator (class_at (classes_of text) p) ≡ false
 
--- P2, P3: the paragraph in which the position lies has this level
+-- P2, P3: the paragraph that contains the position has this level
 abbrev pub HasParaLevel : List BidiUnit → List ParaLevel → ℕ → ℕ → Type 0
 HasParaLevel text paras position level = level ≡ para_level_at (classes_of text) (map level_of_para paras) position
 
@@ -27,7 +27,7 @@ HasParaLevel text paras position level = level ≡ para_level_at (classes_of tex
 abbrev pub breaks_around : ℕ → ℕ → List ℕ
 breaks_around start end = start ∷ end ∷ []
 
--- P1: it is a line of the text, if that is broken there, and lies in the paragraph with this number
+-- P1: with breaks at start and end, the text has this line, and the paragraph with this number contains it
 pub record IsLineOfParagraph (text : List BidiUnit) (ends : List ℕ) (start end number : ℕ) : Type 0 where
   pub inside : number < length ends
   pub counted : number ≡ count_by is_separator (take start (classes_of text))
@@ -38,14 +38,14 @@ pub record IsLineLaidOut (layout : TextLayout) (start end : ℕ) (levels : List 
   pub leveled : levels ≡ slice_range layout.levels start end
   pub ordered : order ≡ line_order layout.levels start end
 
--- P1: a separator stands between the two, and not in last place
+-- P1: a separator is between the two, and not in last place
 pub record SeparatesWithin (text : List BidiUnit) (start end : ℕ) : Type 0 where
   pub at : ℕ
   pub from : start ≤ at
   pub before : at + 1 < end
   pub separates : is_separator (class_at (classes_of text) at) ≡ true
 
--- no line of the text goes from start up to end, for this reason; where there are several it is the first
+-- the text has no line from start up to end, for this reason; if there are several reasons, for the first of them
 abbrev pub RefusesSpan : List BidiUnit → ℕ → ℕ → SpanFault → Type 0
 RefusesSpan text start end NotForward = end ≤ start
 RefusesSpan text start end BeyondText = (start < end) × (length text < end)

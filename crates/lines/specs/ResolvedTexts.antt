@@ -1,4 +1,4 @@
--- What a text comes to before its lines are reset and put in order, at the fronts of its columns.
+-- The results for a text before L1 and L2, at the fronts of its columns.
 use Rattle.std.specs.Prelude.{ℕ, ◌≡◌, ◌≤◌, true, List, length, map}
 use Rattle.units.specs.Isolates.{level_of_para}
 use Rattle.units.specs.Layout.{para_levels_of, text_levels}
@@ -12,7 +12,7 @@ use Rattle.lines.specs.declared.bounds.Bound.{Bound}
 use Rattle.lines.specs.declared.columns.TextColumns.{TextColumns}
 use Rattle.lines.specs.declared.resolving.ResolvedText.{ResolvedText}
 
--- P1 to I2: the levels of its paragraphs, their ends and the resolved levels of its positions; and the ends of its lines
+-- P1 to I2: the levels of its paragraphs, their ends, the resolved levels of its positions, and the ends of its lines
 pub record IsResolved (limits : LimitsOf) (text : List BidiUnit) (direction : Direction) (breaks : List ℕ) (resolved : ResolvedText) (columns : TextColumns) (bounds : List Bound) : Type 0 where
   pub paras : map level_of_para (paras_filled resolved.paragraphs columns) ≡ para_levels_of text direction
   pub para_ends : AreAllParagraphEnds text (para_ends_filled resolved.paragraphs columns)
@@ -22,6 +22,6 @@ pub record IsResolved (limits : LimitsOf) (text : List BidiUnit) (direction : Di
   pub few_lines : resolved.lines ≤ length text
   pub known : resolved.uniform ≡ each_keeps_level text direction
 
--- what is known of a text of one unit that keeps its paragraph's level: it is one paragraph and one line
+-- what is known about a text of one unit that keeps the level of its paragraph: it is one paragraph and one line
 abbrev pub one_unit : ResolvedText
 one_unit = record { paragraphs = 1; lines = 1; uniform = true; segmented = true }

@@ -20,22 +20,22 @@ use units::bracket::Unit;
 use units::level::{Level, ParaLevel};
 use units::steps::Steps;
 
-/// Why no line goes from one position of a text up to another; where there are several reasons it is the first.
+/// Why a range of positions is not a line of the text. If there are several reasons, the first of these is reported.
 #[derive(Clone, Copy, Debug, PartialEq, Eq)]
 pub enum SpanFault {
     /// It does not start below its end.
     NotForward,
-    /// It ends behind the text.
+    /// It ends after the end of the text.
     BeyondText,
     /// A paragraph ends within it, before its last position.
     CrossesParagraph,
 }
 
-/// As how many steps a search through the paragraphs of a text counts: up to 2^24 are halved 24 times, and one is looked
-/// at.
+/// The cost in steps of one search through the paragraphs of a text. A text has at most 2^24 paragraphs: the search
+/// halves them 24 times, and looks at one.
 pub const SEARCH_STEPS: usize = 24 + 1;
 
-/// How many of the ends of paragraphs are not above the position.
+/// Returns how many paragraphs end at or before the position.
 pub(crate) fn count_up_to(ends: &[u32], position: usize) -> usize
     requires { Rises ends.now }
     ensures bound { result ≤ length ends.now }
@@ -45,8 +45,8 @@ pub(crate) fn count_up_to(ends: &[u32], position: usize) -> usize
     ends.partition_point(|end| *end as usize <= position)
 }
 
-/// The number of the paragraph (P1) that the line from `start` up to `end` lies in; `ends` are those of the text's
-/// paragraphs.
+/// Returns the number of the paragraph (P1) that contains the line from `start` up to `end`. `ends` has the end of each
+/// paragraph of the text.
 pub(crate) fn paragraph_of_line<L: Ledger>(
     text: &[Unit],
     ends: &[u32],
@@ -73,13 +73,13 @@ pub(crate) fn paragraph_of_line<L: Ledger>(
     Ok(paragraph)
 }
 
-/// Gives separators, and white space and isolate formatting characters before them or at the line's end, the level of
-/// their paragraph (L1), in one line of a text alone.
+/// Resets levels of one line of a text alone to the level of its paragraph (L1): those of separators, and of the white
+/// space and isolate formatting characters before a separator or at the line's end.
 ///
-/// `text` are the units of the whole text with their own classes, `start` and `end` positions of it between which no
-/// paragraph ends (P1), `level` is the level of the paragraph that they lie in, and `levels` are the resolved levels of
-/// the positions from `start` up to `end`. These are then what L1 makes of them in the text, wherever its other lines
-/// end. It takes a step for each position of the line.
+/// `text` has the units of the whole text with their own classes. `start` and `end` are positions of the text, and no
+/// paragraph ends between them (P1). `level` is the level of their paragraph. `levels` has the resolved levels of the
+/// positions from `start` up to `end`, and gets the levels that L1 gives them in the text, wherever other lines end.
+/// Takes one step for each position of the line.
 pub fn reset_line<L: Ledger>(
     text: &[Unit],
     start: usize,
@@ -103,8 +103,8 @@ pub fn reset_line<L: Ledger>(
     reset_text(line, &breaks, &[level], levels, steps);
 }
 
-/// What `reset_line` does, where it may change a level: not where each position that remains is known to have its
-/// paragraph's, as `uniform` says.
+/// Does what `reset_line` does, unless `uniform` says that each remaining position has the level of its paragraph. L1
+/// then changes no level.
 pub(crate) fn reset_line_unless_uniform<L: Ledger>(
     text: &[Unit],
     start: usize,
@@ -133,7 +133,8 @@ pub(crate) fn reset_line_unless_uniform<L: Ledger>(
     reset_line(text, start, end, level, levels, steps);
 }
 
-/// Moves positions of a line to where they stand in its text, which the line begins in at `start`, a step for each.
+/// Adds `start`, the position at which a line begins in its text, to each position of the line. Takes one step for
+/// each.
 fn move_to<L: Ledger>(start: usize, places: &mut [usize], steps: &mut Steps<L>)
     requires { All (λ p. start + p < 2 ^ 64) places.old }
     ensures moved { places.new ≡ map (λ p. start + p) places.old }
@@ -145,8 +146,8 @@ fn move_to<L: Ledger>(start: usize, places: &mut [usize], steps: &mut Steps<L>)
     }
 }
 
-/// Writes the order (L2) of a line that begins at `start` to the front of `order`, by its own levels alone. It answers
-/// how many positions it has. `uniform` is the level that all of them have, where that is known.
+/// Writes the order (L2) of a line that begins at `start` to the front of `order`, and returns its length. It reads
+/// only the levels of the line. `uniform` is the level of all its positions, if that is known.
 pub(crate) fn write_order_alone<L: Ledger>(
     start: usize,
     levels: &[Option<Level>],

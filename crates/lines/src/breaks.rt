@@ -1,7 +1,7 @@
-//! Where a text is cut into lines besides its separators, checked once.
+//! The breaks of a text: where lines begin besides after separators. A list of breaks is checked once.
 use std::marker::Model;
 
-/// Why a list of breaks is refused; the index is that of the first faulty break.
+/// Why a list of breaks is rejected. The index is that of the first bad break.
 #[derive(Clone, Copy, Debug, PartialEq, Eq)]
 pub enum BreakFault {
     /// The break is 0 or not below the text's length.
@@ -31,9 +31,9 @@ impl<'b> Breaks<'b> {
     ghost use Rattle.std.specs.Prelude.{◌≡◌, MatchResult};
     ghost use Rattle.lines.specs.LineBreaks.{AreBreaks, AreBreaksOf, IsFirstBreakFault};
 
-    /// The breaks of a text of `len` units, each of which begins a new line at its position; `at` lists them rising.
+    /// Returns the breaks of a text of `len` units. `at` lists the positions at which a new line begins, rising.
     ///
-    /// Of the faulty breaks the one of the least index is named, and there `OutOfRange` comes before `NotRising`.
+    /// An error reports the bad break with the least index. For one break, `OutOfRange` is checked before `NotRising`.
     pub fn new(at: &'b [usize], len: usize) -> Result<Breaks<'b>, BreakFault>
         ensures { MatchResult result (AreBreaksOf at.now len) (IsFirstBreakFault at.now len) }
     {
@@ -50,7 +50,7 @@ impl<'b> Breaks<'b> {
         Ok(Breaks { at, len })
     }
 
-    /// The breaks, rising.
+    /// Returns the breaks, rising.
     pub fn positions(&self) -> &'b [usize]
         ensures positions { result.now ≡ self.now.positions }
         ensures breaks { AreBreaks result.now self.now.len }
@@ -58,7 +58,7 @@ impl<'b> Breaks<'b> {
         self.at
     }
 
-    /// The length of the text that they are made for.
+    /// Returns the length of the text to which the breaks belong.
     pub fn text_len(&self) -> usize
         ensures { result ≡ self.now.len }
     {

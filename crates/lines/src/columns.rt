@@ -1,4 +1,4 @@
-//! Columns: boxed slices, which don't grow, with an item for each unit of room.
+//! Columns of a `Scratch`: boxed slices, which don't grow. They have one item for each unit of its capacity.
 ghost use Rattle.std.specs.Prelude.{◌≡◌, ◌≤◌, ◌+◌, IfOk, length, take};
 ghost use Rattle.lines.specs.Room.{items_in};
 
@@ -11,14 +11,13 @@ use units::level::{Level, ParaLevel};
 use units::memory::Memory;
 use units::steps::Steps;
 
-/// A column of `n` items, all with this value.
 fn column<T: Copy>(alloc: Global, value: T, n: usize) -> Result<BoxedSlice<T>, Memory>
     ensures { IfOk result (λ column. items_in column ≡ n) }
 {
     Ok(vec![in alloc; value; n]?.into_boxed_slice())
 }
 
-/// Copies levels to the front of a column, in a step for each.
+/// Copies levels to the front of a column. Takes one step for each.
 fn copy_levels<L: Ledger>(
     levels: &[Option<Level>],
     column: &mut [Option<Level>],
@@ -32,8 +31,8 @@ fn copy_levels<L: Ledger>(
     column[..levels.len()].copy_from_slice(levels);
 }
 
-/// The columns of a text: the levels of its paragraphs and where they end, and the levels of its positions, after L1
-/// and before it. Those before it are kept apart only where L1 may change some.
+/// The columns of a text: the levels and the ends of its paragraphs, and the levels of its positions after L1 and
+/// before L1. The levels before L1 have a column of their own only for a text in which L1 may change one.
 #[derive(Drop)]
 pub(crate) struct TextColumns {
     pub(crate) paras: BoxedSlice<ParaLevel>,
@@ -47,7 +46,7 @@ impl TextColumns {
     ghost use Rattle.lines.specs.Columns.{levels_filled, resolved_column, resolved_filled};
     ghost use Rattle.lines.specs.Columns.{HasTextRoom, IsTextRoom, KeepsTextRoom};
 
-    /// Columns of `n` items.
+    /// Allocates columns of `n` items.
     pub(crate) fn with_room(alloc: Global, n: usize) -> Result<TextColumns, Memory>
         ensures { IfOk result (λ columns. IsTextRoom columns n) }
     {
@@ -59,8 +58,8 @@ impl TextColumns {
         })
     }
 
-    /// Keeps the levels of the first so many positions, as they are before L1, unless the text is uniform, whose levels
-    /// L1 leaves.
+    /// Stores the levels of the first `units` positions as they are before L1. It does nothing if the text is uniform,
+    /// because L1 then changes no level.
     pub(crate) fn keep_resolved<L: Ledger>(
         &mut self,
         units: usize,
@@ -83,7 +82,7 @@ impl TextColumns {
         copy_levels(&self.levels[..units], &mut self.resolved, steps);
     }
 
-    /// Gives the first so many positions the levels again that they had before L1.
+    /// Restores the levels that the first `units` positions had before L1.
     pub(crate) fn restore_resolved<L: Ledger>(
         &mut self,
         units: usize,
@@ -108,7 +107,7 @@ impl TextColumns {
         copy_levels(&self.resolved[..units], &mut self.levels, steps);
     }
 
-    /// Returns the levels of the first so many positions, as they are before L1.
+    /// Returns the levels of the first `units` positions before L1.
     pub(crate) fn resolved_levels(&self, units: usize, uniform: bool) -> &[Option<Level>]
         requires { HasTextRoom self.now units }
         ensures { result.now ≡ resolved_filled units uniform self.now }
@@ -120,8 +119,7 @@ impl TextColumns {
         }
     }
 
-    /// Copies the levels of the positions from `start` up to `end`, as they are before L1, to a line of its own, a step
-    /// for each.
+    /// Copies the levels before L1 of the positions from `start` up to `end` to `line`. Takes one step for each.
     pub(crate) fn copy_line<L: Ledger>(
         &self,
         start: usize,
@@ -144,7 +142,8 @@ impl TextColumns {
     }
 }
 
-/// The columns of lines: their runs, the orders of their positions, and their bounds, one more than there are lines.
+/// The columns of lines: their runs, the orders of their positions, and their bounds, of which there is one more than
+/// lines.
 #[derive(Drop)]
 pub(crate) struct LineColumns {
     pub(crate) runs: BoxedSlice<Run>,
@@ -157,7 +156,7 @@ impl LineColumns {
     ghost use Rattle.units.specs.Layout.{longest_text};
     ghost use Rattle.lines.specs.Columns.{IsLineRoom};
 
-    /// Columns for `n` lines and `n` positions.
+    /// Allocates columns for `n` lines and `n` positions.
     pub(crate) fn with_room(alloc: Global, n: usize) -> Result<LineColumns, Memory>
         requires { n ≤ longest_text }
         ensures { IfOk result (λ columns. IsLineRoom columns n) }

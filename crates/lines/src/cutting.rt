@@ -1,4 +1,5 @@
-//! Where the lines of a text end: at its breaks, and with its paragraphs, each behind its separator (P1).
+//! The ends of the lines of a text: its breaks, and the ends of its paragraphs. A paragraph ends after its separator
+//! (P1).
 ghost use Rattle.std.specs.Prelude.{◌≡◌, ◌<◌, ◌≤◌, ◌+◌, ◌-◌, ◌^◌, List, length, slice_index};
 ghost use Rattle.units.specs.declared.class.Class.{Class as BidiClass};
 ghost use Rattle.lines.specs.Bounds.{bound_at, first_bound};
@@ -9,16 +10,16 @@ use crate::bounds::Bound;
 use std::sync::ledger::Ledger;
 use units::steps::Steps;
 
-/// How far a text is cut into lines.
+/// How far a text has been divided into lines.
 #[derive(Clone, Copy)]
 pub struct Cut {
-    /// How many of its breaks were passed; at the text's end one more, for the end.
+    /// How many breaks have been passed. At the end of the text it is one more, for that end.
     pub passed: usize,
-    /// How many of its lines have their bounds.
+    /// How many lines have their bounds.
     pub lines: usize,
 }
 
-/// The first break that was not passed, or the text's end.
+/// Returns the first break that has not been passed, or the end of the text if there is none.
 fn next_break(at: &[usize], passed: usize, len: usize) -> usize
     ensures coming { passed < length at.now → result ≡ slice_index at.now passed }
     ensures last { length at.now ≤ passed → result ≡ len }
@@ -26,7 +27,7 @@ fn next_break(at: &[usize], passed: usize, len: usize) -> usize
     if passed < at.len() { at[passed] } else { len }
 }
 
-/// Begins to cut a text: writes the bound before its first line.
+/// Starts to divide a text into lines: writes the bound before its first line.
 pub(crate) fn start_cut(bounds: &mut [Bound]) -> Cut
     requires { 0 < length bounds.old }
     ensures first { bound_at bounds.new 0 ≡ first_bound }
@@ -43,8 +44,9 @@ pub(crate) fn start_cut(bounds: &mut [Bound]) -> Cut
     }
 }
 
-/// Cuts one paragraph more into lines, and writes their ends behind the bounds of the lines before it. A break where
-/// it ends is passed with it, and makes no empty line. `at` are the breaks of the text, and `len` is its length.
+/// Divides one more paragraph into lines, and writes their ends after the bounds of the lines before them. A break at
+/// the end of the paragraph is passed with it, and makes no empty line. `at` has the breaks of the text, and `len` is
+/// the length of the text.
 pub(crate) fn cut_paragraph<L: Ledger>(
     at: &[usize],
     len: usize,

@@ -1,4 +1,4 @@
-//! The orders of all lines of a text (L2), written one behind another.
+//! The orders of all lines of a text (L2), written one after another.
 ghost use Rattle.std.specs.Prelude.{◌≡◌, ◌<◌, ◌≤◌, ◌+◌, ◌-◌, ◌*◌, ◌^◌, ◌++◌, IfSome, IsTrue, List, ℕ, length, take};
 ghost use Rattle.units.specs.Classes.{classes_of};
 ghost use Rattle.units.specs.Isolates.{level_of_para};
@@ -23,16 +23,16 @@ use units::bracket::Unit;
 use units::level::{Level, ParaLevel};
 use units::steps::Steps;
 
-/// How much of the two columns the lines of a text take.
+/// How much of the column of orders and of that of bounds the lines of a text use.
 #[derive(Clone, Copy)]
 pub struct Filled {
-    /// How many lines there are; there is one bound more.
+    /// The number of lines. There is one more bound than lines.
     pub lines: usize,
-    /// How many positions their orders have.
+    /// The number of positions in all orders.
     pub positions: usize,
 }
 
-/// Writes the order of one line more behind those that are written, and answers how many positions they have then.
+/// Appends the order of one line to the orders that are written, and returns how many positions they then have.
 // Inlined, a short text takes fewer instructions.
 #[inline(always)]
 fn write_line<L: Ledger>(
@@ -58,12 +58,12 @@ fn write_line<L: Ledger>(
     written + write_order(line, uniform, runs, &mut orders[written..], steps)
 }
 
-/// Writes the orders of a text's lines (L2) to the front of their column. The bounds say already where the lines end;
-/// where their orders end is written to them. It answers how many lines and how many positions there are.
+/// Writes the orders of a text's lines (L2) to the front of their column, and returns the number of lines and of
+/// positions. The bounds already have the ends of the lines in the text; the function adds the ends of their orders.
 ///
-/// `paras` are the levels of the text's paragraphs, and the levels are those of its positions after L1. It takes at
-/// least n and at most `7 * n` steps for a text of n positions, however many lines it has, and at most `3 * n` where
-/// each position that remains is known to have its paragraph's level.
+/// `paras` has the levels of the paragraphs, and `levels` the levels of the positions after L1. For a text of n
+/// positions it takes at least n and at most `7 * n` steps, however many lines it has. It takes at most `3 * n` if each
+/// remaining position is known to have the level of its paragraph.
 // Inlined, a short text takes fewer instructions.
 #[inline(always)]
 pub(crate) fn fill_lines<L: Ledger>(

@@ -1,4 +1,4 @@
-//! Laws of layouts.
+//! Theorems about layouts.
 ghost use Rattle.std.specs.Prelude.{◌≡◌, ◌≤◌, ◌<◌, ◌%◌, List, ℕ, length, reverse};
 ghost use Rattle.std.specs.List.{All};
 ghost use Rattle.units.specs.Limits.{LimitsOf, AreAllowed};
@@ -12,8 +12,8 @@ use crate::breaks::Breaks;
 use units::bracket::Unit;
 use units::level::{Level, ParaLevel};
 
-/// The order of a line is the only list of its remaining positions in which, of two, the one that comes first in the
-/// text stands first exactly if the least level between them is even.
+/// Proves that the order of a line is the only list of its remaining positions that L2 allows. In it, the earlier of
+/// two positions of the text comes first exactly if the least level between them is even.
 pub fn order_law(levels: &[Option<Level>], start: usize, end: usize)
     requires line { start ≤ end }
     requires within { end ≤ length levels.now }
@@ -22,8 +22,8 @@ pub fn order_law(levels: &[Option<Level>], start: usize, end: usize)
     ensures places { All (λ p. p < length levels.now) (line_order levels.now start end) }
 {}
 
-/// Where the remaining positions of a line all have one level, they stand as in the text if it is even, and turned
-/// round if it is odd.
+/// Proves the order of a line whose remaining positions all have one level: the order of the text if the level is even,
+/// and the reverse if it is odd.
 pub fn uniform_law(levels: &[Option<Level>], start: usize, end: usize, level: Level)
     requires line { start ≤ end }
     requires uniform { IsAtOneLevel levels.now start end level }
@@ -31,13 +31,13 @@ pub fn uniform_law(levels: &[Option<Level>], start: usize, end: usize, level: Le
     ensures falling { level % 2 ≡ 1 → line_order levels.now start end ≡ reverse (remaining levels.now start end) }
 {}
 
-/// Where each remaining position has the level of its paragraph, L1 changes nothing.
+/// Proves that L1 changes nothing if each remaining position has the level of its paragraph.
 pub fn reset_law(own: &[Unit], breaks: &Breaks, paras: &[ParaLevel], levels: &[Option<Level>])
     requires { StaysAtParas own.now paras.now levels.now }
     ensures { levels_reset own.now breaks.now.positions paras.now levels.now ≡ levels.now }
 {}
 
-/// A position of a text has no level in its layout exactly where X9 removes it: L1 gives none to a removed position,
+/// Proves that a position has no level in a layout exactly if X9 removes it. L1 gives no level to a removed position,
 /// and takes none away.
 pub fn removed_have_no_level()
     ensures { (limits : LimitsOf) (text : List BidiUnit) → AreAllowed limits → RemovedHaveNoLevel limits text }

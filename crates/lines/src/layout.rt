@@ -1,4 +1,4 @@
-//! What a layout answers: the levels of a text and of its paragraphs, and its lines.
+//! A layout: the levels of a text and of its paragraphs, and its lines.
 ghost use Rattle.lines.specs.Bounds.{AreBounds};
 
 use crate::bounds::Bound;
@@ -11,15 +11,15 @@ use units::level::{Level, ParaLevel};
 pub struct Line<'a> {
     /// The position of the text at which the line begins.
     pub start: usize,
-    /// The position of the text behind its last one.
+    /// The position after its last one.
     pub end: usize,
-    /// The levels of its positions after L1, none where a position was removed.
+    /// The levels of its positions after L1; a position that X9 removed has none.
     pub levels: &'a [Option<Level>],
-    /// Its remaining positions, those of the whole text, from left to right (L2).
+    /// Its remaining positions from left to right (L2), as positions of the whole text.
     pub order: &'a [usize],
 }
 
-/// The layout of a text, lent by the scratch that it was written to.
+/// The layout of a text, borrowed from the `Scratch` that it was written to.
 #[derive(Drop)]
 pub struct Layout<'s> {
     paras: &'s [ParaLevel],
@@ -55,28 +55,27 @@ impl<'s> Layout<'s> {
         }
     }
 
-    /// The levels of the paragraphs (P2, P3), in order.
+    /// Returns the levels of the paragraphs (P2, P3), in order.
     pub fn para_levels(&self) -> &[ParaLevel]
         ensures { map level_of_para result.now ≡ (view_of self.now).paras }
     {
         self.paras
     }
 
-    /// The levels of all positions of the text after L1, none where a position was removed.
+    /// Returns the levels of all positions of the text after L1; a position that X9 removed has none.
     pub fn levels(&self) -> &[Option<Level>]
         ensures { result.now ≡ (view_of self.now).levels }
     {
         self.levels
     }
 
-    /// The number of lines; an empty text has none.
+    /// Returns the number of lines; an empty text has none.
     pub fn line_count(&self) -> usize
         ensures { result ≡ length (view_of self.now).lines }
     {
         self.bounds.len() - 1
     }
 
-    /// The bounds of the line with the number `k`.
     fn bounds_of(&self, k: usize) -> (Bound, Bound)
         requires { k + 1 < length self.now.bounds.now }
         ensures line { line_at (view_of self.now) k ≡ line_between self.now.orders.now result.0 result.1 }
@@ -88,7 +87,7 @@ impl<'s> Layout<'s> {
         (bounds[k], bounds[k + 1])
     }
 
-    /// The line with the number `k`, counted from 0.
+    /// Returns the line with the number `k`, counted from 0.
     pub fn line(&self, k: usize) -> Line<'_>
         requires { k < length (view_of self.now).lines }
         ensures line { IsLineAt (view_of self.now) k result }
@@ -107,8 +106,8 @@ impl<'s> Layout<'s> {
         }
     }
 
-    /// The characters of the line with the number `k` from left to right, each whose level is odd as its mirror
-    /// image, where it has one (L4); `chars` are the characters of the whole text.
+    /// Returns the characters of the line with the number `k` from left to right. A character at an odd level is
+    /// replaced by its mirrored character, if it has one (L4). `chars` has the characters of the whole text.
     pub fn shown<'a>(&'a self, mirrors: &'a MirrorTable, chars: &'a [char], k: usize) -> Shown<'a>
         requires line { k < length (view_of self.now).lines }
         requires chars { length chars.now ≡ length (view_of self.now).levels }

@@ -1,4 +1,4 @@
-//! The order of one line's positions (L2).
+//! The order of the positions of one line (L2).
 ghost use Rattle.std.specs.Prelude.{◌≡◌, ◌≤◌, ◌<◌, ◌+◌, ◌-◌, ◌*◌, ◌^◌, ◌++◌, IfSome, length, reverse, take};
 ghost use Rattle.units.specs.Isolates.{level_of_para};
 ghost use Rattle.units.specs.Positions.{positions_from};
@@ -12,8 +12,8 @@ use std::sync::ledger::Ledger;
 use units::level::ParaLevel;
 use units::steps::Steps;
 
-/// Writes the remaining positions of a span to the front of `order`, rising, a step for each of its positions, and
-/// answers how many they are.
+/// Writes the remaining positions of a span to the front of `order`, rising, and returns their number. Takes one step
+/// for each position of the span.
 fn write_rising<L: Ledger>(span: LineSpan<'_>, order: &mut [usize], steps: &mut Steps<L>) -> usize
     requires room { units_in_span span ≤ length order.old }
     ensures order { take result order.new ≡ remaining_in span.entry }
@@ -30,7 +30,7 @@ fn write_rising<L: Ledger>(span: LineSpan<'_>, order: &mut [usize], steps: &mut 
     count
 }
 
-/// The same, falling.
+/// Does the same, but in falling order.
 fn write_falling<L: Ledger>(span: LineSpan<'_>, order: &mut [usize], steps: &mut Steps<L>) -> usize
     requires room { units_in_span span ≤ length order.old }
     ensures order { take result order.new ≡ reverse (remaining_in span.entry) }
@@ -47,8 +47,8 @@ fn write_falling<L: Ledger>(span: LineSpan<'_>, order: &mut [usize], steps: &mut
     count
 }
 
-/// Writes all positions from `start` up to `end` to the front of `order`, from left to right at this level, a step
-/// for each.
+/// Writes all positions from `start` up to `end` to the front of `order`, as they are shown from left to right at this
+/// level. Takes one step for each.
 fn write_all<L: Ledger>(
     start: usize,
     end: usize,
@@ -70,8 +70,8 @@ fn write_all<L: Ledger>(
     }
 }
 
-/// Writes the positions of a run from left to right to the front of `order`, a step for each. It answers how many
-/// they are.
+/// Writes the remaining positions of a run from left to right to the front of `order`, and returns their number. Takes
+/// one step for each position of the run.
 fn write_run<L: Ledger>(run: LineSpan<'_>, order: &mut [usize], steps: &mut Steps<L>) -> usize
     requires run { IsRun run }
     requires room { units_in_span run ≤ length order.old }
@@ -88,8 +88,8 @@ fn write_run<L: Ledger>(run: LineSpan<'_>, order: &mut [usize], steps: &mut Step
     }
 }
 
-/// Writes the positions of a run behind the first `count` items of `order`, a step for each. It answers how many
-/// items are written then.
+/// Writes the remaining positions of a run after the first `count` items of `order`, and returns how many items are
+/// then written. Takes one step for each position of the run.
 fn append_run<L: Ledger>(
     run: LineSpan<'_>,
     order: &mut [usize],
@@ -106,7 +106,7 @@ fn append_run<L: Ledger>(
     count + write_run(run, &mut order[count..], steps)
 }
 
-/// Writes the order of a line by its runs, linked first in `runs`.
+/// Writes the order of a line from its runs, which it first links in `runs`.
 fn write_runs<L: Ledger>(
     line: LineSpan<'_>,
     runs: &mut [Run],
@@ -143,13 +143,13 @@ fn write_runs<L: Ledger>(
     }
 }
 
-/// Writes the order of a line (L2) to the front of `order`: its positions that were not removed, from left to right.
-/// It answers how many they are.
+/// Writes the order of a line (L2) to the front of `order`: its remaining positions from left to right. Returns their
+/// number.
 ///
-/// `order` needs an item for each unit of the line; those behind the answered ones hold anything. `runs` needs an
-/// item for each unit of the text up to the line's end. `uniform` is the level that all remaining positions of the
-/// line have, where that is known. It takes between n and `6 * n` steps on a line of n positions, and where that level
-/// is known at most `2 * n`.
+/// `order` needs an item for each unit of the line; items after the returned number have any value. `runs` needs an
+/// item for each unit of the text up to the line's end. `uniform` is the level of all remaining positions of the line,
+/// if that is known. On a line of n positions it takes between n and `6 * n` steps, and at most `2 * n` if that level
+/// is known.
 // Inlined, a short text takes fewer instructions.
 #[inline(always)]
 pub fn write_order<L: Ledger>(

@@ -1,4 +1,4 @@
-//! Stretches of a text from which nothing was removed (X9): their positions, written in order.
+//! Stretches of a text with no removed position (X9): their positions, written in order.
 ghost use Rattle.std.specs.Prelude.{◌≡◌, ◌<◌, ◌≤◌, ◌+◌, ◌-◌, ◌^◌, length, reverse};
 ghost use Rattle.std.specs.List.{list_all};
 ghost use Rattle.std.specs.Option.{is_some};
@@ -8,7 +8,7 @@ use std::sync::ledger::Ledger;
 use units::level::Level;
 use units::steps::Steps;
 
-/// Whether none of the positions was removed, in a step for each.
+/// Returns whether no position was removed. Takes one step for each.
 pub(crate) fn all_remain<L: Ledger>(levels: &[Option<Level>], steps: &mut Steps<L>) -> bool
     ensures remain { result ≡ list_all is_some levels.now }
     ensures steps { steps.new ≡ steps.old + length levels.now }
@@ -21,7 +21,7 @@ pub(crate) fn all_remain<L: Ledger>(levels: &[Option<Level>], steps: &mut Steps<
     !removed
 }
 
-/// Writes the positions from `start` on, rising, a step for each.
+/// Writes the positions from `start` on, rising. Takes one step for each.
 pub(crate) fn count_up<L: Ledger>(start: usize, places: &mut [usize], steps: &mut Steps<L>)
     requires { start + length places.old < 2 ^ 64 }
     ensures order { places.new ≡ positions_from start (length places.old) }
@@ -33,7 +33,7 @@ pub(crate) fn count_up<L: Ledger>(start: usize, places: &mut [usize], steps: &mu
     }
 }
 
-/// Writes the positions before `end`, falling, a step for each.
+/// Writes the positions before `end`, falling. Takes one step for each.
 pub(crate) fn count_down<L: Ledger>(end: usize, places: &mut [usize], steps: &mut Steps<L>)
     requires { length places.old ≤ end }
     ensures order { places.new ≡ reverse (positions_from (end - length places.old) (length places.old)) }

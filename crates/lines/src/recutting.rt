@@ -1,4 +1,4 @@
-//! Where the lines end of a text that is broken anew.
+//! The ends of the lines of a text that is rebroken.
 ghost use Rattle.std.specs.Prelude.{◌≡◌, ◌<◌, ◌≤◌, ◌+◌, ◌*◌, ◌^◌, length};
 ghost use Rattle.lines.specs.LineEnds.{AreAllLineEnds, AreAllParagraphEnds};
 ghost use Rattle.lines.specs.StepBounds.{cutting_steps};
@@ -10,8 +10,8 @@ use std::sync::ledger::Ledger;
 use units::bracket::Unit;
 use units::steps::Steps;
 
-/// Cuts a text into lines, and writes their ends to the front of `bounds`; `para_ends` are where its paragraphs end. It
-/// answers how many lines there are, and takes a step for each of them and one for each paragraph.
+/// Divides a text into lines, writes their ends to the front of `bounds`, and returns the number of lines. `para_ends`
+/// has the ends of the paragraphs. Takes one step for each line and one for each paragraph.
 pub(crate) fn cut_text<L: Ledger>(
     text: &[Unit],
     breaks: &Breaks,

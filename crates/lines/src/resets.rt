@@ -1,4 +1,4 @@
-//! The levels of separators, and of white space before them and at lines' ends (L1).
+//! The levels of separators, and of white space before separators and at the ends of lines (L1).
 ghost use Rattle.std.specs.Prelude.{◌≡◌, true, ◌<◌, ◌≤◌, ◌+◌, ◌-◌, ◌↔◌, ◌||◌, IsTrue, false, length, slice_index, count_by};
 ghost use Rattle.units.specs.Classes.{class_at, classes_of, is_line_separator as separates_line, is_separator};
 ghost use Rattle.units.specs.Isolates.{level_of_para};
@@ -15,7 +15,7 @@ use units::class::Class;
 use units::level::{Level, ParaLevel};
 use units::steps::Steps;
 
-/// Whether spaces before a position of the class are reset, if those after it are as `later` says.
+/// Returns whether spaces before a position of the class are reset. `later` says whether spaces directly after it are.
 pub fn resets_spaces_before(class: Class, later: bool) -> bool
     ensures { result ≡ resets_before class later }
 {
@@ -27,14 +27,14 @@ pub fn resets_spaces_before(class: Class, later: bool) -> bool
     }
 }
 
-/// Whether a class is reset wherever it stands.
+/// Returns whether a class is reset wherever it occurs.
 fn is_line_separator(class: Class) -> bool
     ensures { result ≡ separates_line class }
 {
     matches!(class, Class::S | Class::B)
 }
 
-/// Whether positions of the class can be reset.
+/// Returns whether L1 can reset positions of the class.
 fn may_be_reset(class: Class) -> bool
     ensures { result ≡ (separates_line class || is_trailing_space class) }
 {
@@ -44,7 +44,7 @@ fn may_be_reset(class: Class) -> bool
     )
 }
 
-/// L1: the level of a position that is reset, if it has one; else the one that it has.
+/// L1: returns the level of the paragraph if the position is reset and has a level, and else the level that it has.
 fn reset_level(reset: bool, para_level: ParaLevel, level: Option<Level>) -> Option<Level>
     ensures { result ≡ reset_to reset (level_of_para para_level) level }
 {
@@ -54,7 +54,7 @@ fn reset_level(reset: bool, para_level: ParaLevel, level: Option<Level>) -> Opti
     }
 }
 
-/// Whether the last of the first `ahead` breaks is at the position.
+/// Returns whether the last of the first `ahead` breaks is at the position.
 fn comes_last(at: &[usize], ahead: usize, position: usize) -> bool
     requires { ahead ≤ length at.now }
     ensures { IsTrue result ↔ ((0 < ahead) × (slice_index at.now (ahead - 1) ≡ position)) }
@@ -62,7 +62,7 @@ fn comes_last(at: &[usize], ahead: usize, position: usize) -> bool
     ahead > 0 && at[ahead - 1] == position
 }
 
-/// The position of the last of the first `ahead` breaks, or 0 where there is none.
+/// Returns the last of the first `ahead` breaks, or 0 if there is none.
 fn last_coming(at: &[usize], ahead: usize) -> usize
     requires { ahead ≤ length at.now }
     ensures some { 0 < ahead → result ≡ slice_index at.now (ahead - 1) }
@@ -71,11 +71,11 @@ fn last_coming(at: &[usize], ahead: usize) -> usize
     if ahead > 0 { at[ahead - 1] } else { 0 }
 }
 
-/// How many positions are passed together in a search for a separator.
+/// How many positions a search for a separator passes at once.
 const BLOCK: usize = 4;
 
-/// Where a search for a separator of lines from `end` back to `start` has passed blocks in which there is none, in a
-/// step for each position.
+/// Passes blocks of positions without a separator of lines, from `end` back to `start`. Returns the position that it
+/// reaches. Takes one step for each position that it passes.
 fn pass_blocks<L: Ledger>(own: &[Unit], start: usize, end: usize, steps: &mut Steps<L>) -> usize
     requires order { start ≤ end }
     requires within { end ≤ length own.now }
@@ -95,9 +95,9 @@ fn pass_blocks<L: Ledger>(own: &[Unit], start: usize, end: usize, steps: &mut St
     position
 }
 
-/// The position behind the last separator of lines from `start` up to `end`, or `start` where there is none: where a
-/// walk of L1 from the end goes on, if nothing before `end` is reset but a separator, and what stands before it. It
-/// takes a step for each position that is passed over.
+/// Returns the position after the last separator of lines from `start` up to `end`, or `start` if there is none. A pass
+/// of L1 from the end continues there if before `end` it resets nothing but a separator and what comes before it. Takes
+/// one step for each position that it passes.
 fn behind_separator<L: Ledger>(
     own: &[Unit],
     start: usize,
@@ -118,7 +118,8 @@ fn behind_separator<L: Ledger>(
     position
 }
 
-/// How many paragraph separators a text of so many paragraphs has: each but the last ends with one.
+/// Returns the number of paragraph separators of a text with this number of paragraphs. Each paragraph but the last
+/// ends with one.
 fn count_separators(own: &[Unit], paragraphs: usize) -> usize
     requires { paragraphs ≡ length (paragraphs_of own.now) }
     ensures { result ≡ count_by is_separator (classes_of own.now) }
@@ -130,13 +131,12 @@ fn count_separators(own: &[Unit], paragraphs: usize) -> usize
     paragraphs - usize::from(!closed)
 }
 
-/// Gives separators, and white space and isolate formatting characters before them or at a line's end, the level of
-/// their paragraph (L1), in one pass from the text's end. The positions of a line that nothing behind them resets are
-/// passed over in a loop that looks for a separator alone.
+/// Resets levels to that of the paragraph (L1), in one pass from the end of the text. It resets separators, and the
+/// white space and isolate formatting characters before a separator or at a line's end. A loop that only searches for a
+/// separator passes the positions of a line that nothing after them resets.
 ///
-/// `own` are the units of the text with their own classes, `paras` the levels of its paragraphs in order, and
-/// `levels` the resolved levels of its positions, none where a position was removed. It takes a step for each
-/// position.
+/// `own` has the units of the text with their own classes. `paras` has the levels of its paragraphs in order. `levels`
+/// has the resolved levels of its positions; a removed position has none. Takes one step for each position.
 pub fn reset_text<L: Ledger>(
     own: &[Unit],
     breaks: &Breaks,
@@ -173,7 +173,7 @@ pub fn reset_text<L: Ledger>(
     }
 }
 
-/// Where the paragraph with this number begins, by where the paragraphs end.
+/// Returns the position at which the paragraph with this number begins. `para_ends` has the ends of the paragraphs.
 fn start_of_paragraph(para_ends: &[u32], paragraph: usize) -> usize
     requires { paragraph ≤ length para_ends.now }
     ensures { result ≡ paragraph_start para_ends.now paragraph }
@@ -185,9 +185,9 @@ fn start_of_paragraph(para_ends: &[u32], paragraph: usize) -> usize
     }
 }
 
-/// What `reset_text` does for a text without segment separators, in at most as many steps, and at least one for each
-/// paragraph: from the first position of a line, from its end, that nothing behind it resets, the walk goes on where
-/// the line begins. `para_ends` are where the paragraphs of the text end.
+/// Does what `reset_text` does, for a text without segment separators. It takes at most as many steps, and at least one
+/// for each paragraph. Once it reaches a position of a line that nothing later resets, it continues before the start of
+/// that line. `para_ends` has the ends of the paragraphs.
 fn reset_unsegmented<L: Ledger>(
     own: &[Unit],
     breaks: &Breaks,
@@ -231,8 +231,8 @@ fn reset_unsegmented<L: Ledger>(
     }
 }
 
-/// What `reset_text` does, where it may change a level: not where each position that remains is known to have its
-/// paragraph's. `para_ends` are where the paragraphs of the text end.
+/// Does what `reset_text` does, unless each remaining position is known to have the level of its paragraph. L1 then
+/// changes no level. `para_ends` has the ends of the paragraphs.
 // Inlined, a short text takes fewer instructions.
 #[inline(always)]
 pub(crate) fn reset_unless_uniform<L: Ledger>(

@@ -1,4 +1,4 @@
-//! The paragraph levels and the resolved levels of a text (P1 to I2), and where its lines end.
+//! The paragraph levels and the resolved levels of a text (P1 to I2), and the ends of its lines.
 ghost use Rattle.std.specs.Prelude.{◌≡◌, ◌<◌, ◌≤◌, ◌+◌, ◌*◌, ◌^◌, [], ◌∷◌, List, ℕ, false, length, true};
 ghost use Rattle.units.specs.Limits.{LimitsOf};
 ghost use Rattle.lines.specs.Bounds.{bound_at, first_bound};
@@ -21,21 +21,21 @@ use units::level::{Direction, Level, ParaLevel};
 use units::limits::Limits;
 use units::steps::Steps;
 
-/// What is known of a text that was resolved.
+/// What is known about a text that was resolved.
 #[derive(Clone, Copy)]
 pub struct ResolvedText {
-    /// How many paragraphs it has.
+    /// The number of its paragraphs.
     pub paragraphs: usize,
-    /// How many lines it has.
+    /// The number of its lines.
     pub lines: usize,
-    /// Known to be at the level of its paragraph at each position that remains (X9), since each paragraph keeps its
-    /// level.
+    /// True only if each paragraph keeps its level: each remaining position (X9) has the level of its paragraph.
     pub uniform: bool,
-    /// Not known to have no segment separator (L1).
+    /// False only if the text has no segment separator (L1).
     pub segmented: bool,
 }
 
-/// Writes the levels of a paragraph of one unit, its end, and that of its line, to the fronts of their columns.
+/// Writes the level and the end of the paragraph, the level of its only unit and the end of its line to the fronts of
+/// their columns.
 fn write_unit(kept: KeptUnit, columns: &mut TextColumns, bounds: &mut [Bound])
     requires room { HasTextRoom columns.old 1 }
     requires bounds { 1 < length bounds.old }
@@ -59,8 +59,8 @@ fn write_unit(kept: KeptUnit, columns: &mut TextColumns, bounds: &mut [Bound])
     };
 }
 
-/// What `resolve_text` does for a text of one unit that keeps its paragraph's level: its paragraph, its class, its
-/// line and its level are a step each. Where the unit may leave that level, it answers so, and does nothing.
+/// Does what `resolve_text` does, for a text of one unit that keeps the level of its paragraph. Its paragraph, its
+/// class, its line and its level take one step each. Returns false and does nothing if the unit may leave that level.
 #[inline(always)]
 fn resolve_unit<L: Ledger>(
     text: &[Unit],
@@ -88,7 +88,7 @@ fn resolve_unit<L: Ledger>(
     true
 }
 
-/// What `resolve_text` does, whatever the text is.
+/// Does what `resolve_text` does, for any text.
 fn resolve_paragraphs<L: Ledger>(
     text: &[Unit],
     direction: Direction,
@@ -153,9 +153,9 @@ fn resolve_paragraphs<L: Ledger>(
     }
 }
 
-/// Writes the levels of a text's paragraphs, their ends and the resolved levels of its positions to the fronts of their
-/// columns, paragraph by paragraph, by these limits; and the ends of its lines, of which one is at the end of each
-/// paragraph, to the front of `bounds`.
+/// Writes the levels of a text's paragraphs, their ends, and the resolved levels of its positions to the fronts of
+/// their columns, paragraph by paragraph, with these limits. Writes the ends of its lines to the front of `bounds`;
+/// each paragraph ends a line.
 pub(crate) fn resolve_text<L: Ledger>(
     text: &[Unit],
     direction: Direction,

@@ -1,4 +1,4 @@
-//! The runs of a line (L2): stretches of one level, linked as they stand on the line from left to right.
+//! The runs of a line (L2): stretches of one level, linked in their order on the line from left to right.
 ghost use Rattle.std.specs.Prelude.{◌≡◌, ◌≢◌, ◌≤◌, ◌<◌, ◌+◌, ◌-◌, ◌*◌, ◌^◌, ◌⊎◌, ℕ, [], MatchOption, length};
 ghost use Rattle.lines.specs.RunLinks.{BeginsRun, IsFollowed, IsJoined, IsLinkedStretch, StopsBelow};
 ghost use Rattle.lines.specs.RunLinks.{run_in};
@@ -11,17 +11,17 @@ use std::sync::ledger::Ledger;
 use units::level::Level;
 use units::steps::Steps;
 
-/// A run of a line: a stretch of the text in which what remains has one level. It stands in its column at its first
-/// position.
+/// A run of a line: a stretch of the text whose remaining positions have one level. Its column has it at the index of
+/// its first position.
 #[derive(Clone, Copy, Default)]
 pub struct Run {
-    /// Where it ends in the text.
+    /// The position at which it ends in the text.
     pub(crate) end: u32,
-    /// Where the run begins that stands right of it.
+    /// The position at which the next run on its right begins.
     pub(crate) next: u32,
 }
 
-/// Runs that are linked from left to right, each by where it begins.
+/// Runs that are linked from left to right. Each is identified by the position at which it begins.
 #[derive(Clone, Copy)]
 pub(crate) struct Chain {
     pub(crate) first: u32,
@@ -29,7 +29,7 @@ pub(crate) struct Chain {
 }
 
 impl Chain {
-    /// Links the last run of this chain to the first of the one that comes right of it.
+    /// Links the last run of this chain to the first run of the chain on its right.
     fn followed_by(self, right: Chain, runs: &mut [Run]) -> Chain
         requires { self.last < length runs.old }
         ensures { IsFollowed self right result runs.old runs.new }
@@ -53,8 +53,8 @@ struct Stretch {
 }
 
 impl Stretch {
-    /// Links the stretch and the one that comes after it in the text to one. The earlier stands left of the later
-    /// where the lesser of their levels is even.
+    /// Joins the stretch and the next one in the text. The earlier is left of the later if the lesser of their levels
+    /// is even, and right of it if that is odd.
     fn joined(self, later: Stretch, runs: &mut [Run]) -> Stretch
         requires earlier { self.chain.last < length runs.old }
         requires later { later.chain.last < length runs.old }
@@ -74,7 +74,8 @@ impl Stretch {
     }
 }
 
-/// Where the run of this level ends that begins at the position, in at most a step for each of its positions.
+/// Returns the end of the run of this level that begins at the position. Takes at most one step for each position of
+/// the run.
 fn end_of_run<L: Ledger>(
     line: LineSpan<'_>,
     position: usize,
@@ -100,7 +101,8 @@ fn end_of_run<L: Ledger>(
     end
 }
 
-/// The stretch of the run of this level that begins at the position, in at most a step for each of its positions.
+/// Starts a stretch with the run of this level that begins at the position. Takes at most one step for each position of
+/// the run.
 fn link_run<L: Ledger>(
     line: LineSpan<'_>,
     position: usize,
@@ -128,7 +130,7 @@ fn link_run<L: Ledger>(
     }
 }
 
-/// Links the longest stretch from the position on whose levels are at `least` or higher, in at most four steps for
+/// Links the longest stretch from the position on whose levels are all at least `least`. Takes at most four steps for
 /// each position.
 fn link_from<L: Ledger>(
     line: &LineSpan<'_>,
@@ -174,7 +176,7 @@ fn link_from<L: Ledger>(
     stretch
 }
 
-/// Links the runs of the line from left to right, where any position remains.
+/// Links the runs of the line from left to right. Returns `None` if no position remains.
 pub(crate) fn link_line<L: Ledger>(
     line: LineSpan<'_>,
     runs: &mut [Run],

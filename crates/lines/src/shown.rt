@@ -1,4 +1,4 @@
-//! What a line shows at a position, mirrored where its level is odd (L4).
+//! The characters that a line shows, mirrored if their level is odd (L4).
 ghost use Rattle.std.specs.Prelude.{◌≡◌, ◌<◌, length};
 ghost use Rattle.std.specs.List.{All};
 ghost use Rattle.units.specs.Reordering.{is_odd_level, shown_at, shown_of};
@@ -6,7 +6,7 @@ ghost use Rattle.units.specs.Reordering.{is_odd_level, shown_at, shown_of};
 use ucdfiles::mirror_table::MirrorTable;
 use units::level::Level;
 
-/// The characters of a line from left to right, mirrored where their level is odd.
+/// The characters of a line from left to right, mirrored if their level is odd.
 #[derive(Drop)]
 pub struct Shown<'a> {
     mirrors: &'a MirrorTable,
@@ -17,7 +17,7 @@ pub struct Shown<'a> {
     ghost written: { length chars.now ≡ length levels.now },
 }
 
-/// Whether the level is odd; a removed position has none.
+/// Returns false for a removed position, which has no level.
 fn is_odd(level: Option<Level>) -> bool
     ensures { result ≡ is_odd_level level }
 {
@@ -31,7 +31,7 @@ impl<'a> Shown<'a> {
     ghost use Rattle.ucdfiles.specs.Tables.{glyph_by};
     ghost use Rattle.lines.specs.Showing.{shown_left};
 
-    /// The characters that stand in this order, at these levels.
+    /// Returns the characters of a text in this order of its positions, at these levels.
     pub(crate) fn new(
         mirrors: &'a MirrorTable,
         levels: &'a [Option<Level>],
@@ -50,7 +50,7 @@ impl<'a> Shown<'a> {
         }
     }
 
-    /// The character at a position as it is shown.
+    /// Returns the character that is shown for a position.
     fn char_at(&self, position: usize) -> char
         requires { position < length self.now.levels.now }
         ensures { result ≡ shown_at (glyph_by self.now.mirrors.now) self.now.levels.now self.now.chars.now position }

@@ -18,7 +18,7 @@ use Rattle.lines.proofs.ParagraphLines.{counted_on, line_uniform, para_read}
 use Rattle.lines.proofs.Separators.{paragraph_at}
 use Rattle.lines.proofs.filling.fill_lines.Goals as goal
 
--- with a line more, that ends there and has an order up to there
+-- the bounds with one more, for a line that ends there and whose order ends there
 abbrev ended_at : List Bound → ℕ → ℕ → List Bound
 ended_at bounds position order = bounds ++ record { position = position; order = order } ∷ []
 

@@ -26,7 +26,7 @@ use Rattle.lines.proofs.ParagraphLines.{paragraph_from}
 use Rattle.lines.proofs.TextLevels.{IsWritten, written_none, separator_last, written_to, written_paras, written_levels}
 use Rattle.lines.proofs.resolving.resolve_paragraphs.Goals as goal
 
--- the first paragraph of what is left, and what is left behind it
+-- the first paragraph of the rest, and the paragraphs after it
 next_piece : (text : List BidiUnit) (start n : ℕ) → start < length text → n ≡ first_length (drop start text) →
     paragraphs_of (drop start text) ≡ take n (drop start text) ∷ paragraphs_of (drop (start + n) text)
 next_piece text start n lt e =
@@ -125,7 +125,7 @@ loop-start-preserved g c =
           omega (arith, long, some, l.invariant.light parts.0, known.ensures.light parts.1);
     }
 
--- at the text's end no paragraph is left
+-- at the end of the text no paragraph remains
 known_whole : (text : List BidiUnit) (direction : Direction) (start : ℕ) (uniform : Bool) → drop start text ≡ [] → (uniform && list_all (keeps_own_level direction) (paragraphs_of (drop start text))) ≡ each_keeps_level text direction → uniform ≡ each_keeps_level text direction
 known_whole text direction start uniform done known =
     sym (and-true uniform) ∙ ap (λ us. uniform && list_all (keeps_own_level direction) (paragraphs_of us)) (sym done) ∙ known
