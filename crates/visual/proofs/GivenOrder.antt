@@ -1,4 +1,4 @@
--- The order of positions by given levels, as stretches of them are written.
+-- The order of positions from given levels, written stretch by stretch.
 use Rattle.std.proofs.Common.{◌≡◌, ℕ, ◌+◌, ◌-◌, ◌<◌, ◌≤◌, ◌%◌, ◌⊎◌, Bool, true, false, cond, zero, suc, Some, None, List, [], ◌∷◌, ◌++◌, length, take, drop, set, refl, sym, ap, ap₂, ◌∙◌, subst, inl, inr, arith, ne_eqb, append_assoc}
 use Rattle.std.specs.Prelude.{◌==◌, reverse, slice_index, slice_range}
 use Rattle.std.proofs.lemmas.Bool.{cases_eq, cases_lt, eq-eqb}
@@ -15,7 +15,7 @@ read_at-even level order even = ap (λ b. cond b order (reverse order)) (eq-eqb 
 read_at-odd : (level : ℕ) (order : List ℕ) → level % 2 ≡ 1 → read_at level order ≡ reverse order
 read_at-odd level order odd = ap (λ b. cond b order (reverse order)) (ne_eqb (level % 2) 0 (omega arith))
 
--- what is read at one level is read at the next one the other way round
+-- the reading at one level is the reverse of that at the next level
 read_next : (level : ℕ) (order : List ℕ) → reverse (read_at (level + 1) order) ≡ read_at level order
 read_next level order =
     elim (cases_eq (level % 2) 0) [
@@ -25,11 +25,11 @@ read_next level order =
           ap reverse (read_at-even (level + 1) order (omega arith)) ∙ sym (read_at-odd level order (omega arith))
     ]
 
--- none of the stretch is below the level
+-- each position of the stretch has at least the level
 pub record IsAbove (levels : List ℕ) (start end least : ℕ) : Type 0 where
   pub above : (p : ℕ) → start ≤ p → p < end → least ≤ slice_index levels p
 
--- the stretch ends with a position of the level, or before one that is no higher
+-- the last position of the stretch has the level, or the position after the stretch has at most this level
 pub record IsClosed (levels : List ℕ) (start end least : ℕ) : Type 0 where
   pub closed : start < end → (slice_index levels (end - 1) ≡ least) ⊎ (end < length levels → slice_index levels end ≤ least)
 
@@ -51,7 +51,7 @@ module _ (levels : List ℕ) where
   no_lower : (start end least : ℕ) → end ≤ length levels → IsAbove levels start end least → (p v : ℕ) → start ≤ p → p < end → HasLevel (all_present levels) p v → least ≤ v
   no_lower start end least within a p v from to h = let e = level_is p v (omega arith) h in omega (arith, a.above p from to)
 
-  -- a position of the level divides what stands before it from it
+  -- a position of the level divides the stretch before it from it
   divides_one : (start end least : ℕ) → end < length levels → slice_index levels end ≡ least → IsAbove levels start (end + 1) least → Divides (all_present levels) start end (end + 1) least
   divides_one start end least within is a =
       record {
@@ -71,7 +71,7 @@ module _ (levels : List ℕ) where
         least = no_lower start to least within a;
       }
 
-  -- the orders of two stretches that are divided, one after the other
+  -- the order of two stretches that are divided, from their own orders
   order_joined : (start end to least : ℕ) → start ≤ end → end ≤ to → Divides (all_present levels) start end to least → read_at least (line_order (all_present levels) start to) ≡ read_at least (line_order (all_present levels) start end) ++ read_at least (line_order (all_present levels) end to)
   order_joined start end to least low high d =
       let all = all_present levels in
@@ -105,7 +105,7 @@ module _ (levels : List ℕ) where
       ∙ ap (λ o. read_at least (placed_if (all_present levels) p o [])) (has_level p low)
       ∙ one_read p (least % 2 == 0)
 
-  -- the stretch from start on up to an end, as far as it is written
+  -- the stretch from start on is written up to an end
   pub record IsWritten (start least end : ℕ) (before order : List ℕ) : Type 0 where
     pub forward : start ≤ end
     pub within : end ≤ length levels
@@ -130,7 +130,7 @@ module _ (levels : List ℕ) where
         ∙ append_assoc (take start before) (read_at least (line_order (all_present levels) start end)) (read_at least (line_order (all_present levels) end to))
         ∙ ap (λ xs. take start before ++ xs) (sym (order_joined start end to least so_far.forward high d))
 
-    -- one position of the level more
+    -- with one more position of the level
     pub written_one : slice_index levels end ≡ least → IsWritten start least (end + 1) before (set order end end)
     written_one is =
         let above : IsAbove levels start (end + 1) least = record {
@@ -149,7 +149,7 @@ module _ (levels : List ℕ) where
               ∙ joins (end + 1) (end ∷ []) (omega arith) (divides_one start end least some is above) (sym (order_one end least some));
         }
 
-    -- a stretch of higher levels more, which was written and then reversed
+    -- with one more stretch of higher levels, which is written and then reversed
     pub written_higher : (to : ℕ) (higher turned : List ℕ) → least < slice_index levels end → end ≤ to → to ≤ length levels
         → IsAbove levels end to (least + 1) → (to < length levels → slice_index levels to < least + 1)
         → take to higher ≡ take end order ++ read_at (least + 1) (line_order (all_present levels) end to)
@@ -180,7 +180,7 @@ module _ (levels : List ℕ) where
               ∙ joins to (reverse later) high (divides_higher start end to least within some above so_far.closed all_above) (read_next least (line_order (all_present levels) end to));
         }
 
-  -- a stretch at the least level is the whole line
+  -- a stretch of level at least 0 is the whole line
   pub written_all : (end : ℕ) (before order : List ℕ) → length order ≡ length levels → end ≤ length levels → (end < length levels → slice_index levels end < 0) → take end order ≡ take 0 before ++ read_at 0 (line_order (all_present levels) 0 end) → order ≡ line_order (all_present levels) 0 (length levels)
   written_all end before order len within stops is =
       let whole : end ≡ length levels = elim (cases_lt end (length levels)) [ inl less ↦ absurd (let below = stops less in omega arith) | inr more ↦ omega arith ] in

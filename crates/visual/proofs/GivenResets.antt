@@ -33,17 +33,17 @@ separator_resets : (c : Class) (later : Bool) → resets_before c (is_separator 
 separator_resets B later = refl
 separator_resets _ later = refl
 
--- whether the positions before p are reset, by whether those before p + 1 are
+-- whether the positions before p are reset, from whether those before p + 1 are
 resets_next : (own : List Class) (p : ℕ) (resets : Bool) → p < length own → resets ≡ resets_to own [] (p + 1) → resets_before (class_at own p) resets ≡ resets_to own [] p
 resets_next own p resets low is =
     let next : (is_separator (class_at own p) || false || resets) ≡ resets_in own [] (p + 1) = resets_in-next own [] p (is_separator (class_at own p)) false resets low refl refl is in
     sym (separator_resets (class_at own p) resets) ∙ ap (resets_before (class_at own p)) next ∙ sym (resets_to-is own [] p low)
 
--- which is whether p itself is
+-- this is whether p itself is reset
 reset_is : (own : List Class) (p : ℕ) → p < length own → is_reset_in own p ≡ resets_to own [] p
 reset_is own p low = class_resets (class_at own p) (resets_in own [] (p + 1)) ∙ sym (resets_to-is own [] p low)
 
--- the positions from p on are reset, those below are as before
+-- the positions from p on are reset, and those before p are unchanged
 pub record IsResetFrom (own : List Class) (para : ℕ) (old : List ℕ) (p : ℕ) (resets : Bool) (levels : List ℕ) : Type 0 where
   pub len : length levels ≡ length old
   pub flag : resets ≡ resets_to own [] p

@@ -1,4 +1,4 @@
--- Places of one level that stand side by side in the order of a line.
+-- Adjacent places of one level in the order of a line.
 use Rattle.std.proofs.Common.{◌≡◌, ℕ, ◌+◌, ◌-◌, ◌<◌, ◌≤◌, ◌%◌, ◌≢◌, ◌⊎◌, Option, Some, None, List, length, refl, sym, ap, ◌∙◌, inl, inr, arith}
 use Rattle.std.proofs.Common.{subst}
 use Rattle.std.specs.Prelude.{IsSome, slice_index, slice_index_or}
@@ -10,7 +10,7 @@ use Rattle.lines.specs.LinePositions.{HasLevel}
 use Rattle.lines.proofs.Turns.{least}
 use Rattle.visual.proofs.SameLevel.{Left, Outside, NoneBetween, left_from_stand, none_outside, none_between_rising, none_between_falling, least_of_one, level_same}
 
--- the place of a position that remains
+-- the place of a remaining position
 pub record PlaceOf (order : List ℕ) (p : ℕ) : Type 0 where
   pub at : ℕ
   pub inside : at < length order
@@ -48,7 +48,7 @@ pub left_at : (levels : List (Option ℕ)) (start end : ℕ) (order : List ℕ) 
 left_at levels start end order i j o lt within =
     left_from_stand levels (slice_index order i) (slice_index order j) (o.pairs i j 0 lt within)
 
--- the places from `from` up to `to` have this level, and the places beside them another
+-- the places from `from` up to `to` have this level, and the adjacent places on both sides have another
 pub record IsSameLevel (levels : List (Option ℕ)) (order : List ℕ) (from to v : ℕ) : Type 0 where
   pub some : from < to
   pub inside : to ≤ length order
@@ -56,7 +56,7 @@ pub record IsSameLevel (levels : List (Option ℕ)) (order : List ℕ) (from to 
   pub before : (i : ℕ) → i + 1 ≡ from → HasLevel levels (slice_index order i) v → ⊥
   pub after : to < length order → HasLevel levels (slice_index order to) v → ⊥
 
--- a position outside of these places stands before both or behind both of two of them
+-- a position at another place is before both or after both of two positions at these places
 outside_at : (levels : List (Option ℕ)) (start end : ℕ) (order : List ℕ) (from to v i j k : ℕ) → IsLineOrder levels start end order → IsSameLevel levels order from to v → from ≤ i → i < to → from ≤ j → j < to → k < length order → (k < from) ⊎ (to ≤ k) → Outside levels (slice_index order i) (slice_index order j) (slice_index order k)
 outside_at levels start end order from to v i j k o s ai bi aj bj lt out =
     elim out [
@@ -80,7 +80,7 @@ place_outside levels order from to v k d u s is h ne =
       ]
     ]
 
--- what remains between two of them has their level too
+-- the remaining positions between two of them have their level too
 pub between_same : (levels : List (Option ℕ)) (start end : ℕ) (order : List ℕ) (from to v i j d u : ℕ) → IsLineOrder levels start end order → IsSameLevel levels order from to v → from ≤ i → i < to → from ≤ j → j < to → slice_index order i < d → d < slice_index order j → HasLevel levels d u → (k : ℕ) × (from ≤ k) × (k < to) × (slice_index order k ≡ d)
 between_same levels start end order from to v i j d u o s ai bi aj bj xd dy h =
     let x = slice_index order i in
@@ -120,7 +120,7 @@ least_same levels start end order from to v i j o s ai bi aj bj lt =
       | inr xd ↦ level_same levels d x u v (omega arith) h (s.same i ai bi)
     ])
 
--- an even level rises
+-- at an even level the positions rise
 pub same-rising : (levels : List (Option ℕ)) (start end : ℕ) (order : List ℕ) (from to v i j : ℕ) → IsLineOrder levels start end order → IsSameLevel levels order from to v → v % 2 ≡ 0 → from ≤ i → i < j → j < to → slice_index order i < slice_index order j
 same-rising levels start end order from to v i j o s even ai lt bj =
     let l = left_at levels start end order i j o lt (omega (arith, s.inside)) in
@@ -133,7 +133,7 @@ same-rising levels start end order from to v i j o s even ai lt bj =
           let z : v % 2 ≡ 1 = ap (λ k. k % 2) (sym e) ∙ odd in absurd (omega arith)
     ]
 
--- an odd level falls
+-- at an odd level the positions fall
 pub same-falling : (levels : List (Option ℕ)) (start end : ℕ) (order : List ℕ) (from to v i j : ℕ) → IsLineOrder levels start end order → IsSameLevel levels order from to v → v % 2 ≡ 1 → from ≤ i → i < j → j < to → slice_index order j < slice_index order i
 same-falling levels start end order from to v i j o s odd ai lt bj =
     let l = left_at levels start end order i j o lt (omega (arith, s.inside)) in
@@ -153,7 +153,7 @@ none_between levels x y c v w ne hx hy hc up down l r =
       | inr a ↦ none_between_falling levels x y c v w (omega arith) hx hy hc down l r
     ]
 
--- a position of their level is at one of these places, if none remains between it and one of them in the text
+-- a position of their level is at one of these places, if no position remains between it and one of them in the text
 pub beside_same : (levels : List (Option ℕ)) (start end : ℕ) (order : List ℕ) (from to v i q : ℕ) → IsLineOrder levels start end order → IsSameLevel levels order from to v → from ≤ i → i < to → start ≤ q → q < end → HasLevel levels q v → NoneBetween levels (slice_index order i) q → NoneBetween levels q (slice_index order i) → (k : ℕ) × (from ≤ k) × (k < to) × (slice_index order k ≡ q)
 beside_same levels start end order from to v i q o s ai bi low high h up down =
     let x = slice_index order i in

@@ -1,4 +1,4 @@
--- The level of a position of a line, from those behind it.
+-- The level of a position of a line, from the positions after it.
 use Rattle.std.proofs.Common.{◌≡◌, ℕ, ◌+◌, ◌-◌, ◌<◌, ◌≤◌, true, false, cond, Option, Some, None, List, zero, suc, refl, sym, ap, ◌∙◌, inl, inr, arith}
 use Rattle.std.specs.Prelude.{slice_index_or, unwrap_or, is_some}
 use Rattle.std.specs.Option.{option_map_or}
@@ -8,7 +8,7 @@ use Rattle.lines.specs.LinePositions.{HasLevel, is_remaining}
 use Rattle.visual.specs.Spans.{AllRemoved}
 use Rattle.visual.specs.KeptLevels.{kept_level, next_remaining}
 
--- the level of the next position that remains, if there is one, else that of the paragraph
+-- the level of the next remaining position if there is one, else that of the paragraph
 abbrev pub level_of_next : List (Option ℕ) → ℕ → Option ℕ → ℕ
 level_of_next levels para_level found = option_map_or (λ q. unwrap_or (slice_index_or levels q None) para_level) found para_level
 
@@ -28,17 +28,17 @@ next-removed levels end p lt h =
     let b : is_remaining levels p ≡ false = ap is_some h in
     ap (λ n. first_from (is_remaining levels) p n) e ∙ ap (λ t. cond t (Some p) (first_from (is_remaining levels) (p + 1) (end - (p + 1)))) b
 
--- its own
+-- a remaining position has its own level
 pub kept-own : (levels : List (Option ℕ)) (para end p v : ℕ) → p < end → HasLevel levels p v → kept_level levels para end p ≡ v
 kept-own levels para end p v lt h =
     kept-is levels para end p ∙ ap (level_of_next levels para) (next-own levels end p v lt h) ∙ ap (λ o. unwrap_or o para) h
 
--- that of the next position
+-- a removed position has that of the next position
 pub kept-next : (levels : List (Option ℕ)) (para end p : ℕ) → p < end → slice_index_or levels p None ≡ None → kept_level levels para end p ≡ kept_level levels para end (p + 1)
 kept-next levels para end p lt h =
     kept-is levels para end p ∙ ap (level_of_next levels para) (next-removed levels end p lt h) ∙ sym (kept-is levels para end (p + 1))
 
--- the paragraph's, behind the line
+-- after the line it is that of the paragraph
 pub kept-end : (levels : List (Option ℕ)) (para end : ℕ) → kept_level levels para end end ≡ para
 kept-end levels para end =
     let e : end - end ≡ 0 = omega arith in
@@ -50,11 +50,11 @@ through levels para end p (suc n) q e le all =
     kept-next levels para end p (omega arith) (all p (omega arith) (omega arith))
     ∙ through levels para end (p + 1) n q (omega arith) le (λ d a b. all d (omega arith) b)
 
--- that of the position behind removed ones
+-- removed positions have that of the position after them
 pub kept-through : (levels : List (Option ℕ)) (para end p q : ℕ) → p ≤ q → q ≤ end → AllRemoved levels p q → kept_level levels para end p ≡ kept_level levels para end q
 kept-through levels para end p q low le all = through levels para end p (q - p) q (omega arith) le all
 
--- all that remain from p through q have this level
+-- all remaining positions from p through q have this level
 abbrev pub AllAt : List (Option ℕ) → ℕ → ℕ → ℕ → Type 0
 AllAt levels v p q = (d u : ℕ) → p ≤ d → d ≤ q → HasLevel levels d u → u ≡ v
 
@@ -75,6 +75,6 @@ inner levels para end v p (suc n) q e lt h all =
     inner_by levels para end v p (suc n) q (slice_index_or levels p None) refl e lt h all
     (λ l. inner levels para end v (p + 1) n q (omega arith) lt h (λ d u a b k. all d u (omega arith) b k))
 
--- the level of all that remain up to one that remains
+-- positions up to a remaining one have its level, if all that remain there do
 pub kept-inner : (levels : List (Option ℕ)) (para end v p q : ℕ) → p ≤ q → q < end → HasLevel levels q v → AllAt levels v p q → kept_level levels para end p ≡ v
 kept-inner levels para end v p q le lt h all = inner levels para end v p (q - p) q (omega arith) lt h all

@@ -1,4 +1,4 @@
--- The run at places of one level: what it spans.
+-- The positions of the run at places of one level.
 use Rattle.std.proofs.Common.{◌≡◌, ℕ, ◌+◌, ◌-◌, ◌<◌, ◌≤◌, ◌%◌, ◌≢◌, ◌⊎◌, true, false, Option, Some, None, List, refl, sym, ap, ◌∙◌, inl, inr, arith, min, max}
 use Rattle.std.specs.Prelude.{IsSome, is_some, slice_index, slice_index_or}
 use Rattle.std.proofs.lemmas.Bool.{cases_lt}
@@ -33,7 +33,7 @@ ends_falling levels start end order from to v i j o s odd ai le bj =
       | inr l ↦ let e : i ≡ j = omega arith in let t : slice_index order i ≡ slice_index order j = ap (slice_index order) e in omega arith
     ]
 
--- they stand at the first place and at the last
+-- they are at the first and at the last place
 pub ends_of : (levels : List (Option ℕ)) (start end : ℕ) (order : List ℕ) (from to v low high : ℕ) → IsLineOrder levels start end order → IsSameLevel levels order from to v → low ≡ min (slice_index order from) (slice_index order (to - 1)) → high ≡ max (slice_index order from) (slice_index order (to - 1)) → AreEnds order from to low high
 ends_of levels start end order from to v low high o s l h =
     elim (parity v) [
@@ -59,7 +59,7 @@ ends_of levels start end order from to v low high o s l h =
           }
     ]
 
--- what remains between the ends stands at one of the places
+-- the remaining positions between the ends are at these places
 pub at_place : (levels : List (Option ℕ)) (start end : ℕ) (order : List ℕ) (from to v low high d u : ℕ) → IsLineOrder levels start end order → IsSameLevel levels order from to v → AreEnds order from to low high → low ≤ d → d ≤ high → HasLevel levels d u → (k : ℕ) × (from ≤ k) × (k < to) × (slice_index order k ≡ d)
 at_place levels start end order from to v low high d u o s e a b h =
     let l = e.lower in
@@ -80,11 +80,11 @@ not_some : (o : Option ℕ) → is_some o ≡ false → o ≡ None
 not_some None h = refl
 not_some (Some v) h = cc
 
--- none remains behind the position
+-- no position remains from this position on
 pub removed_behind : (levels : List (Option ℕ)) (end p : ℕ) → next_remaining levels end p ≡ None → AllRemoved levels p end
 removed_behind levels end p e d a b = not_some (slice_index_or levels d None) (first_from_none (is_remaining levels) p (end - p) e d a (omega arith))
 
--- the next position that remains
+-- the next remaining position
 pub record IsNext (levels : List (Option ℕ)) (end p q : ℕ) : Type 0 where
   pub from : p ≤ q
   pub within : q < end
@@ -104,7 +104,7 @@ next_is levels end p q e =
       before = λ d a b. not_some (slice_index_or levels d None) (f.fails_before d a b);
     }
 
--- the kept levels of the run are its own, and those beside it are others
+-- the positions of the run have its level, and the adjacent positions on both sides have another
 pub record IsOwnLevel (levels : List (Option ℕ)) (para start end from to v : ℕ) : Type 0 where
   pub some : from < to
   pub first : start ≤ from
@@ -113,7 +113,7 @@ pub record IsOwnLevel (levels : List (Option ℕ)) (para start end from to v : �
   pub begins : (from ≡ start) ⊎ (kept_level levels para end (from - 1) ≢ v)
   pub ends : (to ≡ end) ⊎ (kept_level levels para end to ≢ v)
 
--- all that is known of a run's places and of its span
+-- the properties of the places of a run and of its span
 pub record IsFound (levels : List (Option ℕ)) (para start end : ℕ) (order : List ℕ) (place behind v low high from to : ℕ) : Type 0 where
   pub in_order : IsLineOrder levels start end order
   pub same : IsSameLevel levels order place behind v
@@ -133,7 +133,7 @@ found_low levels para start end order place behind v low high from to f =
     let a = f.ends.all g.0 g.1 g.2 in
     (omega (arith, r.low, g.3), omega (arith, a.0, a.1), ap (λ n. slice_index_or levels n None) (sym g.3) ∙ f.same.same g.0 g.1 g.2)
 
--- all that remains of the span up to its greatest place has the level
+-- the remaining positions of the span up to its greatest one are at its places
 found_all : (levels : List (Option ℕ)) (para start end : ℕ) (order : List ℕ) (place behind v low high from to d u : ℕ) → IsFound levels para start end order place behind v low high from to → from ≤ d → d ≤ high → HasLevel levels d u → (k : ℕ) × (place ≤ k) × (k < behind) × (slice_index order k ≡ d)
 found_all levels para start end order place behind v low high from to d u f a b h =
     elim (cases_lt d low) [
@@ -147,7 +147,7 @@ level_of_place levels para start end order place behind v low high from to d u f
     let t : HasLevel levels d v = ap (λ n. slice_index_or levels n None) (sym k.3) ∙ f.same.same k.0 k.1 k.2 in
     let z : Some u ≡ Some v = sym h ∙ t in cc
 
--- the span ends where its last place does, or with the line
+-- the span ends after its greatest remaining position, or at the end of the line
 pub record EndsSo (levels : List (Option ℕ)) (para end high v to : ℕ) : Type 0 where
   pub either : (to ≡ high + 1) ⊎ ((to ≡ end) × (v ≡ para) × AllRemoved levels (high + 1) end)
 
@@ -229,7 +229,7 @@ found_ends_by levels para start end order place behind v low high from to None e
       | inr w ↦ inl w.0
     ]
 
--- the found span is a longest one at its level
+-- the span is a longest one at its level
 pub found_own : (levels : List (Option ℕ)) (para start end : ℕ) (order : List ℕ) (place behind v low high from to : ℕ) → IsFound levels para start end order place behind v low high from to → IsOwnLevel levels para start end from to v
 found_own levels para start end order place behind v low high from to f =
     let l = found_low levels para start end order place behind v low high from to f in
@@ -244,7 +244,7 @@ found_own levels para start end order place behind v low high from to f =
       ends = found_ends_by levels para start end order place behind v low high from to (next_remaining levels end (high + 1)) refl f;
     }
 
--- what remains in it stands at its places
+-- the remaining positions of the span are at its places
 pub found_place : (levels : List (Option ℕ)) (para start end : ℕ) (order : List ℕ) (place behind v low high from to p : ℕ) → IsFound levels para start end order place behind v low high from to → from ≤ p → p < to → IsSome (slice_index_or levels p None) → (k : ℕ) × (place ≤ k) × (k < behind) × (slice_index order k ≡ p)
 found_place levels para start end order place behind v low high from to p f a b s =
     let u = some_level (slice_index_or levels p None) s in
@@ -257,7 +257,7 @@ found_place levels para start end order place behind v low high from to p f a b 
       | inr l ↦ found_all levels para start end order place behind v low high from to p u.0 f a l u.1
     ]
 
--- its places have positions of it
+-- the places have positions of the span
 pub found_covers : (levels : List (Option ℕ)) (para start end : ℕ) (order : List ℕ) (place behind v low high from to i : ℕ) → IsFound levels para start end order place behind v low high from to → place ≤ i → i < behind → (from ≤ slice_index order i) × (slice_index order i < to)
 found_covers levels para start end order place behind v low high from to i f a b =
     let h = found_high levels para start end order place behind v low high from to f in

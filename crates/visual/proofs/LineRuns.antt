@@ -1,4 +1,4 @@
--- The runs of a line, as its code finds them.
+-- The runs of a line, as the code computes them.
 use Rattle.std.proofs.Common.{◌≡◌, ℕ, ◌+◌, ◌-◌, ◌<◌, ◌≤◌, ◌≢◌, ◌⊎◌, true, Some, None, length, refl, sym, ap, ◌∙◌, inl, inr, arith, min, max}
 use Rattle.std.proofs.Common.{subst}
 use Rattle.std.specs.Prelude.{is_some, slice_index, slice_index_or, unwrap_or}
@@ -44,7 +44,7 @@ same_level line from to o b lt within same ends =
       after = λ l h. ends l (level_at line to (level_at_place line from) o l h);
     }
 
--- a run that was found
+-- a run with these properties is the run at its place
 pub found_run : (line : OrderedLine) (place low high : ℕ) (run : VisualRun) → IsFound line.levels.now (para_of line) line.start line.end line.order.now place (place + run.shown) run.level low high run.start run.end → IsRunAt line place run
 found_run line place low high run f =
     let own = found_own line.levels.now (para_of line) line.start line.end line.order.now place (place + run.shown) run.level low high run.start run.end f in
@@ -91,7 +91,7 @@ last_place_inside : (level : ParaLevel) (count : ℕ) → last_place level count
 last_place_inside Zero count = omega arith
 last_place_inside One count = omega arith
 
--- the line's end is one of its places, or the one behind them
+-- the end of the line is one of its places, or the one after them
 pub end_place_inside : (line : OrderedLine) → end_place line ≤ length line.order.now
 end_place_inside line = last_place_inside line.para_level (length line.order.now)
 

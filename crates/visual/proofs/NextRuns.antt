@@ -18,7 +18,7 @@ next_removed-is old new run line place closed given =
       either = inr given;
     }
 
--- a run that takes places comes next
+-- a run that shows positions comes next
 pub next_shown-is : (old mid new : Runs) (run : VisualRun) → mid.line ≡ old.line → mid.place ≡ old.place → (old.end_is_left ≡ false → mid.end_is_left ≡ false) → (mid.end_is_left ≡ old.end_is_left) ⊎ JoinTheLast old.line → BeginsAt mid.line mid.place → (IsInOrder mid.line → BeginsAt mid.line mid.place → IsRunAt mid.line mid.place run) → 0 < run.shown → new.line ≡ mid.line → new.place ≡ mid.place + run.shown → new.end_is_left ≡ mid.end_is_left → IsNextRun old run new
 next_shown-is old mid new run line place closed left begins is some line2 place2 end2 =
     record {

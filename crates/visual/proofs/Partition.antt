@@ -1,4 +1,4 @@
--- The runs that stand side by side on a line have each of its positions once.
+-- Runs side by side on a line have each of its positions once.
 use Rattle.std.proofs.Common.{◌≡◌, ℕ, ◌+◌, ◌-◌, ◌<◌, ◌≤◌, ◌⊎◌, Option, Some, None, List, [], ◌∷◌, length, zero, suc, refl, sym, ap, ◌∙◌, inl, inr, arith}
 use Rattle.std.specs.Prelude.{IsSome, slice_index, slice_index_or}
 use Rattle.std.proofs.lemmas.Bool.{cases_lt}
@@ -13,7 +13,7 @@ use Rattle.visual.proofs.InOrder.{place_of, remaining_at, left_at, some_from_lev
 use Rattle.visual.proofs.LevelRuns.{next_is, removed_behind}
 use Rattle.visual.proofs.LineRuns.{para_of}
 
--- from a position of a run on, as far as its level goes, all positions are the run's
+-- if all positions from one of a run to another position have its level, the run has that position too
 extends : (line : OrderedLine) (run : VisualRun) (a b : ℕ) → IsLevelRun line run → Covers run a → line.start ≤ b → b < line.end → ((p : ℕ) → ((a ≤ p) × (p ≤ b)) ⊎ ((b ≤ p) × (p ≤ a)) → level_in line p ≡ run.level) → Covers run b
 extends line run a b r c low high same =
     elim (cases_lt b run.start) [
@@ -34,7 +34,7 @@ same_span line run other p x r o c d h =
     ] in
     r.level q inside.0 inside.1 ∙ sym (r.level p c.0 c.1) ∙ o.level p d.0 d.1)
 
--- the position at a place is one of the runs'
+-- one of the runs has the position at a place
 pub stand_at : (line : OrderedLine) (from : ℕ) (runs : List VisualRun) (to i : ℕ) → AreSideBySide line from runs to → from ≤ i → i < to → (k : ℕ) × (k < length runs) × Covers (run_numbered runs k) (slice_index line.order.now i) × IsLevelRun line (run_numbered runs k)
 stand_at line from [] to i s a b = absurd (omega (arith, s))
 stand_at line from (run ∷ runs) to i s a b =
@@ -45,7 +45,7 @@ stand_at line from (run ∷ runs) to i s a b =
           (suc t.0, omega (arith, t.1), t.2, t.3)
     ]
 
--- a run, and its place
+-- the place of a run
 pub run_at : (line : OrderedLine) (from : ℕ) (runs : List VisualRun) (to k : ℕ) → AreSideBySide line from runs to → k < length runs → (place : ℕ) × (from ≤ place) × IsRunAt line place (run_numbered runs k)
 run_at line from [] to k s lt = absurd (omega arith)
 run_at line from (run ∷ runs) to zero s lt = (from, omega arith, s.0)
@@ -53,7 +53,7 @@ run_at line from (run ∷ runs) to (suc k) s lt =
     let t = run_at line (from + run.shown) runs to k s.1 (omega arith) in
     (t.0, omega (arith, t.1), t.2)
 
--- two runs, and their places
+-- two runs with their places
 pub record StandApart (line : OrderedLine) (run other : VisualRun) : Type 0 where
   pub place : ℕ
   pub behind : ℕ
@@ -75,7 +75,7 @@ some_at line i o lt =
     let r = remaining_at line.levels.now line.start line.end line.order.now i o lt in
     some_from_level (slice_index_or line.levels.now (slice_index line.order.now i) None) r.level r.has
 
--- of two runs that share a position neither shows any
+-- if two runs share a position, neither of them shows any
 none_shown : (line : OrderedLine) (run other : VisualRun) (p : ℕ) → IsInOrder line → StandApart line run other → Covers run p → Covers other p → (run.shown ≡ 0) × (other.shown ≡ 0)
 none_shown line run other p o s c d =
     let first : run.shown ≡ 0 = elim (cases_lt 0 run.shown) [
@@ -99,12 +99,12 @@ none_shown line run other p o s c d =
     ] in
     (first, second)
 
--- only one of the runs shows nothing
+-- at most one of the runs shows nothing
 abbrev pub OneEmpty : List VisualRun → Type 0
 OneEmpty runs =
     (i j : ℕ) → i < j → j < length runs → (run_numbered runs i).shown ≡ 0 → (run_numbered runs j).shown ≡ 0 → ⊥
 
--- removed positions at the line's end join the last that remains, or have a run among these
+-- removed positions at the end of the line belong to the run before them, or one of these runs is theirs
 abbrev pub EndIsCovered : OrderedLine → List VisualRun → Type 0
 EndIsCovered line runs = JoinTheLast line ⊎ ((k : ℕ) × (k < length runs) × IsRemovedRun line (run_numbered runs k))
 
@@ -165,7 +165,7 @@ covered_by line runs p (Some q) is o s e low high =
 covered_by line runs p None is o s e low high =
     covered_end line runs p o s e low high (removed_behind line.levels.now line.end p is)
 
--- such runs are those of the line
+-- runs with these properties are those of the line
 pub are_runs : (line : OrderedLine) (runs : List VisualRun) → IsInOrder line → AreSideBySide line 0 runs (length line.order.now) → OneEmpty runs → EndIsCovered line runs → AreRunsOf line runs
 are_runs line runs o s one e =
     record {

@@ -1,4 +1,4 @@
--- The runs of a line are as many, in whatever way they are found.
+-- The number of runs of a line does not depend on how they are found.
 use Rattle.std.proofs.Common.{◌≡◌, ◌≢◌, ℕ, ◌+◌, ◌-◌, ◌<◌, ◌≤◌, Bool, true, false, List, [], ◌∷◌, length, map, zero, suc, refl, sym, ◌∙◌, arith, subst, inl, inr}
 use Rattle.std.specs.Prelude.{◌||◌, nat_eq}
 use Rattle.std.proofs.Math.Bool.{or-true}
@@ -18,11 +18,11 @@ use Rattle.visual.specs.declared.line.OrderedLine.{OrderedLine}
 use Rattle.visual.specs.declared.runs.VisualRun.{VisualRun}
 use Rattle.visual.proofs.Partition.{run_at, same_span}
 
--- where each run begins
+-- the positions at which the runs begin
 abbrev starts : List VisualRun → List ℕ
 starts runs = map (λ run. run.start) runs
 
--- each number among these is where one of the runs begins, and the other way
+-- a number is among these exactly if one of the runs begins there
 start_of : (runs : List VisualRun) (q : ℕ) → is_member nat_eq (starts runs) q ≡ true → (k : ℕ) × (k < length runs) × ((run_numbered runs k).start ≡ q)
 start_of [] q h = absurd (let z : false ≡ true = h in cc)
 start_of (run ∷ runs) q h =
@@ -43,7 +43,7 @@ is_start (run ∷ runs) (suc k) lt =
     let rest = is_start runs k (omega arith) in
     subst (λ (b : Bool). (nat_eq q run.start || b) ≡ true) (sym rest) (or-true (nat_eq q run.start))
 
--- no two of them begin at the same position
+-- none of them begins at this position
 none_begins : (runs : List VisualRun) (q : ℕ) → ((k : ℕ) → k < length runs → (run_numbered runs k).start ≢ q) → AllByRecursion (λ (y : ℕ). nat_eq q y ≡ false) (starts runs)
 none_begins [] q differ = tt
 none_begins (run ∷ runs) q differ =
@@ -64,7 +64,7 @@ distinct (run ∷ runs) differ =
     (none_begins runs run.start (λ k lt e. differ 0 (suc k) (omega arith) (omega (arith, lt)) (sym e)))
     (distinct runs (λ i j lt within. differ (suc i) (suc j) (omega (arith, lt)) (omega (arith, within))))
 
--- two runs that share a position begin at the same
+-- two runs that share a position begin at the same position
 same_start : (line : OrderedLine) (run other : VisualRun) (p : ℕ) → IsLevelRun line run → IsLevelRun line other → Covers run p → Covers other p → run.start ≡ other.start
 same_start line run other p r o c d =
     let a : Covers other run.start = same_span line run other p run.start r o c d (omega arith, r.some) in
@@ -96,7 +96,7 @@ no_more line runs others are too =
     let few = length-le_from_is_member nat_eq_equiv (starts runs) (starts others) (distinct runs (starts_apart line runs are)) other in
     omega (arith, few, length-map runs (λ (run : VisualRun). run.start), length-map others (λ (run : VisualRun). run.start))
 
--- two lists of all runs of a line are equally long
+-- two lists of all runs of a line have the same length
 pub same_count : (line : OrderedLine) (runs others : List VisualRun) → AreRunsOf line runs → AreRunsOf line others → length runs ≡ length others
 same_count line runs others are too = omega (arith, no_more line runs others are too, no_more line others runs too are)
 

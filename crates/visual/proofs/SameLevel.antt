@@ -1,4 +1,4 @@
--- Two positions of one level on a line, and what stands between them.
+-- Two positions of one level on a line, and the positions between them.
 use Rattle.std.proofs.Common.{◌≡◌, ℕ, ◌<◌, ◌≤◌, ◌%◌, ◌≢◌, ◌⊎◌, Option, Some, None, List, zero, suc, sym, ap, ◌∙◌, inl, inr, arith}
 use Rattle.std.specs.Prelude.{slice_index_or}
 use Rattle.std.proofs.lemmas.Bool.{cases_lt}
@@ -8,7 +8,7 @@ use Rattle.lines.proofs.Turns.{least}
 use Rattle.lines.proofs.Least.{least-le, least-ge, least-attained, least-splits}
 use Rattle.lines.proofs.LineOrder.{even_from_true, odd_from_false}
 
--- a stands before b, by the least level between them
+-- a is left of b, from the least level between them
 pub record Left (levels : List (Option ℕ)) (a b : ℕ) : Type 0 where
   pub apart : a ≢ b
   pub rising : a < b → least levels a b % 2 ≡ 0
@@ -22,7 +22,7 @@ left_from_stand levels a b t =
       falling = λ h. odd_from_false levels b a (t.falling h);
     }
 
--- c stands before both or behind both
+-- c is left of both or right of both
 abbrev pub Outside : List (Option ℕ) → ℕ → ℕ → ℕ → Type 0
 Outside levels x y c = (Left levels c x × Left levels c y) ⊎ (Left levels x c × Left levels y c)
 
@@ -30,7 +30,7 @@ pub level_same : (levels : List (Option ℕ)) (p q v w : ℕ) → p ≡ q → Ha
 level_same levels p q v w e h k =
     let t : Some v ≡ Some w = sym h ∙ ap (λ n. slice_index_or levels n None) e ∙ k in cc
 
--- then an odd number of turns parts c from one of them alone
+-- then the least levels from c to the one and to the other differ in parity
 outside_parity : (levels : List (Option ℕ)) (x y c : ℕ) → x < c → c < y → Outside levels x y c → least levels x c % 2 ≢ least levels c y % 2
 outside_parity levels x y c a b o =
     elim o [
@@ -38,7 +38,7 @@ outside_parity levels x y c a b o =
       | inr t ↦ let u : least levels x c % 2 ≡ 0 = t.0.rising a in let w : least levels c y % 2 ≡ 1 = t.1.falling b in omega arith
     ]
 
--- between two positions of one level none stands outside, unless one of that level does
+-- if each position of another level between two positions of one level is outside of both, no position between them is
 pub none_outside : (levels : List (Option ℕ)) (x y c v w : ℕ) → HasLevel levels x v → HasLevel levels y v → HasLevel levels c w → x < c → c < y → Outside levels x y c → ((d u : ℕ) → x < d → d < y → HasLevel levels d u → u ≢ v → Outside levels x y d) → ⊥
 none_outside levels x y c v w hx hy hc a b o others =
     let s = least-splits levels x c y v w (omega arith) (omega arith) hx hc in
@@ -58,14 +58,14 @@ none_outside levels x y c v w hx hy hc a b o others =
     let e : least levels x d.at ≡ least levels d.at y = omega (arith, t.left, t.right, p, q) in
     (outside_parity levels x y d.at xd dy2 (others d.at (least levels x y) xd dy2 d.is (omega arith)) (ap (λ k. k % 2) e))
 
--- where all that remain between two positions have their level, it is the least
+-- if all remaining positions between two have their level, it is the least
 pub least_of_one : (levels : List (Option ℕ)) (x y v : ℕ) → x < y → HasLevel levels x v → ((d u : ℕ) → x ≤ d → d ≤ y → HasLevel levels d u → u ≡ v) → least levels x y ≡ v
 least_of_one levels x y v lt hx all =
     let a : least levels x y ≤ v = least-le levels x y x v (omega arith) (omega arith) hx in
     let b : v ≤ least levels x y = least-ge levels x y v v (omega arith) hx (λ c w l h k. let e : w ≡ v = all c w l h k in omega arith) in
     omega arith
 
--- none remains between them
+-- no position remains between them
 abbrev pub NoneBetween : List (Option ℕ) → ℕ → ℕ → Type 0
 NoneBetween levels x y = (d u : ℕ) → x < d → d < y → HasLevel levels d u → ⊥
 
@@ -79,7 +79,8 @@ least_of_two levels x y v lt hx hy none =
       | inr xd ↦ level_same levels d x u v (omega arith) k hx
     ])
 
--- two positions of one level with none between them in the text have none between them on the line: the earlier one on the left
+-- if no position remains between two positions of one level in the text, none is between them on the line; here the
+-- earlier one is on the left
 pub none_between_rising : (levels : List (Option ℕ)) (x y c v w : ℕ) → x < y → HasLevel levels x v → HasLevel levels y v → HasLevel levels c w → NoneBetween levels x y → Left levels x c → Left levels c y → ⊥
 none_between_rising levels x y c v w lt hx hy hc none l r =
     let e : least levels x y ≡ v = least_of_two levels x y v lt hx hy none in
@@ -104,7 +105,7 @@ none_between_rising levels x y c v w lt hx hy hc none l r =
       ]
     ]
 
--- the same, the later one on the left
+-- the same, with the later one on the left
 pub none_between_falling : (levels : List (Option ℕ)) (x y c v w : ℕ) → y < x → HasLevel levels x v → HasLevel levels y v → HasLevel levels c w → NoneBetween levels y x → Left levels x c → Left levels c y → ⊥
 none_between_falling levels x y c v w lt hx hy hc none l r =
     let e : least levels y x ≡ v = least_of_two levels y x v lt hy hx none in

@@ -1,4 +1,4 @@
--- The runs of a line that have been handed out.
+-- The runs of a line that have been returned.
 use Rattle.std.proofs.Common.{◌≡◌, ℕ, ◌+◌, ◌<◌, ◌≤◌, ◌⊎◌, Bool, true, false, List, [], ◌∷◌, ◌++◌, length, zero, suc, refl, sym, ap, ◌∙◌, inl, inr, arith, length-append}
 use Rattle.std.proofs.Common.{subst}
 use Rattle.std.specs.Prelude.{if◌then◌else◌}
@@ -11,7 +11,7 @@ use Rattle.visual.specs.declared.line_runs.Runs.{Runs}
 use Rattle.visual.specs.declared.runs.VisualRun.{VisualRun}
 use Rattle.visual.proofs.Partition.{EndIsCovered, OneEmpty, are_runs}
 
--- one more stands behind those that stand side by side
+-- one more run is side by side with those before it
 stand_more : (line : OrderedLine) (from : ℕ) (runs : List VisualRun) (to : ℕ) (run : VisualRun) → AreSideBySide line from runs to → IsRunAt line to run → AreSideBySide line from (runs ++ run ∷ []) (to + run.shown)
 stand_more line from [] to run s r = (subst (λ n. IsRunAt line n run) (sym s) r, ap (λ n. n + run.shown) s)
 stand_more line from (first ∷ runs) to run s r = (s.0, stand_more line (from + first.shown) runs to run s.1 r)
@@ -28,7 +28,7 @@ numbered_last (first ∷ runs) run = numbered_last runs run
 pub length_more : (runs : List VisualRun) (run : VisualRun) → length (runs ++ run ∷ []) ≡ length runs + 1
 length_more runs run = length-append runs (run ∷ [])
 
--- these runs were handed out before this state, from a line's first on
+-- these runs were returned before this state, from the first run of the line on
 pub record AreGiven (line : OrderedLine) (runs : List VisualRun) (now : Runs) : Type 0 where
   pub of : now.line ≡ line
   pub stand : IsInOrder line → AreSideBySide line 0 runs now.place
@@ -62,7 +62,7 @@ few_shown true false count place shown place2 count2 h closed a b lt = omega ari
 few_shown false false count place shown place2 count2 h closed a b lt = omega arith
 few_shown false true count place shown place2 count2 h closed a b lt = absurd (let z : true ≡ false = closed refl in cc)
 
--- one more is given
+-- one more is returned
 pub given_more : (line : OrderedLine) (runs : List VisualRun) (old : Runs) (run : VisualRun) (new : Runs) → AreGiven line runs old → IsNextRun old run new → AreGiven line (runs ++ run ∷ []) new
 given_more line runs old run new g n =
     let more = length_more runs run in
@@ -97,7 +97,7 @@ given_more line runs old run new g n =
       ];
     }
 
--- all are given: these are the line's runs
+-- after all are returned, these are the runs of the line
 pub all_given : (line : OrderedLine) (runs : List VisualRun) (now : Runs) → AreGiven line runs now → AreNoneLeft now → IsInOrder line → AreRunsOf line runs
 all_given line runs now g none o =
     let s : AreSideBySide line 0 runs (length line.order.now) =

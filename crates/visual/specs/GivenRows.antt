@@ -1,4 +1,4 @@
--- L1 and L2 by given levels, worked by hand.
+-- L1 and L2 for given levels, worked by hand.
 use Rattle.std.specs.Prelude.{◌≡◌, [], ◌∷◌, refl}
 use Rattle.units.specs.Reordering.{line_order}
 use Rattle.units.specs.declared.class.Class.TheVariants.{L, R, BN, S, WS, LRI, RLE, PDF}
@@ -9,7 +9,7 @@ pub before_tab : levels_reset_in (R ∷ BN ∷ WS ∷ S ∷ R ∷ WS ∷ PDF ∷
 unfolding levels_reset_in
 before_tab = refl
 
--- spaces and a removed position between letters stay
+-- spaces and a removed position between letters are unchanged
 pub between : levels_reset_in (L ∷ WS ∷ RLE ∷ LRI ∷ L ∷ []) 1 (2 ∷ 2 ∷ 2 ∷ 2 ∷ 2 ∷ []) ≡ 2 ∷ 2 ∷ 2 ∷ 2 ∷ 2 ∷ []
 unfolding levels_reset_in
 between = refl

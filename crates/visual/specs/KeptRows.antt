@@ -7,27 +7,27 @@ use Rattle.visual.specs.KeptLevels.{kept_level}
 abbrev pub all_levels : List (Option ℕ) → ℕ → ℕ → List ℕ
 all_levels levels para_level end = map (kept_level levels para_level end) (positions_from 0 end)
 
--- a joiner between a Hebrew letter and a space, in a paragraph of level 0: it has the level of the space
+-- a joiner between a Hebrew letter and a space, in a paragraph of level 0, has the level of the space
 pub joiner : all_levels (Some 1 ∷ None ∷ Some 0 ∷ Some 0 ∷ []) 0 4 ≡ 1 ∷ 0 ∷ 0 ∷ 0 ∷ []
 unfolding kept_level
 joiner = refl
 
--- a mark of byte order before a Hebrew letter: that of the letter
+-- a byte order mark before a Hebrew letter has the level of the letter
 pub byte_order : all_levels (None ∷ Some 1 ∷ Some 0 ∷ []) 0 3 ≡ 1 ∷ 1 ∷ 0 ∷ []
 unfolding kept_level
 byte_order = refl
 
--- a joiner behind a Hebrew letter at the line's end: the paragraph's
+-- a joiner after a Hebrew letter at the end of the line has the level of the paragraph
 pub at_the_end : all_levels (Some 0 ∷ Some 1 ∷ None ∷ []) 0 3 ≡ 0 ∷ 1 ∷ 0 ∷ []
 unfolding kept_level
 at_the_end = refl
 
--- one that a break parts from the next letter: the paragraph's, since that letter is of another line
+-- so has one that a break separates from the next letter, because that letter is in another line
 pub before_a_break : all_levels (Some 2 ∷ None ∷ Some 2 ∷ []) 1 2 ≡ 2 ∷ 1 ∷ []
 unfolding kept_level
 before_a_break = refl
 
--- nothing remains: the paragraph's
+-- so have all positions if none remains
 pub nothing : all_levels (None ∷ None ∷ []) 1 2 ≡ 1 ∷ 1 ∷ []
 unfolding kept_level
 nothing = refl

@@ -1,12 +1,12 @@
--- The runs of a line, handed out one after another.
+-- The runs of a line, returned one after another.
 use Rattle.std.specs.Prelude.{ℕ, ◌≡◌, ◌<◌, ◌+◌, ◌-◌, ◌⊎◌, true, false, Option, MatchOption, if◌then◌else◌, length}
 use Rattle.visual.specs.VisualRuns.{IsInOrder, IsRunAt, end_place}
 use Rattle.visual.specs.LineRuns.{IsRemovedRun, JoinTheLast}
 use Rattle.visual.specs.declared.line_runs.Runs.{Runs}
 use Rattle.visual.specs.declared.runs.VisualRun.{VisualRun}
 
--- the run is the next of these, and the others are left: it takes the next places of the line, or is the run of removed
--- positions at its end, where that end is the next place and the run has not been handed out
+-- the run is the next one, and the new state has the others: it takes the next places of the line, or it is the run of
+-- removed positions at the line's end; in that case the end is the next place, and the run has not been returned
 pub record IsNextRun (old : Runs) (given : VisualRun) (new : Runs) : Type 0 where
   pub line : new.line ≡ old.line
   pub run : IsInOrder old.line → IsRunAt old.line old.place given
@@ -16,15 +16,15 @@ pub record IsNextRun (old : Runs) (given : VisualRun) (new : Runs) : Type 0 wher
       ⊎ (IsRemovedRun old.line given × (old.end_is_left ≡ true) × (new.end_is_left ≡ false)
       × (old.place ≡ end_place old.line))
 
--- no run is left
+-- no run remains
 pub record AreNoneLeft (old : Runs) : Type 0 where
   pub place : old.place ≡ length old.line.order.now
   pub end : (old.end_is_left ≡ false) ⊎ JoinTheLast old.line
 
--- a call from one state gave the next run and left the other state, or none where none is left
+-- a call returns the next run and changes the state, or returns none if none remains
 abbrev pub GivesRun : Runs → Option VisualRun → Runs → Type 0
 GivesRun old given new = MatchOption given (AreNoneLeft old) (λ run. IsNextRun old run new)
 
--- so many runs are left at most: one for each place, and that of removed positions
+-- at most this number of runs remains: one for each place, and that of removed positions
 abbrev pub most_left : Runs → ℕ
 most_left runs = (length runs.line.order.now - runs.place) + (if runs.end_is_left then 1 else 0)

@@ -29,7 +29,8 @@ pub record IsLevelRun (line : OrderedLine) (run : VisualRun) : Type 0 where
   pub begins : line.start < run.start → level_in line (run.start - 1) ≢ run.level
   pub ends : run.end < line.end → level_in line run.end ≢ run.level
 
--- the place behind so many in a paragraph's direction: the leftmost at level 1, else the rightmost
+-- the place after `count` places in the direction of a paragraph: the leftmost at level 1, else the one after the
+-- rightmost
 abbrev pub last_place : ParaLevel → ℕ → ℕ
 last_place Zero count = count
 last_place One count = 0
@@ -38,8 +39,8 @@ last_place One count = 0
 abbrev pub end_place : OrderedLine → ℕ
 end_place line = last_place line.para_level (length line.order.now)
 
--- L2: the places from this one on, so many as the run shows, have its remaining positions and no others, from left to right
--- rising at an even level and falling at an odd one; what shows nothing stands at the line's end
+-- L2: the places from this one on, as many as the run shows, have exactly its remaining positions; from left to right
+-- these rise at an even level and fall at an odd one; a run that shows nothing is at the end of the line
 pub record RunIsAt (line : OrderedLine) (place : ℕ) (run : VisualRun) : Type 0 where
   pub inside : place + run.shown ≤ length line.order.now
   pub own : (i : ℕ) → place ≤ i → i < place + run.shown → Covers run (slice_index line.order.now i)
@@ -51,7 +52,7 @@ pub record RunIsAt (line : OrderedLine) (place : ℕ) (run : VisualRun) : Type 0
   pub falling : run.level % 2 ≡ 1 → (i j : ℕ) → place ≤ i → i < j → j < place + run.shown →
       slice_index line.order.now j < slice_index line.order.now i
 
--- the run is one of the line, and is shown from this place on
+-- the run is one of the line, and begins at this place
 pub record IsRunAt (line : OrderedLine) (place : ℕ) (run : VisualRun) : Type 0 where
   pub level : IsLevelRun line run
   pub stands : RunIsAt line place run

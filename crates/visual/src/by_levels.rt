@@ -1,4 +1,4 @@
-//! The order of positions by levels that the caller has (L2).
+//! The order of positions from levels that the caller gives (L2).
 ghost use Rattle.std.specs.Prelude.{◌≡◌, ◌<◌, ◌≤◌, ◌++◌, ℕ, length, reverse, slice_index, slice_range, take};
 ghost use Rattle.units.specs.Reordering.{line_order};
 ghost use Rattle.visual.specs.GivenLevels.{all_present, read_at};
@@ -16,8 +16,8 @@ fn reverse_span(order: &mut [usize], start: usize, end: usize)
 /// Writes the longest stretch from `start` on whose levels are at least `least` to its own places in `order`: from left
 /// to right if `least` is even, and from right to left if it is odd. Returns where the stretch ends.
 ///
-/// A stretch of higher levels in it is written first and then reversed, so a position is moved at most as often as its
-/// level says.
+/// It first writes each stretch of higher levels in it, and then reverses that stretch. So it moves a position at most
+/// as often as its level says.
 fn write_stretch(levels: &[u8], start: usize, least: u8, order: &mut [usize]) -> usize
     requires start { start ≤ length levels.now }
     requires capacity { length order.old ≡ length levels.now }
@@ -43,10 +43,10 @@ fn write_stretch(levels: &[u8], start: usize, least: u8, order: &mut [usize]) ->
     end
 }
 
-/// Writes all positions from left to right (L2), each of which has the level that `levels` has there, also if it is one
-/// that X9 removes.
+/// Writes the order of all positions from left to right (L2). `levels` has the level of each position, also of one that
+/// X9 removes.
 ///
-/// It takes time in proportion to the number of positions and the sum of their levels.
+/// Takes time proportional to the number of positions plus the sum of their levels.
 pub fn write_order(levels: &[u8], order: &mut [usize])
     requires { length order.old ≡ length levels.now }
     ensures { order.new ≡ line_order (all_present levels.now) 0 (length levels.now) }

@@ -1,5 +1,5 @@
-//! The visual runs of a line: stretches of one level, removed positions included, from left to right. And L1 and L2 by
-//! levels that a caller has of its own.
+//! The visual runs of a line: stretches of one level, with removed positions, from left to right. Also L1 and L2 for
+//! levels that a caller gives.
 #![tactic(auto)]
 
 pub mod by_levels;

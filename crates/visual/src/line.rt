@@ -1,4 +1,4 @@
-//! A line whose order is known.
+//! A line with its order.
 ghost use Rattle.std.specs.Prelude.{◌≤◌, ◌<◌, length};
 ghost use Rattle.std.specs.List.{All};
 
@@ -7,15 +7,15 @@ use units::level::{Level, ParaLevel};
 /// A line of a text, with its order.
 #[derive(Clone, Copy)]
 pub struct OrderedLine<'a> {
-    /// The levels of the whole text after L1, none where a position was removed.
+    /// The levels of the whole text after L1; a position that X9 removed has none.
     pub levels: &'a [Option<Level>],
-    /// The position of the text at which the line begins.
+    /// The position at which the line begins.
     pub start: usize,
-    /// The position of the text behind its last one.
+    /// The position after its last one.
     pub end: usize,
-    /// Its remaining positions, those of the whole text, from left to right (L2).
+    /// Its remaining positions from left to right (L2), as positions of the whole text.
     pub order: &'a [usize],
-    /// The level of the paragraph in which it lies.
+    /// The level of the paragraph that contains it.
     pub para_level: ParaLevel,
     pub ghost forward: { start ≤ end },
     pub ghost within: { end ≤ length levels.now },

@@ -7,16 +7,16 @@ ghost use Rattle.visual.specs.VisualRuns.{IsInOrder, end_place};
 use crate::line::OrderedLine;
 use crate::runs::VisualRun;
 
-/// The runs of a line from left to right: each of its positions is in one of them, and in no other.
+/// The runs of a line from left to right. Each position of the line is in exactly one of them.
 ///
-/// Removed positions at the line's end that are a run of their own, which shows nothing, are the leftmost run where the
-/// paragraph's level is 1, and else the rightmost.
+/// Removed positions at the end of the line can be a run of their own, which shows nothing. It is the leftmost run if
+/// the paragraph's level is 1, and else the rightmost.
 #[derive(Clone, Copy, Drop)]
 pub struct Runs<'a> {
     line: OrderedLine<'a>,
     /// The place at which the next run begins.
     place: usize,
-    /// Whether the removed positions at the line's end are still to come, as far as they are a run.
+    /// Whether the run of removed positions at the end of the line, if there is one, has not been returned yet.
     end_is_left: bool,
     ghost inside: { place ≤ length line.order.now },
     ghost begins: { place < length line.order.now → BeginsAt line place },
@@ -28,7 +28,7 @@ impl<'a> Runs<'a> {
     ghost use Rattle.visual.specs.LineRuns.{IsRemovedRun, JoinTheLast};
     ghost use Rattle.visual.specs.VisualRuns.{end_place};
 
-    /// All runs of a line.
+    /// Returns an iterator over all runs of a line.
     pub fn of(line: OrderedLine<'a>) -> Runs<'a>
         ensures line { result.line ≡ line.entry }
         ensures place { result.place ≡ 0 }
@@ -41,7 +41,7 @@ impl<'a> Runs<'a> {
         }
     }
 
-    /// The run of removed positions, if there is one and it comes next: the line's end is the next place.
+    /// Returns the run of removed positions if there is one and it comes next: the next place is the end of the line.
     fn next_removed(&mut self) -> Option<VisualRun>
         ensures line { self.new.line ≡ self.old.line }
         ensures place { self.new.place ≡ self.old.place }
@@ -83,7 +83,7 @@ impl<'a> Iterator for Runs<'a> {
     }
 }
 
-/// Writes an item for a run after so many others, if there is a place for it.
+/// Writes the item of a run after the first `count` items, if there is a place for it.
 pub fn put<T: Copy>(out: &mut [T], count: usize, item: T)
     ensures { out.new ≡ slice_set out.old count item }
 {
@@ -92,7 +92,7 @@ pub fn put<T: Copy>(out: &mut [T], count: usize, item: T)
     }
 }
 
-/// Returns how many runs a line has. It takes time in proportion to the line's length.
+/// Returns the number of runs of a line. Takes time proportional to the length of the line.
 pub fn run_count(line: &OrderedLine<'_>) -> usize
     requires { IsInOrder line.now }
     ensures { HasRuns line.now result }
@@ -104,8 +104,8 @@ pub fn run_count(line: &OrderedLine<'_>) -> usize
     count
 }
 
-/// Returns how many runs a line has, if they are more than `items`. A line of no more positions than that has no more
-/// runs, so they are not counted then.
+/// Returns the number of runs of a line if it is greater than `items`. It does not count the runs if the line has at
+/// most `items` positions, because a line has no more runs than positions.
 pub fn runs_above(line: &OrderedLine<'_>, items: usize) -> Option<usize>
     requires { IsInOrder line.now }
     ensures { MatchOption result (HasAtMost line.now items) (λ count. (items < count) × HasRuns line.now count) }

@@ -1,4 +1,4 @@
-//! The runs of a line as they stand on it from left to right.
+//! The runs of a line in their order from left to right.
 ghost use Rattle.std.specs.Prelude.{◌≡◌, ◌≢◌, ◌≤◌, ◌<◌, ◌+◌, ◌-◌, ◌⊎◌, ℕ, None, true, false, IfSome, IfNone, IsSome, IsNone, is_some, is_none, min, max, length, slice_index, slice_index_or, unwrap_or};
 ghost use Rattle.units.specs.Isolates.{level_of_para};
 ghost use Rattle.visual.specs.KeptLevels.{next_remaining};
@@ -9,20 +9,20 @@ ghost use Rattle.visual.specs.VisualRuns.{IsInOrder, IsRunAt, end_place};
 use crate::line::OrderedLine;
 use units::level::{Level, ParaLevel};
 
-/// A run of a line: positions of one level that follow one another in the text, and stand side by side on the line.
+/// A run of a line: positions of one level that are consecutive in the text and adjacent on the line.
 #[derive(Clone, Copy, Debug, PartialEq, Eq)]
 pub struct VisualRun {
-    /// The position of the text at which it begins.
+    /// The position at which it begins.
     pub start: usize,
-    /// The position of the text behind its last one.
+    /// The position after its last one.
     pub end: usize,
-    /// Its level; where it is odd, its positions stand in falling order.
+    /// Its level. If it is odd, the positions are shown in falling order.
     pub level: Level,
-    /// How many of its positions remain (X9): so many places of the line's order it takes.
+    /// The number of its remaining positions (X9), which is the number of places that it takes in the line's order.
     pub shown: usize,
 }
 
-/// X9: the first position from this one on that remains, of those before `end`.
+/// X9: returns the first remaining position from this one on and before `end`, if there is one.
 fn next_remaining(levels: &[Option<Level>], position: usize, end: usize) -> Option<usize>
     requires { end ≤ length levels.now }
     ensures { result ≡ next_remaining levels.now end position }
@@ -35,8 +35,8 @@ fn next_remaining(levels: &[Option<Level>], position: usize, end: usize) -> Opti
     None
 }
 
-/// X9: the first of the removed positions that stand right before this one, none of them before `start`; this one if
-/// there are none.
+/// X9: returns the first of the removed positions directly before this one, but none before `start`. Returns this
+/// position if there are none.
 fn first_removed(levels: &[Option<Level>], start: usize, position: usize) -> usize
     requires line { start ≤ position }
     requires text { position ≤ length levels.now }
@@ -55,7 +55,7 @@ fn first_removed(levels: &[Option<Level>], start: usize, position: usize) -> usi
 }
 
 impl<'a> OrderedLine<'a> {
-    /// The level of a position, the paragraph's where it was removed.
+    /// Returns the level of a position, or that of the paragraph if X9 removed the position.
     fn level_or_para(&self, position: usize) -> Level
         requires { position < length self.now.levels.now }
         ensures { result ≡ level_or_para self.now position }
@@ -63,7 +63,7 @@ impl<'a> OrderedLine<'a> {
         self.levels[position].unwrap_or(self.para_level.level())
     }
 
-    /// The first place behind this one whose position has another level, or the order's length.
+    /// Returns the first place after this one whose position has another level, or the length of the order.
     fn place_behind(&self, from: usize) -> usize
         requires { from < length self.now.order.now }
         ensures behind { from < result }
@@ -80,8 +80,8 @@ impl<'a> OrderedLine<'a> {
         self.order.len()
     }
 
-    /// The position behind a run of this level whose last remaining position this is: removed ones up to the end of the
-    /// line join it where it has the paragraph's level.
+    /// Returns the position after a run, given its last remaining position and its level. Removed positions up to the
+    /// end of the line belong to the run if it has the level of the paragraph.
     fn end_behind(&self, last: usize, level: Level) -> usize
         requires { last < length self.now.levels.now }
         ensures joined { next_remaining self.now.levels.now self.now.end (last + 1) ≡ None
@@ -97,7 +97,7 @@ impl<'a> OrderedLine<'a> {
         }
     }
 
-    /// The run of the line that begins at a place of its order.
+    /// Returns the run of the line that begins at a place of its order.
     pub(crate) fn run_from(&self, from: usize) -> VisualRun
         requires { from < length self.now.order.now }
         ensures run { IsInOrder self.now → BeginsAt self.now from → IsRunAt self.now from result }
@@ -118,7 +118,8 @@ impl<'a> OrderedLine<'a> {
         }
     }
 
-    /// Whether a run at the paragraph's level that begins here has no position of that level right before it.
+    /// Returns whether a run of the paragraph's level that begins at `start` has no position of that level directly
+    /// before it.
     fn is_alone(&self, start: usize) -> bool
         requires { start ≤ length self.now.levels.now }
         ensures alone { result ≡ true → IsAlone self.now start }
@@ -128,8 +129,8 @@ impl<'a> OrderedLine<'a> {
         start <= self.start || self.level_or_para(start - 1).get() != self.para_level.level().get()
     }
 
-    /// The place of the line's end in its paragraph's direction: the leftmost at level 1, and else the one behind the
-    /// rightmost.
+    /// Returns the place of the line's end in the direction of its paragraph: the leftmost place at level 1, and else
+    /// the one after the rightmost.
     pub(crate) fn end_place(&self) -> usize
         ensures { result ≡ end_place self.now }
     {
@@ -139,8 +140,9 @@ impl<'a> OrderedLine<'a> {
         }
     }
 
-    /// The run of the removed positions at the end of the line, unless there are none or they belong to the run before
-    /// them. It shows nothing, and stands at the end of the line in its paragraph's direction.
+    /// Returns the run of the removed positions at the end of the line. Returns `None` if there are none, or if they
+    /// belong to the run before them. The run shows nothing, and is at the end of the line in the direction of its
+    /// paragraph.
     pub(crate) fn removed_run(&self) -> Option<VisualRun>
         ensures { MayHaveRemovedRun self.now result }
     {

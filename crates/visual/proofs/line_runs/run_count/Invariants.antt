@@ -3,7 +3,7 @@ use Rattle.visual.specs.declared.runs.VisualRun.{VisualRun}
 use Rattle.visual.proofs.Walked.{AreGiven}
 use Rattle.visual.proofs.line_runs.run_count.Given as goal
 
--- the runs so far are counted
+-- the number is that of the runs returned so far
 abbrev pub invariant-loop-run : goal.invariant-loop-run
 invariant-loop-run l =
     (goal.iterator-loop-run).can_next l._run-iterator
