@@ -1,4 +1,4 @@
-//! Rows of many units: explicit levels and open brackets up to their limits, and isolates in one another.
+//! Rows of many units: explicit levels and open brackets up to their limits, and nested isolates.
 use crate::given::{append_units, levels, repeated, shows_in_room, unit, units_of};
 use lines::breaks::Breaks;
 use lines::lay_out::lay_out_into_with;
@@ -11,7 +11,7 @@ use units::class::Class;
 use units::level::{Direction, Level};
 use units::limits::Limits;
 
-/// 62 times RLE and LRE, then these classes.
+/// Appends RLE and LRE 62 times, then these classes.
 fn write_deep(text: &mut Vec<Unit>, last: &str) -> Result<(), Fail> {
     for _ in 0..62 {
         append_units(text, "RLE LRE")?;
@@ -19,14 +19,14 @@ fn write_deep(text: &mut Vec<Unit>, last: &str) -> Result<(), Fail> {
     append_units(text, last)
 }
 
-/// No level for so many units, then that with this number.
+/// Appends no level for each position before `end`, then the level with this number.
 fn write_last_level(levels: &mut Vec<Option<Level>>, end: usize, level: u8) -> Result<(), Fail> {
     repeated(levels, end, 127)?;
     levels.push(Level::new(level))?;
     Ok(())
 }
 
-/// Lays out a text of which the last unit alone remains, and expects the level with this number there.
+/// Lays out a text of which only the last unit remains, and compares the level of that unit.
 fn remains_at(rt: &impl Abort, alloc: Global, text: &[Unit], level: u8) -> Result<(), Fail> {
     assert!(rt; text.len() > 0);
     let end = text.len() - 1;
@@ -35,7 +35,7 @@ fn remains_at(rt: &impl Abort, alloc: Global, text: &[Unit], level: u8) -> Resul
     shows_in_room(rt, alloc, 256, text, Direction::Ltr, &expected, &[end])
 }
 
-/// 62 times RLE and LRE, then these classes, of which the last alone remains and gets the level with this number.
+/// Lays out RLE and LRE 62 times, then these classes. Only the last unit remains, and its level is compared.
 fn deep(rt: &impl Abort, alloc: Global, last: &str, level: u8) -> Result<(), Fail> {
     let mut text = Vec::new(alloc);
     write_deep(&mut text, last)?;
@@ -57,7 +57,7 @@ fn overflows(rt: HostRuntime) -> Result<(), Fail> {
     Ok(())
 }
 
-/// Lays out 63 LRE with units behind them that stay at level 124 and in this order.
+/// Lays out 63 LRE and then these units. They stay at level 124, in this order.
 fn stays_behind_embeddings(
     rt: &impl Abort,
     alloc: Global,
@@ -72,19 +72,20 @@ fn stays_behind_embeddings(
     shows_in_room(rt, alloc, 128, &text, Direction::Ltr, &expected, order)
 }
 
-/// X5a: an initiator inside an overflow of embeddings is refused, too: what it holds stays at level 124.
+/// X5a: an isolate initiator inside an overflow of embeddings overflows too. The units inside it stay at level 124.
 #[test]
 fn isolates_inside_an_overflow(rt: HostRuntime) -> Result<(), Fail> {
     stays_behind_embeddings(&rt, rt.alloc(), "RLI L", &[63, 64])
 }
 
-/// X6a: the PDI of an initiator that was refused closes nothing else.
+/// X6a: the PDI of an initiator that overflowed closes nothing else.
 #[test]
 fn pdis_inside_an_overflow(rt: HostRuntime) -> Result<(), Fail> {
     stays_behind_embeddings(&rt, rt.alloc(), "RLI PDI L", &[63, 64, 65])
 }
 
-/// The characters `a(x)ya`, where x and y are Hebrew, then `n` opening brackets, x, `n` closing ones, and y.
+/// Appends the characters `a(x)ya`, where x and y are Hebrew letters, then `n` opening brackets, x, `n` closing ones,
+/// and y.
 fn write_brackets(text: &mut String, n: usize) -> Result<(), Fail> {
     text.push_str("a(\u{5D0})\u{5D1}a")?;
     for _ in 0..n {
@@ -98,14 +99,14 @@ fn write_brackets(text: &mut String, n: usize) -> Result<(), Fail> {
     Ok(())
 }
 
-/// The units of such a text.
+/// Returns the units of this text.
 fn brackets(alloc: Global, n: usize) -> Result<Vec<Unit>, Fail> {
     let mut text = String::new(alloc);
     write_brackets(&mut text, n)?;
     units_of(alloc, &text)
 }
 
-/// Appends so many times the level 0, the level 1, so many times the level as given, and the level 1.
+/// Appends the level 0 `n` times, the level 1, the level `closing` `n` times, and the level 1.
 fn write_bracket_levels(
     levels: &mut Vec<Option<Level>>,
     n: usize,
@@ -118,14 +119,14 @@ fn write_bracket_levels(
     Ok(())
 }
 
-/// The levels of such a text: those of the last closing brackets are as given.
+/// Returns the levels of this text. Those of the last closing brackets are `closing`.
 fn bracket_levels(alloc: Global, n: usize, closing: u8) -> Result<Vec<Option<Level>>, Fail> {
     let mut expected = levels(alloc, "0 0 1 0 1 0")?;
     write_bracket_levels(&mut expected, n, closing)?;
     Ok(expected)
 }
 
-/// The positions from `first` up to `end`, rising or falling, behind those that the order has.
+/// Appends the positions from `first` up to `end` to the order, rising or falling.
 fn run(order: &mut Vec<usize>, first: usize, end: usize, rises: bool) -> Result<(), Fail> {
     for k in first..end {
         order.push(if rises { k } else { first + (end - 1 - k) })?;
@@ -133,7 +134,7 @@ fn run(order: &mut Vec<usize>, first: usize, end: usize, rises: bool) -> Result<
     Ok(())
 }
 
-/// An order of so many positions: the first rise, so many of them, and the others fall.
+/// Returns an order of the positions before `end`: those before `rising` rise, and the others fall.
 fn turned(alloc: Global, rising: usize, end: usize) -> Result<Vec<usize>, Fail> {
     let mut order = Vec::new(alloc);
     run(&mut order, 0, rising, true)?;
@@ -141,8 +142,8 @@ fn turned(alloc: Global, rising: usize, end: usize) -> Result<Vec<usize>, Fail> 
     Ok(order)
 }
 
-/// Lays out a text from left to right in a room of this size, and compares its levels and its order: the first
-/// positions rise, so many of them, and the others fall.
+/// Lays out a text from left to right in a `Scratch` of this capacity, and compares its levels and its order: the
+/// positions before `rising` rise, and the others fall.
 fn shows_turned(
     rt: &impl Abort,
     alloc: Global,
@@ -155,7 +156,7 @@ fn shows_turned(
     shows_in_room(rt, alloc, room, text, Direction::Ltr, expected, &order)
 }
 
-/// Lays out the text with `n` brackets of each kind, of which the last closing ones get this level.
+/// Lays out the text with `n` brackets of each kind. The last closing ones get the level `closing`.
 fn brackets_show(
     rt: &impl Abort,
     alloc: Global,
@@ -185,7 +186,7 @@ fn resets_isolates_up_to_the_end(rt: HostRuntime) -> Result<(), Fail> {
     shows_turned(&rt, rt.alloc(), 16_000, &text, &expected, 16_000)
 }
 
-/// The level 0, the odd numbers below 126 as levels, 15,936 times the last of them, and the level 126.
+/// Appends the level 0, the odd numbers below 126 as levels, the last of them 15,936 times more, and the level 126.
 fn write_nested_levels(levels: &mut Vec<Option<Level>>) -> Result<(), Fail> {
     levels.push(Level::new(0))?;
     for half in 0..63 {
@@ -196,7 +197,7 @@ fn write_nested_levels(levels: &mut Vec<Option<Level>>) -> Result<(), Fail> {
     Ok(())
 }
 
-/// 16,000 times RLI, and L.
+/// Returns 16,000 RLI, and L.
 fn nested_isolates(alloc: Global) -> Result<Vec<Unit>, Fail> {
     let mut text = vec![in alloc; unit(Class::RLI); 16_000]?;
     text.push(unit(Class::L))?;
@@ -211,7 +212,7 @@ fn nests_isolates_deeply(rt: HostRuntime) -> Result<(), Fail> {
     shows_turned(&rt, rt.alloc(), 16_001, &text, &expected, 1)
 }
 
-/// Lays out RLE, LRE and R by a depth, and expects this level of the last alone.
+/// Lays out RLE, LRE and R with a maximum depth, and compares the levels: only the last unit has one.
 fn level_by_depth(rt: &impl Abort, room: &mut Scratch, depth: u8, level: u8) -> Result<(), Fail> {
     let text = [unit(Class::RLE), unit(Class::LRE), unit(Class::R)];
     let expected = [None, None, Level::new(level)];
@@ -222,7 +223,7 @@ fn level_by_depth(rt: &impl Abort, room: &mut Scratch, depth: u8, level: u8) -> 
     Ok(())
 }
 
-/// X4: at depth 1 the LRE, which asks for level 2, is refused. One room serves all depths.
+/// X4: at depth 1 the LRE, which requests level 2, overflows. One `Scratch` serves all depths.
 #[test]
 fn lays_out_by_the_limits_that_are_handed_in(rt: HostRuntime) -> Result<(), Fail> {
     let mut room = Scratch::with_room(rt.alloc(), 3)?;

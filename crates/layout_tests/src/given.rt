@@ -1,4 +1,4 @@
-//! What rows are made of: tables, units and levels, and a text laid out on one line.
+//! Helpers for rows: tables, units and levels, and a text that is laid out on one line.
 ghost use Rattle.std.specs.Prelude.{◌≡◌, ◌<◌};
 
 use lines::breaks::Breaks;
@@ -22,7 +22,7 @@ use units::level::{Direction, Level};
 use units::slice_source::SliceSource;
 use units::steps::Steps;
 
-/// The tables of the small files.
+/// Returns the tables of the small files.
 pub fn tables(alloc: Global) -> Result<Tables, TableFault> {
     Ok(Tables::new(
         ClassTable::read(alloc, &mut SliceSource::new(CLASSES))?,
@@ -31,7 +31,7 @@ pub fn tables(alloc: Global) -> Result<Tables, TableFault> {
     ))
 }
 
-/// The units of a text by these tables.
+/// Returns the units of a text from these tables.
 pub fn units_by(alloc: Global, tables: &Tables, text: &str) -> Result<Vec<Unit>, Fail> {
     let mut units = Vec::new(alloc);
     for c in text.chars() {
@@ -40,13 +40,13 @@ pub fn units_by(alloc: Global, tables: &Tables, text: &str) -> Result<Vec<Unit>,
     Ok(units)
 }
 
-/// The units of a text by the tables of the small files.
+/// Returns the units of a text from the tables of the small files.
 pub fn units_of(alloc: Global, text: &str) -> Result<Vec<Unit>, Fail> {
     let tables = tables(alloc)?;
     units_by(alloc, &tables, text)
 }
 
-/// A unit of this class that is no bracket.
+/// Returns a unit of this class that is no bracket.
 pub fn unit(class: Class) -> Unit
     ensures { result.class ≡ class }
 {
@@ -56,7 +56,7 @@ pub fn unit(class: Class) -> Unit
     }
 }
 
-/// Appends units of the classes with these short names, none of them a bracket.
+/// Appends units of the classes with these short names. None of them is a bracket.
 pub fn append_units(units: &mut Vec<Unit>, names: &str) -> Result<(), Fail> {
     for name in names.split(' ') {
         if let Some(class) = Class::from_short(name.as_bytes()) {
@@ -66,14 +66,14 @@ pub fn append_units(units: &mut Vec<Unit>, names: &str) -> Result<(), Fail> {
     Ok(())
 }
 
-/// Such units alone.
+/// Returns units of the classes with these short names. None of them is a bracket.
 pub fn units(alloc: Global, names: &str) -> Result<Vec<Unit>, Fail> {
     let mut units = Vec::new(alloc);
     append_units(&mut units, names)?;
     Ok(units)
 }
 
-/// The levels with these numbers, none for each `x`.
+/// Returns the levels with these numbers, and none for each `x`.
 pub fn levels(alloc: Global, text: &str) -> Result<Vec<Option<Level>>, Fail> {
     let mut levels = Vec::new(alloc);
     for item in text.split(' ') {
@@ -82,7 +82,7 @@ pub fn levels(alloc: Global, text: &str) -> Result<Vec<Option<Level>>, Fail> {
     Ok(levels)
 }
 
-/// The numbers that blanks part, of which each text has to be one.
+/// Returns the numbers of a text, which are separated by spaces. Fails if something else is between the spaces.
 pub fn numbers(alloc: Global, text: &str) -> Result<Vec<usize>, Fail> {
     let mut numbers = Vec::new(alloc);
     for item in text.split(' ') {
@@ -91,7 +91,7 @@ pub fn numbers(alloc: Global, text: &str) -> Result<Vec<usize>, Fail> {
     Ok(numbers)
 }
 
-/// Compares a layout of one line: its levels and its order.
+/// Compares the levels and the order of a layout of one line.
 fn is_one_line(rt: &impl Abort, layout: &Layout, levels: &[Option<Level>], order: &[usize]) {
     assert_eq!(rt; layout.levels(), levels);
     assert_eq!(rt; layout.line_count(), 1);
@@ -110,7 +110,7 @@ pub fn shows(
     shows_counting::<Brand>(rt, room, text, direction, levels, order, Blank::new(1))
 }
 
-/// The same, by a count of steps that begins with the blank.
+/// Does the same, with a counter of steps that begins with the blank.
 fn shows_counting<K: Ledger>(
     rt: &impl Abort,
     room: &mut Scratch,
@@ -131,7 +131,7 @@ fn shows_counting<K: Ledger>(
     Ok(())
 }
 
-/// The same in a new room for so many units.
+/// Does the same in a new `Scratch` of this capacity.
 pub fn shows_in_room(
     rt: &impl Abort,
     alloc: Global,
@@ -145,7 +145,7 @@ pub fn shows_in_room(
     shows(rt, &mut room, text, direction, levels, order)
 }
 
-/// Appends so many times the level with this number, or none where no level has it.
+/// Appends the level with this number `count` times, or none if there is no such level.
 pub fn repeated(levels: &mut Vec<Option<Level>>, count: usize, number: u8) -> Result<(), Fail> {
     for _ in 0..count {
         levels.push(Level::new(number))?;

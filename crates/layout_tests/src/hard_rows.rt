@@ -1,5 +1,5 @@
-//! Small texts at which engines have gone wrong and which no line of BidiCharacterTest.txt holds, each with the rule
-//! that it shows, by the tables that are built in.
+//! Small texts that engines got wrong and that no line of BidiCharacterTest.txt has. Each is listed with the rule that
+//! it shows, and uses the built-in tables.
 use crate::given::{levels, numbers, shows_in_room, units_by};
 use lines::breaks::Breaks;
 use lines::lay_out::lay_out_into;
@@ -10,7 +10,7 @@ use std::test::Fail;
 use ucdfiles::tables::Tables;
 use units::level::{Direction, Level};
 
-/// A text, its direction, its levels, with `x` where it has none, and its order.
+/// A text, its direction, its levels, with `x` if there is none, and its order.
 #[derive(Clone, Copy)]
 struct Row {
     text: &'static str,
@@ -27,14 +27,14 @@ const ROWS: [Row; 28] = [
         levels: "2",
         order: "0",
     },
-    // BD16: canonically equivalent brackets pair behind a pair that is empty
+    // BD16: canonically equivalent brackets pair after an empty pair
     Row {
         text: "\u{3008}\u{3009}\u{627}\u{232A}\u{627}",
         direction: Direction::Ltr,
         levels: "0 0 1 1 1",
         order: "0 1 4 3 2",
     },
-    // N0 c: a mark behind a bracket takes the class that the bracket was given
+    // N0 c: a mark after a bracket takes the class that the bracket was given
     Row {
         text: "\u{627}(\u{627})\u{308}",
         direction: Direction::Ltr,
@@ -55,21 +55,21 @@ const ROWS: [Row; 28] = [
         levels: "0 2 0 0 1",
         order: "0 1 2 3 4",
     },
-    // W1: a mark behind a bracket becomes ON, and the brackets behind it still pair
+    // W1: a mark after a bracket becomes ON, and the brackets after it still pair
     Row {
         text: "(\u{308})a)a",
         direction: Direction::Rtl,
         levels: "1 1 1 2 2 2",
         order: "3 4 5 2 1 0",
     },
-    // BD16: brackets that are equivalent by compatibility alone are no pair
+    // BD16: brackets with only a compatibility equivalence are no pair
     Row {
         text: "[\u{627}\u{FF3D}\u{5D0}",
         direction: Direction::Ltr,
         levels: "0 1 1 1",
         order: "0 3 2 1",
     },
-    // BD13: what stands in two isolates side by side is two sequences
+    // BD13: the contents of two adjacent isolates are two sequences
     Row {
         text: "\u{2067}(\u{2069}\u{2066}a)",
         direction: Direction::Ltr,
@@ -83,7 +83,7 @@ const ROWS: [Row; 28] = [
         levels: "1 0 x 1",
         order: "0 1 3",
     },
-    // N0 c: what is strong before an opening bracket stands in its own sequence
+    // N0 c: the context before an opening bracket is from its own sequence
     Row {
         text: "\u{5D0}a\u{2068}a\u{2069}(\u{5D0})",
         direction: Direction::Ltr,
@@ -97,28 +97,28 @@ const ROWS: [Row; 28] = [
         levels: "1 2 0",
         order: "1 0 2",
     },
-    // N0 b: both brackets of a pair take the direction that stands inside
+    // N0 c: both brackets of a pair take the embedding direction, since their context is not of the direction inside
     Row {
         text: "(a)a",
         direction: Direction::Rtl,
         levels: "1 2 1 2",
         order: "3 2 1 0",
     },
-    // BD13: what X9 removes parts no level run
+    // BD13: a position that X9 removes does not split a level run
     Row {
         text: "a\u{202C}\u{2069}a",
         direction: Direction::Rtl,
         levels: "2 x 2 2",
         order: "0 2 3",
     },
-    // L2: positions are put in order by the levels after L1
+    // L2: the levels after L1 give the order of the positions
     Row {
         text: "\u{202D}a\u{2069}",
         direction: Direction::Rtl,
         levels: "x 2 1",
         order: "2 1",
     },
-    // BD13: what stands in two isolates side by side is two sequences, and a mark takes its class in its own (W1)
+    // BD13: the contents of two adjacent isolates are two sequences, and a mark takes its class in its own (W1)
     Row {
         text: "\u{2066}a\u{2069}\u{2067}\u{300}",
         direction: Direction::Ltr,
@@ -167,14 +167,14 @@ const ROWS: [Row; 28] = [
         levels: "0 x 1 2 1",
         order: "0 4 3 2",
     },
-    // X10: after an isolate initiator without a PDI, eos is of the paragraph's level, also before what X9 removes
+    // X10: after an isolate initiator without a PDI, eos is of the paragraph's level, also before a removed position
     Row {
         text: "a\u{2066}\u{202D}a",
         direction: Direction::Rtl,
         levels: "2 1 x 4",
         order: "3 1 0",
     },
-    // W1 before W5: a mark after a terminator is one too
+    // W1 before W5: a mark after a terminator becomes a terminator
     Row {
         text: "%\u{300}1",
         direction: Direction::Rtl,
@@ -253,7 +253,7 @@ const LINE_ROWS: [LineRow; 5] = [
         levels: "1 2",
         orders: ["0", "1"],
     },
-    // P1: each paragraph is resolved by itself
+    // P1: each paragraph is resolved alone
     LineRow {
         text: "\u{5D0}\u{2029} \u{5D0}",
         direction: Direction::Ltr,
@@ -261,7 +261,7 @@ const LINE_ROWS: [LineRow; 5] = [
         levels: "1 0 0 1",
         orders: ["0 1", "2 3"],
     },
-    // X9: a line may begin with what is removed
+    // X9: a line may begin with a removed position
     LineRow {
         text: "\u{5D0}\u{200D}\u{5D0}",
         direction: Direction::Ltr,
@@ -271,7 +271,7 @@ const LINE_ROWS: [LineRow; 5] = [
     },
 ];
 
-/// Lays out the text of a row by these tables, and compares its levels and its order.
+/// Lays out the text of a row with these tables, and compares its levels and its order.
 fn shows_row(rt: &impl Abort, alloc: Global, tables: &Tables, row: &Row) -> Result<(), Fail> {
     let text = units_by(alloc, tables, row.text)?;
     let levels = levels(alloc, row.levels)?;
@@ -288,7 +288,7 @@ fn rows_that_engines_missed(rt: HostRuntime) -> Result<(), Fail> {
     Ok(())
 }
 
-/// BD2: explicit levels go up to 125, so 31 embeddings in one another lead to level 62.
+/// BD2: explicit levels go up to 125, so 31 nested embeddings lead to level 62.
 #[test]
 fn embeddings_that_an_engine_missed(rt: HostRuntime) -> Result<(), Fail> {
     let alloc = rt.alloc();

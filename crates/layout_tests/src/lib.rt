@@ -1,6 +1,6 @@
-//! Tests of layouts: worked rows of whole texts, of their lines, and of what is shown of them. They stand here, and not
-//! beside what they test, so that no crate is proved a second time with its tests. Those that fill whole rooms are in
-//! `room_tests`.
+//! Tests of layouts: worked rows of whole texts, of their lines, and of the characters that are shown. They are in a
+//! crate of their own, so that no crate is proved a second time with its tests. Tests that use the whole capacity are
+//! in `room_tests`.
 #![tactic(auto)]
 
 #[cfg(test)]

@@ -1,4 +1,4 @@
-//! Rows of several lines: breaks, and what a room holds after a refusal.
+//! Rows of several lines: breaks, and the contents of a `Scratch` after an error.
 ghost use Rattle.lines.specs.Scratches.{IsFilled};
 ghost use Rattle.std.specs.Prelude.{◌≡◌, OnOk};
 
@@ -15,7 +15,7 @@ use units::bracket::Unit;
 use units::class::Class;
 use units::level::{Direction, Level, ParaLevel};
 
-/// Breaks of a text of three positions, and their first fault.
+/// Breaks of a text of three positions, and the first error in them.
 const FAULTY: [(&[usize], BreakFault); 3] = [
     (&[0], BreakFault::OutOfRange(0)),
     (&[2, 2], BreakFault::NotRising(1)),
@@ -48,7 +48,7 @@ fn line_shows(
     assert_eq!(rt; line.order, order);
 }
 
-/// Two Hebrew letters with a blank between them, from left to right, broken before the second.
+/// Lays out two Hebrew letters with a space between them, from left to right, with a break before the second letter.
 fn lays_out_broken(rt: &impl Abort, room: &mut Scratch, text: &[Unit]) -> Result<(), Fail> {
     let at = [2];
     let breaks = Breaks::new(&at, text.len())?;
@@ -60,7 +60,7 @@ fn lays_out_broken(rt: &impl Abort, room: &mut Scratch, text: &[Unit]) -> Result
     Ok(())
 }
 
-/// Lays out such a text a thousand times, broken and on one line.
+/// Lays out this text a thousand times, with a break and on one line.
 fn lays_out_often(rt: &impl Abort, room: &mut Scratch) -> Result<(), Fail> {
     let text = [unit(Class::R), unit(Class::WS), unit(Class::R)];
     let whole = [Level::new(1), Level::new(1), Level::new(1)];
@@ -82,7 +82,7 @@ fn no_growth_comes_after_making(rt: HostRuntime) -> Result<(), Fail> {
     }
 }
 
-/// Lays out such a text on one line, breaks it before the second letter, and then puts it on one line again.
+/// Lays out this text on one line, rebreaks it before the second letter, and then rebreaks it to one line.
 fn breaks_anew(rt: &impl Abort, room: &mut Scratch) -> Result<(), Fail> {
     let text = [unit(Class::R), unit(Class::WS), unit(Class::R)];
     let whole = Breaks::new(&[], text.len())?;
@@ -106,8 +106,8 @@ fn breaks_a_text_anew(rt: HostRuntime) -> Result<(), Fail> {
     breaks_anew(&rt, &mut room)
 }
 
-/// Of such a text, laid out on one line, lays out the first letter and the blank as a line alone; what the room holds
-/// stays.
+/// Lays out this text on one line, and then its first letter and the space as a line alone. The layout in the `Scratch`
+/// is unchanged.
 fn lays_out_alone(rt: &impl Abort, room: &mut Scratch) -> Result<(), Fail> {
     let text = [unit(Class::R), unit(Class::WS), unit(Class::R)];
     let whole = Breaks::new(&[], text.len())?;
@@ -123,7 +123,7 @@ fn lays_out_alone(rt: &impl Abort, room: &mut Scratch) -> Result<(), Fail> {
     Ok(())
 }
 
-/// Refuses a line that ends behind such a text, and leaves the lists as they are.
+/// Rejects a line that ends after the end of this text. The lists are unchanged.
 fn refuses_alone(rt: &impl Abort, room: &mut Scratch) -> Result<(), Fail> {
     let text = [unit(Class::R), unit(Class::WS), unit(Class::R)];
     let whole = Breaks::new(&[], text.len())?;
@@ -137,7 +137,7 @@ fn refuses_alone(rt: &impl Abort, room: &mut Scratch) -> Result<(), Fail> {
     Ok(())
 }
 
-/// What a search through the paragraphs of a text counts as, where one line of it is laid out alone.
+/// Returns the cost in steps of a search through the paragraphs of a text, when one of its lines is laid out alone.
 fn steps_of_a_search() -> usize
     ensures { result ≡ 25 }
 {
@@ -156,7 +156,7 @@ fn lays_out_one_line_alone(rt: HostRuntime) -> Result<(), Fail> {
     refuses_alone(&rt, &mut room)
 }
 
-/// In a room for two units refuses a text of three, and then lays out one of two.
+/// Rejects a text of three units at a capacity of two, and then lays out a text of two.
 fn refuses_then_lays_out(rt: &impl Abort, room: &mut Scratch) -> Result<(), Fail> {
     let long = [unit(Class::R), unit(Class::WS), unit(Class::R)];
     let breaks = Breaks::new(&[], long.len())?;
@@ -173,7 +173,7 @@ fn lays_out_after_too_long(rt: HostRuntime) -> Result<(), Fail> {
     refuses_then_lays_out(&rt, &mut room)
 }
 
-/// A Hebrew letter and a digit, a separator, and a Latin letter, laid out with this break.
+/// Lays out a Hebrew letter and a digit, a separator, and a Latin letter, with this break.
 fn two_paragraphs_broken(alloc: Global, room: &mut Scratch, at: usize) -> Result<(), Fail>
     ensures { OnOk result (IsFilled room.new) }
 {
@@ -184,7 +184,7 @@ fn two_paragraphs_broken(alloc: Global, room: &mut Scratch, at: usize) -> Result
     Ok(())
 }
 
-/// Compares the lines of a layout: of each its levels and its order.
+/// Compares the levels and the order of each line of a layout.
 fn lines_show(
     rt: &impl Abort,
     alloc: Global,
@@ -199,7 +199,7 @@ fn lines_show(
     Ok(())
 }
 
-/// Lays out such paragraphs with this break, and compares their levels and their lines.
+/// Lays out these paragraphs with this break, and compares their levels and their lines.
 fn paragraphs_show(
     rt: &impl Abort,
     alloc: Global,
@@ -214,7 +214,7 @@ fn paragraphs_show(
     lines_show(rt, alloc, &layout, lines)
 }
 
-/// The same in a new room.
+/// Does the same in a new `Scratch`.
 fn break_shows(
     rt: &impl Abort,
     alloc: Global,

@@ -1,4 +1,4 @@
-//! Rows of the parts of a layout: L1 and L2 by themselves.
+//! Rows of parts of a layout: L1 alone and L2 alone.
 ghost use Rattle.std.specs.Prelude.{◌≡◌, ◌<◌};
 
 use crate::given::unit;
@@ -15,8 +15,8 @@ use units::class::Class;
 use units::level::{Level, ParaLevel};
 use units::steps::Steps;
 
-/// L2 of the positions from `start` up to `end`, at most 16, of a text with these levels, in columns that just fit:
-/// their order, from left to right.
+/// Writes the order (L2) of the positions from `start` up to `end`, at most 16, of a text with these levels, and
+/// compares it. The columns have no more items than needed.
 fn orders_counting<K: Ledger>(
     rt: &impl Abort,
     levels: &[Option<Level>],
@@ -40,7 +40,7 @@ fn orders_counting<K: Ledger>(
     assert_eq!(rt; &order[..count], expected);
 }
 
-/// The same, by a count of steps of its own.
+/// Does the same, with a counter of steps of its own.
 fn orders(rt: &impl Abort, levels: &[Option<Level>], start: usize, end: usize, expected: &[usize]) {
     orders_counting::<Brand>(rt, levels, start, end, expected, Blank::new(1));
 }
@@ -79,7 +79,7 @@ fn resets_by_own_classes(rt: HostRuntime) -> Result<(), Fail> {
     resets_overridden_spaces::<Brand>(&rt, Blank::new(1))
 }
 
-/// White space and a separator under an override: it made them R, but L1 asks for the classes that they came with.
+/// Resets white space and a separator under an override. The override made them R, but L1 uses their original classes.
 fn resets_overridden_spaces<K: Ledger>(rt: &impl Abort, blank: Blank) -> Result<(), Fail>
     requires name { blank.name ≡ K.name }
     requires parts { blank.parts ≡ K.parts }

@@ -6,7 +6,7 @@ use std::test::Fail;
 use units::bracket::Unit;
 use units::level::Direction;
 
-/// A text, its direction, its levels, with `x` where it has none, and its order.
+/// A text, its direction, its levels, with `x` if there is none, and its order.
 #[derive(Clone, Copy)]
 struct Row {
     text: &'static str,
@@ -15,37 +15,37 @@ struct Row {
     order: &'static str,
 }
 
-/// Lays out the text of a row, of these units, and compares its levels and its order.
+/// Lays out these units, the text of a row, and compares its levels and its order.
 fn shows_row(rt: &impl Abort, alloc: Global, text: &[Unit], row: &Row) -> Result<(), Fail> {
     let levels = levels(alloc, row.levels)?;
     let order = numbers(alloc, row.order)?;
     shows_in_room(rt, alloc, 8, text, row.direction, &levels, &order)
 }
 
-/// Texts by their characters.
+/// Texts as characters: brackets that pair.
 const PAIRS: [Row; 4] = [
-    // by their content
+    // with the direction of their content
     Row {
         text: "\u{5D0}(a)\u{5D1}",
         direction: Direction::Rtl,
         levels: "1 1 2 1 1",
         order: "4 3 2 1 0",
     },
-    // by their context
+    // with the direction of their context
     Row {
         text: "a(\u{5D0})",
         direction: Direction::Ltr,
         levels: "0 0 1 0",
         order: "0 1 2 3",
     },
-    // that are canonically equivalent
+    // if they are canonically equivalent
     Row {
         text: "a\u{2329}\u{5D0}\u{3009}\u{5D1}",
         direction: Direction::Ltr,
         levels: "0 0 1 0 1",
         order: "0 1 2 3 4",
     },
-    // past a lone closing one
+    // past a closing bracket without an opening one
     Row {
         text: "a(]\u{5D0})\u{5D1}",
         direction: Direction::Ltr,
@@ -68,7 +68,7 @@ fn pairs_brackets(rt: HostRuntime) -> Result<(), Fail> {
     Ok(())
 }
 
-/// Texts by the names of their classes.
+/// Texts as the names of their classes.
 const EMBEDDINGS: [Row; 6] = [
     // joins nothing across embeddings
     Row {
@@ -91,7 +91,7 @@ const EMBEDDINGS: [Row; 6] = [
         levels: "0 x 1 0",
         order: "0 2 3",
     },
-    // takes the first strong class of an isolate, past inner isolates, and looks no further than the isolate
+    // takes the first strong class of an isolate, skips inner isolates, and does not search past the isolate's end
     Row {
         text: "FSI R PDI L",
         direction: Direction::Auto,

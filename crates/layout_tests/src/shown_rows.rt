@@ -1,4 +1,4 @@
-//! Rows of what is shown: L4 over the order of a line.
+//! Rows of shown characters: L4 in the order of a line.
 use crate::given::tables;
 use lines::breaks::Breaks;
 use lines::lay_out::lay_out_into;
@@ -13,7 +13,7 @@ use ucdfiles::tables::Tables;
 use units::bracket::Unit;
 use units::level::{Direction, Level};
 
-/// Characters, the numbers of their levels, and what is shown of them.
+/// Characters, the numbers of their levels, and the characters that are shown.
 #[derive(Clone, Copy)]
 struct Row {
     chars: &'static [char],
@@ -21,7 +21,7 @@ struct Row {
     shown: &'static [char],
 }
 
-/// The units of these characters.
+/// Returns the units of these characters.
 fn units_of_chars(alloc: Global, tables: &Tables, chars: &[char]) -> Result<Vec<Unit>, Fail> {
     let mut units = Vec::new(alloc);
     for c in chars {
@@ -30,7 +30,7 @@ fn units_of_chars(alloc: Global, tables: &Tables, chars: &[char]) -> Result<Vec<
     Ok(units)
 }
 
-/// Compares what is shown.
+/// Compares the characters that are shown.
 fn gives(rt: &impl Abort, mut shown: Shown, expected: &[char]) {
     for c in expected {
         assert_eq!(rt; shown.next(), Some(*c));
@@ -46,7 +46,7 @@ fn has_levels(rt: &impl Abort, levels: &[Option<Level>], numbers: &[u8]) {
     }
 }
 
-/// Compares what is shown of the only line of a layout.
+/// Compares the characters that the only line of a layout shows.
 fn line_gives(
     rt: &impl Abort,
     layout: &Layout<'_>,
@@ -59,7 +59,7 @@ fn line_gives(
     gives(rt, layout.shown(mirrors, chars, 0), expected);
 }
 
-/// Lays out a text from left to right on one line, and compares its levels and what is shown of its characters.
+/// Lays out a text from left to right on one line, and compares its levels and the characters that are shown.
 fn is_shown(
     rt: &impl Abort,
     room: &mut Scratch,
@@ -75,7 +75,7 @@ fn is_shown(
     Ok(())
 }
 
-/// The same in a new room for four units.
+/// Does the same in a new `Scratch` for four units.
 fn is_shown_in_room(
     rt: &impl Abort,
     alloc: Global,
@@ -87,13 +87,13 @@ fn is_shown_in_room(
     is_shown(rt, &mut room, text, mirrors, row)
 }
 
-/// The same by these tables.
+/// Does the same with these tables.
 fn is_shown_by(rt: &impl Abort, alloc: Global, tables: &Tables, row: &Row) -> Result<(), Fail> {
     let text = units_of_chars(alloc, tables, row.chars)?;
     is_shown_in_room(rt, alloc, &text, tables.mirrors(), row)
 }
 
-/// The same by the tables of the small files.
+/// Does the same with the tables of the small files.
 fn row_is_shown(rt: &impl Abort, alloc: Global, row: &Row) -> Result<(), Fail> {
     let tables = tables(alloc)?;
     is_shown_by(rt, alloc, &tables, row)
