@@ -1,4 +1,4 @@
-//! Arbitrary bytes: no file of any kind, and the same fault in pieces of any length.
+//! Arbitrary bytes: they are no file of any kind, and the error is the same for pieces of any length.
 use crate::given::{TABLE_KINDS, TableKind, arbitrary, fault_of};
 use std::alloc::Global;
 use std::io::{self, Read};
@@ -6,7 +6,7 @@ use std::process::Abort;
 use ucdfiles::fault::TableFault;
 use units::reader_source::ReaderSource;
 
-/// Gives the bytes of a slice, at most so many in each read.
+/// Gives the bytes of a slice, at most `most` in each read.
 #[derive(Drop)]
 struct Pieces<'a> {
     bytes: &'a [u8],
@@ -23,13 +23,13 @@ impl Read for Pieces<'_> {
     }
 }
 
-/// The fault of bytes that come in pieces of at most this size, as a file of this kind.
+/// Returns the error of a file of this kind with these bytes, which come in pieces of at most this size.
 fn fault_cut(kind: TableKind, alloc: Global, bytes: &[u8], most: usize) -> Option<TableFault> {
     let mut source = ReaderSource::new(Pieces { bytes, most }, u64::MAX);
     fault_of(kind, alloc, &mut source)
 }
 
-/// Each reader finds a faulty line in the bytes, and the same however they are cut.
+/// Expects that each reader reports a bad line in the bytes, and the same one for pieces of any length.
 fn expect_faulty(rt: &impl Abort, alloc: Global, bytes: &[u8]) {
     for kind in TABLE_KINDS {
         let whole = fault_cut(kind, alloc, bytes, bytes.len());

@@ -1,4 +1,4 @@
-//! What rows are made of: files of a few characters, their tables and their faults.
+//! Helpers for rows: files of a few characters, their tables and their errors.
 use std::alloc::Global;
 use ucdfiles::bracket_table::BracketTable;
 use ucdfiles::class_table::ClassTable;
@@ -9,22 +9,22 @@ use ucdfiles::tables::Tables;
 use units::slice_source::SliceSource;
 use units::source::ByteSource;
 
-/// The table that this file of classes states.
+/// Returns the table of this file of classes.
 pub fn classes(alloc: Global, file: &[u8]) -> Result<ClassTable, TableFault> {
     ClassTable::read(alloc, &mut SliceSource::new(file))
 }
 
-/// The table that this file of brackets states.
+/// Returns the table of this file of brackets.
 pub fn brackets(alloc: Global, file: &[u8]) -> Result<BracketTable, TableFault> {
     BracketTable::read(alloc, &mut SliceSource::new(file))
 }
 
-/// The table that this file of mirror images states.
+/// Returns the table of this file of mirrored characters.
 pub fn mirrors(alloc: Global, file: &[u8]) -> Result<MirrorTable, TableFault> {
     MirrorTable::read(alloc, &mut SliceSource::new(file))
 }
 
-/// The kinds of files of tables.
+/// The kinds of table files.
 #[derive(Clone, Copy)]
 pub enum TableKind {
     Classes,
@@ -39,7 +39,7 @@ pub const TABLE_KINDS: [TableKind; 3] = [
     TableKind::Mirrors,
 ];
 
-/// The fault of what the source hands out as a file of this kind.
+/// Reads a file of this kind from the source, and returns its error.
 pub fn fault_of(
     kind: TableKind,
     alloc: Global,
@@ -52,12 +52,12 @@ pub fn fault_of(
     }
 }
 
-/// The fault of these bytes as a file of this kind.
+/// Returns the error of these bytes as a file of this kind.
 pub fn fault_in(kind: TableKind, alloc: Global, file: &[u8]) -> Option<TableFault> {
     fault_of(kind, alloc, &mut SliceSource::new(file))
 }
 
-/// The tables that the three files state.
+/// Returns the tables of the three files.
 pub fn tables(alloc: Global) -> Result<Tables, TableFault> {
     Ok(Tables::new(
         classes(alloc, CLASSES)?,
@@ -66,8 +66,8 @@ pub fn tables(alloc: Global) -> Result<Tables, TableFault> {
     ))
 }
 
-/// 4,096 bytes: behind this one, each is 197 times the one before it, plus the index of that one, in the last eight
-/// bits.
+/// Returns 4,096 bytes that begin with this one. Each other byte is the low eight bits of a sum: 197 times the byte
+/// before it, plus the index of that byte.
 pub fn arbitrary(first: u8) -> [u8; 4096] {
     let mut bytes = [0; 4096];
     let mut byte = first;

@@ -1,4 +1,4 @@
-//! The classes that are built in beside a second source: those of the kit's crate `ucd_bidi`, of Unicode 18.0.
+//! The built-in classes, compared with a second source: the crate `ucd_bidi` of the kit, which has Unicode 18.0.
 use std::alloc::{AllocError, Global};
 use std::test::Fail;
 use ucd_age::Age;
@@ -6,8 +6,8 @@ use ucd_bidi::BidiClass;
 use ucdfiles::tables::Tables;
 use units::class::Class;
 
-/// The ranges of code points that Unicode 18.0 assigned to characters, where the class then differs from the one that
-/// unassigned code points have.
+/// The ranges of code points that Unicode 18.0 assigned to characters, if the class then differs from that of
+/// unassigned code points.
 const NEW: [(u32, u32); 23] = [
     (0x5C8, 0x5C9),
     (0xB53, 0xB54),
@@ -34,11 +34,11 @@ const NEW: [(u32, u32); 23] = [
     (0x1FAF9, 0x1FAFA),
 ];
 
-/// The ranges of older characters whose class differs: vowel signs of Balinese, NSM before Unicode 18.0, and L since, as
-/// spacing marks.
+/// The ranges of older characters whose class differs: vowel signs of Balinese. They were NSM before Unicode 18.0, and
+/// are L since then, as spacing marks.
 const CHANGED: [(u32, u32); 3] = [(0x1B3A, 0x1B3A), (0x1B3C, 0x1B3C), (0x1B42, 0x1B42)];
 
-/// Returns the class of the kit as one of ours.
+/// Returns a class of the kit as one of ours.
 fn class_of_kit(class: BidiClass) -> Class {
     match class {
         BidiClass::ArabicLetter => Class::AL,
@@ -67,7 +67,7 @@ fn class_of_kit(class: BidiClass) -> Class {
     }
 }
 
-/// Which characters' classes are compared.
+/// The characters whose classes are compared.
 #[derive(Clone, Copy, Debug, PartialEq, Eq)]
 enum Compared {
     /// Those that Unicode 18.0 added.
@@ -76,7 +76,7 @@ enum Compared {
     Older,
 }
 
-/// Returns whether the code point is one of these characters, and its class that is built in differs from the kit's.
+/// Returns whether the code point is one of these characters, and its built-in class differs from that of the kit.
 fn differs(tables: &Tables, code: u32, compared: Compared) -> bool {
     match char::from_u32(code) {
         Some(c) => {

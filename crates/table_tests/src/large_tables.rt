@@ -1,4 +1,4 @@
-//! Files of many lines: as many as are allowed, and one more.
+//! Files of many lines: as many as allowed, and one more.
 use crate::given::{TableKind, brackets, classes, fault_in, mirrors};
 use std::alloc::Global;
 use std::io::{self, Write};
@@ -11,14 +11,14 @@ use ucdfiles::mirror_table::MirrorTable;
 use units::bracket::Bracket;
 use units::class::Class;
 
-/// The most data lines that a file may have.
+/// The greatest number of data lines of a file.
 const MOST: u32 = 65_536;
 
-/// The characters that the lines are about: these many from this one on.
+/// The first character of the lines. The others follow it.
 const FIRST: u32 = 0x10000;
 
-/// A line for each of so many characters: of the class R, as an opening bracket whose closing one is the parenthesis,
-/// or with the next character as its mirror image.
+/// Writes a line for each of `count` characters: with the class R, as an opening bracket whose closing bracket is the
+/// parenthesis, or with the next character as its mirrored character.
 fn write_lines(kind: TableKind, file: &mut impl Write, count: u32) -> io::Result<()> {
     for code in FIRST..FIRST.saturating_add(count) {
         let next = code.saturating_add(1);
@@ -31,7 +31,7 @@ fn write_lines(kind: TableKind, file: &mut impl Write, count: u32) -> io::Result
     Ok(())
 }
 
-/// The file of so many lines, and then these bytes.
+/// Returns a file of `count` such lines, followed by these bytes.
 fn file_of(kind: TableKind, alloc: Global, count: u32, end: &[u8]) -> io::Result<Vec<u8>> {
     let mut file = Vec::new(alloc);
     write_lines(kind, &mut file, count)?;
@@ -39,7 +39,7 @@ fn file_of(kind: TableKind, alloc: Global, count: u32, end: &[u8]) -> io::Result
     Ok(file)
 }
 
-/// The fault of such a file.
+/// Returns the error of such a file.
 fn fault_of_lines(
     kind: TableKind,
     alloc: Global,
@@ -50,14 +50,14 @@ fn fault_of_lines(
     Ok(fault_in(kind, alloc, &file))
 }
 
-/// Expects that one line more than is allowed is told as too many.
+/// Expects that one line more than allowed is reported as too many.
 fn tells_too_many(rt: &impl Abort, kind: TableKind, alloc: Global) -> io::Result<()> {
     let fault = fault_of_lines(kind, alloc, MOST + 1, b"")?;
     assert_eq!(rt; fault, Some(TableFault::TooMany(65_537)));
     Ok(())
 }
 
-/// Compares the classes of the characters around those of the lines.
+/// Compares the classes of the characters at the ends of the lines' range.
 fn are_classes(rt: &impl Abort, table: &ClassTable) {
     for (c, class) in [
         ('\u{FFFF}', Class::L),
@@ -77,7 +77,7 @@ fn as_many_classes_as_allowed(rt: HostRuntime) -> Result<(), Fail> {
     Ok(())
 }
 
-/// Compares the brackets of the characters around those of the lines.
+/// Compares the brackets of the characters at the ends of the lines' range.
 fn are_brackets(rt: &impl Abort, table: &BracketTable) {
     let first = table.bracket('\u{10000}');
     assert!(rt; matches!(first, Bracket::Open(_)));
@@ -99,7 +99,7 @@ fn as_many_brackets_as_allowed(rt: HostRuntime) -> Result<(), Fail> {
     Ok(())
 }
 
-/// Compares the mirror images of the characters around those of the lines.
+/// Compares the mirrored characters of the characters at the ends of the lines' range.
 fn are_mirror_images(rt: &impl Abort, table: &MirrorTable) {
     for (c, image) in [
         ('\u{FFFF}', None),
@@ -120,7 +120,7 @@ fn as_many_mirror_images_as_allowed(rt: HostRuntime) -> Result<(), Fail> {
     Ok(())
 }
 
-/// A character that an earlier line states is told behind few lines and behind many.
+/// Expects that a character of an earlier line is reported, after few lines and after many.
 #[test]
 fn characters_of_an_earlier_line(rt: HostRuntime) -> Result<(), io::Error> {
     for count in [1_u32, 101, 4_097, 65_535] {

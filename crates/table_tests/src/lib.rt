@@ -1,5 +1,5 @@
-//! Tests of property files and of the tables that are read of them, and of those that are built in. They stand here,
-//! and not beside what they test, so that no crate is proved a second time with its tests.
+//! Tests of property files, of the tables that are read from them, and of the built-in tables. They are in a crate of
+//! their own, so that no crate is proved a second time with its tests.
 #![tactic(auto)]
 
 #[cfg(test)]

@@ -1,9 +1,9 @@
-//! The tables that are built in.
+//! The built-in tables.
 use std::process::Abort;
 use units::bracket::Bracket;
 use units::class::Class;
 
-/// Characters, with their classes by the edition that is built in: of data lines, of defaults, and the last one.
+/// Characters with their classes in the built-in edition: from data lines, from defaults, and the last character.
 const CLASSES: [(char, Class); 8] = [
     ('A', Class::L),
     ('\u{5D0}', Class::R),

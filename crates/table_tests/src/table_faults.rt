@@ -1,4 +1,4 @@
-//! Faults of files of tables: the first faulty line, sources that fail, refused memory, and the texts.
+//! Errors of table files: the first bad line, sources that fail, failed allocations, and the printed texts.
 use crate::given::{TABLE_KINDS, TableKind, fault_in, fault_of};
 use std::alloc::Global;
 use std::io::{self, Write};
@@ -9,7 +9,7 @@ use ucdfiles::small::{BRACKETS, CLASSES, MIRRORS};
 use units::cut_source::CutSource;
 use units::source::ByteSource;
 
-/// Files of classes and their faults.
+/// Files of classes, and their errors.
 const CLASS_FAULTS: [(&[u8], TableFault); 9] = [
     (b"0041 ; Left_To_Right", TableFault::ClassName(1)),
     (b"0042..0041 ; L", TableFault::Backwards(1)),
@@ -36,7 +36,7 @@ fn faults_of_classes(rt: HostRuntime) {
     }
 }
 
-/// A data line for each of the first 65,537 code points.
+/// Writes a data line for each of the first 65,537 code points.
 fn write_data_lines(file: &mut impl Write) -> io::Result<()> {
     for code in 0x0000..0x10001u32 {
         writeln!(file, "{code:04X} ; L")?;
@@ -53,7 +53,7 @@ fn too_many_data_lines(rt: HostRuntime) -> Result<(), io::Error> {
     Ok(())
 }
 
-/// 1,025 default lines.
+/// Writes 1,025 default lines.
 fn write_default_lines(file: &mut impl Write) -> io::Result<()> {
     for _ in 0..1_025 {
         writeln!(file, "# @missing: 0000; R")?;
@@ -70,7 +70,7 @@ fn too_many_default_lines(rt: HostRuntime) -> Result<(), io::Error> {
     Ok(())
 }
 
-/// `#`, and then 65,536 times `a`.
+/// Reads `#`, and then 65,536 times `a`.
 #[test]
 fn over_long_lines(rt: HostRuntime) -> Result<(), Fail> {
     let mut file = vec![in rt.alloc(); b'a'; 65_537]?;
@@ -83,7 +83,7 @@ fn over_long_lines(rt: HostRuntime) -> Result<(), Fail> {
     Ok(())
 }
 
-/// Files, each as one of a kind, and the answer to a source that fails behind its last byte.
+/// Files of a kind each, and the error if the source fails after the last byte.
 const CUT: [(TableKind, &[u8], TableFault); 6] = [
     (TableKind::Classes, b"0041 ; XX\n", TableFault::ClassName(1)),
     (TableKind::Brackets, b"0041 ; XX\n", TableFault::Fields(1)),
@@ -93,7 +93,7 @@ const CUT: [(TableKind, &[u8], TableFault); 6] = [
     (TableKind::Mirrors, MIRRORS, TableFault::Read),
 ];
 
-/// A source that fails before the last byte is answered by that failure.
+/// Expects a read error if the source fails before the last byte.
 #[test]
 fn sources_that_fail(rt: HostRuntime) {
     for (kind, file, behind) in CUT {
@@ -116,7 +116,7 @@ const SMALL: [(TableKind, &[u8]); 3] = [
     (TableKind::Mirrors, MIRRORS),
 ];
 
-// Each growth may be refused, and then the answer is that memory was, and no other.
+// Each allocation may fail. Then the error is that of memory, and no other.
 #[test]
 fn says_that_memory_was_refused(rt: HostRuntime) {
     for (kind, file) in SMALL {
@@ -125,7 +125,7 @@ fn says_that_memory_was_refused(rt: HostRuntime) {
     }
 }
 
-// A source that had failed answers so, though memory may be refused.
+// Expects a read error from a source that failed before, even if an allocation fails.
 #[test]
 fn a_source_that_had_failed(rt: HostRuntime) {
     let mut source = CutSource::new(b"", 0);
@@ -136,7 +136,7 @@ fn a_source_that_had_failed(rt: HostRuntime) {
     }
 }
 
-/// Each fault and its text.
+/// Each error and its text.
 const TEXTS: [(TableFault, &str); 11] = [
     (TableFault::CodePoint(1), "line 1: not a code point"),
     (
@@ -163,14 +163,14 @@ const TEXTS: [(TableFault, &str); 11] = [
     (TableFault::Memory, "out of memory"),
 ];
 
-/// Compares the text of a fault.
+/// Compares the text of an error.
 fn is_told(rt: &impl Abort, alloc: Global, fault: TableFault, text: &str) -> Result<(), Fail> {
     let told = format!(in alloc; "{fault}")?;
     assert_eq!(rt; told.as_str(), text);
     Ok(())
 }
 
-/// The same of each row.
+/// Does the same for each row.
 fn are_told(rt: &impl Abort, alloc: Global, rows: &[(TableFault, &str)]) -> Result<(), Fail> {
     for (fault, text) in rows {
         is_told(rt, alloc, *fault, text)?;

@@ -1,4 +1,4 @@
-//! What files of tables state.
+//! The contents of tables that are read from files.
 use crate::given::{TableKind, brackets, classes, fault_in, tables};
 use std::alloc::Global;
 use std::process::Abort;
@@ -64,7 +64,7 @@ fn states_mirrors(rt: HostRuntime) {
     }
 }
 
-/// The parentheses have one key.
+/// Expects that both parentheses have the same key.
 fn have_one_key(rt: &impl Abort, table: &BracketTable) {
     let (Bracket::Open(opening), Bracket::Close(closing)) = (table.bracket('('), table.bracket(')'))
     else {
@@ -81,7 +81,7 @@ fn closing_brackets_have_their_own_keys(rt: HostRuntime) -> Result<(), TableFaul
     Ok(())
 }
 
-/// A bracket's unit is by its canonical equivalent: that of the angle brackets is one and the same.
+/// Expects that U+2329 and U+3009 have the same key, because U+2329 is canonically equivalent to U+3008.
 fn pairs_angle_brackets(rt: &impl Abort, tables: &Tables) {
     let (Bracket::Open(angle), Bracket::Close(other)) = (
         tables.unit('\u{2329}').bracket,
@@ -92,7 +92,7 @@ fn pairs_angle_brackets(rt: &impl Abort, tables: &Tables) {
     assert_eq!(rt; angle, other);
 }
 
-/// Brackets of different pairs have different keys.
+/// Expects that brackets of different pairs have different keys.
 fn parts_round_from_square(rt: &impl Abort, tables: &Tables) {
     let (Bracket::Open(round), Bracket::Close(square)) = (
         tables.unit('(').bracket,
@@ -103,7 +103,7 @@ fn parts_round_from_square(rt: &impl Abort, tables: &Tables) {
     assert_ne!(rt; round, square);
 }
 
-/// A letter is no bracket, and has no mirror image, as `<` has.
+/// Expects that a letter is no bracket and has no mirrored character, which `<` has.
 fn states_a_letter(rt: &impl Abort, tables: &Tables) {
     let alef = tables.unit('\u{5D0}');
     assert_eq!(rt; (alef.class, alef.bracket), (Class::R, Bracket::No));
