@@ -1,4 +1,4 @@
--- The implicit levels (I1, I2) of one sequence after another.
+-- The implicit levels (I1, I2), sequence by sequence.
 use Rattle.std.specs.Prelude.{Option, Some, None, ℕ, ◌+◌, ◌<◌, ◌≡◌, List, length, map, take, Contains, slice_get, slice_index}
 use Rattle.std.specs.List.{flat_map}
 use Rattle.std.proofs.Common.{arith, ap, sym, ◌∙◌, subst, inl, inr}
@@ -21,7 +21,7 @@ use Rattle.rule_columns.specs.Passes.{implicit_in, implicit_of}
 use Rattle.paragraph.proofs.FoundBeside.{zip_none, zip_some}
 use Rattle.rule_columns.proofs.Found.{SaysOwn, found_here, found_elsewhere}
 
--- the levels once these sequences have theirs
+-- the levels after these sequences have theirs
 abbrev pub AreRaised : List Class → List SequenceView → List (Option ℕ) → Type 0
 AreRaised cs done levels = (p : ℕ) → resolved_at levels p ≡ value_beside (flat_map (implicit_in cs) done) p
 
@@ -32,7 +32,7 @@ says_own : (cs : List Class) → SaysOwn (implicit_in cs)
 says_own cs = λ s p none. zip_none s.positions (values_in cs s) p none
 
 module _ {extent : ℕ} {all : List SequenceView} (apart : AreDisjoint extent all) {k : ℕ} {s : SequenceView} (at : slice_get all k ≡ Some s) (inside : k < length all) where
-  -- one sequence more
+  -- with one more sequence
   pub raised_next : (cs : List Class) (now next : List (Option ℕ)) → AreRaised cs (take k all) now → Raises s.level cs s.positions now next → AreRaised cs (take (k + 1) all) next
   raised_next cs now next w step p =
       let ps : List ℕ = s.positions in
@@ -56,7 +56,7 @@ module _ {extent : ℕ} {all : List SequenceView} (apart : AreDisjoint extent al
             ∙ sym (found_elsewhere items own apart at inside p none))
       ]
 
--- once all have theirs
+-- after all sequences have theirs
 pub raised_end : (all : List SequenceView) (k : ℕ) (cs : List Class) (levels : List (Option ℕ)) → length all ≡ k → length levels ≡ length cs →
     AreRaised cs (take k all) levels → levels ≡ implicit_of all cs
 unfolding implicit_of

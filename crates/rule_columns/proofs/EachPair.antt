@@ -1,4 +1,4 @@
--- The bracket pairs (BD16) and N0 of one sequence after another.
+-- The bracket pairs (BD16) and N0, sequence by sequence.
 use Rattle.std.specs.Prelude.{Option, Some, None, ℕ, zero, suc, Bool, true, false, ◌&&◌, ◌==◌, ◌+◌, ◌<◌, ◌≤◌, ◌≡◌, List, [], ◌∷◌, length, map, take, Contains, slice_get, slice_index, refl}
 use Rattle.std.specs.List.{All, flat_map, find}
 use Rattle.std.specs.Option.{option_map}
@@ -26,11 +26,11 @@ use Rattle.paragraph.proofs.Covering.{times_some, within_extent}
 use Rattle.rule_columns.specs.Passes.{closers_of, pairs_in}
 use Rattle.rule_columns.proofs.Found.{SaysOwn, found_here, found_elsewhere, index_in, IsDistinct, distinct_in}
 
--- both indices of a pair lie below this one
+-- both indices of a pair are below this one
 abbrev pub LiesBelow : ℕ → ℕ × ℕ → Type 0
 LiesBelow size pair = (pair.0 < size) × (pair.1 < size)
 
--- a pair that ended before p began before it
+-- if a pair ends at p, its first index is below p
 ended_below : (p : ℕ) (found : Option ℕ) → ((o : ℕ) → found ≡ Some o → o < p) → All (LiesBelow (suc p)) (ended_with p found)
 ended_below p None below = All-nil (LiesBelow (suc p))
 ended_below p (Some o) below = All-cons (LiesBelow (suc p)) (o, p) [] (omega (arith, below o refl), omega arith) (All-nil (LiesBelow (suc p)))
@@ -44,7 +44,7 @@ all_below bs (suc p) =
     (All-weaker (LiesBelow p) (LiesBelow (suc p)) (λ pair l. (omega (arith, l.0), omega (arith, l.1))) earlier (all_below bs p))
     (ended_below p (last_below test p) (λ o e. (last_below_some test p o e).within))
 
--- each pair that counts lies within the sequence
+-- each pair that counts is within the sequence
 lie_inside : (most_open : ℕ) (bs : List Bracket) → All (LiesBelow (length bs)) (bracket_pairs_of most_open bs)
 lie_inside most_open bs =
     let w = ends_somewhere most_open bs in
@@ -55,7 +55,7 @@ lie_inside most_open bs =
 abbrev pub placed_pair : List ℕ → ℕ × ℕ → ℕ × ℕ
 placed_pair ps pair = (slice_index ps pair.0, slice_index ps pair.1)
 
--- beside the position of an index stands what is said of the index
+-- the value for the position at an index is that for the index
 found_at_index : (ps : List ℕ) → IsDistinct ps → (pairs : List (ℕ × ℕ)) → All (λ pair. pair.0 < length ps) pairs → (k : ℕ) → k < length ps →
     value_beside (map (placed_pair ps) pairs) (slice_index ps k) ≡ option_map (slice_index ps) (value_beside pairs k)
 found_at_index ps are [] within k h = refl
@@ -74,7 +74,7 @@ found_at_index ps are (x ∷ xs) within k h =
           ∙ sym (ap (option_map (slice_index ps)) (ap (option_map (λ (y : ℕ × ℕ). y.1)) (cond-false (x.0 == k) (Some x) (find (λ (y : ℕ × ℕ). y.0 == k) xs) other))))
     ]
 
--- beside a position that is none of these stands nothing
+-- there is no value for a position that is not in the list
 found_nowhere : (ps : List ℕ) (pairs : List (ℕ × ℕ)) → All (λ pair. pair.0 < length ps) pairs → (p : ℕ) → times ps p ≡ 0 → value_beside (map (placed_pair ps) pairs) p ≡ None
 found_nowhere ps [] within p none = refl
 found_nowhere ps (x ∷ xs) within p none =
@@ -94,19 +94,19 @@ module _ (us : List BidiUnit) (weak : List Class) where
   pub says_own : SaysOwn (pairs_in us weak)
   says_own = λ s p none. found_nowhere s.positions _ (pairs_within s) p none
 
-  -- beside the position of an opening bracket stands that of its closing bracket
+  -- the value for the position of an opening bracket is the position of its closing bracket
   pub pair_found : (s : SequenceView) → IsDistinct s.positions → (k : ℕ) → k < length s.positions →
       value_beside (pairs_in us weak s) (slice_index s.positions k)
       ≡ option_map (slice_index s.positions) (closer_of (bracket_pairs_of standard.brackets (brackets_of s us (classes_at weak s.positions))) k)
   unfolding closer_of
   pair_found s are k h = found_at_index s.positions are _ (pairs_within s) k h
 
-  -- the table once these sequences have their pairs
+  -- the table after these sequences have their pairs
   abbrev pub ArePaired : List SequenceView → List (Option ℕ) → Type 0
   ArePaired done table = (p : ℕ) → closer_in table p ≡ value_beside (flat_map (pairs_in us weak) done) p
 
   module _ {extent : ℕ} {all : List SequenceView} (apart : AreDisjoint extent all) {k : ℕ} {s : SequenceView} (at : slice_get all k ≡ Some s) (inside : k < length all) where
-    -- one sequence more
+    -- with one more sequence
     pub paired_next : (now next : List (Option ℕ)) → ArePaired (take k all) now →
         HoldsPairsOf standard.brackets s.positions (brackets_of s us (classes_at weak s.positions)) next → KeepsOtherClosers s.positions now next → ArePaired (take (k + 1) all) next
     paired_next now next w holds keeps p =
@@ -125,7 +125,7 @@ module _ (us : List BidiUnit) (weak : List Class) where
               ∙ sym (found_elsewhere (pairs_in us weak) says_own apart at inside p none))
         ]
 
-  -- once all have theirs
+  -- after all sequences have theirs
   pub paired_end : (all : List SequenceView) (k : ℕ) (table : List (Option ℕ)) → length all ≡ k → length table ≡ length us →
       ArePaired (take k all) table → table ≡ closers_of all us weak
   unfolding closers_of closer_of

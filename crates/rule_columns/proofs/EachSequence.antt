@@ -1,4 +1,4 @@
--- A rule over one sequence after another.
+-- A rule applied sequence by sequence.
 use Rattle.std.specs.Prelude.{Option, ℕ, ◌+◌, ◌<◌, ◌≡◌, List, length, map, take, Some, Contains, slice_get, slice_index, unwrap_or}
 use Rattle.std.specs.List.{flat_map}
 use Rattle.std.proofs.Common.{arith, ap, sym, ◌∙◌, subst, inl, inr, get_or}
@@ -20,21 +20,21 @@ use Rattle.rule_columns.specs.Passes.{classes_in, rewritten, rewritten_at}
 use Rattle.paragraph.proofs.FoundBeside.{none_beside, zip_none, zip_some}
 use Rattle.rule_columns.proofs.Found.{SaysOwn, found_here, found_elsewhere}
 
--- what a rule leaves once it was done to these sequences
+-- the result of a rule after it was applied to these sequences
 abbrev pub IsRewritten : (SequenceView → List Class → List Class) → List SequenceView → List Class → List Class → Type 0
 IsRewritten rule done start now = (p : ℕ) → class_at now p ≡ rewritten_at rule done start p
 
 pub says_own : (rule : SequenceView → List Class → List Class) (start : List Class) → SaysOwn (classes_in rule start)
 says_own rule start = λ s p none. zip_none s.positions (rule s (classes_at start s.positions)) p none
 
--- a class stays where none of them stands
+-- the class of a position in none of these sequences is unchanged
 pub kept_outside : (rule : SequenceView → List Class → List Class) (done : List SequenceView) (start now : List Class) → IsRewritten rule done start now →
     (p : ℕ) → times (positions_in done) p ≡ 0 → class_at now p ≡ class_at start p
 kept_outside rule done start now w p none =
     w p ∙ ap (λ (o : Option Class). unwrap_or o (class_at start p)) (none_beside (classes_in rule start) (says_own rule start) done p none)
 
 module _ {extent : ℕ} {all : List SequenceView} (apart : AreDisjoint extent all) {k : ℕ} {s : SequenceView} (at : slice_get all k ≡ Some s) (inside : k < length all) where
-  -- one sequence more
+  -- with one more sequence
   pub rewritten_next : (rule : SequenceView → List Class → List Class) (start now next : List Class) → IsRewritten rule (take k all) start now →
       Rewrites (rule s) s.positions now next → IsRewritten rule (take (k + 1) all) start next
   rewritten_next rule start now next w step p =
@@ -62,7 +62,7 @@ module _ {extent : ℕ} {all : List SequenceView} (apart : AreDisjoint extent al
             ∙ sym (ap (λ (o : Option Class). unwrap_or o d) (found_elsewhere items own apart at inside p none)))
       ]
 
--- once it was done to all of them
+-- after the rule was applied to all sequences
 pub rewritten_end : (rule : SequenceView → List Class → List Class) (all : List SequenceView) (k : ℕ) (start now : List Class) →
     length all ≡ k → length now ≡ length start → IsRewritten rule (take k all) start now → now ≡ rewritten rule all start
 unfolding rewritten

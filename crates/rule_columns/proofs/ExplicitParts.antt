@@ -1,4 +1,4 @@
--- The parts of P2 to X10, put together.
+-- The parts of P2 to X10, composed.
 use Rattle.std.specs.Prelude.{Option, None, ℕ, ◌≡◌, List, refl}
 use Rattle.units.specs.Classes.{classes_of}
 use Rattle.units.specs.Explicit.{explicit_of}

@@ -1,4 +1,4 @@
--- What is found beside a position in the lists of the sequences of a paragraph, of which no two share a position.
+-- The value for a position in the lists of the sequences of a paragraph. No two sequences share a position.
 use Rattle.std.specs.Prelude.{Some, None, ℕ, zero, suc, ◌+◌, ◌<◌, ◌≤◌, ◌≡◌, ◌≢◌, List, [], ◌∷◌, ◌++◌, length, take, Contains, slice_index, slice_get, refl}
 use Rattle.std.specs.List.{flat_map}
 use Rattle.std.proofs.Common.{arith, ap, sym, ◌∙◌, subst, inl, inr}
@@ -14,11 +14,11 @@ use Rattle.paragraph.specs.Covering.{positions_in, AreDisjoint}
 use Rattle.paragraph.proofs.FoundBeside.{found-append, found-append_none, none_beside, zip_some}
 use Rattle.paragraph.proofs.Covering.{take_next, apart_from_earlier, times_some, within_extent}
 
--- a position that stands in the list has an index
+-- a position in the list has an index
 pub index_in : (ps : List ℕ) (p : ℕ) → 0 < times ps p → (k : ℕ) × (k < length ps) × (slice_index ps k ≡ p)
 index_in ps p some = let z = zip_some ps ps p refl some 0 in (z.0, z.1, z.2)
 
--- a sequence holds no position more often than all of them do
+-- a position occurs in one sequence at most as often as in all sequences
 pub times_in : (all : List SequenceView) (k : ℕ) (s : SequenceView) → slice_get all k ≡ Some s → (p : ℕ) → times s.positions p ≤ times (positions_in all) p
 times_in [] k s e p = absurd cc
 times_in (x ∷ all) zero s e p =
@@ -26,7 +26,7 @@ times_in (x ∷ all) zero s e p =
     omega (arith, times-append x.positions (positions_in all) p, ap (λ (y : SequenceView). times y.positions p) same)
 times_in (x ∷ all) (suc k) s e p = omega (arith, times-append x.positions (positions_in all) p, times_in all k s e p)
 
--- what stands at two indices stands twice in the list
+-- a position at two indices occurs twice in the list
 twice : (ps : List ℕ) (j k : ℕ) → j < k → k < length ps → slice_index ps j ≡ slice_index ps k → 2 ≤ times ps (slice_index ps k)
 twice [] j k l h e = absurd (omega arith)
 twice (x ∷ xs) zero zero l h e = absurd (omega arith)
@@ -35,7 +35,7 @@ twice (x ∷ xs) zero (suc k) l h e =
 twice (x ∷ xs) (suc j) zero l h e = absurd (omega arith)
 twice (x ∷ xs) (suc j) (suc k) l h e = omega (arith, times-cons x xs (slice_index xs k), twice xs j k (omega arith) (omega arith) e)
 
--- what stands at two indices of a list that holds nothing twice is not the same
+-- each position occurs once in the list
 abbrev pub IsDistinct : List ℕ → Type 0
 IsDistinct ps = (j k : ℕ) → j < length ps → k < length ps → j ≢ k → slice_index ps j ≢ slice_index ps k
 
@@ -49,7 +49,7 @@ distinct_from ps once j k hj hk ne =
       ]
     ]
 
--- a sequence of a paragraph holds no position twice
+-- each position occurs once in a sequence of a paragraph
 pub distinct_in : {extent : ℕ} {all : List SequenceView} (apart : AreDisjoint extent all) {k : ℕ} {s : SequenceView} → slice_get all k ≡ Some s → k < length all → IsDistinct s.positions
 distinct_in {extent} {all} apart {k} {s} at inside =
     distinct_from s.positions
@@ -61,7 +61,7 @@ distinct_in {extent} {all} apart {k} {s} at inside =
       | inr none ↦ omega arith
     ])
 
--- a sequence says nothing beside the positions that it does not hold
+-- a sequence has no value for a position that it does not contain
 abbrev pub SaysOwn : {V : Type 0} → (SequenceView → List (ℕ × V)) → Type 0
 SaysOwn {V} items = (s : SequenceView) (p : ℕ) → times s.positions p ≡ 0 → value_beside (items s) p ≡ None
 
@@ -72,19 +72,19 @@ module _ {V : Type 0} (items : SequenceView → List (ℕ × V)) (own : SaysOwn 
         ap (flat_map items) (take_next apart at inside) ∙ flat_map-append items (take k all) (s ∷ [])
         ∙ ap (λ (xs : List (ℕ × V)). flat_map items (take k all) ++ xs) (append-nil (items s))
 
-    -- with one sequence more, what it says of its own positions is found there
+    -- with one more sequence, the value for a position of that sequence is its own
     pub found_here : (p : ℕ) → p < extent → 0 < times s.positions p → value_beside (flat_map items (take (k + 1) all)) p ≡ value_beside (items s) p
     found_here p h some =
         ap (λ (xs : List (ℕ × V)). value_beside xs p) joined
         ∙ found-append (flat_map items (take k all)) (items s) p (none_beside items own (take k all) p (apart_from_earlier apart at inside p h some))
 
-    -- and at all others what was found before
+    -- for all other positions the value is the same as before
     pub found_elsewhere : (p : ℕ) → times s.positions p ≡ 0 → value_beside (flat_map items (take (k + 1) all)) p ≡ value_beside (flat_map items (take k all)) p
     found_elsewhere p none =
         ap (λ (xs : List (ℕ × V)). value_beside xs p) joined
         ∙ found-append_none (flat_map items (take k all)) (items s) p (own s p none)
 
-  -- in the lists of all sequences, none of which shares a position, what the one that holds it says
+  -- in the lists of all sequences, the value for a position is that of the sequence that contains it, if no other does
   pub found_in : (all : List SequenceView) (k : ℕ) (s : SequenceView) → slice_get all k ≡ Some s → (p : ℕ) → 0 < times s.positions p → times (positions_in all) p ≤ 1 →
       value_beside (flat_map items all) p ≡ value_beside (items s) p
   found_in [] k s e p some once = absurd cc

@@ -35,7 +35,7 @@ use Rattle.lines.proofs.RemovedLevels.{para_level-low}
 use Rattle.rule_columns.proofs.NeutralSteps.{in_two_steps}
 use Rattle.rule_columns.proofs.PuttingTogether.{columns_fit}
 
--- a rule leaves as many classes as it takes
+-- the rule keeps the number of classes
 abbrev KeepsLength : (SequenceView → List Class → List Class) → Type 0
 KeepsLength rule = (s : SequenceView) (cs : List Class) → length (rule s cs) ≡ length cs
 
@@ -54,7 +54,7 @@ n0_keeps : (us : List BidiUnit) (before : List Class) → KeepsLength (by_n0 us 
 n0_keeps us before s cs = length-after_paired _ s.sos _ _ cs
 
 module _ {extent : ℕ} {all : List SequenceView} (apart : AreDisjoint extent all) {k : ℕ} {s : SequenceView} (at : slice_get all k ≡ Some s) (inside : k < length all) where
-  -- at the positions of a sequence stands what the rule makes of its classes
+  -- at the positions of a sequence, the result is that of the rule for its classes
   left_in : (rule : SequenceView → List Class → List Class) → KeepsLength rule → (cs : List Class) → length cs ≡ extent →
       classes_at (rewritten rule all cs) s.positions ≡ rule s (classes_at cs s.positions)
   unfolding rewritten
@@ -77,7 +77,7 @@ module _ {extent : ℕ} {all : List SequenceView} (apart : AreDisjoint extent al
       ∙ ap (λ (o : Option Class). unwrap_or o d) (found_in (classes_in rule cs) (says_own rule cs) all k s at p some (apart.once p within) ∙ z.3)
       ∙ ap (class_at values) index)
 
--- what two functions give for the elements of a list, joined, where they agree on them
+-- two functions with the same results for the elements of a list have the same joined results
 flat_same : (f g : SequenceView → List (ℕ × ℕ)) (all : List SequenceView) → ((k : ℕ) (s : SequenceView) → slice_get all k ≡ Some s → k < length all → f s ≡ g s) →
     flat_map f all ≡ flat_map g all
 flat_same f g [] same = refl

@@ -1,4 +1,4 @@
--- The columns of a paragraph name no positions but its own.
+-- The columns of a paragraph contain no positions but its own.
 use Rattle.std.specs.Prelude.{Option, Some, None, ℕ, Bool, ◌==◌, ◌-◌, ◌<◌, ◌≤◌, ◌≡◌, List, [], ◌∷◌, length, map, find, IfSome, slice_index, slice_index_or}
 use Rattle.std.specs.List.{All, flat_map}
 use Rattle.std.specs.Option.{option_map}
@@ -30,7 +30,7 @@ use Rattle.rule_columns.specs.Inside.{NamesInside}
 use Rattle.rule_columns.specs.Passes.{closers_of, pairs_in}
 use Rattle.rule_columns.proofs.EachPair.{LiesBelow, pairs_lie, placed_pair}
 
--- what is found beside a position has what all values have
+-- the value for a position has a property that all values have
 value_holds : (P : ℕ → Type 0) (xs : List (ℕ × ℕ)) (p : ℕ) → All (λ x. P x.1) xs → IfSome (value_beside xs p) P
 value_holds P [] p all = tt
 value_holds P (x ∷ xs) p all =
@@ -41,7 +41,7 @@ value_holds P (x ∷ xs) p all =
           subst Q (sym (cond-false (x.0 == p) (Some x) (find (λ (y : ℕ × ℕ). y.0 == p) xs) other)) (value_holds P xs p (All-tail (λ (y : ℕ × ℕ). P y.1) x xs all))
     ]
 
--- each closing bracket stands in its paragraph
+-- each closing bracket is in its paragraph
 closers_lie : (us : List BidiUnit) (weak : List Class) (extent : ℕ) (all : List SequenceView) → All (λ s. All (λ q. q < extent) s.positions) all →
     All (λ x. x.1 < extent) (flat_map (pairs_in us weak) all)
 closers_lie us weak extent [] within = All-nil (λ (x : ℕ × ℕ). x.1 < extent)
@@ -66,7 +66,7 @@ closer_inside us weak all within p h =
     let P : Option ℕ → Type 0 = λ o. IfSome o (λ q. q < length us) in
     subst P (sym is) (value_holds (λ q. q < length us) found p (closers_lie us weak (length us) all within))
 
--- the first position that passes a test lies among those that were looked at
+-- the first position that passes a test is among those that are tested
 first_inside : (test : ℕ → Bool) (n : ℕ) → IfSome (first_from test 0 n) (λ p. p < n)
 first_inside test n = grind (arith, first_from_some)
 
@@ -74,7 +74,7 @@ strong_inside : (us : List BidiUnit) → IfSome (first_strong (classes_of us) No
 unfolding first_strong
 strong_inside us = grind (arith, length-map, first_inside)
 
--- the order of the first line
+-- the order of the first line has only positions of the text
 order_inside : (levels : List (Option ℕ)) (cuts : List ℕ) → All (λ c. c ≤ length levels) cuts → All (λ p. p < length levels) (slice_index_or (lines_cut_at levels cuts) 0 no_line).order
 order_inside [] cuts within = All-nil (λ p. p < 0)
 order_inside (level ∷ levels) [] within = line_order-places (level ∷ levels) 0 (length (level ∷ levels)) (omega arith) (omega arith)

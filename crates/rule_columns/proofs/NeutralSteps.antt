@@ -1,4 +1,4 @@
--- N1 and then N2 leave what the two together leave.
+-- N1 and then N2 give the classes that both rules together give.
 use Rattle.std.specs.Prelude.{true, ℕ, ◌<◌, ◌≡◌, ◌⊎◌, List, length, refl}
 use Rattle.std.proofs.Common.{arith, ap, sym, ◌∙◌, inl, inr}
 use Rattle.std.proofs.lemmas.Bool.{cond-true, cond-false}
@@ -16,7 +16,7 @@ side_cases : (c : Class) → (side_of c ≡ L) ⊎ (side_of c ≡ R)
 side_cases L = inl refl
 side_cases c = inr refl
 
--- of a neutral, what its sides leave takes the embedding direction
+-- for a neutral, N2 after the rule of the sides gives the result of both rules
 both_steps : (embedding c before after : Class) → is_neutral c ≡ true → by_n2 embedding (by_sides c before after) ≡ by_sides embedding before after
 both_steps embedding c before after neutral = grind (arith, cond-true, side_cases)
 

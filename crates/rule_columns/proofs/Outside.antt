@@ -1,4 +1,4 @@
--- What lies outside of all isolates, from one position to the next.
+-- The positions outside of all isolates, from one to the next.
 use Rattle.std.specs.Prelude.{Some, None, Bool, true, false, ◌&&◌, ℕ, ◌+◌, ◌<◌, ◌≤◌, ◌≡◌, ◌≢◌, List, length, refl}
 use Rattle.std.proofs.Common.{arith, sym, ◌∙◌}
 use Rattle.std.proofs.lemmas.Bool.{and_parts, false≢true, both_ways}
@@ -10,7 +10,7 @@ use Rattle.units.proofs.Positions.{first_from_is, first_from_nowhere, last_below
 use Rattle.explicit.proofs.StrongSides.Around.{around_nowhere}
 use Rattle.explicit.proofs.Matched.Nesting.{IsHeld, holds_from, holds_down, inner_match}
 
--- what an isolate holds isn't outside of all
+-- a position inside an isolate is not outside of all isolates
 pub held_inside : (cs : List Class) (i p : ℕ) → IsHeld cs i p → isolate_around cs p ≢ None
 unfolding isolate_around
 held_inside cs i p h none = false≢true (sym (last_below_none (λ i. isolate_holds cs i p) p none i h.after) ∙ holds_from cs i p h)
@@ -19,20 +19,20 @@ module _ (cs : List Class) (p : ℕ) (outside : isolate_around cs p ≡ None) wh
   not_held : (i : ℕ) → IsHeld cs i p → ⊥
   not_held i h = held_inside cs i p h outside
 
-  -- behind a position that begins no isolate
+  -- the position after one that begins no isolate is outside
   pub outside_next : is_isolate_initiator (class_at cs p) ≡ false → isolate_around cs (p + 1) ≡ None
   outside_next plain = grind (arith, around_nowhere, both_ways, not_held, holds_down)
 
-  -- at the PDI that matches the one that begins here
+  -- so is the PDI that matches the isolate initiator
   pub outside_match : (a : ℕ) → p < a → matching_pdi cs p ≡ Some a → isolate_around cs a ≡ None
   outside_match a later match = grind (arith, around_nowhere, not_held, holds_down, inner_match)
 
-  -- all up to it lies inside
+  -- all positions up to this PDI are inside
   pub inside_match : is_isolate_initiator (class_at cs p) ≡ true → (a : ℕ) → matching_pdi cs p ≡ Some a → (q : ℕ) → p < q → q < a → isolate_around cs q ≢ None
   inside_match opener a match q behind before =
       held_inside cs p q (record { opener = opener; after = behind; before = λ b e. let same : a ≡ b = (let both : Some a ≡ Some b = sym match ∙ e in cc) in omega (arith, same) })
 
-  -- and so does all behind it, where no PDI matches it
+  -- all positions after the initiator are inside, if no PDI matches it
   pub inside_unmatched : is_isolate_initiator (class_at cs p) ≡ true → matching_pdi cs p ≡ None → (q : ℕ) → p < q → isolate_around cs q ≢ None
   inside_unmatched opener none q behind =
       held_inside cs p q (record { opener = opener; after = behind; before = λ b e. absurd (let both : Some b ≡ None = sym e ∙ none in cc) })
@@ -50,7 +50,7 @@ weak_undecided cs q weak = rw weak refl
 pub inside_undecided : (cs : List Class) (q : ℕ) → isolate_around cs q ≢ None → decides cs q ≡ false
 inside_undecided cs q inside = grind (arith, same_position_true, and_parts)
 
--- before p nothing decides, and p lies outside of all isolates
+-- no position before p decides, and p is outside of all isolates
 pub record IsUndecided (cs : List Class) (p : ℕ) : Type 0 where
   pub within : p ≤ length cs
   pub before : (q : ℕ) → q < p → decides cs q ≡ false

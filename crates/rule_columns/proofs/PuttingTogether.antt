@@ -1,4 +1,4 @@
--- The columns of a paragraph, of their parts.
+-- The columns of a paragraph, composed from their parts.
 use Rattle.std.specs.Prelude.{ℕ, ◌≡◌, List, [], length, take, refl, Result, Ok, Err, IfOk}
 use Rattle.std.proofs.Common.{arith, ap, sym, ◌∙◌, subst}
 use Rattle.std.proofs.lemmas.List.{length-map, take_all}
@@ -40,7 +40,7 @@ module _ (us : List BidiUnit) (direction : Direction) (explicit : ExplicitOf) (c
   whole : current ≡ current_of explicit.leveled
   whole = front ∙ ap current_of (take_all (length us) explicit.leveled (omega arith))
 
-  -- but for overrides and what is removed, the classes before W1 are the own ones
+  -- except for overrides and removed positions, the classes before W1 are the original ones
   pub own_from : (ps : List ℕ) → AreOwn ps us current
   own_from ps =
       let cs : List Class = classes_of us in
@@ -52,12 +52,12 @@ module _ (us : List BidiUnit) (direction : Direction) (explicit : ExplicitOf) (c
   unfolding columns_of
   columns_from classes shown c s = rw (s, c, whole, is) refl
 
--- how many items the columns have
+-- the number of items of the columns
 length-rewritten : (rule : SequenceView → List Class → List Class) (all : List SequenceView) (cs : List Class) → length (rewritten rule all cs) ≡ length cs
 unfolding rewritten
 length-rewritten rule all cs = length-map (positions_of cs) _ ∙ length-positions_from 0 (length cs)
 
--- after one rule more
+-- the same after one more rule
 again : (rule : SequenceView → List Class → List Class) (all : List SequenceView) (cs : List Class) {n : ℕ} → length cs ≡ n → length (rewritten rule all cs) ≡ n
 again rule all cs long = length-rewritten rule all cs ∙ long
 
@@ -100,7 +100,7 @@ module _ (us : List BidiUnit) (direction : Direction) where
     levels = length-levels standard us direction [];
   }
 
--- what holds of a value holds of a result that is it
+-- a property of a value holds for a result that is this value
 pub if_ok : (P : ColumnsOf → Type 0) (value : ColumnsOf) (result : Result ColumnsOf Memory) → IfOk result (λ columns. columns ≡ value) → P value → IfOk result P
 if_ok P value (Ok columns) is holds = subst P (sym is) holds
 if_ok P value (Err e) is holds = tt

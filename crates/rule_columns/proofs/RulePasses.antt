@@ -1,4 +1,4 @@
--- Passes of rules that take the class alone, or the nearest earlier class too.
+-- Passes of rules that read the class alone, or the nearest earlier class too.
 use Rattle.std.specs.Prelude.{Bool, true, false, if◌then◌else◌, ℕ, ◌+◌, ◌<◌, ◌≡◌, List, length, map, slice_index, refl}
 use Rattle.std.proofs.Common.{arith, ap, sym, ◌∙◌, set, subst, add-one}
 use Rattle.std.proofs.lemmas.List.{get_or-map, set-get_or, length-map}
@@ -19,19 +19,19 @@ use Rattle.resolve.proofs.Passes.{Pass, pass_start, pass_reads, pass_within, pas
 class_at-map : (f : Class → Class) (cs : List Class) (k : ℕ) → k < length cs → class_at (map f cs) k ≡ f (class_at cs k)
 class_at-map f cs k h = get_or-map f cs k L L h
 
--- the nearest earlier class, one index on
+-- the nearest earlier class, for the next index
 nearest_before-more : (cs : List Class) (test : Class → Bool) (k : ℕ) (sos : Class) →
     nearest_before cs test (k + 1) sos ≡ (if test (class_at cs k) then class_at cs k else nearest_before cs test k sos)
 nearest_before-more cs test k sos = rw add-one (class_or-if cs k (test (class_at cs k)) (last_below (λ j. test (class_at cs j)) k) sos)
 
 module _ {ps : List ℕ} {to start now : List Class} {k : ℕ} (w : Pass ps to start now k) (inside : k < length ps) where
-  -- the pass leaves its index as it is
+  -- the pass leaves the class at its index unchanged
   pub pass_keep : class_at now (slice_index ps k) ≡ class_at to k → Pass ps to start now (k + 1)
   pass_keep is =
       let P : List Class → Type 0 = λ cs. Pass ps to start cs (k + 1) in
       subst P (set-get_or now (slice_index ps k) L) (pass_write w inside (class_at now (slice_index ps k)) is)
 
-  -- the pass writes what the rule gives at its index
+  -- the pass writes the class that the rule gives at its index
   pub pass_each : (g : ℕ → Class) → to ≡ at_each g (classes_at start ps) → (v : Class) → v ≡ g k → Pass ps to start (set now (slice_index ps k) v) (k + 1)
   pass_each g shape v is =
       pass_write w inside v (is ∙ sym (ap (λ (cs : List Class). class_at cs k) shape ∙ class_at-at_each g (classes_at start ps) k (pass_within w inside)))
@@ -49,7 +49,7 @@ module _ {ps : List ℕ} {to start now : List Class} {k : ℕ} (w : Pass ps to s
       let t : test (class_at (classes_at start ps) k) ≡ false = (ap test (sym (pass_reads w inside)) ∙ t) in
       same ∙ sym (nearest_before-more (classes_at start ps) test k sos ∙ cond-false _ _ _ t)
 
--- a pass whose rule takes the nearest earlier class that passes the test
+-- a pass whose rule reads the nearest earlier class that passes the test
 abbrev pub by_nearest : (Class → Class → Class) → (Class → Bool) → Class → List Class → List Class
 by_nearest rule test sos from = at_each (λ k. rule (nearest_before from test k sos) (class_at from k)) from
 
@@ -77,7 +77,7 @@ module _ {rule : Class → Class → Class} {test : Class → Bool} {sos : Class
       NearestPass rule test sos ps start (set now (slice_index ps k) v) nearest (k + 1)
   nearest_pass_same t = record { pass = nearest_pass_write; nearest_is = pass_nearest_same w.pass inside test sos nearest t w.nearest_is }
 
--- a pass whose rule takes the class alone
+-- a pass whose rule reads the class alone
 abbrev pub EachPass : (Class → Class) → List ℕ → List Class → List Class → ℕ → Type 0
 EachPass f ps start now k = Pass ps (map f (classes_at start ps)) start now k
 

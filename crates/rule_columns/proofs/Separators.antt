@@ -1,4 +1,4 @@
--- A pass whose rule takes the classes just before and just after.
+-- A pass whose rule reads the classes just before and just after.
 use Rattle.std.specs.Prelude.{ℕ, ◌+◌, ◌<◌, ◌≤◌, ◌≡◌, List, length, slice_index, slice_get, refl}
 use Rattle.std.proofs.Common.{arith, ap, sym, ◌∙◌, set, inl, inr}
 use Rattle.std.proofs.lemmas.Bool.{cases_lt}
@@ -22,7 +22,7 @@ pub separator_start : (ps : List ℕ) (start : List Class) → ArePositions ps (
 separator_start ps start p =
     record { pass = pass_start ps _ start p (length-at_each _ (classes_at start ps) ∙ length-classes_at start ps); before_is = refl }
 
--- the class just after an index, if one is there
+-- the class just after an index, if there is one
 next_class : (cs : List Class) (k : ℕ) → k + 1 < length cs → nearest_after cs is_any k ON ≡ class_at cs (k + 1)
 next_class cs k h = grind arith
 

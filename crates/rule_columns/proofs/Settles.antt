@@ -1,4 +1,4 @@
--- A pass that gives each class of a run what the run's two sides give it.
+-- A pass that replaces each class of a run with one that depends on both sides of the run.
 use Rattle.std.specs.Prelude.{Option, Some, None, Bool, true, false, not, ℕ, ◌+◌, ◌<◌, ◌≡◌, List, length, IfSome, slice_index}
 use Rattle.std.proofs.Common.{arith, ap, sym, ◌∙◌, subst, drop, set}
 use Rattle.std.proofs.lemmas.Bool.{cond-true, cond-false, not_from_true, not_from_false}
@@ -15,7 +15,7 @@ use Rattle.resolve.proofs.Passes.{Pass, pass_start, pass_reads, pass_within, pas
 use Rattle.rule_columns.specs.Runs.{each_in_run}
 use Rattle.rule_columns.proofs.RulePasses.{pass_keep, pass_nearest_here, pass_nearest_same}
 
--- `ahead` is what stands behind the run at hand, if the pass is inside one
+-- `ahead` is the class after the current run, if the pass is inside one
 pub record SettlePass (kind : Class → Bool) (rule : Class → Class → Class → Class) (sos eos : Class) (ps : List ℕ) (start now : List Class) (before : Class) (ahead : Option Class) (k : ℕ) : Type 0 where
   pub pass : Pass ps (each_in_run kind rule sos eos (classes_at start ps)) start now k
   pub before_is : before ≡ nearest_before (classes_at start ps) (λ c. not (kind c)) k sos
@@ -27,7 +27,7 @@ settle_start kind rule sos eos ps start p = grind (arith, pass_start, length-at_
 
 module _ {kind : Class → Bool} {rule : Class → Class → Class → Class} {sos eos : Class} {ps : List ℕ} {start now : List Class} {before : Class} {ahead : Option Class} {k : ℕ}
     (w : SettlePass kind rule sos eos ps start now before ahead k) (inside : k < length ps) where
-  -- outside the runs the pass leaves its position as it is
+  -- outside the runs the pass leaves the class unchanged
   pub settle_other : kind (class_at now (slice_index ps k)) ≡ false → SettlePass kind rule sos eos ps start now (class_at now (slice_index ps k)) None (k + 1)
   settle_other f =
       let reads = pass_reads w.pass inside in
@@ -38,7 +38,7 @@ module _ {kind : Class → Bool} {rule : Class → Class → Class → Class} {s
         ahead_is = tt;
       }
 
-  -- inside a run it writes what the two sides give to the class that stands there
+  -- inside a run it writes the class that the rule gives for the current class and both sides
   settle_run : kind (class_at now (slice_index ps k)) ≡ true → (after v : Class) →
       after ≡ first_class (λ c. not (kind c)) (drop (k + 1) (classes_at start ps)) eos → v ≡ rule (class_at now (slice_index ps k)) before after →
       SettlePass kind rule sos eos ps start (set now (slice_index ps k) v) before (Some after) (k + 1)
@@ -59,7 +59,7 @@ module _ {kind : Class → Bool} {rule : Class → Class → Class → Class} {s
         ahead_is = past;
       }
 
-  -- a run that begins here looks past itself
+  -- if a run begins here, the pass searches for the class after it
   pub settle_new : kind (class_at now (slice_index ps k)) ≡ true → (after v : Class) →
       after ≡ first_class (λ c. not (kind c)) (classes_at now (drop (k + 1) ps)) eos → v ≡ rule (class_at now (slice_index ps k)) before after →
       SettlePass kind rule sos eos ps start (set now (slice_index ps k) v) before (Some after) (k + 1)
@@ -67,7 +67,7 @@ module _ {kind : Class → Bool} {rule : Class → Class → Class → Class} {s
       let later : classes_at now (drop (k + 1) ps) ≡ drop (k + 1) (classes_at start ps) = pass_ahead w.pass inside in
       settle_run t after v (past ∙ ap (λ (cs : List Class). first_class (λ c. not (kind c)) cs eos) later) is
 
-  -- a run that goes on has the same behind it
+  -- if the run continues, the class after it is the same
   pub settle_same : (c : Class) → ahead ≡ Some c → kind (class_at now (slice_index ps k)) ≡ true → (after v : Class) → after ≡ c →
       v ≡ rule (class_at now (slice_index ps k)) before after →
       SettlePass kind rule sos eos ps start (set now (slice_index ps k) v) before (Some after) (k + 1)

@@ -1,4 +1,4 @@
--- How many steps a pass with a look ahead takes.
+-- The number of steps of a pass that searches ahead.
 use Rattle.std.specs.Prelude.{Option, Some, None, Bool, true, false, ℕ, ◌+◌, ◌*◌, ◌<◌, ◌≤◌, ◌≡◌, List, ◌∷◌, length, refl}
 use Rattle.std.specs.List.{prefix_len}
 use Rattle.std.proofs.Common.{arith, ap, ◌∙◌, drop}
@@ -8,7 +8,7 @@ use Rattle.units.specs.Classes.{class_at}
 use Rattle.units.specs.declared.class.Class.{Class}
 use Rattle.resolve.proofs.AtEach.{drop-class_at}
 
--- how long the run of this kind is that a list begins with
+-- the length of the run of this kind with which a list begins
 pub run_here : (kind : Class → Bool) (c : Class) (cs : List Class) → kind c ≡ true → prefix_len kind (c ∷ cs) ≡ prefix_len kind cs + 1
 run_here kind c cs t = cond-true (kind c) _ _ t ∙ omega arith
 
@@ -19,7 +19,7 @@ abbrev pub owed : (kind : Class → Bool) → List Class → ℕ → Option Clas
 owed kind from k None = 0
 owed kind from k (Some c) = prefix_len kind (drop k from)
 
--- the steps of a pass at index k; inside a run the look ahead has been paid for
+-- the steps of a pass at index k; inside a run the search ahead is already counted
 pub record StepCount (kind : Class → Bool) (from : List Class) (k : ℕ) (ahead : Option Class) (start now : ℕ) : Type 0 where
   pub at_least : start + k ≤ now
   pub at_most : now ≤ start + 2 * k + owed kind from k ahead
@@ -40,12 +40,12 @@ owed_past kind from k None l = refl
 owed_past kind from k (Some c) l = ap (prefix_len kind) (drop_all k from l)
 
 module _ {kind : Class → Bool} {from : List Class} {k : ℕ} {ahead : Option Class} {start now : ℕ} (w : StepCount kind from k ahead start now) where
-  -- a run that begins here pays for its whole length
+  -- if a run begins here, its whole length is counted
   pub count_new : (n : ℕ) → n ≡ prefix_len kind (drop (k + 1) from) → ahead ≡ None → (later : ℕ) → now + 1 ≤ later → later ≤ now + 1 + n + 1 →
       (v : Class) → (j : ℕ) → j ≡ k + 1 → StepCount kind from j (Some v) start later
   count_new n e none later a b v j i = grind arith
 
-  -- a run that goes on has been paid for
+  -- if a run continues, it is already counted
   pub count_same : (c : Class) → ahead ≡ Some c → k < length from → kind (class_at from k) ≡ true → (later : ℕ) → later ≡ now + 1 →
       (v : Class) → (j : ℕ) → j ≡ k + 1 → StepCount kind from j (Some v) start later
   count_same c some l t later a v j i =
@@ -53,7 +53,7 @@ module _ {kind : Class → Bool} {from : List Class} {k : ℕ} {ahead : Option C
       let next : prefix_len kind (drop j from) ≡ prefix_len kind (drop (k + 1) from) = ap (λ i. prefix_len kind (drop i from)) i in
       record { at_least = omega (arith, w.at_least); at_most = omega (arith, w.at_most, due, next) }
 
-  -- nothing is owed outside the runs
+  -- outside the runs nothing is counted in advance
   pub count_other : k < length from → kind (class_at from k) ≡ false → (later : ℕ) → later ≡ now + 1 → (j : ℕ) → j ≡ k + 1 → StepCount kind from j None start later
   count_other l f later a j i =
       record { at_least = omega (arith, w.at_least); at_most = omega (arith, w.at_most, owed_none kind from k ahead l f) }

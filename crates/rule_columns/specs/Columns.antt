@@ -1,4 +1,4 @@
--- What the rules leave of one paragraph, rule by rule: each column has an item for each position.
+-- The results of the rules for one paragraph, rule by rule: each column has an item for each position.
 use Rattle.std.specs.Prelude.{Option, None, ℕ, ◌≡◌, List, [], length}
 use Rattle.units.specs.Classes.{classes_of}
 use Rattle.units.specs.Explicit.{explicit_of}
@@ -32,21 +32,21 @@ pub record NeutralOf : Type 0 where
   pub n1 : List Class
   pub n2 : List Class
 
--- BD16, N0: at each position that of the closing bracket of the pair that begins there, if one does; and the classes
+-- BD16, N0: for each position that of the closing bracket of the pair that begins there, if one does; and the classes
 -- after N0
 pub record BracketOf : Type 0 where
   pub closers : List (Option ℕ)
   pub n0 : List Class
 
--- P2 to X10: the paragraph's level and the first strong position outside of all isolates, which decides it; the
--- explicit level and the class of each position, none where it is removed; the sequences
+-- P2 to X10: the level of the paragraph, and the first strong position outside of all isolates, which decides it; the
+-- explicit level and the class of each position, none for a removed position; the sequences
 pub record ExplicitOf : Type 0 where
   pub para_level : ℕ
   pub first_strong : Option ℕ
   pub leveled : List (Option (ℕ × Class))
   pub sequences : List SequenceView
 
--- the same of what is kept of it
+-- the same results, as the code stores them
 abbrev pub explicit_view : ExplicitPart → ExplicitOf
 explicit_view part = record {
   para_level = level_of_para part.para_level;
@@ -68,8 +68,8 @@ pub record ClassesOf : Type 0 where
   pub neutral : NeutralOf
   pub implicit : List (Option ℕ)
 
--- all that the rules leave: beside these the classes after X1 to X9, the closers of bracket pairs (BD16), and the
--- levels after I1 and I2
+-- the results of all rules: these, the classes after X1 to X9, the closers of bracket pairs (BD16), and the levels
+-- after I1 and I2
 pub record ColumnsOf : Type 0 where
   pub explicit : ExplicitOf
   pub current : List Class
@@ -93,7 +93,7 @@ column_after columns rule.N0 = columns.neutral.n0
 column_after columns rule.N1 = columns.neutral.n1
 column_after columns rule.N2 = columns.neutral.n2
 
--- P2 to X10: of a paragraph under a direction
+-- the results of P2 to X10 for a paragraph under a direction
 abbrev pub explicit_part : List BidiUnit → Direction → ExplicitOf
 explicit_part us direction =
     let cs = classes_of us in
@@ -105,7 +105,7 @@ explicit_part us direction =
       sequences = sequences_of (leveled_of standard.depth cs para_level);
     }
 
--- W1 to W7: each rule over what the one before it left, by the classes after X1 to X9
+-- W1 to W7: each rule is applied to the result of the one before it, from the classes after X1 to X9 on
 abbrev pub weak_part : List SequenceView → List Class → WeakOf
 weak_part all current =
     let w1 = rewritten (by_pass pass.W1) all current in
@@ -116,18 +116,18 @@ weak_part all current =
     let w6 = rewritten (by_pass pass.W6) all w5 in
     record { w1 = w1; w2 = w2; w3 = w3; w4 = w4; w5 = w5; w6 = w6; w7 = rewritten (by_pass pass.W7) all w6 }
 
--- BD16, N0: by the classes before W1 and those after W7
+-- BD16, N0: the results from the classes before W1 and those after W7
 abbrev pub bracket_part : List SequenceView → List BidiUnit → List Class → List Class → BracketOf
 bracket_part all us current weak =
     record { closers = closers_of all us weak; n0 = rewritten (by_n0 us current) all weak }
 
--- N1 and N2, by the classes after N0
+-- N1 and N2: the results from the classes after N0
 abbrev pub neutral_part : List SequenceView → List Class → NeutralOf
 neutral_part all n0 =
     let n1 = rewritten (by_pass pass.N1) all n0 in
     record { n0 = n0; n1 = n1; n2 = rewritten (by_pass pass.N2) all n1 }
 
--- X1 to I2: by the sequences of a paragraph, its units and its classes after X1 to X9
+-- X1 to I2: the results from the sequences of a paragraph, its units and its classes after X1 to X9
 abbrev pub classes_part : List SequenceView → List BidiUnit → List Class → ClassesOf
 classes_part all us current =
     let weak = weak_part all current in
@@ -135,13 +135,13 @@ classes_part all us current =
     let neutral = neutral_part all brackets.n0 in
     record { current = current; weak = weak; brackets = brackets; neutral = neutral; implicit = implicit_of all neutral.n2 }
 
--- L1, L2: of a paragraph under a direction
+-- the results of L1 and L2 for a paragraph under a direction
 abbrev pub shown_part : List BidiUnit → Direction → ShownOf
 shown_part us direction =
     let layout = layout_of standard us direction [] in
     record { levels = layout.levels; order = (line_at layout 0).order }
 
--- P2 to L2: of a paragraph under a direction
+-- the results of P2 to L2 for a paragraph under a direction
 unfoldable pub columns_of : List BidiUnit → Direction → ColumnsOf
 columns_of us direction =
     let explicit = explicit_part us direction in
@@ -156,7 +156,7 @@ columns_of us direction =
       shown = shown_part us direction;
     }
 
--- each column has an item for each of so many positions
+-- each column has an item for each position; there are `size` positions
 pub record HaveLength (columns : ColumnsOf) (size : ℕ) : Type 0 where
   pub leveled : length columns.explicit.leveled ≡ size
   pub classes : (rule : Rule) → length (column_after columns rule) ≡ size

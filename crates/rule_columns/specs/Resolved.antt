@@ -1,4 +1,4 @@
--- That the levels rule by rule are the resolved ones.
+-- The levels computed rule by rule are the resolved levels.
 use Rattle.std.specs.Prelude.{◌≡◌, List}
 use Rattle.units.specs.Classes.{classes_of}
 use Rattle.units.specs.Isolates.{para_level_of}

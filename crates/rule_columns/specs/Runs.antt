@@ -1,4 +1,4 @@
--- The runs that take their class from both of their sides (W5, N1).
+-- The runs whose classes depend on both of their sides (W5, N1).
 use Rattle.std.specs.Prelude.{Bool, not, List}
 use Rattle.units.specs.Classes.{class_at, is_terminator, is_neutral}
 use Rattle.units.specs.Neutral.{by_sides}
@@ -16,12 +16,13 @@ in_run Neutrals = is_neutral
 abbrev pub ends_run : RunKind → Class → Bool
 ends_run run c = not (in_run run c)
 
--- what a class of a run between these classes takes: EN beside an EN (W5), or the direction of both sides, where they
--- agree, and else its own class (N1)
+-- the class that replaces a class of a run between these classes: EN beside an EN (W5); the direction of both sides if
+-- they agree, and else the same class (N1)
 abbrev pub taken_by : RunKind → Class → Class → Class → Class
 taken_by Terminators c = by_w5
 taken_by Neutrals c = by_sides c
 
--- each class of a run becomes what the rule makes of it and of the classes just before and just after the run
+-- each class of a run is replaced with the rule's result for this class and the classes just before and just after the
+-- run
 abbrev pub each_in_run : (Class → Bool) → (Class → Class → Class → Class) → Class → Class → List Class → List Class
 each_in_run kind rule start end cs = at_each (λ k. class_by_run kind (rule (class_at cs k)) start end cs k) cs

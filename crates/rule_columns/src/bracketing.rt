@@ -14,8 +14,8 @@ use units::class::Class;
 use units::limits::Limits;
 use units::steps::Steps;
 
-/// Finds the bracket pairs of a paragraph and does what N0 says to its classes after W7, sequence by sequence. `before`
-/// are its classes before W1. `pairs` hold none yet.
+/// Finds the bracket pairs of a paragraph, and applies N0 to its classes after W7, sequence by sequence. `before` has
+/// the classes before W1. `pairs` must have no pair yet.
 pub fn pair_brackets<L: Ledger>(
     sequences: &Sequences,
     para: &[Unit],

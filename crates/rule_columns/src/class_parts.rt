@@ -42,7 +42,8 @@ impl Model for WeakPart {
 }
 
 impl WeakPart {
-    /// Of a paragraph, by its sequences and its classes after X1 to X9. The error is refused memory.
+    /// Applies W1 to W7 to a paragraph, given its sequences and its classes after X1 to X9. Fails with `Memory` if an
+    /// allocation fails.
     pub fn of<L: Ledger>(
         alloc: Global,
         sequences: &Sequences,
@@ -89,7 +90,8 @@ impl Model for BracketPart {
 }
 
 impl BracketPart {
-    /// Of a paragraph, by its sequences, its classes before W1 and those after W7. The error is refused memory.
+    /// Applies BD16 and N0 to a paragraph, given its sequences, its classes before W1, and those after W7. Fails with
+    /// `Memory` if an allocation fails.
     pub fn of<L: Ledger>(
         alloc: Global,
         sequences: &Sequences,
@@ -122,7 +124,8 @@ pub struct ResolvedPart {
 }
 
 impl ResolvedPart {
-    /// Of a paragraph, by its sequences and its classes after N0. The error is refused memory.
+    /// Applies N1 to I2 to a paragraph, given its sequences and its classes after N0. Fails with `Memory` if an
+    /// allocation fails.
     pub fn of<L: Ledger>(
         alloc: Global,
         sequences: &Sequences,

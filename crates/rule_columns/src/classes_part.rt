@@ -32,7 +32,8 @@ impl Model for ClassesPart {
 }
 
 impl ClassesPart {
-    /// Of a paragraph, by its sequences and its classes after X1 to X9. The error is refused memory.
+    /// Applies W1 to I2 to a paragraph, given its sequences and its classes after X1 to X9. Fails with `Memory` if an
+    /// allocation fails.
     pub fn of<L: Ledger>(
         alloc: Global,
         sequences: &Sequences,

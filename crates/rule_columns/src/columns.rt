@@ -1,4 +1,4 @@
-//! What the rules leave of one paragraph, rule by rule.
+//! The results of the rules for one paragraph, rule by rule.
 ghost use Rattle.std.specs.Prelude.{◌≡◌, ◌<◌, ◌≤◌, length, IfOk};
 ghost use Rattle.units.specs.Layout.{longest_text};
 ghost use Rattle.units.specs.Paragraphs.{SeparatorOnlyLast};
@@ -20,7 +20,7 @@ use units::level::{Direction, Level, ParaLevel};
 use units::memory::Memory;
 use units::steps::Steps;
 
-/// What the rules leave of one paragraph, rule by rule, in columns with an item for each position.
+/// The results of the rules for one paragraph, rule by rule, in columns with an item for each position.
 #[derive(Drop)]
 pub struct Columns {
     explicit: ExplicitPart,
@@ -42,22 +42,22 @@ impl Columns {
     ghost use Rattle.resolve.specs.Pairs.{closer_in};
     ghost use Rattle.rule_columns.specs.Columns.{column_after};
 
-    /// The paragraph's level (P2, P3).
+    /// Returns the level of the paragraph (P2, P3).
     pub fn para_level(&self) -> ParaLevel
         ensures { level_of_para result ≡ self.now.explicit.para_level }
     {
         self.explicit.para_level
     }
 
-    /// The position of the first strong character outside of all isolates (P2), if there is one: where the direction
-    /// isn't given it decides the paragraph's level.
+    /// Returns the position of the first strong character outside of all isolates (P2), if there is one. It decides the
+    /// level of the paragraph, unless the direction is given.
     pub fn first_strong(&self) -> Option<usize>
         ensures { result ≡ self.now.explicit.first_strong }
     {
         self.explicit.first_strong
     }
 
-    /// X1 to X9: the explicit level and the class of the position `p`, or none where it is removed.
+    /// X1 to X9: returns the explicit level and the class of the position `p`, or `None` if it is removed.
     pub fn leveled(&self, p: usize) -> Option<(Level, Class)>
         requires { p < length self.now.explicit.leveled }
         ensures { result ≡ slice_index_or self.now.explicit.leveled p None }
@@ -65,7 +65,7 @@ impl Columns {
         self.explicit.leveled.at(p)
     }
 
-    /// The classes after a rule, by position; BN where a position is removed.
+    /// Returns the classes after a rule, by position. A removed position has BN.
     pub fn classes_after(&self, rule: Rule) -> &[Class]
         ensures { result.now ≡ column_after self.now rule }
     {
@@ -84,35 +84,35 @@ impl Columns {
         }
     }
 
-    /// The levels after I1 and I2, by position, none where a position is removed.
+    /// Returns the levels after I1 and I2, by position. A removed position has none.
     pub fn implicit(&self) -> &[Option<Level>]
         ensures { result.now ≡ self.now.implicit }
     {
         &self.classes.resolved.implicit
     }
 
-    /// The levels after L1 of the paragraph as one line, by position, none where a position is removed.
+    /// Returns the levels after L1, by position, if the paragraph is one line. A removed position has none.
     pub fn levels(&self) -> &[Option<Level>]
         ensures { result.now ≡ self.now.shown.levels }
     {
         &self.shown.levels
     }
 
-    /// The positions of the paragraph as one line, from left to right (L2), without those that are removed.
+    /// Returns the positions that remain, from left to right (L2), if the paragraph is one line.
     pub fn order(&self) -> &[usize]
         ensures { result.now ≡ self.now.shown.order }
     {
         &self.shown.order
     }
 
-    /// The isolating run sequences (X10), in the order of their first positions.
+    /// Returns the isolating run sequences (X10), in the order of their first positions.
     pub fn sequences(&self) -> &Sequences
         ensures { result.now.all ≡ self.now.explicit.sequences }
     {
         &self.explicit.sequences
     }
 
-    /// The position of the closing bracket of the pair that begins at the position `p` (BD16), if one does.
+    /// Returns the position of the closing bracket of the pair that begins at the position `p` (BD16), if one does.
     pub fn closer(&self, p: usize) -> Option<usize>
         requires { p < length self.now.closers }
         ensures { result ≡ closer_in self.now.closers p }
@@ -121,7 +121,7 @@ impl Columns {
     }
 }
 
-/// What `columns_of` does, by a count of steps that begins with the blank.
+/// Does what `columns_of` does, with a counter of steps that begins with the blank.
 fn columns_with<L: Ledger>(
     alloc: Global,
     para: &[Unit],
@@ -147,8 +147,8 @@ fn columns_with<L: Ledger>(
     })
 }
 
-/// What the rules leave of a paragraph under a direction, by the standard limits (P2 to L2). The error is refused
-/// memory.
+/// Applies P2 to L2 to a paragraph under a direction, with the standard limits. Fails with `Memory` if an allocation
+/// fails.
 pub fn columns_of(alloc: Global, para: &[Unit], direction: Direction) -> Result<Columns, Memory>
     requires separators { SeparatorOnlyLast para.now }
     requires length { length para.now ≤ longest_text }

@@ -7,7 +7,8 @@ use std::alloc::Global;
 use units::class::Class;
 use units::memory::Memory;
 
-/// The classes after X1 to X9 of the first `n` positions that were filled. The error is refused memory.
+/// Returns the classes after X1 to X9 of the first `n` positions that were filled. Fails with `Memory` if an allocation
+/// fails.
 pub fn current_classes(alloc: Global, explicit: &Explicit, n: usize) -> Result<Vec<Class>, Memory>
     requires { n ≤ length explicit.now }
     ensures { IfOk result (λ classes. classes.items ≡ current_of (take n explicit.now)) }

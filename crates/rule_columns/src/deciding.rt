@@ -1,4 +1,4 @@
-//! The character that decides a paragraph's level (P2).
+//! The character that decides the level of a paragraph (P2).
 ghost use Rattle.std.specs.Prelude.{◌≡◌, ◌≢◌, ◌<◌, ◌≤◌, ℕ, None, length};
 ghost use Rattle.units.specs.Classes.{classes_of};
 ghost use Rattle.units.specs.Isolates.{first_strong, isolate_around};
@@ -7,8 +7,8 @@ ghost use Rattle.explicit.specs.IsolateMaps.{IsFilledFrom};
 use explicit::isolates::IsolateMap;
 use units::bracket::Unit;
 
-/// The next position outside of all isolates, behind one that is such a position, or the paragraph's end. `isolates`
-/// was filled from the paragraph.
+/// Returns the next position outside of all isolates, or the end of the paragraph if there is none. The position `p`
+/// must be outside of all isolates, and `isolates` filled from the paragraph.
 fn next_outside(para: &[Unit], isolates: &IsolateMap, p: usize) -> usize
     requires isolates { IsFilledFrom isolates.now (classes_of para.now) }
     requires inside { p < length para.now }
@@ -27,7 +27,8 @@ fn next_outside(para: &[Unit], isolates: &IsolateMap, p: usize) -> usize
     }
 }
 
-/// P2: the first strong position outside of all isolates, if there is one. `isolates` was filled from the paragraph.
+/// P2: returns the first strong position outside of all isolates, if there is one. `isolates` must be filled from the
+/// paragraph.
 pub fn first_strong(para: &[Unit], isolates: &IsolateMap) -> Option<usize>
     requires { IsFilledFrom isolates.now (classes_of para.now) }
     ensures { result ≡ first_strong (classes_of para.now) None }

@@ -1,4 +1,4 @@
-//! The paragraph's level, explicit levels and sequences (P2 to X10).
+//! The level of a paragraph, its explicit levels and its sequences (P2 to X10).
 ghost use Rattle.std.specs.Prelude.{◌≡◌, length, IfOk};
 ghost use Rattle.units.specs.Classes.{classes_of};
 ghost use Rattle.units.specs.Paragraphs.{SeparatorOnlyLast};
@@ -19,7 +19,7 @@ use units::limits::Limits;
 use units::memory::Memory;
 use units::steps::Steps;
 
-/// P2 to X10 of a paragraph.
+/// The results of P2 to X10 for a paragraph.
 #[derive(Drop)]
 pub struct ExplicitPart {
     pub(crate) para_level: ParaLevel,
@@ -29,7 +29,8 @@ pub struct ExplicitPart {
 }
 
 impl ExplicitPart {
-    /// Of a paragraph under a direction, by its isolates and the standard limits. The error is refused memory.
+    /// Applies P2 to X10 to a paragraph under a direction, given its isolates, with the standard limits. Fails with
+    /// `Memory` if an allocation fails.
     fn by_isolates<L: Ledger>(
         alloc: Global,
         para: &[Unit],
@@ -63,7 +64,8 @@ impl ExplicitPart {
         })
     }
 
-    /// Of a paragraph under a direction, by the standard limits. The error is refused memory.
+    /// Applies P2 to X10 to a paragraph under a direction, with the standard limits. Fails with `Memory` if an
+    /// allocation fails.
     pub fn of<L: Ledger>(
         alloc: Global,
         para: &[Unit],

@@ -12,7 +12,8 @@ use units::level::Level;
 use units::memory::Memory;
 use units::steps::Steps;
 
-/// The levels of a paragraph after I1 and I2, by its sequences and its classes after N2. The error is refused memory.
+/// Returns the levels of a paragraph after I1 and I2, from its sequences and its classes after N2. Fails with `Memory`
+/// if an allocation fails.
 pub fn implicit_levels<L: Ledger>(
     alloc: Global,
     sequences: &Sequences,

@@ -1,5 +1,5 @@
-//! What each rule leaves of a paragraph, by position: the explicit levels, the sequences, the classes after each of W1
-//! to N2 by the plain passes, the bracket pairs, the levels after I1 and I2, after L1, and the order.
+//! The results of each rule for a paragraph, by position: the explicit levels, the sequences, the classes after each of
+//! W1 to N2, the bracket pairs, the levels after I1 and I2 and after L1, and the order. A plain pass applies each rule.
 #![tactic(auto)]
 
 mod bracketing;

@@ -1,5 +1,5 @@
-//! The neutrals, by each of their two rules alone. `classes` are those of the sequence's paragraph, by position; the
-//! ones at positions outside the sequence stay.
+//! The neutrals, each of their two rules alone. `classes` has the classes of the sequence's paragraph, by position.
+//! Those outside the sequence are unchanged.
 ghost use Rattle.std.specs.Prelude.{◌≡◌, ◌+◌, ◌*◌, ◌≤◌, length};
 ghost use Rattle.units.specs.Runs.{direction_of};
 ghost use Rattle.resolve.specs.Rewritten.{Rewrites};
@@ -13,8 +13,8 @@ use units::class::Class;
 use units::steps::Steps;
 
 /// N1: a run of neutrals and isolate formatting characters takes the direction of the text on its two sides, if they
-/// agree; European and Arabic numbers act as R, and at the ends of the sequence stand sos and eos. Any other run stays
-/// as it is.
+/// agree. European and Arabic numbers act as R, and sos and eos are the sides at the ends of the sequence. Any other
+/// run is unchanged.
 pub fn n1<L: Ledger>(s: &Sequence, classes: &mut [Class], steps: &mut Steps<L>)
     requires { length classes.old ≡ s.now.extent }
     ensures classes { Rewrites (after_n1 s.now.sos s.now.eos) s.now.positions classes.old classes.new }
@@ -31,14 +31,14 @@ pub fn n1<L: Ledger>(s: &Sequence, classes: &mut [Class], steps: &mut Steps<L>)
     );
 }
 
-/// N2: what a class becomes where the embedding direction is this.
+/// N2: returns the class that replaces a class under this embedding direction.
 fn by_n2(embedding: Class, class: Class) -> Class
     ensures { result ≡ by_n2 embedding class }
 {
     if is_neutral(class) { embedding } else { class }
 }
 
-/// N2: the neutrals that are left take the embedding direction.
+/// N2: the remaining neutrals take the embedding direction.
 pub fn n2(s: &Sequence, classes: &mut [Class])
     requires { length classes.old ≡ s.now.extent }
     ensures { Rewrites (after_n2 (direction_of s.now.level)) s.now.positions classes.old classes.new }

@@ -1,4 +1,4 @@
-//! The rules that take nothing but the classes of a sequence.
+//! The rules that read only the classes of a sequence.
 ghost use Rattle.std.specs.Prelude.{◌≡◌, length};
 ghost use Rattle.resolve.specs.Rewritten.{Rewrites};
 ghost use Rattle.rule_columns.specs.Passes.{by_pass};
@@ -10,7 +10,7 @@ use std::sync::ledger::Ledger;
 use units::class::Class;
 use units::steps::Steps;
 
-/// A rule that takes nothing but the classes of a sequence, with its level, sos and eos.
+/// A rule that reads only the classes of a sequence, with its level, sos and eos.
 #[derive(Clone, Copy)]
 pub enum Pass {
     W1,
@@ -24,8 +24,8 @@ pub enum Pass {
     N2,
 }
 
-/// Does what a rule says to the classes of a sequence. `classes` are those of its paragraph, by position; the ones at
-/// other positions stay.
+/// Applies a rule to the classes of a sequence. `classes` has the classes of its paragraph, by position. Those at other
+/// positions are unchanged.
 pub fn apply<L: Ledger>(pass: Pass, s: &Sequence, classes: &mut [Class], steps: &mut Steps<L>)
     requires { length classes.old ≡ s.now.extent }
     ensures { Rewrites (by_pass pass s.now) s.now.positions classes.old classes.new }

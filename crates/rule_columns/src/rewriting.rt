@@ -1,4 +1,4 @@
-//! A rule over all sequences of a paragraph.
+//! A rule for all sequences of a paragraph.
 ghost use Rattle.std.specs.Prelude.{◌≡◌, length, IfOk};
 ghost use Rattle.paragraph.specs.Covering.{AreDisjoint};
 ghost use Rattle.rule_columns.specs.Passes.{by_pass, rewritten};
@@ -11,7 +11,8 @@ use units::class::Class;
 use units::memory::Memory;
 use units::steps::Steps;
 
-/// The classes of a paragraph after a rule, by those before it, sequence by sequence. The error is refused memory.
+/// Returns the classes of a paragraph after a rule, from those before it, sequence by sequence. Fails with `Memory` if
+/// an allocation fails.
 pub fn rewritten<L: Ledger>(
     alloc: Global,
     pass: Pass,

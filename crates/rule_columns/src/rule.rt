@@ -1,13 +1,13 @@
-//! The rules that leave classes behind them.
+//! The rules that result in classes.
 
 /// A rule, or a group of rules, after which each position of a paragraph has a class.
 #[derive(Clone, Copy, Debug, PartialEq, Eq)]
 pub enum Rule {
-    /// X1 to X9: overrides, and BN where a position is removed.
+    /// X1 to X9: overrides, and BN for a removed position.
     X,
     /// Nonspacing marks.
     W1,
-    /// European numbers behind Arabic letters.
+    /// European numbers after Arabic letters.
     W2,
     /// Arabic letters.
     W3,
@@ -15,14 +15,14 @@ pub enum Rule {
     W4,
     /// Terminators beside European numbers.
     W5,
-    /// Separators and terminators that are left.
+    /// The remaining separators and terminators.
     W6,
-    /// European numbers behind L.
+    /// European numbers after L.
     W7,
     /// Bracket pairs.
     N0,
     /// Neutrals between two sides of one direction.
     N1,
-    /// Neutrals that are left.
+    /// The remaining neutrals.
     N2,
 }

@@ -1,4 +1,4 @@
-//! The runs that take their class from both of their sides (W5, N1).
+//! The runs whose classes depend on both of their sides (W5, N1).
 ghost use Rattle.std.specs.Prelude.{◌≡◌, ℕ, ◌+◌, ◌*◌, ◌<◌, ◌≤◌, length, slice_index};
 ghost use Rattle.std.specs.List.{prefix_len};
 ghost use Rattle.units.specs.Classes.{classes_at};
@@ -12,7 +12,7 @@ use std::sync::ledger::Ledger;
 use units::class::Class;
 use units::steps::Steps;
 
-/// Which runs.
+/// A kind of run.
 #[derive(Clone, Copy)]
 pub enum RunKind {
     /// Of European number terminators (W5).
@@ -25,7 +25,7 @@ pub enum RunKind {
 impl RunKind {
     ghost use Rattle.rule_columns.specs.Runs.{in_run, taken_by};
 
-    /// Whether a class belongs to such a run.
+    /// Returns whether a class belongs to such a run.
     pub fn holds(self, class: Class) -> bool
         ensures { result ≡ in_run self class }
     {
@@ -35,7 +35,7 @@ impl RunKind {
         }
     }
 
-    /// What a class of a run between these classes takes.
+    /// Returns the class that replaces a class of a run between these classes.
     pub fn taken(self, class: Class, before: Class, after: Class) -> Class
         ensures { result ≡ taken_by self class before after }
     {
@@ -46,7 +46,7 @@ impl RunKind {
     }
 }
 
-/// The first class at these positions that is outside the run, or the end's.
+/// Returns the first class at these positions that is outside the run, or `end` if there is none.
 fn class_past<L: Ledger>(
     rest: &[u32],
     run: RunKind,
@@ -69,7 +69,7 @@ fn class_past<L: Ledger>(
     end
 }
 
-/// Gives each class of a run at these positions what the run's two sides give it.
+/// Replaces each class of a run at these positions with the class that depends on both sides of the run.
 pub fn settle<L: Ledger>(
     positions: &[u32],
     run: RunKind,

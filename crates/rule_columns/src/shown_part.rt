@@ -32,7 +32,7 @@ impl Model for ShownPart {
     ghost view = { λ part. record { levels = part.levels.items; order = part.order.items } };
 }
 
-/// The order of the first line, if there is one.
+/// Returns the order of the first line, or no positions if there is no line.
 fn first_order(alloc: Global, layout: &Layout<'_>) -> Result<Vec<usize>, Memory>
     ensures { IfOk result (λ order. order.items ≡ (line_at (view_of layout.now) 0).order) }
 {
@@ -43,7 +43,7 @@ fn first_order(alloc: Global, layout: &Layout<'_>) -> Result<Vec<usize>, Memory>
     Ok(Vec::from_slice(alloc, line.order)?)
 }
 
-/// The levels of a layout, and the order of its first line.
+/// Copies the levels of a layout and the order of its first line.
 fn shown_by(alloc: Global, layout: &Layout<'_>) -> Result<ShownPart, Memory>
     ensures levels { IfOk result (λ part. part.levels ≡ (view_of layout.now).levels) }
     ensures order { IfOk result (λ part. part.order ≡ (line_at (view_of layout.now) 0).order) }
@@ -53,7 +53,7 @@ fn shown_by(alloc: Global, layout: &Layout<'_>) -> Result<ShownPart, Memory>
     Ok(ShownPart { levels, order })
 }
 
-/// The levels after L1 and the order of a paragraph under a direction, laid out in a room that is large enough.
+/// Lays out a paragraph under a direction, in a `Scratch` with enough capacity.
 fn shown_in<L: Ledger>(
     alloc: Global,
     room: &mut Scratch,
@@ -70,7 +70,8 @@ fn shown_in<L: Ledger>(
 }
 
 impl ShownPart {
-    /// Of a paragraph under a direction, by the standard limits. The error is refused memory.
+    /// Returns the levels and the order of a paragraph under a direction, with the standard limits. Fails with `Memory`
+    /// if an allocation fails.
     pub fn of<L: Ledger>(
         alloc: Global,
         para: &[Unit],

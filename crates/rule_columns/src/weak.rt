@@ -1,5 +1,5 @@
-//! The weak types (W1 to W7), a pass for each rule. `classes` are those of the sequence's paragraph, by position; the
-//! ones at positions outside the sequence stay.
+//! The weak types (W1 to W7), with a pass for each rule. `classes` has the classes of the sequence's paragraph, by
+//! position. Those outside the sequence are unchanged.
 ghost use Rattle.std.specs.Prelude.{◌≡◌, ◌+◌, ◌*◌, ◌<◌, ◌≤◌, length, slice_get};
 ghost use Rattle.units.specs.Weak.{after_w1, after_w2, after_w3, after_w4, after_w5, after_w6, after_w7, after_weak, class_or};
 ghost use Rattle.units.specs.declared.class.Class.TheVariants.{ON};
@@ -13,8 +13,8 @@ use std::sync::ledger::Ledger;
 use units::class::Class;
 use units::steps::Steps;
 
-/// W1: each nonspacing mark takes the class of the character before it, or ON where that is an isolate initiator or
-/// PDI; at the start of the sequence it takes sos.
+/// W1: each nonspacing mark takes the class of the character before it, or ON if that is an isolate initiator or PDI.
+/// At the start of the sequence it takes sos.
 pub fn w1<L: Ledger>(s: &Sequence, classes: &mut [Class], steps: &mut Steps<L>)
     requires { length classes.old ≡ s.now.extent }
     ensures classes { Rewrites (after_w1 s.now.sos) s.now.positions classes.old classes.new }
@@ -67,7 +67,7 @@ pub fn w3<L: Ledger>(s: &Sequence, classes: &mut [Class], steps: &mut Steps<L>)
     }
 }
 
-/// The class at the next of these positions after the one with number `k`, or ON at the end.
+/// Returns the class at the position after the one with the number `k`, or ON if that is the last.
 fn class_after(positions: &[u32], k: usize, classes: &[Class]) -> Class
     requires positions { ArePositions positions.now (length classes.now) }
     requires inside { k < length positions.now }
@@ -80,7 +80,7 @@ fn class_after(positions: &[u32], k: usize, classes: &[Class]) -> Class
     }
 }
 
-/// W4: a single European separator between two European numbers becomes a European number, a single common separator
+/// W4: a single European separator between two European numbers becomes a European number. A single common separator
 /// between two numbers of one type becomes that type.
 pub fn w4<L: Ledger>(s: &Sequence, classes: &mut [Class], steps: &mut Steps<L>)
     requires { length classes.old ≡ s.now.extent }
@@ -115,7 +115,7 @@ pub fn w5<L: Ledger>(s: &Sequence, classes: &mut [Class], steps: &mut Steps<L>)
     );
 }
 
-/// W6: the separators and terminators that W4 and W5 left become ON.
+/// W6: the separators and terminators that remain after W4 and W5 become ON.
 pub fn w6<L: Ledger>(s: &Sequence, classes: &mut [Class], steps: &mut Steps<L>)
     requires { length classes.old ≡ s.now.extent }
     ensures classes { Rewrites after_w6 s.now.positions classes.old classes.new }
@@ -148,7 +148,7 @@ pub fn w7<L: Ledger>(s: &Sequence, classes: &mut [Class], steps: &mut Steps<L>)
     }
 }
 
-/// W1 to W7, one after another: together they make what `resolve::weak` makes in one walk.
+/// Applies W1 to W7, one after another. The result is that of `resolve::weak`, which takes one pass.
 pub fn weak_types<L: Ledger>(s: &Sequence, classes: &mut [Class], steps: &mut Steps<L>)
     requires { length classes.old ≡ s.now.extent }
     ensures classes { Rewrites (after_weak s.now.sos) s.now.positions classes.old classes.new }
