@@ -1,9 +1,7 @@
-//! Tests of texts: laid out in a room, printed, and explained. They stand here, and not beside what they
-//! test, so that no crate is proved a second time with its tests.
+//! Tests of texts that are printed and explained. They are a crate of their own, so no other crate is proved a second
+//! time with its tests.
 #![tactic(auto)]
 
-#[cfg(test)]
-mod direction_rows;
 #[cfg(test)]
 mod explained_rows;
 #[cfg(test)]
@@ -22,17 +20,3 @@ mod printed_refused;
 mod printed_reorder;
 #[cfg(test)]
 mod printed_source;
-#[cfg(test)]
-mod room_given;
-#[cfg(test)]
-mod room_lines;
-#[cfg(test)]
-mod room_rejected;
-#[cfg(test)]
-mod room_rows;
-#[cfg(test)]
-mod room_shown;
-#[cfg(test)]
-mod room_sizes;
-#[cfg(test)]
-mod text_rows;

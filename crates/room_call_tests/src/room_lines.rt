@@ -1,7 +1,6 @@
 //! One line alone of a text in a room, the levels of its paragraphs, and of its characters before L1 and if X9 removes
 //! them.
-use crate::given::tables;
-use crate::room_given::lay_out;
+use crate::given::{lay_out, tables};
 use decoding::fault::Faults;
 use room::fault::LayoutFault;
 use room::line_of::LineFault;

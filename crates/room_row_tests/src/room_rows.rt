@@ -1,6 +1,5 @@
 //! Texts of every source in a room: the levels, lines, orders, places and runs in the units of the source.
-use crate::given::tables;
-use crate::room_given::{lay_out, no_run};
+use crate::given::{lay_out, tables};
 use decoding::fault::Faults;
 use room::lookups::Line;
 use room::places::NOWHERE;
@@ -9,7 +8,8 @@ use sources::source::Source;
 use std::process::Abort;
 use std::test::Fail;
 use ucdfiles::tables::Tables;
-use units::level::{Direction, Level};
+use units::level::{Direction, Level, ParaLevel};
+use visual::runs::VisualRun;
 
 /// A line: the offsets of its shown characters from left to right, the place of each unit, and of each run the start,
 /// the end, the level and how many characters are shown.
@@ -262,6 +262,16 @@ fn has_places(rt: &impl Abort, room: &Room, k: usize, places: &[usize]) {
     assert!(rt; k < room.line_count());
     let count = room.places(k, &mut found);
     assert_eq!(rt; found.get(..count), Some(places), "in line {k}");
+}
+
+/// Returns a run, to fill a list with.
+fn no_run() -> VisualRun {
+    VisualRun {
+        start: 0,
+        end: 0,
+        level: ParaLevel::Zero.level(),
+        shown: 0,
+    }
 }
 
 /// Compares the runs of a line.

@@ -1,6 +1,5 @@
 //! Texts, breaks and lines that a room rejects, for the first reason in order, and what it holds afterwards.
-use crate::given::tables;
-use crate::room_given::{lay_out, no_run};
+use crate::given::{lay_out, tables};
 use decoding::fault::Faults;
 use lines::breaks::BreakFault;
 use room::fault::LayoutFault;
@@ -220,7 +219,7 @@ fn leaves_short_lists_of_lines(rt: &impl Abort, room: &Room) {
     assert_eq!(rt; room.order(1, &mut offsets), 2);
     assert_eq!(rt; room.places(1, &mut offsets), 2);
     assert_eq!(rt; offsets, [9]);
-    assert_eq!(rt; room.runs(1, &mut [no_run(); 0]), 1);
+    assert_eq!(rt; room.runs(1, &mut []), 1);
 }
 
 #[test]

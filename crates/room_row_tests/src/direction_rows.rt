@@ -1,5 +1,5 @@
 //! Worked rows of what is known of a text without a layout: the level of its first paragraph (P1 to P3), and whether it
-//! has only classes that stay at level 0. The texts are classes by their numbers.
+//! has only classes that stay at level 0. Most texts are classes, given by their numbers.
 use crate::given::tables;
 use room::base_levels::{base_level, is_left_to_right};
 use sources::source::Source;
@@ -47,38 +47,41 @@ fn level_of_the_first_paragraph(rt: HostRuntime) -> Result<(), Fail> {
     Ok(())
 }
 
-/// The classes of a text, and whether it has only classes that stay at level 0, which is asked of all paragraphs and of
-/// what is in isolates.
-type LeftRow = (&'static [u8], bool);
+/// The names of a text's classes, with brackets as themselves, the text, and whether it has only classes that stay at
+/// level 0. The classes of all paragraphs and inside isolates count.
+type LeftRow = (&'static str, Source<'static>, bool);
 
-const LEFT_TO_RIGHT: [LeftRow; 7] = [
-    // L EN ES ET CS NSM BN B S WS ON PDF PDI
-    (&[0, 3, 4, 5, 7, 8, 9, 10, 11, 12, 13, 18, 22], true),
-    (&[], true),
-    // L B R
-    (&[0, 10, 1], false),
-    // L AN
-    (&[0, 6], false),
-    // LRI L PDI
-    (&[19, 0, 22], false),
-    // RLI R PDI L
-    (&[20, 1, 22, 0], false),
-    // LRE L PDF
-    (&[14, 0, 18], false),
+const LEFT_TO_RIGHT: [LeftRow; 8] = [
+    (
+        "L EN ES ET CS NSM BN B S WS ON PDF PDI",
+        Source::Classes(&[0, 3, 4, 5, 7, 8, 9, 10, 11, 12, 13, 18, 22]),
+        true,
+    ),
+    ("", Source::Classes(&[]), true),
+    (
+        "L ( L ) B EN",
+        Source::Codes(&[0x61, 0x28, 0x62, 0x29, 0x2029, 0x31]),
+        true,
+    ),
+    ("L B R", Source::Classes(&[0, 10, 1]), false),
+    ("L AN", Source::Classes(&[0, 6]), false),
+    ("LRI L PDI", Source::Classes(&[19, 0, 22]), false),
+    ("RLI R PDI L", Source::Classes(&[20, 1, 22, 0]), false),
+    ("LRE L PDF", Source::Classes(&[14, 0, 18]), false),
 ];
 
 /// Compares whether a row's text has only such classes.
 fn stays_left(rt: &impl Abort, tables: &Tables, row: LeftRow) {
-    let (classes, stays) = row;
-    let found = is_left_to_right(tables, Source::Classes(classes));
-    assert_eq!(rt; found, Ok(stays), "{classes:?}");
+    let (names, text, stays) = row;
+    let found = is_left_to_right(tables, text);
+    assert_eq!(rt; found, Ok(stays), "{names}");
 }
 
+// The tables are those of Unicode, since U+2029 is no separator in the small files.
 #[test]
-fn texts_that_stay_at_level_zero(rt: HostRuntime) -> Result<(), Fail> {
-    let tables = tables(rt.alloc())?;
+fn texts_that_stay_at_level_zero(rt: HostRuntime) {
+    let tables = standard::tables();
     for row in LEFT_TO_RIGHT {
         stays_left(&rt, &tables, row);
     }
-    Ok(())
 }

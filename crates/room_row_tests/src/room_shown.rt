@@ -1,6 +1,5 @@
 //! Lines of a text in a room as they are shown: code points, bytes and code units of 16 bits.
-use crate::given::tables;
-use crate::room_given::lay_out;
+use crate::given::{lay_out, tables};
 use decoding::fault::Faults;
 use room::room::Room;
 use sources::source::Source;
