@@ -1,4 +1,4 @@
-//! What is said of texts and of classes, rule by rule.
+//! The lines that explain texts and classes, rule by rule.
 use crate::given::tables;
 use explain::print::{print_explained, print_explained_classes};
 use printing::fault::PrintFault;
@@ -68,7 +68,7 @@ order 0 1 2 3\n",
     },
 ];
 
-/// Compares what is printed of a row.
+/// Compares the lines that are printed for a row.
 fn explains(rt: &impl Abort, alloc: Global, row: &Row) {
     assert!(rt; row.classes.len() <= 16);
     let mut out = Vec::new(alloc);
@@ -77,7 +77,7 @@ fn explains(rt: &impl Abort, alloc: Global, row: &Row) {
     assert_eq!(rt; out.as_slice(), row.printed);
 }
 
-/// The same of each row.
+/// Compares the lines of each row.
 fn explains_each(rt: &impl Abort, alloc: Global, rows: &[Row]) {
     for row in rows {
         explains(rt, alloc, row);
@@ -89,7 +89,7 @@ fn says_what_rules_make_of_classes(rt: HostRuntime) {
     explains_each(&rt, rt.alloc(), &ROWS);
 }
 
-/// Compares what is printed of a text by these tables.
+/// Compares the lines that are printed for a text with these tables.
 fn text_explains(rt: &impl Abort, alloc: Global, tables: &Tables, text: &[char], printed: &[u8]) {
     assert!(rt; text.len() <= 16);
     let mut out = Vec::new(alloc);
@@ -98,7 +98,7 @@ fn text_explains(rt: &impl Abort, alloc: Global, tables: &Tables, text: &[char],
     assert_eq!(rt; out.as_slice(), printed);
 }
 
-/// What is printed of an alef and a number in brackets, which take the direction of the paragraph.
+/// The lines of an alef and a number in brackets. The brackets take the direction of the paragraph (N0).
 const NUMBER: &[u8] = b"paragraph 0 level 1: R at 0\n\
 position code class level X W1 W2 W3 W4 W5 W6 W7 N0 N1 N2 I L1\n\
 0 05D0 R 1 . . . . . . . . . . . . .\n\
@@ -117,7 +117,7 @@ fn says_what_rules_make_of_a_text(rt: HostRuntime) -> Result<(), TableFault> {
     Ok(())
 }
 
-/// Expects that nothing is printed whole where so many bytes are taken.
+/// Expects `Write` if the writer takes only `taken` bytes.
 fn is_cut(rt: &impl Abort, alloc: Global, taken: usize) -> Result<(), Memory> {
     let mut bytes = vec![in alloc; 0_u8; taken]?;
     let mut short = bytes.as_mut_slice();

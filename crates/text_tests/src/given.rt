@@ -1,4 +1,4 @@
-//! The tables by which texts are laid out, and long texts.
+//! The tables with which texts are laid out, and long texts.
 use std::alloc::Global;
 use ucdfiles::bracket_table::BracketTable;
 use ucdfiles::class_table::ClassTable;
@@ -9,7 +9,7 @@ use ucdfiles::tables::Tables;
 use units::memory::Memory;
 use units::slice_source::SliceSource;
 
-/// The tables of the small files, with these mirror images.
+/// Returns the tables of the small files, but with these mirrored characters.
 pub fn tables_with(alloc: Global, mirrors: &[u8]) -> Result<Tables, TableFault> {
     Ok(Tables::new(
         ClassTable::read(alloc, &mut SliceSource::new(CLASSES))?,
@@ -18,12 +18,12 @@ pub fn tables_with(alloc: Global, mirrors: &[u8]) -> Result<Tables, TableFault> 
     ))
 }
 
-/// The tables of the small files.
+/// Returns the tables of the small files.
 pub fn tables(alloc: Global) -> Result<Tables, TableFault> {
     tables_with(alloc, MIRRORS)
 }
 
-/// So many times `a`.
+/// Returns a text of `count` letters `a`.
 pub fn letters(alloc: Global, count: usize) -> Result<Vec<char>, Memory> {
     Ok(vec![in alloc; 'a'; count]?)
 }

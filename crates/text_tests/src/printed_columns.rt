@@ -8,7 +8,7 @@ use std::test::Fail;
 use ucdfiles::tables::Tables;
 use units::level::Direction;
 
-/// Expects a line feed behind each so many bytes and at the end, and nowhere else.
+/// Expects a line feed after each `columns` bytes and at the end, and nowhere else.
 fn ends_each_line(rt: &impl Abort, printed: &[u8], columns: u16) {
     for line in printed.chunks(usize::from(columns) + 1) {
         assert_eq!(rt; line.last(), Some(&b'\n'), "{columns}");
@@ -17,7 +17,7 @@ fn ends_each_line(rt: &impl Abort, printed: &[u8], columns: u16) {
     }
 }
 
-/// Prints a text in lines of so many columns, and expects so many bytes.
+/// Prints a text in lines of `columns` columns. Compares the number of bytes and where the lines end.
 fn prints_lines(
     rt: &impl Abort,
     alloc: Global,
@@ -35,7 +35,7 @@ fn prints_lines(
     ends_each_line(rt, &out, columns);
 }
 
-/// Numbers of columns, and how many bytes are printed: the text takes 258, 257, 256, 2 and 2 lines.
+/// Numbers of columns, and the number of bytes that are printed with each. The text takes 258, 257, 256, 2 and 2 lines.
 const PRINTED: [(u16, usize); 5] = [
     (255, 65_858),
     (256, 65_857),
@@ -44,14 +44,14 @@ const PRINTED: [(u16, usize); 5] = [
     (65_535, 65_602),
 ];
 
-/// Prints a text in lines of each of these numbers of columns.
+/// Prints a text with each of these numbers of columns.
 fn prints_each(rt: &impl Abort, alloc: Global, tables: &Tables, text: &[char]) {
     for (columns, bytes) in PRINTED {
         prints_lines(rt, alloc, tables, text, columns, bytes);
     }
 }
 
-/// The text takes more than one line of any number of columns.
+/// The text takes more than one line with any number of columns.
 #[test]
 fn breaks_at_many_columns(rt: HostRuntime) -> Result<(), Fail> {
     let text = letters(rt.alloc(), 65_600)?;

@@ -1,4 +1,4 @@
-//! The order of the faults of a text that is printed as it is read, where a write fails before the source does.
+//! The order of the errors of a text that is printed while it is read, if a write fails before the source does.
 use crate::given::tables;
 use printing::form::Form;
 use printing::place::TextPlace;
@@ -14,7 +14,7 @@ use units::level::Direction;
 use units::slice_source::SliceSource;
 use units::source::ByteSource;
 
-/// Takes so many calls of `write` and of `flush`, and fails with each further one, by an error of this kind.
+/// Takes `calls` calls of `write` and `flushes` calls of `flush`. Each further call fails with an error of this kind.
 #[derive(Drop)]
 struct Failing {
     calls: usize,
@@ -40,7 +40,7 @@ impl Write for Failing {
     }
 }
 
-/// Fails with the first write.
+/// Returns a writer whose first write fails with an error of this kind.
 fn at_once(kind: ErrorKind) -> Failing {
     Failing {
         calls: 0,
@@ -49,7 +49,7 @@ fn at_once(kind: ErrorKind) -> Failing {
     }
 }
 
-/// Prints what the source gives to a writer that fails.
+/// Prints the text of a source to a writer that fails, and returns the result.
 fn fault_of<S: ByteSource, R: Abort>(
     rt: &R,
     alloc: Global,
@@ -62,7 +62,7 @@ fn fault_of<S: ByteSource, R: Abort>(
     print_source(alloc, &mut w, tables, source, Direction::Auto, shown)
 }
 
-/// That the text is not UTF-8 from this place on, and a write failed.
+/// Returns the error that the text is not UTF-8 from this place on and that a write failed.
 fn not_utf8(line: usize, offset: usize) -> Result<(), TextFault> {
     Err(TextFault::NotUtf8 {
         place: TextPlace { line, offset },
@@ -70,7 +70,7 @@ fn not_utf8(line: usize, offset: usize) -> Result<(), TextFault> {
     })
 }
 
-/// This byte so many times, each time with an LF.
+/// Returns `count` lines, each of this byte and an LF.
 fn lines(alloc: Global, byte: u8, count: usize) -> Result<Vec<u8>, AllocError> {
     let mut text = Vec::new(alloc);
     for _ in 0..count {
@@ -79,7 +79,7 @@ fn lines(alloc: Global, byte: u8, count: usize) -> Result<Vec<u8>, AllocError> {
     Ok(text)
 }
 
-/// Kinds of a write that fails though somebody may read what is written.
+/// Kinds of a write error after which somebody may still read the output.
 const KINDS: [ErrorKind; 3] = [
     ErrorKind::StorageFull,
     ErrorKind::ConnectionReset,
@@ -149,7 +149,7 @@ fn says_else_that_a_write_failed(rt: HostRuntime) -> Result<(), Fail> {
     Ok(())
 }
 
-/// The second paragraph can't be written, or the first can't be handed on.
+/// The second paragraph can't be written, or the first can't be flushed.
 #[test]
 fn says_it_of_a_later_write_and_of_a_flush(rt: HostRuntime) -> Result<(), Fail> {
     let alloc = rt.alloc();
@@ -171,7 +171,7 @@ fn says_it_of_a_later_write_and_of_a_flush(rt: HostRuntime) -> Result<(), Fail> 
     Ok(())
 }
 
-/// A source of more than one read is left where it is as soon as nobody reads what is written.
+/// A source of more than one read is read no further as soon as nobody reads the output.
 #[test]
 fn reads_no_further_where_nobody_reads(rt: HostRuntime) -> Result<(), Fail> {
     let alloc = rt.alloc();

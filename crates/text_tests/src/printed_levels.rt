@@ -7,7 +7,7 @@ use ucdfiles::fault::TableFault;
 use ucdfiles::tables::Tables;
 use units::level::Direction;
 
-/// A text, its direction, and the lines that are printed.
+/// A text, its direction, and the lines that are printed for it.
 #[derive(Clone, Copy)]
 struct Row {
     text: &'static [char],
@@ -74,7 +74,7 @@ paragraph 2 level 0\n3 0061 L 0\n",
     },
 ];
 
-/// Compares what is printed of a row by these tables.
+/// Compares the lines that are printed for a row with these tables.
 fn prints(rt: &impl Abort, alloc: Global, tables: &Tables, row: &Row) {
     assert!(rt; row.text.len() <= 16);
     let mut out = Vec::new(alloc);
@@ -83,7 +83,7 @@ fn prints(rt: &impl Abort, alloc: Global, tables: &Tables, row: &Row) {
     assert_eq!(rt; out.as_slice(), row.printed);
 }
 
-/// The same of each row.
+/// Compares the lines of each row.
 fn prints_each(rt: &impl Abort, alloc: Global, tables: &Tables, rows: &[Row]) {
     for row in rows {
         prints(rt, alloc, tables, row);
@@ -97,7 +97,7 @@ fn prints_a_line_for_each_position(rt: HostRuntime) -> Result<(), TableFault> {
     Ok(())
 }
 
-/// Expects that a line is not printed whole where at most 30 bytes are taken.
+/// Expects `Write` if the writer takes 30 bytes or fewer, one less than the output has.
 fn are_cut(rt: &impl Abort, alloc: Global, tables: &Tables) {
     for taken in [0, 5, 30] {
         let mut bytes = [0; 30];

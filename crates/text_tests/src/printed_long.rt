@@ -8,7 +8,7 @@ use std::test::Fail;
 use ucdfiles::tables::Tables;
 use units::level::Direction;
 
-/// Counts the bytes that are written to it, and keeps none.
+/// Counts the bytes that are written to it, and stores none.
 #[derive(Drop)]
 struct Counted {
     bytes: usize,
@@ -25,7 +25,7 @@ impl Write for Counted {
     }
 }
 
-/// Prints the levels of a text, and expects so many bytes.
+/// Prints the levels of a text, and compares the number of bytes.
 fn levels_take(rt: &impl Abort, alloc: Global, tables: &Tables, text: &[char], bytes: usize) {
     assert!(rt; text.len() <= 16_777_216);
     let mut out = Counted { bytes: 0 };
@@ -34,7 +34,7 @@ fn levels_take(rt: &impl Abort, alloc: Global, tables: &Tables, text: &[char], b
     assert_eq!(rt; out.bytes, bytes);
 }
 
-/// Prints a text as it is shown, and expects so many bytes.
+/// Prints a text as it is shown, and compares the number of bytes.
 fn shown_takes(rt: &impl Abort, alloc: Global, tables: &Tables, text: &[char], bytes: usize) {
     assert!(rt; text.len() <= 16_777_216);
     let mut out = Counted { bytes: 0 };
@@ -43,7 +43,7 @@ fn shown_takes(rt: &impl Abort, alloc: Global, tables: &Tables, text: &[char], b
     assert_eq!(rt; out.bytes, bytes);
 }
 
-/// How many letters a text has, and how many bytes are printed of its levels and of its line.
+/// The number of letters of a text, and the numbers of bytes that its printed levels and its shown line have.
 #[derive(Clone, Copy)]
 struct Row {
     letters: usize,
@@ -51,7 +51,7 @@ struct Row {
     shown: usize,
 }
 
-// Of levels a line of 20 bytes for the paragraph, and for each position ten bytes behind its digits.
+// The levels have a line of 20 bytes for the paragraph, and for each position its digits and ten bytes after these.
 const ROWS: [Row; 3] = [
     Row {
         letters: 4_097,
@@ -70,7 +70,7 @@ const ROWS: [Row; 3] = [
     },
 ];
 
-/// Compares how many bytes are printed of a text of so many letters.
+/// Compares the numbers of bytes that are printed for a row's text.
 fn prints(rt: &impl Abort, alloc: Global, tables: &Tables, row: Row) -> Result<(), Fail> {
     let text = letters(alloc, row.letters)?;
     levels_take(rt, alloc, tables, &text, row.levels);

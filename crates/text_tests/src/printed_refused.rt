@@ -1,5 +1,5 @@
-//! Refused memory: to be run with each growth refused in turn. The answer is that memory was refused, or the ordinary
-//! one, and no other.
+//! Refused memory: `tools/refused_growths.sh` runs this test with each growth refused in turn. A call then returns the
+//! usual result or a `Memory` error, and no other.
 use crate::given::tables;
 use printing::fault::PrintFault;
 use printing::print::{print_levels, print_reorder};
@@ -10,7 +10,7 @@ use ucdfiles::fault::TableFault;
 use ucdfiles::tables::Tables;
 use units::level::Direction;
 
-/// Expects that memory was refused, or that this was written into the bytes, of which so many are left.
+/// Expects a `Memory` error, or that `expected` was written to the front of the bytes and `left` bytes remain.
 fn refused_or_written(
     rt: &impl Abort,
     answer: Result<(), PrintFault>,
@@ -29,7 +29,7 @@ fn refused_or_written(
 
 const TEXT: [char; 3] = ['\u{5D0}', '<', 'a'];
 
-/// The levels of the text, or that memory was refused.
+/// Prints the levels of the text. Expects these or a `Memory` error.
 fn levels_or_refused(rt: &impl Abort, alloc: Global, tables: &Tables) {
     let mut bytes = [0; 64];
     let mut out = bytes.as_mut_slice();
@@ -39,7 +39,7 @@ fn levels_or_refused(rt: &impl Abort, alloc: Global, tables: &Tables) {
     refused_or_written(rt, answer, &bytes, left, lines);
 }
 
-/// The text as it is shown in lines of two columns, or that memory was refused.
+/// Prints the text as it is shown in lines of two columns. Expects these or a `Memory` error.
 fn reorder_or_refused(rt: &impl Abort, alloc: Global, tables: &Tables) {
     let mut bytes = [0; 64];
     let mut out = bytes.as_mut_slice();

@@ -8,7 +8,7 @@ use ucdfiles::fault::TableFault;
 use ucdfiles::tables::Tables;
 use units::level::Direction;
 
-/// A text, how it is to be shown, and the bytes that are printed.
+/// A text, how to show it, and the bytes that are printed for it.
 #[derive(Clone, Copy)]
 struct Row {
     text: &'static [char],
@@ -68,7 +68,7 @@ const ROWS: [Row; 8] = [
     },
 ];
 
-/// Compares what is printed of a row by these tables.
+/// Compares the bytes that are printed for a row with these tables.
 fn prints(rt: &impl Abort, alloc: Global, tables: &Tables, row: &Row) {
     assert!(rt; row.text.len() <= 16);
     let columns = row.columns.and_then(NonZeroU16::new);
@@ -78,7 +78,7 @@ fn prints(rt: &impl Abort, alloc: Global, tables: &Tables, row: &Row) {
     assert_eq!(rt; out.as_slice(), row.printed);
 }
 
-/// The same of each row.
+/// Compares the bytes of each row.
 fn prints_each(rt: &impl Abort, alloc: Global, tables: &Tables, rows: &[Row]) {
     for row in rows {
         prints(rt, alloc, tables, row);
@@ -92,7 +92,7 @@ fn prints_each_line_as_it_is_shown(rt: HostRuntime) -> Result<(), TableFault> {
     Ok(())
 }
 
-/// Compares what is printed of a row by the tables with these mirror images.
+/// Compares the bytes that are printed for a row with the tables that have these mirrored characters.
 fn prints_mirrored(
     rt: &impl Abort,
     alloc: Global,
@@ -104,7 +104,7 @@ fn prints_mirrored(
     Ok(())
 }
 
-/// Files of mirror images, and a row by each.
+/// Files of mirrored characters, each with a row.
 const MIRRORED: [(&[u8], Row); 2] = [
     (
         b"000A; 003C\n",
@@ -126,7 +126,7 @@ const MIRRORED: [(&[u8], Row); 2] = [
     ),
 ];
 
-// The first separates paragraphs where it stands, and the second doesn't, whatever they are shown by.
+// U+000A separates paragraphs and `<` doesn't, whatever their mirrored characters are.
 #[test]
 fn asks_the_class_of_the_position(rt: HostRuntime) -> Result<(), TableFault> {
     for (mirrors, row) in MIRRORED {
@@ -135,7 +135,7 @@ fn asks_the_class_of_the_position(rt: HostRuntime) -> Result<(), TableFault> {
     Ok(())
 }
 
-/// Expects that a line is not printed whole where at most three bytes are taken.
+/// Expects `Write` if the writer takes three bytes or fewer, one less than the output has.
 fn are_cut(rt: &impl Abort, alloc: Global, tables: &Tables) {
     let text = ['\u{5D0}', '<'];
     for taken in [0, 2, 3] {

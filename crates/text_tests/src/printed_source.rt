@@ -1,4 +1,4 @@
-//! Texts printed as they are read, paragraph by paragraph.
+//! Texts that are printed while they are read, paragraph by paragraph.
 use crate::given::tables;
 use printing::form::Form;
 use printing::place::TextPlace;
@@ -13,7 +13,7 @@ use units::level::Direction;
 use units::slice_source::SliceSource;
 use units::source::ByteSource;
 
-/// Paragraphs of one, two and four characters, the longest one before a shorter one that no separator ends.
+/// Paragraphs of one, two, four and one characters. The longest comes before a shorter one, which no separator ends.
 const TEXT: &[u8] = b"\n\xD7\x90\n\xD7\x90a<\na";
 
 const LEVELS: &[u8] =
@@ -25,7 +25,7 @@ const LINES: &[u8] = b"\n\xD7\x90\n>a\xD7\x90\na\n";
 /// The text as it is shown, each paragraph a line.
 const SHOWN: Form = Form::Reorder { columns: None };
 
-/// Expects that this is printed of what the source hands out, and that it comes to this.
+/// Prints the text of a source. Compares the output and the result.
 fn prints<S: ByteSource>(
     rt: &impl Abort,
     alloc: Global,
@@ -42,7 +42,7 @@ fn prints<S: ByteSource>(
     assert_eq!(rt; out.as_slice(), printed);
 }
 
-/// Expects that these lines are printed of a text, and that it comes to this.
+/// Prints a text as it is shown. Compares the lines and the result.
 fn shows(
     rt: &impl Abort,
     alloc: Global,
@@ -146,7 +146,7 @@ fn leaves_what_ended_before_a_failed_read(rt: HostRuntime) -> Result<(), TableFa
     Ok(())
 }
 
-/// So many bytes, one of these behind another.
+/// Returns these bytes `count` times, one after another.
 fn repeated(alloc: Global, bytes: &[u8], count: usize) -> Result<Vec<u8>, AllocError> {
     let mut all = Vec::new(alloc);
     for _ in 0..count {
@@ -155,7 +155,7 @@ fn repeated(alloc: Global, bytes: &[u8], count: usize) -> Result<Vec<u8>, AllocE
     Ok(all)
 }
 
-/// Expects that a text of many such paragraphs is shown as it is, where a read ends within a character.
+/// Expects that a text of many such paragraphs is shown unchanged. A read ends inside one of its characters.
 fn joins_characters(rt: &impl Abort, alloc: Global, tables: &Tables, paragraph: &[u8]) {
     let text = repeated(alloc, paragraph, 5000);
     assert!(rt; text.is_ok());
