@@ -11,7 +11,7 @@ use units::level::{Direction, ParaLevel};
 /// The classes of a text, a direction, and the level of the text's first paragraph.
 type LevelRow = (&'static [u8], Direction, ParaLevel);
 
-// P2 passes over isolates, also over one that is left open, and what comes after a separator is not read.
+// P2 passes over isolates, also over one without a PDI. What comes after a separator is not read.
 const LEVELS: [LevelRow; 10] = [
     // WS R L
     (&[12, 1, 0], Direction::Auto, ParaLevel::One),

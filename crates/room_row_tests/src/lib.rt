@@ -1,5 +1,5 @@
-//! Tests of worked rows: texts laid out in a room and shown, texts in one value with their layout, and what is known of a
-//! text without a layout. They are a crate of their own, so no other crate is proved a second time with its tests.
+//! Tests of worked rows: texts in a room and as they are shown, texts in one value with their layout, and what is known
+//! of a text without a layout. They are a crate of their own, so no other crate is proved a second time with its tests.
 #![tactic(auto)]
 
 #[cfg(test)]

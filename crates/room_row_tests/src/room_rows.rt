@@ -1,4 +1,4 @@
-//! Texts of every source in a room: the levels, lines, orders, places and runs in the units of the source.
+//! Texts of every kind in a room: the levels, lines, orders, places and runs, in the units of the source.
 use crate::given::{lay_out, tables};
 use decoding::fault::Faults;
 use room::lookups::Line;
@@ -118,7 +118,7 @@ const PARAGRAPHS: [LineRow; 2] = [
 /// Sequences that are cut short, the first row of the standard's table on U+FFFD (chapter 3).
 const CUT_SHORT: &[u8] = b"\x61\xF1\x80\x80\xE1\x80\xC2\x62\x80\x63\x80\xBF\x64";
 
-/// The ten characters that are read of these, four of them letters; in three lines.
+/// The ten characters as which these sequences are read, four of them letters, in three lines.
 const REPLACED: [LineRow; 3] = [
     LineRow {
         start: 0,
@@ -307,21 +307,21 @@ fn has_lines(rt: &impl Abort, room: &Room, lines: &[LineRow]) {
     }
 }
 
-/// Compares what the room says of a text that it holds.
+/// Compares what the room returns for the text in it.
 fn holds(rt: &impl Abort, room: &Room, row: &Row) {
     has_starts(rt, room, row.starts);
     has_levels(rt, room, row.levels);
     has_lines(rt, room, row.lines);
 }
 
-/// Lays out a text, and compares what the room says of it.
+/// Lays out a text, and compares what the room returns for it.
 fn is_laid_out(rt: &impl Abort, room: &mut Room, tables: &Tables, row: &Row) {
     let done = lay_out(room, tables, row.source, row.direction, row.breaks);
     assert_eq!(rt; done, Ok(()));
     holds(rt, room, row);
 }
 
-/// The same of each text, one after another in one room.
+/// Lays out and compares each text, one after another in one room.
 fn are_laid_out(rt: &impl Abort, room: &mut Room, tables: &Tables) {
     for row in &ROWS {
         is_laid_out(rt, room, tables, row);

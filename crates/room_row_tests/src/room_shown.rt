@@ -8,7 +8,7 @@ use std::test::Fail;
 use ucdfiles::tables::Tables;
 use units::level::Direction;
 
-/// Compares a line as it is shown, of a text of these code points.
+/// Compares a shown line of a text of these code points.
 fn shows(rt: &impl Abort, room: &Room, tables: &Tables, codes: &[u32], k: usize, shown: &[u32]) {
     let mut out = [0; 3];
     assert!(rt; k < room.line_count());
@@ -34,7 +34,7 @@ fn shows_code_points(rt: HostRuntime) -> Result<(), Fail> {
     Ok(())
 }
 
-/// What is no scalar value is shown as it is.
+/// A number that is no scalar value is shown unchanged.
 #[test]
 fn shows_numbers(rt: HostRuntime) -> Result<(), Fail> {
     let tables = tables(rt.alloc())?;
@@ -51,13 +51,13 @@ fn shows_numbers(rt: HostRuntime) -> Result<(), Fail> {
     Ok(())
 }
 
-/// Bytes, a break, and the two lines as they are shown. The text of the last row is not well formed.
+/// Bytes, a break, and the two shown lines. The text of the last row is not well formed.
 const UTF8: [(&[u8], usize, &[u8], &[u8]); 2] = [
     (b"\xD7\x90<a\xD7\x91", 3, b">\xD7\x90", b"\xD7\x91a"),
     (b"\xD7\x90 \xF1\x80", 3, b" \xD7\x90", b"\xEF\xBF\xBD"),
 ];
 
-/// Compares a line of bytes.
+/// Compares a shown line of bytes.
 fn shows_bytes(
     rt: &impl Abort,
     room: &Room,
@@ -74,7 +74,7 @@ fn shows_bytes(
     assert_eq!(rt; room.shown_utf8(tables, bytes, k, &mut [0; 2]), count);
 }
 
-/// Lays out bytes in two lines, and compares both.
+/// Lays out bytes in two lines, and compares both shown lines.
 fn shows_two(rt: &impl Abort, room: &mut Room, tables: &Tables, row: (&[u8], usize, &[u8], &[u8])) {
     let (bytes, at, first, second) = row;
     let text = Source::Utf8(bytes, Faults::Replaced);
@@ -93,12 +93,13 @@ fn shows_utf8(rt: HostRuntime) -> Result<(), Fail> {
     Ok(())
 }
 
-/// A bracket, a Hebrew letter, a character of two units, and half of one, and the same as it is shown.
+/// A bracket, a Hebrew letter, a character of two units, and half of one.
 const UTF16: [u16; 5] = [0x28, 0x5D0, 0xD83D, 0xDE00, 0xD83D];
 
+/// The same text as it is shown.
 const UTF16_SHOWN: [u16; 5] = [0xD83D, 0xDE00, 0xFFFD, 0x5D0, 0x29];
 
-/// Compares the line of a text of these code units.
+/// Compares the shown line of a text of these code units.
 fn shows_units(rt: &impl Abort, room: &Room, tables: &Tables, units: &[u16], shown: &[u16]) {
     let mut out = [0; 6];
     assert!(rt; room.line_count() == 1);

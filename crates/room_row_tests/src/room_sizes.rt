@@ -1,21 +1,21 @@
-//! Rooms of many sizes: one is made wherever there is memory for it.
+//! Rooms of many sizes. Each is made if there is memory for it.
 use lines::scratch::{MOST, RoomFault};
 use room::room::Room;
 use std::alloc::Global;
 use std::process::Abort;
 use std::test::Fail;
 
-/// How many units the rooms can hold.
+/// The capacities of the rooms, in units.
 const SIZES: [usize; 7] = [0, 1, 4_097, 65_536, 65_537, 1_000_001, 1_048_577];
 
-/// Compares a room that was just made, which holds the empty text.
+/// Compares a new room, which contains the empty text.
 fn is_new(rt: &impl Abort, room: &Room, n: usize, encodes: bool) {
     assert_eq!(rt; room.characters(), 0, "for {n}");
     assert_eq!(rt; room.capacity(), n);
     assert_eq!(rt; room.encodes(), encodes, "for {n}");
 }
 
-/// Makes a room for so many units.
+/// Makes a room for `n` units.
 fn room_is_made(rt: &impl Abort, alloc: Global, n: usize, encodes: bool) -> Result<(), RoomFault> {
     let room = Room::with_room(alloc, n, encodes)?;
     is_new(rt, &room, n, encodes);
@@ -31,7 +31,7 @@ fn rooms_of_any_size_are_made(rt: HostRuntime) -> Result<(), Fail> {
     Ok(())
 }
 
-/// Makes a room for so many units, which are known not to be too many.
+/// Makes a room for `n` units with the call that requires at most `MOST`.
 fn room_is_reserved(
     rt: &impl Abort,
     alloc: Global,

@@ -1,4 +1,4 @@
-//! Texts in one value with their layout: broken into two lines, refused, and as long as a text can be.
+//! Texts in one value with their layout: broken into two lines, rejected, and as long as a text can be.
 use crate::given::tables;
 use lines::breaks::BreakFault;
 use room::text::{Direction, Text, TextFault};
@@ -8,7 +8,7 @@ use std::test::Fail;
 use ucdfiles::tables::Tables;
 use units::memory::Memory;
 
-/// Compares a line as it is shown.
+/// Compares a shown line.
 fn is_shown(
     rt: &impl Abort,
     alloc: Global,
@@ -22,7 +22,7 @@ fn is_shown(
     Ok(())
 }
 
-/// A Hebrew letter and a bracket, broken before a Latin letter and a Hebrew one.
+/// Compares two lines: a Hebrew letter and a less-than sign, then a Latin letter and a Hebrew one.
 fn shows_two_lines(rt: &impl Abort, alloc: Global, text: &Text<'_>) -> Result<(), Fail> {
     assert_eq!(rt; text.chars(), ['\u{5D0}', '<', 'a', '\u{5D1}'].as_slice());
     assert_eq!(rt; text.layout().line_count(), 2);
@@ -38,7 +38,7 @@ fn shows_each_line(rt: HostRuntime) -> Result<(), Fail> {
     shows_two_lines(&rt, rt.alloc(), &text)
 }
 
-/// Compares why a text of two characters is refused with these breaks.
+/// Compares the error for a text of two characters with these breaks.
 fn is_refused(rt: &impl Abort, alloc: Global, tables: &Tables, at: &[usize], fault: BreakFault) {
     let answer = Text::lay_out(alloc, tables, "ab", Direction::Auto, at);
     assert_eq!(rt; answer.err(), Some(TextFault::Break(fault)));
@@ -52,7 +52,7 @@ fn names_the_first_faulty_break(rt: HostRuntime) -> Result<(), Fail> {
     Ok(())
 }
 
-/// So many times `a`.
+/// Returns a text of `count` letters `a`.
 fn letters(alloc: Global, count: usize) -> Result<String, Memory> {
     let mut text = String::with_capacity(alloc, count)?;
     for _ in 0..count {
@@ -61,7 +61,7 @@ fn letters(alloc: Global, count: usize) -> Result<String, Memory> {
     Ok(text)
 }
 
-/// Lays out so many letters in one line, and compares it as it is shown.
+/// Lays out `count` letters in one line, and compares the shown line.
 fn shows_one_line(
     rt: &impl Abort,
     alloc: Global,
@@ -82,7 +82,7 @@ fn shows_a_line_of_any_length(rt: HostRuntime) -> Result<(), Fail> {
     Ok(())
 }
 
-/// Lays out these words in two lines, of which the second one begins here and is `aa`.
+/// Lays out these words in two lines. Expects that the second, which begins at `at`, is `aa`.
 fn ends_in_two(
     rt: &impl Abort,
     alloc: Global,
@@ -95,7 +95,7 @@ fn ends_in_two(
     is_shown(rt, alloc, &text, 1, "aa")
 }
 
-/// Lays out a text of so many characters in two lines, of which the second one has two characters.
+/// Lays out a text of `count` characters in two lines, the second of two characters.
 fn lays_out_long(
     rt: &impl Abort,
     alloc: Global,
@@ -116,7 +116,7 @@ fn lays_out_a_text_of_any_length(rt: HostRuntime) -> Result<(), Fail> {
     Ok(())
 }
 
-/// A text that has a character more is told as too long, also where its break is faulty.
+/// A text of one more character is too long. This error comes first, also if the break is faulty.
 #[test]
 fn refuses_a_text_that_is_too_long(rt: HostRuntime) -> Result<(), Fail> {
     let tables = tables(rt.alloc())?;
