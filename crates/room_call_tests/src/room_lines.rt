@@ -1,5 +1,5 @@
-//! One line alone of a text in a room, the levels of its paragraphs, and of its characters before L1 and if X9 removes
-//! them.
+//! One line alone of a text in a room, the levels of its paragraphs, the levels before L1, and the levels of characters
+//! that X9 removes.
 use crate::given::{lay_out, tables};
 use decoding::fault::Faults;
 use room::fault::LayoutFault;
@@ -14,8 +14,8 @@ use units::level::{Direction, Level, ParaLevel};
 /// Two Hebrew letters, of two bytes each, and a blank between them.
 const LETTERS: &[u8] = b"\xD7\x90 \xD7\x91";
 
-/// Lines of this text from left to right: start, end, levels of the units and offsets as they are shown. At the end of
-/// a line the blank has the level of the paragraph (L1).
+/// Lines of this text from left to right: start, end, levels of the units, and offsets in the order in which they are
+/// shown. At the end of a line the blank has the level of the paragraph (L1).
 const ALONE: [(usize, usize, &[u8], &[usize]); 4] = [
     (0, 3, &[1, 1, 0], &[0, 2]),
     (2, 5, &[1, 1, 1], &[3, 2]),
@@ -56,7 +56,7 @@ fn has_lines_of(rt: &impl Abort, room: &mut Room) {
     assert_eq!(rt; room.level_at(2), Level::new(1));
 }
 
-/// Lines that this text doesn't have, and why.
+/// Lines that this text doesn't have, each with the error.
 const NONE_ALONE: [(usize, usize, LineFault); 6] = [
     (3, 3, LineFault::NotForward),
     (9, 4, LineFault::NotForward),
@@ -66,7 +66,7 @@ const NONE_ALONE: [(usize, usize, LineFault); 6] = [
     (2, 4, LineFault::EndsInside),
 ];
 
-/// Expects that there is no such line.
+/// Expects that the room rejects such a line and leaves the lists unchanged.
 fn has_no_line_of(rt: &impl Abort, room: &mut Room, start: usize, end: usize, fault: LineFault) {
     let mut levels = [None; 5];
     let mut order = [0; 5];
@@ -75,14 +75,14 @@ fn has_no_line_of(rt: &impl Abort, room: &mut Room, start: usize, end: usize, fa
     assert_eq!(rt; order, [0; 5]);
 }
 
-/// The same of each of these lines.
+/// Expects that the room rejects each of these lines.
 fn has_none_of(rt: &impl Abort, room: &mut Room) {
     for (start, end, fault) in NONE_ALONE {
         has_no_line_of(rt, room, start, end, fault);
     }
 }
 
-/// Lists that are too short come before any other reason but that a line doesn't start below its end.
+/// Expects `TooSmall` for lists that are too short. Only `NotForward` comes before it.
 fn needs_items(rt: &impl Abort, room: &mut Room) {
     let shown = room.line_of(1, 9, &mut [None; 7], &mut [0; 9]);
     assert_eq!(rt; shown, Err(LineFault::TooSmall));
@@ -120,7 +120,7 @@ fn lays_out_no_line_of_two_paragraphs(rt: HostRuntime) -> Result<(), Fail> {
     Ok(())
 }
 
-/// The level of the paragraph of each unit, and none after the text.
+/// Compares the level of the paragraph of each unit. After the text there is none.
 fn has_para_levels(rt: &impl Abort, room: &Room, levels: &[Option<ParaLevel>]) {
     for (at, level) in levels.iter().enumerate() {
         assert_eq!(rt; room.para_level_at(at), *level, "at {at}");
@@ -138,7 +138,7 @@ fn finds_levels_of_paragraphs(rt: HostRuntime) -> Result<(), Fail> {
     Ok(())
 }
 
-/// The levels before L1 don't depend on where lines end: there the blank is between two Hebrew letters.
+/// Compares the levels before L1. They don't depend on where lines end: the blank is between two Hebrew letters.
 fn has_resolved_levels(rt: &impl Abort, room: &Room) {
     are_levels(rt, room.resolved_levels(), &[1, 1, 1]);
     assert_eq!(rt; room.level_at(2), Level::new(0));
@@ -154,7 +154,8 @@ fn keeps_levels_before_l1(rt: HostRuntime) -> Result<(), Fail> {
     Ok(())
 }
 
-/// Classes, and the level of each: a removed one has that of the one before, or at an end that of the paragraph.
+/// Classes, and the level of each. A removed one has the level of the class before it, or at an end the level of the
+/// paragraph.
 const WHOLE: [(&[u8], &[u8]); 4] = [
     (&[14, 0, 18], &[0, 2, 0]),
     (&[0, 14, 0, 18, 0], &[0, 0, 2, 2, 0]),

@@ -1,4 +1,4 @@
-//! Texts, breaks and lines that a room rejects, for the first reason in order, and what it holds afterwards.
+//! Texts, breaks and short lists that a room rejects, with the first error in order. The text in the room is unchanged.
 use crate::given::{lay_out, tables};
 use decoding::fault::Faults;
 use lines::breaks::BreakFault;
@@ -14,8 +14,8 @@ use units::level::{Direction, Level};
 /// A Hebrew letter, of two bytes, a blank and a Latin letter.
 const HELD: &[u8] = b"\xD7\x90 a";
 
-/// Texts that a room for four units rejects, with their breaks. Of code points and classes the breaks are tested
-/// before the text, of code units the text is.
+/// Texts that a room for four units rejects, with their breaks. For code points and classes the room checks the breaks
+/// before the text, for code units the text before the breaks.
 const REJECTED: [(Source<'static>, &[usize], LayoutFault); 14] = [
     (
         Source::Utf8(b"1234\xFF", Faults::Refused),
@@ -89,7 +89,7 @@ const REJECTED: [(Source<'static>, &[usize], LayoutFault); 14] = [
     ),
 ];
 
-/// The levels of the text that the room holds.
+/// Compares the levels of the text in the room.
 fn has_levels(rt: &impl Abort, room: &Room) {
     for (at, number) in [1, 1, 0, 0].iter().enumerate() {
         assert_eq!(rt; room.level_at(at), Level::new(*number), "at {at}");
@@ -97,7 +97,7 @@ fn has_levels(rt: &impl Abort, room: &Room) {
     assert_eq!(rt; room.characters(), 3);
 }
 
-/// The text that the room holds, in two lines, of which the second one begins here.
+/// Compares the text in the room. It has two lines, and the second begins at `second`.
 fn holds_text(rt: &impl Abort, room: &Room, second: usize) {
     has_levels(rt, room);
     assert_eq!(rt; room.line_count(), 2);
@@ -105,7 +105,7 @@ fn holds_text(rt: &impl Abort, room: &Room, second: usize) {
     assert_eq!(rt; room.line(1).end, 4);
 }
 
-/// Lays out a text that the room rejects.
+/// Expects that the room rejects a text with this error.
 fn is_rejected(
     rt: &impl Abort,
     room: &mut Room,
@@ -118,7 +118,7 @@ fn is_rejected(
     assert_eq!(rt; done, Err(fault));
 }
 
-/// Lays out each text that the room rejects; the text that it holds stays.
+/// Expects that the room rejects each of these texts. The text in the room is unchanged.
 fn are_rejected(rt: &impl Abort, room: &mut Room, tables: &Tables) {
     for (source, breaks, fault) in REJECTED {
         is_rejected(rt, room, tables, source, breaks, fault);
@@ -143,7 +143,7 @@ fn rejects_texts(rt: HostRuntime) -> Result<(), Fail> {
     Ok(())
 }
 
-/// A room without offsets takes no code units, however many these are and whatever they are.
+/// A room without offsets rejects code units, however many and whatever they are.
 #[test]
 fn rejects_code_units_without_offsets(rt: HostRuntime) -> Result<(), Fail> {
     let tables = tables(rt.alloc())?;
@@ -157,7 +157,7 @@ fn rejects_code_units_without_offsets(rt: HostRuntime) -> Result<(), Fail> {
     Ok(())
 }
 
-/// Breaks at which the room doesn't set lines in the text that it holds.
+/// Breaks at which the room sets no lines in its text, with the errors.
 const FAULTY: [(&[usize], LayoutFault); 4] = [
     (&[1], LayoutFault::BreakInside(0)),
     (&[0], LayoutFault::Break(BreakFault::OutOfRange(0))),
@@ -165,7 +165,7 @@ const FAULTY: [(&[usize], LayoutFault); 4] = [
     (&[3, 2], LayoutFault::Break(BreakFault::NotRising(1))),
 ];
 
-/// Sets lines at each of these, and then at the end of the blank.
+/// Expects that the room rejects each of these breaks. Then sets lines at the end of the blank.
 fn sets_lines_once(rt: &impl Abort, room: &mut Room) {
     for (breaks, fault) in FAULTY {
         assert_eq!(rt; room.set_lines(breaks), Err(fault));
@@ -175,7 +175,7 @@ fn sets_lines_once(rt: &impl Abort, room: &mut Room) {
     holds_text(rt, room, 3);
 }
 
-/// Lays out a text in two lines, rejects another that is read first, and sets other lines.
+/// Lays out a text in two lines. The room rejects another text, which it reads before the breaks, and sets other lines.
 fn holds_and_sets_lines(
     rt: &impl Abort,
     room: &mut Room,
@@ -198,7 +198,7 @@ fn sets_lines(rt: HostRuntime) -> Result<(), Fail> {
     Ok(())
 }
 
-/// Lists that are too short for what there is stay as they are.
+/// Expects that lists that are too short are unchanged.
 fn leaves_short_lists(rt: &impl Abort, room: &Room) {
     let mut levels = [Level::new(9); 3];
     assert_eq!(rt; room.levels(&mut levels), 4);
@@ -212,7 +212,7 @@ fn leaves_short_lists(rt: &impl Abort, room: &Room) {
     assert_eq!(rt; lines[0].start, 8);
 }
 
-/// The same of lists for a line.
+/// Expects the same of lists for a line.
 fn leaves_short_lists_of_lines(rt: &impl Abort, room: &Room) {
     let mut offsets = [9];
     assert!(rt; room.line_count() == 2);
