@@ -1,4 +1,4 @@
-//! The tables of a folder, and a text.
+//! Reads the tables of a folder, and a text.
 
 use std::alloc::Global;
 use std::fs;
@@ -12,13 +12,13 @@ use units::reader_source::ReaderSource;
 /// The most bytes that are read of a table's file.
 const MOST_FILE_BYTES: u64 = 16_777_216;
 
-/// The file of this name in the folder.
+/// Opens the file of this name in the folder.
 fn open<R: std::rt::Files>(rt: &R, alloc: Global, folder: &str, name: &str) -> io::Result<R::File> {
     let path = format!(in alloc; "{folder}/{name}")?;
     fs::open(rt, path.as_str())
 }
 
-/// A source of the bytes of the file of this name in the folder.
+/// Opens a source of the bytes of the file of this name in the folder.
 fn source<R: std::rt::Files>(
     rt: &R,
     alloc: Global,
@@ -29,18 +29,18 @@ fn source<R: std::rt::Files>(
     Ok(ReaderSource::new(file, MOST_FILE_BYTES))
 }
 
-/// A fault of a table or a text, said as invalid data.
+/// Returns the error for a faulty table or text.
 fn invalid() -> io::Error {
     io::ErrorKind::InvalidData.into()
 }
 
-/// The classes of the characters, by their file in the folder.
+/// Reads the classes of characters from their file in the folder.
 fn read_classes<R: std::rt::Files>(rt: &R, alloc: Global, folder: &str) -> io::Result<ClassTable> {
     let mut source = source(rt, alloc, folder, "DerivedBidiClass.txt")?;
     ClassTable::read(alloc, &mut source).map_err(|_| invalid())
 }
 
-/// The brackets, by their file in the folder.
+/// Reads the brackets from their file in the folder.
 fn read_brackets<R: std::rt::Files>(
     rt: &R,
     alloc: Global,
@@ -50,13 +50,13 @@ fn read_brackets<R: std::rt::Files>(
     BracketTable::read(alloc, &mut source).map_err(|_| invalid())
 }
 
-/// The mirror images, by their file in the folder.
+/// Reads the mirrored characters from their file in the folder.
 fn read_mirrors<R: std::rt::Files>(rt: &R, alloc: Global, folder: &str) -> io::Result<MirrorTable> {
     let mut source = source(rt, alloc, folder, "BidiMirroring.txt")?;
     MirrorTable::read(alloc, &mut source).map_err(|_| invalid())
 }
 
-/// The brackets and the mirror images, by their files in the folder.
+/// Reads the brackets and the mirrored characters from their files in the folder.
 fn read_pairs<R: std::rt::Files>(
     rt: &R,
     alloc: Global,
@@ -67,14 +67,14 @@ fn read_pairs<R: std::rt::Files>(
     Ok((brackets, mirrors))
 }
 
-/// The tables of the three property files in the folder. A fault of any of them is said as invalid data.
+/// Reads the tables of the three property files in the folder. Fails with `InvalidData` if one of them is faulty.
 pub fn read_tables<R: std::rt::Files>(rt: &R, alloc: Global, folder: &str) -> io::Result<Tables> {
     let classes = read_classes(rt, alloc, folder)?;
     let (brackets, mirrors) = read_pairs(rt, alloc, folder)?;
     Ok(Tables::new(classes, brackets, mirrors))
 }
 
-/// Puts the bytes of a file behind those that are there.
+/// Appends the bytes of a file to `bytes`.
 fn read_bytes<F: Read>(file: &mut F, bytes: &mut Vec<u8>) -> io::Result<()> {
     let mut piece = [0; 4096];
     for _ in 0..u64::MAX {
@@ -86,7 +86,7 @@ fn read_bytes<F: Read>(file: &mut F, bytes: &mut Vec<u8>) -> io::Result<()> {
     Ok(())
 }
 
-/// The characters of bytes in UTF-8.
+/// Returns the characters of bytes in UTF-8. Fails with `InvalidData` if they are not UTF-8.
 fn characters(alloc: Global, bytes: &[u8]) -> io::Result<Vec<char>> {
     match str::from_utf8(bytes) {
         Ok(text) => Ok(text.chars().collect(alloc)?),
@@ -94,13 +94,13 @@ fn characters(alloc: Global, bytes: &[u8]) -> io::Result<Vec<char>> {
     }
 }
 
-/// Puts the bytes of the file of this name behind those that are there.
+/// Appends the bytes of the file of this name to `bytes`.
 fn read_file<R: std::rt::Files>(rt: &R, name: &str, bytes: &mut Vec<u8>) -> io::Result<()> {
     let mut file = fs::open(rt, name)?;
     read_bytes(&mut file, bytes)
 }
 
-/// The characters of a file in UTF-8.
+/// Reads the characters of a file in UTF-8. Fails with `InvalidData` if it is not UTF-8.
 pub fn read_text<R: std::rt::Files>(rt: &R, alloc: Global, file: &str) -> io::Result<Vec<char>> {
     let mut bytes = Vec::new(alloc);
     read_file(rt, file, &mut bytes)?;

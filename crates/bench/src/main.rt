@@ -1,13 +1,11 @@
-//! Times layouts of texts, and prints the nanoseconds that a unit takes to standard error, so that its output stays
-//! empty.
+//! Times layouts of texts. Prints the nanoseconds that a unit takes to standard error, so its standard output is empty.
 //!
-//! Without a word the texts are the built-in ones, all short, and it ends in about a second. With words, the built-in
-//! texts that they name have their full lengths: `bench English mixed` times the two of these names, and `bench all`
-//! times all.
+//! Without arguments it times the built-in texts, all short, and ends in about a second. Arguments name built-in texts,
+//! which then have their full lengths: `bench English mixed` times the two of these names, and `bench all` times all.
 //!
-//! `bench --tables DIR FILE ROUNDS` reads the tables of the folder and the text in the file (UTF-8), and then
-//! ROUNDS + 1 times looks the text's units up and lays it out, in direction auto and without breaks, of which all
-//! but the first are timed.
+//! `bench --tables DIR FILE ROUNDS` reads the tables of the folder and the text in the file (UTF-8). Then it looks up
+//! the text's units and lays the text out ROUNDS + 1 times, in direction auto and without breaks. It times all but the
+//! first of these.
 #![tactic(auto)]
 
 mod cases;
@@ -26,7 +24,7 @@ use ucdfiles::tables::Tables;
 use units::bracket::Unit;
 use whole::{Whole, room_for};
 
-/// What is told of a text.
+/// The figures that are printed for a text.
 #[derive(Clone, Copy)]
 struct Figures {
     /// Tenths of a nanosecond for each unit or character.
@@ -84,7 +82,7 @@ fn report<E: Write>(
     print_line(err, case.name, "unit", &figures)
 }
 
-/// Whether a text is to be timed: all are where no word names one.
+/// Returns whether to time the text of this name. Without words or with `all`, each text is timed.
 fn is_asked_for(words: &[String], name: &str) -> bool {
     words.is_empty()
         || words
@@ -92,7 +90,7 @@ fn is_asked_for(words: &[String], name: &str) -> bool {
             .any(|word| word.as_str() == "all" || word.as_str() == name)
 }
 
-/// Times those of the built-in texts of these lengths that are asked for.
+/// Times the built-in texts that the words name, in these lengths.
 fn time_asked_for(
     rt: &HostRuntime,
     words: &[String],
@@ -108,7 +106,7 @@ fn time_asked_for(
     Ok(())
 }
 
-/// Times the built-in texts that are asked for.
+/// Times the built-in texts that the words name, or else all, which are short then.
 fn time_cases(rt: &HostRuntime, words: &[String]) -> io::Result<()> {
     let lengths = if words.is_empty() {
         Lengths::SHORT
@@ -131,7 +129,7 @@ fn figures_of_whole(rt: &HostRuntime, whole: &mut Whole, rounds: usize) -> io::R
     })
 }
 
-/// Times a text by these tables.
+/// Times a text with these tables.
 fn figures_of_text(
     rt: &HostRuntime,
     tables: &Tables,
@@ -142,14 +140,14 @@ fn figures_of_text(
     figures_of_whole(rt, &mut whole, rounds)
 }
 
-/// Times the text in a file by these tables, and prints its line.
+/// Times the text in a file with these tables, and prints its line.
 fn report_file(rt: &HostRuntime, tables: &Tables, file: &str, rounds: usize) -> io::Result<()> {
     let text = read_text(rt, rt.alloc(), file)?;
     let figures = figures_of_text(rt, tables, &text, rounds)?;
     print_line(&mut rt.stderr(), file, "character", &figures)
 }
 
-/// Times the text in a file by the tables of a folder, and prints its line.
+/// Times the text in a file with the tables of a folder, and prints its line.
 fn time_file(rt: &HostRuntime, folder: &str, file: &str, rounds: &str) -> io::Result<()> {
     let Ok(rounds) = rounds.parse::<u32>() else {
         return Err(io::ErrorKind::InvalidInput.into());
@@ -158,7 +156,7 @@ fn time_file(rt: &HostRuntime, folder: &str, file: &str, rounds: &str) -> io::Re
     report_file(rt, &tables, file, rounds as usize)
 }
 
-/// The words behind the program's own name.
+/// Returns the words after the program's own name.
 fn words_behind_name(rt: &HostRuntime) -> io::Result<Vec<String>> {
     let mut words = Vec::new(rt.alloc());
     for word in env::args(rt)?.skip(1) {

@@ -8,7 +8,7 @@ use std::time::{Duration, Instant};
 use units::bracket::Unit;
 use units::level::Direction;
 
-/// How many lines the layout of a text has, 0 where there is no room for it.
+/// Lays out a text. Returns the number of lines, or 0 if the scratch has no capacity for it.
 pub fn line_count(text: &[Unit], room: &mut Scratch) -> usize {
     let Ok(breaks) = Breaks::new(&[], text.len()) else {
         return 0;
@@ -19,7 +19,7 @@ pub fn line_count(text: &[Unit], room: &mut Scratch) -> usize {
     }
 }
 
-/// How long it takes to lay out a text so often, and how many lines there were.
+/// Lays out a text `rounds` times. Returns the time that this takes, and the number of all lines.
 fn time(
     rt: &HostRuntime,
     text: &[Unit],
@@ -34,7 +34,7 @@ fn time(
     Ok((start.elapsed(rt)?, lines))
 }
 
-/// The same, the least time of three.
+/// Does so three times. Returns the least time, and the number of lines of the first.
 pub fn least_time(
     rt: &HostRuntime,
     text: &[Unit],
@@ -49,7 +49,7 @@ pub fn least_time(
     Ok((least, lines))
 }
 
-/// Tenths of a nanosecond for each of so many units, as a whole number.
+/// Returns the tenths of a nanosecond that each of `units` units takes, as a whole number.
 pub fn tenths_each(elapsed: Duration, units: usize) -> u128 {
     elapsed.as_nanos().saturating_mul(10) / (units.max(1) as u128)
 }

@@ -1,4 +1,4 @@
-//! All that is done for a text: its units are looked up, and it is laid out.
+//! Looks up the units of a text and lays it out.
 ghost use Rattle.std.specs.Prelude.{◌≡◌, length};
 
 use crate::timing::{line_count, tenths_each};
@@ -10,11 +10,11 @@ use ucdfiles::tables::Tables;
 use units::bracket::{Bracket, Unit};
 use units::class::Class;
 
-/// How often the clock is read while a text is laid out again and again.
+/// The number of batches into which the runs of a text are divided. Each batch is timed.
 const BATCHES: usize = 10;
 
-/// A text, the tables that its units are looked up in, and what is used again and again: the list of its units, and
-/// the room.
+/// A text, the tables in which its units are looked up, and what each run uses again: the list of its units, and the
+/// scratch.
 #[derive(Drop)]
 pub struct Whole<'a> {
     tables: &'a Tables,
@@ -24,7 +24,7 @@ pub struct Whole<'a> {
     ghost each: { length units.items ≡ length text.now },
 }
 
-/// Room for the layout of a text of so many units.
+/// Makes a scratch for a text of `units` units.
 pub fn room_for(alloc: Global, units: usize) -> io::Result<Scratch> {
     match Scratch::with_room(alloc, units) {
         Ok(room) => Ok(room),
@@ -33,7 +33,7 @@ pub fn room_for(alloc: Global, units: usize) -> io::Result<Scratch> {
 }
 
 impl<'a> Whole<'a> {
-    /// A text with its tables.
+    /// Returns a text with its tables, and with the memory that its runs use.
     pub fn new(alloc: Global, tables: &'a Tables, text: &'a [char]) -> io::Result<Whole<'a>> {
         let unit = Unit {
             class: Class::L,
@@ -49,19 +49,19 @@ impl<'a> Whole<'a> {
         })
     }
 
-    /// How many characters the text has.
+    /// Returns the number of characters in the text.
     pub fn len(&self) -> usize {
         self.text.len()
     }
 
-    /// Looks the units up and lays the text out, once; answers how many lines there are.
+    /// Looks the units up and lays the text out, once. Returns the number of lines.
     #[inline(never)]
     pub fn run(&mut self) -> usize {
         self.tables.look_up(self.text, &mut self.units);
         line_count(&self.units, &mut self.room)
     }
 
-    /// Tenths of a nanosecond for each character, of so many runs.
+    /// Times this many runs. Returns the tenths of a nanosecond that each character takes.
     fn tenths(&mut self, rt: &HostRuntime, runs: usize) -> io::Result<u128> {
         let start = Instant::now(rt)?;
         for _ in 0..runs {
@@ -71,7 +71,8 @@ impl<'a> Whole<'a> {
         Ok(tenths_each(elapsed, self.len().saturating_mul(runs)))
     }
 
-    /// The same, the least of the batches that so many runs are cut into; 0 without a run.
+    /// Times this many runs in batches. Returns the tenths of a nanosecond that each character takes in the fastest
+    /// batch, or 0 without a run.
     pub fn least_tenths(&mut self, rt: &HostRuntime, runs: usize) -> io::Result<u128> {
         let mut least = u128::MAX;
         let mut left = runs;
