@@ -90,7 +90,7 @@ EXCEPTIONS = (
     Stays("hand", "^docs/PROVED", "bytes that it was handed", HEADLINE),
     Stays("held", "^docs/PROVED", "the layout that it held", HEADLINE),
     Stays("as it was", "^docs/PROVED", "the layout that it held", HEADLINE),
-    Stays("law", "^docs/PROVED", r"a law about the definitions|\(laws: ", HEADLINE),
+    Stays("law", "^docs/PROVED", r"a law about the definitions|\(laws: |call it a law", HEADLINE),
     Stays("refuse", "^docs/PROVED", "A text is refused exactly", HEADLINE),
     Stays("answer", "^(python|rust|tools/c)/", "^[aA]nswer$", "the field of `bidi_verdict`, and its class in Python"),
     Stays("claim", "^(README|docs|python|rust|tools)", "claimed|claims", CLAIMED),
