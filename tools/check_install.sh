@@ -175,30 +175,30 @@ is "the prefix in the file for pkg-config" "prefix=/usr/local" \
 DESTDIR="$work/stage \$x" goes "$work/stage \$x/usr/local" /usr/local
 rm -r "$work/stage \$x"
 
-# refused WORD..: with these arguments nothing is done.
-refused() {
+# rejects WORD..: with these arguments nothing is done.
+rejects() {
     "$tools/install.sh" "$@" > "$work/said" 2>&1
     is "status of install.sh $*" 2 $?
     "$tools/c/install.sh" "$@" > "$work/said" 2>&1
     is "status of c/install.sh $*" 2 $?
 }
 mkdir empty && cd empty || exit 2
-refused
-refused ''
-refused one two
-refused --prefix one
-refused --unknown
-refused one --uninstall
-refused --uninstall
-refused --uninstall --uninstall one
-refused --libdir one
-refused --libdir
-refused --libdir '' one
-refused --libdir /usr/lib one
-refused --libdir ../lib one
-refused --libdir . one
-refused $'one\ntwo'
-DESTDIR=$work/empty refused relative
+rejects
+rejects ''
+rejects one two
+rejects --prefix one
+rejects --unknown
+rejects one --uninstall
+rejects --uninstall
+rejects --uninstall --uninstall one
+rejects --libdir one
+rejects --libdir
+rejects --libdir '' one
+rejects --libdir /usr/lib one
+rejects --libdir ../lib one
+rejects --libdir . one
+rejects $'one\ntwo'
+DESTDIR=$work/empty rejects relative
 is "what refused words installed" "" "$(files .)"
 is "status of --help" 0 "$("$tools/install.sh" --help > /dev/null; echo $?)"
 

@@ -57,7 +57,7 @@ static void print_text(const bidi_verdict *v, size_t place) {
 
 static void print_texts(void) {
   const bidi_verdict longest = { BIDI_WRONG, BIDI_WRONG_LEVELS, BIDI_AUTO_RTL, UINT64_MAX, SIZE_MAX, 0, 0 };
-  const bidi_verdict said[] = {
+  const bidi_verdict verdicts[] = {
     { BIDI_YES, 0, 0, 0, 0, 1, UINT64_MAX },
     { BIDI_MALFORMED, BIDI_CAUSE_LINE_TOO_LONG, 0, 1, 0, 0, 0 },
     { BIDI_WRONG, BIDI_WRONG_PARA_LEVEL, BIDI_AUTO, 20, 0, 0, 0 },
@@ -68,7 +68,7 @@ static void print_texts(void) {
     { BIDI_MALFORMED, 0, 0, 1, 0, 0, 0 }, { BIDI_MALFORMED, 13, 0, 1, 0, 0, 0 }, { BIDI_MALFORMED, 1, 1, 1, 0, 0, 0 },
     { BIDI_WRONG, 4, 0, 1, 0, 0, 0 }, { BIDI_WRONG, 2, 4, 1, 0, 0, 0 }, { BIDI_WRONG, 1, 0, 1, 5, 0, 0 },
   };
-  for (size_t i = 0; i < 4; i++) print_text(&said[i], 80);
+  for (size_t i = 0; i < 4; i++) print_text(&verdicts[i], 80);
   const size_t places[] = { BIDI_VERDICT_LINE, BIDI_VERDICT_LINE - 1, 0 };
   for (size_t i = 0; i < 3; i++) print_text(&longest, places[i]);
   for (size_t i = 0; i < 9; i++) print_text(&none[i], 80);
@@ -95,7 +95,7 @@ static void print_fault(const char *what, uint32_t status, const bidi_fault *fau
          tables->made);
 }
 
-static void refuse_files(bidi_tables *tables) {
+static void reject_files(bidi_tables *tables) {
   const char *classes[] = { "0041 ; L\n0042 ; Q\n", "0041;L\n0040..0042;R\n", "41;L\n", "0042..0041;L\n", "0041\n" };
   const uint8_t *none = (const uint8_t *)"";
   bidi_fault fault = { 0, 0 };
@@ -115,14 +115,14 @@ typedef size_t runs_call(const bidi_room *, size_t, bidi_run_t *, size_t);
 
 /* Prints the statuses of the runs of line 0 from the place after its last and from the next one, and of the line after
  * the last; then how many runs these two lines have, and whether the run is unchanged. */
-static void refuse_runs(const char *what, run_call run_of, runs_call runs_of, bidi_room *room) {
+static void reject_runs(const char *what, run_call run_of, runs_call runs_of, bidi_room *room) {
   bidi_run_t run = { 77, 77, 77, 77 };
   size_t lines = bidi_line_count(room), shown = lines ? bidi_order(room, 0, NULL, 0) : 0;
-  uint32_t behind = run_of(room, 0, shown, &run), further = run_of(room, 0, shown + 1, &run);
+  uint32_t past_last = run_of(room, 0, shown, &run), further = run_of(room, 0, shown + 1, &run);
   uint32_t no_line = run_of(room, lines, 0, &run);
   size_t all = runs_of(room, 0, NULL, 0), none = runs_of(room, lines, &run, 1);
   printf("%s behind %zu places: %u, one on %u, of no line %u, all %zu, of no line %zu, leaves %zu %zu %zu %u\n", what,
-         shown, behind, further, no_line, all, none, run.start, run.length, run.shown, run.level);
+         shown, past_last, further, no_line, all, none, run.start, run.length, run.shown, run.level);
 }
 
 static void lay_out_texts(bidi_room *room, bidi_tables *tables) {
@@ -142,9 +142,9 @@ static void lay_out_texts(bidi_room *room, bidi_tables *tables) {
   lay_out(room, tables, mixed, 5, 4, breaks, 0);
   const uint32_t surrogate[] = { 'a', 0xD800, 'b', 'c', 'd' };
   lay_out(room, tables, surrogate, 5, BIDI_AUTO, breaks, 0);
-  refuse_runs("run", bidi_run, bidi_runs, room);
+  reject_runs("run", bidi_run, bidi_runs, room);
   lay_out(room, tables, (const uint32_t[]){ 0x202C }, 1, BIDI_AUTO, breaks, 0);
-  refuse_runs("run", bidi_run, bidi_runs, room);
+  reject_runs("run", bidi_run, bidi_runs, room);
   static const uint32_t longer[65];
   uint64_t place = 0;
   uint32_t status = bidi_lay_out(room, tables, longer, 65, BIDI_AUTO, breaks, 0, &place), one;
@@ -161,7 +161,7 @@ static void set_lines(bidi_room *room, bidi_tables *tables, const size_t *breaks
 }
 
 /* A text on one line, broken in two, faulty breaks, and one line again. */
-static void break_anew(bidi_room *room, bidi_tables *tables) {
+static void set_lines_again(bidi_room *room, bidi_tables *tables) {
   static const uint32_t text[] = { 0x5D0, ' ', 0x5D1, ' ', 'a' };
   const size_t one[] = { 2 }, two[] = { 2, 4 }, out[] = { 2, 5 }, falling[] = { 3, 3 };
   lay_out(room, tables, text, 5, BIDI_LTR, one, 0);
@@ -239,41 +239,41 @@ static void lay_out_by_limits(bidi_room *room, bidi_tables *tables) {
   print_layout(room, tables, codes, 5);
 }
 
-static void judge_by_limits(bidi_judge *held, bidi_tables *tables) {
+static void judge_by_limits(bidi_judge *handle, bidi_tables *tables) {
   const char *nested = "@Levels: x x 1\n@Reorder: 2\nRLE LRE R; 2\n",
              *pair = "0061 0028 0062 0029 05D0;1;1;2 2 2 1 1;4 3 0 1 2\n";
   const bidi_limits low = { 1, 0 }, faulty[] = { { 0, 0 }, { 1, 64 } };
-  printf("of classes %u, ", bidi_judge_new_classes_with(held, low));
-  judge(held, nested);
-  printf("of classes %u, ", bidi_judge_new_classes(held));
-  judge(held, nested);
+  printf("of classes %u, ", bidi_judge_new_classes_with(handle, low));
+  judge(handle, nested);
+  printf("of classes %u, ", bidi_judge_new_classes(handle));
+  judge(handle, nested);
   for (size_t i = 0; i < 2; i++) {
-    uint32_t of_classes = bidi_judge_new_classes_with(held, faulty[i]);
-    uint32_t status = bidi_judge_new_characters_with(tables, held, faulty[i]);
-    printf("by faulty limits %u %u, held %d, tables %d\n", of_classes, status, held->made, tables->made);
+    uint32_t of_classes = bidi_judge_new_classes_with(handle, faulty[i]);
+    uint32_t status = bidi_judge_new_characters_with(tables, handle, faulty[i]);
+    printf("by faulty limits %u %u, held %d, tables %d\n", of_classes, status, handle->made, tables->made);
   }
-  uint32_t status = bidi_judge_new_characters_with(tables, held, low);
+  uint32_t status = bidi_judge_new_characters_with(tables, handle, low);
   printf("of characters %u, tables %d, ", status, tables->made);
-  judge(held, pair);
+  judge(handle, pair);
 }
 
-static void judge_files(bidi_judge *held, bidi_tables *tables) {
-  judge(held, "L; 3\n");
+static void judge_files(bidi_judge *handle, bidi_tables *tables) {
+  judge(handle, "L; 3\n");
   const char *classes[] = { "@Levels: x 1\n@Reorder: 1\nLRE R; 1\n", "@Levels: 0\n@Reorder: 0\nL; 3\nR; 1\n",
                             "L; 3\n" };
   for (size_t i = 0; i < 3; i++) {
-    printf("of classes %u, ", bidi_judge_new_classes(held));
-    judge(held, classes[i]);
+    printf("of classes %u, ", bidi_judge_new_classes(handle));
+    judge(handle, classes[i]);
   }
-  uint32_t status = bidi_judge_new_characters(tables, held);
+  uint32_t status = bidi_judge_new_characters(tables, handle);
   printf("of characters %u, tables %d, ", status, tables->made);
-  judge(held, "0061 05D0;2;0;0 1;0 1\n05D0;0;0;1;1\n");
-  status = bidi_judge_new_characters(tables, held);
+  judge(handle, "0061 05D0;2;0;0 1;0 1\n05D0;0;0;1;1\n");
+  status = bidi_judge_new_characters(tables, handle);
   bidi_tables_free(tables);
   printf("tables freed %d, ", tables->made);
-  judge(held, "0061 05D0;2;0;0 1;0 1\n05D0;0;0;1;1\n");
-  status = bidi_judge_new_characters(tables, held);
-  printf("without tables %u, held %d\n", status, held->made);
+  judge(handle, "0061 05D0;2;0;0 1;0 1\n05D0;0;0;1;1\n");
+  status = bidi_judge_new_characters(tables, handle);
+  printf("without tables %u, held %d\n", status, handle->made);
 }
 
 static void share_tables(bidi_tables *tables, bidi_room *room) {
@@ -562,14 +562,14 @@ static void lay_out_encoded(bidi_tables *tables) {
   lay_out_utf8(&room, tables, text, BIDI_AUTO, inside, 2);
   lay_out_utf8(&room, tables, text, 4, one, 0);
   lay_out_utf8(&room, &no_tables, text, BIDI_AUTO, one, 0);
-  refuse_runs("encoded run", bidi_encoded_run, bidi_encoded_runs, &room);
-  refuse_runs("run of characters", bidi_run, bidi_runs, &room);
+  reject_runs("encoded run", bidi_encoded_run, bidi_encoded_runs, &room);
+  reject_runs("run of characters", bidi_run, bidi_runs, &room);
   uint64_t place = 0;
   status = bidi_lay_out(&room, tables, letters, 2, BIDI_AUTO, one, 0, &place);
   printf("code points in it %u, lines %u, ", status, bidi_set_lines(&room, one, 0, &place));
   bidi_room_new(16, &codes);
   lay_out_utf8(&codes, tables, text, BIDI_AUTO, one, 0);
-  refuse_runs("encoded run of code points", bidi_encoded_run, bidi_encoded_runs, &codes);
+  reject_runs("encoded run of code points", bidi_encoded_run, bidi_encoded_runs, &codes);
   lay_out_utf16(&room, tables, paired, 5, one, 1);
   lay_out_utf16(&room, tables, paired, 5, two, 1);
   lay_out_utf16(&room, tables, lone, 4, one, 1);
@@ -781,29 +781,29 @@ static void show_in_code_units(bidi_tables *tables) {
 int main(int argc, char **argv) {
   bidi_tables tables = BIDI_NONE;
   bidi_room room = BIDI_NONE;
-  bidi_judge held = BIDI_NONE;
+  bidi_judge handle = BIDI_NONE;
   bidi_fault fault = { 0, 0 };
   const uint32_t text[1] = { 'a' };
   const size_t none[1] = { 0 };
   lay_out(&room, &tables, text, 1, BIDI_AUTO, none, 0);
   set_lines(&room, &tables, none, 0);
-  refuse_runs("run", bidi_run, bidi_runs, &room);
+  reject_runs("run", bidi_run, bidi_runs, &room);
   print_room(&room, 64);
   lay_out(&room, &tables, text, 1, BIDI_AUTO, none, 0);
-  refuse_files(&tables);
+  reject_files(&tables);
   uint32_t status = read_tables(argc > 1 ? argv[1] : "ucd", &tables, &fault);
   print_fault("tables", status, &fault, &tables);
   printf("mirrors %c %c %c, of no character %X\n", bidi_mirror(&tables, '('), bidi_mirror(&tables, '['),
          bidi_mirror(&tables, 'a'), bidi_mirror(&tables, 0xD800));
   lay_out_texts(&room, &tables);
-  break_anew(&room, &tables);
+  set_lines_again(&room, &tables);
   lay_out_lines_alone(&room, &tables);
   lay_out_classes(&room, &tables);
   lay_out_by_limits(&room, &tables);
-  judge_files(&held, &tables);
+  judge_files(&handle, &tables);
   status = read_tables(argc > 1 ? argv[1] : "ucd", &tables, &fault);
   print_fault("tables", status, &fault, &tables);
-  judge_by_limits(&held, &tables);
+  judge_by_limits(&handle, &tables);
   share_tables(&tables, &room);
   use_standard_tables(&room);
   lay_out_encoded(&tables);
@@ -813,13 +813,13 @@ int main(int argc, char **argv) {
   report_on_files(&tables, &room);
   print_room(&room, 1000);
   print_room(&room, 16777217);
-  status = bidi_judge_new_characters((bidi_tables *)&room, &held);
+  status = bidi_judge_new_characters((bidi_tables *)&room, &handle);
   printf("a room for tables: %u, mirror %c\n", status, bidi_mirror((bidi_tables *)&room, '('));
   for (int i = 0; i < 2; i++) {
     bidi_room_free(&room);
     bidi_tables_free(&tables);
-    bidi_judge_free(&held);
+    bidi_judge_free(&handle);
   }
-  printf("freed: %d %d %d\n", room.made, tables.made, held.made);
+  printf("freed: %d %d %d\n", room.made, tables.made, handle.made);
   return 0;
 }

@@ -103,26 +103,26 @@ static void each_line(const char *folder, const char *name, void (*lay_out)(cons
   free(bytes);
 }
 
-static void judge(bidi_judge *held, const char *folder, const char *name) {
+static void judge(bidi_judge *handle, const char *folder, const char *name) {
   size_t n;
   uint8_t *bytes = read_file(folder, name, &n);
-  for (size_t at = 0; at < n; at += 4096) bidi_judge_feed(held, bytes + at, n - at < 4096 ? n - at : 4096);
+  for (size_t at = 0; at < n; at += 4096) bidi_judge_feed(handle, bytes + at, n - at < 4096 ? n - at : 4096);
   bidi_verdict v;
-  wrong += bidi_judge_finish(held, &v) != BIDI_DONE || v.answer != BIDI_YES;
+  wrong += bidi_judge_finish(handle, &v) != BIDI_DONE || v.answer != BIDI_YES;
   printf("%s by a judge: %llu rows, %llu cases\n", name, (unsigned long long)v.rows, (unsigned long long)v.cases);
   free(bytes);
 }
 
 int main(int argc, char **argv) {
   const char *ucd = argc > 1 ? argv[1] : "ucd";
-  bidi_judge held = BIDI_NONE;
+  bidi_judge handle = BIDI_NONE;
   bidi_fault fault;
-  if (read_tables(ucd, &tables, &fault) || bidi_room_new(MOST, &room) || bidi_judge_new_classes(&held)) return 2;
+  if (read_tables(ucd, &tables, &fault) || bidi_room_new(MOST, &room) || bidi_judge_new_classes(&handle)) return 2;
   each_line(ucd, "BidiTest.txt", lay_out_classes);
   each_line(ucd, "BidiCharacterTest.txt", lay_out_characters);
-  judge(&held, ucd, "BidiTest.txt");
-  if (bidi_judge_new_characters(&tables, &held)) return 2;
-  judge(&held, ucd, "BidiCharacterTest.txt");
+  judge(&handle, ucd, "BidiTest.txt");
+  if (bidi_judge_new_characters(&tables, &handle)) return 2;
+  judge(&handle, ucd, "BidiCharacterTest.txt");
   bidi_room_free(&room);
   printf("wrong: %zu\n", wrong);
   return wrong != 0;

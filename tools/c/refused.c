@@ -11,14 +11,14 @@ void *__wrap_realloc(void *p, size_t n) { return ++asked == refused_at ? NULL : 
 
 static long wrong;
 /* Refuses the first, the second .. allocation of a call until the call succeeds. Returns how many were refused. */
-#define IN_TURN(call, held) ({ \
+#define IN_TURN(call, unchanged) ({ \
     long k = 1; \
     for (;; k++) { \
       asked = 0; refused_at = k; \
       uint32_t status = (call); \
       refused_at = 0; \
       if (status == BIDI_DONE) break; \
-      if (status != BIDI_MEMORY || !(held)) wrong++; \
+      if (status != BIDI_MEMORY || !(unchanged)) wrong++; \
     } \
     k - 1; })
 
@@ -27,18 +27,18 @@ static void report_refused(bidi_tables *tables) {
   const uint8_t row[] = "0061;2;1;0;0\n0061;2;0;0;1";
   bidi_wrong_case item;
   bidi_counts counts;
-  size_t used = 0, handed = 0;
+  size_t used = 0, passed = 0;
   printf("report: %ld refused\n", IN_TURN(bidi_report_new_classes(&report), !report.made));
   printf("report by tables: %ld refused\n",
          IN_TURN(bidi_report_new_characters(tables, &report), report.made && tables->made));
   asked = 0; refused_at = 1;
   uint32_t status = bidi_report_feed(&report, row, sizeof row - 1, &used);
-  while (bidi_report_next(&report, &item) == BIDI_DONE) handed++;
+  while (bidi_report_next(&report, &item) == BIDI_DONE) passed++;
   status += bidi_report_feed(&report, row + used, sizeof row - 1 - used, &used);
   status += bidi_report_finish(&report, &counts);
-  while (bidi_report_next(&report, &item) == BIDI_DONE) handed++;
+  while (bidi_report_next(&report, &item) == BIDI_DONE) passed++;
   refused_at = 0;
-  printf("reported: status %u, handed %zu, wrong %llu, %ld asked\n", status, handed,
+  printf("reported: status %u, handed %zu, wrong %llu, %ld asked\n", status, passed,
          (unsigned long long)counts.wrong_cases, asked);
   bidi_report_free(&report);
 }

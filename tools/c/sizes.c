@@ -102,7 +102,7 @@ static void share_tables(bidi_tables *tables) {
 }
 
 /* Returns the bytes of a property file after so many bytes of comments. */
-static uint8_t *behind_comments(const char *folder, const char *name, size_t comments, size_t *n) {
+static uint8_t *after_comments(const char *folder, const char *name, size_t comments, size_t *n) {
   uint8_t *file = read_file(folder, name, n), *bytes = malloc(comments + *n);
   if (!bytes) exit(2);
   memset(bytes, '#', comments);
@@ -117,9 +117,9 @@ static uint8_t *behind_comments(const char *folder, const char *name, size_t com
 static void read_long_files(const char *folder, size_t comments, bidi_tables *tables) {
   size_t a, b, c;
   bidi_fault fault = { 0 };
-  uint8_t *classes = behind_comments(folder, "DerivedBidiClass.txt", comments, &a);
-  uint8_t *brackets = behind_comments(folder, "BidiBrackets.txt", comments, &b);
-  uint8_t *mirrors = behind_comments(folder, "BidiMirroring.txt", comments, &c);
+  uint8_t *classes = after_comments(folder, "DerivedBidiClass.txt", comments, &a);
+  uint8_t *brackets = after_comments(folder, "BidiBrackets.txt", comments, &b);
+  uint8_t *mirrors = after_comments(folder, "BidiMirroring.txt", comments, &c);
   uint32_t status = bidi_tables_new(classes, a, brackets, b, mirrors, c, tables, &fault);
   printf("comments of %zu bytes: status %u, mirrored %04X\n", comments, status, bidi_mirror(tables, '('));
   free(classes); free(brackets); free(mirrors);

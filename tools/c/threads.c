@@ -157,8 +157,8 @@ int main(int argc, char **argv) {
     if (bidi_tables_share(&tables, &it->tables) || bidi_room_new(LENGTH, &it->room)) return 2;
     if (pthread_create(&it->thread, NULL, work, it)) return 2;
   }
-  bidi_tables kept = BIDI_NONE;
-  if (bidi_tables_share(&tables, &kept)) return 2;
+  bidi_tables shared_tables = BIDI_NONE;
+  if (bidi_tables_share(&tables, &shared_tables)) return 2;
   bidi_tables_free(&tables);
   for (size_t i = 0; i < THREADS; i++) {
     uint8_t levels[LENGTH];
@@ -170,10 +170,10 @@ int main(int argc, char **argv) {
   }
   printf("threads %d, texts %d: %zu wrong\n", THREADS, TEXTS, wrong);
   answer first;
-  size_t wrong_read = !lays_out(&room, &kept, 0, &first);
-  wrong_read += read_at_once(&kept, &room);
+  size_t wrong_read = !lays_out(&room, &shared_tables, 0, &first);
+  wrong_read += read_at_once(&shared_tables, &room);
   printf("threads %d, one room and one handle on tables: %zu wrong\n", THREADS, wrong_read);
   bidi_room_free(&room);
-  bidi_tables_free(&kept);
+  bidi_tables_free(&shared_tables);
   return wrong + wrong_read != 0;
 }

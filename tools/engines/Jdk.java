@@ -67,7 +67,7 @@ public class Jdk {
             String made;
             try {
                 made = layOut(lines, fields[1].charAt(0) - '0');
-            } catch (RuntimeException refused) {
+            } catch (RuntimeException rejected) {
                 made = "failed";
             }
             out.println(fields[0] + ";" + fields[1].charAt(0) + ";" + made);

@@ -62,7 +62,7 @@ static void lay_out(const FriBidiChar *codes, const FriBidiCharType *types, cons
 }
 
 /* Returns whether the removal of marks leaves this character. */
-static int is_kept(FriBidiChar code) { return fribidi_remove_bidi_marks(&code, 1, NULL, NULL, NULL) == 1; }
+static int remains(FriBidiChar code) { return fribidi_remove_bidi_marks(&code, 1, NULL, NULL, NULL) == 1; }
 
 static void remove_marks(const FriBidiChar *codes, int n, int parts) {
   FriBidiChar left[MOST];
@@ -70,16 +70,16 @@ static void remove_marks(const FriBidiChar *codes, int n, int parts) {
   FriBidiLevel levels[MOST];
   memcpy(left, codes, n * sizeof *left);
   for (int i = 0; i < n; i++) to_this[i] = from_this[i] = n - 1 - i, levels[i] = i % 5;
-  int kept = fribidi_remove_bidi_marks(left, n, parts & 1 ? to_this : NULL, parts & 2 ? from_this : NULL,
-                                       parts & 4 ? levels : NULL);
-  printf(" kept %d", kept);
-  print_codes(left, kept);
-  if (kept == n) print_numbers("to", to_this, n); /* else FriBidi's has entries of characters that are gone */
+  int remaining = fribidi_remove_bidi_marks(left, n, parts & 1 ? to_this : NULL, parts & 2 ? from_this : NULL,
+                                            parts & 4 ? levels : NULL);
+  printf(" kept %d", remaining);
+  print_codes(left, remaining);
+  if (remaining == n) print_numbers("to", to_this, n); /* else FriBidi's has entries of characters that are gone */
   if (replaced && (parts & 1))
     for (int i = 0, at = 0; i < n; i++)
-      if (to_this[n - 1 - i] != (is_kept(codes[i]) ? at++ : -1)) printf(" ??");
-  print_numbers("from", from_this, parts & 2 ? kept : 0);
-  print_levels("levels", levels, kept);
+      if (to_this[n - 1 - i] != (remains(codes[i]) ? at++ : -1)) printf(" ??");
+  print_numbers("from", from_this, parts & 2 ? remaining : 0);
+  print_levels("levels", levels, remaining);
   printf("\n");
 }
 

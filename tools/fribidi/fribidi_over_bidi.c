@@ -58,7 +58,7 @@ typedef struct {
   FriBidiStrIndex *map; /* of its map, or the inverse of a map */
 } state;
 
-enum { LEAST_CAPACITY = 256, KEPT_CAPACITY = 65536 };
+enum { LEAST_CAPACITY = 256, STORED_CAPACITY = 65536 };
 static pthread_once_t once = PTHREAD_ONCE_INIT;
 static pthread_key_t key;
 static int no_key;
@@ -107,7 +107,7 @@ static inline state *state_of_thread(void) { return __builtin_expect(own != NULL
 /* Makes the columns of a thread larger. If there is no memory, the thread has no columns. */
 static __attribute__((noinline)) bool grow(state *s, size_t n) {
   size_t capacity = LEAST_CAPACITY;
-  while (capacity < n && capacity < KEPT_CAPACITY) capacity *= 2;
+  while (capacity < n && capacity < STORED_CAPACITY) capacity *= 2;
   if (capacity < n) capacity = n;
   free_columns(s);
   s->units = malloc(capacity * sizeof *s->units);
@@ -133,7 +133,7 @@ static inline state *state_for(FriBidiStrIndex n) {
 
 /* Frees the columns after a text that was longer than the others. */
 static inline void end(state *s) {
-  if (__builtin_expect(s->capacity > KEPT_CAPACITY, 0)) free_columns(s);
+  if (__builtin_expect(s->capacity > STORED_CAPACITY, 0)) free_columns(s);
 }
 
 SHOW void fribidi_get_bidi_types(const FriBidiChar *str, const FriBidiStrIndex len, FriBidiCharType *types) {
@@ -349,7 +349,7 @@ static bool is_mark(FriBidiChar ch) {
 
 SHOW FriBidiStrIndex fribidi_remove_bidi_marks(FriBidiChar *str, const FriBidiStrIndex len, FriBidiStrIndex *to_this,
                                                FriBidiStrIndex *from_this, FriBidiLevel *levels) {
-  FriBidiStrIndex kept = 0, *inverse = from_this;
+  FriBidiStrIndex remaining = 0, *inverse = from_this;
   if (len <= 0 || !str) return 0;
   state *s = state_for(len);
   if (!s) return -1;
@@ -361,16 +361,16 @@ SHOW FriBidiStrIndex fribidi_remove_bidi_marks(FriBidiChar *str, const FriBidiSt
   }
   for (FriBidiStrIndex i = 0; i < len; i++)
     if (!is_mark(str[i])) {
-      str[kept] = str[i];
-      if (levels) levels[kept] = levels[i];
-      if (inverse) inverse[kept] = inverse[i];
-      kept++;
+      str[remaining] = str[i];
+      if (levels) levels[remaining] = levels[i];
+      if (inverse) inverse[remaining] = inverse[i];
+      remaining++;
     }
   if (to_this) {
     for (FriBidiStrIndex i = 0; i < len; i++) to_this[i] = -1;
-    for (FriBidiStrIndex i = 0; i < kept; i++)
+    for (FriBidiStrIndex i = 0; i < remaining; i++)
       if (inverse[i] >= 0 && inverse[i] < len) to_this[inverse[i]] = i;
   }
   end(s);
-  return kept;
+  return remaining;
 }
